@@ -1,5 +1,5 @@
 -- GNU SFrame specification, Version 2: which contents a frame row entry of a machine can have.
-use Rattle.std.specs.Prelude.{Bool, true, false, not, Option, is_none}
+use Rattle.std.specs.Prelude.{Bool, true, false, not, is_none}
 use Rattle.sf_model.specs.declared.machine.Arch.{Arch}
 use Rattle.sf_model.specs.declared.machine.Arch.TheVariants.{Amd64, Aarch64}
 use Rattle.sf_model.specs.declared.content.Ra.{Ra}

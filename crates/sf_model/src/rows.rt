@@ -2,10 +2,9 @@
 
 ghost use Rattle.std.specs.Prelude.{◌≡◌, [], ◌∷◌, ◌++◌, if◌then◌else◌, is_ok};
 
+use crate::content::Content;
 use std::alloc::{AllocError, Global};
 use std::marker::Model;
-
-use crate::content::Content;
 
 /// A row: from `start` on, counted in bytes from the function's start, the frame is as `content` says.
 #[derive(Clone, Copy, Debug, PartialEq, Eq)]
