@@ -1,0 +1,5 @@
+pub mod Told
+pub mod Faults
+pub mod Contents
+pub mod Written
+pub mod Word
