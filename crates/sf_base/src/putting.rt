@@ -16,10 +16,9 @@ pub fn put_all<S: Sink>(sink: &mut S, bytes: &[u8]) -> Result<(), Failed>
     ensures prefix { OnErr result (AppendsPrefix (S.written sink.old) (S.written sink.new) bytes.now) }
     ensures cause { Cause (S.faults sink.old) (S.faults sink.new) result }
 {
-    let mut rest = bytes;
-    while !rest.is_empty() {
-        let n = sink.write(rest)?;
-        rest = &rest[n..];
+    let mut done = 0;
+    while done < bytes.len() {
+        done += sink.write(&bytes[done..])?;
     }
     Ok(())
 }
@@ -42,10 +41,9 @@ pub fn put_file<F: Files>(files: &mut F, bytes: &[u8]) -> Result<(), Failed>
     ensures may_create { F.may_create files.new ≡ F.may_create files.old }
     ensures read_faults { F.read_faults files.new ≡ F.read_faults files.old }
 {
-    let mut rest = bytes;
-    while !rest.is_empty() {
-        let n = files.write(rest)?;
-        rest = &rest[n..];
+    let mut done = 0;
+    while done < bytes.len() {
+        done += files.write(&bytes[done..])?;
     }
     Ok(())
 }
