@@ -3,3 +3,5 @@ pub mod Faults
 pub mod Contents
 pub mod Written
 pub mod Word
+pub mod Pairs
+pub mod Lent
