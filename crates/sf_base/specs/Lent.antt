@@ -1,5 +1,6 @@
 -- What is left of a lent file.
-use Rattle.std.specs.Prelude.{ℕ, List, [], Option, Some, None, Bor}
+use Rattle.std.specs.Borrow.{Bor}
+use Rattle.std.specs.Prelude.{ℕ, List, [], Option, Some, None}
 
 -- nothing, where no file is opened
 abbrev pub lent_rest : Option (Bor (List ℕ)) → List ℕ
