@@ -54,21 +54,21 @@ digits_step base number digit c text is below =
         ∙ ap (λ b. cond b (option_map (λ digits. digit ∷ digits) (text_digits base text)) None) (less_test digit base below) in
     ap (λ o. option_map (continued base number) o) e ∙ digits_more base number digit (text_digits base text)
 
-tested : {A : Type 0} (b : Bool) (x : Option A) (a : A) → cond b None x ≡ Some a → (b ≡ false) × (x ≡ Some a)
+pub tested : {A : Type 0} (b : Bool) (x : Option A) (a : A) → cond b None x ≡ Some a → (b ≡ false) × (x ≡ Some a)
 tested true x a h = absurd (cc)
 tested false x a h = (refl, h)
 
-chosen : {A : Type 0} (b : Bool) (x : Option A) (a : A) → cond b x None ≡ Some a → (b ≡ true) × (x ≡ Some a)
+pub chosen : {A : Type 0} (b : Bool) (x : Option A) (a : A) → cond b x None ≡ Some a → (b ≡ true) × (x ≡ Some a)
 chosen true x a h = (refl, h)
 chosen false x a h = absurd (cc)
 
-some_is : {A : Type 0} (x y : A) → Some x ≡ Some y → x ≡ y
+pub some_is : {A : Type 0} (x y : A) → Some x ≡ Some y → x ≡ y
 some_is x y h = cc
 
-character_below : (digit : ℕ) → digit < 10 → digit_character digit ≡ 48 + digit
+pub character_below : (digit : ℕ) → digit < 10 → digit_character digit ≡ 48 + digit
 character_below digit h = ap (λ b. cond b (48 + digit) (87 + digit)) (less_test digit 10 h)
 
-not_less : (m n : ℕ) → n ≤ m → nat_lt m n ≡ false
+pub not_less : (m n : ℕ) → n ≤ m → nat_lt m n ≡ false
 not_less m n h = grind (arith, nat_tests)
 
 character_above : (digit : ℕ) → 10 ≤ digit → digit_character digit ≡ 87 + digit
