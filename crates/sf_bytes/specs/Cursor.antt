@@ -3,7 +3,7 @@
 use Rattle.std.specs.Prelude.{◌≡◌, ℕ, ℤ, ◌+◌, List, length, take, drop, Result, Ok, Err, nat_lt, if◌then◌else◌}
 use Rattle.byteorder.specs.Endian.{little_number, twos_complement}
 use Rattle.sf_bytes.specs.declared.fault.ByteFault.{ByteFault}
-use Rattle.sf_bytes.specs.declared.fault.ByteFault.TheVariants.{Short, Leb}
+use Rattle.sf_bytes.specs.declared.fault.ByteFault.TheVariants.{Short}
 use Rattle.sf_bytes.specs.declared.part.Part.{Part}
 
 -- a place, and the bytes that stand from it on

@@ -3,10 +3,9 @@
 ghost use Rattle.std.specs.Prelude.{◌≡◌, ◌<◌, ◌+◌, ◌^◌, ◌==◌, length};
 ghost use Rattle.sf_bytes.specs.Cursor.{cursor, Gives, part_at, number_at, signed_at};
 
-use byteorder::{ByteOrder, LittleEndian};
-
 use crate::fault::ByteFault;
 use crate::part::Part;
+use byteorder::{ByteOrder, LittleEndian};
 
 impl<'a> Part<'a> {
     /// The part whose first byte stands at `place`.
@@ -43,8 +42,14 @@ impl<'a> Part<'a> {
             return Err(ByteFault::Short(self.place));
         }
         let (bytes, rest) = self.bytes.split_at(n as usize);
-        let taken = Part { bytes, place: self.place };
-        *self = Part { bytes: rest, place: self.place + n };
+        let taken = Part {
+            bytes,
+            place: self.place,
+        };
+        *self = Part {
+            bytes: rest,
+            place: self.place + n,
+        };
         Ok(taken)
     }
 
