@@ -1,0 +1,39 @@
+//! How a fault is handed to what prints it.
+
+use arrayvec::ArrayVec;
+
+/// The part of the work that found a fault.
+#[derive(Clone, Copy, Debug, PartialEq, Eq)]
+pub enum Group {
+    /// Reading an ELF file.
+    Elf,
+    /// Placing its sections.
+    Place,
+    /// Relocating a call frame section.
+    Reloc,
+    /// Reading the records of a call frame section.
+    Record,
+    /// Reading call frame instructions.
+    Insn,
+    /// Running call frame instructions.
+    Machine,
+    /// Reading an SFrame section.
+    Section,
+    /// Reading a core file.
+    Core,
+    /// Putting functions together.
+    Link,
+}
+
+/// A fault as numbers: which one of its group, and the values that its line shows.
+#[derive(Drop)]
+pub struct Notice {
+    /// The item in which it was found, none in the group `Link`.
+    pub item: Option<u32>,
+    /// The part of the work that found it.
+    pub group: Group,
+    /// The fault's number in its group, from 1.
+    pub number: u8,
+    /// The values in the order in which they are shown.
+    pub values: ArrayVec<u64, 4>,
+}
