@@ -35,6 +35,10 @@ abbrev pub Gives : {X Y : Type 0} → (X → Y) → Part → Part → Result X B
 Gives view old new (Ok x) read = read ≡ Ok (view x, cursor new)
 Gives view old new (Err e) read = (read ≡ Err e) × (cursor new ≡ cursor old)
 
+-- a part ends where it did, whatever was read from its front
+abbrev pub EndStays : Part → Part → Type 0
+EndStays old new = new.place + length new.bytes.now ≡ old.place + length old.bytes.now
+
 -- the next n bytes as a cursor of their own
 unfoldable pub part_at : ℕ → Cursor → Read Cursor
 part_at n at = if nat_lt (length at.left) n then Err (Short at.place) else Ok (record { place = at.place; left = take n at.left }, past n at)

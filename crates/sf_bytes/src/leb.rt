@@ -1,7 +1,7 @@
 //! LEB128 numbers (DWARF 5, section 7.6).
 
 ghost use Rattle.std.specs.Prelude.{◌≡◌, ◌<◌, ◌≤◌, ◌^◌, ◌+◌, pos, ◌≤ℤ◌, ◌<ℤ◌, ◌-ℤ◌, length, ℕ, ℤ, IfOk};
-ghost use Rattle.sf_bytes.specs.Cursor.{Cursor, cursor, Gives};
+ghost use Rattle.sf_bytes.specs.Cursor.{Cursor, cursor, Gives, EndStays};
 ghost use Rattle.sf_bytes.specs.Leb.{Uleb, Sleb, leb_sum, leb_signed, run_length, uleb_at, sleb_at};
 ghost use Rattle.sf_bytes.specs.Standing.{Stands};
 
@@ -66,7 +66,8 @@ fn signed_sum_of(run: &[u8]) -> i128
 impl Part<'_> {
     #[tactic(auto, unfolding(crate::specs::Leb::uleb_at))]
     fn read_uleb(&mut self) -> Result<u64, ByteFault>
-        ensures { Gives (λ x. x) self.old self.new result (uleb_at (cursor self.old)) }
+        ensures exact { Gives (λ x. x) self.old self.new result (uleb_at (cursor self.old)) }
+        ensures end { EndStays self.old self.new }
     {
         let place = self.place;
         let len = number_length(self.bytes, place)?;
@@ -84,7 +85,8 @@ impl Part<'_> {
 
     #[tactic(auto, unfolding(crate::specs::Leb::sleb_at))]
     fn read_sleb(&mut self) -> Result<i64, ByteFault>
-        ensures { Gives (λ x. x) self.old self.new result (sleb_at (cursor self.old)) }
+        ensures exact { Gives (λ x. x) self.old self.new result (sleb_at (cursor self.old)) }
+        ensures end { EndStays self.old self.new }
     {
         let place = self.place;
         let len = number_length(self.bytes, place)?;
@@ -111,6 +113,8 @@ impl Part<'_> {
         ensures only { (v : ℕ) (after : Cursor) → Stands Uleb v (cursor self.old) after → (result ≡ Ok v) × (cursor self.new ≡ after) }
         // Which fault it is, and that the part is unchanged then.
         ensures exact { Gives (λ x. x) self.old self.new result (uleb_at (cursor self.old)) }
+        // The part ends where it did.
+        ensures end { EndStays self.old self.new }
     {
         self.read_uleb()
     }
@@ -126,6 +130,8 @@ impl Part<'_> {
         ensures only { (z : ℤ) (after : Cursor) → Stands Sleb z (cursor self.old) after → (result ≡ Ok z) × (cursor self.new ≡ after) }
         // Which fault it is, and that the part is unchanged then.
         ensures exact { Gives (λ x. x) self.old self.new result (sleb_at (cursor self.old)) }
+        // The part ends where it did.
+        ensures end { EndStays self.old self.new }
     {
         self.read_sleb()
     }

@@ -2,7 +2,7 @@
 
 ghost use Rattle.std.specs.Prelude.{◌≡◌, ◌==◌, ℕ, List, IfOk, IsOkAnd};
 ghost use Rattle.std.specs.List.{position};
-ghost use Rattle.sf_bytes.specs.Cursor.{Cursor, cursor, Gives};
+ghost use Rattle.sf_bytes.specs.Cursor.{Cursor, cursor, Gives, EndStays};
 ghost use Rattle.sf_bytes.specs.Standing.{Stands, Text};
 ghost use Rattle.sf_bytes.specs.Text.{text_at};
 
@@ -19,7 +19,8 @@ fn text_length(bytes: &[u8]) -> Option<usize>
 impl<'a> Part<'a> {
     #[tactic(auto, unfolding(crate::specs::Text::text_at))]
     fn read_text(&mut self) -> Result<&'a [u8], ByteFault>
-        ensures { Gives (λ text. text.now) self.old self.new result (text_at (cursor self.old)) }
+        ensures exact { Gives (λ text. text.now) self.old self.new result (text_at (cursor self.old)) }
+        ensures end { EndStays self.old self.new }
     {
         let Some(len) = text_length(self.bytes) else {
             return Err(ByteFault::Short(self.place));
@@ -43,6 +44,8 @@ impl<'a> Part<'a> {
         ensures only { (text : List ℕ) (after : Cursor) → Stands Text text (cursor self.old) after → IsOkAnd result (λ lent. lent.now ≡ text) × (cursor self.new ≡ after) }
         // `Short` where no zero byte is left, and the part is unchanged then.
         ensures exact { Gives (λ text. text.now) self.old self.new result (text_at (cursor self.old)) }
+        // The part ends where it did.
+        ensures end { EndStays self.old self.new }
     {
         self.read_text()
     }

@@ -7,8 +7,8 @@ use Rattle.sf_bytes.proofs.part.Part.text0.Goals as goal
 
 pub returns-clause-found : goal.returns-clause-found
 returns-clause-found c =
-    answer_stands Text (λ text. text.now) c.args.self.now c.read_text.new.self c.read_text.result (text_at (cursor c.args.self.now)) c.read_text.ensures (text_takes (cursor c.args.self.now))
+    answer_stands Text (λ text. text.now) c.args.self.now c.read_text.new.self c.read_text.result (text_at (cursor c.args.self.now)) c.read_text.ensures.exact (text_takes (cursor c.args.self.now))
 
 pub returns-clause-only : goal.returns-clause-only
 returns-clause-only c = λ text after stands.
-    answer_given (λ lent. lent.now) c.args.self.now c.read_text.new.self c.read_text.result (text_at (cursor c.args.self.now)) text after c.read_text.ensures (text_again (cursor c.args.self.now) text after stands)
+    answer_given (λ lent. lent.now) c.args.self.now c.read_text.new.self c.read_text.result (text_at (cursor c.args.self.now)) text after c.read_text.ensures.exact (text_again (cursor c.args.self.now) text after stands)
