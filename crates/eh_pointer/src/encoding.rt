@@ -1,6 +1,7 @@
 //! The width of a pointer, and what it points to.
 
-ghost use Rattle.std.specs.Prelude.{◌≡◌, ◌<◌, ◌^◌, ◌+◌, ◌%◌, IsSome};
+ghost use Rattle.std.specs.Prelude.{◌≡◌, ◌<◌, ◌^◌, ◌+◌, ◌%◌, IsSome, IfSome, IsTrue};
+ghost use Rattle.sf_bytes.specs.Field.{is_field_width};
 ghost use Rattle.std.specs.Option.{ForSome};
 ghost use Rattle.eh_pointer.specs.Pointer.{pointer_width, usable_width, pointer_bits, pointer_value, sign_extended};
 
@@ -9,7 +10,8 @@ use crate::layout::{ABSPTR, FORMATS, PCREL, SDATA2, SDATA4, SDATA8, UDATA2, UDAT
 /// How many bytes a pointer of this encoding has, where its format fixes it: 2, 4 or 8.
 #[tactic(auto, unfolding(crate::specs::Pointer::pointer_width))]
 pub fn width(encoding: u8) -> Option<u8>
-    ensures { result ≡ pointer_width encoding }
+    ensures exact { result ≡ pointer_width encoding }
+    ensures wide { IfSome result (λ width. IsTrue (is_field_width width)) }
 {
     match encoding % FORMATS {
         ABSPTR => Some(8),
@@ -24,7 +26,8 @@ pub fn width(encoding: u8) -> Option<u8>
 /// or from the field's own address, and not indirect.
 #[tactic(auto, unfolding(crate::specs::Pointer::usable_width))]
 pub fn usable(encoding: u8) -> Option<u8>
-    ensures { result ≡ usable_width encoding }
+    ensures exact { result ≡ usable_width encoding }
+    ensures wide { IfSome result (λ width. IsTrue (is_field_width width)) }
 {
     if encoding / FORMATS <= PCREL {
         width(encoding)
@@ -60,6 +63,15 @@ fn extended(encoding: u8, bits: u64) -> u64
         SDATA4 => extended_32(bits),
         _ => bits,
     }
+}
+
+/// The size that stands in a pointer's format, with its sign extended where the format is signed, modulo
+/// 2^64. The application of the encoding doesn't matter.
+pub fn size(encoding: u8, bits: u64) -> u64
+    requires fits { ForSome (pointer_width encoding) (λ width. bits < 256 ^ width) }
+    ensures { result ≡ pointer_bits encoding bits }
+{
+    extended(encoding, bits)
 }
 
 /// What a pointer of this encoding points to, modulo 2^64, where its field stands at `address` and holds

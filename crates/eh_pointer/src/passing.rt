@@ -1,7 +1,7 @@
 //! Passing a pointer whose value isn't used.
 
 ghost use Rattle.std.specs.Prelude.{◌≡◌, ◌≢◌};
-ghost use Rattle.sf_bytes.specs.Cursor.{cursor};
+ghost use Rattle.sf_bytes.specs.Cursor.{cursor, EndStays};
 ghost use Rattle.eh_pointer.specs.Skipping.{Skips, pointer_passed, as_pointer_fault};
 
 use crate::encoding::width;
@@ -25,7 +25,9 @@ impl From<ByteFault> for PointerFault {
 #[tactic(auto, unfolding(crate::specs::Skipping::pointer_passed))]
 pub fn skip(part: &mut Part<'_>, encoding: u8) -> Result<(), PointerFault>
     requires { encoding ≢ 255 }
-    ensures { Skips part.old part.new result (pointer_passed encoding (cursor part.old)) }
+    ensures exact { Skips part.old part.new result (pointer_passed encoding (cursor part.old)) }
+    // The part ends where it did.
+    ensures end { EndStays part.old part.new }
 {
     if encoding / FORMATS % APPLICATIONS == ALIGNED {
         return Err(PointerFault::Encoding);

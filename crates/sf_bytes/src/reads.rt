@@ -1,6 +1,6 @@
 //! Reads of fixed width.
 
-ghost use Rattle.std.specs.Prelude.{◌≡◌, ◌<◌, ◌+◌, ◌^◌, ◌==◌, length, IfOk};
+ghost use Rattle.std.specs.Prelude.{◌≡◌, ◌<◌, ◌≤◌, ◌+◌, ◌^◌, ◌==◌, length, IfOk};
 ghost use Rattle.sf_bytes.specs.Cursor.{cursor, Gives, EndStays, part_at, number_at, signed_at};
 
 use crate::fault::ByteFault;
@@ -39,6 +39,7 @@ impl<'a> Part<'a> {
         ensures exact { Gives cursor self.old self.new result (part_at n (cursor self.old)) }
         ensures place { IfOk result (λ taken. taken.place ≡ self.old.place) }
         ensures len { IfOk result (λ taken. length taken.bytes.now ≡ n) }
+        ensures inside { IfOk result (λ taken. taken.place + length taken.bytes.now ≤ self.old.place + length self.old.bytes.now) }
         // The part ends where it did.
         ensures end { EndStays self.old self.new }
     {
