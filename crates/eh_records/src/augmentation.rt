@@ -57,7 +57,10 @@ fn letters_are_known(letters: &[u8], arch: Arch) -> bool {
 }
 
 /// The letters behind the `z` of the augmentation string, or none where the string is empty.
-pub fn read_letters<'a>(body: &mut Reader<'a>, arch: Arch) -> Result<Option<&'a [u8]>, RecordFault> {
+pub fn read_letters<'a>(
+    body: &mut Reader<'a>,
+    arch: Arch,
+) -> Result<Option<&'a [u8]>, RecordFault> {
     let place = body.place();
     match body.text()? {
         [] => Ok(None),

@@ -13,7 +13,12 @@ impl Fde<'_> {
     ///
     /// `Unresolved` where the start or the size field has no value, `FunctionEnd` where the start plus the
     /// size is above 2^64, both with the place of the start field.
-    pub fn span<V: Values>(&self, address: u64, shift: u64, values: &V) -> Result<(u64, u64), RecordFault> {
+    pub fn span<V: Values>(
+        &self,
+        address: u64,
+        shift: u64,
+        values: &V,
+    ) -> Result<(u64, u64), RecordFault> {
         let place = self.begin.place as u32;
         let (Some(begin), Some(range)) = (values.bits(self.begin), values.bits(self.range)) else {
             return Err(RecordFault::Unresolved(place));
