@@ -1,0 +1,19 @@
+//! Pointer encodings of exception frames (LSB Core, "DWARF Exception Header Encoding").
+//!
+//! [`width`] and [`usable`] tell how many bytes a pointer of an encoding has, [`value`] what it points to, [`size`] a size in its format,
+//! and [`skip`] passes one whose value isn't used. The definitions are those of `specs/Pointer.antt`.
+//!
+//! The caller of `value` owes an encoding that is usable, and of `value` and `size` bits that fit its width. Nothing takes memory.
+#![tactic(auto)]
+
+mod encoding;
+mod fault;
+mod layout;
+mod passing;
+
+pub use encoding::{size, usable, value, width};
+pub use fault::PointerFault;
+pub use passing::skip;
+
+#[cfg(test)]
+mod tests;

@@ -1,0 +1,70 @@
+//! Cutting a section into records.
+
+ghost use Rattle.std.specs.Prelude.{◌<◌, ◌+◌, ◌^◌, length, IfOk, IfSome};
+
+use crate::fault::RecordFault;
+use crate::layout::{CIE_ID, EXTENDED_LENGTH, WORD_LEN};
+use crate::reader::Reader;
+
+/// A record as it was cut.
+#[derive(Clone, Copy, Debug)]
+pub struct Cut<'a> {
+    /// The place of its length word.
+    pub place: u32,
+    /// The place of the word behind that one.
+    pub id_place: u32,
+    /// The word behind the length: 0 in a common information entry, else the distance back from the word's
+    /// own place to the entry that it names.
+    pub id: u32,
+    /// What stands behind that word.
+    pub body: Reader<'a>,
+}
+
+impl Cut<'_> {
+    /// Whether the record is a common information entry.
+    pub fn is_cie(&self) -> bool {
+        self.id == CIE_ID
+    }
+
+    /// The place of the common information entry that the record names, `CiePointer` where that is before
+    /// the section.
+    pub fn cie_place(&self) -> Result<u32, RecordFault> {
+        match self.id_place.checked_sub(self.id) {
+            Some(place) => Ok(place),
+            None => Err(RecordFault::CiePointer(self.id_place)),
+        }
+    }
+}
+
+/// Cuts the next record off, or answers none at the end and at a length word of 0.
+pub fn next_cut<'a>(rest: &mut Reader<'a>) -> Result<Option<Cut<'a>>, RecordFault>
+    ensures { IfOk result (λ cut. IfSome cut (λ _. length rest.new.part.bytes.now < length rest.old.part.bytes.now)) }
+{
+    if rest.part.is_empty() {
+        return Ok(None);
+    }
+    let place = rest.place();
+    let mut after = *rest;
+    let length = after.word()?;
+    if length == 0 {
+        return Ok(None);
+    }
+    if length == EXTENDED_LENGTH {
+        return Err(RecordFault::Extended(place));
+    }
+    if length < WORD_LEN {
+        return Err(RecordFault::Short(place));
+    }
+    let Ok(mut body) = after.sub(u64::from(length)) else {
+        return Err(RecordFault::Short(place));
+    };
+    let id_place = body.place();
+    let id = body.word()?;
+    *rest = after;
+    Ok(Some(Cut {
+        place,
+        id_place,
+        id,
+        body,
+    }))
+}

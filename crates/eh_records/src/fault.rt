@@ -1,0 +1,47 @@
+//! Why a section's records can't be read.
+
+ghost use Rattle.std.specs.Prelude.{◌≡◌};
+ghost use Rattle.eh_records.specs.declared.fault.RecordFault.TheVariants.{NoMemory};
+
+use std::alloc::{AllocError, AllocFailed};
+
+/// A refused record, with the place of the refused field, in bytes from the section's start.
+#[derive(Clone, Copy, Debug, PartialEq, Eq)]
+pub enum RecordFault {
+    /// A record or field passes its end, or an augmentation string has no zero byte.
+    Short(u32),
+    /// The length word announces a length of 64 bits.
+    Extended(u32),
+    /// The version is neither 1 nor 3.
+    CieVersion(u32),
+    /// The augmentation string is neither empty nor `z` with known letters, each once.
+    Augmentation(u32),
+    /// The word names no common information entry that stands before.
+    CiePointer(u32),
+    /// A pointer encoding that can't be used.
+    Encoding(u32),
+    /// A LEB128 number of more than ten bytes or outside 64 bits.
+    Leb(u32),
+    /// The start or the size has no value before linking.
+    Unresolved(u32),
+    /// The function ends above 2^64.
+    FunctionEnd(u32),
+    /// No memory was left.
+    NoMemory,
+}
+
+impl From<AllocError> for RecordFault {
+    ghost from_gives = { λ _ e. e ≡ NoMemory };
+
+    fn from(_error: AllocError) -> RecordFault {
+        RecordFault::NoMemory
+    }
+}
+
+impl<T: Drop> From<AllocFailed<T>> for RecordFault {
+    ghost from_gives = { λ _ e. e ≡ NoMemory };
+
+    fn from(_error: AllocFailed<T>) -> RecordFault {
+        RecordFault::NoMemory
+    }
+}
