@@ -1,0 +1,4 @@
+pub mod Cursor
+pub mod Field
+pub mod Leb
+pub mod Text

@@ -1,0 +1,23 @@
+//! Bytes that carry their place: reads of fixed width, LEB128 numbers and texts, all little-endian.
+//!
+//! A [`Part`] is a lent slice with the place of its first byte in the file or section that it was cut
+//! from. A read takes its field from the front: on `Ok` the part is what is left, and on a fault,
+//! which carries the place of the refused field, the part is unchanged.
+//!
+//! The meaning of a part is a cursor, a place and the bytes left (`specs/Cursor.antt`). Each read has a
+//! function on cursors that answers the value and the next cursor or the first fault; its contract says
+//! that the read gives the same. Layers above write what they read with the same functions.
+//!
+//! The caller owes that a part's place and length together stay below 2^64. Nothing takes memory.
+#![tactic(auto)]
+
+mod fault;
+mod field;
+mod leb;
+mod part;
+mod reads;
+mod text;
+
+pub use fault::ByteFault;
+pub use field::{Field, Plain, Values};
+pub use part::Part;

@@ -1,0 +1,138 @@
+//! Reads of fixed width.
+
+ghost use Rattle.std.specs.Prelude.{◌≡◌, ◌<◌, ◌+◌, ◌^◌, ◌==◌, length};
+ghost use Rattle.sf_bytes.specs.Cursor.{cursor, Gives, part_at, number_at, signed_at};
+
+use byteorder::{ByteOrder, LittleEndian};
+
+use crate::fault::ByteFault;
+use crate::part::Part;
+
+impl<'a> Part<'a> {
+    /// The part whose first byte stands at `place`.
+    pub fn new(bytes: &'a [u8], place: u64) -> Part<'a>
+        requires { place + length bytes.now < 2 ^ 64 }
+        ensures bytes { result.bytes.now ≡ bytes.now }
+        ensures place { result.place ≡ place }
+    {
+        Part { bytes, place }
+    }
+
+    /// How many bytes are left.
+    pub fn len(&self) -> u64
+        ensures { result ≡ length self.now.bytes.now }
+    {
+        self.bytes.len() as u64
+    }
+
+    /// Whether no byte is left.
+    pub fn is_empty(&self) -> bool
+        ensures { result ≡ (length self.now.bytes.now == 0) }
+    {
+        self.bytes.is_empty()
+    }
+
+    /// Lends the next `n` bytes.
+    ///
+    /// `Short` where fewer are left.
+    #[tactic(auto, unfolding(crate::specs::Cursor::part_at))]
+    pub fn take(&mut self, n: u64) -> Result<Part<'a>, ByteFault>
+        ensures exact { Gives cursor self.old self.new result (part_at n (cursor self.old)) }
+    {
+        if self.len() < n {
+            return Err(ByteFault::Short(self.place));
+        }
+        let (bytes, rest) = self.bytes.split_at(n as usize);
+        let taken = Part { bytes, place: self.place };
+        *self = Part { bytes: rest, place: self.place + n };
+        Ok(taken)
+    }
+
+    /// The next byte.
+    ///
+    /// `Short` where none is left.
+    #[tactic(auto, unfolding(crate::specs::Cursor::part_at, crate::specs::Cursor::number_at))]
+    pub fn get_u8(&mut self) -> Result<u8, ByteFault>
+        ensures exact { Gives (λ x. x) self.old self.new result (number_at 1 (cursor self.old)) }
+    {
+        let field = self.take(1)?;
+        Ok(field.bytes[0])
+    }
+
+    /// The little-endian number in the next two bytes.
+    ///
+    /// `Short` where fewer are left.
+    #[tactic(auto, unfolding(crate::specs::Cursor::part_at, crate::specs::Cursor::number_at))]
+    pub fn get_u16(&mut self) -> Result<u16, ByteFault>
+        ensures exact { Gives (λ x. x) self.old self.new result (number_at 2 (cursor self.old)) }
+    {
+        let field = self.take(2)?;
+        Ok(LittleEndian::read_u16(field.bytes))
+    }
+
+    /// The little-endian number in the next four bytes.
+    ///
+    /// `Short` where fewer are left.
+    #[tactic(auto, unfolding(crate::specs::Cursor::part_at, crate::specs::Cursor::number_at))]
+    pub fn get_u32(&mut self) -> Result<u32, ByteFault>
+        ensures exact { Gives (λ x. x) self.old self.new result (number_at 4 (cursor self.old)) }
+    {
+        let field = self.take(4)?;
+        Ok(LittleEndian::read_u32(field.bytes))
+    }
+
+    /// The little-endian number in the next eight bytes.
+    ///
+    /// `Short` where fewer are left.
+    #[tactic(auto, unfolding(crate::specs::Cursor::part_at, crate::specs::Cursor::number_at))]
+    pub fn get_u64(&mut self) -> Result<u64, ByteFault>
+        ensures exact { Gives (λ x. x) self.old self.new result (number_at 8 (cursor self.old)) }
+    {
+        let field = self.take(8)?;
+        Ok(LittleEndian::read_u64(field.bytes))
+    }
+
+    /// The next byte, signed.
+    ///
+    /// `Short` where none is left.
+    #[tactic(auto, unfolding(crate::specs::Cursor::number_at, crate::specs::Cursor::signed_at))]
+    pub fn get_i8(&mut self) -> Result<i8, ByteFault>
+        ensures exact { Gives (λ x. x) self.old self.new result (signed_at 1 (cursor self.old)) }
+    {
+        let bits = self.get_u8()?;
+        Ok(bits.cast_signed())
+    }
+
+    /// The signed little-endian number in the next two bytes.
+    ///
+    /// `Short` where fewer are left.
+    #[tactic(auto, unfolding(crate::specs::Cursor::number_at, crate::specs::Cursor::signed_at))]
+    pub fn get_i16(&mut self) -> Result<i16, ByteFault>
+        ensures exact { Gives (λ x. x) self.old self.new result (signed_at 2 (cursor self.old)) }
+    {
+        let bits = self.get_u16()?;
+        Ok(bits.cast_signed())
+    }
+
+    /// The signed little-endian number in the next four bytes.
+    ///
+    /// `Short` where fewer are left.
+    #[tactic(auto, unfolding(crate::specs::Cursor::number_at, crate::specs::Cursor::signed_at))]
+    pub fn get_i32(&mut self) -> Result<i32, ByteFault>
+        ensures exact { Gives (λ x. x) self.old self.new result (signed_at 4 (cursor self.old)) }
+    {
+        let bits = self.get_u32()?;
+        Ok(bits.cast_signed())
+    }
+
+    /// The signed little-endian number in the next eight bytes.
+    ///
+    /// `Short` where fewer are left.
+    #[tactic(auto, unfolding(crate::specs::Cursor::number_at, crate::specs::Cursor::signed_at))]
+    pub fn get_i64(&mut self) -> Result<i64, ByteFault>
+        ensures exact { Gives (λ x. x) self.old self.new result (signed_at 8 (cursor self.old)) }
+    {
+        let bits = self.get_u64()?;
+        Ok(bits.cast_signed())
+    }
+}

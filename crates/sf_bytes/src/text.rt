@@ -1,0 +1,29 @@
+//! Texts that a zero byte ends.
+
+ghost use Rattle.std.specs.Prelude.{◌≡◌};
+ghost use Rattle.sf_bytes.specs.Cursor.{cursor, Gives};
+ghost use Rattle.sf_bytes.specs.Text.{text_at};
+
+use crate::fault::ByteFault;
+use crate::part::Part;
+
+impl<'a> Part<'a> {
+    /// Lends the bytes before the next zero byte, and passes the zero.
+    ///
+    /// `Short` where no zero byte is left.
+    #[tactic(auto, unfolding(crate::specs::Text::text_at))]
+    pub fn text0(&mut self) -> Result<&'a [u8], ByteFault>
+        ensures exact { Gives (λ text. text.now) self.old self.new result (text_at (cursor self.old)) }
+    {
+        let Some(len) = self.bytes.iter().position(|byte| *byte == 0) else {
+            return Err(ByteFault::Short(self.place));
+        };
+        let (text, rest) = self.bytes.split_at(len);
+        let (_zero, after) = rest.split_at(1);
+        *self = Part {
+            bytes: after,
+            place: self.place + len as u64 + 1,
+        };
+        Ok(text)
+    }
+}
