@@ -1,0 +1,3 @@
+use super::*;
+use sf_bytes::Part;
+use std::test::Fail;
