@@ -1,11 +1,19 @@
 //! Texts that a zero byte ends.
 
-ghost use Rattle.std.specs.Prelude.{◌≡◌};
+ghost use Rattle.std.specs.Prelude.{◌≡◌, ◌==◌};
+ghost use Rattle.std.specs.List.{position};
 ghost use Rattle.sf_bytes.specs.Cursor.{cursor, Gives};
 ghost use Rattle.sf_bytes.specs.Text.{text_at};
 
 use crate::fault::ByteFault;
 use crate::part::Part;
+
+// How many bytes stand before the first zero byte.
+fn text_length(bytes: &[u8]) -> Option<usize>
+    ensures { result ≡ position (λ b. b == 0) bytes.now }
+{
+    bytes.iter().position(|byte| *byte == 0)
+}
 
 impl<'a> Part<'a> {
     /// Lends the bytes before the next zero byte, and passes the zero.
@@ -15,7 +23,7 @@ impl<'a> Part<'a> {
     pub fn text0(&mut self) -> Result<&'a [u8], ByteFault>
         ensures exact { Gives (λ text. text.now) self.old self.new result (text_at (cursor self.old)) }
     {
-        let Some(len) = self.bytes.iter().position(|byte| *byte == 0) else {
+        let Some(len) = text_length(self.bytes) else {
             return Err(ByteFault::Short(self.place));
         };
         let (text, rest) = self.bytes.split_at(len);
