@@ -2,7 +2,7 @@
 
 use crate::fault::InsnFault;
 use crate::insn::Insn;
-use crate::read::instruction_of;
+use crate::read::first_of;
 use sf_bytes::Part;
 
 /// The instructions of a part with their places. After a fault it ends.

@@ -14,3 +14,6 @@ pub use fault::InsnFault;
 pub use insn::Insn;
 pub use insns::Insns;
 
+
+#[cfg(test)]
+mod tests;
