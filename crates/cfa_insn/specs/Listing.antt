@@ -27,8 +27,8 @@ unfoldable pub listing_after : (skipped place : ℕ) → List ℕ → List Item
 listing_after skipped place [] = []
 listing_after (suc n) place (b ∷ bs) = listing_after n (place + 1) bs
 listing_after zero place (b ∷ bs) =
-  let read = instruction_at (record { place = place; left = b ∷ bs }) in
-  front_of place read (listing_after (length bs - left_behind read) (place + 1) bs)
+    let read = instruction_at (record { place = place; left = b ∷ bs }) in
+    front_of place read (listing_after (length bs - left_behind read) (place + 1) bs)
 
 -- the instructions from a cursor on
 abbrev pub listing : Cursor → List Item

@@ -74,39 +74,39 @@ of_uleb_and_block make at = do
 -- the opcodes below 0x40, whose operands all follow
 unfoldable pub extended_at : ℕ → Cursor → Found
 extended_at op =
-  if op == 0x00 then plain nop else
-  if op == 0x02 then of_number 1 advance_loc_n else
-  if op == 0x03 then of_number 2 advance_loc_n else
-  if op == 0x04 then of_number 4 advance_loc_n else
-  if op == 0x05 then of_two_ulebs offset_extended else
-  if op == 0x06 then of_uleb restore_extended else
-  if op == 0x07 then of_uleb undefined else
-  if op == 0x08 then of_uleb same_value else
-  if op == 0x09 then of_two_ulebs in_register else
-  if op == 0x0a then plain remember_state else
-  if op == 0x0b then plain restore_state else
-  if op == 0x0c then of_two_ulebs def_cfa else
-  if op == 0x0d then of_uleb def_cfa_register else
-  if op == 0x0e then of_uleb def_cfa_offset else
-  if op == 0x0f then of_block def_cfa_expression else
-  if op == 0x10 then of_uleb_and_block expression else
-  if op == 0x11 then of_uleb_and_sleb offset_extended_sf else
-  if op == 0x12 then of_uleb_and_sleb def_cfa_sf else
-  if op == 0x13 then of_sleb def_cfa_offset_sf else
-  if op == 0x14 then of_two_ulebs val_offset else
-  if op == 0x15 then of_uleb_and_sleb val_offset_sf else
-  if op == 0x16 then of_uleb_and_block val_expression else
-  if op == 0x2d then plain negate_ra_state else
-  if op == 0x2e then of_uleb args_size else
-  (λ at. Ok (None, at))
+    if op == 0x00 then plain nop else
+    if op == 0x02 then of_number 1 advance_loc_n else
+    if op == 0x03 then of_number 2 advance_loc_n else
+    if op == 0x04 then of_number 4 advance_loc_n else
+    if op == 0x05 then of_two_ulebs offset_extended else
+    if op == 0x06 then of_uleb restore_extended else
+    if op == 0x07 then of_uleb undefined else
+    if op == 0x08 then of_uleb same_value else
+    if op == 0x09 then of_two_ulebs in_register else
+    if op == 0x0a then plain remember_state else
+    if op == 0x0b then plain restore_state else
+    if op == 0x0c then of_two_ulebs def_cfa else
+    if op == 0x0d then of_uleb def_cfa_register else
+    if op == 0x0e then of_uleb def_cfa_offset else
+    if op == 0x0f then of_block def_cfa_expression else
+    if op == 0x10 then of_uleb_and_block expression else
+    if op == 0x11 then of_uleb_and_sleb offset_extended_sf else
+    if op == 0x12 then of_uleb_and_sleb def_cfa_sf else
+    if op == 0x13 then of_sleb def_cfa_offset_sf else
+    if op == 0x14 then of_two_ulebs val_offset else
+    if op == 0x15 then of_uleb_and_sleb val_offset_sf else
+    if op == 0x16 then of_uleb_and_block val_expression else
+    if op == 0x2d then plain negate_ra_state else
+    if op == 0x2e then of_uleb args_size else
+    (λ at. Ok (None, at))
 
 -- the operands of an opcode: from 0x40 on its low six bits are the first one
 unfoldable pub operands_at : ℕ → Cursor → Found
 operands_at op =
-  if nat_lt op 0x40 then extended_at op else
-  if nat_lt op 0x80 then plain (advance_loc (op % 64)) else
-  if nat_lt op 0xc0 then of_uleb (offset (op % 64)) else
-  plain (restore (op % 64))
+    if nat_lt op 0x40 then extended_at op else
+    if nat_lt op 0x80 then plain (advance_loc (op % 64)) else
+    if nat_lt op 0xc0 then of_uleb (offset (op % 64)) else
+    plain (restore (op % 64))
 
 -- every fault of an instruction carries the instruction's own place
 abbrev pub placed : ℕ → ByteFault → InsnFault

@@ -14,6 +14,5 @@ pub use fault::InsnFault;
 pub use insn::Insn;
 pub use insns::Insns;
 
-
 #[cfg(test)]
 mod tests;

@@ -56,7 +56,10 @@ fn lists_instructions_up_to_the_end_or_the_first_fault(rt: HostRuntime) -> Resul
     // Advances of two and four bytes, a signed operand, a block.
     gives(
         &rt,
-        &[0x03, 0x00, 0x01, 0x04, 0xff, 0xff, 0xff, 0xff, 0x12, 0x07, 0x7f, 0x16, 0x03, 0x02, 0x80, 0x01],
+        &[
+            0x03, 0x00, 0x01, 0x04, 0xff, 0xff, 0xff, 0xff, 0x12, 0x07, 0x7f, 0x16, 0x03, 0x02,
+            0x80, 0x01,
+        ],
         &[
             (100, "advance_loc_n", 256, 0),
             (103, "advance_loc_n", 4294967295, 0),
@@ -65,12 +68,18 @@ fn lists_instructions_up_to_the_end_or_the_first_fault(rt: HostRuntime) -> Resul
         ],
     );
     // The first instruction that can't be read ends the list.
-    gives(&rt, &[0x00, 0x01, 0x00], &[(100, "nop", 0, 0), (101, "opcode", 1, 0)]);
+    gives(
+        &rt,
+        &[0x00, 0x01, 0x00],
+        &[(100, "nop", 0, 0), (101, "opcode", 1, 0)],
+    );
     gives(&rt, &[0x0c, 0x07], &[(100, "short", 0, 0)]);
     gives(&rt, &[0x0f, 0x03, 0x00], &[(100, "short", 0, 0)]);
     gives(
         &rt,
-        &[0x00, 0x0e, 0x80, 0x80, 0x80, 0x80, 0x80, 0x80, 0x80, 0x80, 0x80, 0x80],
+        &[
+            0x00, 0x0e, 0x80, 0x80, 0x80, 0x80, 0x80, 0x80, 0x80, 0x80, 0x80, 0x80,
+        ],
         &[(100, "nop", 0, 0), (101, "leb", 0, 0)],
     );
     Ok(())
