@@ -1,13 +1,13 @@
 -- One pass over a function's instructions, with the columns alone: the rows, each from the offset of an advance
 -- to the next, or the first fault.
-use Rattle.std.specs.Prelude.{◌≡◌, ℕ, ℤ, ◌+◌, ◌*◌, ◌-◌, ◌^◌, min, Bool, ◌&&◌, nat_lt, List, [], ◌∷◌, length, reverse, Option, Some, None, Result, Ok, Err, if◌then◌else◌}
+use Rattle.std.specs.Prelude.{◌≡◌, ℕ, ℤ, ◌+◌, ◌*◌, ◌-◌, ◌^◌, min, Bool, ◌&&◌, nat_lt, List, [], ◌∷◌, ◌++◌, length, reverse, Option, Some, None, Result, Ok, Err, if◌then◌else◌}
 use Rattle.arrayvec.specs.ArrayVec.{ArrayVec}
 use Rattle.sf_model.specs.declared.machine.Arch.{Arch}
 use Rattle.cfa_insn.specs.Listing.{Item}
 use Rattle.cfa_machine.specs.declared.effect.Effect.{Effect}
 use Rattle.cfa_machine.specs.declared.effect.Effect.TheVariants.{Row, Advance, Restore, Remember, Recall}
 use Rattle.cfa_machine.specs.declared.fault.MachineFault.{MachineFault}
-use Rattle.cfa_machine.specs.declared.fault.MachineFault.TheVariants.{CieInstruction, StateEmpty, StateDepth, Insn, NoMemory}
+use Rattle.cfa_machine.specs.declared.fault.MachineFault.TheVariants.{CieInstruction, StateEmpty, StateDepth, NoCfaRegister, Insn, NoMemory}
 use Rattle.cfa_machine.specs.declared.columns.Columns.{Columns}
 use Rattle.cfa_machine.specs.declared.row.DwRow.{DwRow}
 use Rattle.cfa_machine.specs.declared.machine.Setup.{Setup}
@@ -29,11 +29,15 @@ defined arch place (Restore r) c = Err (CieInstruction place)
 defined arch place Remember c = Err (CieInstruction place)
 defined arch place Recall c = Err (CieInstruction place)
 
--- the row after the instructions, from c on
+-- the row after one more item
+abbrev pub defined_more : Arch → ℤ → Item → Columns → Result Columns MachineFault
+defined_more arch f (Ok (place, i)) c = defined arch place (effect_by f i) c
+defined_more arch f (Err e) c = Err (Insn e)
+
+-- the row after all of them, from c on
 unfoldable pub defined_by : Arch → ℤ → Columns → List Item → Result Columns MachineFault
 defined_by arch f c [] = Ok c
-defined_by arch f c (Err e ∷ items) = Err (Insn e)
-defined_by arch f c (Ok (place, i) ∷ items) = defined arch place (effect_by f i) c >>= λ d. defined_by arch f d items
+defined_by arch f c (x ∷ items) = defined_more arch f x c >>= λ d. defined_by arch f d items
 
 -- ---- the function
 pub record State : Type 0 where
@@ -72,12 +76,16 @@ abbrev pub in_front : Option DwRow → List DwRow → List DwRow
 in_front None rows = rows
 in_front (Some row) rows = row ∷ rows
 
+-- the same for an item
+abbrev pub ran_more : Setup → ℤ → Item → State → Result (State × Option DwRow) MachineFault
+ran_more k f (Ok (place, i)) s = ran k place (effect_by f i) s
+ran_more k f (Err e) s = Err (Insn e)
+
 -- the rows that the instructions give from a state on
 unfoldable pub rows_from : Setup → ℤ → State → List Item → Result (List DwRow) MachineFault
 rows_from k f s [] = Ok (in_front (last_row k.size s) [])
-rows_from k f s (Err e ∷ items) = Err (Insn e)
-rows_from k f s (Ok (place, i) ∷ items) = do
-  o ← ran k place (effect_by f i) s
+rows_from k f s (x ∷ items) = do
+  o ← ran_more k f x s
   rows ← rows_from k f o.0 items
   Ok (in_front o.1 rows)
 
@@ -88,6 +96,11 @@ rows_by arch code f size cie fde = do
   rows_from (record { arch = arch; code = code; size = size; initial = initial }) f (record { columns = initial; remembered = []; offset = 0 }) fde
 
 -- ---- what the code keeps of a state
+-- memory may be wanting for a row
+abbrev pub Appends : {U : Type 0} → List DwRow → List DwRow → Option DwRow → Result U MachineFault → Type 0
+Appends old new row (Ok u) = new ≡ old ++ in_front row []
+Appends old new row (Err e) = e ≡ NoMemory
+
 abbrev pub latest_first : ArrayVec Columns → List Columns
 latest_first stack = reverse stack.items
 
@@ -110,7 +123,11 @@ Recalls new (Err e) given = given ≡ Err e
 -- the same where memory may be wanting
 abbrev pub Fails : {Y : Type 0} → MachineFault → Result Y MachineFault → Type 0
 Fails NoMemory given = Unit {0}
-Fails e given = given ≡ Err e
+Fails (CieInstruction place) given = given ≡ Err (CieInstruction place)
+Fails (StateEmpty place) given = given ≡ Err (StateEmpty place)
+Fails (StateDepth place) given = given ≡ Err (StateDepth place)
+Fails (NoCfaRegister place) given = given ≡ Err (NoCfaRegister place)
+Fails (Insn e) given = given ≡ Err (Insn e)
 
 abbrev pub Gives : {X Y : Type 0} → (X → Y) → Result X MachineFault → Result Y MachineFault → Type 0
 Gives view (Ok x) given = given ≡ Ok (view x)

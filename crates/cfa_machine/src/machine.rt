@@ -1,13 +1,15 @@
 //! The machine that runs instructions: the present row, the remembered rows and the offset.
 
 ghost use Rattle.std.specs.Prelude.{◌≡◌, []};
-ghost use Rattle.cfa_machine.specs.Pass.{state, defined, ran, row_before, last_row, advanced, with_remembered, with_recalled, Steps, Remembers, Recalls, latest_first};
+ghost use Rattle.cfa_insn.specs.Listing.{item};
+ghost use Rattle.cfa_machine.specs.Pass.{state, defined, defined_more, ran, ran_more, row_before, last_row, advanced, with_remembered, with_recalled, Steps, Remembers, Recalls, latest_first};
 
 use crate::columns::{Columns, row_at, row_changed, rule_restored};
-use crate::effect::Effect;
+use crate::effect::{Effect, effect_of};
 use crate::fault::MachineFault;
 use crate::row::DwRow;
 use arrayvec::ArrayVec;
+use cfa_insn::{Insn, InsnFault};
 use sf_model::Arch;
 
 /// The most rows that are remembered at once.
@@ -37,8 +39,8 @@ pub struct Machine {
     pub remembered: ArrayVec<Columns, MOST_REMEMBERED>,
 }
 
-/// The row of a common information entry after one more instruction, at `place`.
-pub fn row_defined(
+// The row of a common information entry after one more instruction, at `place`.
+fn defined_at(
     arch: Arch,
     place: u64,
     effect: Effect,
@@ -55,7 +57,22 @@ pub fn row_defined(
     }
 }
 
-/// The offset after an advance by `delta` code alignments, or the greatest `u64` where it passes it.
+/// The row of a common information entry after one more item of its instructions.
+pub fn row_defined(
+    arch: Arch,
+    factor: i64,
+    read: Result<(u64, Insn<'_>), InsnFault>,
+    columns: Columns,
+) -> Result<Columns, MachineFault>
+    ensures { result ≡ defined_more arch factor (item read.entry) columns }
+{
+    match read {
+        Ok((place, insn)) => defined_at(arch, place, effect_of(factor, insn), columns),
+        Err(fault) => Err(MachineFault::Insn(fault)),
+    }
+}
+
+// The offset after an advance by `delta` code alignments, or the greatest `u64` where it passes it.
 fn offset_after(code: u64, delta: u32, offset: u64) -> u64
     ensures { result ≡ advanced code delta offset }
 {
@@ -113,8 +130,23 @@ impl Machine {
         }
     }
 
-    /// Runs one instruction, which stands at `place`, and gives the row that ends there, if one does.
+    /// Runs one more item of the instructions, and gives the row that ends there, if one does.
     pub fn step(
+        &mut self,
+        setup: &Setup,
+        factor: i64,
+        read: Result<(u64, Insn<'_>), InsnFault>,
+    ) -> Result<Option<DwRow>, MachineFault>
+        ensures { Steps self.new result (ran_more setup.now factor (item read.entry) (state self.old)) }
+    {
+        match read {
+            Ok((place, insn)) => self.run(setup, place, effect_of(factor, insn)),
+            Err(fault) => Err(MachineFault::Insn(fault)),
+        }
+    }
+
+    // Runs one instruction, which stands at `place`, and gives the row that ends there, if one does.
+    fn run(
         &mut self,
         setup: &Setup,
         place: u64,

@@ -1,13 +1,12 @@
 //! The rows of a function.
 
-ghost use Rattle.std.specs.Prelude.{◌≡◌};
+ghost use Rattle.std.specs.Prelude.{◌≡◌, []};
 ghost use Rattle.sf_bytes.specs.Cursor.{cursor};
 ghost use Rattle.cfa_insn.specs.Listing.{listing};
 ghost use Rattle.cfa_machine.specs.Columns.{no_columns};
-ghost use Rattle.cfa_machine.specs.Pass.{Gives, defined_by, rows_by, rows_from};
+ghost use Rattle.cfa_machine.specs.Pass.{Appends, Gives, defined_by, rows_by, rows_from};
 
 use crate::columns::{Columns, empty_columns};
-use crate::effect::effect_of;
 use crate::fault::MachineFault;
 use crate::machine::{Machine, Setup, row_defined};
 use crate::row::DwRow;
@@ -22,10 +21,19 @@ fn initial_row(arch: Arch, factor: i64, cie: Part<'_>) -> Result<Columns, Machin
 {
     let mut columns = empty_columns();
     for item in Insns::new(cie) {
-        let (place, insn) = item?;
-        columns = row_defined(arch, place, effect_of(factor, insn), columns)?;
+        columns = row_defined(arch, factor, item, columns)?;
     }
     Ok(columns)
+}
+
+// Appends a row, if there is one.
+fn append(rows: &mut Vec<DwRow>, row: Option<DwRow>) -> Result<(), MachineFault>
+    ensures { Appends rows.old.items rows.new.items row result }
+{
+    if let Some(row) = row {
+        rows.push(row)?;
+    }
+    Ok(())
 }
 
 // The rows of a function after its initial row, by the instructions of its own entry.
@@ -40,14 +48,10 @@ fn rows_after(
     let mut rows = Vec::new(alloc);
     let mut machine = Machine::new(setup.initial);
     for item in Insns::new(fde) {
-        let (place, insn) = item?;
-        if let Some(row) = machine.step(&setup, place, effect_of(factor, insn))? {
-            rows.push(row)?;
-        }
+        let row = machine.step(&setup, factor, item)?;
+        append(&mut rows, row)?;
     }
-    if let Some(row) = machine.last(setup.size) {
-        rows.push(row)?;
-    }
+    append(&mut rows, machine.last(setup.size))?;
     Ok(rows)
 }
 
