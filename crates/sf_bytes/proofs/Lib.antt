@@ -1,1 +1,5 @@
+pub mod Answers
+pub mod Fields
+pub mod Lebs
 pub mod Run
+pub mod Texts

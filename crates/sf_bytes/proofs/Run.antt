@@ -1,5 +1,5 @@
 -- How long a LEB128 number is, and its sum.
-use Rattle.std.proofs.Common.{◌≡◌, ℕ, zero, suc, ◌+◌, ◌-◌, ◌*◌, ◌%◌, ◌^◌, ◌<◌, ◌≤◌, Bool, true, false, List, [], ◌∷◌, length, get_or, drop, Result, Ok, Err, refl, sym, ap, ◌∙◌, arith, drop-cons, ℤ, pos, ◌-ℤ◌}
+use Rattle.std.proofs.Common.{◌≡◌, ℕ, zero, suc, ◌+◌, ◌-◌, ◌*◌, ◌%◌, ◌^◌, ◌<◌, ◌≤◌, List, [], ◌∷◌, length, get_or, drop, Result, Ok, Err, refl, sym, ap, ◌∙◌, arith, drop-cons, pos, ◌-ℤ◌}
 use Rattle.std.specs.Prelude.{nat_lt}
 use Rattle.std.proofs.Math.Nat.{pow-suc, pow-le-pow_right}
 use Rattle.std.proofs.lemmas.Bool.{lt-ltb, le-ltb}
@@ -21,11 +21,11 @@ pub plus-zero : (r : Result ℕ ByteFault) → plus 0 r ≡ r
 plus-zero (Ok m) = ap (λ (k : ℕ). Ok k) (omega arith)
 plus-zero (Err e) = refl
 
-run_length-goes_on : (place most b : ℕ) (bs : List ℕ) → 128 ≤ b → run_length place (suc most) (b ∷ bs) ≡ longer (run_length place most bs)
+pub run_length-goes_on : (place most b : ℕ) (bs : List ℕ) → 128 ≤ b → run_length place (suc most) (b ∷ bs) ≡ longer (run_length place most bs)
 unfolding run_length
 run_length-goes_on place most b bs h = rw (le-ltb b 128 h) refl
 
-run_length-ends : (place most b : ℕ) (bs : List ℕ) → b < 128 → run_length place (suc most) (b ∷ bs) ≡ Ok 1
+pub run_length-ends : (place most b : ℕ) (bs : List ℕ) → b < 128 → run_length place (suc most) (b ∷ bs) ≡ Ok 1
 unfolding run_length
 run_length-ends place most b bs h = rw (lt-ltb b 128 h) refl
 

@@ -3,7 +3,7 @@
 use Rattle.std.specs.Prelude.{◌≡◌, ℕ, ℤ, ◌+◌, List, length, take, drop, Result, Ok, Err, nat_lt, if◌then◌else◌}
 use Rattle.byteorder.specs.Endian.{little_number, twos_complement}
 use Rattle.sf_bytes.specs.declared.fault.ByteFault.{ByteFault}
-use Rattle.sf_bytes.specs.declared.fault.ByteFault.TheVariants.{Short, Leb}
+use Rattle.sf_bytes.specs.declared.fault.ByteFault.TheVariants.{Short}
 use Rattle.sf_bytes.specs.declared.part.Part.{Part}
 
 -- a place, and the bytes that stand from it on
@@ -34,6 +34,10 @@ abbrev pub ◌>>=◌ : {A B : Type 0} → Result A ByteFault → (A → Result B
 abbrev pub Gives : {X Y : Type 0} → (X → Y) → Part → Part → Result X ByteFault → Read Y → Type 0
 Gives view old new (Ok x) read = read ≡ Ok (view x, cursor new)
 Gives view old new (Err e) read = (read ≡ Err e) × (cursor new ≡ cursor old)
+
+-- a part ends where it did, whatever was read from its front
+abbrev pub EndStays : Part → Part → Type 0
+EndStays old new = new.place + length new.bytes.now ≡ old.place + length old.bytes.now
 
 -- the next n bytes as a cursor of their own
 unfoldable pub part_at : ℕ → Cursor → Read Cursor

@@ -2,7 +2,7 @@
 -- least significant first, and the first byte below 128 ends the run. A run has at most ten bytes;
 -- padding is allowed. An unsigned number is below 2^64, a signed one takes its sign from bit 6 of the
 -- last byte and fits 64 bits.
-use Rattle.std.specs.Prelude.{◌≡◌, ℕ, ℤ, pos, zero, suc, ◌+◌, ◌*◌, ◌%◌, ◌^◌, ◌<◌, ◌≤◌, ◌-ℤ◌, Bool, true, false, ◌&&◌, List, [], ◌∷◌, length, take, Result, Ok, Err, nat_lt, int_lt, if◌then◌else◌, FitsSigned}
+use Rattle.std.specs.Prelude.{◌≡◌, ℕ, ℤ, pos, zero, suc, ◌+◌, ◌*◌, ◌%◌, ◌^◌, ◌<◌, ◌≤◌, ◌-ℤ◌, Bool, false, ◌&&◌, List, [], ◌∷◌, length, take, Result, Ok, Err, nat_lt, int_lt, if◌then◌else◌, FitsSigned}
 use Rattle.std.specs.Int.{w64}
 use Rattle.sf_bytes.specs.declared.fault.ByteFault.{ByteFault}
 use Rattle.sf_bytes.specs.declared.fault.ByteFault.TheVariants.{Short, Leb}

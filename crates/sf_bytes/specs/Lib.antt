@@ -1,4 +1,5 @@
 pub mod Cursor
 pub mod Field
 pub mod Leb
+pub mod Standing
 pub mod Text

@@ -1,8 +1,7 @@
 -- Texts that a zero byte ends, as the augmentation string of a CIE (LSB Core, "The .eh_frame section")
 -- or a name in a string table (ELF64 gABI, "String Table").
-use Rattle.std.specs.Prelude.{◌≡◌, ◌≢◌, ℕ, zero, suc, ◌+◌, ◌==◌, List, [], ◌∷◌, ◌++◌, length, take, drop, Option, Some, None, Result, Ok, Err}
+use Rattle.std.specs.Prelude.{ℕ, ◌+◌, ◌==◌, List, take, Option, Some, None, Ok, Err}
 use Rattle.std.specs.List.{position}
-use Rattle.sf_bytes.specs.declared.fault.ByteFault.{ByteFault}
 use Rattle.sf_bytes.specs.declared.fault.ByteFault.TheVariants.{Short}
 use Rattle.sf_bytes.specs.Cursor.{Cursor, Read, past}
 

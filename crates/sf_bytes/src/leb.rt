@@ -1,8 +1,9 @@
 //! LEB128 numbers (DWARF 5, section 7.6).
 
-ghost use Rattle.std.specs.Prelude.{◌≡◌, ◌<◌, ◌≤◌, ◌^◌, ◌+◌, pos, ◌≤ℤ◌, ◌<ℤ◌, ◌-ℤ◌, length, IfOk};
-ghost use Rattle.sf_bytes.specs.Cursor.{cursor, Gives};
-ghost use Rattle.sf_bytes.specs.Leb.{leb_sum, leb_signed, run_length, uleb_at, sleb_at};
+ghost use Rattle.std.specs.Prelude.{◌≡◌, ◌<◌, ◌≤◌, ◌^◌, ◌+◌, pos, ◌≤ℤ◌, ◌<ℤ◌, ◌-ℤ◌, length, ℕ, ℤ, IfOk};
+ghost use Rattle.sf_bytes.specs.Cursor.{Cursor, cursor, Gives, EndStays};
+ghost use Rattle.sf_bytes.specs.Leb.{Uleb, Sleb, leb_sum, leb_signed, run_length, uleb_at, sleb_at};
+ghost use Rattle.sf_bytes.specs.Standing.{Stands};
 
 use crate::fault::ByteFault;
 use crate::part::Part;
@@ -63,13 +64,10 @@ fn signed_sum_of(run: &[u8]) -> i128
 }
 
 impl Part<'_> {
-    /// The unsigned LEB128 number at the front, of at most ten bytes and below 2^64.
-    ///
-    /// `Leb` where ten bytes all go on or the value doesn't fit, `Short` where fewer than ten are left and
-    /// all go on.
     #[tactic(auto, unfolding(crate::specs::Leb::uleb_at))]
-    pub fn uleb(&mut self) -> Result<u64, ByteFault>
+    fn read_uleb(&mut self) -> Result<u64, ByteFault>
         ensures exact { Gives (λ x. x) self.old self.new result (uleb_at (cursor self.old)) }
+        ensures end { EndStays self.old self.new }
     {
         let place = self.place;
         let len = number_length(self.bytes, place)?;
@@ -78,17 +76,17 @@ impl Part<'_> {
         if sum > u128::from(u64::MAX) {
             return Err(ByteFault::Leb(place));
         }
-        *self = Part { bytes: rest, place: place + len as u64 };
+        *self = Part {
+            bytes: rest,
+            place: place + len as u64,
+        };
         Ok(sum as u64)
     }
 
-    /// The signed LEB128 number at the front, of at most ten bytes and within 64 bits.
-    ///
-    /// `Leb` where ten bytes all go on or the value doesn't fit, `Short` where fewer than ten are left and
-    /// all go on.
     #[tactic(auto, unfolding(crate::specs::Leb::sleb_at))]
-    pub fn sleb(&mut self) -> Result<i64, ByteFault>
+    fn read_sleb(&mut self) -> Result<i64, ByteFault>
         ensures exact { Gives (λ x. x) self.old self.new result (sleb_at (cursor self.old)) }
+        ensures end { EndStays self.old self.new }
     {
         let place = self.place;
         let len = number_length(self.bytes, place)?;
@@ -97,7 +95,44 @@ impl Part<'_> {
         if number < i128::from(i64::MIN) || number > i128::from(i64::MAX) {
             return Err(ByteFault::Leb(place));
         }
-        *self = Part { bytes: rest, place: place + len as u64 };
+        *self = Part {
+            bytes: rest,
+            place: place + len as u64,
+        };
         Ok(number as i64)
+    }
+
+    /// The unsigned LEB128 number at the front, of at most ten bytes and below 2^64.
+    ///
+    /// `Leb` where ten bytes all go on or the value doesn't fit, `Short` where fewer than ten are left and
+    /// all go on.
+    pub fn uleb(&mut self) -> Result<u64, ByteFault>
+        // What is answered stands there.
+        ensures found { IfOk result (λ v. Stands Uleb v (cursor self.old) (cursor self.new)) }
+        // What stands there is answered.
+        ensures only { (v : ℕ) (after : Cursor) → Stands Uleb v (cursor self.old) after → (result ≡ Ok v) × (cursor self.new ≡ after) }
+        // Which fault it is, and that the part is unchanged then.
+        ensures exact { Gives (λ x. x) self.old self.new result (uleb_at (cursor self.old)) }
+        // The part ends where it did.
+        ensures end { EndStays self.old self.new }
+    {
+        self.read_uleb()
+    }
+
+    /// The signed LEB128 number at the front, of at most ten bytes and within 64 bits.
+    ///
+    /// `Leb` where ten bytes all go on or the value doesn't fit, `Short` where fewer than ten are left and
+    /// all go on.
+    pub fn sleb(&mut self) -> Result<i64, ByteFault>
+        // What is answered stands there.
+        ensures found { IfOk result (λ z. Stands Sleb z (cursor self.old) (cursor self.new)) }
+        // What stands there is answered.
+        ensures only { (z : ℤ) (after : Cursor) → Stands Sleb z (cursor self.old) after → (result ≡ Ok z) × (cursor self.new ≡ after) }
+        // Which fault it is, and that the part is unchanged then.
+        ensures exact { Gives (λ x. x) self.old self.new result (sleb_at (cursor self.old)) }
+        // The part ends where it did.
+        ensures end { EndStays self.old self.new }
+    {
+        self.read_sleb()
     }
 }

@@ -16,6 +16,8 @@ mod field;
 mod leb;
 mod part;
 mod reads;
+#[cfg(test)]
+mod tests;
 mod text;
 
 pub use fault::ByteFault;

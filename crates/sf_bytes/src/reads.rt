@@ -1,12 +1,11 @@
 //! Reads of fixed width.
 
-ghost use Rattle.std.specs.Prelude.{◌≡◌, ◌<◌, ◌+◌, ◌^◌, ◌==◌, length};
-ghost use Rattle.sf_bytes.specs.Cursor.{cursor, Gives, part_at, number_at, signed_at};
-
-use byteorder::{ByteOrder, LittleEndian};
+ghost use Rattle.std.specs.Prelude.{◌≡◌, ◌<◌, ◌+◌, ◌^◌, ◌==◌, length, IfOk};
+ghost use Rattle.sf_bytes.specs.Cursor.{cursor, Gives, EndStays, part_at, number_at, signed_at};
 
 use crate::fault::ByteFault;
 use crate::part::Part;
+use byteorder::{ByteOrder, LittleEndian};
 
 impl<'a> Part<'a> {
     /// The part whose first byte stands at `place`.
@@ -38,13 +37,23 @@ impl<'a> Part<'a> {
     #[tactic(auto, unfolding(crate::specs::Cursor::part_at))]
     pub fn take(&mut self, n: u64) -> Result<Part<'a>, ByteFault>
         ensures exact { Gives cursor self.old self.new result (part_at n (cursor self.old)) }
+        ensures place { IfOk result (λ taken. taken.place ≡ self.old.place) }
+        ensures len { IfOk result (λ taken. length taken.bytes.now ≡ n) }
+        // The part ends where it did.
+        ensures end { EndStays self.old self.new }
     {
         if self.len() < n {
             return Err(ByteFault::Short(self.place));
         }
         let (bytes, rest) = self.bytes.split_at(n as usize);
-        let taken = Part { bytes, place: self.place };
-        *self = Part { bytes: rest, place: self.place + n };
+        let taken = Part {
+            bytes,
+            place: self.place,
+        };
+        *self = Part {
+            bytes: rest,
+            place: self.place + n,
+        };
         Ok(taken)
     }
 
@@ -54,6 +63,8 @@ impl<'a> Part<'a> {
     #[tactic(auto, unfolding(crate::specs::Cursor::part_at, crate::specs::Cursor::number_at))]
     pub fn get_u8(&mut self) -> Result<u8, ByteFault>
         ensures exact { Gives (λ x. x) self.old self.new result (number_at 1 (cursor self.old)) }
+        // The part ends where it did.
+        ensures end { EndStays self.old self.new }
     {
         let field = self.take(1)?;
         Ok(field.bytes[0])
@@ -65,6 +76,8 @@ impl<'a> Part<'a> {
     #[tactic(auto, unfolding(crate::specs::Cursor::part_at, crate::specs::Cursor::number_at))]
     pub fn get_u16(&mut self) -> Result<u16, ByteFault>
         ensures exact { Gives (λ x. x) self.old self.new result (number_at 2 (cursor self.old)) }
+        // The part ends where it did.
+        ensures end { EndStays self.old self.new }
     {
         let field = self.take(2)?;
         Ok(LittleEndian::read_u16(field.bytes))
@@ -76,6 +89,8 @@ impl<'a> Part<'a> {
     #[tactic(auto, unfolding(crate::specs::Cursor::part_at, crate::specs::Cursor::number_at))]
     pub fn get_u32(&mut self) -> Result<u32, ByteFault>
         ensures exact { Gives (λ x. x) self.old self.new result (number_at 4 (cursor self.old)) }
+        // The part ends where it did.
+        ensures end { EndStays self.old self.new }
     {
         let field = self.take(4)?;
         Ok(LittleEndian::read_u32(field.bytes))
@@ -87,6 +102,8 @@ impl<'a> Part<'a> {
     #[tactic(auto, unfolding(crate::specs::Cursor::part_at, crate::specs::Cursor::number_at))]
     pub fn get_u64(&mut self) -> Result<u64, ByteFault>
         ensures exact { Gives (λ x. x) self.old self.new result (number_at 8 (cursor self.old)) }
+        // The part ends where it did.
+        ensures end { EndStays self.old self.new }
     {
         let field = self.take(8)?;
         Ok(LittleEndian::read_u64(field.bytes))
@@ -98,6 +115,8 @@ impl<'a> Part<'a> {
     #[tactic(auto, unfolding(crate::specs::Cursor::number_at, crate::specs::Cursor::signed_at))]
     pub fn get_i8(&mut self) -> Result<i8, ByteFault>
         ensures exact { Gives (λ x. x) self.old self.new result (signed_at 1 (cursor self.old)) }
+        // The part ends where it did.
+        ensures end { EndStays self.old self.new }
     {
         let bits = self.get_u8()?;
         Ok(bits.cast_signed())
@@ -109,6 +128,8 @@ impl<'a> Part<'a> {
     #[tactic(auto, unfolding(crate::specs::Cursor::number_at, crate::specs::Cursor::signed_at))]
     pub fn get_i16(&mut self) -> Result<i16, ByteFault>
         ensures exact { Gives (λ x. x) self.old self.new result (signed_at 2 (cursor self.old)) }
+        // The part ends where it did.
+        ensures end { EndStays self.old self.new }
     {
         let bits = self.get_u16()?;
         Ok(bits.cast_signed())
@@ -120,6 +141,8 @@ impl<'a> Part<'a> {
     #[tactic(auto, unfolding(crate::specs::Cursor::number_at, crate::specs::Cursor::signed_at))]
     pub fn get_i32(&mut self) -> Result<i32, ByteFault>
         ensures exact { Gives (λ x. x) self.old self.new result (signed_at 4 (cursor self.old)) }
+        // The part ends where it did.
+        ensures end { EndStays self.old self.new }
     {
         let bits = self.get_u32()?;
         Ok(bits.cast_signed())
@@ -131,6 +154,8 @@ impl<'a> Part<'a> {
     #[tactic(auto, unfolding(crate::specs::Cursor::number_at, crate::specs::Cursor::signed_at))]
     pub fn get_i64(&mut self) -> Result<i64, ByteFault>
         ensures exact { Gives (λ x. x) self.old self.new result (signed_at 8 (cursor self.old)) }
+        // The part ends where it did.
+        ensures end { EndStays self.old self.new }
     {
         let bits = self.get_u64()?;
         Ok(bits.cast_signed())

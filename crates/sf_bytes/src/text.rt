@@ -1,8 +1,9 @@
 //! Texts that a zero byte ends.
 
-ghost use Rattle.std.specs.Prelude.{◌≡◌, ◌==◌};
+ghost use Rattle.std.specs.Prelude.{◌≡◌, ◌==◌, ℕ, List, IfOk, IsOkAnd};
 ghost use Rattle.std.specs.List.{position};
-ghost use Rattle.sf_bytes.specs.Cursor.{cursor, Gives};
+ghost use Rattle.sf_bytes.specs.Cursor.{Cursor, cursor, Gives, EndStays};
+ghost use Rattle.sf_bytes.specs.Standing.{Stands, Text};
 ghost use Rattle.sf_bytes.specs.Text.{text_at};
 
 use crate::fault::ByteFault;
@@ -16,12 +17,10 @@ fn text_length(bytes: &[u8]) -> Option<usize>
 }
 
 impl<'a> Part<'a> {
-    /// Lends the bytes before the next zero byte, and passes the zero.
-    ///
-    /// `Short` where no zero byte is left.
     #[tactic(auto, unfolding(crate::specs::Text::text_at))]
-    pub fn text0(&mut self) -> Result<&'a [u8], ByteFault>
+    fn read_text(&mut self) -> Result<&'a [u8], ByteFault>
         ensures exact { Gives (λ text. text.now) self.old self.new result (text_at (cursor self.old)) }
+        ensures end { EndStays self.old self.new }
     {
         let Some(len) = text_length(self.bytes) else {
             return Err(ByteFault::Short(self.place));
@@ -33,5 +32,21 @@ impl<'a> Part<'a> {
             place: self.place + len as u64 + 1,
         };
         Ok(text)
+    }
+
+    /// Lends the bytes before the next zero byte, and passes the zero.
+    ///
+    /// `Short` where no zero byte is left.
+    pub fn text0(&mut self) -> Result<&'a [u8], ByteFault>
+        // What is answered stands there.
+        ensures found { IfOk result (λ text. Stands Text text.now (cursor self.old) (cursor self.new)) }
+        // What stands there is answered.
+        ensures only { (text : List ℕ) (after : Cursor) → Stands Text text (cursor self.old) after → IsOkAnd result (λ lent. lent.now ≡ text) × (cursor self.new ≡ after) }
+        // `Short` where no zero byte is left, and the part is unchanged then.
+        ensures exact { Gives (λ text. text.now) self.old self.new result (text_at (cursor self.old)) }
+        // The part ends where it did.
+        ensures end { EndStays self.old self.new }
+    {
+        self.read_text()
     }
 }

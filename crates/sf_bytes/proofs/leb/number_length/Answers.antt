@@ -1,4 +1,4 @@
-use Rattle.std.proofs.Common.{◌≡◌, ◌<◌, ◌+◌, ◌-◌, length, drop, sym, ◌∙◌, arith}
+use Rattle.std.proofs.Common.{◌≡◌, length, drop, sym, ◌∙◌, arith}
 use Rattle.std.proofs.lemmas.List.{length-drop}
 use Rattle.sf_bytes.proofs.Run.{goes_on, ends, too_long, short}
 use Rattle.sf_bytes.proofs.leb.number_length.Goals as goal
@@ -19,7 +19,7 @@ loop-byte-preserved c =
     record {
       counted = omega arith;
       most = omega arith;
-      rest = sym (goes_on c.args.place 10 c.loop-byte.count c.args.bytes.now (omega arith) (omega arith) high) ∙ c.loop-byte.invariant.rest
+      rest = sym (goes_on c.args.place 10 c.loop-byte.count c.args.bytes.now (omega arith) (omega arith) high) ∙ c.loop-byte.invariant.rest;
     }
 
 pub returns-then-count-eq-MOST_BYTES-2-clause-exact :

@@ -7,5 +7,5 @@ abbrev pub invariant-loop-byte : goal.invariant-loop-byte
 invariant-loop-byte l = record {
   counted : l.count ≡ l.byte-index;
   most : l.count ≤ 10;
-  rest : plus l.count (run_length l.place (10 - l.count) (drop l.count l.bytes)) ≡ run_length l.place 10 l.bytes
+  rest : plus l.count (run_length l.place (10 - l.count) (drop l.count l.bytes)) ≡ run_length l.place 10 l.bytes;
 }

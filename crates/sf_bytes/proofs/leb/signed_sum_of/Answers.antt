@@ -1,4 +1,4 @@
-use Rattle.std.proofs.Common.{◌≡◌, ◌^◌, length, arith}
+use Rattle.std.proofs.Common.{length, arith}
 use Rattle.std.proofs.lemmas.Int.{ints}
 use Rattle.sf_bytes.proofs.Run.{leb_signed-negative, leb_signed-positive, power_fits}
 use Rattle.sf_bytes.proofs.leb.signed_sum_of.Goals as goal

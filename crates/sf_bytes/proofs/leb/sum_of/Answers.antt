@@ -1,6 +1,5 @@
-use Rattle.std.proofs.Common.{◌≡◌, ◌<◌, ◌≤◌, ◌-◌, ◌^◌, length, drop, get_or, subst, ◌∙◌, arith, sym, refl}
+use Rattle.std.proofs.Common.{◌≡◌, ◌≤◌, length, drop, ◌∙◌, arith, refl}
 use Rattle.std.proofs.lemmas.List.{length-drop}
-use Rattle.sf_bytes.specs.Leb.{leb_sum}
 use Rattle.sf_bytes.proofs.Run.{leb_sum-all, leb_sum-fits, leb_sum-drop}
 use Rattle.sf_bytes.proofs.leb.sum_of.Goals as goal
 
@@ -22,7 +21,7 @@ overflow_add-sum c =
 pub loop-left-preserved : goal.loop-left-preserved
 loop-left-preserved c = record {
   within = omega arith;
-  sum = rw (c.from.ensures, c.loop-left.invariant.sum) (leb_sum-drop c.loop-left.left c.args.run.now (omega arith) (omega arith))
+  sum = rw (c.from.ensures, c.loop-left.invariant.sum) (leb_sum-drop c.loop-left.left c.args.run.now (omega arith) (omega arith));
 }
 
 pub returns-clause-bound : goal.returns-clause-bound

@@ -1,0 +1,29 @@
+//! The numbers of the encodings, by the standard's names without their prefix `DW_EH_PE_`.
+
+/// How many values a format has: it is the low four bits.
+pub const FORMATS: u8 = 16;
+
+pub const ABSPTR: u8 = 0x00;
+
+pub const ULEB128: u8 = 0x01;
+
+pub const UDATA2: u8 = 0x02;
+
+pub const UDATA4: u8 = 0x03;
+
+pub const UDATA8: u8 = 0x04;
+
+pub const SLEB128: u8 = 0x09;
+
+pub const SDATA2: u8 = 0x0a;
+
+pub const SDATA4: u8 = 0x0b;
+
+pub const SDATA8: u8 = 0x0c;
+
+/// The application from the field's own address, shifted down by the format's four bits.
+pub const PCREL: u8 = 1;
+/// The application aligned, shifted down by the format's four bits.
+pub const ALIGNED: u8 = 5;
+/// How many values an application has: the indirect bit stands above its three bits.
+pub const APPLICATIONS: u8 = 8;

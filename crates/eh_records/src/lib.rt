@@ -1,0 +1,2 @@
+//! Records.
+#![tactic(auto)]
