@@ -1,0 +1,4 @@
+pub mod Instruction
+pub mod Table
+pub mod Listing
+pub mod Remaining

@@ -1,0 +1,127 @@
+//! One instruction: its opcode and the operands that the table gives for it.
+
+ghost use Rattle.std.specs.Prelude.{◌≡◌};
+ghost use Rattle.std.specs.Option.{option_map};
+ghost use Rattle.sf_bytes.specs.Cursor.{cursor};
+ghost use Rattle.cfa_insn.specs.Instruction.{instruction};
+ghost use Rattle.cfa_insn.specs.Table.{Reads, ReadsInstruction, placed, block_at, extended_at, operands_at, instruction_at};
+ghost use Rattle.cfa_insn.specs.Listing.{GivesFirst, listing};
+
+use crate::fault::InsnFault;
+use crate::insn::Insn;
+use sf_bytes::{ByteFault, Part};
+
+/// The first opcode of `DW_CFA_advance_loc`, whose low six bits are the advance.
+const ADVANCE_LOC: u8 = 0x40;
+
+/// The first opcode of `DW_CFA_offset`, whose low six bits are the register.
+const OFFSET: u8 = 0x80;
+
+/// The first opcode of `DW_CFA_restore`, whose low six bits are the register.
+const RESTORE: u8 = 0xc0;
+
+// A block: its length and that many bytes.
+#[tactic(auto, unfolding(crate::specs::Table::block_at))]
+fn block<'a>(part: &mut Part<'a>) -> Result<&'a [u8], ByteFault>
+    ensures { Reads (λ b. b.now) part.new result (block_at (cursor part.old)) }
+{
+    let len = part.uleb()?;
+    let run = part.take(len)?;
+    Ok(run.bytes)
+}
+
+// The instruction of an opcode below `ADVANCE_LOC`, or none for one that the table doesn't have.
+#[tactic(auto, unfolding(crate::specs::Table::extended_at))]
+fn extended<'a>(opcode: u8, part: &mut Part<'a>) -> Result<Option<Insn<'a>>, ByteFault>
+    ensures { Reads (option_map instruction) part.new result (extended_at opcode (cursor part.old)) }
+{
+    match opcode {
+        0x00 => Ok(Some(Insn::Nop)),
+        0x02 => Ok(Some(Insn::AdvanceLocN(u32::from(part.get_u8()?)))),
+        0x03 => Ok(Some(Insn::AdvanceLocN(u32::from(part.get_u16()?)))),
+        0x04 => Ok(Some(Insn::AdvanceLocN(part.get_u32()?))),
+        0x05 => Ok(Some(Insn::OffsetExtended(part.uleb()?, part.uleb()?))),
+        0x06 => Ok(Some(Insn::RestoreExtended(part.uleb()?))),
+        0x07 => Ok(Some(Insn::Undefined(part.uleb()?))),
+        0x08 => Ok(Some(Insn::SameValue(part.uleb()?))),
+        0x09 => Ok(Some(Insn::Register(part.uleb()?, part.uleb()?))),
+        0x0a => Ok(Some(Insn::RememberState)),
+        0x0b => Ok(Some(Insn::RestoreState)),
+        0x0c => Ok(Some(Insn::DefCfa(part.uleb()?, part.uleb()?))),
+        0x0d => Ok(Some(Insn::DefCfaRegister(part.uleb()?))),
+        0x0e => Ok(Some(Insn::DefCfaOffset(part.uleb()?))),
+        0x0f => Ok(Some(Insn::DefCfaExpression(block(part)?))),
+        0x10 => Ok(Some(Insn::Expression(part.uleb()?, block(part)?))),
+        0x11 => Ok(Some(Insn::OffsetExtendedSf(part.uleb()?, part.sleb()?))),
+        0x12 => Ok(Some(Insn::DefCfaSf(part.uleb()?, part.sleb()?))),
+        0x13 => Ok(Some(Insn::DefCfaOffsetSf(part.sleb()?))),
+        0x14 => Ok(Some(Insn::ValOffset(part.uleb()?, part.uleb()?))),
+        0x15 => Ok(Some(Insn::ValOffsetSf(part.uleb()?, part.sleb()?))),
+        0x16 => Ok(Some(Insn::ValExpression(part.uleb()?, block(part)?))),
+        0x2d => Ok(Some(Insn::NegateRaState)),
+        0x2e => Ok(Some(Insn::GnuArgsSize(part.uleb()?))),
+        _ => Ok(None),
+    }
+}
+
+// The instruction of any opcode, or none for one that the table doesn't have.
+#[tactic(auto, unfolding(crate::specs::Table::operands_at))]
+fn operands<'a>(opcode: u8, part: &mut Part<'a>) -> Result<Option<Insn<'a>>, ByteFault>
+    ensures { Reads (option_map instruction) part.new result (operands_at opcode (cursor part.old)) }
+{
+    if opcode < ADVANCE_LOC {
+        return extended(opcode, part);
+    }
+    if opcode < OFFSET {
+        return Ok(Some(Insn::AdvanceLoc(opcode % 64)));
+    }
+    if opcode < RESTORE {
+        return Ok(Some(Insn::Offset(opcode % 64, part.uleb()?)));
+    }
+    Ok(Some(Insn::Restore(opcode % 64)))
+}
+
+// A fault of a field, at the instruction's place.
+fn placed_at(place: u64, fault: ByteFault) -> InsnFault
+    ensures { result ≡ placed place fault }
+{
+    match fault {
+        ByteFault::Short(_) => InsnFault::Short(place),
+        ByteFault::Leb(_) => InsnFault::Leb(place),
+    }
+}
+
+/// The instruction at the front. On a fault what is left of the part isn't said.
+#[tactic(auto, unfolding(crate::specs::Table::instruction_at))]
+pub fn instruction_of<'a>(part: &mut Part<'a>) -> Result<Insn<'a>, InsnFault>
+    ensures { ReadsInstruction instruction part.new result (instruction_at (cursor part.old)) }
+{
+    let place = part.place;
+    let opcode = match part.get_u8() {
+        Ok(opcode) => opcode,
+        Err(fault) => return Err(placed_at(place, fault)),
+    };
+    match operands(opcode, part) {
+        Ok(Some(insn)) => Ok(insn),
+        Ok(None) => Err(InsnFault::Opcode(place, opcode)),
+        Err(fault) => Err(placed_at(place, fault)),
+    }
+}
+
+/// The first item of a part and the part behind it, which is empty after a fault. None at the end.
+pub fn first_of<'a>(part: Part<'a>) -> Option<(Result<(u64, Insn<'a>), InsnFault>, Part<'a>)>
+    ensures { GivesFirst result (listing (cursor part.entry)) }
+{
+    if part.is_empty() {
+        return None;
+    }
+    let place = part.place;
+    let mut rest = part;
+    match instruction_of(&mut rest) {
+        Ok(insn) => Some((Ok((place, insn)), rest)),
+        Err(fault) => {
+            let (none, _) = part.bytes.split_at(0);
+            Some((Err(fault), Part::new(none, place)))
+        }
+    }
+}

@@ -1,0 +1,4 @@
+pub mod Registers
+pub mod Effects
+pub mod Columns
+pub mod Pass

@@ -1,0 +1,134 @@
+-- One pass over a function's instructions, with the columns alone: the rows, each from the offset of an advance
+-- to the next, or the first fault.
+use Rattle.std.specs.Prelude.{◌≡◌, ℕ, ℤ, ◌+◌, ◌*◌, ◌-◌, ◌^◌, min, Bool, ◌&&◌, nat_lt, List, [], ◌∷◌, ◌++◌, length, reverse, Option, Some, None, Result, Ok, Err, if◌then◌else◌}
+use Rattle.arrayvec.specs.ArrayVec.{ArrayVec}
+use Rattle.sf_model.specs.declared.machine.Arch.{Arch}
+use Rattle.cfa_insn.specs.Listing.{Item}
+use Rattle.cfa_machine.specs.declared.effect.Effect.{Effect}
+use Rattle.cfa_machine.specs.declared.effect.Effect.TheVariants.{Row, Advance, Restore, Remember, Recall}
+use Rattle.cfa_machine.specs.declared.fault.MachineFault.{MachineFault}
+use Rattle.cfa_machine.specs.declared.fault.MachineFault.TheVariants.{CieInstruction, StateEmpty, StateDepth, NoCfaRegister, Insn, NoMemory}
+use Rattle.cfa_machine.specs.declared.columns.Columns.{Columns}
+use Rattle.cfa_machine.specs.declared.row.DwRow.{DwRow}
+use Rattle.cfa_machine.specs.declared.machine.Setup.{Setup}
+use Rattle.cfa_machine.specs.declared.machine.Machine.{Machine}
+use Rattle.cfa_machine.specs.Columns.{no_columns, changed, restored, row_from}
+use Rattle.cfa_machine.specs.Effects.{effect_by}
+
+-- a step that goes on behind another one
+infixl 10 ◌>>=◌
+abbrev pub ◌>>=◌ : {A B : Type 0} → Result A MachineFault → (A → Result B MachineFault) → Result B MachineFault
+(Ok x) >>= f = f x
+(Err e) >>= f = Err e
+
+-- ---- the common information entry
+abbrev pub defined : Arch → ℕ → Effect → Columns → Result Columns MachineFault
+defined arch place (Row change) c = changed arch place change c
+defined arch place (Advance n) c = Err (CieInstruction place)
+defined arch place (Restore r) c = Err (CieInstruction place)
+defined arch place Remember c = Err (CieInstruction place)
+defined arch place Recall c = Err (CieInstruction place)
+
+-- the row after one more item
+abbrev pub defined_more : Arch → ℤ → Item → Columns → Result Columns MachineFault
+defined_more arch f (Ok (place, i)) c = defined arch place (effect_by f i) c
+defined_more arch f (Err e) c = Err (Insn e)
+
+-- the row after all of them, from c on
+unfoldable pub defined_by : Arch → ℤ → Columns → List Item → Result Columns MachineFault
+defined_by arch f c [] = Ok c
+defined_by arch f c (x ∷ items) = defined_more arch f x c >>= λ d. defined_by arch f d items
+
+-- ---- the function
+pub record State : Type 0 where
+  pub columns : Columns
+  pub remembered : List Columns
+  pub offset : ℕ
+
+-- offsets are capped at the greatest u64
+abbrev pub advanced : (code delta offset : ℕ) → ℕ
+advanced code delta offset = min (offset + min (code * delta) (2 ^ 64 - 1)) (2 ^ 64 - 1)
+
+-- a row ends where the offset goes on, and is one of the function's where it starts below its size
+abbrev pub row_before : (size next offset : ℕ) → Columns → Option DwRow
+row_before size next offset c = if nat_lt offset next && nat_lt offset size then Some (row_from offset c) else None
+
+-- the stack, the latest row first
+abbrev pub with_remembered : ℕ → Columns → List Columns → Result (List Columns) MachineFault
+with_remembered place c rows = if nat_lt (length rows) 64 then Ok (c ∷ rows) else Err (StateDepth place)
+
+abbrev pub with_recalled : ℕ → List Columns → Result (Columns × List Columns) MachineFault
+with_recalled place [] = Err (StateEmpty place)
+with_recalled place (c ∷ rows) = Ok (c, rows)
+
+-- one instruction at a place: the next state, and the row that ends
+abbrev pub ran : Setup → ℕ → Effect → State → Result (State × Option DwRow) MachineFault
+ran k place (Row change) s = changed k.arch place change s.columns >>= λ c. Ok (record s { columns = c }, None)
+ran k place (Advance n) s = Ok (record s { offset = advanced k.code n s.offset }, row_before k.size (advanced k.code n s.offset) s.offset s.columns)
+ran k place (Restore r) s = Ok (record s { columns = restored k.arch r k.initial s.columns }, None)
+ran k place Remember s = with_remembered place s.columns s.remembered >>= λ rows. Ok (record s { remembered = rows }, None)
+ran k place Recall s = with_recalled place s.remembered >>= λ x. Ok (record s { columns = x.0; remembered = x.1 }, None)
+
+abbrev pub last_row : (size : ℕ) → State → Option DwRow
+last_row size s = if nat_lt s.offset size then Some (row_from s.offset s.columns) else None
+
+abbrev pub in_front : Option DwRow → List DwRow → List DwRow
+in_front None rows = rows
+in_front (Some row) rows = row ∷ rows
+
+-- the same for an item
+abbrev pub ran_more : Setup → ℤ → Item → State → Result (State × Option DwRow) MachineFault
+ran_more k f (Ok (place, i)) s = ran k place (effect_by f i) s
+ran_more k f (Err e) s = Err (Insn e)
+
+-- the rows that the instructions give from a state on
+unfoldable pub rows_from : Setup → ℤ → State → List Item → Result (List DwRow) MachineFault
+rows_from k f s [] = Ok (in_front (last_row k.size s) [])
+rows_from k f s (x ∷ items) = do
+  o ← ran_more k f x s
+  rows ← rows_from k f o.0 items
+  Ok (in_front o.1 rows)
+
+-- both entries: the rows of a function
+abbrev pub rows_by : Arch → (code : ℕ) → (factor : ℤ) → (size : ℕ) → (cie fde : List Item) → Result (List DwRow) MachineFault
+rows_by arch code f size cie fde = do
+  initial ← defined_by arch f no_columns cie
+  rows_from (record { arch = arch; code = code; size = size; initial = initial }) f (record { columns = initial; remembered = []; offset = 0 }) fde
+
+-- ---- what the code keeps of a state
+-- memory may be wanting for a row
+abbrev pub Appends : {U : Type 0} → List DwRow → List DwRow → Option DwRow → Result U MachineFault → Type 0
+Appends old new row (Ok u) = new ≡ old ++ in_front row []
+Appends old new row (Err e) = e ≡ NoMemory
+
+abbrev pub latest_first : ArrayVec Columns → List Columns
+latest_first stack = reverse stack.items
+
+abbrev pub state : Machine → State
+state m = record { columns = m.columns; remembered = latest_first m.remembered; offset = m.offset }
+
+-- what a call answered is what the pass gives
+abbrev pub Steps : Machine → Result (Option DwRow) MachineFault → Result (State × Option DwRow) MachineFault → Type 0
+Steps new (Ok row) given = given ≡ Ok (state new, row)
+Steps new (Err e) given = given ≡ Err e
+
+abbrev pub Remembers : {U : Type 0} → ArrayVec Columns → Result U MachineFault → Result (List Columns) MachineFault → Type 0
+Remembers new (Ok u) given = given ≡ Ok (latest_first new)
+Remembers new (Err e) given = given ≡ Err e
+
+abbrev pub Recalls : ArrayVec Columns → Result Columns MachineFault → Result (Columns × List Columns) MachineFault → Type 0
+Recalls new (Ok c) given = given ≡ Ok (c, latest_first new)
+Recalls new (Err e) given = given ≡ Err e
+
+-- the same where memory may be wanting
+abbrev pub Fails : {Y : Type 0} → MachineFault → Result Y MachineFault → Type 0
+Fails NoMemory given = Unit {0}
+Fails (CieInstruction place) given = given ≡ Err (CieInstruction place)
+Fails (StateEmpty place) given = given ≡ Err (StateEmpty place)
+Fails (StateDepth place) given = given ≡ Err (StateDepth place)
+Fails (NoCfaRegister place) given = given ≡ Err (NoCfaRegister place)
+Fails (Insn e) given = given ≡ Err (Insn e)
+
+abbrev pub Gives : {X Y : Type 0} → (X → Y) → Result X MachineFault → Result Y MachineFault → Type 0
+Gives view (Ok x) given = given ≡ Ok (view x)
+Gives view (Err e) given = Fails e given

@@ -1,0 +1,24 @@
+//! The rows of a function from its call frame instructions (DWARF 5, section 6.4.3).
+//!
+//! [`rows`] runs the instructions of the common information entry, then those of the frame description
+//! entry, and gives a row for each offset below the function's size at which the state may change. It
+//! goes over the instructions once and keeps five columns: the canonical frame address (CFA), the stack
+//! pointer, the frame pointer, the return address and, on AArch64, the sign state.
+//!
+//! Offsets are plain integers: a product of a 64-bit operand and the data alignment factor fits an
+//! `i128`. Only the list of rows takes memory.
+#![tactic(auto)]
+
+mod columns;
+mod effect;
+mod fault;
+mod machine;
+mod registers;
+mod row;
+mod rule;
+mod table;
+
+pub use fault::MachineFault;
+pub use row::DwRow;
+pub use rule::{CfaRule, Rule};
+pub use table::rows;

@@ -1,0 +1,16 @@
+//! What SFrame Version 2 can express of a function's rows, and why it can't.
+//!
+//! [`content`] gives what a row of the call frame instructions says in the form of a frame row entry, or
+//! the first reason why none does. [`express`] gives the whole function as a section holds it, or the
+//! first reason of the function or else of the row with the least offset. Neighbouring rows that say the
+//! same are one row.
+//!
+//! The caller of [`express`] owes rows as `cfa_machine` gives them. Only `express` takes memory.
+#![tactic(auto)]
+
+mod fault;
+mod part;
+mod row;
+
+pub use fault::ExpressFault;
+pub use row::content;

@@ -1,0 +1,151 @@
+//! What each rule of a row says in SFrame's form, or why SFrame has no form for it.
+
+ghost use Rattle.std.specs.Prelude.{◌≡◌};
+ghost use Rattle.sf_express.specs.Parts.{narrowed, base_of, cfa_part, sp_part, ra_part, fp_part, pair_part, sign_part};
+
+use cfa_machine::{CfaRule, Rule};
+use sf_model::{Arch, Base, Ra, Reason};
+
+/// The offset of a return address on AMD64, from the canonical frame address.
+const FIXED_RA: i128 = -8;
+
+// A number that fits 32 signed bits.
+fn as_i32(number: i128) -> Option<i32>
+    ensures { result ≡ narrowed number }
+{
+    if number < i128::from(i32::MIN) || number > i128::from(i32::MAX) {
+        None
+    } else {
+        Some(number as i32)
+    }
+}
+
+// The base register of SFrame that a DWARF register is.
+fn base(arch: Arch, register: u64) -> Option<Base>
+    ensures { result ≡ base_of arch register }
+{
+    let (sp, fp) = match arch {
+        Arch::Amd64 => (7, 6),
+        Arch::Aarch64 => (31, 29),
+    };
+    if register == sp {
+        Some(Base::Sp)
+    } else if register == fp {
+        Some(Base::Fp)
+    } else {
+        None
+    }
+}
+
+/// The canonical frame address: its base and its offset in bytes.
+pub fn cfa(arch: Arch, rule: CfaRule) -> Result<(Base, i32), Reason>
+    ensures { result ≡ cfa_part arch rule }
+{
+    match rule {
+        CfaRule::Missing => Err(Reason::NoCfa),
+        CfaRule::Expression => Err(Reason::CfaExpression),
+        CfaRule::Reg { register, offset } => match base(arch, register) {
+            None => Err(Reason::CfaRegister),
+            Some(base) => match as_i32(offset) {
+                None => Err(Reason::CfaOffset),
+                Some(offset) => Ok((base, offset)),
+            },
+        },
+    }
+}
+
+/// The stack pointer, which SFrame takes to be the canonical frame address.
+pub fn sp(rule: Rule) -> Result<(), Reason>
+    ensures { result ≡ sp_part rule }
+{
+    match rule {
+        Rule::Missing => Ok(()),
+        Rule::ValOffset(offset) => {
+            if offset == 0 {
+                Ok(())
+            } else {
+                Err(Reason::SpRule)
+            }
+        }
+        _ => Err(Reason::SpRule),
+    }
+}
+
+// The return address of AMD64.
+fn ra_amd64(rule: Rule) -> Result<Ra, Reason>
+    ensures { result ≡ ra_part Arch.Amd64 rule }
+{
+    match rule {
+        Rule::Offset(offset) => {
+            if offset == FIXED_RA {
+                Ok(Ra::Fixed)
+            } else {
+                Err(Reason::RaOffset)
+            }
+        }
+        _ => Err(Reason::RaRule),
+    }
+}
+
+// The return address of AArch64.
+fn ra_aarch64(rule: Rule) -> Result<Ra, Reason>
+    ensures { result ≡ ra_part Arch.Aarch64 rule }
+{
+    match rule {
+        Rule::Missing => Ok(Ra::Link),
+        Rule::Same => Ok(Ra::Link),
+        Rule::Offset(offset) => match as_i32(offset) {
+            None => Err(Reason::RaOffset),
+            Some(offset) => Ok(Ra::At(offset)),
+        },
+        _ => Err(Reason::RaRule),
+    }
+}
+
+/// The return address.
+pub fn ra(arch: Arch, rule: Rule) -> Result<Ra, Reason>
+    ensures { result ≡ ra_part arch rule }
+{
+    match arch {
+        Arch::Amd64 => ra_amd64(rule),
+        Arch::Aarch64 => ra_aarch64(rule),
+    }
+}
+
+/// The frame pointer: the offset that it is saved at, or none where it keeps its value.
+pub fn fp(rule: Rule) -> Result<Option<i32>, Reason>
+    ensures { result ≡ fp_part rule }
+{
+    match rule {
+        Rule::Missing => Ok(None),
+        Rule::Same => Ok(None),
+        Rule::Offset(offset) => match as_i32(offset) {
+            None => Err(Reason::FpOffset),
+            Some(offset) => Ok(Some(offset)),
+        },
+        _ => Err(Reason::FpRule),
+    }
+}
+
+/// A saved frame pointer needs a saved return address.
+pub fn pair(ra: Ra, fp: Option<i32>) -> Result<(), Reason>
+    ensures { result ≡ pair_part ra fp }
+{
+    match (ra, fp) {
+        (Ra::Link, Some(_)) => Err(Reason::FpWithoutRa),
+        (Ra::Link, None) => Ok(()),
+        (Ra::Fixed, _) => Ok(()),
+        (Ra::At(_), _) => Ok(()),
+    }
+}
+
+/// The register of the sign state, which may have no rule.
+pub fn sign(arch: Arch, rule: Rule) -> Result<(), Reason>
+    ensures { result ≡ sign_part arch rule }
+{
+    match (arch, rule) {
+        (Arch::Amd64, _) => Ok(()),
+        (Arch::Aarch64, Rule::Missing) => Ok(()),
+        (Arch::Aarch64, _) => Err(Reason::SignState),
+    }
+}
