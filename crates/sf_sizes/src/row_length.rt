@@ -1,12 +1,11 @@
 //! The length of a row (SFrame Version 2, frame row entries).
 
-ghost use Rattle.std.specs.Prelude.{◌≡◌, ◌≤◌, ◌||◌, IsTrue, length, option_to_list};
-ghost use Rattle.sf_model.specs.Content.{content_fits};
+ghost use Rattle.std.specs.Prelude.{◌≡◌, ◌≤◌, IsTrue, length, option_to_list};
 ghost use Rattle.sf_sizes.specs.Width.{IsLeastWidth};
 ghost use Rattle.sf_sizes.specs.RowLength.{offsets, return_offset, holds_offsets, offset_width, row_len};
 
 use crate::width::{bytes_of, fits_byte, fits_byte_if_any, fits_half, fits_half_if_any};
-use sf_model::{Arch, Content, Ra};
+use sf_model::{Content, Ra};
 
 /// The width of a row's offsets: 0, 1 or 2 for 1, 2 or 4 signed bytes, the least that holds each of
 /// them.
@@ -26,8 +25,7 @@ pub fn offset_size(content: &Content) -> u8
 /// How many bytes a row has, whose start has the width `kind`: the start, the info byte and the
 /// offsets, of which AMD64 has 1 or 2 and AArch64 has 1 to 3. They are 17 at most.
 pub fn row_bytes(kind: u8, content: &Content) -> u32
-    requires known { kind ≤ 2 }
-    requires fits { IsTrue (content_fits Arch.Amd64 content.now || content_fits Arch.Aarch64 content.now) }
+    requires { kind ≤ 2 }
     ensures value { result ≡ row_len kind content.now }
     ensures most { result ≤ 17 }
 {

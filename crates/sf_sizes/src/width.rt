@@ -25,7 +25,11 @@ pub(crate) fn bytes_of(width: u8) -> u32
     ensures value { result ≡ width_len width }
     ensures most { result ≤ 4 }
 {
-    1 << width
+    match width {
+        0 => 1,
+        1 => 2,
+        _ => 4,
+    }
 }
 
 /// Whether one signed byte holds an offset.
