@@ -31,7 +31,7 @@ row_bytes start_width row =
 
 -- the start of the last row
 unfoldable pub last_start : List Row → ℕ
-last_start rows = option_map_or (λ (row : Row). row.start) 0 (slice_get rows (length rows - 1))
+last_start rows = option_map_or (λ (row : Row). row.start) (slice_get rows (length rows - 1)) 0
 
 -- the least width of a function's row starts
 abbrev pub start_width : List Row → ℕ

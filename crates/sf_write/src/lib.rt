@@ -1,13 +1,27 @@
-// A library with one function.
+//! The writer of SFrame Version 2 sections.
+//!
+//! `write` lays a section out in one way: the header, the function entries, and then the rows of all
+//! functions in the same order, without sharing. Starts count from their own field (flags 0x1 and 0x4),
+//! row starts and offsets are as narrow as they can be, padding is zero. `specs/Section.antt` says
+//! which bytes these are.
+//!
+//! The caller owes functions that one section can hold, by rising start, with rows that the machine has
+//! (`AreWritable` of `sf_model`). Memory is taken once, and a start that lies too far from its field is
+//! refused.
 #![tactic(auto)]
 
-ghost use Rattle.std.specs.Prelude.{◌≡◌};
-ghost use Rattle.sf_write.specs.Echo.{echo_of};
+mod entry;
+mod fault;
+mod header;
+mod layout;
+mod number;
+mod reach;
+mod row;
+mod section;
+mod totals;
 
-// The `ensures` clause is the contract: what `echo` returns is `echo_of` of its argument, a definition
-// in `specs/Echo.antt`, which a caller's clause can cite too.
-pub fn echo(x: usize) -> usize
-    ensures { result ≡ echo_of x }
-{
-    x
-}
+pub use fault::WriteFault;
+pub use section::write;
+
+#[cfg(test)]
+mod tests;
