@@ -23,6 +23,7 @@ use std::alloc::{AllocError, Global};
 /// # Errors
 ///
 /// `OutOfReach` names the first start that does not lie within -2^31 to 2^31-1 bytes of its own field.
+#[tactic(auto, unfolding(crate::specs::Section::section_bytes))]
 pub fn write(alloc: Global, arch: Arch, at: u64, funcs: &[Func]) -> Result<Vec<u8>, WriteFault>
     requires { AreWritable arch funcs.now }
     ensures bytes { IfOk result (λ v. v.items ≡ section_bytes arch at funcs.now) }
