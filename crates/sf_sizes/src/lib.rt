@@ -9,7 +9,7 @@
 mod row_length;
 mod width;
 
-pub use row_length::{offset_size, row_bytes};
+pub use row_length::{offset_count, offset_size, row_bytes, saved_offset};
 pub use width::row_type;
 
 #[cfg(test)]

@@ -29,20 +29,21 @@ pub fn row_bytes(kind: u8, content: &Content) -> u32
     ensures value { result ≡ row_len kind content.now }
     ensures most { result ≤ 17 }
 {
-    bytes_of(kind) + 1 + offset_count(content) * bytes_of(offset_size(content))
+    bytes_of(kind) + 1 + u32::from(offset_count(content)) * bytes_of(offset_size(content))
 }
 
-/// How many offsets a row has.
-fn offset_count(content: &Content) -> u32
+/// How many offsets a row has: the canonical frame address's, and those of a saved return address and
+/// of a saved frame pointer.
+pub fn offset_count(content: &Content) -> u8
     ensures value { result ≡ length (offsets content.now) }
     ensures most { result ≤ 3 }
 {
     let saved = saved_offset(content.ra);
-    1 + u32::from(saved.is_some()) + u32::from(content.fp.is_some())
+    1 + u8::from(saved.is_some()) + u8::from(content.fp.is_some())
 }
 
-/// The return address's offset, where a row has one.
-fn saved_offset(ra: Ra) -> Option<i32>
+/// The return address's offset from the canonical frame address, where a row has one of its own.
+pub fn saved_offset(ra: Ra) -> Option<i32>
     ensures { option_to_list result ≡ return_offset ra }
 {
     match ra {

@@ -8,8 +8,8 @@ ghost use Rattle.sf_write.specs.Number.{signed_bytes};
 ghost use Rattle.sf_write.specs.Row.{row_info, offset_bytes, row_bytes as row_spelling, last_start, start_width, rows_bytes, rows_len};
 
 use crate::number::{push_narrow, push_narrow_signed};
-use sf_model::{Base, Content, Ra, Row};
-use sf_sizes::{offset_size, row_bytes, row_type};
+use sf_model::{Base, Content, Row};
+use sf_sizes::{offset_count, offset_size, row_bytes, row_type, saved_offset};
 use std::alloc::AllocError;
 
 /// The width of a function's row starts: the least that holds the last one.
@@ -69,24 +69,6 @@ fn info_of(content: &Content) -> u8
         Base::Sp => 1,
     };
     base + 2 * offset_count(content) + 32 * offset_size(content) + 128 * u8::from(content.signed)
-}
-
-/// How many offsets a row has.
-fn offset_count(content: &Content) -> u8
-    ensures value { result ≡ length (offsets content.now) }
-    ensures most { result ≤ 3 }
-{
-    1 + u8::from(saved_offset(content.ra).is_some()) + u8::from(content.fp.is_some())
-}
-
-/// The return address's offset, where a row has one.
-fn saved_offset(ra: Ra) -> Option<i32>
-    ensures { option_to_list result ≡ return_offset ra }
-{
-    match ra {
-        Ra::At(offset) => Some(offset),
-        Ra::Fixed | Ra::Link => None,
-    }
 }
 
 /// Appends a row's offsets in their order: of the canonical frame address, the return address and the
