@@ -1,0 +1,11 @@
+-- An object of the outside counts its faults. A count never falls, and stands still at the last number of 64 bits.
+use Rattle.std.specs.Prelude.{◌≡◌, ◌⊎◌, ◌<◌, ◌≤◌, ◌-◌, ◌^◌, ℕ, Result, IsErr}
+
+-- the count is greater than before, or stands at its last number
+abbrev pub Rose : ℕ → ℕ → Type 0
+Rose before after = (before < after) ⊎ (after ≡ 2 ^ 64 - 1)
+
+-- the count did not fall, and it rose where the call failed
+pub record Cause {T E : Type 0} (before after : ℕ) (result : Result T E) : Type 0 where
+  pub later : before ≤ after
+  pub failed : IsErr result → Rose before after

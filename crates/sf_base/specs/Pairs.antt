@@ -1,0 +1,32 @@
+-- Files as a program has them in memory: a list of names with bytes.
+use Rattle.std.specs.Prelude.{ℕ, List, [], ◌∷◌, Option, Some, None, String, Vec, Bool, false, ◌||◌, string_bytes, if◌then◌else◌}
+use Prim.Native.Nat.{zero, suc}
+use Rattle.std.specs.Str.{bytes_eq}
+use Rattle.std.specs.Option.{option_map}
+use Rattle.std.specs.declared.alloc.Global.{Global}
+
+-- the pairs of a name's bytes and a file's bytes
+abbrev pub pairs_of : List (String Global × Vec ℕ Global) → List (List ℕ × List ℕ)
+pairs_of [] = []
+pairs_of (file ∷ files) = (string_bytes file.0, file.1.items) ∷ pairs_of files
+
+-- whether some pair has this name
+abbrev pub has_name : List (List ℕ × List ℕ) → List ℕ → Bool
+has_name [] name = false
+has_name (file ∷ files) name = bytes_eq file.0 name || has_name files name
+
+-- where the first pair with this name stands
+abbrev pub place_of : List (List ℕ × List ℕ) → List ℕ → Option ℕ
+place_of [] name = None
+place_of (file ∷ files) name = if bytes_eq file.0 name then Some 0 else option_map (λ place. suc place) (place_of files name)
+
+-- the pairs where the first pair with this name has these bytes. Where there was none, it stands at the end.
+abbrev pub with_file : List (List ℕ × List ℕ) → List ℕ → List ℕ → List (List ℕ × List ℕ)
+with_file [] name bytes = (name, bytes) ∷ []
+with_file (file ∷ files) name bytes = if bytes_eq file.0 name then (file.0, bytes) ∷ files else file ∷ with_file files name bytes
+
+-- the name that stands at a place
+abbrev pub name_at : List (List ℕ × List ℕ) → ℕ → List ℕ
+name_at [] place = []
+name_at (file ∷ files) zero = file.0
+name_at (file ∷ files) (suc place) = name_at files place

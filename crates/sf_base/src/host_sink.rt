@@ -1,0 +1,40 @@
+// A stream of the machine, such as its standard output.
+ghost use Rattle.std.specs.Prelude.{◌≡◌, None};
+
+use crate::{Failed, Sink};
+use std::io::Write;
+
+/// A stream of the machine. It tells nothing of what it was given. What the machine does with the bytes is
+/// outside what is proved.
+#[derive(Drop)]
+pub struct HostSink<W: Write + Drop> {
+    writer: W,
+    faults: u64,
+}
+
+impl<W: Write + Drop> HostSink<W> {
+    /// The stream of this writer, with no fault counted.
+    pub fn new(writer: W) -> HostSink<W>
+        ensures writer { result.writer ≡ writer }
+        ensures faults { result.faults ≡ 0 }
+    {
+        HostSink { writer, faults: 0 }
+    }
+}
+
+impl<W: Write + Drop> Sink for HostSink<W> {
+    ghost written = { λ _. None };
+
+    ghost faults = { λ sink. sink.faults };
+
+    fn write(&mut self, piece: &[u8]) -> Result<usize, Failed> {
+        match self.writer.write(piece) {
+            // A stream that takes nothing would be asked for ever.
+            Ok(n) if n > 0 => Ok(n),
+            _ => {
+                self.faults = self.faults.saturating_add(1);
+                Err(Failed)
+            }
+        }
+    }
+}

@@ -1,0 +1,119 @@
+// A whole file, read into memory.
+ghost use Rattle.std.specs.Prelude.{◌≡◌, ◌<◌, ◌≤◌, ◌++◌, ◌+◌, ℕ, length, [], vec_len, IsTrue, IsErrOf, IfOk, IfErr, IfSome, OnOk};
+ghost use Rattle.sf_base.specs.Contents.{contents_of};
+ghost use Rattle.sf_base.specs.declared.loading.LoadFault.TheVariants.{Read, NoMemory};
+ghost use Rattle.sf_base.specs.Faults.{Rose};
+
+use crate::{Failed, Files, NoMemory};
+use std::alloc::{AllocError, Global};
+
+/// Why a file was not loaded.
+#[derive(Clone, Copy, Debug, PartialEq, Eq)]
+pub enum LoadFault {
+    /// The file could not be opened or read.
+    Read,
+    /// The file has more bytes than this limit.
+    TooLong(u64),
+    /// No memory was left for the bytes.
+    NoMemory,
+}
+
+impl From<Failed> for LoadFault {
+    ghost from_gives = { λ _ fault. fault ≡ Read };
+
+    fn from(_: Failed) -> LoadFault {
+        LoadFault::Read
+    }
+}
+
+impl From<NoMemory> for LoadFault {
+    ghost from_gives = { λ _ fault. fault ≡ NoMemory };
+
+    fn from(_: NoMemory) -> LoadFault {
+        LoadFault::NoMemory
+    }
+}
+
+impl From<AllocError> for LoadFault {
+    ghost from_gives = { λ _ fault. fault ≡ NoMemory };
+
+    fn from(_: AllocError) -> LoadFault {
+        LoadFault::NoMemory
+    }
+}
+
+// The most bytes that one read asks for.
+const CHUNK: u64 = 1 << 16;
+
+/// The whole file of this name, where it has at most `limit` bytes. Nothing is read past the first
+/// bytes that pass the limit. Which file is opened afterwards is left open.
+///
+/// # Errors
+///
+/// `Read` where a call of `files` failed, `TooLong(limit)` where the file has more than `limit` bytes, and
+/// `NoMemory`.
+pub fn load<F: Files>(
+    alloc: Global,
+    files: &mut F,
+    name: &str,
+    limit: u64,
+) -> Result<Vec<u8>, LoadFault>
+    requires { IsTrue (F.may_open files.old name.now) }
+    ensures within { IfOk result (λ bytes. vec_len bytes ≤ limit) }
+    ensures bytes { IfOk result (λ bytes. IfSome (F.contents files.old) (λ told. bytes.items ≡ contents_of told name.now)) }
+    ensures read { IsErrOf result LoadFault.Read → Rose (F.read_faults files.old) (F.read_faults files.new) }
+    ensures too_long { (n : ℕ) → IsErrOf result (LoadFault.TooLong n) → n ≡ limit }
+    ensures longer { (n : ℕ) → IsErrOf result (LoadFault.TooLong n) → IfSome (F.contents files.old) (λ told. limit < length (contents_of told name.now)) }
+    ensures contents { F.contents files.new ≡ F.contents files.old }
+    ensures created { F.created files.new ≡ F.created files.old }
+    ensures created_name { F.created_name files.new ≡ F.created_name files.old }
+    ensures may_open { F.may_open files.new ≡ F.may_open files.old }
+    ensures may_create { F.may_create files.new ≡ F.may_create files.old }
+    ensures read_faults { F.read_faults files.old ≤ F.read_faults files.new }
+    ensures write_faults { F.write_faults files.new ≡ F.write_faults files.old }
+{
+    files.open_file(name)?;
+    let mut bytes = Vec::new(alloc);
+    loop {
+        // One byte past the limit shows that the file is longer.
+        let room = (limit - bytes.len() as u64).min(CHUNK - 1) + 1;
+        let n = read_more(files, &mut bytes, room as usize)?;
+        if bytes.len() as u64 > limit {
+            return Err(LoadFault::TooLong(limit));
+        }
+        if n == 0 {
+            return Ok(bytes);
+        }
+    }
+}
+
+// Reads once, for at most `room` bytes, and puts what was read behind the bytes. Answers how many.
+fn read_more<F: Files>(
+    files: &mut F,
+    bytes: &mut Vec<u8>,
+    room: usize,
+) -> Result<usize, LoadFault>
+    requires opened { IsTrue (F.opened files.old) }
+    requires room { 0 < room }
+    ensures len { IfOk result (λ n. vec_len bytes.new ≡ vec_len bytes.old + n) }
+    ensures within { IfOk result (λ n. n ≤ room) }
+    ensures moved { OnOk result (IfSome (F.contents files.old) (λ _. bytes.old.items ++ F.rest files.old ≡ bytes.new.items ++ F.rest files.new)) }
+    ensures end { IfOk result (λ n. IfSome (F.contents files.old) (λ _. n ≡ 0 → F.rest files.old ≡ [])) }
+    ensures opened { OnOk result (IsTrue (F.opened files.new)) }
+    ensures read { IsErrOf result LoadFault.Read → Rose (F.read_faults files.old) (F.read_faults files.new) }
+    ensures not_long { (n : ℕ) → IsErrOf result (LoadFault.TooLong n) → ⊥ }
+    ensures contents { F.contents files.new ≡ F.contents files.old }
+    ensures created { F.created files.new ≡ F.created files.old }
+    ensures created_name { F.created_name files.new ≡ F.created_name files.old }
+    ensures may_open { F.may_open files.new ≡ F.may_open files.old }
+    ensures may_create { F.may_create files.new ≡ F.may_create files.old }
+    ensures read_faults { F.read_faults files.old ≤ F.read_faults files.new }
+    ensures write_faults { F.write_faults files.new ≡ F.write_faults files.old }
+{
+    let filled = bytes.len();
+    let end = filled.checked_add(room).ok_or(NoMemory)?;
+    bytes.resize(end, 0)?;
+    let n = files.read(&mut bytes[filled..])?;
+    bytes.truncate(filled + n);
+    Ok(n)
+}

@@ -1,0 +1,54 @@
+// A sink in memory.
+ghost use Rattle.std.specs.Prelude.{◌≡◌, ◌<◌, ◌+◌, ◌-◌, ◌^◌, min, [], ℕ, Some};
+
+use crate::calls::Calls;
+use crate::{Failed, Sink};
+use std::alloc::Global;
+
+/// A sink that keeps its bytes in memory, and tells them. One write takes no more than a number of bytes
+/// that is set, and writes fail at the calls that are listed.
+#[derive(Drop)]
+pub struct MemSink {
+    bytes: Vec<u8>,
+    most: usize,
+    calls: Calls,
+    faults: u64,
+    ghost some: { 0 < most },
+}
+
+impl MemSink {
+    /// A sink with nothing written, of which a write takes at most `most` bytes. The writes with a number in
+    /// `fails` are to fail; the first write is number 1.
+    pub fn new(alloc: Global, most: usize, fails: Vec<u64>) -> MemSink
+        requires { 0 < most }
+    {
+        MemSink {
+            bytes: Vec::new(alloc),
+            most,
+            calls: Calls::new(fails),
+            faults: 0,
+        }
+    }
+
+    /// All the bytes that were written.
+    pub fn bytes(&self) -> &[u8]
+        ensures { ⟦<MemSink as Sink>⟧.written self.now ≡ Some result.now }
+    {
+        &self.bytes
+    }
+}
+
+impl Sink for MemSink {
+    ghost written = { λ sink. Some sink.bytes.items };
+
+    ghost faults = { λ sink. sink.faults };
+
+    fn write(&mut self, piece: &[u8]) -> Result<usize, Failed> {
+        let n = piece.len().min(self.most);
+        if self.calls.fails_next() || self.bytes.extend_from_slice(&piece[..n]).is_err() {
+            self.faults = self.faults.saturating_add(1);
+            return Err(Failed);
+        }
+        Ok(n)
+    }
+}

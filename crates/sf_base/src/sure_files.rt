@@ -1,0 +1,88 @@
+// Files that never fail.
+ghost use Rattle.std.specs.Prelude.{◌≡◌, ◌+◌, ◌-◌, ◌^◌, ℕ, [], true, false, if◌then◌else◌, min, length, drop, take, is_some, Some, None, Ok, IfSome};
+ghost use Rattle.sf_base.specs.Lent.{lent_rest};
+ghost use Rattle.sf_base.specs.Pairs.{pairs_of};
+
+use crate::copying::copy_front;
+use crate::lookup::bytes_of;
+use crate::{Failed, Files};
+
+/// Files that are read from a lent list, and of whose written bytes the number alone is kept. They never fail,
+/// and take no memory. A name that is not in the list is that of an empty file. What they hold is told until
+/// a file is created, and not after.
+#[derive(Drop)]
+pub struct SureFiles<'a> {
+    names: &'a [(String, Vec<u8>)],
+    rest: Option<&'a [u8]>,
+    created: bool,
+    count: u64,
+}
+
+impl<'a> SureFiles<'a> {
+    /// The files of this list, of which the first pair with a name counts. None is opened or created.
+    pub fn new(names: &'a [(String, Vec<u8>)]) -> SureFiles<'a>
+        ensures contents { ⟦<SureFiles<'a> as Files>⟧.contents result ≡ Some (pairs_of names.now) }
+        ensures created { ⟦<SureFiles<'a> as Files>⟧.created result ≡ false }
+        ensures opened { ⟦<SureFiles<'a> as Files>⟧.opened result ≡ false }
+        ensures count { result.count ≡ 0 }
+    {
+        SureFiles {
+            names,
+            rest: None,
+            created: false,
+            count: 0,
+        }
+    }
+
+    /// How many bytes were written. It stands still at `u64::MAX`.
+    pub fn count(&self) -> u64
+        ensures { result ≡ self.now.count }
+    {
+        self.count
+    }
+}
+
+impl<'a> Files for SureFiles<'a> {
+    ghost contents = { λ files. if files.created then None else Some (pairs_of files.names.now) };
+
+    ghost created = { λ files. files.created };
+
+    ghost created_name = { λ _. [] };
+
+    ghost opened = { λ files. is_some files.rest };
+
+    ghost rest = { λ files. lent_rest files.rest };
+
+    ghost may_open = { λ _ _. true };
+
+    ghost may_create = { λ _ _. true };
+
+    ghost read_faults = { λ _. 0 };
+
+    ghost write_faults = { λ _. 0 };
+
+    fn open_file(&mut self, name: &str) -> Result<(), Failed> {
+        self.rest = Some(bytes_of(self.names, name));
+        Ok(())
+    }
+
+    fn read(&mut self, buf: &mut [u8]) -> Result<usize, Failed> {
+        let rest = self.rest.unwrap_or(&[]);
+        let n = copy_front(rest, buf, usize::MAX);
+        self.rest = Some(&rest[n..]);
+        Ok(n)
+    }
+
+    fn create_file(&mut self, _name: &str) -> Result<(), Failed> {
+        self.rest = None;
+        self.created = true;
+        self.count = 0;
+        Ok(())
+    }
+
+    fn write(&mut self, piece: &[u8]) -> Result<usize, Failed> {
+        self.rest = None;
+        self.count = self.count.saturating_add(piece.len() as u64);
+        Ok(piece.len())
+    }
+}
