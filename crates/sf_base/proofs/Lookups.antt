@@ -1,5 +1,5 @@
 -- The first file with a name, in a list of names with bytes.
-use Rattle.std.proofs.Common.{◌≡◌, ◌≢◌, ◌⊎◌, ◌<◌, ◌+◌, ◌++◌, ◌∷◌, ◌∙◌, ℕ, Bool, true, false, ◌||◌, cond, List, [], Option, Some, None, position, string_bytes, length, get_or, slice_set, unwrap_or, refl, sym, ap, inl, inr, ⊎_elim, arith}
+use Rattle.std.proofs.Common.{◌≡◌, ◌≢◌, ◌⊎◌, ◌<◌, ◌+◌, ◌++◌, ◌∷◌, ◌∙◌, ℕ, Bool, true, false, ◌||◌, cond, List, [], Option, Some, None, Result, Ok, Err, position, string_bytes, length, get_or, slice_set, unwrap_or, refl, sym, ap, subst, inl, inr, ⊎_elim, arith}
 use Prim.Native.Nat.{zero, suc}
 use Rattle.std.specs.Prelude.{String, Vec}
 use Rattle.std.specs.declared.alloc.Global.{Global}
@@ -9,7 +9,9 @@ use Rattle.std.specs.List.{position_from}
 use Rattle.std.proofs.lemmas.Iterator.Adapters.{position_from-zero}
 use Rattle.std.proofs.lemmas.Slice.Eq.{bytes_eq-Decides}
 use Rattle.sf_base.specs.Contents.{contents_of, Changes}
-use Rattle.sf_base.specs.Pairs.{pairs_of, has_name, place_of, with_file, name_at}
+use Rattle.std.specs.Result.{OnOk, OnErr}
+use Rattle.sf_base.specs.Reading.{name_of}
+use Rattle.sf_base.specs.Pairs.{pairs_of, has_name, place_of, with_file, name_at, bytes_at}
 
 abbrev pub Stored : Type 0
 Stored = String Global × Vec ℕ Global
@@ -200,3 +202,48 @@ name_of_set (file ∷ files) (suc k) new below = let smaller : k < length files 
 pub not_found : (found : Option ℕ) (files : List Stored) (name : List ℕ) → found ≡ place_of (pairs_of files) name → ((k : ℕ) → found ≡ Some k → ⊥) → place_of (pairs_of files) name ≡ None
 not_found None files name e never = sym e
 not_found (Some k) files name e never = absurd (never k refl)
+
+pub found_there : (files : List (List ℕ × List ℕ)) (name : List ℕ) (k : ℕ) → place_of files name ≡ Some k → bytes_at files k ≡ contents_of files name
+found_there [] name k h = absurd (cc)
+found_there (file ∷ files) name k h =
+    ⊎_elim (λ first. rw (first.1, first.0))
+      (λ later. rw (later.1.1.1, later.0) (found_there files name later.1.0 later.1.1.0))
+      (place_cases (bytes_eq file.0 name) (place_of files name) k h)
+
+-- the bytes at a place are those of the file there
+pub bytes_is : (files : List Stored) (k : ℕ) (d : Stored) → k < length files → (get_or files k d).1.items ≡ bytes_at (pairs_of files) k
+bytes_is [] k d below = absurd (omega arith)
+bytes_is (file ∷ files) zero d below = refl
+bytes_is (file ∷ files) (suc k) d below = let smaller : k < length files = omega arith in bytes_is files k d smaller
+
+-- other bytes leave the names at their places
+pub name_kept : (files : List Stored) (name bytes : List ℕ) (k : ℕ) → k < length files → name_at (with_file (pairs_of files) name bytes) k ≡ name_at (pairs_of files) k
+name_kept [] name bytes k below = absurd (omega arith)
+name_kept (file ∷ files) name bytes zero below = elim (bytes_eq (string_bytes file.0) name) as (λ b. name_at (cond b ((string_bytes file.0, bytes) ∷ pairs_of files) ((string_bytes file.0, file.1.items) ∷ with_file (pairs_of files) name bytes)) 0 ≡ string_bytes file.0) [ true ↦ refl | false ↦ refl ]
+name_kept (file ∷ files) name bytes (suc k) below =
+    let smaller : k < length files = omega arith in
+    elim (bytes_eq (string_bytes file.0) name) as (λ b. name_at (cond b ((string_bytes file.0, bytes) ∷ pairs_of files) ((string_bytes file.0, file.1.items) ∷ with_file (pairs_of files) name bytes)) (suc k) ≡ name_at (pairs_of files) k)
+      [ true ↦ refl | false ↦ name_kept files name bytes k smaller ]
+
+pub on_ok : {T E : Type 0} (r : Result T E) (P Q : Type 0) → (P → Q) → OnOk r P → OnOk r Q
+on_ok (Ok x) P Q step h = step h
+on_ok (Err e) P Q step h = h
+
+pub on_err : {T E : Type 0} (r : Result T E) (P Q : Type 0) → (P → Q) → OnErr r P → OnErr r Q
+on_err (Ok x) P Q step h = h
+on_err (Err e) P Q step h = step h
+
+-- the created file grew, and all else stayed
+pub grew : (files new : List (List ℕ × List ℕ)) (created : Option ℕ) (place : ℕ) (piece : List ℕ) → created ≡ Some place
+    → new ≡ with_file files (name_at files place) (contents_of files (name_at files place) ++ piece)
+    → Changes (name_of files created) (contents_of files (name_of files created) ++ piece) files new
+grew files new created place piece is e =
+    let P : Option ℕ → Type 0 = λ o. Changes (name_of files o) (contents_of files (name_of files o) ++ piece) files new in
+    let Q : List (List ℕ × List ℕ) → Type 0 = λ fs. Changes (name_at files place) (contents_of files (name_at files place) ++ piece) files fs in
+    subst P (sym is) (subst Q (sym e) (file_changes files (name_at files place) (contents_of files (name_at files place) ++ piece)))
+
+pub created_kept : (files : List Stored) (new : List (List ℕ × List ℕ)) (created : Option ℕ) (place : ℕ) (name bytes : List ℕ) → created ≡ Some place → place < length files
+    → new ≡ with_file (pairs_of files) name bytes → name_of new created ≡ name_of (pairs_of files) created
+created_kept files new created place name bytes is below e =
+    let P : Option ℕ → Type 0 = λ o. name_of new o ≡ name_of (pairs_of files) o in
+    subst P (sym is) (ap (λ fs. name_at fs place) e ∙ name_kept files name bytes place below)

@@ -5,3 +5,4 @@ pub mod Written
 pub mod Word
 pub mod Pairs
 pub mod Lent
+pub mod Reading

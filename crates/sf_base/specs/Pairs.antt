@@ -30,3 +30,9 @@ abbrev pub name_at : List (List ℕ × List ℕ) → ℕ → List ℕ
 name_at [] place = []
 name_at (file ∷ files) zero = file.0
 name_at (file ∷ files) (suc place) = name_at files place
+
+-- the bytes that stand at a place
+abbrev pub bytes_at : List (List ℕ × List ℕ) → ℕ → List ℕ
+bytes_at [] place = []
+bytes_at (file ∷ files) zero = file.1
+bytes_at (file ∷ files) (suc place) = bytes_at files place

@@ -2,7 +2,7 @@
 ghost use Rattle.std.specs.Prelude.{◌≡◌, ◌<◌, ◌≤◌, ◌++◌, length, IfOk, IfSome, OnOk, OnErr, Some, is_some, position, string_bytes, vec_len};
 ghost use Rattle.std.specs.Str.{bytes_eq};
 ghost use Rattle.sf_base.specs.Contents.{contents_of};
-ghost use Rattle.sf_base.specs.Pairs.{pairs_of, has_name, place_of, with_file, name_at};
+ghost use Rattle.sf_base.specs.Pairs.{pairs_of, has_name, place_of, with_file, name_at, bytes_at};
 
 use crate::NoMemory;
 use std::alloc::Global;
@@ -14,10 +14,11 @@ fn first_named(files: &[(String, Vec<u8>)], name: &str) -> Option<usize>
 }
 
 // The place of the first file with this name.
-fn find_file(files: &[(String, Vec<u8>)], name: &str) -> Option<usize>
+pub(crate) fn find_file(files: &[(String, Vec<u8>)], name: &str) -> Option<usize>
     ensures place { result ≡ place_of (pairs_of files.now) name.now }
     ensures below { IfSome result (λ place. place < length files.now) }
     ensures found { is_some result ≡ has_name (pairs_of files.now) name.now }
+    ensures bytes { IfSome result (λ place. bytes_at (pairs_of files.now) place ≡ contents_of (pairs_of files.now) name.now) }
 {
     first_named(files, name)
 }
@@ -74,7 +75,7 @@ fn first_like(files: &[(String, Vec<u8>)], place: usize) -> usize
 }
 
 // Appends the bytes to the first file with the name that stands at this place.
-pub(crate) fn append_to(
+fn append_to(
     files: &mut [(String, Vec<u8>)],
     place: usize,
     piece: &[u8],
@@ -86,4 +87,18 @@ pub(crate) fn append_to(
     let first = first_like(files, place);
     files[first].1.extend_from_slice(piece)?;
     Ok(())
+}
+
+// The same in a list that is kept. Each name stays at its place.
+pub(crate) fn append_file(
+    files: &mut Vec<(String, Vec<u8>)>,
+    place: usize,
+    piece: &[u8],
+) -> Result<(), NoMemory>
+    requires { place < vec_len files.old }
+    ensures ok { OnOk result (pairs_of files.new.items ≡ with_file (pairs_of files.old.items) (name_at (pairs_of files.old.items) place) (contents_of (pairs_of files.old.items) (name_at (pairs_of files.old.items) place) ++ piece.now)) }
+    ensures err { OnErr result (pairs_of files.new.items ≡ pairs_of files.old.items) }
+    ensures len { vec_len files.new ≡ vec_len files.old }
+{
+    append_to(files, place, piece)
 }

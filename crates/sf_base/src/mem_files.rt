@@ -1,0 +1,153 @@
+// Files in memory.
+ghost use Rattle.std.specs.Prelude.{◌≡◌, ◌<◌, ◌+◌, ◌-◌, ◌^◌, ℕ, [], true, false, min, length, drop, take, is_some, is_ok, Some, None, Ok, IfSome, IfOk, OnOk, OnErr, IsErr, vec_len, if◌then◌else◌};
+ghost use Rattle.std.specs.Option.{ForSome};
+ghost use Rattle.sf_base.specs.Contents.{contents_of, Holds, Unchanged};
+ghost use Rattle.sf_base.specs.Pairs.{pairs_of, has_name};
+ghost use Rattle.sf_base.specs.Reading.{rest_at, name_of};
+
+use crate::calls::Calls;
+use crate::lookup::{append_file, find_bytes, find_file, set_file};
+use crate::reading::{Reading, read_at};
+use crate::{Failed, Files, NoMemory};
+use std::alloc::Global;
+
+/// Files that are kept in memory, and told. One read or write moves as many bytes as it can, up to a number
+/// that is set, and calls fail at the numbers that are listed.
+#[derive(Drop)]
+pub struct MemFiles {
+    alloc: Global,
+    files: Vec<(String, Vec<u8>)>,
+    most: usize,
+    calls: Calls,
+    opened: Option<Reading>,
+    created: Option<usize>,
+    read_faults: u64,
+    write_faults: u64,
+    ghost some: { 0 < most },
+    ghost opened_stands: { ForSome opened (λ reading. reading.place < vec_len files) },
+    ghost created_stands: { ForSome created (λ place. place < vec_len files) },
+}
+
+impl MemFiles {
+    /// No files, of which a read or a write moves at most `most` bytes. The calls of all four methods are
+    /// counted together from 1, and those with a number in `fails` are to fail.
+    pub fn new(alloc: Global, most: usize, fails: Vec<u64>) -> MemFiles
+        requires { 0 < most }
+        ensures contents { ⟦<MemFiles as Files>⟧.contents result ≡ Some [] }
+        ensures created { ⟦<MemFiles as Files>⟧.created result ≡ false }
+        ensures opened { ⟦<MemFiles as Files>⟧.opened result ≡ false }
+        ensures read_faults { ⟦<MemFiles as Files>⟧.read_faults result ≡ 0 }
+        ensures write_faults { ⟦<MemFiles as Files>⟧.write_faults result ≡ 0 }
+        ensures most { result.most ≡ most }
+        ensures made { result.calls.made ≡ 0 }
+        ensures fails { result.calls.fails.items ≡ fails.items }
+    {
+        MemFiles {
+            alloc,
+            files: Vec::new(alloc),
+            most,
+            calls: Calls::new(fails),
+            opened: None,
+            created: None,
+            read_faults: 0,
+            write_faults: 0,
+        }
+    }
+
+    /// Gives the file of this name these bytes. A file that was opened is closed.
+    ///
+    /// # Errors
+    ///
+    /// `NoMemory`. Nothing is changed then, and no file is closed.
+    pub fn put(&mut self, name: &str, bytes: Vec<u8>) -> Result<(), NoMemory>
+        ensures ok { OnOk result (Holds (⟦<MemFiles as Files>⟧.contents self.old) (⟦<MemFiles as Files>⟧.contents self.new) name.now bytes.items) }
+        ensures err { OnErr result (⟦<MemFiles as Files>⟧.contents self.new ≡ ⟦<MemFiles as Files>⟧.contents self.old) }
+    {
+        set_file(self.alloc, &mut self.files, name, bytes)?;
+        self.opened = None;
+        Ok(())
+    }
+
+    /// The bytes of the file of this name. `None` exactly where there is no such file.
+    pub fn get(&self, name: &str) -> Option<&[u8]>
+        ensures found { is_some result ≡ has_name (pairs_of self.now.files.items) name.now }
+        ensures bytes { IfSome result (λ bytes. bytes.now ≡ contents_of (pairs_of self.now.files.items) name.now) }
+    {
+        find_bytes(&self.files, name)
+    }
+}
+
+impl Files for MemFiles {
+    ghost contents = { λ files. Some (pairs_of files.files.items) };
+
+    ghost created = { λ files. is_some files.created };
+
+    ghost created_name = { λ files. name_of (pairs_of files.files.items) files.created };
+
+    ghost opened = { λ files. is_some files.opened };
+
+    ghost rest = { λ files. rest_at (pairs_of files.files.items) files.opened };
+
+    ghost may_open = { λ _ _. true };
+
+    ghost may_create = { λ _ _. true };
+
+    ghost read_faults = { λ files. files.read_faults };
+
+    ghost write_faults = { λ files. files.write_faults };
+
+    fn open_file(&mut self, name: &str) -> Result<(), Failed> {
+        let place = find_file(&self.files, name);
+        if self.calls.fails_next() || place.is_none() {
+            self.opened = None;
+            self.read_faults = self.read_faults.saturating_add(1);
+            return Err(Failed);
+        }
+        self.opened = place.map(|place| Reading { place, done: 0 });
+        Ok(())
+    }
+
+    fn read(&mut self, buf: &mut [u8]) -> Result<usize, Failed> {
+        if !self.calls.fails_next() {
+            if let Some(reading) = self.opened {
+                let n = read_at(&self.files, reading.place, reading.done, buf, self.most);
+                self.opened = Some(Reading {
+                    place: reading.place,
+                    done: reading.done + n,
+                });
+                return Ok(n);
+            }
+        }
+        self.opened = None;
+        self.read_faults = self.read_faults.saturating_add(1);
+        Err(Failed)
+    }
+
+    fn create_file(&mut self, name: &str) -> Result<(), Failed> {
+        self.opened = None;
+        if !self.calls.fails_next() {
+            let empty = Vec::new(self.alloc);
+            if let Ok(place) = set_file(self.alloc, &mut self.files, name, empty) {
+                self.created = Some(place);
+                return Ok(());
+            }
+        }
+        self.created = None;
+        self.write_faults = self.write_faults.saturating_add(1);
+        Err(Failed)
+    }
+
+    fn write(&mut self, piece: &[u8]) -> Result<usize, Failed> {
+        self.opened = None;
+        if !self.calls.fails_next() {
+            if let Some(place) = self.created {
+                let n = piece.len().min(self.most);
+                if let Ok(()) = append_file(&mut self.files, place, &piece[..n]) {
+                    return Ok(n);
+                }
+            }
+        }
+        self.write_faults = self.write_faults.saturating_add(1);
+        Err(Failed)
+    }
+}
