@@ -42,7 +42,7 @@ drop_capped d xs = ⊎_elim
 pub left_from : (d : ℕ) (xs : List ℕ) → take (length xs - min d (length xs)) (drop (min d (length xs)) xs) ≡ drop d xs
 left_from d xs = take_rest xs (min d (length xs)) ∙ drop_capped d xs
 
-nothing_left : (xs : List ℕ) → length xs ≤ 0 → xs ≡ []
+pub nothing_left : (xs : List ℕ) → length xs ≤ 0 → xs ≡ []
 nothing_left [] short = refl
 nothing_left (x ∷ xs) short = absurd (omega arith)
 

@@ -1,3 +1,5 @@
 pub mod Growing
 pub mod Lookups
 pub mod Behind
+pub mod Spelling
+pub mod WordLaws
