@@ -1,0 +1,16 @@
+//! The sizes of an SFrame Version 2 row: how wide its start and its offsets are, and how many bytes it
+//! has in all.
+//!
+//! A width is a number from 0 to 2, for 1, 2 and 4 bytes. Each width that is answered here is the least
+//! that holds what it is asked for: `specs/Width.antt` says when a width holds a number, and
+//! `specs/RowLength.antt` which offsets a row has. No call takes memory or fails.
+#![tactic(auto)]
+
+mod row_length;
+mod width;
+
+pub use row_length::{offset_count, offset_size, row_bytes, saved_offset};
+pub use width::row_type;
+
+#[cfg(test)]
+mod tests;

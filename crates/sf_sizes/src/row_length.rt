@@ -1,0 +1,74 @@
+//! The length of a row (SFrame Version 2, frame row entries).
+
+ghost use Rattle.std.specs.Prelude.{◌≡◌, ◌≤◌, IsTrue, length, option_to_list};
+ghost use Rattle.sf_sizes.specs.Width.{IsLeastWidth};
+ghost use Rattle.sf_sizes.specs.RowLength.{offsets, return_offset, holds_offsets, offset_width, row_len};
+
+use crate::width::{bytes_of, fits_byte, fits_byte_if_any, fits_half, fits_half_if_any};
+use sf_model::{Content, Ra};
+
+/// The width of a row's offsets: 0, 1 or 2 for 1, 2 or 4 signed bytes, the least that holds each of
+/// them.
+pub fn offset_size(content: &Content) -> u8
+    ensures value { result ≡ offset_width content.now }
+    ensures least { IsLeastWidth (holds_offsets content.now) result }
+{
+    if fit_bytes(content) {
+        0
+    } else if fit_halves(content) {
+        1
+    } else {
+        2
+    }
+}
+
+/// How many bytes a row has, whose start has the width `kind`: the start, the info byte and the
+/// offsets, of which AMD64 has 1 or 2 and AArch64 has 1 to 3. They are 17 at most.
+pub fn row_bytes(kind: u8, content: &Content) -> u32
+    requires { kind ≤ 2 }
+    ensures value { result ≡ row_len kind content.now }
+    ensures most { result ≤ 17 }
+{
+    bytes_of(kind) + 1 + u32::from(offset_count(content)) * bytes_of(offset_size(content))
+}
+
+/// How many offsets a row has: the canonical frame address's, and those of a saved return address and
+/// of a saved frame pointer.
+pub fn offset_count(content: &Content) -> u8
+    ensures value { result ≡ length (offsets content.now) }
+    ensures most { result ≤ 3 }
+{
+    let saved = saved_offset(content.ra);
+    1 + u8::from(saved.is_some()) + u8::from(content.fp.is_some())
+}
+
+/// The return address's offset from the canonical frame address, where a row has one of its own.
+pub fn saved_offset(ra: Ra) -> Option<i32>
+    ensures { option_to_list result ≡ return_offset ra }
+{
+    match ra {
+        Ra::At(offset) => Some(offset),
+        Ra::Fixed | Ra::Link => None,
+    }
+}
+
+/// Whether one byte holds each offset.
+fn fit_bytes(content: &Content) -> bool
+    ensures { result ≡ holds_offsets content.now 0 }
+{
+    let cfa = fits_byte(content.cfa);
+    let saved = fits_byte_if_any(saved_offset(content.ra));
+    let fp = fits_byte_if_any(content.fp);
+    cfa && saved && fp
+}
+
+/// Whether two bytes hold each offset; four always do.
+fn fit_halves(content: &Content) -> bool
+    ensures value { result ≡ holds_offsets content.now 1 }
+    ensures four { IsTrue (holds_offsets content.now 2) }
+{
+    let cfa = fits_half(content.cfa);
+    let saved = fits_half_if_any(saved_offset(content.ra));
+    let fp = fits_half_if_any(content.fp);
+    cfa && saved && fp
+}

@@ -1,0 +1,66 @@
+//! Widths of numbers (SFrame Version 2, the info words of function and frame row entries).
+
+ghost use Rattle.std.specs.Prelude.{◌≡◌, ◌≤◌, ◌^◌, IsTrue, option_to_list};
+ghost use Rattle.std.specs.List.{list_all};
+ghost use Rattle.sf_sizes.specs.Width.{width_len, holds_unsigned, holds_signed, least_width, IsLeastWidth};
+
+/// The width of a function's row starts, of which `last` is the greatest: 0, 1 or 2 for 1, 2 or 4
+/// unsigned bytes, the least that holds it.
+pub fn row_type(last: u32) -> u8
+    ensures value { result ≡ least_width (holds_unsigned last) }
+    ensures least { IsLeastWidth (holds_unsigned last) result }
+{
+    if last <= 0xff {
+        0
+    } else if last <= 0xffff {
+        1
+    } else {
+        2
+    }
+}
+
+/// How many bytes a width has.
+pub(crate) fn bytes_of(width: u8) -> u32
+    requires { width ≤ 2 }
+    ensures value { result ≡ width_len width }
+    ensures most { result ≤ 4 }
+{
+    match width {
+        0 => 1,
+        1 => 2,
+        _ => 4,
+    }
+}
+
+/// Whether one signed byte holds an offset.
+pub(crate) fn fits_byte(offset: i32) -> bool
+    ensures { result ≡ holds_signed offset 0 }
+{
+    -0x80 <= offset && offset <= 0x7f
+}
+
+/// Whether two signed bytes hold an offset; four always do.
+pub(crate) fn fits_half(offset: i32) -> bool
+    ensures value { result ≡ holds_signed offset 1 }
+    ensures four { IsTrue (holds_signed offset 2) }
+{
+    -0x8000 <= offset && offset <= 0x7fff
+}
+
+/// Whether one signed byte holds an offset that may be absent.
+pub(crate) fn fits_byte_if_any(offset: Option<i32>) -> bool
+    ensures { result ≡ list_all (λ z. holds_signed z 0) (option_to_list offset) }
+{
+    offset.is_none_or(fits_byte)
+}
+
+/// Whether two signed bytes hold an offset that may be absent; four always do.
+pub(crate) fn fits_half_if_any(offset: Option<i32>) -> bool
+    ensures value { result ≡ list_all (λ z. holds_signed z 1) (option_to_list offset) }
+    ensures four { IsTrue (list_all (λ z. holds_signed z 2) (option_to_list offset)) }
+{
+    match offset {
+        Some(offset) => fits_half(offset),
+        None => true,
+    }
+}

@@ -1,0 +1,75 @@
+-- Digits from the lowest up, in front of those that are there.
+use Rattle.std.proofs.Common.{◌≡◌, ℕ, zero, suc, ◌+◌, ◌-◌, ◌*◌, ◌/◌, ◌%◌, ◌^◌, ◌<◌, ◌≤◌, Bool, true, false, cond, List, [], ◌∷◌, nat_eq, refl, sym, ap, subst, ◌∙◌, arith, rules, drop, set, length, add-one}
+use Rattle.std.specs.Fmt.{digits, digits_onto, digit_glyph}
+use Rattle.std.proofs.Math.Nat.{div-lt_iff_lt-mul, div-eq_of_lt, pow-suc, pow-zero, mod-eq_of_lt, lt-div-mul-add}
+use Rattle.std.proofs.lemmas.Bool.{ne_eqb}
+use Rattle.std.proofs.lemmas.List.{drop-set}
+
+-- the digits of what is left, with so many places free, in front of those that are there
+unfoldable pub digits_before : (places base left : ℕ) → List ℕ → List ℕ
+digits_before places base left after = digits_onto (44 + places) base false left after
+
+pub all_digits : (base n : ℕ) → digits_before 20 base n [] ≡ digits base false n
+unfolding digits_before digits
+all_digits base n = refl
+
+power-one : (base : ℕ) → base ^ 1 ≡ base
+power-one base = pow-suc base 0 ∙ (ap (λ n. n * base) (pow-zero base) ∙ omega arith)
+
+-- a number that has a digit above its lowest has two places left
+pub two_places : (base left start : ℕ) → base ≤ left → left < base ^ start → 1 ≤ start → 2 ≤ start
+two_places base left zero high fits some = absurd (omega arith)
+two_places base left (suc zero) high fits some = absurd (omega (arith, power-one base))
+two_places base left (suc (suc start)) high fits some = omega arith
+
+-- without its lowest digit it has one place fewer
+quotient_fits_suc : (base left start : ℕ) → 2 ≤ base → left < base ^ suc start → left / base < base ^ start
+quotient_fits_suc base left start low fits =
+    let positive : 0 < base = omega arith in
+    (div-lt_iff_lt-mul positive).1 (subst (λ n. left < n) (pow-suc base start) fits)
+
+pub quotient_fits : (base left start : ℕ) → 2 ≤ base → 1 ≤ start → left < base ^ start → left / base < base ^ (start - 1)
+quotient_fits base left zero low some fits = absurd (omega arith)
+quotient_fits base left (suc start) low some fits =
+    let e : suc start - 1 ≡ start = omega arith in subst (λ n. left / base < base ^ n) (sym e) (quotient_fits_suc base left start low fits)
+
+quotient_some : (base left : ℕ) → 2 ≤ base → base ≤ left → nat_eq (left / base) 0 ≡ false
+quotient_some base left low high =
+    ne_eqb (left / base) 0 (λ e.
+    let positive : 0 < base = omega arith in
+    let above : left < left / base * base + base = lt-div-mul-add positive in
+    let short : left < 0 * base + base = subst (λ q. left < q * base + base) e above in
+    omega (arith, short))
+
+more_suc : (k base left : ℕ) (after : List ℕ) → nat_eq (left / base) 0 ≡ false →
+    digits_onto (suc k) base false left after ≡ digits_onto k base false (left / base) (digit_glyph false (left % base) ∷ after)
+more_suc k base left after some = rw some
+
+-- a digit that is not the last
+pub more_digits : (places base left : ℕ) (after : List ℕ) → 2 ≤ base → base ≤ left → 1 ≤ places →
+    digits_before (places - 1) base (left / base) (digit_glyph false (left % base) ∷ after) ≡ digits_before places base left after
+unfolding digits_before
+more_digits places base left after low high some =
+    let e : 44 + places ≡ suc (44 + (places - 1)) = omega arith in
+    sym (ap (λ k. digits_onto k base false left after) e ∙ more_suc (44 + (places - 1)) base left after (quotient_some base left low high))
+
+last_suc : (k base left : ℕ) (after : List ℕ) → nat_eq (left / base) 0 ≡ true → left % base ≡ left →
+    digits_onto (suc k) base false left after ≡ digit_glyph false left ∷ after
+last_suc k base left after none same = rw none (ap (λ d. digit_glyph false d ∷ after) same)
+
+-- the last digit
+pub last_digit : (places base left : ℕ) (after : List ℕ) → left < base → 1 ≤ places →
+    digit_glyph false left ∷ after ≡ digits_before places base left after
+unfolding digits_before
+last_digit places base left after low some =
+    let e : 44 + places ≡ suc (44 + (places - 1)) = omega arith in
+    sym (ap (λ k. digits_onto k base false left after) e
+    ∙ last_suc (44 + (places - 1)) base left after (ap (λ q. nat_eq q 0) (div-eq_of_lt low)) (mod-eq_of_lt low))
+
+-- a digit in front of those that are there
+pub digit_in_front : (bytes : List ℕ) (start digit : ℕ) → 1 ≤ start → start ≤ length bytes →
+    drop (start - 1) (set bytes (start - 1) digit) ≡ digit ∷ drop start bytes
+digit_in_front bytes start digit some within =
+    let inside : start - 1 < length bytes = omega arith in
+    let e : start - 1 + 1 ≡ start = omega arith in
+    drop-set bytes (start - 1) digit inside ∙ ap (λ n. digit ∷ drop n bytes) e

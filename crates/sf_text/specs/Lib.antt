@@ -1,0 +1,4 @@
+pub mod Number
+pub mod Names
+pub mod Report
+pub mod FaultLine

@@ -1,0 +1,56 @@
+//! The digits of a number, without memory.
+
+ghost use Rattle.std.specs.Prelude.{◌≡◌, ◌≤◌, ◌<◌, ◌^◌, false, length, drop};
+ghost use Rattle.std.specs.Fmt.{digits, digit_glyph};
+
+/// The most digits that are asked for.
+const MOST: usize = 20;
+
+/// The digits of a number, at the end of a buffer.
+#[derive(Drop)]
+pub(crate) struct Digits {
+    pub(crate) bytes: [u8; MOST],
+    pub(crate) start: usize,
+    ghost in_range: { start ≤ 20 },
+}
+
+impl Digits {
+    /// The digits, the highest first.
+    pub(crate) fn as_bytes(&self) -> &[u8]
+        ensures value { result.now ≡ drop self.now.start self.now.bytes }
+        ensures short { length result.now ≤ 20 }
+    {
+        &self.bytes[self.start..]
+    }
+}
+
+/// The digits of a number in a base, without leading zeros.
+pub(crate) fn digits_in(base: u64, number: u64) -> Digits
+    requires base { (2 ≤ base) × (base ≤ 16) }
+    requires fits { number < base ^ 20 }
+    ensures { drop result.start result.bytes ≡ digits base false number }
+{
+    let mut bytes = [0; MOST];
+    let mut start = MOST;
+    let mut left = number;
+    while left >= base {
+        start -= 1;
+        bytes[start] = glyph(left % base);
+        left /= base;
+    }
+    start -= 1;
+    bytes[start] = glyph(left);
+    Digits { bytes, start }
+}
+
+/// The character of a digit below 16.
+fn glyph(digit: u64) -> u8
+    requires { digit < 16 }
+    ensures { result ≡ digit_glyph false digit }
+{
+    if digit < 10 {
+        b'0' + digit as u8
+    } else {
+        b'a' + (digit - 10) as u8
+    }
+}

@@ -1,0 +1,73 @@
+//! The line of a fault.
+
+ghost use Rattle.std.specs.Prelude.{◌≡◌, ◌≤◌, ◌+◌, ◌*◌, ◌++◌, [], length, OnOk, OnErr, if◌then◌else◌};
+ghost use Rattle.std.specs.List.{flat_map};
+ghost use Rattle.arrayvec.specs.ArrayVec.{array_vec_len};
+ghost use Rattle.sf_base.specs.Written.{Appends, AppendsPrefix};
+ghost use Rattle.sf_base.specs.Faults.{Cause};
+ghost use Rattle.sf_model.specs.Notice.{HasLine, shows_item};
+ghost use Rattle.sf_text.specs.FaultLine.{item_text, value_text, fault_text};
+
+use crate::line::{Line, push_decimal, push_hexadecimal, push_text};
+use crate::names::{name_of_fault, name_of_group};
+use sf_base::{Failed, Sink, put_all};
+use sf_model::{Group, Notice};
+
+/// Appends the fault's line to the sink. Takes no memory.
+///
+/// # Errors
+///
+/// `Failed` where a write of the sink failed. A prefix of the line was appended then.
+pub fn fault_line<S: Sink>(sink: &mut S, notice: &Notice) -> Result<(), Failed>
+    requires { HasLine notice.now }
+    ensures all { OnOk result (Appends (S.written sink.old) (S.written sink.new) (fault_text notice.now)) }
+    ensures prefix { OnErr result (AppendsPrefix (S.written sink.old) (S.written sink.new) (fault_text notice.now)) }
+    ensures cause { Cause (S.faults sink.old) (S.faults sink.new) result }
+{
+    put_all(sink, line_of(notice).as_slice())
+}
+
+/// The fault's line.
+#[tactic(auto, unfolding(crate::specs::FaultLine::fault_text))]
+fn line_of(notice: &Notice) -> Line
+    requires { HasLine notice.now }
+    ensures { result.items ≡ fault_text notice.now }
+{
+    let mut line = Line::new();
+    push_text(&mut line, b"refused ");
+    push_item(&mut line, notice.group, notice.item);
+    push_text(&mut line, name_of_group(notice.group).as_bytes());
+    push_text(&mut line, b" ");
+    push_text(
+        &mut line,
+        name_of_fault(notice.group, notice.number).as_bytes(),
+    );
+    push_values(&mut line, notice.values.as_slice());
+    push_text(&mut line, b"\n");
+    line
+}
+
+/// Appends the item and a blank, where a line of the group shows one.
+fn push_item(line: &mut Line, group: Group, item: Option<u32>)
+    requires { array_vec_len line.old + 21 ≤ 160 }
+    ensures items { line.new.items ≡ line.old.items ++ (if shows_item group then item_text item else []) }
+    ensures len { array_vec_len line.new ≤ array_vec_len line.old + 21 }
+{
+    if let (true, Some(item)) = (group != Group::Link, item) {
+        push_decimal(line, u64::from(item));
+        push_text(line, b" ");
+    }
+}
+
+/// Appends the values, each behind a blank.
+#[tactic(auto, unfolding(crate::specs::FaultLine::value_text))]
+fn push_values(line: &mut Line, values: &[u64])
+    requires { array_vec_len line.old + 23 * length values.now ≤ 160 }
+    ensures items { line.new.items ≡ line.old.items ++ flat_map value_text values.now }
+    ensures len { array_vec_len line.new ≤ array_vec_len line.old + 23 * length values.now }
+{
+    for value in values {
+        push_text(line, b" ");
+        push_hexadecimal(line, *value);
+    }
+}

@@ -1,0 +1,19 @@
+//! Numbers as they are shown where memory may be taken.
+
+ghost use Rattle.std.specs.Prelude.{Some};
+ghost use Rattle.sf_text.specs.Number.{hexadecimal};
+
+use std::fmt;
+
+/// A number that is shown as `0x` and lower-case digits of base 16.
+#[derive(Clone, Copy)]
+pub(crate) struct Hexadecimal(pub(crate) u64);
+
+#[tactic(auto, unfolding(crate::specs::Number::hexadecimal))]
+impl fmt::Display for Hexadecimal {
+    ghost output = { λ n. Some (hexadecimal n.0) };
+
+    fn fmt<W: fmt::Write>(&self, f: &mut fmt::Formatter<W>) -> fmt::Result {
+        write!(f, "0x{:x}", self.0)
+    }
+}

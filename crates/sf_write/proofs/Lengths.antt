@@ -1,0 +1,101 @@
+-- How long the parts of a section are.
+use Rattle.std.proofs.Common.{◌≡◌, ℕ, suc, zero, ◌+◌, ◌*◌, ◌^◌, List, [], ◌∷◌, ◌++◌, length, refl, ap, sym, ◌∙◌, arith, length-append, rules}
+use Rattle.std.specs.Prelude.{ℤ, sum_by}
+use Rattle.std.specs.Int.{w32, cast_unsigned}
+use Rattle.std.specs.List.{flat_map}
+use Rattle.std.proofs.lemmas.List.Concat.{flat_map-cons}
+use Rattle.std.proofs.lemmas.List.Sums.{sum_by-cons}
+use Rattle.byteorder.specs.Numbers.{length-bytes_low_first}
+use Rattle.sf_model.specs.declared.machine.Arch.{Arch}
+use Rattle.sf_model.specs.declared.content.Content.{Content}
+use Rattle.sf_model.specs.declared.rows.Row.{Row}
+use Rattle.sf_model.specs.declared.function.Func.{Func}
+use Rattle.sf_sizes.specs.Width.{width_len}
+use Rattle.sf_sizes.specs.RowLength.{offsets, offset_width, row_len}
+use Rattle.sf_write.specs.Number.{number_bytes, signed_bytes}
+use Rattle.sf_write.specs.Row.{row_info, offset_bytes, row_bytes, start_width, rows_bytes, rows_len}
+use Rattle.sf_write.specs.Reach.{start_distance}
+use Rattle.sf_write.specs.Entry.{entry_info, entry_bytes, entries_bytes, repeat_size}
+use Rattle.sf_write.specs.Section.{preamble, header_bytes, section_bytes, section_len, row_count, row_section_len}
+
+pub length-number : (len n : ℕ) → length (number_bytes len n) ≡ len
+unfolding number_bytes
+length-number len n = length-bytes_low_first 0 len n
+
+pub length-signed : (len : ℕ) (z : ℤ) → length (signed_bytes len z) ≡ len
+unfolding signed_bytes
+length-signed len z = length-bytes_low_first 0 len (cast_unsigned w32 z)
+
+length-signed_all : (len : ℕ) (zs : List ℤ) → length (flat_map (signed_bytes len) zs) ≡ length zs * len
+length-signed_all len [] = search arith
+length-signed_all len (z ∷ zs) =
+    grind (arith, length-append {A = ℕ}, length-signed len z, length-signed_all len zs)
+
+length-offset_bytes : (content : Content) → length (offset_bytes content) ≡ length (offsets content) * width_len (offset_width content)
+unfolding offset_bytes
+length-offset_bytes content = length-signed_all (width_len (offset_width content)) (offsets content)
+
+row-length : (a b c d : ℕ) (xs ys : List ℕ) → length xs ≡ a → length ys ≡ b → length (xs ++ c ∷ ys) ≡ a + 1 + b
+row-length a b c d xs ys e f = grind (arith, length-append {A = ℕ})
+
+pub length-row : (width : ℕ) (row : Row) → length (row_bytes width row) ≡ row_len width row.content
+unfolding row_bytes
+length-row width row =
+    row-length _ _ _ 0 _ _ (length-number (width_len width) row.start) (length-offset_bytes row.content)
+
+length-rows_at : (width : ℕ) (rows : List Row) → length (flat_map (row_bytes width) rows) ≡ sum_by (λ (row : Row). row_len width row.content) rows
+length-rows_at width [] = refl
+length-rows_at width (row ∷ rows) =
+    ap length (flat_map-cons (row_bytes width) row rows)
+    ∙ (length-append (row_bytes width row) (flat_map (row_bytes width) rows)
+    ∙ (ap (λ n. n + length (flat_map (row_bytes width) rows)) (length-row width row)
+    ∙ (ap (λ n. row_len width row.content + n) (length-rows_at width rows)
+    ∙ sym (sum_by-cons (λ (r : Row). row_len width r.content) row rows))))
+
+pub length-rows : (rows : List Row) → length (rows_bytes rows) ≡ rows_len rows
+unfolding rows_bytes rows_len
+length-rows rows = length-rows_at (start_width rows) rows
+
+pub length-all_rows : (functions : List Func) → length (flat_map (λ (f : Func). rows_bytes f.rows) functions) ≡ row_section_len functions
+length-all_rows [] = refl
+length-all_rows (f ∷ functions) =
+    ap length (flat_map-cons (λ (g : Func). rows_bytes g.rows) f functions)
+    ∙ (length-append (rows_bytes f.rows) (flat_map (λ (g : Func). rows_bytes g.rows) functions)
+    ∙ (ap (λ n. n + length (flat_map (λ (g : Func). rows_bytes g.rows) functions)) (length-rows f.rows)
+    ∙ (ap (λ n. rows_len f.rows + n) (length-all_rows functions)
+    ∙ sym (sum_by-cons (λ (g : Func). rows_len g.rows) f functions))))
+
+entry-length : (a b c d e : List ℕ) → length a ≡ 4 → length b ≡ 4 → length c ≡ 4 → length d ≡ 4 → length e ≡ 4 → length (a ++ b ++ c ++ d ++ e) ≡ 20
+entry-length a b c d e p q r s t = simp (length-append, p, q, r, s, t)
+
+pub length-entry : (at number place : ℕ) (f : Func) → length (entry_bytes at number place f) ≡ 20
+unfolding entry_bytes
+length-entry at number place f =
+    entry-length _ _ _ _ _ (length-signed 4 (start_distance at number f.start)) (length-number 4 f.size) (length-number 4 place) (length-number 4 (length f.rows)) refl
+
+pub length-entries : (at number place : ℕ) (functions : List Func) → length (entries_bytes at number place functions) ≡ 20 * length functions
+length-entries at number place [] = refl
+length-entries at number place (f ∷ functions) =
+    length-append (entry_bytes at number place f) (entries_bytes at (number + 1) (place + rows_len f.rows) functions)
+    ∙ omega (arith, length-entry at number place f, length-entries at (number + 1) (place + rows_len f.rows) functions)
+
+header-length : (a b c d e f : List ℕ) → length a ≡ 8 → length b ≡ 4 → length c ≡ 4 → length d ≡ 4 → length e ≡ 4 → length f ≡ 4 → length (a ++ b ++ c ++ d ++ e ++ f) ≡ 28
+header-length a b c d e f p q r s t u = simp (length-append, p, q, r, s, t, u)
+
+length-preamble : (arch : Arch) → length (preamble arch) ≡ 8
+unfolding preamble
+length-preamble arch = refl
+
+pub length-header : (arch : Arch) (functions rows len : ℕ) → length (header_bytes arch functions rows len) ≡ 28
+unfolding header_bytes
+length-header arch functions rows len =
+    header-length _ _ _ _ _ _ (length-preamble arch) (length-number 4 functions) (length-number 4 rows) (length-number 4 len) (length-number 4 0) (length-number 4 (20 * functions))
+
+three-lengths : (a b c : List ℕ) (k m n : ℕ) → length a ≡ k → length b ≡ m → length c ≡ n → length (a ++ b ++ c) ≡ k + m + n
+three-lengths a b c k m n p q r = simp (length-append, p, q, r)
+
+-- a section is as long as its header, its entries and its rows
+pub length-section : (arch : Arch) (at : ℕ) (functions : List Func) → length (section_bytes arch at functions) ≡ section_len functions
+unfolding section_bytes
+length-section arch at functions =
+    three-lengths _ _ _ _ _ _ (length-header arch (length functions) (row_count functions) (row_section_len functions)) (length-entries at 0 0 functions) (length-all_rows functions)

@@ -1,0 +1,5 @@
+pub mod Number
+pub mod Row
+pub mod Entry
+pub mod Reach
+pub mod Section

@@ -1,0 +1,49 @@
+-- GNU SFrame specification, Version 2: the bytes of a whole section, as this writer lays it out.
+use Rattle.std.specs.Prelude.{◌+◌, ◌*◌, ◌++◌, ℕ, List, [], ◌∷◌, length, sum_by}
+use Rattle.std.specs.List.{flat_map}
+use Rattle.sf_model.specs.declared.machine.Arch.{Arch}
+use Rattle.sf_model.specs.declared.machine.Arch.TheVariants.{Amd64, Aarch64}
+use Rattle.sf_model.specs.declared.function.Func.{Func}
+use Rattle.sf_write.specs.Number.{number_bytes}
+use Rattle.sf_write.specs.Row.{rows_bytes, rows_len}
+use Rattle.sf_write.specs.Entry.{entries_bytes}
+
+-- the abi and architecture: AArch64 little-endian, or AMD64
+abbrev pub abi : Arch → ℕ
+abi Amd64 = 3
+abi Aarch64 = 2
+
+-- the return address's fixed offset as a byte: -8 on AMD64, none on AArch64
+abbrev pub fixed_return : Arch → ℕ
+fixed_return Amd64 = 0xf8
+fixed_return Aarch64 = 0
+
+-- magic, version 2, the flags 0x1 (sorted) and 0x4 (starts count from their own field), the abi, no fixed frame pointer, the
+-- fixed return address, no auxiliary header
+unfoldable pub preamble : Arch → List ℕ
+preamble arch = 0xe2 ∷ 0xde ∷ 2 ∷ 5 ∷ abi arch ∷ 0 ∷ fixed_return arch ∷ 0 ∷ []
+
+-- the number of rows of all functions
+abbrev pub row_count : List Func → ℕ
+row_count functions = sum_by (λ (f : Func). length f.rows) functions
+
+-- the bytes of the rows of all functions
+abbrev pub row_section_len : List Func → ℕ
+row_section_len functions = sum_by (λ (f : Func). rows_len f.rows) functions
+
+-- the header: the preamble, the numbers of functions and of rows, the length of the rows, and the places of the entries and
+-- of the rows behind the header
+unfoldable pub header_bytes : Arch → (functions rows rows_len : ℕ) → List ℕ
+header_bytes arch functions rows rows_len =
+    preamble arch ++ number_bytes 4 functions ++ number_bytes 4 rows ++ number_bytes 4 rows_len ++ number_bytes 4 0
+    ++ number_bytes 4 (20 * functions)
+
+-- the header, the entries and the rows of all functions in one order, and nothing besides
+unfoldable pub section_bytes : Arch → (at : ℕ) → List Func → List ℕ
+section_bytes arch at functions =
+    header_bytes arch (length functions) (row_count functions) (row_section_len functions)
+    ++ entries_bytes at 0 0 functions ++ flat_map (λ (f : Func). rows_bytes f.rows) functions
+
+-- its length
+abbrev pub section_len : List Func → ℕ
+section_len functions = 28 + 20 * length functions + row_section_len functions

@@ -1,0 +1,27 @@
+//! The writer of SFrame Version 2 sections.
+//!
+//! `write` lays a section out in one way: the header, the function entries, and then the rows of all
+//! functions in the same order, without sharing. Starts count from their own field (flags 0x1 and 0x4),
+//! row starts and offsets are as narrow as they can be, padding is zero. `specs/Section.antt` says
+//! which bytes these are.
+//!
+//! The caller owes functions that one section can hold, by rising start, with rows that the machine has
+//! (`AreWritable` of `sf_model`). Memory is taken once, and a start that lies too far from its field is
+//! refused.
+#![tactic(auto)]
+
+mod entry;
+mod fault;
+mod header;
+mod layout;
+mod number;
+mod reach;
+mod row;
+mod section;
+mod totals;
+
+pub use fault::WriteFault;
+pub use section::write;
+
+#[cfg(test)]
+mod tests;

@@ -1,0 +1,50 @@
+//! Numbers as little-endian bytes.
+
+ghost use Rattle.std.specs.Prelude.{◌≡◌, ◌≤◌, ◌++◌, [], ◌∷◌, ◌⊎◌, OnOk};
+ghost use Rattle.sf_sizes.specs.Width.{width_len};
+ghost use Rattle.sf_write.specs.Number.{number_bytes, signed_bytes};
+
+use std::alloc::AllocError;
+
+/// Appends a number's four bytes.
+#[tactic(auto, unfolding(crate::specs::Number::number_bytes))]
+pub(crate) fn push_word(bytes: &mut Vec<u8>, number: u32) -> Result<(), AllocError>
+    ensures { OnOk result (bytes.new.items ≡ bytes.old.items ++ number_bytes 4 number) }
+{
+    bytes.extend_from_slice(&number.to_le_bytes())
+}
+
+/// Appends a number's four bytes in two's complement.
+#[tactic(auto, unfolding(crate::specs::Number::signed_bytes))]
+pub(crate) fn push_signed_word(bytes: &mut Vec<u8>, number: i32) -> Result<(), AllocError>
+    ensures { OnOk result (bytes.new.items ≡ bytes.old.items ++ signed_bytes 4 number) }
+{
+    bytes.extend_from_slice(&number.cast_unsigned().to_le_bytes())
+}
+
+/// Appends the low bytes of a number, as many as the width has.
+#[tactic(auto, unfolding(crate::specs::Number::number_bytes))]
+pub(crate) fn push_narrow(bytes: &mut Vec<u8>, number: u32, width: u8) -> Result<(), AllocError>
+    requires { width ≤ 2 }
+    ensures { OnOk result (bytes.new.items ≡ bytes.old.items ++ number_bytes (width_len width) number) }
+{
+    let [first, second, third, fourth] = number.to_le_bytes();
+    match width {
+        0 => bytes.extend_from_slice(&[first]),
+        1 => bytes.extend_from_slice(&[first, second]),
+        _ => bytes.extend_from_slice(&[first, second, third, fourth]),
+    }
+}
+
+/// Appends the low bytes of a number in two's complement, as many as the width has.
+#[tactic(auto, unfolding(crate::specs::Number::number_bytes, crate::specs::Number::signed_bytes))]
+pub(crate) fn push_narrow_signed(
+    bytes: &mut Vec<u8>,
+    number: i32,
+    width: u8,
+) -> Result<(), AllocError>
+    requires { width ≤ 2 }
+    ensures { OnOk result (bytes.new.items ≡ bytes.old.items ++ signed_bytes (width_len width) number) }
+{
+    push_narrow(bytes, number.cast_unsigned(), width)
+}

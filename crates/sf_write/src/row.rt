@@ -1,0 +1,95 @@
+//! A function's rows (SFrame Version 2, frame row entries).
+
+ghost use Rattle.std.specs.Prelude.{◌≡◌, ◌≤◌, ◌<◌, ◌^◌, ◌*◌, ◌++◌, [], ◌∷◌, length, sum_by, OnOk, option_to_list};
+ghost use Rattle.std.specs.List.{flat_map};
+ghost use Rattle.sf_sizes.specs.Width.{width_len};
+ghost use Rattle.sf_sizes.specs.RowLength.{offsets, return_offset, offset_width, row_len};
+ghost use Rattle.sf_write.specs.Number.{signed_bytes};
+ghost use Rattle.sf_write.specs.Row.{row_info, offset_bytes, row_bytes as row_spelling, last_start, start_width, rows_bytes, rows_len};
+
+use crate::number::{push_narrow, push_narrow_signed};
+use sf_model::{Base, Content, Row};
+use sf_sizes::{offset_count, offset_size, row_bytes, row_type, saved_offset};
+use std::alloc::AllocError;
+
+/// The width of a function's row starts: the least that holds the last one.
+#[tactic(auto, unfolding(crate::specs::Row::last_start))]
+pub(crate) fn start_width_of(rows: &[Row]) -> u8
+    ensures value { result ≡ start_width rows.now }
+    ensures most { result ≤ 2 }
+{
+    row_type(rows.last().map_or(0, |row| row.start))
+}
+
+/// How many bytes a function's rows have.
+#[tactic(auto, unfolding(crate::specs::Row::rows_len))]
+pub(crate) fn rows_len_of(rows: &[Row]) -> u32
+    requires { length rows.now ≤ 2 ^ 24 }
+    ensures value { result ≡ rows_len rows.now }
+    ensures most { result ≤ 17 * length rows.now }
+{
+    let kind = start_width_of(rows);
+    let mut len = 0;
+    for row in rows {
+        len += row_bytes(kind, &row.content);
+    }
+    len
+}
+
+/// Appends a function's rows.
+#[tactic(auto, unfolding(crate::specs::Row::rows_bytes))]
+pub(crate) fn push_rows(bytes: &mut Vec<u8>, rows: &[Row]) -> Result<(), AllocError>
+    ensures { OnOk result (bytes.new.items ≡ bytes.old.items ++ rows_bytes rows.now) }
+{
+    let kind = start_width_of(rows);
+    for row in rows {
+        push_row(bytes, kind, row)?;
+    }
+    Ok(())
+}
+
+/// Appends a row: its start in bytes of the width `kind`, its info byte and its offsets.
+#[tactic(auto, unfolding(crate::specs::Row::row_bytes))]
+fn push_row(bytes: &mut Vec<u8>, kind: u8, row: &Row) -> Result<(), AllocError>
+    requires { kind ≤ 2 }
+    ensures { OnOk result (bytes.new.items ≡ bytes.old.items ++ row_spelling kind row.now) }
+{
+    push_narrow(bytes, row.start, kind)?;
+    bytes.push(info_of(&row.content))?;
+    push_offsets(bytes, &row.content)
+}
+
+/// The info byte of a row.
+#[tactic(auto, unfolding(crate::specs::Row::row_info))]
+fn info_of(content: &Content) -> u8
+    ensures { result ≡ row_info content.now }
+{
+    let base = match content.base {
+        Base::Fp => 0,
+        Base::Sp => 1,
+    };
+    base + 2 * offset_count(content) + 32 * offset_size(content) + 128 * u8::from(content.signed)
+}
+
+/// Appends a row's offsets in their order: of the canonical frame address, the return address and the
+/// frame pointer.
+#[tactic(auto, unfolding(crate::specs::Row::offset_bytes))]
+fn push_offsets(bytes: &mut Vec<u8>, content: &Content) -> Result<(), AllocError>
+    ensures { OnOk result (bytes.new.items ≡ bytes.old.items ++ offset_bytes content.now) }
+{
+    let width = offset_size(content);
+    push_narrow_signed(bytes, content.cfa, width)?;
+    push_if_any(bytes, saved_offset(content.ra), width)?;
+    push_if_any(bytes, content.fp, width)
+}
+
+/// Appends an offset that may be absent.
+fn push_if_any(bytes: &mut Vec<u8>, offset: Option<i32>, width: u8) -> Result<(), AllocError>
+    requires { width ≤ 2 }
+    ensures { OnOk result (bytes.new.items ≡ bytes.old.items ++ flat_map (signed_bytes (width_len width)) (option_to_list offset)) }
+{
+    match offset {
+        Some(offset) => push_narrow_signed(bytes, offset, width),
+        None => Ok(()),
+    }
+}
