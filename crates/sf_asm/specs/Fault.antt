@@ -1,0 +1,66 @@
+-- Which faults are refusals of the inputs, with a line of their own, and which ones a call answers.
+use Rattle.std.specs.Prelude.{ℕ, Bool, true, false}
+use Rattle.eh_records.specs.declared.fault.RecordFault.{RecordFault}
+use Rattle.eh_records.specs.declared.fault.RecordFault.TheVariants as record_faults
+use Rattle.cfa_machine.specs.declared.fault.MachineFault.{MachineFault}
+use Rattle.cfa_machine.specs.declared.fault.MachineFault.TheVariants as machine_faults
+use Rattle.sf_asm.specs.declared.fault.AsmFault.{AsmFault}
+use Rattle.sf_asm.specs.declared.fault.AsmFault.TheVariants as asm
+use Rattle.sf_asm.specs.declared.fault.GatherFault.{GatherFault}
+use Rattle.sf_asm.specs.declared.fault.GatherFault.TheVariants as gather
+use Rattle.sf_asm.specs.declared.fault.LinkFault.{LinkFault}
+use Rattle.sf_asm.specs.declared.fault.LinkFault.TheVariants as link
+
+-- all but want of memory
+abbrev pub is_record_refusal : RecordFault → Bool
+is_record_refusal record_faults.NoMemory = false
+is_record_refusal fault = true
+
+abbrev pub is_machine_refusal : MachineFault → Bool
+is_machine_refusal machine_faults.NoMemory = false
+is_machine_refusal fault = true
+
+-- a refusal of one input
+abbrev pub is_input_refusal : AsmFault → Bool
+is_input_refusal (asm.Record section fault) = is_record_refusal fault
+is_input_refusal (asm.Machine section fault) = is_machine_refusal fault
+is_input_refusal asm.NoMemory = false
+
+-- a refusal, or want of memory on its own
+abbrev pub is_input_answered : AsmFault → Bool
+is_input_answered (asm.Record section fault) = is_record_refusal fault
+is_input_answered (asm.Machine section fault) = is_machine_refusal fault
+is_input_answered asm.NoMemory = true
+
+abbrev pub is_gather_refusal : GatherFault → Bool
+is_gather_refusal (gather.Input item fault) = is_input_refusal fault
+is_gather_refusal gather.TooManyFunctions = false
+is_gather_refusal gather.TooManyRows = false
+is_gather_refusal (gather.Overlap start item other other_item) = true
+is_gather_refusal gather.NoMemory = false
+
+abbrev pub is_gather_answered : GatherFault → Bool
+is_gather_answered (gather.Input item fault) = is_input_refusal fault
+is_gather_answered gather.TooManyFunctions = true
+is_gather_answered gather.TooManyRows = true
+is_gather_answered (gather.Overlap start item other other_item) = true
+is_gather_answered gather.NoMemory = true
+
+-- a refusal of the inputs, which has a line
+abbrev pub is_refusal : LinkFault → Bool
+is_refusal (link.Gather fault) = is_gather_refusal fault
+is_refusal (link.OutOfReach start) = true
+is_refusal link.NoMemory = false
+
+-- what the outermost call answers: a refusal, a limit, or want of memory on its own
+abbrev pub is_wrapped_answered : GatherFault → Bool
+is_wrapped_answered (gather.Input item fault) = is_input_refusal fault
+is_wrapped_answered gather.TooManyFunctions = true
+is_wrapped_answered gather.TooManyRows = true
+is_wrapped_answered (gather.Overlap start item other other_item) = true
+is_wrapped_answered gather.NoMemory = false
+
+abbrev pub is_answered : LinkFault → Bool
+is_answered (link.Gather fault) = is_wrapped_answered fault
+is_answered (link.OutOfReach start) = true
+is_answered link.NoMemory = true

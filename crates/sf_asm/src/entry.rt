@@ -1,0 +1,19 @@
+//! A function that was read, kept or left out.
+
+use sf_model::{Func, Omission, Span};
+
+/// What became of a function.
+#[derive(Drop)]
+pub enum Outcome {
+    /// SFrame can express it.
+    Kept(Func),
+    /// SFrame can't express it.
+    Left(Omission),
+}
+
+/// A function with its addresses and origin, and what became of it.
+#[derive(Drop)]
+pub struct Entry {
+    pub span: Span,
+    pub outcome: Outcome,
+}

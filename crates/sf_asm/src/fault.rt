@@ -1,0 +1,77 @@
+//! Why inputs are refused.
+
+ghost use Rattle.std.specs.Prelude.{◌≡◌};
+
+use cfa_machine::MachineFault;
+use eh_records::RecordFault;
+use std::alloc::{AllocError, AllocFailed};
+use thiserror::Error;
+
+/// Why one input is refused. The number before a fault is that of the call frame section, 0 for a bare
+/// one. Want of memory is `NoMemory`, and never stands inside another variant.
+#[derive(Debug, Drop, Error)]
+pub enum AsmFault {
+    /// A record can't be read, or its function has no start or end.
+    #[error("section {0}: {1:?}")]
+    Record(u32, RecordFault),
+    /// A call frame instruction can't be read or run.
+    #[error("section {0}: {1:?}")]
+    Machine(u32, MachineFault),
+    /// Memory ran out.
+    #[error("memory ran out")]
+    NoMemory,
+}
+
+/// Why inputs are not gathered: the first fault of the first faulty input, then these in their order.
+#[derive(Debug, Drop, Error)]
+pub enum GatherFault {
+    /// The input of this number is refused.
+    #[error("input {0}: {1}")]
+    Input(u32, AsmFault),
+    /// There are more than 2^21 functions, omitted ones included.
+    #[error("too many functions")]
+    TooManyFunctions,
+    /// There are more than 2^24 rows.
+    #[error("too many rows")]
+    TooManyRows,
+    /// Two functions share an address: the start and item of the one, and of the other.
+    #[error("functions at {0:#x} of input {1} and at {2:#x} of input {3} overlap")]
+    Overlap(u64, u32, u64, u32),
+    /// Memory ran out.
+    #[error("memory ran out")]
+    NoMemory,
+}
+
+/// Why no section is made.
+#[derive(Debug, Drop, Error)]
+pub enum LinkFault {
+    /// The inputs are not gathered.
+    #[error("{0}")]
+    Gather(GatherFault),
+    /// The function at this address lies too far from the section.
+    #[error("the function at {0:#x} is out of reach")]
+    OutOfReach(u64),
+    /// Memory ran out.
+    #[error("memory ran out")]
+    NoMemory,
+}
+
+impl From<AllocError> for AsmFault {
+    ghost use Rattle.sf_asm.specs.declared.fault.AsmFault.TheVariants.{NoMemory};
+
+    ghost from_gives = { λ _ e. e ≡ NoMemory };
+
+    fn from(_: AllocError) -> AsmFault {
+        AsmFault::NoMemory
+    }
+}
+
+impl<T: Drop> From<AllocFailed<T>> for AsmFault {
+    ghost use Rattle.sf_asm.specs.declared.fault.AsmFault.TheVariants.{NoMemory};
+
+    ghost from_gives = { λ _ e. e ≡ NoMemory };
+
+    fn from(_: AllocFailed<T>) -> AsmFault {
+        AsmFault::NoMemory
+    }
+}

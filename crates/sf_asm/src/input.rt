@@ -1,0 +1,21 @@
+//! What is linked.
+
+use sf_model::Arch;
+
+/// What an input's bytes are.
+#[derive(Clone, Copy, Debug, PartialEq, Eq)]
+pub enum Form {
+    /// A bare `.eh_frame` section of this machine (LSB Core), as it lies in a linked program.
+    Bare(Arch),
+}
+
+/// An input at its load address.
+#[derive(Clone, Copy, Debug)]
+pub struct Input<'a> {
+    /// What its bytes are.
+    pub form: Form,
+    /// All its bytes.
+    pub bytes: &'a [u8],
+    /// The address of the first byte.
+    pub base: u64,
+}

@@ -1,0 +1,20 @@
+//! From call frame sections to SFrame functions, and to a section of one input.
+//!
+//! [`gather`] reads an input's records, runs the instructions of each frame description entry and sorts
+//! out what SFrame Version 2 can express: the functions that are kept, each list by rising start, the
+//! functions that are left out, with their reasons, and the addresses of all. [`assemble`] writes the
+//! section of one input. An input has fewer than 2^32 bytes. Both take memory; no section is copied.
+#![tactic(auto)]
+
+
+mod entry;
+mod fault;
+mod gathering;
+mod input;
+
+mod reading;
+
+
+pub use fault::{AsmFault, GatherFault, LinkFault};
+
+pub use input::{Form, Input};
