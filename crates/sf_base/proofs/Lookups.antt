@@ -4,14 +4,14 @@ use Prim.Native.Nat.{zero, suc}
 use Rattle.std.specs.Prelude.{String, Vec}
 use Rattle.std.specs.declared.alloc.Global.{Global}
 use Rattle.std.specs.Str.{bytes_eq}
-use Rattle.std.specs.Option.{option_map}
+use Rattle.std.specs.Option.{option_map, ForSome}
 use Rattle.std.specs.List.{position_from}
 use Rattle.std.proofs.lemmas.Iterator.Adapters.{position_from-zero}
 use Rattle.std.proofs.lemmas.Slice.Eq.{bytes_eq-Decides}
 use Rattle.sf_base.specs.Contents.{contents_of, Changes}
 use Rattle.std.specs.Result.{OnOk, OnErr}
 use Rattle.sf_base.specs.Reading.{name_of}
-use Rattle.sf_base.specs.Pairs.{pairs_of, has_name, place_of, with_file, name_at, bytes_at}
+use Rattle.sf_base.specs.Pairs.{pairs_of, has_name, place_of, with_file, name_at, bytes_at, AddsName}
 
 abbrev pub Stored : Type 0
 Stored = String Global × Vec ℕ Global
@@ -247,3 +247,31 @@ pub created_kept : (files : List Stored) (new : List (List ℕ × List ℕ)) (cr
 created_kept files new created place name bytes is below e =
     let P : Option ℕ → Type 0 = λ o. name_of new o ≡ name_of (pairs_of files) o in
     subst P (sym is) (ap (λ fs. name_at fs place) e ∙ name_kept files name bytes place below)
+
+has_there : (files : List (List ℕ × List ℕ)) (name bytes : List ℕ) → has_name (with_file files name bytes) name ≡ true
+has_there [] name bytes = ap (λ b. b || false) (itself name)
+has_there (file ∷ files) name bytes =
+    ⊎_elim (λ yes. let e : bytes_eq file.0 name ≡ true = yes in simp e)
+      (λ no. let e : bytes_eq file.0 name ≡ false = no in simp e (has_there files name bytes)) (which (bytes_eq file.0 name))
+
+has_else : (files : List (List ℕ × List ℕ)) (name bytes other : List ℕ) → other ≢ name → has_name (with_file files name bytes) other ≡ has_name files other
+has_else [] name bytes other ne = ap (λ b. b || false) (not_other name name other (itself name) ne)
+has_else (file ∷ files) name bytes other ne =
+    ⊎_elim (λ yes. let e : bytes_eq file.0 name ≡ true = yes in simp e)
+      (λ no. let e : bytes_eq file.0 name ≡ false = no in simp e (ap (λ rest. bytes_eq file.0 other || rest) (has_else files name bytes other ne)))
+      (which (bytes_eq file.0 name))
+
+-- only that name is added
+pub name_added : (files new : List (List ℕ × List ℕ)) (name bytes : List ℕ) → new ≡ with_file files name bytes → AddsName name files new
+name_added files new name bytes is =
+    let P : List (List ℕ × List ℕ) → Type 0 = λ fs. AddsName name files fs in
+    subst P (sym is) (record { held = has_there files name bytes; others = has_else files name bytes })
+
+-- the created file keeps its name
+pub created_stays : (files : List Stored) (new : List (List ℕ × List ℕ)) (created : Option ℕ) (n : ℕ) (name bytes : List ℕ) → n ≡ length files → ForSome created (λ place. place < n)
+    → new ≡ with_file (pairs_of files) name bytes → name_of new created ≡ name_of (pairs_of files) created
+created_stays files new None n name bytes long stands is = refl
+created_stays files new (Some place) n name bytes long stands is =
+    let below : place < n = stands place refl in
+    let inside : place < length files = omega arith in
+    created_kept files new (Some place) place name bytes refl inside is

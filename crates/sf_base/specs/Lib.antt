@@ -6,3 +6,4 @@ pub mod Word
 pub mod Pairs
 pub mod Lent
 pub mod Reading
+pub mod Calls

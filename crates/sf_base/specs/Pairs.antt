@@ -1,5 +1,5 @@
 -- Files as a program has them in memory: a list of names with bytes.
-use Rattle.std.specs.Prelude.{ℕ, List, [], ◌∷◌, Option, Some, None, String, Vec, Bool, false, ◌||◌, string_bytes, if◌then◌else◌}
+use Rattle.std.specs.Prelude.{ℕ, List, [], ◌∷◌, Option, Some, None, String, Vec, Bool, false, true, ◌||◌, ◌≡◌, ◌≢◌, string_bytes, if◌then◌else◌}
 use Prim.Native.Nat.{zero, suc}
 use Rattle.std.specs.Str.{bytes_eq}
 use Rattle.std.specs.Option.{option_map}
@@ -36,3 +36,8 @@ abbrev pub bytes_at : List (List ℕ × List ℕ) → ℕ → List ℕ
 bytes_at [] place = []
 bytes_at (file ∷ files) zero = file.1
 bytes_at (file ∷ files) (suc place) = bytes_at files place
+
+-- there is a file of this name after it, and one of each other name where there was one
+pub record AddsName (name : List ℕ) (old new : List (List ℕ × List ℕ)) : Type 0 where
+  pub held : has_name new name ≡ true
+  pub others : (other : List ℕ) → other ≢ name → has_name new other ≡ has_name old other

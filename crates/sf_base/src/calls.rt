@@ -1,5 +1,6 @@
 // The calls of an object in memory, of which some are to fail.
-ghost use Rattle.std.specs.Prelude.{◌≡◌, ◌+◌, ◌-◌, ◌^◌, min, Contains, IsTrue, ◌↔◌};
+ghost use Rattle.std.specs.Prelude.{◌≡◌, ◌↔◌, IsTrue};
+ghost use Rattle.sf_base.specs.Calls.{IsListed, next_call};
 
 /// How many calls were made, and the numbers of those that are to fail. The first call is number 1.
 #[derive(Drop)]
@@ -19,9 +20,9 @@ impl Calls {
 
     // Counts one call more, and says whether it is to fail.
     pub(crate) fn fails_next(&mut self) -> bool
-        ensures made { self.new.made ≡ min (self.old.made + 1) (2 ^ 64 - 1) }
+        ensures made { self.new.made ≡ next_call self.old.made }
         ensures fails { self.new.fails.items ≡ self.old.fails.items }
-        ensures listed { IsTrue result ↔ Contains self.old.fails.items (min (self.old.made + 1) (2 ^ 64 - 1)) }
+        ensures listed { IsTrue result ↔ IsListed self.old.fails.items self.old.made }
     {
         self.made = self.made.saturating_add(1);
         self.fails.contains(&self.made)

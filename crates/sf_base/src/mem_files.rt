@@ -1,8 +1,10 @@
 // Files in memory.
-ghost use Rattle.std.specs.Prelude.{◌≡◌, ◌<◌, ◌+◌, ◌-◌, ◌^◌, ℕ, [], true, false, min, length, drop, take, is_some, is_ok, Some, None, Ok, IfSome, IfOk, OnOk, OnErr, IsErr, vec_len, if◌then◌else◌};
+ghost use Rattle.std.specs.Prelude.{◌≡◌, ◌⊎◌, ◌↔◌, ◌<◌, ◌≤◌, ℕ, [], true, false, min, length, drop, take, is_some, is_ok, Some, None, IfSome, IfOk, OnOk, OnErr, IsErr, IsTrue, vec_len, if◌then◌else◌};
 ghost use Rattle.std.specs.Option.{ForSome};
-ghost use Rattle.sf_base.specs.Contents.{contents_of, Holds, Unchanged};
-ghost use Rattle.sf_base.specs.Pairs.{pairs_of, has_name};
+ghost use Rattle.sf_base.specs.Contents.{contents_of, Changes, Holds, Grows, Moves};
+ghost use Rattle.sf_base.specs.Faults.{Cause};
+ghost use Rattle.sf_base.specs.Calls.{IsListed, next_call, one_more};
+ghost use Rattle.sf_base.specs.Pairs.{pairs_of, has_name, AddsName};
 ghost use Rattle.sf_base.specs.Reading.{rest_at, name_of};
 
 use crate::calls::Calls;
@@ -61,7 +63,16 @@ impl MemFiles {
     /// `NoMemory`. Nothing is changed then, and no file is closed.
     pub fn put(&mut self, name: &str, bytes: Vec<u8>) -> Result<(), NoMemory>
         ensures ok { OnOk result (Holds (⟦<MemFiles as Files>⟧.contents self.old) (⟦<MemFiles as Files>⟧.contents self.new) name.now bytes.items) }
+        ensures names { OnOk result (AddsName name.now (pairs_of self.old.files.items) (pairs_of self.new.files.items)) }
+        ensures closed { self.new.opened ≡ (if is_ok result then None else self.old.opened) }
         ensures err { OnErr result (⟦<MemFiles as Files>⟧.contents self.new ≡ ⟦<MemFiles as Files>⟧.contents self.old) }
+        ensures created { self.new.created ≡ self.old.created }
+        ensures created_name { ⟦<MemFiles as Files>⟧.created_name self.new ≡ ⟦<MemFiles as Files>⟧.created_name self.old }
+        ensures read_faults { self.new.read_faults ≡ self.old.read_faults }
+        ensures write_faults { self.new.write_faults ≡ self.old.write_faults }
+        ensures made { self.new.calls.made ≡ self.old.calls.made }
+        ensures fails { self.new.calls.fails.items ≡ self.old.calls.fails.items }
+        ensures most { self.new.most ≡ self.old.most }
     {
         set_file(self.alloc, &mut self.files, name, bytes)?;
         self.opened = None;
@@ -96,7 +107,20 @@ impl Files for MemFiles {
 
     ghost write_faults = { λ files. files.write_faults };
 
-    fn open_file(&mut self, name: &str) -> Result<(), Failed> {
+    fn open_file(&mut self, name: &str) -> Result<(), Failed>
+        // It fails at a listed call and for a name that isn't there, and at no other.
+        ensures failed { IsErr result ↔ (IsListed self.old.calls.fails.items self.old.calls.made ⊎ (has_name (pairs_of self.old.files.items) name.now ≡ false)) }
+        ensures opened { is_some self.new.opened ≡ is_ok result }
+        ensures rest { OnOk result (rest_at (pairs_of self.new.files.items) self.new.opened ≡ contents_of (pairs_of self.new.files.items) name.now) }
+        ensures contents { pairs_of self.new.files.items ≡ pairs_of self.old.files.items }
+        ensures created { self.new.created ≡ self.old.created }
+        ensures read_faults { self.new.read_faults ≡ (if is_ok result then self.old.read_faults else one_more self.old.read_faults) }
+        ensures cause { Cause self.old.read_faults self.new.read_faults result }
+        ensures write_faults { self.new.write_faults ≡ self.old.write_faults }
+        ensures made { self.new.calls.made ≡ next_call self.old.calls.made }
+        ensures fails { self.new.calls.fails.items ≡ self.old.calls.fails.items }
+        ensures most { self.new.most ≡ self.old.most }
+    {
         let place = find_file(&self.files, name);
         if self.calls.fails_next() || place.is_none() {
             self.opened = None;
@@ -107,7 +131,23 @@ impl Files for MemFiles {
         Ok(())
     }
 
-    fn read(&mut self, buf: &mut [u8]) -> Result<usize, Failed> {
+    fn read(&mut self, buf: &mut [u8]) -> Result<usize, Failed>
+        requires opened { IsTrue (is_some self.old.opened) }
+        requires room { 0 < length buf.old }
+        // It fails at a listed call, and at no other.
+        ensures failed { IsErr result ↔ IsListed self.old.calls.fails.items self.old.calls.made }
+        ensures count { IfOk result (λ n. n ≡ min (min (length (rest_at (pairs_of self.old.files.items) self.old.opened)) (length buf.old)) self.old.most) }
+        ensures moves { IfOk result (λ n. Moves n (rest_at (pairs_of self.old.files.items) self.old.opened) (rest_at (pairs_of self.new.files.items) self.new.opened) buf.new) }
+        ensures opened { is_some self.new.opened ≡ is_ok result }
+        ensures contents { pairs_of self.new.files.items ≡ pairs_of self.old.files.items }
+        ensures created { self.new.created ≡ self.old.created }
+        ensures read_faults { self.new.read_faults ≡ (if is_ok result then self.old.read_faults else one_more self.old.read_faults) }
+        ensures cause { Cause self.old.read_faults self.new.read_faults result }
+        ensures write_faults { self.new.write_faults ≡ self.old.write_faults }
+        ensures made { self.new.calls.made ≡ next_call self.old.calls.made }
+        ensures fails { self.new.calls.fails.items ≡ self.old.calls.fails.items }
+        ensures most { self.new.most ≡ self.old.most }
+    {
         if !self.calls.fails_next() {
             if let Some(reading) = self.opened {
                 let n = read_at(&self.files, reading.place, reading.done, buf, self.most);
@@ -123,7 +163,22 @@ impl Files for MemFiles {
         Err(Failed)
     }
 
-    fn create_file(&mut self, name: &str) -> Result<(), Failed> {
+    fn create_file(&mut self, name: &str) -> Result<(), Failed>
+        // It fails at a listed call, and where memory is refused.
+        ensures failed { IsListed self.old.calls.fails.items self.old.calls.made → IsErr result }
+        ensures created { is_some self.new.created ≡ is_ok result }
+        ensures created_name { OnOk result (name_of (pairs_of self.new.files.items) self.new.created ≡ name.now) }
+        ensures holds { OnOk result (Changes name.now [] (pairs_of self.old.files.items) (pairs_of self.new.files.items)) }
+        ensures names { OnOk result (AddsName name.now (pairs_of self.old.files.items) (pairs_of self.new.files.items)) }
+        ensures unchanged { OnErr result (pairs_of self.new.files.items ≡ pairs_of self.old.files.items) }
+        ensures opened { self.new.opened ≡ None }
+        ensures write_faults { self.new.write_faults ≡ (if is_ok result then self.old.write_faults else one_more self.old.write_faults) }
+        ensures cause { Cause self.old.write_faults self.new.write_faults result }
+        ensures read_faults { self.new.read_faults ≡ self.old.read_faults }
+        ensures made { self.new.calls.made ≡ next_call self.old.calls.made }
+        ensures fails { self.new.calls.fails.items ≡ self.old.calls.fails.items }
+        ensures most { self.new.most ≡ self.old.most }
+    {
         self.opened = None;
         if !self.calls.fails_next() {
             let empty = Vec::new(self.alloc);
@@ -137,7 +192,25 @@ impl Files for MemFiles {
         Err(Failed)
     }
 
-    fn write(&mut self, piece: &[u8]) -> Result<usize, Failed> {
+    fn write(&mut self, piece: &[u8]) -> Result<usize, Failed>
+        requires created { IsTrue (is_some self.old.created) }
+        requires some { 0 < length piece.now }
+        // It fails at a listed call, and where memory is refused.
+        ensures failed { IsListed self.old.calls.fails.items self.old.calls.made → IsErr result }
+        ensures count { IfOk result (λ n. n ≡ min (length piece.now) self.old.most) }
+        ensures within { IfOk result (λ n. (1 ≤ n) × (n ≤ length piece.now)) }
+        ensures grows { IfOk result (λ n. Grows (Some (pairs_of self.old.files.items)) (Some (pairs_of self.new.files.items)) (name_of (pairs_of self.old.files.items) self.old.created) (take n piece.now)) }
+        ensures unchanged { OnErr result (pairs_of self.new.files.items ≡ pairs_of self.old.files.items) }
+        ensures created { self.new.created ≡ self.old.created }
+        ensures created_name { name_of (pairs_of self.new.files.items) self.new.created ≡ name_of (pairs_of self.old.files.items) self.old.created }
+        ensures opened { self.new.opened ≡ None }
+        ensures write_faults { self.new.write_faults ≡ (if is_ok result then self.old.write_faults else one_more self.old.write_faults) }
+        ensures cause { Cause self.old.write_faults self.new.write_faults result }
+        ensures read_faults { self.new.read_faults ≡ self.old.read_faults }
+        ensures made { self.new.calls.made ≡ next_call self.old.calls.made }
+        ensures fails { self.new.calls.fails.items ≡ self.old.calls.fails.items }
+        ensures most { self.new.most ≡ self.old.most }
+    {
         self.opened = None;
         if !self.calls.fails_next() {
             if let Some(place) = self.created {

@@ -1,5 +1,7 @@
 // A sink in memory.
-ghost use Rattle.std.specs.Prelude.{◌≡◌, ◌<◌, ◌+◌, ◌-◌, ◌^◌, min, [], ℕ, Some};
+ghost use Rattle.std.specs.Prelude.{◌≡◌, ◌<◌, ◌++◌, [], Some, IfOk, IsErr, is_ok, length, min, take, if◌then◌else◌};
+ghost use Rattle.sf_base.specs.Faults.{Cause};
+ghost use Rattle.sf_base.specs.Calls.{IsListed, next_call, one_more};
 
 use crate::calls::Calls;
 use crate::{Failed, Sink};
@@ -21,6 +23,11 @@ impl MemSink {
     /// `fails` are to fail; the first write is number 1.
     pub fn new(alloc: Global, most: usize, fails: Vec<u64>) -> MemSink
         requires { 0 < most }
+        ensures written { ⟦<MemSink as Sink>⟧.written result ≡ Some [] }
+        ensures faults { ⟦<MemSink as Sink>⟧.faults result ≡ 0 }
+        ensures most { result.most ≡ most }
+        ensures made { result.calls.made ≡ 0 }
+        ensures fails { result.calls.fails.items ≡ fails.items }
     {
         MemSink {
             bytes: Vec::new(alloc),
@@ -43,7 +50,16 @@ impl Sink for MemSink {
 
     ghost faults = { λ sink. sink.faults };
 
-    fn write(&mut self, piece: &[u8]) -> Result<usize, Failed> {
+    fn write(&mut self, piece: &[u8]) -> Result<usize, Failed>
+        ensures listed { IsListed self.old.calls.fails.items self.old.calls.made → IsErr result }
+        ensures count { IfOk result (λ n. n ≡ min (length piece.now) self.old.most) }
+        ensures bytes { self.new.bytes.items ≡ (if is_ok result then self.old.bytes.items ++ take (min (length piece.now) self.old.most) piece.now else self.old.bytes.items) }
+        ensures faults { self.new.faults ≡ (if is_ok result then self.old.faults else one_more self.old.faults) }
+        ensures cause { Cause self.old.faults self.new.faults result }
+        ensures made { self.new.calls.made ≡ next_call self.old.calls.made }
+        ensures fails { self.new.calls.fails.items ≡ self.old.calls.fails.items }
+        ensures most { self.new.most ≡ self.old.most }
+    {
         let n = piece.len().min(self.most);
         if self.calls.fails_next() || self.bytes.extend_from_slice(&piece[..n]).is_err() {
             self.faults = self.faults.saturating_add(1);

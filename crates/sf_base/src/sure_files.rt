@@ -1,6 +1,8 @@
 // Files that never fail.
-ghost use Rattle.std.specs.Prelude.{◌≡◌, ◌+◌, ◌-◌, ◌^◌, ℕ, [], true, false, if◌then◌else◌, min, length, drop, take, is_some, Some, None, Ok, IfSome};
-ghost use Rattle.sf_base.specs.Lent.{lent_rest};
+ghost use Rattle.std.specs.Prelude.{◌≡◌, ◌<◌, ◌≤◌, ◌+◌, ◌-◌, ◌^◌, [], true, false, min, length, take, is_some, Some, None, Ok, IfOk, OnErr, IsTrue};
+ghost use Rattle.sf_base.specs.Contents.{Grows, Unchanged};
+ghost use Rattle.sf_base.specs.Faults.{Cause};
+ghost use Rattle.sf_base.specs.Lent.{lent_rest, told_until};
 ghost use Rattle.sf_base.specs.Pairs.{pairs_of};
 
 use crate::copying::copy_front;
@@ -43,7 +45,7 @@ impl<'a> SureFiles<'a> {
 }
 
 impl<'a> Files for SureFiles<'a> {
-    ghost contents = { λ files. if files.created then None else Some (pairs_of files.names.now) };
+    ghost contents = { λ files. told_until files.created (pairs_of files.names.now) };
 
     ghost created = { λ files. files.created };
 
@@ -76,11 +78,22 @@ impl<'a> Files for SureFiles<'a> {
     fn create_file(&mut self, _name: &str) -> Result<(), Failed> {
         self.rest = None;
         self.created = true;
-        self.count = 0;
         Ok(())
     }
 
-    fn write(&mut self, piece: &[u8]) -> Result<usize, Failed> {
+    fn write(&mut self, piece: &[u8]) -> Result<usize, Failed>
+        requires created { IsTrue self.old.created }
+        requires some { 0 < length piece.now }
+        ensures all { result ≡ Ok (length piece.now) }
+        ensures count { self.new.count ≡ min (self.old.count + length piece.now) (2 ^ 64 - 1) }
+        ensures within { IfOk result (λ n. (1 ≤ n) × (n ≤ length piece.now)) }
+        ensures grows { IfOk result (λ n. Grows (told_until self.old.created (pairs_of self.old.names.now)) (told_until self.new.created (pairs_of self.new.names.now)) [] (take n piece.now)) }
+        ensures unchanged { OnErr result (Unchanged (told_until self.old.created (pairs_of self.old.names.now)) (told_until self.new.created (pairs_of self.new.names.now))) }
+        ensures cause { Cause 0 0 result }
+        ensures created { self.new.created ≡ self.old.created }
+        ensures names { self.new.names ≡ self.old.names }
+        ensures opened { self.new.rest ≡ None }
+    {
         self.rest = None;
         self.count = self.count.saturating_add(piece.len() as u64);
         Ok(piece.len())
