@@ -1,2 +1,3 @@
+pub mod Cut
 pub mod Step
 pub mod Width
