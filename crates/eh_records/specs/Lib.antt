@@ -1,1 +1,3 @@
+pub mod Cut
+pub mod Step
 pub mod Width

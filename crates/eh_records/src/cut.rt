@@ -1,6 +1,8 @@
 //! Cutting a section into records.
 
-ghost use Rattle.std.specs.Prelude.{◌<◌, ◌+◌, ◌^◌, length, IfOk, IfSome};
+ghost use Rattle.std.specs.Prelude.{◌≡◌, ◌<◌, ◌==◌, length, IfOk, IfSome};
+ghost use Rattle.eh_records.specs.Cut.{CutAnswers, NamedAnswers, piece, piece_at, named_place};
+ghost use Rattle.eh_records.specs.Step.{reader_cursor};
 
 use crate::fault::RecordFault;
 use crate::layout::{CIE_ID, EXTENDED_LENGTH, WORD_LEN};
@@ -22,13 +24,18 @@ pub struct Cut<'a> {
 
 impl Cut<'_> {
     /// Whether the record is a common information entry.
-    pub fn is_cie(&self) -> bool {
+    pub fn is_cie(&self) -> bool
+        ensures { result ≡ (self.now.id == 0) }
+    {
         self.id == CIE_ID
     }
 
     /// The place of the common information entry that the record names, `CiePointer` where that is before
     /// the section.
-    pub fn cie_place(&self) -> Result<u32, RecordFault> {
+    #[tactic(auto, unfolding(crate::specs::Cut::named_place))]
+    pub fn cie_place(&self) -> Result<u32, RecordFault>
+        ensures { NamedAnswers result (named_place (piece self.now)) }
+    {
         match self.id_place.checked_sub(self.id) {
             Some(place) => Ok(place),
             None => Err(RecordFault::CiePointer(self.id_place)),
@@ -37,8 +44,10 @@ impl Cut<'_> {
 }
 
 /// Cuts the next record off, or answers none at the end and at a length word of 0.
+#[tactic(auto, unfolding(crate::specs::Cut::piece_at, crate::specs::Cut::piece_of))]
 pub fn next_cut<'a>(rest: &mut Reader<'a>) -> Result<Option<Cut<'a>>, RecordFault>
-    ensures { IfOk result (λ cut. IfSome cut (λ _. length rest.new.part.bytes.now < length rest.old.part.bytes.now)) }
+    ensures exact { CutAnswers rest.new result (piece_at (reader_cursor rest.old)) }
+    ensures shorter { IfOk result (λ cut. IfSome cut (λ _. length rest.new.part.bytes.now < length rest.old.part.bytes.now)) }
 {
     if rest.part.is_empty() {
         return Ok(None);

@@ -1,7 +1,6 @@
 //! Reading the fields of a record.
 
-ghost use Rattle.std.specs.Prelude.{◌<◌, ◌≤◌, ◌+◌, ◌^◌, ◌≡◌, length, drop, IfOk, OnOk, IsTrue};
-ghost use Rattle.sf_bytes.specs.Field.{is_field_width};
+ghost use Rattle.std.specs.Prelude.{◌<◌, ◌+◌, ◌^◌, length};
 
 use crate::fault::RecordFault;
 use sf_bytes::{ByteFault, Field, Part};
@@ -13,18 +12,25 @@ pub struct Reader<'a> {
     ghost small: { part.place + length part.bytes.now < 2 ^ 32 },
 }
 
-// The fault of a field that stands at a place.
-fn fault_at(place: u32, fault: ByteFault) -> RecordFault {
-    match fault {
-        ByteFault::Short(_) => RecordFault::Short(place),
-        ByteFault::Leb(_) => RecordFault::Leb(place),
-    }
-}
-
 impl<'a> Reader<'a> {
+    ghost use Rattle.std.specs.Prelude.{◌≡◌, ◌≤◌, OnOk, IfOk, IsTrue, drop};
+    ghost use Rattle.sf_bytes.specs.Field.{is_field_width};
+    ghost use Rattle.eh_records.specs.Step.{Answers, reader_cursor, fault_of, number_field, uleb_field, sleb_field, text_field, part_field, pointer_field, pointer_view};
+
+    // The fault of a field that stands at a place.
+    fn fault_at(place: u32, fault: ByteFault) -> RecordFault
+        ensures { result ≡ fault_of place fault }
+    {
+        match fault {
+            ByteFault::Short(_) => RecordFault::Short(place),
+            ByteFault::Leb(_) => RecordFault::Leb(place),
+        }
+    }
+
     /// The bytes of a section from a place on.
     pub fn from_place(section: &'a [u8], place: u32) -> Reader<'a>
         requires { length section.now < 2 ^ 32 }
+        ensures { place ≤ length section.now → reader_cursor result ≡ record { place = place; left = drop place section.now } }
     {
         match section.get(place as usize..) {
             Some(bytes) => Reader {
@@ -37,12 +43,17 @@ impl<'a> Reader<'a> {
     }
 
     /// The place of the next byte.
-    pub fn place(&self) -> u32 {
+    pub fn place(&self) -> u32
+        ensures { result ≡ self.now.part.place }
+    {
         self.part.place as u32
     }
 
     /// The next byte.
-    pub fn byte(&mut self) -> Result<u8, RecordFault> {
+    #[tactic(auto, unfolding(crate::specs::Step::number_field))]
+    pub fn byte(&mut self) -> Result<u8, RecordFault>
+        ensures exact { Answers (λ x. x) self.new result (number_field 1 (reader_cursor self.old)) }
+    {
         let place = self.place();
         let mut part = self.part;
         match part.get_u8() {
@@ -50,14 +61,31 @@ impl<'a> Reader<'a> {
                 self.part = part;
                 Ok(value)
             }
-            Err(fault) => Err(fault_at(place, fault)),
+            Err(fault) => Err(Self::fault_at(place, fault)),
+        }
+    }
+
+    /// The number in the next two bytes.
+    #[tactic(auto, unfolding(crate::specs::Step::number_field))]
+    pub fn half(&mut self) -> Result<u16, RecordFault>
+        ensures exact { Answers (λ x. x) self.new result (number_field 2 (reader_cursor self.old)) }
+    {
+        let place = self.place();
+        let mut part = self.part;
+        match part.get_u16() {
+            Ok(value) => {
+                self.part = part;
+                Ok(value)
+            }
+            Err(fault) => Err(Self::fault_at(place, fault)),
         }
     }
 
     /// The number in the next four bytes.
-    #[tactic(auto, unfolding(sf_bytes::specs::Cursor::number_at))]
+    #[tactic(auto, unfolding(crate::specs::Step::number_field, sf_bytes::specs::Cursor::number_at))]
     pub fn word(&mut self) -> Result<u32, RecordFault>
-        ensures { OnOk result (length self.new.part.bytes.now + 4 ≡ length self.old.part.bytes.now) }
+        ensures exact { Answers (λ x. x) self.new result (number_field 4 (reader_cursor self.old)) }
+        ensures left { OnOk result (length self.new.part.bytes.now + 4 ≡ length self.old.part.bytes.now) }
     {
         let place = self.place();
         let mut part = self.part;
@@ -66,12 +94,31 @@ impl<'a> Reader<'a> {
                 self.part = part;
                 Ok(value)
             }
-            Err(fault) => Err(fault_at(place, fault)),
+            Err(fault) => Err(Self::fault_at(place, fault)),
+        }
+    }
+
+    /// The number in the next eight bytes.
+    #[tactic(auto, unfolding(crate::specs::Step::number_field))]
+    pub fn double(&mut self) -> Result<u64, RecordFault>
+        ensures exact { Answers (λ x. x) self.new result (number_field 8 (reader_cursor self.old)) }
+    {
+        let place = self.place();
+        let mut part = self.part;
+        match part.get_u64() {
+            Ok(value) => {
+                self.part = part;
+                Ok(value)
+            }
+            Err(fault) => Err(Self::fault_at(place, fault)),
         }
     }
 
     /// The next unsigned LEB128 number.
-    pub fn uleb(&mut self) -> Result<u64, RecordFault> {
+    #[tactic(auto, unfolding(crate::specs::Step::uleb_field))]
+    pub fn uleb(&mut self) -> Result<u64, RecordFault>
+        ensures exact { Answers (λ x. x) self.new result (uleb_field (reader_cursor self.old)) }
+    {
         let place = self.place();
         let mut part = self.part;
         match part.uleb() {
@@ -79,12 +126,15 @@ impl<'a> Reader<'a> {
                 self.part = part;
                 Ok(value)
             }
-            Err(fault) => Err(fault_at(place, fault)),
+            Err(fault) => Err(Self::fault_at(place, fault)),
         }
     }
 
     /// The next signed LEB128 number.
-    pub fn sleb(&mut self) -> Result<i64, RecordFault> {
+    #[tactic(auto, unfolding(crate::specs::Step::sleb_field))]
+    pub fn sleb(&mut self) -> Result<i64, RecordFault>
+        ensures exact { Answers (λ x. x) self.new result (sleb_field (reader_cursor self.old)) }
+    {
         let place = self.place();
         let mut part = self.part;
         match part.sleb() {
@@ -92,27 +142,31 @@ impl<'a> Reader<'a> {
                 self.part = part;
                 Ok(value)
             }
-            Err(fault) => Err(fault_at(place, fault)),
+            Err(fault) => Err(Self::fault_at(place, fault)),
         }
     }
 
     /// The bytes before the next zero byte, which is passed.
-    pub fn text(&mut self) -> Result<&'a [u8], RecordFault> {
+    #[tactic(auto, unfolding(crate::specs::Step::text_field))]
+    pub fn text(&mut self) -> Result<&'a [u8], RecordFault>
+        ensures exact { Answers (λ text. text.now) self.new result (text_field (reader_cursor self.old)) }
+    {
         let place = self.place();
         let mut part = self.part;
         match part.text0() {
-            Ok(text) => {
+            Ok(value) => {
                 self.part = part;
-                Ok(text)
+                Ok(value)
             }
-            Err(fault) => Err(fault_at(place, fault)),
+            Err(fault) => Err(Self::fault_at(place, fault)),
         }
     }
 
     /// The next `len` bytes, as a reader of their own.
-    #[tactic(auto, unfolding(sf_bytes::specs::Cursor::part_at))]
+    #[tactic(auto, unfolding(crate::specs::Step::part_field, sf_bytes::specs::Cursor::part_at))]
     pub fn sub(&mut self, len: u64) -> Result<Reader<'a>, RecordFault>
-        ensures { OnOk result (length self.new.part.bytes.now + len ≡ length self.old.part.bytes.now) }
+        ensures exact { Answers (reader_cursor) self.new result (part_field len (reader_cursor self.old)) }
+        ensures left { OnOk result (length self.new.part.bytes.now + len ≡ length self.old.part.bytes.now) }
     {
         let place = self.place();
         let mut part = self.part;
@@ -121,34 +175,34 @@ impl<'a> Reader<'a> {
                 self.part = part;
                 Ok(Reader { part: taken })
             }
-            Err(fault) => Err(fault_at(place, fault)),
+            Err(fault) => Err(Self::fault_at(place, fault)),
         }
     }
 
     /// The number in the next `width` bytes.
     pub fn number(&mut self, width: u8) -> Result<u64, RecordFault>
         requires { IsTrue (is_field_width width) }
-        ensures { IfOk result (λ raw. raw < 256 ^ width) }
+        ensures exact { Answers (λ x. x) self.new result (number_field width (reader_cursor self.old)) }
+        ensures fits { IfOk result (λ raw. raw < 256 ^ width) }
     {
-        let place = self.place();
-        let mut part = self.part;
-        let read = match width {
-            2 => part.get_u16().map(u64::from),
-            4 => part.get_u32().map(u64::from),
-            _ => part.get_u64(),
-        };
-        match read {
-            Ok(raw) => {
-                self.part = part;
-                Ok(raw)
+        match width {
+            2 => {
+                let raw = self.half()?;
+                Ok(u64::from(raw))
             }
-            Err(fault) => Err(fault_at(place, fault)),
+            4 => {
+                let raw = self.word()?;
+                Ok(u64::from(raw))
+            }
+            _ => self.double(),
         }
     }
 
     /// A pointer field of `width` bytes.
+    #[tactic(auto, unfolding(crate::specs::Step::pointer_field))]
     pub fn pointer(&mut self, width: u8) -> Result<Field, RecordFault>
         requires { IsTrue (is_field_width width) }
+        ensures exact { Answers pointer_view self.new result (pointer_field width (reader_cursor self.old)) }
         ensures width { IfOk result (λ field. field.width ≡ width) }
         ensures place { IfOk result (λ field. field.place < 2 ^ 32) }
     {

@@ -1,0 +1,69 @@
+-- Fields of a record, read from left to right. A fault carries the place of the field's first byte.
+use Rattle.std.specs.Prelude.{◌≡◌, ℕ, ℤ, List, Result, Ok, Err}
+use Rattle.sf_bytes.specs.declared.fault.ByteFault.{ByteFault}
+use Rattle.sf_bytes.specs.declared.fault.ByteFault.TheVariants as byte_faults
+use Rattle.sf_bytes.specs.declared.field.Field.{Field}
+use Rattle.sf_bytes.specs.Cursor.{Cursor, Read, cursor, part_at, number_at}
+use Rattle.sf_bytes.specs.Leb.{uleb_at, sleb_at}
+use Rattle.sf_bytes.specs.Text.{text_at}
+use Rattle.eh_records.specs.declared.fault.RecordFault.{RecordFault}
+use Rattle.eh_records.specs.declared.fault.RecordFault.TheVariants.{Short, Leb}
+use Rattle.eh_records.specs.declared.reader.Reader.{Reader}
+
+-- a value and the cursor behind it, or the first fault
+abbrev pub Step : Type 0 → Type 0
+Step X = Result (X × Cursor) RecordFault
+
+-- a step that goes on behind another one
+infixl 10 ◌>>=◌
+abbrev pub ◌>>=◌ : {A B : Type 0} → Result A RecordFault → (A → Result B RecordFault) → Result B RecordFault
+(Ok x) >>= f = f x
+(Err e) >>= f = Err e
+
+-- the fault of a field that stands at a place
+abbrev pub fault_of : ℕ → ByteFault → RecordFault
+fault_of place (byte_faults.Short p) = Short place
+fault_of place (byte_faults.Leb p) = Leb place
+
+abbrev pub placed : {X : Type 0} → ℕ → Read X → Step X
+placed place (Ok x) = Ok x
+placed place (Err e) = Err (fault_of place e)
+
+-- a number of n bytes, a LEB128 number, a text, and n bytes as they are
+unfoldable pub number_field : ℕ → Cursor → Step ℕ
+number_field n at = placed at.place (number_at n at)
+
+unfoldable pub uleb_field : Cursor → Step ℕ
+uleb_field at = placed at.place (uleb_at at)
+
+unfoldable pub sleb_field : Cursor → Step ℤ
+sleb_field at = placed at.place (sleb_at at)
+
+unfoldable pub text_field : Cursor → Step (List ℕ)
+text_field at = placed at.place (text_at at)
+
+unfoldable pub part_field : ℕ → Cursor → Step Cursor
+part_field n at = placed at.place (part_at n at)
+
+-- a pointer field: its place, its width in bytes and the number that stands there
+pub record PointerField : Type 0 where
+  pub place : ℕ
+  pub width : ℕ
+  pub raw : ℕ
+
+abbrev pub pointer_view : Field → PointerField
+pointer_view f = record { place = f.place; width = f.width; raw = f.raw }
+
+unfoldable pub pointer_field : ℕ → Cursor → Step PointerField
+pointer_field width at = do
+  raw ← number_field width at
+  Ok (record { place = at.place; width = width; raw = raw.0 }, raw.1)
+
+-- what a call on a reader answered, seen by view, is what the step gives, and the reader is what it leaves
+abbrev pub Answers : {X Y : Type 0} → (X → Y) → Reader → Result X RecordFault → Step Y → Type 0
+Answers view new (Ok x) step = step ≡ Ok (view x, cursor new.part)
+Answers view new (Err e) step = step ≡ Err e
+
+-- the cursor of a reader
+abbrev pub reader_cursor : Reader → Cursor
+reader_cursor r = cursor r.part
