@@ -115,6 +115,7 @@ pub fn express(
     rows: &[DwRow],
 ) -> Result<Func, ExpressFault>
     requires { AreRows arch facts.now.size rows.now }
+    ensures writable { IfOk result (λ f. facts.now.start + facts.now.size ≤ 2 ^ 64 → IsTrue (key_fits arch facts.now.key) → IsWritable arch f) }
     ensures exact { Gives (λ f. f) result (function_by arch facts.now rows.now) }
 {
     if let Some(reason) = function_reason(arch, facts) {
