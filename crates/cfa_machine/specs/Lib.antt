@@ -2,3 +2,4 @@ pub mod Registers
 pub mod Effects
 pub mod Columns
 pub mod Pass
+pub mod RowList

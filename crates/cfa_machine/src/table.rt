@@ -1,9 +1,10 @@
 //! The rows of a function.
 
-ghost use Rattle.std.specs.Prelude.{◌≡◌, []};
+ghost use Rattle.std.specs.Prelude.{◌≡◌, [], IfOk};
 ghost use Rattle.sf_bytes.specs.Cursor.{cursor};
 ghost use Rattle.cfa_insn.specs.Listing.{listing};
 ghost use Rattle.cfa_machine.specs.Columns.{no_columns};
+ghost use Rattle.cfa_machine.specs.RowList.{AreRows};
 ghost use Rattle.cfa_machine.specs.Pass.{Appends, Gives, defined_by, rows_by, rows_from};
 
 use crate::columns::{Columns, empty_columns};
@@ -71,6 +72,7 @@ pub fn rows(
     fde: Part<'_>,
     size: u64,
 ) -> Result<Vec<DwRow>, MachineFault>
+    ensures rows { IfOk result (λ v. AreRows arch size v.items) }
     ensures exact { Gives (λ v. v.items) result (rows_by arch code factor size (listing (cursor cie.entry)) (listing (cursor fde.entry))) }
 {
     let initial = initial_row(arch, factor, cie)?;

@@ -9,8 +9,10 @@
 #![tactic(auto)]
 
 mod fault;
+mod function;
 mod part;
 mod row;
 
 pub use fault::ExpressFault;
+pub use function::express;
 pub use row::content;

@@ -1,0 +1,135 @@
+//! A whole function in SFrame's form.
+
+ghost use Rattle.std.specs.Prelude.{◌≡◌, ◌^◌, ◌<◌, ◌+◌, ◌≤◌, List, All, IfOk, IsTrue, None};
+ghost use Rattle.sf_model.specs.Function.{IsWritable, key_fits};
+ghost use Rattle.cfa_machine.specs.RowList.{AreRows};
+ghost use Rattle.sf_express.specs.Expressed.{repeats, same_content, column_of, reason_of, row_by, Makes, Appends, Gives, unless_repeated, expressed_rows, function_by};
+
+use crate::fault::ExpressFault;
+use crate::row::content;
+use cfa_machine::DwRow;
+use sf_model::{Arch, Content, FdeFacts, Func, Omission, Reason, Row, Rows, Shape};
+use std::alloc::Global;
+
+/// The first size that doesn't fit a function descriptor entry, in bytes.
+const SIZE_LIMIT: u64 = 0x1_0000_0000;
+
+// Whether two contents are the same.
+fn is_same(last: Content, content: Content) -> bool
+    ensures { result ≡ same_content last content }
+{
+    last.base == content.base
+        && last.cfa == content.cfa
+        && last.ra == content.ra
+        && last.fp == content.fp
+        && last.signed == content.signed
+}
+
+// Whether a content is that of the row before.
+fn is_repeated(last: Option<Content>, content: Content) -> bool
+    ensures { result ≡ repeats last content }
+{
+    match last {
+        None => false,
+        Some(last) => is_same(last, content),
+    }
+}
+
+// The return column that a machine's rows describe.
+fn return_column(arch: Arch) -> u64
+    ensures { result ≡ column_of arch }
+{
+    match arch {
+        Arch::Amd64 => 16,
+        Arch::Aarch64 => 30,
+    }
+}
+
+// The first reason of the function as a whole.
+fn function_reason(arch: Arch, facts: &FdeFacts) -> Option<Reason>
+    ensures { result ≡ reason_of arch facts.now }
+{
+    if facts.size == 0 {
+        return Some(Reason::EmptyRange);
+    }
+    if facts.size >= SIZE_LIMIT {
+        return Some(Reason::SizeTooLarge);
+    }
+    if facts.column != return_column(arch) {
+        return Some(Reason::ReturnColumn);
+    }
+    if facts.signal {
+        return Some(Reason::SignalFrame);
+    }
+    None
+}
+
+// The row in SFrame's form, or the omission at its start.
+fn row_of(arch: Arch, row: &DwRow) -> Result<Row, ExpressFault>
+    requires { row.now.start < 2 ^ 32 }
+    ensures { Makes result (row_by arch row.now) }
+{
+    let start = row.start as u32;
+    match content(arch, row) {
+        Ok(content) => Ok(Row { start, content }),
+        Err(reason) => Err(ExpressFault::Omit(Omission {
+            reason,
+            offset: Some(start),
+        })),
+    }
+}
+
+// Appends the row, unless it says what the row before it says.
+fn append(kept: &mut Rows, last: Option<Content>, row: Row) -> Result<(), ExpressFault>
+    ensures { Appends kept.old kept.new last row result }
+{
+    if !is_repeated(last, row.content) {
+        kept.push(row)?;
+    }
+    Ok(())
+}
+
+// The rows in SFrame's form.
+fn express_rows(alloc: Global, arch: Arch, rows: &[DwRow]) -> Result<Rows, ExpressFault>
+    requires { All (λ r. r.start < 2 ^ 32) rows.now }
+    ensures { Gives (λ kept. kept) result (expressed_rows arch None rows.now) }
+{
+    let mut kept = Rows::new(alloc);
+    let mut last = None;
+    for row in rows {
+        let row = row_of(arch, row)?;
+        append(&mut kept, last, row)?;
+        last = Some(row.content);
+    }
+    Ok(kept)
+}
+
+/// The function as SFrame Version 2 expresses it: a row where the content changes, from offset 0 on.
+///
+/// `Omit` has the first reason of the function as a whole, or else the first reason of a row at the least
+/// offset where one holds.
+pub fn express(
+    alloc: Global,
+    arch: Arch,
+    facts: &FdeFacts,
+    rows: &[DwRow],
+) -> Result<Func, ExpressFault>
+    requires { AreRows arch facts.now.size rows.now }
+    ensures writable { IfOk result (λ f. facts.now.start + facts.now.size ≤ 2 ^ 64 → IsTrue (key_fits arch facts.now.key) → IsWritable arch f) }
+    ensures exact { Gives (λ f. f) result (function_by arch facts.now rows.now) }
+{
+    if let Some(reason) = function_reason(arch, facts) {
+        return Err(ExpressFault::Omit(Omission {
+            reason,
+            offset: None,
+        }));
+    }
+    let kept = express_rows(alloc, arch, rows)?;
+    Ok(Func {
+        start: facts.start,
+        size: facts.size as u32,
+        shape: Shape::Plain,
+        key: facts.key,
+        rows: kept,
+    })
+}
