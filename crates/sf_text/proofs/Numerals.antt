@@ -1,5 +1,5 @@
 -- Digits from the lowest up, in front of those that are there.
-use Rattle.std.proofs.Common.{◌≡◌, ℕ, zero, suc, ◌+◌, ◌-◌, ◌*◌, ◌/◌, ◌%◌, ◌^◌, ◌<◌, ◌≤◌, Bool, true, false, cond, List, [], ◌∷◌, nat_eq, refl, sym, ap, subst, ◌∙◌, arith, rules, drop, set, length, add-one}
+use Rattle.std.proofs.Common.{◌≡◌, ℕ, zero, suc, ◌+◌, ◌-◌, ◌*◌, ◌/◌, ◌%◌, ◌^◌, ◌<◌, ◌≤◌, true, false, List, [], ◌∷◌, nat_eq, refl, sym, ap, subst, ◌∙◌, arith, drop, set, length}
 use Rattle.std.specs.Fmt.{digits, digits_onto, digit_glyph}
 use Rattle.std.proofs.Math.Nat.{div-lt_iff_lt-mul, div-eq_of_lt, pow-suc, pow-zero, mod-eq_of_lt, lt-div-mul-add}
 use Rattle.std.proofs.lemmas.Bool.{ne_eqb}

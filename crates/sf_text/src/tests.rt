@@ -1,1 +1,190 @@
+ghost use Rattle.std.specs.Prelude.{◌≡◌, ◌≤◌, Some, length, IsTrue, is_some};
+ghost use Rattle.sf_model.specs.Notice.{values_shown, shows_item};
+
 use super::*;
+use arrayvec::ArrayVec;
+use sf_base::MemSink;
+use sf_model::{Group, Notice, Omission, Omitted, Origin, Reason};
+use std::alloc::Global;
+use std::process::Abort;
+use std::test::Fail;
+
+/// The line of this fault is `line`.
+fn shows(
+    rt: &impl Abort,
+    alloc: Global,
+    item: Option<u32>,
+    group: Group,
+    number: u8,
+    values: &[u64],
+    line: &str,
+) -> Result<(), Fail>
+    requires line { values_shown group number ≡ Some (length values.now) }
+    requires item { IsTrue (shows_item group) → IsTrue (is_some item) }
+{
+    let mut sink = MemSink::new(alloc, 7, Vec::new(alloc));
+    let values = ArrayVec::try_from(values)?;
+    let notice = Notice {
+        item,
+        group,
+        number,
+        values,
+    };
+    fault_line(&mut sink, &notice)?;
+    assert_eq!(rt; sink.bytes(), line.as_bytes());
+    Ok(())
+}
+
+#[test]
+fn a_fault_is_shown_with_its_item_and_values(rt: HostRuntime) -> Result<(), Fail> {
+    let alloc = rt.alloc();
+    shows(
+        &rt,
+        alloc,
+        Some(0),
+        Group::Elf,
+        3,
+        &[4],
+        "refused 0 elf Class 0x4\n",
+    )?;
+    shows(
+        &rt,
+        alloc,
+        Some(0),
+        Group::Elf,
+        11,
+        &[0x2a0],
+        "refused 0 elf Compressed 0x2a0\n",
+    )?;
+    shows(
+        &rt,
+        alloc,
+        Some(0),
+        Group::Record,
+        1,
+        &[0, 0x38],
+        "refused 0 record Short 0x0 0x38\n",
+    )?;
+    shows(
+        &rt,
+        alloc,
+        Some(0),
+        Group::Record,
+        9,
+        &[0, 0x20],
+        "refused 0 record FunctionEnd 0x0 0x20\n",
+    )?;
+    shows(
+        &rt,
+        alloc,
+        Some(0),
+        Group::Reloc,
+        3,
+        &[3, 2],
+        "refused 0 reloc Place 0x3 0x2\n",
+    )?;
+    shows(
+        &rt,
+        alloc,
+        Some(0),
+        Group::Machine,
+        2,
+        &[0, 0x29],
+        "refused 0 machine StateEmpty 0x0 0x29\n",
+    )?;
+    shows(
+        &rt,
+        alloc,
+        Some(0),
+        Group::Insn,
+        1,
+        &[0, 0x29, 1],
+        "refused 0 insn Opcode 0x0 0x29 0x1\n",
+    )?;
+    Ok(())
+}
+
+#[test]
+fn a_fault_between_functions_has_no_item(rt: HostRuntime) -> Result<(), Fail> {
+    let alloc = rt.alloc();
+    shows(
+        &rt,
+        alloc,
+        None,
+        Group::Link,
+        1,
+        &[0, 1],
+        "refused link MixedArch 0x0 0x1\n",
+    )?;
+    shows(
+        &rt,
+        alloc,
+        None,
+        Group::Link,
+        3,
+        &[u64::MAX],
+        "refused link OutOfReach 0xffffffffffffffff\n",
+    )?;
+    shows(
+        &rt,
+        alloc,
+        Some(7),
+        Group::Core,
+        2,
+        &[],
+        "refused 7 core NotCore\n",
+    )?;
+    Ok(())
+}
+
+#[test]
+fn a_sink_that_fails_keeps_a_prefix(rt: HostRuntime) -> Result<(), Fail> {
+    let mut fails = Vec::new(rt.alloc());
+    fails.push(2)?;
+    let mut sink = MemSink::new(rt.alloc(), 7, fails);
+    let mut values = ArrayVec::new();
+    values.push(4);
+    let notice = Notice {
+        item: Some(0),
+        group: Group::Elf,
+        number: 3,
+        values,
+    };
+    assert!(rt; fault_line(&mut sink, &notice).is_err());
+    assert_eq!(rt; sink.bytes(), b"refused".as_slice());
+    Ok(())
+}
+
+fn omitted(size: u64, reason: Reason, offset: Option<u32>) -> Omitted {
+    let origin = Origin {
+        item: 0,
+        section: 0,
+        place: 0x18,
+    };
+    Omitted {
+        start: 0x1000,
+        size,
+        origin,
+        omission: Omission { reason, offset },
+    }
+}
+
+#[test]
+fn a_report_has_a_line_for_each_omitted_function_and_the_counts(
+    rt: HostRuntime,
+) -> Result<(), Fail> {
+    let functions = [
+        omitted(6, Reason::RaRule, Some(0)),
+        omitted(48, Reason::CfaExpression, Some(16)),
+        omitted(0, Reason::EmptyRange, None),
+        omitted(4294967296, Reason::SizeTooLarge, None),
+    ];
+    let text = report(rt.alloc(), 3, &functions)?;
+    let expected = b"omit 0x1000 size 6 input 0 section 0 fde 0x18 RaRule at 0\n\
+omit 0x1000 size 48 input 0 section 0 fde 0x18 CfaExpression at 16\n\
+omit 0x1000 size 0 input 0 section 0 fde 0x18 EmptyRange\n\
+omit 0x1000 size 4294967296 input 0 section 0 fde 0x18 SizeTooLarge\n\
+kept 3 omitted 4\n";
+    assert_eq!(rt; text.as_slice(), expected.as_slice());
+    Ok(())
+}

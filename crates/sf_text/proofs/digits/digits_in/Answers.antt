@@ -1,4 +1,4 @@
-use Rattle.std.proofs.Common.{rules, arith, ◌≡◌, ◌≤◌, ◌-◌, ◌/◌, ◌∷◌, ◌∙◌, ap, drop}
+use Rattle.std.proofs.Common.{rules, arith, ◌≤◌, ◌-◌, ◌/◌, ◌∷◌, ◌∙◌, ap, drop}
 use Rattle.sf_text.proofs.Numerals.{digits_before, all_digits, two_places, quotient_fits, more_digits, last_digit, digit_in_front}
 use Rattle.sf_text.proofs.digits.digits_in.Goals as goal
 

@@ -1,4 +1,4 @@
-use Rattle.std.proofs.Common.{◌+◌, ◌-◌, ◌≡◌, ◌≤◌, ◌<◌, ◌^◌, false, drop, length}
+use Rattle.std.proofs.Common.{◌≡◌, ◌≤◌, ◌<◌, ◌^◌, false, drop, length}
 use Rattle.std.specs.Fmt.{digits}
 use Rattle.sf_text.proofs.Numerals.{digits_before}
 use Rattle.sf_text.proofs.digits.digits_in.Given as goal
