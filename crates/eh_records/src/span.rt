@@ -1,6 +1,6 @@
 //! A function's start and size.
 
-ghost use Rattle.std.specs.Prelude.{◌<◌, ◌+◌, ◌^◌, ◌≡◌, length};
+ghost use Rattle.std.specs.Prelude.{◌≤◌, ◌+◌, ◌^◌, IfOk};
 
 use crate::fault::RecordFault;
 use crate::fde::Fde;
@@ -18,7 +18,9 @@ impl Fde<'_> {
         address: u64,
         shift: u64,
         values: &V,
-    ) -> Result<(u64, u64), RecordFault> {
+    ) -> Result<(u64, u64), RecordFault>
+        ensures end { IfOk result (λ s. s.0 + s.1 ≤ 2 ^ 64) }
+    {
         let place = self.begin.place as u32;
         let (Some(begin), Some(range)) = (values.bits(self.begin), values.bits(self.range)) else {
             return Err(RecordFault::Unresolved(place));

@@ -8,7 +8,7 @@ ghost use Rattle.sf_asm.specs.Order.{are_apart, entry_rows, rows_of};
 ghost use Rattle.sf_asm.specs.Fault.{is_gather_answered};
 
 use sf_model::{Arch, Func, Omitted, Origin, Span};
-use std::alloc::Global;
+use std::alloc::{AllocError, Global};
 
 use crate::entry::{Entry, Outcome};
 use crate::fault::{AsmFault, GatherFault};
@@ -105,4 +105,37 @@ fn order(entries: &mut Vec<Entry>) -> Result<(), GatherFault>
     entries
         .sort_by_key(|entry| entry.span.start)
         .map_err(|_| GatherFault::NoMemory)
+}
+
+/// Functions, sorted out by what became of them, in their order.
+#[derive(Drop)]
+struct Sorted {
+    kept: Vec<Func>,
+    omitted: Vec<Omitted>,
+    spans: Vec<Span>,
+}
+
+/// Sorts out functions.
+fn sort_out(alloc: Global, entries: Vec<Entry>) -> Result<Sorted, AllocError>
+    ensures kept { IfOk result (λ s. s.kept.items ≡ kept_of entries.items) }
+{
+    let mut sorted = Sorted {
+        kept: Vec::new(alloc),
+        omitted: Vec::new(alloc),
+        spans: Vec::new(alloc),
+    };
+    for entry in entries {
+        let Entry { span, outcome } = entry;
+        sorted.spans.push(span)?;
+        match outcome {
+            Outcome::Kept(func) => sorted.kept.push(func)?,
+            Outcome::Left(omission) => sorted.omitted.push(Omitted {
+                start: span.start,
+                size: span.size,
+                origin: span.origin,
+                omission,
+            })?,
+        }
+    }
+    Ok(sorted)
 }
