@@ -1,5 +1,6 @@
 -- Functions that were read, kept or left out.
-use Rattle.std.specs.Prelude.{◌≡◌, ℕ, ◌+◌, ◌^◌, ◌<◌, ◌≤◌, Bool, true, ◌&&◌, nat_le, ◌==◌, if◌then◌else◌, List, [], ◌∷◌, length}
+use Rattle.std.specs.Prelude.{◌≡◌, ℕ, List, map, Option, Some, None}
+use Rattle.std.specs.List.{filter_map}
 use Rattle.sf_model.specs.declared.machine.Arch.{Arch}
 use Rattle.sf_model.specs.declared.function.Func.{Func}
 use Rattle.sf_model.specs.declared.omission.Omission.{Omission}
@@ -18,12 +19,24 @@ IsSoundOutcome arch span (Left omission) = Unit {0}
 abbrev pub IsSound : Arch → Entry → Type 0
 IsSound arch entry = IsSoundOutcome arch entry.span entry.outcome
 
--- a kept function before others
-abbrev pub kept_before : Outcome → List Func → List Func
-kept_before (Kept f) fs = f ∷ fs
-kept_before (Left omission) fs = fs
+-- the function, where it is kept
+abbrev pub kept_in : Outcome → Option Func
+kept_in (Kept f) = Some f
+kept_in (Left omission) = None
+
+-- the function, where it is left out
+abbrev pub omitted_in : Span → Outcome → Option Omitted
+omitted_in span (Kept f) = None
+omitted_in span (Left omission) = Some record { start = span.start; size = span.size; origin = span.origin; omission = omission }
 
 -- the kept functions, in order
 abbrev pub kept_of : List Entry → List Func
-kept_of [] = []
-kept_of (e ∷ es) = kept_before e.outcome (kept_of es)
+kept_of entries = filter_map (λ (e : Entry). kept_in e.outcome) entries
+
+-- the functions that are left out, in order
+abbrev pub omitted_of : List Entry → List Omitted
+omitted_of entries = filter_map (λ (e : Entry). omitted_in e.span e.outcome) entries
+
+-- the addresses of all, in order
+abbrev pub spans_of : List Entry → List Span
+spans_of entries = map (λ (e : Entry). e.span) entries

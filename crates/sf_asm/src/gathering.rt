@@ -1,9 +1,9 @@
 //! The functions of all inputs, sorted out.
 
-ghost use Rattle.std.specs.Prelude.{◌≡◌, ◌<◌, ◌≤◌, ◌^◌, true, All, length, vec_len, sum_by, IfOk, IfErr, OnOk, IsTrue};
+ghost use Rattle.std.specs.Prelude.{◌≡◌, ◌<◌, ◌≤◌, ◌^◌, true, All, length, vec_len, sum_by, None, IfOk, IfErr, OnOk, IsTrue};
 ghost use Rattle.std.specs.List.Sorted.{IsPermutation};
 ghost use Rattle.sf_model.specs.Function.{AreWritable};
-ghost use Rattle.sf_asm.specs.Entry.{IsSound, kept_of};
+ghost use Rattle.sf_asm.specs.Entry.{IsSound, kept_of, omitted_of, spans_of};
 ghost use Rattle.sf_asm.specs.Order.{are_apart, entry_rows, rows_of};
 ghost use Rattle.sf_asm.specs.Fault.{is_gather_answered};
 
@@ -109,15 +109,17 @@ fn order(entries: &mut Vec<Entry>) -> Result<(), GatherFault>
 
 /// Functions, sorted out by what became of them, in their order.
 #[derive(Drop)]
-struct Sorted {
-    kept: Vec<Func>,
-    omitted: Vec<Omitted>,
-    spans: Vec<Span>,
+pub struct Sorted {
+    pub kept: Vec<Func>,
+    pub omitted: Vec<Omitted>,
+    pub spans: Vec<Span>,
 }
 
 /// Sorts out functions.
 fn sort_out(alloc: Global, entries: Vec<Entry>) -> Result<Sorted, AllocError>
     ensures kept { IfOk result (λ s. s.kept.items ≡ kept_of entries.items) }
+    ensures omitted { IfOk result (λ s. s.omitted.items ≡ omitted_of entries.items) }
+    ensures spans { IfOk result (λ s. s.spans.items ≡ spans_of entries.items) }
 {
     let mut sorted = Sorted {
         kept: Vec::new(alloc),
@@ -138,4 +140,64 @@ fn sort_out(alloc: Global, entries: Vec<Entry>) -> Result<Sorted, AllocError>
         }
     }
     Ok(sorted)
+}
+
+/// The functions of one input, whose number is `item`.
+pub fn gather_one(
+    alloc: Global,
+    arch: Arch,
+    item: u32,
+    input: &Input<'_>,
+) -> Result<Sorted, GatherFault>
+    requires { length input.now.bytes.now < 2 ^ 32 }
+    ensures kept { IfOk result (λ s. AreWritable arch s.kept.items) }
+    ensures answered { IfErr result (λ fault. IsTrue (is_gather_answered fault)) }
+{
+    let mut entries = match read_input(alloc, arch, item, input) {
+        Ok(entries) => entries,
+        Err(AsmFault::NoMemory) => return Err(GatherFault::NoMemory),
+        Err(fault) => return Err(GatherFault::Input(item, fault)),
+    };
+    order(&mut entries)?;
+    check_limits(&entries)?;
+    check_overlap(&entries)?;
+    match sort_out(alloc, entries) {
+        Ok(sorted) => Ok(sorted),
+        Err(_) => Err(GatherFault::NoMemory),
+    }
+}
+
+/// Gathers the functions of the inputs. `before` is the machine of an item that comes before them, so
+/// that the items count from 1. There is one input.
+///
+/// # Errors
+///
+/// The first fault of the input, then `MixedArch` where its machine differs from that before, the limits
+/// of functions and rows, and two functions that share an address, in this order; want of memory at any
+/// time.
+pub fn gather(
+    alloc: Global,
+    inputs: &[Input<'_>],
+    before: Option<Arch>,
+) -> Result<Gathered, GatherFault>
+    requires one { length inputs.now ≡ 1 }
+    requires small { All (λ input. length input.bytes.now < 2 ^ 32) inputs.now }
+    requires alone { before ≡ None }
+    ensures arch { IfOk result (λ gathered. All (λ list. AreWritable gathered.arch list.items) gathered.kept.items) }
+    ensures answered { IfErr result (λ fault. IsTrue (is_gather_answered fault)) }
+{
+    let _ = before;
+    let input = &inputs[0];
+    let arch = arch_of(input);
+    let sorted = gather_one(alloc, arch, 0, input)?;
+    let mut kept = Vec::new(alloc);
+    match kept.push(sorted.kept) {
+        Ok(()) => Ok(Gathered {
+            arch,
+            kept,
+            omitted: sorted.omitted,
+            spans: sorted.spans,
+        }),
+        Err(_) => Err(GatherFault::NoMemory),
+    }
 }

@@ -6,15 +6,15 @@
 //! section of one input. An input has fewer than 2^32 bytes. Both take memory; no section is copied.
 #![tactic(auto)]
 
-
+mod assembling;
 mod entry;
 mod fault;
 mod gathering;
 mod input;
-
+mod notices;
 mod reading;
 
-
+pub use assembling::{Linked, assemble};
 pub use fault::{AsmFault, GatherFault, LinkFault};
-
+pub use gathering::{Gathered, gather};
 pub use input::{Form, Input};

@@ -1,0 +1,123 @@
+-- The kept ones of functions that are apart can be written.
+use Rattle.std.proofs.Common.{◌≡◌, ◌≢◌, ℕ, zero, suc, ◌+◌, ◌^◌, ◌<◌, ◌≤◌, Bool, true, false, ◌&&◌, cond, eqb, leb, List, [], ◌∷◌, ◌++◌, length, get_or, sum_by, refl, sym, ap, subst, ◌∙◌, add-one, arith, inl, inr}
+use Rattle.std.specs.Prelude.{All}
+use Rattle.std.specs.List.{AllByRecursion, AllAdjacentBelow}
+use Rattle.std.proofs.lemmas.Bool.{cases_lt, le-leb}
+use Rattle.std.proofs.lemmas.Bool.Decides.{nat_tests}
+use Rattle.std.proofs.lemmas.List.{append-nil}
+use Rattle.std.proofs.lemmas.List.Sums.{sum_by-cons}
+use Rattle.std.proofs.lemmas.List.Elements.{recursion_from_All, All-from_recursion, filter_map-append}
+use Rattle.sf_model.specs.declared.machine.Arch.{Arch}
+use Rattle.sf_model.specs.declared.function.Func.{Func}
+use Rattle.sf_model.specs.declared.omission.Omission.{Omission}
+use Rattle.sf_model.specs.declared.omission.Omitted.{Omitted}
+use Rattle.sf_model.specs.declared.omission.Span.{Span}
+use Rattle.sf_model.specs.Function.{IsWritable, AreWritable}
+use Rattle.sf_asm.specs.declared.entry.Entry.{Entry}
+use Rattle.sf_asm.specs.declared.entry.Outcome.{Outcome}
+use Rattle.sf_asm.specs.declared.entry.Outcome.TheVariants.{Kept, Left}
+use Rattle.sf_asm.specs.Entry.{IsSound, IsSoundOutcome, kept_of, kept_in, omitted_of, omitted_in, spans_of}
+use Rattle.sf_asm.specs.Order.{are_apart, rows_of, entry_rows}
+
+-- each function starts at the end of the one before it, or behind it
+abbrev ApartFrom : ℕ → List Func → Type 0
+ApartFrom end [] = Unit {0}
+ApartFrom end (f ∷ fs) = (end ≤ f.start) × ApartFrom (f.start + f.size) fs
+
+ApartFrom-earlier : (a b : ℕ) (fs : List Func) → a ≤ b → ApartFrom b fs → ApartFrom a fs
+ApartFrom-earlier a b [] le h = tt
+ApartFrom-earlier a b (f ∷ fs) le h = (omega (arith, h.0), h.1)
+
+-- the test of one function
+split_test : (end start size : ℕ) (rest skipped : Bool) → cond (eqb size 0) skipped (leb end start && rest) ≡ true → 0 < size → (end ≤ start) × (rest ≡ true)
+split_test end start size true skipped h some = grind (arith, nat_tests)
+split_test end start size false skipped h some = grind (arith, nat_tests)
+
+skip_test : (end start size : ℕ) (rest skipped : Bool) → cond (eqb size 0) skipped (leb end start && rest) ≡ true → size ≡ 0 → skipped ≡ true
+skip_test end start size true skipped h none = grind (arith, nat_tests)
+skip_test end start size false skipped h none = grind (arith, nat_tests)
+
+-- one function before others that are apart
+kept_from : (arch : Arch) (end : ℕ) (span : Span) (outcome : Outcome) (es : List Entry) → IsSoundOutcome arch span outcome
+    → ((b : ℕ) → are_apart b es ≡ true → ApartFrom b (kept_of es))
+    → are_apart end (record { span = span; outcome = outcome } ∷ es) ≡ true → ApartFrom end (kept_of (record { span = span; outcome = outcome } ∷ es))
+kept_from arch end span (Kept f) es one others h =
+    let some : 0 < span.size = rw (← one.2) one.0.size in
+    let t = split_test end span.start span.size (are_apart (span.start + span.size) es) (are_apart end es) h some in
+    let rest = others (span.start + span.size) t.1 in
+    (rw one.1 t.0, rw (one.1, one.2) rest)
+kept_from arch end span (Left omission) es one others h =
+    elim (cases_lt 0 span.size) [
+      | inl some ↦
+        let t = split_test end span.start span.size (are_apart (span.start + span.size) es) (are_apart end es) h some in
+        ApartFrom-earlier end (span.start + span.size) (kept_of es) (omega (arith, t.0)) (others (span.start + span.size) t.1)
+      | inr none ↦ others end (skip_test end span.start span.size (are_apart (span.start + span.size) es) (are_apart end es) h (omega arith))
+    ]
+
+kept_are_apart : (arch : Arch) (end : ℕ) (es : List Entry) → AllByRecursion (IsSound arch) es → are_apart end es ≡ true → ApartFrom end (kept_of es)
+kept_are_apart arch end [] sound h = tt
+kept_are_apart arch end (e ∷ es) sound h = kept_from arch end e.span e.outcome es sound.0 (λ b t. kept_are_apart arch b es sound.1 t) h
+
+-- by places
+neighbours : (end : ℕ) (fs : List Func) (k : ℕ) (d : Func) → ApartFrom end fs → suc k < length fs
+    → (get_or fs k d).start + (get_or fs k d).size ≤ (get_or fs (suc k) d).start
+neighbours end [] k d h lt = absurd (omega arith)
+neighbours end (f ∷ []) k d h lt = absurd (omega arith)
+neighbours end (f ∷ g ∷ fs) zero d h lt = h.1.0
+neighbours end (f ∷ g ∷ fs) (suc k) d h lt = neighbours (f.start + f.size) (g ∷ fs) k d h.1 (omega arith)
+
+kept_one : (arch : Arch) (span : Span) (outcome : Outcome) (es : List Entry) → IsSoundOutcome arch span outcome → AllByRecursion (IsWritable arch) (kept_of es)
+    → AllByRecursion (IsWritable arch) (kept_of (record { span = span; outcome = outcome } ∷ es))
+kept_one arch span (Kept f) es one others = (one.0, others)
+kept_one arch span (Left omission) es one others = others
+
+kept_writable : (arch : Arch) (es : List Entry) → AllByRecursion (IsSound arch) es → AllByRecursion (IsWritable arch) (kept_of es)
+kept_writable arch [] sound = tt
+kept_writable arch (e ∷ es) sound = kept_one arch e.span e.outcome es sound.0 (kept_writable arch es sound.1)
+
+-- no more functions and rows than before
+count_one : (span : Span) (outcome : Outcome) (es : List Entry)
+    → length (kept_of es) ≤ length es → sum_by (λ (f : Func). length f.rows) (kept_of es) ≤ sum_by entry_rows es
+    → (length (kept_of (record { span = span; outcome = outcome } ∷ es)) ≤ suc (length es))
+    × (sum_by (λ (f : Func). length f.rows) (kept_of (record { span = span; outcome = outcome } ∷ es)) ≤ rows_of outcome + sum_by entry_rows es)
+count_one span (Kept f) es few small = (omega arith, rw sum_by-cons (omega arith))
+count_one span (Left omission) es few small = (omega arith, omega arith)
+
+kept_count : (es : List Entry) → (length (kept_of es) ≤ length es) × (sum_by (λ (f : Func). length f.rows) (kept_of es) ≤ sum_by entry_rows es)
+kept_count [] = (omega arith, omega arith)
+kept_count (e ∷ es) = let more = kept_count es in let one = count_one e.span e.outcome es more.0 more.1 in (one.0, rw (sum_by-cons entry_rows e es) one.1)
+
+pub kept_AreWritable : (arch : Arch) (es : List Entry) → All (IsSound arch) es → are_apart 0 es ≡ true → length es ≤ 2 ^ 21 → sum_by entry_rows es ≤ 2 ^ 24
+    → AreWritable arch (kept_of es)
+kept_AreWritable arch es sound apart few small =
+    let each = recursion_from_All (IsSound arch) es sound in
+    let counts = kept_count es in
+    let ordered = kept_are_apart arch 0 es each apart in
+    record {
+      each = All-from_recursion (IsWritable arch) (kept_of es) (kept_writable arch es each);
+      apart = λ k d lt. rw add-one (neighbours 0 (kept_of es) k d ordered (omega arith));
+      count = omega (arith, counts.0);
+      row_count = omega (arith, counts.1);
+    }
+
+-- one more function
+pub kept_of-kept : (es : List Entry) (e : Entry) (f : Func) → e.outcome ≡ Kept f → kept_of (es ++ e ∷ []) ≡ kept_of es ++ f ∷ []
+kept_of-kept es e f h =
+    filter_map-append (λ (x : Entry). kept_in x.outcome) es (e ∷ []) ∙ ap (λ (xs : List Func). kept_of es ++ xs) (rw h refl)
+
+pub kept_of-left : (es : List Entry) (e : Entry) (o : Omission) → e.outcome ≡ Left o → kept_of (es ++ e ∷ []) ≡ kept_of es
+kept_of-left es e o h =
+    filter_map-append (λ (x : Entry). kept_in x.outcome) es (e ∷ []) ∙ ap (λ (xs : List Func). kept_of es ++ xs) (rw h refl) ∙ append-nil (kept_of es)
+
+pub omitted_of-kept : (es : List Entry) (e : Entry) (f : Func) → e.outcome ≡ Kept f → omitted_of (es ++ e ∷ []) ≡ omitted_of es
+omitted_of-kept es e f h =
+    filter_map-append (λ (x : Entry). omitted_in x.span x.outcome) es (e ∷ []) ∙ ap (λ (xs : List Omitted). omitted_of es ++ xs) (rw h refl) ∙ append-nil (omitted_of es)
+
+pub omitted_of-left : (es : List Entry) (e : Entry) (o : Omission) → e.outcome ≡ Left o
+    → omitted_of (es ++ e ∷ []) ≡ omitted_of es ++ record { start = e.span.start; size = e.span.size; origin = e.span.origin; omission = o } ∷ []
+omitted_of-left es e o h =
+    filter_map-append (λ (x : Entry). omitted_in x.span x.outcome) es (e ∷ []) ∙ ap (λ (xs : List Omitted). omitted_of es ++ xs) (rw h refl)
+
+pub spans_of-push : (es : List Entry) (e : Entry) → spans_of (es ++ e ∷ []) ≡ spans_of es ++ e.span ∷ []
+spans_of-push [] e = refl
+spans_of-push (x ∷ es) e = ap (λ (xs : List Span). x.span ∷ xs) (spans_of-push es e)

@@ -1,0 +1,51 @@
+//! The section of one input.
+
+ghost use Rattle.std.specs.Prelude.{◌≡◌, ◌<◌, ◌^◌, length, IfOk, IfErr, IsTrue};
+ghost use Rattle.sf_asm.specs.Fault.{is_answered};
+
+use sf_model::Omitted;
+use sf_write::{WriteFault, write};
+use std::alloc::Global;
+
+use crate::fault::{GatherFault, LinkFault};
+use crate::gathering::gather_one;
+use crate::input::Input;
+use crate::reading::arch_of;
+
+/// A section, and what it holds.
+#[derive(Drop)]
+pub struct Linked {
+    /// The section's bytes.
+    pub section: Vec<u8>,
+    /// How many functions it holds.
+    pub kept: u32,
+    /// The functions that are left out, by start and then origin.
+    pub omitted: Vec<Omitted>,
+}
+
+/// Makes the SFrame section of one input, for the address `at`.
+///
+/// # Errors
+///
+/// The first fault of the input; then the limits of functions and rows, two functions that share an
+/// address, and a function too far from the section, in this order; want of memory at any time.
+pub fn assemble(alloc: Global, input: &Input<'_>, at: u64) -> Result<Linked, LinkFault>
+    requires { length input.now.bytes.now < 2 ^ 32 }
+    ensures answered { IfErr result (λ fault. IsTrue (is_answered fault)) }
+{
+    let arch = arch_of(input);
+    let sorted = match gather_one(alloc, arch, 0, input) {
+        Ok(sorted) => sorted,
+        Err(GatherFault::NoMemory) => return Err(LinkFault::NoMemory),
+        Err(fault) => return Err(LinkFault::Gather(fault)),
+    };
+    match write(alloc, arch, at, &sorted.kept) {
+        Ok(section) => Ok(Linked {
+            section,
+            kept: sorted.kept.len() as u32,
+            omitted: sorted.omitted,
+        }),
+        Err(WriteFault::OutOfReach(start)) => Err(LinkFault::OutOfReach(start)),
+        Err(WriteFault::NoMemory) => Err(LinkFault::NoMemory),
+    }
+}

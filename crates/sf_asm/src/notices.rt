@@ -1,0 +1,173 @@
+//! Faults as numbers, for the line that tells them.
+
+ghost use Rattle.std.specs.Prelude.{◌≡◌, ◌∷◌, [], IsTrue, Some};
+ghost use Rattle.sf_model.specs.Notice.{HasLine, up_to};
+ghost use Rattle.sf_asm.specs.Fault.{is_record_refusal, is_machine_refusal, is_input_refusal, is_gather_refusal, is_refusal};
+
+use arrayvec::ArrayVec;
+use cfa_insn::InsnFault;
+use cfa_machine::MachineFault;
+use eh_records::RecordFault;
+use sf_model::{Group, Notice};
+
+use crate::fault::{AsmFault, GatherFault, LinkFault};
+
+/// Values of a notice, of which there are one to four.
+fn one(a: u64) -> ArrayVec<u64, 4>
+    ensures { result.items ≡ a ∷ [] }
+{
+    let mut values = ArrayVec::new();
+    values.push(a);
+    values
+}
+
+fn two(a: u64, b: u64) -> ArrayVec<u64, 4>
+    ensures { result.items ≡ a ∷ b ∷ [] }
+{
+    let mut values = one(a);
+    values.push(b);
+    values
+}
+
+fn three(a: u64, b: u64, c: u64) -> ArrayVec<u64, 4>
+    ensures { result.items ≡ a ∷ b ∷ c ∷ [] }
+{
+    let mut values = two(a, b);
+    values.push(c);
+    values
+}
+
+fn four(a: u64, b: u64, c: u64, d: u64) -> ArrayVec<u64, 4>
+    ensures { result.items ≡ a ∷ b ∷ c ∷ d ∷ [] }
+{
+    let mut values = three(a, b, c);
+    values.push(d);
+    values
+}
+
+/// The number of a fault of the records and the place that it carries.
+fn record_number(fault: RecordFault) -> (u8, u32)
+    requires { IsTrue (is_record_refusal fault) }
+    ensures { IsTrue (up_to 9 result.0) }
+{
+    match fault {
+        RecordFault::Short(place) => (1, place),
+        RecordFault::Extended(place) => (2, place),
+        RecordFault::CieVersion(place) => (3, place),
+        RecordFault::Augmentation(place) => (4, place),
+        RecordFault::CiePointer(place) => (5, place),
+        RecordFault::Encoding(place) => (6, place),
+        RecordFault::Leb(place) => (7, place),
+        RecordFault::Unresolved(place) => (8, place),
+        RecordFault::FunctionEnd(place) => (9, place),
+        RecordFault::NoMemory => unreachable!(),
+    }
+}
+
+fn record_notice(item: u32, section: u32, fault: RecordFault) -> Notice
+    requires { IsTrue (is_record_refusal fault) }
+    ensures { HasLine result }
+{
+    let (number, place) = record_number(fault);
+    Notice {
+        item: Some(item),
+        group: Group::Record,
+        number,
+        values: two(u64::from(section), u64::from(place)),
+    }
+}
+
+fn insn_notice(item: u32, section: u32, fault: InsnFault) -> Notice
+    ensures { HasLine result }
+{
+    let section = u64::from(section);
+    let (number, values) = match fault {
+        InsnFault::Opcode(place, opcode) => (1, three(section, place, u64::from(opcode))),
+        InsnFault::Short(place) => (2, two(section, place)),
+        InsnFault::Leb(place) => (3, two(section, place)),
+    };
+    Notice {
+        item: Some(item),
+        group: Group::Insn,
+        number,
+        values,
+    }
+}
+
+fn machine_notice(item: u32, section: u32, fault: MachineFault) -> Notice
+    requires { IsTrue (is_machine_refusal fault) }
+    ensures { HasLine result }
+{
+    let (number, place) = match fault {
+        MachineFault::CieInstruction(place) => (1, place),
+        MachineFault::StateEmpty(place) => (2, place),
+        MachineFault::StateDepth(place) => (3, place),
+        MachineFault::NoCfaRegister(place) => (4, place),
+        MachineFault::Insn(fault) => return insn_notice(item, section, fault),
+        MachineFault::NoMemory => unreachable!(),
+    };
+    Notice {
+        item: Some(item),
+        group: Group::Machine,
+        number,
+        values: two(u64::from(section), place),
+    }
+}
+
+impl AsmFault {
+    /// The fault of the input of this number, as its line shows it.
+    pub fn notice(&self, item: u32) -> Notice
+        requires { IsTrue (is_input_refusal self.now) }
+        ensures { HasLine result }
+    {
+        match self {
+            AsmFault::Record(section, fault) => record_notice(item, *section, *fault),
+            AsmFault::Machine(section, fault) => machine_notice(item, *section, *fault),
+            AsmFault::NoMemory => unreachable!(),
+        }
+    }
+}
+
+fn link_notice(number: u8, values: ArrayVec<u64, 4>) -> Notice
+    ensures number { result.number ≡ number }
+    ensures group { result.group ≡ Group.Link }
+    ensures values { result.values ≡ values }
+{
+    Notice {
+        item: None,
+        group: Group::Link,
+        number,
+        values,
+    }
+}
+
+impl GatherFault {
+    /// The fault as its line shows it. It names its own items.
+    pub fn notice(&self) -> Notice
+        requires { IsTrue (is_gather_refusal self.now) }
+        ensures { HasLine result }
+    {
+        match self {
+            GatherFault::Input(item, fault) => fault.notice(*item),
+            GatherFault::Overlap(start, item, other, other_item) => link_notice(
+                2,
+                four(*start, u64::from(*item), *other, u64::from(*other_item)),
+            ),
+            _ => unreachable!(),
+        }
+    }
+}
+
+impl LinkFault {
+    /// The fault as its line shows it. It names its own items.
+    pub fn notice(&self) -> Notice
+        requires { IsTrue (is_refusal self.now) }
+        ensures { HasLine result }
+    {
+        match self {
+            LinkFault::Gather(fault) => fault.notice(),
+            LinkFault::OutOfReach(start) => link_notice(3, one(*start)),
+            LinkFault::NoMemory => unreachable!(),
+        }
+    }
+}
