@@ -1,5 +1,5 @@
 -- What a read puts behind the bytes that are there.
-use Rattle.std.proofs.Common.{◌≡◌, ◌≤◌, ◌<◌, ◌+◌, ◌-◌, ◌∙◌, ◌++◌, ◌∷◌, [], List, ℕ, min, take, drop, ⊎_elim, length, refl, sym, ap, append_assoc, arith, length-append, length-take}
+use Rattle.std.proofs.Common.{◌≡◌, ◌≤◌, ◌<◌, ◌+◌, ◌-◌, ◌∙◌, ◌++◌, ◌∷◌, [], List, ℕ, min, take, drop, ⊎_elim, length, refl, sym, ap, append_assoc, arith, length-append}
 use Rattle.std.proofs.lemmas.List.{take-append-le, take-take, take_all, take_at}
 use Rattle.std.proofs.Math.Seq.{take-append-add}
 use Rattle.std.proofs.lemmas.Bool.{cases_lt}
@@ -20,22 +20,22 @@ front_is f e old slice zs is long below =
     let whole : length old ≤ e = omega arith in
     ap (λ xs. take f xs) (is ∙ ap (λ xs. xs ++ zs) (take_all e old whole)) ∙ take_at old zs f (sym long)
 
-pub moved_behind : (f n e l : ℕ) (old slice tail post ys zs final rest left : List ℕ) → final ≡ take (f + n) (take l ((take f slice ++ (tail ++ post)) ++ ys))
-    → slice ≡ take e old ++ zs → f ≡ length old → f ≤ e → n ≤ length tail → f + n ≤ l → Moves n rest left tail → old ++ rest ≡ final ++ left
-moved_behind f n e l old slice tail post ys zs final rest left final_is is long below short room moves =
-    let front = front_is f e old slice zs is long below in
+pub moved_behind : (f n e l : ℕ) (old slice resized tail post ys zs final rest left : List ℕ) → final ≡ take (f + n) (take l ((take f slice ++ (tail ++ post)) ++ ys))
+    → slice ≡ resized → resized ≡ take e old ++ zs → f ≡ length old → f ≤ e → n ≤ length tail → f + n ≤ l → Moves n rest left tail → old ++ rest ≡ final ++ left
+moved_behind f n e l old slice resized tail post ys zs final rest left final_is lent is long below short room moves =
+    let front = front_is f e old slice zs (lent ∙ is) long below in
     let long_front : length (take f slice) ≡ f = ap length front ∙ sym long in
     let fits : f + n ≤ length (take f slice ++ (tail ++ post)) = simp length-append (omega arith) in
     let a : final ≡ old ++ take n tail = final_is ∙ (front_kept (f + n) l (take f slice ++ (tail ++ post)) ys fits room
-      ∙ (behind f n (take f slice) tail post long_front short ∙ ap (λ xs. xs ++ take n tail) front)) in
+    ∙ (behind f n (take f slice) tail post long_front short ∙ ap (λ xs. xs ++ take n tail) front)) in
     ap (λ xs. old ++ xs) moves.moved ∙ (sym (append_assoc old (take n tail) left) ∙ ap (λ xs. xs ++ left) (sym a))
 
 drop_capped : (d : ℕ) (xs : List ℕ) → drop (min d (length xs)) xs ≡ drop d xs
 drop_capped d xs = ⊎_elim
     (λ less. let e : min d (length xs) ≡ d = omega arith in ap (λ n. drop n xs) e)
     (λ past. let e : min d (length xs) ≡ length xs = omega arith in
-      let all : length xs ≤ length xs = omega arith in
-      ap (λ n. drop n xs) e ∙ (drop_of_length-le xs all ∙ sym (drop_of_length-le xs past)))
+    let all : length xs ≤ length xs = omega arith in
+    ap (λ n. drop n xs) e ∙ (drop_of_length-le xs all ∙ sym (drop_of_length-le xs past)))
     (cases_lt d (length xs))
 
 -- what is left, where more may have been read than there is
@@ -50,6 +50,6 @@ nothing_left (x ∷ xs) short = absurd (omega arith)
 pub moves_on : (n d : ℕ) (bytes buffer : List ℕ) (room most : ℕ) → n ≡ min (min (length (drop d bytes)) room) most → take n buffer ≡ take n (drop d bytes) → 0 < room → 0 < most
     → Moves n (drop d bytes) (drop (d + n) bytes) buffer
 moves_on n d bytes buffer room most count copied some_room some_most = record {
-    moved = sym (ap (λ xs. xs ++ drop (d + n) bytes) copied ∙ (ap (λ xs. take n (drop d bytes) ++ xs) (sym (drop-drop n d bytes)) ∙ take-append-drop n (drop d bytes)));
-    end = λ none. let zero_left : length (drop d bytes) ≤ 0 = omega arith in nothing_left (drop d bytes) zero_left;
-  }
+  moved = sym (ap (λ xs. xs ++ drop (d + n) bytes) copied ∙ (ap (λ xs. take n (drop d bytes) ++ xs) (sym (drop-drop n d bytes)) ∙ take-append-drop n (drop d bytes)));
+  end = λ none. let zero_left : length (drop d bytes) ≤ 0 = omega arith in nothing_left (drop d bytes) zero_left;
+}

@@ -1,5 +1,5 @@
 -- One call after the other: what the outside held before the first is related to what it holds after the last.
-use Rattle.std.proofs.Common.{◌≡◌, ◌≢◌, ◌++◌, ◌∷◌, ◌+◌, ◌-◌, ◌∙◌, ℕ, List, [], Option, Some, None, take, drop, length, refl, sym, ap, subst, append_assoc}
+use Rattle.std.proofs.Common.{◌≡◌, ◌++◌, ◌∷◌, ◌+◌, ◌-◌, ◌∙◌, ℕ, List, [], Option, Some, None, take, drop, length, refl, sym, ap, subst, append_assoc}
 use Rattle.std.proofs.lemmas.List.{take_rest}
 use Rattle.std.proofs.Math.Seq.{take-add}
 use Rattle.sf_base.specs.Told.{OnTold}
@@ -45,9 +45,9 @@ some_appended before after n bytes told = told_weaker before after _ _ told (λ 
 -- the name holds these bytes, and then it grows
 pub changes_then : (name xs ys : List ℕ) (a b c : List (List ℕ × List ℕ)) → Changes name xs a b → Changes name (contents_of b name ++ ys) b c → Changes name (xs ++ ys) a c
 changes_then name xs ys a b c first second = record {
-    named = second.named ∙ ap (λ zs. zs ++ ys) first.named;
-    others = λ other apart. second.others other apart ∙ first.others other apart;
-  }
+  named = second.named ∙ ap (λ zs. zs ++ ys) first.named;
+  others = λ other apart. second.others other apart ∙ first.others other apart;
+}
 
 pub holds_then : (before mid after : Option (List (List ℕ × List ℕ))) (name xs ys : List ℕ) → Holds before mid name xs → Grows mid after name ys → Holds before after name (xs ++ ys)
 holds_then before mid after name xs ys first second = told_then before mid after _ _ _ first second (changes_then name xs ys)
@@ -70,9 +70,9 @@ grows_then before mid after name xs ys first second = told_then before mid after
 
 pub grown_unchanged : (before mid after : Option (List (List ℕ × List ℕ))) (name xs : List ℕ) → Grows before mid name xs → Unchanged mid after → Grows before after name xs
 grown_unchanged before mid after name xs first second = told_then before mid after _ _ _ first second (λ a b c p q. record {
-    named = q name ∙ p.named;
-    others = λ other apart. q other ∙ p.others other apart;
-  })
+  named = q name ∙ p.named;
+  others = λ other apart. q other ∙ p.others other apart;
+})
 
 pub some_grown : (before after : Option (List (List ℕ × List ℕ))) (n : ℕ) (name bytes : List ℕ) → Grows before after name (take n bytes) → GrowsByPrefix before after name bytes
 some_grown before after n name bytes told = told_weaker before after _ _ told (λ a b p. (n, p))

@@ -25,7 +25,7 @@ from_place [] name i = refl
 from_place (file ∷ files) name i =
     let rest = from_place files name (i + 1) ∙ shifted i (place_of (pairs_of files) name) in
     elim (bytes_eq (string_bytes file.0) name) as (λ b. cond b (Some i) (position_from (λ (f : Stored). bytes_eq (string_bytes f.0) name) (i + 1) files) ≡ option_map (λ k. i + k) (cond b (Some 0) (option_map (λ k. suc k) (place_of (pairs_of files) name))))
-      [ true ↦ (let e : i ≡ i + 0 = omega arith in ap (λ n. Some n) e) | false ↦ rest ]
+    [ true ↦ (let e : i ≡ i + 0 = omega arith in ap (λ n. Some n) e) | false ↦ rest ]
 
 whole : (found : Option ℕ) → option_map (λ k. 0 + k) found ≡ found
 whole None = refl
@@ -60,15 +60,15 @@ pub found_below : (files : List Stored) (name : List ℕ) (k : ℕ) → place_of
 found_below [] name k h = absurd (cc)
 found_below (file ∷ files) name k h =
     ⊎_elim (λ first. omega arith)
-      (λ later. let below : later.1.0 < length files = found_below files name later.1.0 later.1.1.0 in omega arith)
-      (place_cases (bytes_eq (string_bytes file.0) name) (place_of (pairs_of files) name) k h)
+    (λ later. let below : later.1.0 < length files = found_below files name later.1.0 later.1.1.0 in omega arith)
+    (place_cases (bytes_eq (string_bytes file.0) name) (place_of (pairs_of files) name) k h)
 
 pub found_has : (files : List Stored) (name : List ℕ) (k : ℕ) → place_of (pairs_of files) name ≡ Some k → has_name (pairs_of files) name ≡ true
 found_has [] name k h = absurd (cc)
 found_has (file ∷ files) name k h =
     ⊎_elim (λ first. rw first.0)
-      (λ later. rw later.0 (found_has files name later.1.0 later.1.1.0))
-      (place_cases (bytes_eq (string_bytes file.0) name) (place_of (pairs_of files) name) k h)
+    (λ later. rw later.0 (found_has files name later.1.0 later.1.1.0))
+    (place_cases (bytes_eq (string_bytes file.0) name) (place_of (pairs_of files) name) k h)
 
 pub absent_has : (files : List Stored) (name : List ℕ) → place_of (pairs_of files) name ≡ None → has_name (pairs_of files) name ≡ false
 absent_has [] name h = refl
@@ -86,15 +86,15 @@ pub found_bytes : (files : List Stored) (name : List ℕ) (k : ℕ) (d : Stored)
 found_bytes [] name k d h = absurd (cc)
 found_bytes (file ∷ files) name k d h =
     ⊎_elim (λ first. rw (first.1, first.0))
-      (λ later. rw (later.1.1.1, later.0) (found_bytes files name later.1.0 d later.1.1.0))
-      (place_cases (bytes_eq (string_bytes file.0) name) (place_of (pairs_of files) name) k h)
+    (λ later. rw (later.1.1.1, later.0) (found_bytes files name later.1.0 d later.1.1.0))
+    (place_cases (bytes_eq (string_bytes file.0) name) (place_of (pairs_of files) name) k h)
 
 pub found_name : (files : List Stored) (name : List ℕ) (k : ℕ) (d : Stored) → place_of (pairs_of files) name ≡ Some k → string_bytes (get_or files k d).0 ≡ name
 found_name [] name k d h = absurd (cc)
 found_name (file ∷ files) name k d h =
     ⊎_elim (λ first. rw first.1 (same_text (string_bytes file.0) name first.0))
-      (λ later. rw later.1.1.1 (found_name files name later.1.0 d later.1.1.0))
-      (place_cases (bytes_eq (string_bytes file.0) name) (place_of (pairs_of files) name) k h)
+    (λ later. rw later.1.1.1 (found_name files name later.1.0 d later.1.1.0))
+    (place_cases (bytes_eq (string_bytes file.0) name) (place_of (pairs_of files) name) k h)
 
 -- a name is that of the file at its place
 pub name_is : (files : List Stored) (k : ℕ) (d : Stored) → k < length files → string_bytes (get_or files k d).0 ≡ name_at (pairs_of files) k
@@ -121,8 +121,8 @@ pub set_there : (files : List Stored) (name : List ℕ) (k : ℕ) (file : Stored
 set_there [] name k new h same = absurd (cc)
 set_there (file ∷ files) name k new h same =
     ⊎_elim (λ first. let e : string_bytes new.0 ≡ string_bytes file.0 = rw first.1 at same in rw (first.1, first.0) (ap (λ n. (n, new.1.items) ∷ pairs_of files) e))
-      (λ later. let e : string_bytes new.0 ≡ name_at (pairs_of files) later.1.0 = rw later.1.1.1 at same in rw (later.1.1.1, later.0) (ap (λ rest. (string_bytes file.0, file.1.items) ∷ rest) (set_there files name later.1.0 new later.1.1.0 e)))
-      (place_cases (bytes_eq (string_bytes file.0) name) (place_of (pairs_of files) name) k h)
+    (λ later. let e : string_bytes new.0 ≡ name_at (pairs_of files) later.1.0 = rw later.1.1.1 at same in rw (later.1.1.1, later.0) (ap (λ rest. (string_bytes file.0, file.1.items) ∷ rest) (set_there files name later.1.0 new later.1.1.0 e)))
+    (place_cases (bytes_eq (string_bytes file.0) name) (place_of (pairs_of files) name) k h)
 
 -- a file more at the end
 pub pushed_there : (files : List Stored) (name : List ℕ) (new : Stored) → place_of (pairs_of files) name ≡ None → string_bytes new.0 ≡ name
@@ -148,14 +148,14 @@ holds_there : (files : List (List ℕ × List ℕ)) (name bytes : List ℕ) → 
 holds_there [] name bytes = rw (itself name)
 holds_there (file ∷ files) name bytes =
     ⊎_elim (λ yes. let e : bytes_eq file.0 name ≡ true = yes in simp e)
-      (λ no. let e : bytes_eq file.0 name ≡ false = no in simp e (holds_there files name bytes)) (which (bytes_eq file.0 name))
+    (λ no. let e : bytes_eq file.0 name ≡ false = no in simp e (holds_there files name bytes)) (which (bytes_eq file.0 name))
 
 holds_else : (files : List (List ℕ × List ℕ)) (name bytes other : List ℕ) → other ≢ name → contents_of (with_file files name bytes) other ≡ contents_of files other
 holds_else [] name bytes other ne = rw (not_other name name other (itself name) ne)
 holds_else (file ∷ files) name bytes other ne =
     ⊎_elim (λ yes. let no : bytes_eq file.0 other ≡ false = not_other file.0 name other yes ne in let e : bytes_eq file.0 name ≡ true = yes in simp (e, no))
-      (λ no. let e : bytes_eq file.0 name ≡ false = no in simp e (ap (λ rest. cond (bytes_eq file.0 other) file.1 rest) (holds_else files name bytes other ne)))
-      (which (bytes_eq file.0 name))
+    (λ no. let e : bytes_eq file.0 name ≡ false = no in simp e (ap (λ rest. cond (bytes_eq file.0 other) file.1 rest) (holds_else files name bytes other ne)))
+    (which (bytes_eq file.0 name))
 
 -- only the name's contents change
 pub file_changes : (files : List (List ℕ × List ℕ)) (name bytes : List ℕ) → Changes name bytes files (with_file files name bytes)
@@ -207,8 +207,8 @@ pub found_there : (files : List (List ℕ × List ℕ)) (name : List ℕ) (k : �
 found_there [] name k h = absurd (cc)
 found_there (file ∷ files) name k h =
     ⊎_elim (λ first. rw (first.1, first.0))
-      (λ later. rw (later.1.1.1, later.0) (found_there files name later.1.0 later.1.1.0))
-      (place_cases (bytes_eq file.0 name) (place_of files name) k h)
+    (λ later. rw (later.1.1.1, later.0) (found_there files name later.1.0 later.1.1.0))
+    (place_cases (bytes_eq file.0 name) (place_of files name) k h)
 
 -- the bytes at a place are those of the file there
 pub bytes_is : (files : List Stored) (k : ℕ) (d : Stored) → k < length files → (get_or files k d).1.items ≡ bytes_at (pairs_of files) k
@@ -223,7 +223,7 @@ name_kept (file ∷ files) name bytes zero below = elim (bytes_eq (string_bytes 
 name_kept (file ∷ files) name bytes (suc k) below =
     let smaller : k < length files = omega arith in
     elim (bytes_eq (string_bytes file.0) name) as (λ b. name_at (cond b ((string_bytes file.0, bytes) ∷ pairs_of files) ((string_bytes file.0, file.1.items) ∷ with_file (pairs_of files) name bytes)) (suc k) ≡ name_at (pairs_of files) k)
-      [ true ↦ refl | false ↦ name_kept files name bytes k smaller ]
+    [ true ↦ refl | false ↦ name_kept files name bytes k smaller ]
 
 pub on_ok : {T E : Type 0} (r : Result T E) (P Q : Type 0) → (P → Q) → OnOk r P → OnOk r Q
 on_ok (Ok x) P Q step h = step h
@@ -252,14 +252,14 @@ has_there : (files : List (List ℕ × List ℕ)) (name bytes : List ℕ) → ha
 has_there [] name bytes = ap (λ b. b || false) (itself name)
 has_there (file ∷ files) name bytes =
     ⊎_elim (λ yes. let e : bytes_eq file.0 name ≡ true = yes in simp e)
-      (λ no. let e : bytes_eq file.0 name ≡ false = no in simp e (has_there files name bytes)) (which (bytes_eq file.0 name))
+    (λ no. let e : bytes_eq file.0 name ≡ false = no in simp e (has_there files name bytes)) (which (bytes_eq file.0 name))
 
 has_else : (files : List (List ℕ × List ℕ)) (name bytes other : List ℕ) → other ≢ name → has_name (with_file files name bytes) other ≡ has_name files other
 has_else [] name bytes other ne = ap (λ b. b || false) (not_other name name other (itself name) ne)
 has_else (file ∷ files) name bytes other ne =
     ⊎_elim (λ yes. let e : bytes_eq file.0 name ≡ true = yes in simp e)
-      (λ no. let e : bytes_eq file.0 name ≡ false = no in simp e (ap (λ rest. bytes_eq file.0 other || rest) (has_else files name bytes other ne)))
-      (which (bytes_eq file.0 name))
+    (λ no. let e : bytes_eq file.0 name ≡ false = no in simp e (ap (λ rest. bytes_eq file.0 other || rest) (has_else files name bytes other ne)))
+    (which (bytes_eq file.0 name))
 
 -- only that name is added
 pub name_added : (files new : List (List ℕ × List ℕ)) (name bytes : List ℕ) → new ≡ with_file files name bytes → AddsName name files new

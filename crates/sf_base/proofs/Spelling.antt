@@ -1,12 +1,11 @@
 -- Digits and the numbers that they spell.
-use Rattle.std.proofs.Common.{◌≡◌, ◌≢◌, ◌⊎◌, ◌<◌, ◌≤◌, ◌+◌, ◌-◌, ◌*◌, ◌^◌, ◌∷◌, ◌∙◌, ℕ, Bool, true, false, cond, List, [], Option, Some, None, length, map, refl, sym, ap, inl, inr, ⊎_elim, arith, drop, get_or, ◌&&◌, nat_lt, nat_le}
+use Rattle.std.proofs.Common.{◌≡◌, ◌⊎◌, ◌<◌, ◌≤◌, ◌+◌, ◌-◌, ◌*◌, ◌^◌, ◌∷◌, ◌∙◌, ℕ, Bool, true, false, cond, List, Option, Some, None, length, refl, ap, inl, inr, ⊎_elim, arith, ◌&&◌, nat_lt, nat_le}
 use Prim.Native.Nat.{suc}
 use Rattle.std.specs.Option.{option_map, option_and_then}
 use Rattle.std.proofs.Math.Nat.{pow-le-pow_right, mul-le-mul_left}
 use Rattle.std.proofs.lemmas.Grind.{pow_more}
 use Rattle.std.proofs.lemmas.Bool.Decides.{nat_tests}
 use Rattle.std.proofs.lemmas.Bool.{cases_lt}
-use Rattle.std.proofs.Math.Seq.{drop-cons}
 use Rattle.sf_base.specs.Word.{spelled, digit_character, character_digit, text_digits}
 
 -- the number that digits spell behind those of a number
@@ -18,7 +17,7 @@ digit_more base number digit digits =
     let p : base ^ (length digits + 1) ≡ base ^ length digits * base = pow_more base (length digits) in
     let e : suc (length digits) ≡ length digits + 1 = omega arith in
     ap (λ k. number * base ^ k + (digit * base ^ length digits + spelled base digits)) e
-      ∙ (ap (λ q. number * q + (digit * base ^ length digits + spelled base digits)) p ∙ omega arith)
+    ∙ (ap (λ q. number * q + (digit * base ^ length digits + spelled base digits)) p ∙ omega arith)
 
 pub digits_more : (base number digit : ℕ) (found : Option (List ℕ)) → option_map (continued base number) (option_map (λ digits. digit ∷ digits) found) ≡ option_map (continued base (number * base + digit)) found
 digits_more base number digit None = refl
@@ -50,8 +49,8 @@ pub digits_step : (base number digit c : ℕ) (text : List ℕ) → character_di
     → option_map (continued base number) (text_digits base (c ∷ text)) ≡ option_map (continued base (number * base + digit)) (text_digits base text)
 digits_step base number digit c text is below =
     let e : text_digits base (c ∷ text) ≡ option_map (λ digits. digit ∷ digits) (text_digits base text)
-      = ap (λ o. option_and_then (λ d. cond (nat_lt d base) (option_map (λ digits. d ∷ digits) (text_digits base text)) None) o) is
-        ∙ ap (λ b. cond b (option_map (λ digits. digit ∷ digits) (text_digits base text)) None) (less_test digit base below) in
+    = ap (λ o. option_and_then (λ d. cond (nat_lt d base) (option_map (λ digits. d ∷ digits) (text_digits base text)) None) o) is
+    ∙ ap (λ b. cond b (option_map (λ digits. digit ∷ digits) (text_digits base text)) None) (less_test digit base below) in
     ap (λ o. option_map (continued base number) o) e ∙ digits_more base number digit (text_digits base text)
 
 pub tested : {A : Type 0} (b : Bool) (x : Option A) (a : A) → cond b None x ≡ Some a → (b ≡ false) × (x ≡ Some a)
@@ -108,17 +107,17 @@ character_is c digit h = digit_found c digit (nat_le 48 c && nat_le c 57) (nat_l
 pub digit_is : (digit : ℕ) → digit < 16 → character_digit (digit_character digit) ≡ Some digit
 digit_is digit below = ⊎_elim
     (λ small.
-      let low : 48 ≤ 48 + digit = omega arith in
-      let high : 48 + digit ≤ 57 = omega arith in
-      let e : 48 + digit - 48 ≡ digit = omega arith in
-      ap (λ c. character_digit c) (character_below digit small)
-        ∙ (ap (λ b. cond b (Some (48 + digit - 48)) (cond (nat_le 97 (48 + digit) && nat_le (48 + digit) 102) (Some (48 + digit - 87)) None)) (inside 48 57 (48 + digit) low high) ∙ ap (λ n. Some n) e))
+    let low : 48 ≤ 48 + digit = omega arith in
+    let high : 48 + digit ≤ 57 = omega arith in
+    let e : 48 + digit - 48 ≡ digit = omega arith in
+    ap (λ c. character_digit c) (character_below digit small)
+    ∙ (ap (λ b. cond b (Some (48 + digit - 48)) (cond (nat_le 97 (48 + digit) && nat_le (48 + digit) 102) (Some (48 + digit - 87)) None)) (inside 48 57 (48 + digit) low high) ∙ ap (λ n. Some n) e))
     (λ large.
-      let past : 57 < 87 + digit = omega arith in
-      let low : 97 ≤ 87 + digit = omega arith in
-      let high : 87 + digit ≤ 102 = omega arith in
-      let e : 87 + digit - 87 ≡ digit = omega arith in
-      ap (λ c. character_digit c) (character_above digit large)
-        ∙ (ap (λ b. cond b (Some (87 + digit - 48)) (cond (nat_le 97 (87 + digit) && nat_le (87 + digit) 102) (Some (87 + digit - 87)) None)) (outside 48 57 (87 + digit) (inr past))
-        ∙ (ap (λ b. cond b (Some (87 + digit - 87)) None) (inside 97 102 (87 + digit) low high) ∙ ap (λ n. Some n) e)))
+    let past : 57 < 87 + digit = omega arith in
+    let low : 97 ≤ 87 + digit = omega arith in
+    let high : 87 + digit ≤ 102 = omega arith in
+    let e : 87 + digit - 87 ≡ digit = omega arith in
+    ap (λ c. character_digit c) (character_above digit large)
+    ∙ (ap (λ b. cond b (Some (87 + digit - 48)) (cond (nat_le 97 (87 + digit) && nat_le (87 + digit) 102) (Some (87 + digit - 87)) None)) (outside 48 57 (87 + digit) (inr past))
+    ∙ (ap (λ b. cond b (Some (87 + digit - 87)) None) (inside 97 102 (87 + digit) low high) ∙ ap (λ n. Some n) e)))
     (cases_lt digit 10)

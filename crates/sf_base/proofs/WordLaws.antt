@@ -2,10 +2,10 @@
 use Rattle.std.proofs.Common.{◌≡◌, ◌≢◌, ◌⊎◌, ◌<◌, ◌≤◌, ◌+◌, ◌*◌, ◌^◌, ◌∷◌, ◌∙◌, ◌&&◌, ◌||◌, ◌==◌, ℕ, Bool, true, false, not, cond, List, [], Option, Some, None, length, map, refl, sym, ap, subst, inl, inr, ⊎_elim, arith, nat_lt}
 use Prim.Native.Nat.{zero, suc}
 use Rattle.std.specs.Option.{option_map, option_and_then}
-use Rattle.std.proofs.Math.Nat.{pow-le-pow_right, mul-le-mul_left}
+use Rattle.std.proofs.Math.Nat.{pow-le-pow_right}
 use Rattle.std.proofs.lemmas.Bool.Decides.{nat_tests}
 use Rattle.std.proofs.lemmas.Bool.{cases_lt}
-use Rattle.sf_base.specs.Word.{spelled, digit_character, character_digit, text_digits, AllBelow, IsHexadecimal, IsDecimal, SpellsHexadecimal, SpellsDecimal, hexadecimal, decimal_number}
+use Rattle.sf_base.specs.Word.{spelled, digit_character, character_digit, text_digits, AllBelow, SpellsHexadecimal, SpellsDecimal, hexadecimal, decimal_number}
 use Rattle.sf_base.proofs.Spelling.{tested, chosen, some_is, not_less, less_test, less_holds, character_below, character_is, digit_is}
 use Rattle.sf_base.proofs.Behind.{nothing_left}
 
@@ -51,8 +51,8 @@ digits_read base (d ∷ digits) small below =
     let fits : d < 16 = omega arith in
     let rest = digits_read base digits small below.1 in
     ap (λ o. option_and_then (λ x. cond (nat_lt x base) (option_map (λ ds. x ∷ ds) (text_digits base (map digit_character digits))) None) o) (digit_is d fits)
-      ∙ (ap (λ b. cond b (option_map (λ ds. d ∷ ds) (text_digits base (map digit_character digits))) None) (less_test d base less)
-      ∙ ap (λ o. option_map (λ ds. d ∷ ds) o) rest)
+    ∙ (ap (λ b. cond b (option_map (λ ds. d ∷ ds) (text_digits base (map digit_character digits))) None) (less_test d base less)
+    ∙ ap (λ o. option_map (λ ds. d ∷ ds) o) rest)
 
 mapped : {A : Type 0} (f : A → ℕ) (o : Option A) (n : ℕ) → option_map f o ≡ Some n → (x : A) × ((o ≡ Some x) × (n ≡ f x))
 mapped f None n h = absurd (cc)
@@ -114,11 +114,11 @@ hexadecimal_read text number spells =
     let low : 1 ≤ length digits = word.some in
     let high : length digits ≤ 16 = word.at_most in
     let fits : (nat_lt (suc (suc (length (map digit_character digits)))) 3 || nat_lt 18 (suc (suc (length (map digit_character digits))))) ≡ false
-      = within 3 18 (suc (suc (length (map digit_character digits)))) (omega arith) (omega arith) in
+    = within 3 18 (suc (suc (length (map digit_character digits)))) (omega arith) (omega arith) in
     let P : List ℕ → Type 0 = λ t. hexadecimal t ≡ Some number in
     subst P (sym word.text_is)
-      (ap (λ b. cond b None (option_map (spelled 16) (text_digits 16 (map digit_character digits)))) fits
-        ∙ (ap (λ o. option_map (spelled 16) o) (digits_read 16 digits (omega arith) word.below) ∙ ap (λ n. Some n) (sym word.value)))
+    (ap (λ b. cond b None (option_map (spelled 16) (text_digits 16 (map digit_character digits)))) fits
+    ∙ (ap (λ o. option_map (spelled 16) o) (digits_read 16 digits (omega arith) word.below) ∙ ap (λ n. Some n) (sym word.value)))
 
 capped : (o : Option ℕ) (number : ℕ) → option_and_then (λ n. cond (nat_lt n (2 ^ 32)) (Some n) None) o ≡ Some number → (o ≡ Some number) × (number < 2 ^ 32)
 capped None number h = absurd (cc)
@@ -162,9 +162,9 @@ few_digits : (first : ℕ) (digits : List ℕ) (number : ℕ) → number ≡ spe
 few_digits zero digits number value fits some = absurd (some refl)
 few_digits (suc first) digits number value fits some = ⊎_elim (λ less. omega arith)
     (λ many.
-      let power : 10 ^ 10 ≤ 10 ^ length digits = pow-le-pow_right {n = 10} (omega arith) many in
-      let once : 10 ^ length digits ≤ suc first * 10 ^ length digits = omega arith in
-      absurd (omega arith))
+    let power : 10 ^ 10 ≤ 10 ^ length digits = pow-le-pow_right {n = 10} (omega arith) many in
+    let once : 10 ^ length digits ≤ suc first * 10 ^ length digits = omega arith in
+    absurd (omega arith))
     (cases_lt (length digits) 10)
 
 not_leading : (first : ℕ) (digits : List ℕ) → first < 10 → (first ≢ 0) ⊎ (digits ≡ []) → ((digit_character first == 48) && nat_lt 1 (suc (length (map digit_character digits)))) ≡ false
@@ -189,13 +189,13 @@ decimal_read text number spells =
     let long : length (map digit_character digits) ≡ length digits = length_spelled digits in
     let few : length digits ≤ 9 = at_most_ten first digits number word.value word.fits word.no_zero in
     let fits : (nat_lt (suc (length (map digit_character digits))) 1 || nat_lt 10 (suc (length (map digit_character digits)))) ≡ false
-      = within 1 10 (suc (length (map digit_character digits))) (omega arith) (omega arith) in
+    = within 1 10 (suc (length (map digit_character digits))) (omega arith) (omega arith) in
     let P : List ℕ → Type 0 = λ t. decimal_number t ≡ Some number in
     let read : option_map (spelled 10) (text_digits 10 (map digit_character (first ∷ digits))) ≡ Some number
-      = ap (λ o. option_map (spelled 10) o) (digits_read 10 (first ∷ digits) (omega arith) word.below) ∙ ap (λ n. Some n) (sym word.value) in
+    = ap (λ o. option_map (spelled 10) o) (digits_read 10 (first ∷ digits) (omega arith) word.below) ∙ ap (λ n. Some n) (sym word.value) in
     let cap : ℕ → Option ℕ = λ n. cond (nat_lt n (2 ^ 32)) (Some n) None in
     let all = option_and_then cap (option_map (spelled 10) (text_digits 10 (map digit_character (first ∷ digits)))) in
     subst P (sym word.text_is)
-      (ap (λ b. cond b None (cond ((digit_character first == 48) && nat_lt 1 (suc (length (map digit_character digits)))) None all)) fits
-        ∙ (ap (λ b. cond b None all) (not_leading first digits word.below.0 word.no_zero)
-        ∙ (ap (λ o. option_and_then cap o) read ∙ ap (λ b. cond b (Some number) None) (less_test number (2 ^ 32) word.fits))))
+    (ap (λ b. cond b None (cond ((digit_character first == 48) && nat_lt 1 (suc (length (map digit_character digits)))) None all)) fits
+    ∙ (ap (λ b. cond b None all) (not_leading first digits word.below.0 word.no_zero)
+    ∙ (ap (λ o. option_and_then cap o) read ∙ ap (λ b. cond b (Some number) None) (less_test number (2 ^ 32) word.fits))))

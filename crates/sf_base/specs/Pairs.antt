@@ -1,9 +1,10 @@
 -- Files as a program has them in memory: a list of names with bytes.
-use Rattle.std.specs.Prelude.{ℕ, List, [], ◌∷◌, Option, Some, None, String, Vec, Bool, false, true, ◌||◌, ◌≡◌, ◌≢◌, string_bytes, if◌then◌else◌}
+use Rattle.std.specs.Prelude.{ℕ, List, [], ◌∷◌, Option, Some, None, String, Vec, Bool, false, true, ◌||◌, ◌++◌, ◌≡◌, ◌≢◌, string_bytes, if◌then◌else◌}
 use Prim.Native.Nat.{zero, suc}
 use Rattle.std.specs.Str.{bytes_eq}
 use Rattle.std.specs.Option.{option_map}
 use Rattle.std.specs.declared.alloc.Global.{Global}
+use Rattle.sf_base.specs.Contents.{contents_of}
 
 -- the pairs of a name's bytes and a file's bytes
 abbrev pub pairs_of : List (String Global × Vec ℕ Global) → List (List ℕ × List ℕ)
@@ -36,6 +37,10 @@ abbrev pub bytes_at : List (List ℕ × List ℕ) → ℕ → List ℕ
 bytes_at [] place = []
 bytes_at (file ∷ files) zero = file.1
 bytes_at (file ∷ files) (suc place) = bytes_at files place
+
+-- the pairs where the first file with the name at a place has these bytes more
+abbrev pub with_more : List (List ℕ × List ℕ) → ℕ → List ℕ → List (List ℕ × List ℕ)
+with_more files place piece = with_file files (name_at files place) (contents_of files (name_at files place) ++ piece)
 
 -- there is a file of this name after it, and one of each other name where there was one
 pub record AddsName (name : List ℕ) (old new : List (List ℕ × List ℕ)) : Type 0 where

@@ -1,5 +1,5 @@
 -- Numbers as words on a command line.
-use Rattle.std.specs.Prelude.{◌≡◌, ◌≢◌, ◌⊎◌, ◌<◌, ◌≤◌, ◌+◌, ◌-◌, ◌*◌, ◌^◌, ◌&&◌, ℕ, List, [], ◌∷◌, map, length, ⊤, Option, Bool, not, ◌==◌, ◌||◌, slice_index, drop, Some, None, nat_lt, nat_le, if◌then◌else◌}
+use Rattle.std.specs.Prelude.{◌≡◌, ◌≢◌, ◌⊎◌, ◌<◌, ◌≤◌, ◌+◌, ◌-◌, ◌*◌, ◌^◌, ◌&&◌, ℕ, List, [], ◌∷◌, map, length, ⊤, Option, not, ◌==◌, ◌||◌, slice_index, drop, Some, None, nat_lt, nat_le, if◌then◌else◌}
 use Rattle.std.specs.Option.{option_and_then, option_map}
 
 -- the number that these digits spell in a base, from the greatest: each counts the base to the power of the number of those behind it

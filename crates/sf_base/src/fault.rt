@@ -1,6 +1,7 @@
 // What every crate may run into: no memory is left, or a call of the outside failed.
-ghost use Rattle.std.specs.Prelude.{◌≡◌};
-ghost use Rattle.sf_base.specs.declared.fault.NoMemory.{NoMemory};
+ghost use Rattle.std.specs.Prelude.{◌≡◌, ◌≤◌};
+ghost use Rattle.sf_base.specs.Calls.{one_more};
+ghost use Rattle.sf_base.specs.Faults.{Rose};
 
 use std::alloc::{AllocError, AllocFailed};
 
@@ -22,4 +23,13 @@ impl<T: Drop> From<AllocFailed<T>> for NoMemory {
     fn from(_: AllocFailed<T>) -> NoMemory {
         NoMemory
     }
+}
+
+// Counts a fault. The count stands still at its last number.
+pub(crate) fn count_fault(faults: &mut u64)
+    ensures count { faults.new ≡ one_more faults.old }
+    ensures later { faults.old ≤ faults.new }
+    ensures rose { Rose faults.old faults.new }
+{
+    *faults = faults.saturating_add(1);
 }

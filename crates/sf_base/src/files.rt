@@ -45,7 +45,8 @@ pub trait Files {
     fn open_file(&mut self, name: &str) -> Result<(), Failed>
         requires { IsTrue (may_open self.old name.now) }
         ensures opened { opened self.new ≡ is_ok result }
-        ensures rest { OnOk result (IfSome (contents self.new) (λ files. rest self.new ≡ contents_of files name.now)) }
+        ensures rest { OnOk result (IfSome (contents self.new) (λ files.
+            rest self.new ≡ contents_of files name.now)) }
         ensures contents { contents self.new ≡ contents self.old }
         ensures created { created self.new ≡ created self.old }
         ensures created_name { created_name self.new ≡ created_name self.old }
@@ -64,7 +65,8 @@ pub trait Files {
         requires opened { IsTrue (opened self.old) }
         requires room { 0 < length buf.old }
         ensures within { IfOk result (λ n. n ≤ length buf.old) }
-        ensures moves { IfOk result (λ n. IfSome (contents self.old) (λ _. Moves n (rest self.old) (rest self.new) buf.new)) }
+        ensures moves { IfOk result (λ n. IfSome (contents self.old) (λ _.
+            Moves n (rest self.old) (rest self.new) buf.new)) }
         ensures opened { opened self.new ≡ is_ok result }
         ensures contents { contents self.new ≡ contents self.old }
         ensures created { created self.new ≡ created self.old }
@@ -82,7 +84,8 @@ pub trait Files {
     fn create_file(&mut self, name: &str) -> Result<(), Failed>
         requires { IsTrue (may_create self.old name.now) }
         ensures created { created self.new ≡ is_ok result }
-        ensures created_name { OnOk result (IfSome (contents self.new) (λ _. created_name self.new ≡ name.now)) }
+        ensures created_name { OnOk result (IfSome (contents self.new) (λ _.
+            created_name self.new ≡ name.now)) }
         ensures holds { OnOk result (Holds (contents self.old) (contents self.new) name.now []) }
         ensures unchanged { OnErr result (Unchanged (contents self.old) (contents self.new)) }
         ensures opened { opened self.new ≡ false }
@@ -101,7 +104,8 @@ pub trait Files {
         requires created { IsTrue (created self.old) }
         requires some { 0 < length piece.now }
         ensures within { IfOk result (λ n. (1 ≤ n) × (n ≤ length piece.now)) }
-        ensures grows { IfOk result (λ n. Grows (contents self.old) (contents self.new) (created_name self.old) (take n piece.now)) }
+        ensures grows { IfOk result (λ n.
+            Grows (contents self.old) (contents self.new) (created_name self.old) (take n piece.now)) }
         ensures unchanged { OnErr result (Unchanged (contents self.old) (contents self.new)) }
         ensures created { created self.new ≡ created self.old }
         ensures created_name { created_name self.new ≡ created_name self.old }

@@ -1,10 +1,10 @@
 // The files of the machine.
-ghost use Rattle.std.specs.Prelude.{None, true, is_some, [], ◌≡◌};
+ghost use Rattle.std.specs.Prelude.{◌≡◌, [], None, true, false, is_some};
 
+use crate::fault::count_fault;
 use crate::{Failed, Files};
-use std::fs;
 use std::io::{Read, Write};
-use std::rt;
+use std::{fs, rt};
 
 /// The files of the machine, through its runtime. It tells nothing of what they hold: what the machine
 /// reads and keeps is outside what is proved.
@@ -20,10 +20,10 @@ pub struct HostFiles<'a, R: rt::Files> {
 impl<'a, R: rt::Files> HostFiles<'a, R> {
     /// The files of this runtime, of which none is opened or created and no fault is counted.
     pub fn new(runtime: &'a R) -> HostFiles<'a, R>
-        ensures opened { result.opened ≡ None }
-        ensures created { result.created ≡ None }
-        ensures read_faults { result.read_faults ≡ 0 }
-        ensures write_faults { result.write_faults ≡ 0 }
+        ensures opened { ⟦<HostFiles<'a, R> as Files>⟧.opened result ≡ false }
+        ensures created { ⟦<HostFiles<'a, R> as Files>⟧.created result ≡ false }
+        ensures read_faults { ⟦<HostFiles<'a, R> as Files>⟧.read_faults result ≡ 0 }
+        ensures write_faults { ⟦<HostFiles<'a, R> as Files>⟧.write_faults result ≡ 0 }
     {
         HostFiles {
             runtime,
@@ -32,12 +32,6 @@ impl<'a, R: rt::Files> HostFiles<'a, R> {
             read_faults: 0,
             write_faults: 0,
         }
-    }
-
-    fn read_failed<T>(&mut self) -> Result<T, Failed> {
-        self.opened = None;
-        self.read_faults = self.read_faults.saturating_add(1);
-        Err(Failed)
     }
 }
 
@@ -68,7 +62,7 @@ impl<'a, R: rt::Files> Files for HostFiles<'a, R> {
             }
             Err(_) => {
                 self.opened = None;
-                self.read_faults = self.read_faults.saturating_add(1);
+                count_fault(&mut self.read_faults);
                 Err(Failed)
             }
         }
@@ -81,7 +75,7 @@ impl<'a, R: rt::Files> Files for HostFiles<'a, R> {
             }
         }
         self.opened = None;
-        self.read_faults = self.read_faults.saturating_add(1);
+        count_fault(&mut self.read_faults);
         Err(Failed)
     }
 
@@ -94,7 +88,7 @@ impl<'a, R: rt::Files> Files for HostFiles<'a, R> {
             }
             Err(_) => {
                 self.created = None;
-                self.write_faults = self.write_faults.saturating_add(1);
+                count_fault(&mut self.write_faults);
                 Err(Failed)
             }
         }
@@ -110,7 +104,7 @@ impl<'a, R: rt::Files> Files for HostFiles<'a, R> {
                 }
             }
         }
-        self.write_faults = self.write_faults.saturating_add(1);
+        count_fault(&mut self.write_faults);
         Err(Failed)
     }
 }

@@ -1,6 +1,7 @@
 // A stream of the machine, such as its standard output.
 ghost use Rattle.std.specs.Prelude.{◌≡◌, None};
 
+use crate::fault::count_fault;
 use crate::{Failed, Sink};
 use std::io::Write;
 
@@ -16,7 +17,7 @@ impl<W: Write + Drop> HostSink<W> {
     /// The stream of this writer, with no fault counted.
     pub fn new(writer: W) -> HostSink<W>
         ensures writer { result.writer ≡ writer }
-        ensures faults { result.faults ≡ 0 }
+        ensures faults { ⟦<HostSink<W> as Sink>⟧.faults result ≡ 0 }
     {
         HostSink { writer, faults: 0 }
     }
@@ -32,7 +33,7 @@ impl<W: Write + Drop> Sink for HostSink<W> {
             // A stream that takes nothing would be asked for ever.
             Ok(n) if n > 0 => Ok(n),
             _ => {
-                self.faults = self.faults.saturating_add(1);
+                count_fault(&mut self.faults);
                 Err(Failed)
             }
         }

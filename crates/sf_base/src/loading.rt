@@ -60,10 +60,13 @@ pub fn load<F: Files>(
 ) -> Result<Vec<u8>, LoadFault>
     requires { IsTrue (F.may_open files.old name.now) }
     ensures within { IfOk result (λ bytes. vec_len bytes ≤ limit) }
-    ensures bytes { IfOk result (λ bytes. IfSome (F.contents files.old) (λ told. bytes.items ≡ contents_of told name.now)) }
-    ensures read { IsErrOf result LoadFault.Read → Rose (F.read_faults files.old) (F.read_faults files.new) }
+    ensures bytes { IfOk result (λ bytes. IfSome (F.contents files.old) (λ told.
+        bytes.items ≡ contents_of told name.now)) }
+    ensures read { IsErrOf result LoadFault.Read →
+        Rose (F.read_faults files.old) (F.read_faults files.new) }
     ensures too_long { (n : ℕ) → IsErrOf result (LoadFault.TooLong n) → n ≡ limit }
-    ensures longer { (n : ℕ) → IsErrOf result (LoadFault.TooLong n) → IfSome (F.contents files.old) (λ told. limit < length (contents_of told name.now)) }
+    ensures longer { (n : ℕ) → IsErrOf result (LoadFault.TooLong n) → IfSome (F.contents files.old) (λ told.
+        limit < length (contents_of told name.now)) }
     ensures contents { F.contents files.new ≡ F.contents files.old }
     ensures created { F.created files.new ≡ F.created files.old }
     ensures created_name { F.created_name files.new ≡ F.created_name files.old }
@@ -88,19 +91,18 @@ pub fn load<F: Files>(
 }
 
 // Reads once, for at most `room` bytes, and puts what was read behind the bytes. Answers how many.
-fn read_more<F: Files>(
-    files: &mut F,
-    bytes: &mut Vec<u8>,
-    room: usize,
-) -> Result<usize, LoadFault>
+fn read_more<F: Files>(files: &mut F, bytes: &mut Vec<u8>, room: usize) -> Result<usize, LoadFault>
     requires opened { IsTrue (F.opened files.old) }
     requires room { 0 < room }
     ensures len { IfOk result (λ n. vec_len bytes.new ≡ vec_len bytes.old + n) }
     ensures within { IfOk result (λ n. n ≤ room) }
-    ensures moved { OnOk result (IfSome (F.contents files.old) (λ _. bytes.old.items ++ F.rest files.old ≡ bytes.new.items ++ F.rest files.new)) }
-    ensures end { IfOk result (λ n. IfSome (F.contents files.old) (λ _. n ≡ 0 → F.rest files.old ≡ [])) }
+    ensures moved { OnOk result (IfSome (F.contents files.old) (λ _.
+        bytes.old.items ++ F.rest files.old ≡ bytes.new.items ++ F.rest files.new)) }
+    ensures end { IfOk result (λ n. IfSome (F.contents files.old) (λ _.
+        n ≡ 0 → F.rest files.old ≡ [])) }
     ensures opened { OnOk result (IsTrue (F.opened files.new)) }
-    ensures read { IsErrOf result LoadFault.Read → Rose (F.read_faults files.old) (F.read_faults files.new) }
+    ensures read { IsErrOf result LoadFault.Read →
+        Rose (F.read_faults files.old) (F.read_faults files.new) }
     ensures not_long { (n : ℕ) → IsErrOf result (LoadFault.TooLong n) → ⊥ }
     ensures contents { F.contents files.new ≡ F.contents files.old }
     ensures created { F.created files.new ≡ F.created files.old }

@@ -1,8 +1,8 @@
 // A file by its name, in a list of names with bytes.
-ghost use Rattle.std.specs.Prelude.{◌≡◌, ◌<◌, ◌≤◌, ◌++◌, length, IfOk, IfSome, OnOk, OnErr, Some, is_some, position, string_bytes, vec_len};
+ghost use Rattle.std.specs.Prelude.{◌≡◌, ◌<◌, ◌≤◌, length, IfOk, IfSome, OnOk, OnErr, Some, is_some, position, string_bytes, vec_len};
 ghost use Rattle.std.specs.Str.{bytes_eq};
 ghost use Rattle.sf_base.specs.Contents.{contents_of};
-ghost use Rattle.sf_base.specs.Pairs.{pairs_of, has_name, place_of, with_file, name_at, bytes_at};
+ghost use Rattle.sf_base.specs.Pairs.{pairs_of, has_name, place_of, with_file, with_more, name_at, bytes_at};
 
 use crate::NoMemory;
 use std::alloc::Global;
@@ -18,7 +18,8 @@ pub(crate) fn find_file(files: &[(String, Vec<u8>)], name: &str) -> Option<usize
     ensures place { result ≡ place_of (pairs_of files.now) name.now }
     ensures below { IfSome result (λ place. place < length files.now) }
     ensures found { is_some result ≡ has_name (pairs_of files.now) name.now }
-    ensures bytes { IfSome result (λ place. bytes_at (pairs_of files.now) place ≡ contents_of (pairs_of files.now) name.now) }
+    ensures bytes { IfSome result (λ place.
+        bytes_at (pairs_of files.now) place ≡ contents_of (pairs_of files.now) name.now) }
 {
     first_named(files, name)
 }
@@ -51,7 +52,8 @@ pub(crate) fn set_file(
 ) -> Result<usize, NoMemory>
     ensures place { IfOk result (λ place. place < vec_len files.new) }
     ensures name { IfOk result (λ place. name_at (pairs_of files.new.items) place ≡ name.now) }
-    ensures ok { OnOk result (pairs_of files.new.items ≡ with_file (pairs_of files.old.items) name.now bytes.items) }
+    ensures ok { OnOk result (
+        pairs_of files.new.items ≡ with_file (pairs_of files.old.items) name.now bytes.items) }
     ensures longer { vec_len files.old ≤ vec_len files.new }
     ensures err { OnErr result (pairs_of files.new.items ≡ pairs_of files.old.items) }
 {
@@ -75,13 +77,9 @@ fn first_like(files: &[(String, Vec<u8>)], place: usize) -> usize
 }
 
 // Appends the bytes to the first file with the name that stands at this place.
-fn append_to(
-    files: &mut [(String, Vec<u8>)],
-    place: usize,
-    piece: &[u8],
-) -> Result<(), NoMemory>
+fn append_to(files: &mut [(String, Vec<u8>)], place: usize, piece: &[u8]) -> Result<(), NoMemory>
     requires { place < length files.old }
-    ensures ok { OnOk result (pairs_of files.new ≡ with_file (pairs_of files.old) (name_at (pairs_of files.old) place) (contents_of (pairs_of files.old) (name_at (pairs_of files.old) place) ++ piece.now)) }
+    ensures ok { OnOk result (pairs_of files.new ≡ with_more (pairs_of files.old) place piece.now) }
     ensures err { OnErr result (pairs_of files.new ≡ pairs_of files.old) }
 {
     let first = first_like(files, place);
@@ -96,7 +94,7 @@ pub(crate) fn append_file(
     piece: &[u8],
 ) -> Result<(), NoMemory>
     requires { place < vec_len files.old }
-    ensures ok { OnOk result (pairs_of files.new.items ≡ with_file (pairs_of files.old.items) (name_at (pairs_of files.old.items) place) (contents_of (pairs_of files.old.items) (name_at (pairs_of files.old.items) place) ++ piece.now)) }
+    ensures ok { OnOk result (pairs_of files.new.items ≡ with_more (pairs_of files.old.items) place piece.now) }
     ensures err { OnErr result (pairs_of files.new.items ≡ pairs_of files.old.items) }
     ensures len { vec_len files.new ≡ vec_len files.old }
 {

@@ -8,6 +8,7 @@ ghost use Rattle.sf_base.specs.Pairs.{pairs_of, has_name, AddsName};
 ghost use Rattle.sf_base.specs.Reading.{rest_at, name_of};
 
 use crate::calls::Calls;
+use crate::fault::count_fault;
 use crate::lookup::{append_file, find_bytes, find_file, set_file};
 use crate::reading::{Reading, read_at};
 use crate::{Failed, Files, NoMemory};
@@ -62,10 +63,13 @@ impl MemFiles {
     ///
     /// `NoMemory`. Nothing is changed then, and no file is closed.
     pub fn put(&mut self, name: &str, bytes: Vec<u8>) -> Result<(), NoMemory>
-        ensures ok { OnOk result (Holds (⟦<MemFiles as Files>⟧.contents self.old) (⟦<MemFiles as Files>⟧.contents self.new) name.now bytes.items) }
-        ensures names { OnOk result (AddsName name.now (pairs_of self.old.files.items) (pairs_of self.new.files.items)) }
+        ensures ok { OnOk result (Holds
+            (⟦<MemFiles as Files>⟧.contents self.old) (⟦<MemFiles as Files>⟧.contents self.new) name.now bytes.items) }
+        ensures names { OnOk result (
+            AddsName name.now (pairs_of self.old.files.items) (pairs_of self.new.files.items)) }
         ensures closed { self.new.opened ≡ (if is_ok result then None else self.old.opened) }
-        ensures err { OnErr result (⟦<MemFiles as Files>⟧.contents self.new ≡ ⟦<MemFiles as Files>⟧.contents self.old) }
+        ensures err { OnErr result (
+            ⟦<MemFiles as Files>⟧.contents self.new ≡ ⟦<MemFiles as Files>⟧.contents self.old) }
         ensures created { self.new.created ≡ self.old.created }
         ensures created_name { ⟦<MemFiles as Files>⟧.created_name self.new ≡ ⟦<MemFiles as Files>⟧.created_name self.old }
         ensures read_faults { self.new.read_faults ≡ self.old.read_faults }
@@ -82,7 +86,8 @@ impl MemFiles {
     /// The bytes of the file of this name. `None` exactly where there is no such file.
     pub fn get(&self, name: &str) -> Option<&[u8]>
         ensures found { is_some result ≡ has_name (pairs_of self.now.files.items) name.now }
-        ensures bytes { IfSome result (λ bytes. bytes.now ≡ contents_of (pairs_of self.now.files.items) name.now) }
+        ensures bytes { IfSome result (λ bytes.
+            bytes.now ≡ contents_of (pairs_of self.now.files.items) name.now) }
     {
         find_bytes(&self.files, name)
     }
@@ -109,12 +114,15 @@ impl Files for MemFiles {
 
     fn open_file(&mut self, name: &str) -> Result<(), Failed>
         // It fails at a listed call and for a name that isn't there, and at no other.
-        ensures failed { IsErr result ↔ (IsListed self.old.calls.fails.items self.old.calls.made ⊎ (has_name (pairs_of self.old.files.items) name.now ≡ false)) }
+        ensures failed { IsErr result ↔ (IsListed self.old.calls.fails.items self.old.calls.made
+            ⊎ (has_name (pairs_of self.old.files.items) name.now ≡ false)) }
         ensures opened { is_some self.new.opened ≡ is_ok result }
-        ensures rest { OnOk result (rest_at (pairs_of self.new.files.items) self.new.opened ≡ contents_of (pairs_of self.new.files.items) name.now) }
+        ensures rest { OnOk result (rest_at (pairs_of self.new.files.items) self.new.opened
+            ≡ contents_of (pairs_of self.new.files.items) name.now) }
         ensures contents { pairs_of self.new.files.items ≡ pairs_of self.old.files.items }
         ensures created { self.new.created ≡ self.old.created }
-        ensures read_faults { self.new.read_faults ≡ (if is_ok result then self.old.read_faults else one_more self.old.read_faults) }
+        ensures read_faults { self.new.read_faults ≡
+            (if is_ok result then self.old.read_faults else one_more self.old.read_faults) }
         ensures cause { Cause self.old.read_faults self.new.read_faults result }
         ensures write_faults { self.new.write_faults ≡ self.old.write_faults }
         ensures made { self.new.calls.made ≡ next_call self.old.calls.made }
@@ -124,7 +132,7 @@ impl Files for MemFiles {
         let place = find_file(&self.files, name);
         if self.calls.fails_next() || place.is_none() {
             self.opened = None;
-            self.read_faults = self.read_faults.saturating_add(1);
+            count_fault(&mut self.read_faults);
             return Err(Failed);
         }
         self.opened = place.map(|place| Reading { place, done: 0 });
@@ -136,12 +144,16 @@ impl Files for MemFiles {
         requires room { 0 < length buf.old }
         // It fails at a listed call, and at no other.
         ensures failed { IsErr result ↔ IsListed self.old.calls.fails.items self.old.calls.made }
-        ensures count { IfOk result (λ n. n ≡ min (min (length (rest_at (pairs_of self.old.files.items) self.old.opened)) (length buf.old)) self.old.most) }
-        ensures moves { IfOk result (λ n. Moves n (rest_at (pairs_of self.old.files.items) self.old.opened) (rest_at (pairs_of self.new.files.items) self.new.opened) buf.new) }
+        ensures count { IfOk result (λ n. n ≡ min (min
+            (length (rest_at (pairs_of self.old.files.items) self.old.opened)) (length buf.old)) self.old.most) }
+        ensures moves { IfOk result (λ n. Moves n
+            (rest_at (pairs_of self.old.files.items) self.old.opened)
+            (rest_at (pairs_of self.new.files.items) self.new.opened) buf.new) }
         ensures opened { is_some self.new.opened ≡ is_ok result }
         ensures contents { pairs_of self.new.files.items ≡ pairs_of self.old.files.items }
         ensures created { self.new.created ≡ self.old.created }
-        ensures read_faults { self.new.read_faults ≡ (if is_ok result then self.old.read_faults else one_more self.old.read_faults) }
+        ensures read_faults { self.new.read_faults ≡
+            (if is_ok result then self.old.read_faults else one_more self.old.read_faults) }
         ensures cause { Cause self.old.read_faults self.new.read_faults result }
         ensures write_faults { self.new.write_faults ≡ self.old.write_faults }
         ensures made { self.new.calls.made ≡ next_call self.old.calls.made }
@@ -159,7 +171,7 @@ impl Files for MemFiles {
             }
         }
         self.opened = None;
-        self.read_faults = self.read_faults.saturating_add(1);
+        count_fault(&mut self.read_faults);
         Err(Failed)
     }
 
@@ -167,12 +179,16 @@ impl Files for MemFiles {
         // It fails at a listed call, and where memory is refused.
         ensures failed { IsListed self.old.calls.fails.items self.old.calls.made → IsErr result }
         ensures created { is_some self.new.created ≡ is_ok result }
-        ensures created_name { OnOk result (name_of (pairs_of self.new.files.items) self.new.created ≡ name.now) }
-        ensures holds { OnOk result (Changes name.now [] (pairs_of self.old.files.items) (pairs_of self.new.files.items)) }
-        ensures names { OnOk result (AddsName name.now (pairs_of self.old.files.items) (pairs_of self.new.files.items)) }
+        ensures created_name { OnOk result (
+            name_of (pairs_of self.new.files.items) self.new.created ≡ name.now) }
+        ensures holds { OnOk result (
+            Changes name.now [] (pairs_of self.old.files.items) (pairs_of self.new.files.items)) }
+        ensures names { OnOk result (
+            AddsName name.now (pairs_of self.old.files.items) (pairs_of self.new.files.items)) }
         ensures unchanged { OnErr result (pairs_of self.new.files.items ≡ pairs_of self.old.files.items) }
         ensures opened { self.new.opened ≡ None }
-        ensures write_faults { self.new.write_faults ≡ (if is_ok result then self.old.write_faults else one_more self.old.write_faults) }
+        ensures write_faults { self.new.write_faults ≡
+            (if is_ok result then self.old.write_faults else one_more self.old.write_faults) }
         ensures cause { Cause self.old.write_faults self.new.write_faults result }
         ensures read_faults { self.new.read_faults ≡ self.old.read_faults }
         ensures made { self.new.calls.made ≡ next_call self.old.calls.made }
@@ -188,7 +204,7 @@ impl Files for MemFiles {
             }
         }
         self.created = None;
-        self.write_faults = self.write_faults.saturating_add(1);
+        count_fault(&mut self.write_faults);
         Err(Failed)
     }
 
@@ -199,12 +215,16 @@ impl Files for MemFiles {
         ensures failed { IsListed self.old.calls.fails.items self.old.calls.made → IsErr result }
         ensures count { IfOk result (λ n. n ≡ min (length piece.now) self.old.most) }
         ensures within { IfOk result (λ n. (1 ≤ n) × (n ≤ length piece.now)) }
-        ensures grows { IfOk result (λ n. Grows (Some (pairs_of self.old.files.items)) (Some (pairs_of self.new.files.items)) (name_of (pairs_of self.old.files.items) self.old.created) (take n piece.now)) }
+        ensures grows { IfOk result (λ n. Grows
+            (Some (pairs_of self.old.files.items)) (Some (pairs_of self.new.files.items))
+            (name_of (pairs_of self.old.files.items) self.old.created) (take n piece.now)) }
         ensures unchanged { OnErr result (pairs_of self.new.files.items ≡ pairs_of self.old.files.items) }
         ensures created { self.new.created ≡ self.old.created }
-        ensures created_name { name_of (pairs_of self.new.files.items) self.new.created ≡ name_of (pairs_of self.old.files.items) self.old.created }
+        ensures created_name { name_of (pairs_of self.new.files.items) self.new.created
+            ≡ name_of (pairs_of self.old.files.items) self.old.created }
         ensures opened { self.new.opened ≡ None }
-        ensures write_faults { self.new.write_faults ≡ (if is_ok result then self.old.write_faults else one_more self.old.write_faults) }
+        ensures write_faults { self.new.write_faults ≡
+            (if is_ok result then self.old.write_faults else one_more self.old.write_faults) }
         ensures cause { Cause self.old.write_faults self.new.write_faults result }
         ensures read_faults { self.new.read_faults ≡ self.old.read_faults }
         ensures made { self.new.calls.made ≡ next_call self.old.calls.made }
@@ -220,7 +240,7 @@ impl Files for MemFiles {
                 }
             }
         }
-        self.write_faults = self.write_faults.saturating_add(1);
+        count_fault(&mut self.write_faults);
         Err(Failed)
     }
 }

@@ -4,6 +4,7 @@ ghost use Rattle.sf_base.specs.Faults.{Cause};
 ghost use Rattle.sf_base.specs.Calls.{IsListed, next_call, one_more};
 
 use crate::calls::Calls;
+use crate::fault::count_fault;
 use crate::{Failed, Sink};
 use std::alloc::Global;
 
@@ -53,8 +54,11 @@ impl Sink for MemSink {
     fn write(&mut self, piece: &[u8]) -> Result<usize, Failed>
         ensures listed { IsListed self.old.calls.fails.items self.old.calls.made → IsErr result }
         ensures count { IfOk result (λ n. n ≡ min (length piece.now) self.old.most) }
-        ensures bytes { self.new.bytes.items ≡ (if is_ok result then self.old.bytes.items ++ take (min (length piece.now) self.old.most) piece.now else self.old.bytes.items) }
-        ensures faults { self.new.faults ≡ (if is_ok result then self.old.faults else one_more self.old.faults) }
+        ensures bytes { self.new.bytes.items ≡ (if is_ok result
+            then self.old.bytes.items ++ take (min (length piece.now) self.old.most) piece.now
+            else self.old.bytes.items) }
+        ensures faults { self.new.faults ≡
+            (if is_ok result then self.old.faults else one_more self.old.faults) }
         ensures cause { Cause self.old.faults self.new.faults result }
         ensures made { self.new.calls.made ≡ next_call self.old.calls.made }
         ensures fails { self.new.calls.fails.items ≡ self.old.calls.fails.items }
@@ -62,7 +66,7 @@ impl Sink for MemSink {
     {
         let n = piece.len().min(self.most);
         if self.calls.fails_next() || self.bytes.extend_from_slice(&piece[..n]).is_err() {
-            self.faults = self.faults.saturating_add(1);
+            count_fault(&mut self.faults);
             return Err(Failed);
         }
         Ok(n)

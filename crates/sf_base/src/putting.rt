@@ -30,8 +30,10 @@ pub fn put_all<S: Sink>(sink: &mut S, bytes: &[u8]) -> Result<(), Failed>
 /// `Failed` where a write failed. A prefix of the bytes was appended then.
 pub fn put_file<F: Files>(files: &mut F, bytes: &[u8]) -> Result<(), Failed>
     requires { IsTrue (F.created files.old) }
-    ensures all { OnOk result (Grows (F.contents files.old) (F.contents files.new) (F.created_name files.old) bytes.now) }
-    ensures prefix { OnErr result (GrowsByPrefix (F.contents files.old) (F.contents files.new) (F.created_name files.old) bytes.now) }
+    ensures all { OnOk result (
+        Grows (F.contents files.old) (F.contents files.new) (F.created_name files.old) bytes.now) }
+    ensures prefix { OnErr result (
+        GrowsByPrefix (F.contents files.old) (F.contents files.new) (F.created_name files.old) bytes.now) }
     ensures cause { Cause (F.write_faults files.old) (F.write_faults files.new) result }
     ensures created { F.created files.new ≡ F.created files.old }
     ensures created_name { F.created_name files.new ≡ F.created_name files.old }

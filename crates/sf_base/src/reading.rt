@@ -20,7 +20,8 @@ pub(crate) fn read_at(
     most: usize,
 ) -> usize
     requires { place < length files.now }
-    ensures count { result ≡ min (min (length (drop done (bytes_at (pairs_of files.now) place))) (length buf.old)) most }
+    ensures count { result ≡
+        min (min (length (drop done (bytes_at (pairs_of files.now) place))) (length buf.old)) most }
     ensures copied { take result buf.new ≡ take result (drop done (bytes_at (pairs_of files.now) place)) }
     ensures fits { done + result < 2 ^ 64 }
 {

@@ -87,8 +87,12 @@ impl<'a> Files for SureFiles<'a> {
         ensures all { result ≡ Ok (length piece.now) }
         ensures count { self.new.count ≡ min (self.old.count + length piece.now) (2 ^ 64 - 1) }
         ensures within { IfOk result (λ n. (1 ≤ n) × (n ≤ length piece.now)) }
-        ensures grows { IfOk result (λ n. Grows (told_until self.old.created (pairs_of self.old.names.now)) (told_until self.new.created (pairs_of self.new.names.now)) [] (take n piece.now)) }
-        ensures unchanged { OnErr result (Unchanged (told_until self.old.created (pairs_of self.old.names.now)) (told_until self.new.created (pairs_of self.new.names.now))) }
+        ensures grows { IfOk result (λ n. Grows
+            (told_until self.old.created (pairs_of self.old.names.now))
+            (told_until self.new.created (pairs_of self.new.names.now)) [] (take n piece.now)) }
+        ensures unchanged { OnErr result (Unchanged
+            (told_until self.old.created (pairs_of self.old.names.now))
+            (told_until self.new.created (pairs_of self.new.names.now))) }
         ensures cause { Cause 0 0 result }
         ensures created { self.new.created ≡ self.old.created }
         ensures names { self.new.names ≡ self.old.names }

@@ -1,11 +1,11 @@
 // What no clause says: that calls succeed with ample memory, at which call a fault shows, and the machine's side.
 use crate::{
-    Failed, Files, HostFiles, HostSink, LoadFault, MemFiles, MemSink, Sink, SureFiles, SureSink, dec_word,
-    hex_word, load, put_all, put_file,
+    Failed, Files, HostFiles, HostSink, LoadFault, MemFiles, MemSink, Sink, SureFiles, SureSink,
+    dec_word, hex_word, load, put_all, put_file,
 };
 use std::alloc::Global;
-use std::env;
 use std::test::Fail;
+use std::{env, process};
 
 // How far a copy of a file of 60 bytes to one of 63 bytes came.
 #[derive(Clone, Copy, Debug, PartialEq, Eq)]
@@ -100,7 +100,10 @@ fn sure_files_read_the_first_pair_and_count_what_is_written(rt: HostRuntime) -> 
     let mut files = SureFiles::new(&names);
     for (name, want) in [("a", "first"), ("b", "")] {
         let got = load(alloc, &mut files, name, 9);
-        assert!(rt; got.is_ok_and(|bytes| bytes.as_slice() == want.as_bytes()), "at {name}");
+        assert!(rt;
+            got.is_ok_and(|bytes| bytes.as_slice() == want.as_bytes()),
+            "at {name}"
+        );
     }
     assert!(rt; files.create_file("c").is_ok());
     assert!(rt; put_file(&mut files, b"12345").is_ok());
@@ -147,7 +150,9 @@ fn words_are_read_to_their_limits(rt: HostRuntime) {
 #[test]
 fn host_files_hold_what_was_written(rt: HostRuntime) -> Result<(), Fail> {
     let alloc = rt.alloc();
-    let path = env::temp_dir(&rt)?.join(alloc, "sf_base_host_files")?;
+    let id = process::id(rt.process());
+    let file = format!(in alloc; "sf_base_host_files_{id}")?;
+    let path = env::temp_dir(&rt)?.join(alloc, &file)?;
     let name = path.as_path().to_str().unwrap_or("sf_base_host_files");
     let mut files = HostFiles::new(&rt);
     assert!(rt; files.create_file(name).is_ok());

@@ -1,6 +1,4 @@
-use Rattle.std.proofs.Common.{◌≡◌, ◌≤◌, ◌+◌, ◌∙◌, ◌++◌, [], List, ℕ, length, sym, ap, rules}
-use Rattle.sf_base.specs.Contents.{Moves}
-use Rattle.std.specs.Option.{IfSome}
+use Rattle.std.proofs.Common.{◌≡◌, ◌≤◌, ◌+◌, length, rules}
 use Rattle.std.proofs.lemmas.Option.{IfSome_then}
 use Rattle.sf_base.proofs.Behind.{moved_behind}
 use Rattle.sf_base.proofs.loading.read_more.Goals as goal
@@ -16,5 +14,5 @@ returns-clause-moved g c =
     let short : n ≤ length c.read.new.buf = search rules in
     let room : f + n ≤ c.resize.new.self.len = search rules in
     IfSome_then (g.F.Files.contents c.args.files.now) c.in_ok-n.ensures.moves (λ told moves.
-      moved_behind f n c.in_ok-end.end _ c.args.bytes.now.items c.deref_mut.result.now c.read.new.buf _ _ _ c.truncate.new.self.items rest left
-        c.truncate.ensures.items (c.deref_mut.ensures.value ∙ c.in_ok-resize.ensures.items) long below short room moves)
+    moved_behind f n c.in_ok-end.end _ c.args.bytes.now.items c.deref_mut.result.now c.resize.new.self.items c.read.new.buf _ _ _ c.truncate.new.self.items rest left
+    c.truncate.ensures.items c.deref_mut.ensures.value c.in_ok-resize.ensures.items long below short room moves)

@@ -1,4 +1,4 @@
-use Rattle.std.proofs.Common.{◌≡◌, slice_set, get_or, refl, rules}
+use Rattle.std.proofs.Common.{get_or, refl, rules}
 use Rattle.sf_base.specs.Pairs.{pairs_of, name_at}
 use Rattle.sf_base.proofs.Lookups.{set_same, append_there}
 use Rattle.sf_base.proofs.lookup.append_to.Goals as goal
@@ -17,4 +17,4 @@ returns-clause-ok c =
     let first = c.first_like-first.result in
     let file = get_or files first c.index-files-first.result in
     append_there files (name_at (pairs_of files) c.args.place) first c.args.piece.now c.index-files-first.result (file.0, c.extend_from_slice.new.self)
-      c.first_like-first.ensures.first refl c.in_ok-extend_from_slice.ensures.items
+    c.first_like-first.ensures.first refl c.in_ok-extend_from_slice.ensures.items

@@ -8,5 +8,5 @@ pub returns-clause-bytes : goal.returns-clause-bytes
 returns-clause-bytes c =
     let file = c.index-files-place.result in
     let there : (get_or c.args.files.now c.in_ok-place.place file).1.items ≡ contents_of (pairs_of c.args.files.now) c.args.name.now
-      = found_bytes c.args.files.now c.args.name.now c.in_ok-place.place file (sym c.in_ok-place.ensures.place) in
+    = found_bytes c.args.files.now c.args.name.now c.in_ok-place.place file (sym c.in_ok-place.ensures.place) in
     c.as_slice.ensures.value ∙ there

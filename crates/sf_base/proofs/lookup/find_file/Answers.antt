@@ -1,4 +1,4 @@
-use Rattle.std.proofs.Common.{◌≡◌, ◌<◌, ◌∙◌, Some, None, Option, List, ℕ, length, sym, ap}
+use Rattle.std.proofs.Common.{◌≡◌, ◌<◌, ◌∙◌, Some, None, Option, List, ℕ, length, sym}
 use Rattle.std.specs.Option.{IfSome, is_some}
 use Rattle.sf_base.specs.Pairs.{pairs_of, place_of, has_name, bytes_at}
 use Rattle.sf_base.specs.Contents.{contents_of}

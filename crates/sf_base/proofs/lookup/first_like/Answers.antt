@@ -1,6 +1,5 @@
-use Rattle.std.proofs.Common.{◌≡◌, ◌∙◌, string_bytes, Some, sym, ap}
-use Rattle.sf_base.specs.Pairs.{pairs_of, place_of, name_at}
-use Rattle.sf_base.proofs.Lookups.{Stored, first_there, found_below, name_is}
+use Rattle.std.proofs.Common.{◌∙◌, Some, sym, ap}
+use Rattle.sf_base.proofs.Lookups.{first_there, name_is}
 use Rattle.sf_base.proofs.lookup.first_like.Goals as goal
 
 pub returns-clause-first : goal.returns-clause-first

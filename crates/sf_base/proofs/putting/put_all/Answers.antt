@@ -1,4 +1,4 @@
-use Rattle.std.proofs.Common.{◌≤◌, arith}
+use Rattle.std.proofs.Common.{arith}
 use Rattle.sf_base.proofs.Growing.{more_appended}
 use Rattle.sf_base.proofs.putting.put_all.Goals as goal
 

@@ -1,4 +1,4 @@
-use Rattle.std.proofs.Common.{◌≤◌, ◌∙◌, rules, arith}
+use Rattle.std.proofs.Common.{◌∙◌, rules, arith}
 use Rattle.sf_base.proofs.Growing.{more_grown}
 use Rattle.sf_base.proofs.putting.put_file.Goals as goal
 

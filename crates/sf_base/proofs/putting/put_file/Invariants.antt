@@ -1,4 +1,4 @@
-use Rattle.std.proofs.Common.{◌≡◌, ◌≤◌, ◌-◌, length, take, true, false, cond, eqb}
+use Rattle.std.proofs.Common.{◌≡◌, ◌≤◌, ◌-◌, length, take, false, cond, eqb}
 use Rattle.sf_base.specs.Contents.{Grows}
 use Rattle.sf_base.proofs.putting.put_file.Given as goal
 

@@ -1,4 +1,4 @@
-use Rattle.std.proofs.Common.{◌≡◌, ◌∙◌, ◌-◌, List, ℕ, length, min, take, drop, sym, ap}
+use Rattle.std.proofs.Common.{◌≡◌, ◌∙◌, ◌-◌, List, ℕ, length, min, take, drop, ap}
 use Rattle.sf_base.specs.Pairs.{pairs_of, bytes_at}
 use Rattle.sf_base.proofs.Behind.{left_from}
 use Rattle.sf_base.proofs.Lookups.{bytes_is}
@@ -13,10 +13,10 @@ pub returns-clause-count : goal.returns-clause-count
 returns-clause-count c =
     let is = bytes_is c.args.files.now c.args.place c.index-files-place.result c.requires in
     c.copy_front.ensures.count ∙ ap (λ xs. min (min (length xs) (length c.args.buf.now)) c.args.most)
-      (part_is c.as_slice-bytes.result.now (bytes_at (pairs_of c.args.files.now) c.args.place) c.args.done c.min.result c.min.ensures (c.as_slice-bytes.ensures.value ∙ is))
+    (part_is c.as_slice-bytes.result.now (bytes_at (pairs_of c.args.files.now) c.args.place) c.args.done c.min.result c.min.ensures (c.as_slice-bytes.ensures.value ∙ is))
 
 pub returns-clause-copied : goal.returns-clause-copied
 returns-clause-copied c =
     let is = bytes_is c.args.files.now c.args.place c.index-files-place.result c.requires in
     c.copy_front.ensures.copied ∙ ap (λ xs. take c.copy_front.result xs)
-      (part_is c.as_slice-bytes.result.now (bytes_at (pairs_of c.args.files.now) c.args.place) c.args.done c.min.result c.min.ensures (c.as_slice-bytes.ensures.value ∙ is))
+    (part_is c.as_slice-bytes.result.now (bytes_at (pairs_of c.args.files.now) c.args.place) c.args.done c.min.result c.min.ensures (c.as_slice-bytes.ensures.value ∙ is))

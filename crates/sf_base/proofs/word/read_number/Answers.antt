@@ -1,4 +1,4 @@
-use Rattle.std.proofs.Common.{◌≡◌, ◌<◌, ◌≤◌, ◌+◌, ◌*◌, ◌^◌, ◌∷◌, ◌∙◌, List, ℕ, length, drop, get_or, sym, ap, rules, arith}
+use Rattle.std.proofs.Common.{◌<◌, ◌≤◌, ◌+◌, ◌∙◌, drop, get_or, sym, ap, arith}
 use Rattle.std.specs.Option.{option_map}
 use Rattle.sf_base.specs.Word.{text_digits}
 use Rattle.std.proofs.lemmas.List.{drop_more}
@@ -31,5 +31,5 @@ loop-byte-preserved c =
     record {
       fits = still_fits c.args.base c.loop-byte.number c.in_ok-digit.digit i c.loop-byte.invariant.fits below c.requires.base;
       rest = sym (digits_step c.args.base c.loop-byte.number c.in_ok-digit.digit (get_or c.args.text.now i 0) (drop (i + 1) c.args.text.now) (sym is) below)
-        ∙ (ap (λ xs. option_map (continued c.args.base c.loop-byte.number) (text_digits c.args.base xs)) (sym (drop_more c.args.text.now i 0 c.loop-byte-test.true)) ∙ c.loop-byte.invariant.rest);
+          ∙ (ap (λ xs. option_map (continued c.args.base c.loop-byte.number) (text_digits c.args.base xs)) (sym (drop_more c.args.text.now i 0 c.loop-byte-test.true)) ∙ c.loop-byte.invariant.rest);
     }

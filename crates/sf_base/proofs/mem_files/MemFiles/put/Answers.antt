@@ -17,4 +17,4 @@ pub returns-clause-created_name : goal.returns-clause-created_name
 returns-clause-created_name c =
     let long : vec_len c.args.self.now.files ≡ length c.args.self.now.files.items = search rules in
     created_stays c.args.self.now.files.items (pairs_of c.set_file.new.files.items) c.args.self.now.created (vec_len c.args.self.now.files) c.args.name.now c.args.bytes.items
-      long c.args.self.now.created_stands c.in_ok-set_file.ensures.ok
+    long c.args.self.now.created_stands c.in_ok-set_file.ensures.ok

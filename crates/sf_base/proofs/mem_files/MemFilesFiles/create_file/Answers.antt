@@ -8,7 +8,7 @@ pub returns-in-Ok-clause-holds : goal.returns-in-Ok-clause-holds
 returns-in-Ok-clause-holds c =
     let P : List (List ℕ × List ℕ) → Type 0 = λ files. Changes c.args.name.now [] (pairs_of c.args.self.now.files.items) files in
     let is : pairs_of c.set_file.new.files.items ≡ with_file (pairs_of c.args.self.now.files.items) c.args.name.now []
-      = c.in-Ok.ensures.ok ∙ ap (λ bytes. with_file (pairs_of c.args.self.now.files.items) c.args.name.now bytes) c.new-empty.ensures.items in
+    = c.in-Ok.ensures.ok ∙ ap (λ bytes. with_file (pairs_of c.args.self.now.files.items) c.args.name.now bytes) c.new-empty.ensures.items in
     subst P (sym is) (file_changes (pairs_of c.args.self.now.files.items) c.args.name.now [])
 
 pub returns-in-Ok-clause-names : goal.returns-in-Ok-clause-names

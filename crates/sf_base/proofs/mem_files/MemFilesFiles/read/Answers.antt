@@ -13,6 +13,6 @@ returns-in-Some-clause-moves c =
     let n = c.read_at-n.result in
     let P : Option Reading → Type 0 = λ o. Moves n (rest_at files o) (drop (reading.done + n) (bytes_at files reading.place)) c.read_at-n.new.buf in
     subst P (sym c.in-Some.is) (moves_on n reading.done (bytes_at files reading.place) c.read_at-n.new.buf (length c.args.buf.now) c.args.self.now.most
-      (c.read_at-n.ensures.count ∙ ap (λ fs. min (min (length (drop reading.done (bytes_at (pairs_of fs) reading.place))) (length c.args.buf.now)) c.args.self.now.most) c.deref.ensures.value)
-      (c.read_at-n.ensures.copied ∙ ap (λ fs. take n (drop reading.done (bytes_at (pairs_of fs) reading.place))) c.deref.ensures.value)
-      c.requires.room c.args.self.now.some)
+    (c.read_at-n.ensures.count ∙ ap (λ fs. min (min (length (drop reading.done (bytes_at (pairs_of fs) reading.place))) (length c.args.buf.now)) c.args.self.now.most) c.deref.ensures.value)
+    (c.read_at-n.ensures.copied ∙ ap (λ fs. take n (drop reading.done (bytes_at (pairs_of fs) reading.place))) c.deref.ensures.value)
+    c.requires.room c.args.self.now.some)

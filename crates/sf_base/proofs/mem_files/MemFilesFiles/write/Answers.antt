@@ -14,4 +14,4 @@ returns-in-Ok-clause-created_name c =
     let name = name_at (pairs_of files) c.in-Some.place in
     let below : c.in-Some.place < length files = search rules in
     created_kept files (pairs_of c.append_file.new.files.items) c.args.self.now.created c.in-Some.place name
-      (contents_of (pairs_of files) name ++ take c.min-n.result c.args.piece.now) c.in-Some.is below c.in-Ok.ensures.ok
+    (contents_of (pairs_of files) name ++ take c.min-n.result c.args.piece.now) c.in-Some.is below c.in-Ok.ensures.ok
