@@ -1,1 +1,4 @@
+pub mod LetterLoop
+pub mod LetterViews
+pub mod SaidLoop
 pub mod Widths

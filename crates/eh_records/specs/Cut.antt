@@ -1,6 +1,6 @@
 -- Cutting records off a section (LSB Core, "The .eh_frame section"): a length word, a word that names the
 -- common information entry, and the rest of the record.
-use Rattle.std.specs.Prelude.{◌≡◌, ℕ, ◌-◌, List, length, Option, Some, None, Result, Ok, Err, nat_lt, ◌==◌, if◌then◌else◌}
+use Rattle.std.specs.Prelude.{◌≡◌, ℕ, ◌-◌, length, Option, Some, None, Result, Ok, Err, nat_lt, ◌==◌, if◌then◌else◌}
 use Rattle.sf_bytes.specs.Cursor.{Cursor}
 use Rattle.eh_records.specs.declared.cut.Cut.{Cut}
 use Rattle.eh_records.specs.declared.reader.Reader.{Reader}

@@ -1,5 +1,5 @@
 -- The width of function pointers (LSB Core, "DWARF Exception Header Encoding").
-use Rattle.std.specs.Prelude.{ℕ, Bool, true, false, ◌==◌, Option, Some, None}
+use Rattle.std.specs.Prelude.{ℕ, Bool, false, ◌==◌, Option, Some, None}
 use Rattle.eh_pointer.specs.Pointer.{usable_width}
 
 abbrev pub is_width : Option ℕ → ℕ → Bool

@@ -4,7 +4,8 @@ ghost use Rattle.std.specs.Prelude.{◌<◌, ◌+◌, ◌^◌, ◌≡◌, length
 ghost use Rattle.std.specs.Iterator.{at_most};
 
 use crate::cut::next_cut;
-use crate::fde::{Fde, read_fde};
+use crate::fde::Fde;
+use crate::frame::read_fde;
 use crate::reader::Reader;
 use sf_model::Arch;
 

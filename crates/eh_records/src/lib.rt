@@ -12,13 +12,17 @@
 
 mod augmentation;
 mod cie;
+mod common;
 mod cut;
 mod fault;
 mod fde;
+mod frame;
 mod iter;
 mod layout;
+mod letters;
 mod reader;
 mod records;
+mod said;
 mod span;
 
 pub use cie::Cie;

@@ -30,14 +30,14 @@ impl<'a> Reader<'a> {
     /// The bytes of a section from a place on.
     pub fn from_place(section: &'a [u8], place: u32) -> Reader<'a>
         requires { length section.now < 2 ^ 32 }
-        ensures { place ≤ length section.now → reader_cursor result ≡ record { place = place; left = drop place section.now } }
+        ensures { reader_cursor result ≡ record { place = place; left = drop place section.now } }
     {
         match section.get(place as usize..) {
             Some(bytes) => Reader {
                 part: Part::new(bytes, u64::from(place)),
             },
             None => Reader {
-                part: Part::new(&[], 0),
+                part: Part::new(&[], u64::from(place)),
             },
         }
     }

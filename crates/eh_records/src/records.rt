@@ -2,10 +2,10 @@
 
 ghost use Rattle.std.specs.Prelude.{◌<◌, ◌+◌, ◌^◌, ◌≡◌, length};
 
-use crate::cie::{cie_at, read_cie};
+use crate::common::read_cie;
 use crate::cut::next_cut;
 use crate::fault::RecordFault;
-use crate::fde::read_fde;
+use crate::frame::read_fde;
 use crate::iter::FdeIter;
 use crate::reader::Reader;
 use sf_base::NoMemory;

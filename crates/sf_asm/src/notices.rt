@@ -1,6 +1,6 @@
 //! Faults as numbers, for the line that tells them.
 
-ghost use Rattle.std.specs.Prelude.{◌≡◌, ◌∷◌, [], IsTrue, Some};
+ghost use Rattle.std.specs.Prelude.{◌≡◌, ◌∷◌, [], IsTrue, IsSome};
 ghost use Rattle.sf_model.specs.Notice.{HasLine, up_to};
 ghost use Rattle.sf_asm.specs.Fault.{is_record_refusal, is_machine_refusal, is_input_refusal, is_gather_refusal, is_refusal};
 
@@ -64,21 +64,21 @@ fn record_number(fault: RecordFault) -> (u8, u32)
     }
 }
 
-fn record_notice(item: u32, section: u32, fault: RecordFault) -> Notice
+fn record_notice(item: Option<u32>, section: u32, fault: RecordFault) -> Notice
     requires { IsTrue (is_record_refusal fault) }
-    ensures { HasLine result }
+    ensures { IsSome item → HasLine result }
 {
     let (number, place) = record_number(fault);
     Notice {
-        item: Some(item),
+        item,
         group: Group::Record,
         number,
         values: two(u64::from(section), u64::from(place)),
     }
 }
 
-fn insn_notice(item: u32, section: u32, fault: InsnFault) -> Notice
-    ensures { HasLine result }
+fn insn_notice(item: Option<u32>, section: u32, fault: InsnFault) -> Notice
+    ensures { IsSome item → HasLine result }
 {
     let section = u64::from(section);
     let (number, values) = match fault {
@@ -87,16 +87,16 @@ fn insn_notice(item: u32, section: u32, fault: InsnFault) -> Notice
         InsnFault::Leb(place) => (3, two(section, place)),
     };
     Notice {
-        item: Some(item),
+        item,
         group: Group::Insn,
         number,
         values,
     }
 }
 
-fn machine_notice(item: u32, section: u32, fault: MachineFault) -> Notice
+fn machine_notice(item: Option<u32>, section: u32, fault: MachineFault) -> Notice
     requires { IsTrue (is_machine_refusal fault) }
-    ensures { HasLine result }
+    ensures { IsSome item → HasLine result }
 {
     let (number, place) = match fault {
         MachineFault::CieInstruction(place) => (1, place),
@@ -107,7 +107,7 @@ fn machine_notice(item: u32, section: u32, fault: MachineFault) -> Notice
         MachineFault::NoMemory => unreachable!(),
     };
     Notice {
-        item: Some(item),
+        item,
         group: Group::Machine,
         number,
         values: two(u64::from(section), place),
@@ -116,9 +116,9 @@ fn machine_notice(item: u32, section: u32, fault: MachineFault) -> Notice
 
 impl AsmFault {
     /// The fault of the input of this number, as its line shows it.
-    pub fn notice(&self, item: u32) -> Notice
+    pub fn notice(&self, item: Option<u32>) -> Notice
         requires { IsTrue (is_input_refusal self.now) }
-        ensures { HasLine result }
+        ensures { IsSome item → HasLine result }
     {
         match self {
             AsmFault::Record(section, fault) => record_notice(item, *section, *fault),
@@ -128,13 +128,13 @@ impl AsmFault {
     }
 }
 
-fn link_notice(number: u8, values: ArrayVec<u64, 4>) -> Notice
+fn link_notice(item: Option<u32>, number: u8, values: ArrayVec<u64, 4>) -> Notice
     ensures number { result.number ≡ number }
     ensures group { result.group ≡ Group.Link }
     ensures values { result.values ≡ values }
 {
     Notice {
-        item: None,
+        item,
         group: Group::Link,
         number,
         values,
@@ -142,16 +142,17 @@ fn link_notice(number: u8, values: ArrayVec<u64, 4>) -> Notice
 }
 
 impl GatherFault {
-    /// The fault as its line shows it. It names its own items.
-    pub fn notice(&self) -> Notice
+    /// The fault as its line shows it. A fault that names its own input gives that in place of `item`.
+    pub fn notice(&self, item: Option<u32>) -> Notice
         requires { IsTrue (is_gather_refusal self.now) }
         ensures { HasLine result }
     {
         match self {
-            GatherFault::Input(item, fault) => fault.notice(*item),
-            GatherFault::Overlap(start, item, other, other_item) => link_notice(
+            GatherFault::Input(number, fault) => fault.notice(Some(*number)),
+            GatherFault::Overlap(start, first, other, second) => link_notice(
+                item,
                 2,
-                four(*start, u64::from(*item), *other, u64::from(*other_item)),
+                four(*start, u64::from(*first), *other, u64::from(*second)),
             ),
             _ => unreachable!(),
         }
@@ -159,14 +160,14 @@ impl GatherFault {
 }
 
 impl LinkFault {
-    /// The fault as its line shows it. It names its own items.
-    pub fn notice(&self) -> Notice
+    /// The fault as its line shows it. A fault that names its own input gives that in place of `item`.
+    pub fn notice(&self, item: Option<u32>) -> Notice
         requires { IsTrue (is_refusal self.now) }
         ensures { HasLine result }
     {
         match self {
-            LinkFault::Gather(fault) => fault.notice(),
-            LinkFault::OutOfReach(start) => link_notice(3, one(*start)),
+            LinkFault::Gather(fault) => fault.notice(item),
+            LinkFault::OutOfReach(start) => link_notice(item, 3, one(*start)),
             LinkFault::NoMemory => unreachable!(),
         }
     }

@@ -1,0 +1,91 @@
+-- Common information entries (LSB Core, "The .eh_frame section").
+use Rattle.std.specs.Prelude.{ℕ, ℤ, ◌==◌, ◌||◌, Bool, List, Option, Some, None, is_some, Result, Ok, Err, if◌then◌else◌}
+use Rattle.std.specs.Option.{option_map}
+use Rattle.sf_bytes.specs.Cursor.{Cursor, cursor}
+use Rattle.sf_model.specs.declared.machine.Arch.{Arch}
+use Rattle.sf_model.specs.declared.machine.Key.{Key}
+use Rattle.eh_records.specs.declared.cie.Cie.{Cie}
+use Rattle.eh_records.specs.declared.cie.NumberFields.{NumberFields}
+use Rattle.eh_records.specs.declared.cie.Shared.{Shared}
+use Rattle.eh_records.specs.declared.fault.RecordFault.{RecordFault}
+use Rattle.eh_records.specs.declared.fault.RecordFault.TheVariants.{CieVersion}
+use Rattle.eh_records.specs.Augmentation.{Said, said_plain, letters_at, data_at, said_by}
+use Rattle.eh_records.specs.Cut.{Piece}
+use Rattle.eh_records.specs.Step.{Step, ◌>>=◌, PointerField, pointer_view, number_field, uleb_field, sleb_field}
+
+-- an entry, seen without where its bytes lie in memory
+pub record CieView : Type 0 where
+  pub place : ℕ
+  pub code : ℕ
+  pub factor : ℤ
+  pub column : ℕ
+  pub encoding : ℕ
+  pub signal : Bool
+  pub key : Key
+  pub personality : Option PointerField
+  pub insns : Cursor
+
+abbrev pub cie_view : Cie → CieView
+cie_view c = record { place = c.place; code = c.code; factor = c.factor; column = c.column; encoding = c.encoding; signal = c.signal; key = c.key; personality = option_map pointer_view c.personality; insns = cursor c.insns }
+
+-- an entry with what only its frame description entries read
+pub record SharedView : Type 0 where
+  pub cie : CieView
+  pub width : ℕ
+  pub augmented : Bool
+  pub lsda : Option ℕ
+
+abbrev pub shared_view : Shared → SharedView
+shared_view s = record { cie = cie_view s.cie; width = s.width; augmented = s.augmented; lsda = s.lsda }
+
+-- a byte in version 1, a LEB128 number in version 3
+unfoldable pub column_at : ℕ → Cursor → Step ℕ
+column_at version at = if version == 1 then number_field 1 at else uleb_field at
+
+-- the alignment factors and the return address column
+pub record Numbers : Type 0 where
+  pub code : ℕ
+  pub factor : ℤ
+  pub column : ℕ
+
+abbrev pub numbers_view : NumberFields → Numbers
+numbers_view n = record { code = n.code; factor = n.factor; column = n.column }
+
+unfoldable pub numbers_at : ℕ → Cursor → Step Numbers
+numbers_at version at = do
+  code ← uleb_field at
+  factor ← sleb_field code.1
+  column ← column_at version factor.1
+  Ok (record { code = code.0; factor = factor.0; column = column.0 }, column.1)
+
+-- what the augmentation data says, where there is one
+abbrev pub passed_data : Cursor → Result Said RecordFault → Step Said
+passed_data after (Ok said) = Ok (said, after)
+passed_data after (Err e) = Err e
+
+abbrev pub said_in : Option (List ℕ) → Cursor → Step Said
+said_in None at = Ok (said_plain, at)
+said_in (Some letters) at = data_at at >>= λ inner. passed_data inner.1 (said_by letters said_plain inner.0)
+
+unfoldable pub said_at : Option (List ℕ) → Cursor → Step Said
+said_at letters at = said_in letters at
+
+abbrev pub shared_of : ℕ → Numbers → Bool → Said → Cursor → SharedView
+shared_of place numbers augmented said insns = record {
+  cie = record { place = place; code = numbers.code; factor = numbers.factor; column = numbers.column; encoding = said.pointers.encoding; signal = said.signal; key = said.key; personality = said.personality; insns = insns };
+  width = said.pointers.width;
+  augmented = augmented;
+  lsda = said.lsda;
+}
+
+-- the fields behind the version, from left to right
+unfoldable pub cie_fields : Arch → ℕ → ℕ → Cursor → Result SharedView RecordFault
+cie_fields arch place version at = do
+  letters ← letters_at arch at
+  numbers ← numbers_at version letters.1
+  said ← said_at letters.0 numbers.1
+  Ok (shared_of place numbers.0 (is_some letters.0) said.0 said.1)
+
+-- the entry of a record
+unfoldable pub cie_of : Arch → Piece → Result SharedView RecordFault
+cie_of arch p = number_field 1 p.body >>= λ version. if (version.0 == 1) || (version.0 == 3) then cie_fields arch p.place version.0 version.1 else Err (CieVersion p.body.place)

@@ -1,0 +1,62 @@
+-- Frame description entries (LSB Core, "The .eh_frame section").
+use Rattle.std.specs.Prelude.{ℕ, List, drop, Option, Some, None, Result, Ok, Err, if◌then◌else◌}
+use Rattle.std.specs.Option.{option_map}
+use Rattle.sf_bytes.specs.Cursor.{Cursor, cursor}
+use Rattle.sf_model.specs.declared.machine.Arch.{Arch}
+use Rattle.eh_pointer.specs.Pointer.{pointer_width}
+use Rattle.eh_records.specs.declared.fde.Fde.{Fde}
+use Rattle.eh_records.specs.declared.fault.RecordFault.{RecordFault}
+use Rattle.eh_records.specs.declared.fault.RecordFault.TheVariants.{CiePointer}
+use Rattle.eh_records.specs.Augmentation.{data_at}
+use Rattle.eh_records.specs.Cie.{CieView, cie_view, SharedView, cie_of}
+use Rattle.eh_records.specs.Cut.{Piece, piece_at, named_place}
+use Rattle.eh_records.specs.Step.{Step, ◌>>=◌, PointerField, pointer_view, pointer_field}
+
+-- an entry, seen without where its bytes lie in memory
+pub record FdeView : Type 0 where
+  pub place : ℕ
+  pub cie : CieView
+  pub begin : PointerField
+  pub range : PointerField
+  pub lsda : Option PointerField
+  pub insns : Cursor
+
+abbrev pub fde_view : Fde → FdeView
+fde_view f = record { place = f.place; cie = cie_view f.cie; begin = pointer_view f.begin; range = pointer_view f.range; lsda = option_map pointer_view f.lsda; insns = cursor f.insns }
+
+-- the field at the front of the data, where the encoding has a fixed width and the data is that long
+abbrev pub read_there : Step PointerField → Option PointerField
+read_there (Ok f) = Some f.0
+read_there (Err e) = None
+
+abbrev pub lsda_of_width : Option ℕ → Cursor → Option PointerField
+lsda_of_width None at = None
+lsda_of_width (Some width) at = read_there (pointer_field width at)
+
+abbrev pub lsda_in : Option ℕ → Cursor → Option PointerField
+lsda_in None at = None
+lsda_in (Some encoding) at = lsda_of_width (pointer_width encoding) at
+
+-- the pointer to a language-specific data area, and the instructions behind the augmentation data
+unfoldable pub lsda_at : SharedView → Cursor → Step (Option PointerField)
+lsda_at shared at = if shared.augmented then (data_at at >>= λ inner. Ok (lsda_in shared.lsda inner.0, inner.1)) else Ok (None, at)
+
+-- the entry of a record whose common information entry is known
+unfoldable pub entry_of : SharedView → Piece → Result FdeView RecordFault
+entry_of shared p = do
+  begin ← pointer_field shared.width p.body
+  range ← pointer_field shared.width begin.1
+  lsda ← lsda_at shared range.1
+  Ok (record { place = p.place; cie = shared.cie; begin = begin.0; range = range.0; lsda = lsda.0; insns = lsda.1 })
+
+-- the common information entry at a place of the section
+abbrev pub cie_in : Arch → ℕ → Option (Piece × Cursor) → Result SharedView RecordFault
+cie_in arch place None = Err (CiePointer place)
+cie_in arch place (Some p) = cie_of arch p.0
+
+unfoldable pub cie_at_place : Arch → List ℕ → ℕ → Result SharedView RecordFault
+cie_at_place arch section place = piece_at (record { place = place; left = drop place section }) >>= cie_in arch place
+
+-- the entry of a record of a section
+unfoldable pub fde_of : Arch → List ℕ → Piece → Result FdeView RecordFault
+fde_of arch section p = named_place p >>= λ place. cie_at_place arch section place >>= λ shared. entry_of shared p

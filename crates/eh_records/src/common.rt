@@ -1,0 +1,137 @@
+//! Reading common information entries.
+
+ghost use Rattle.std.specs.Prelude.{◌≡◌, ◌<◌, ◌≤◌, ◌^◌, length};
+ghost use Rattle.std.specs.Option.{option_map};
+ghost use Rattle.sf_bytes.specs.Cursor.{cursor};
+ghost use Rattle.eh_records.specs.Augmentation.{said_view};
+ghost use Rattle.eh_records.specs.Cie.{shared_view, shared_of, numbers_view, numbers_at, column_at, said_at, cie_fields, cie_of};
+ghost use Rattle.eh_records.specs.Cut.{Is, piece};
+ghost use Rattle.eh_records.specs.Fde.{cie_at_place};
+ghost use Rattle.eh_records.specs.Step.{Answers, reader_cursor};
+
+use crate::augmentation::Augmentation;
+use crate::cie::{Cie, NumberFields, Shared};
+use crate::cut::{Cut, next_cut};
+use crate::fault::RecordFault;
+use crate::letters::read_letters;
+use crate::reader::Reader;
+use crate::said::{plain, read_data, read_said};
+use sf_bytes::Part;
+use sf_model::Arch;
+
+// The return address column: a byte in version 1, a LEB128 number in version 3.
+#[tactic(auto, unfolding(crate::specs::Cie::column_at))]
+fn read_column(version: u8, body: &mut Reader<'_>) -> Result<u64, RecordFault>
+    ensures { Answers (λ x. x) body.new result (column_at version (reader_cursor body.old)) }
+{
+    if version == 1 {
+        let column = body.byte()?;
+        Ok(u64::from(column))
+    } else {
+        body.uleb()
+    }
+}
+
+// The alignment factors and the return address column.
+#[tactic(auto, unfolding(crate::specs::Cie::numbers_at))]
+fn read_numbers(version: u8, body: &mut Reader<'_>) -> Result<NumberFields, RecordFault>
+    ensures { Answers numbers_view body.new result (numbers_at version (reader_cursor body.old)) }
+{
+    let code = body.uleb()?;
+    let factor = body.sleb()?;
+    let column = read_column(version, body)?;
+    Ok(NumberFields {
+        code,
+        factor,
+        column,
+    })
+}
+
+// What the augmentation data says, where there is one.
+#[tactic(auto, unfolding(crate::specs::Cie::said_at))]
+fn read_augmentation(
+    letters: Option<&[u8]>,
+    body: &mut Reader<'_>,
+) -> Result<Augmentation, RecordFault>
+    ensures { Answers said_view body.new result (said_at (option_map (λ text. text.now) letters.entry) (reader_cursor body.old)) }
+{
+    match letters {
+        Some(letters) => {
+            let inner = read_data(body)?;
+            read_said(letters, inner)
+        }
+        None => Ok(plain()),
+    }
+}
+
+// An entry from its fields.
+fn shared<'a>(
+    place: u32,
+    numbers: NumberFields,
+    augmented: bool,
+    said: Augmentation,
+    insns: Part<'a>,
+) -> Shared<'a>
+    ensures { shared_view result ≡ shared_of place (numbers_view numbers) augmented (said_view said) (cursor insns.entry) }
+{
+    let cie = Cie {
+        place,
+        code: numbers.code,
+        factor: numbers.factor,
+        column: numbers.column,
+        encoding: said.pointers.encoding,
+        signal: said.signal,
+        key: said.key,
+        personality: said.personality,
+        insns,
+    };
+    Shared {
+        cie,
+        width: said.pointers.width,
+        augmented,
+        lsda: said.lsda,
+    }
+}
+
+// The fields behind the version of the entry that stands at a place.
+#[tactic(auto, using(crate::proofs::LetterViews::some_same), unfolding(crate::specs::Cie::cie_fields))]
+fn read_fields<'a>(
+    place: u32,
+    version: u8,
+    mut body: Reader<'a>,
+    arch: Arch,
+) -> Result<Shared<'a>, RecordFault>
+    ensures { Is shared_view result (cie_fields arch place version (reader_cursor body.entry)) }
+{
+    let letters = read_letters(&mut body, arch)?;
+    let numbers = read_numbers(version, &mut body)?;
+    let said = read_augmentation(letters, &mut body)?;
+    Ok(shared(place, numbers, letters.is_some(), said, body.part))
+}
+
+/// The common information entry of a record.
+#[tactic(auto, unfolding(crate::specs::Cie::cie_of))]
+pub fn read_cie<'a>(cut: &Cut<'a>, arch: Arch) -> Result<Shared<'a>, RecordFault>
+    ensures { Is shared_view result (cie_of arch (piece cut.now)) }
+{
+    let mut body = cut.body;
+    let version_place = body.place();
+    let version = body.byte()?;
+    if version != 1 && version != 3 {
+        return Err(RecordFault::CieVersion(version_place));
+    }
+    read_fields(cut.place, version, body, arch)
+}
+
+/// The common information entry that stands at a place of the section.
+#[tactic(auto, unfolding(crate::specs::Fde::cie_at_place))]
+pub fn cie_at<'a>(section: &'a [u8], place: u32, arch: Arch) -> Result<Shared<'a>, RecordFault>
+    requires { length section.now < 2 ^ 32 }
+    ensures { Is shared_view result (cie_at_place arch section.now place) }
+{
+    let mut from = Reader::from_place(section, place);
+    match next_cut(&mut from)? {
+        Some(cut) => read_cie(&cut, arch),
+        None => Err(RecordFault::CiePointer(place)),
+    }
+}

@@ -1,0 +1,70 @@
+//! Reading frame description entries.
+
+ghost use Rattle.std.specs.Prelude.{◌≡◌, ◌<◌, ◌≤◌, ◌^◌, length};
+ghost use Rattle.std.specs.Option.{option_map};
+ghost use Rattle.eh_records.specs.Cie.{shared_view};
+ghost use Rattle.eh_records.specs.Cut.{Is, piece};
+ghost use Rattle.eh_records.specs.Fde.{fde_view, lsda_in, lsda_at, entry_of, fde_of};
+ghost use Rattle.eh_records.specs.Step.{Answers, pointer_view, reader_cursor};
+
+use crate::cie::Shared;
+use crate::common::cie_at;
+use crate::cut::Cut;
+use crate::fault::RecordFault;
+use crate::fde::Fde;
+use crate::reader::Reader;
+use crate::said::read_data;
+use eh_pointer::width;
+use sf_bytes::Field;
+use sf_model::Arch;
+
+// The pointer to a language-specific data area at the front of the augmentation data, where the encoding
+// has a fixed width and the data is that long.
+fn lsda_of(encoding: Option<u8>, mut left: Reader<'_>) -> Option<Field>
+    ensures { option_map pointer_view result ≡ lsda_in encoding (reader_cursor left.entry) }
+{
+    let bytes = width(encoding?)?;
+    left.pointer(bytes).ok()
+}
+
+// That pointer, and the augmentation data passed.
+#[tactic(auto, unfolding(crate::specs::Fde::lsda_at))]
+fn read_lsda(shared: &Shared<'_>, body: &mut Reader<'_>) -> Result<Option<Field>, RecordFault>
+    ensures { Answers (λ field. option_map pointer_view field) body.new result (lsda_at (shared_view shared.now) (reader_cursor body.old)) }
+{
+    if !shared.augmented {
+        return Ok(None);
+    }
+    let left = read_data(body)?;
+    Ok(lsda_of(shared.lsda, left))
+}
+
+/// The frame description entry of a record whose common information entry is known.
+#[tactic(auto, unfolding(crate::specs::Fde::entry_of))]
+pub fn read_entry<'a>(cut: &Cut<'a>, shared: &Shared<'a>) -> Result<Fde<'a>, RecordFault>
+    ensures { Is fde_view result (entry_of (shared_view shared.now) (piece cut.now)) }
+{
+    let mut body = cut.body;
+    let begin = body.pointer(shared.width)?;
+    let range = body.pointer(shared.width)?;
+    let lsda = read_lsda(shared, &mut body)?;
+    Ok(Fde {
+        place: cut.place,
+        cie: shared.cie,
+        begin,
+        range,
+        lsda,
+        insns: body.part,
+    })
+}
+
+/// The frame description entry of a record, with the common information entry that it names read again.
+#[tactic(auto, unfolding(crate::specs::Fde::fde_of))]
+pub fn read_fde<'a>(section: &'a [u8], cut: &Cut<'a>, arch: Arch) -> Result<Fde<'a>, RecordFault>
+    requires { length section.now < 2 ^ 32 }
+    ensures { Is fde_view result (fde_of arch section.now (piece cut.now)) }
+{
+    let place = cut.cie_place()?;
+    let shared = cie_at(section, place, arch)?;
+    read_entry(cut, &shared)
+}

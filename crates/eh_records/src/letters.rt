@@ -1,0 +1,54 @@
+//! The augmentation string of a common information entry.
+
+ghost use Rattle.std.specs.Prelude.{◌≡◌, ◌<◌, [], List, take, drop};
+ghost use Rattle.std.specs.Option.{option_map};
+ghost use Rattle.eh_records.specs.Augmentation.{is_letter, is_new, are_letters, letters_at};
+ghost use Rattle.eh_records.specs.Step.{Answers, reader_cursor};
+
+use crate::fault::RecordFault;
+use crate::reader::Reader;
+use sf_model::Arch;
+
+// Whether a letter may follow the `z` of an augmentation string.
+fn may_stand(letter: u8, arch: Arch) -> bool
+    ensures { result ≡ is_letter arch letter }
+{
+    match letter {
+        b'R' | b'P' | b'S' | b'L' => true,
+        b'B' => arch == Arch::Aarch64,
+        _ => false,
+    }
+}
+
+// Whether a letter may stand behind these others.
+fn is_new_letter(letter: u8, before: &[u8], arch: Arch) -> bool
+    ensures { result ≡ is_new arch before.now letter }
+{
+    may_stand(letter, arch) && !before.contains(&letter)
+}
+
+// Whether these letters may follow the `z`: each is known, and none stands twice.
+fn letters_are_known(letters: &[u8], arch: Arch) -> bool
+    ensures { result ≡ are_letters arch [] letters.now }
+{
+    for (index, letter) in letters.iter().enumerate() {
+        let (before, _) = letters.split_at(index);
+        if !is_new_letter(*letter, before, arch) {
+            return false;
+        }
+    }
+    true
+}
+
+/// The letters behind the `z` of the augmentation string, or none where the string is empty.
+#[tactic(auto, unfolding(crate::specs::Augmentation::letters_at))]
+pub fn read_letters<'a>(body: &mut Reader<'a>, arch: Arch) -> Result<Option<&'a [u8]>, RecordFault>
+    ensures { Answers (λ letters. option_map (λ text. text.now) letters) body.new result (letters_at arch (reader_cursor body.old)) }
+{
+    let place = body.place();
+    match body.text()? {
+        [] => Ok(None),
+        [b'z', letters @ ..] if letters_are_known(letters, arch) => Ok(Some(letters)),
+        _ => Err(RecordFault::Augmentation(place)),
+    }
+}

@@ -1,0 +1,126 @@
+//! The augmentation data of a common information entry.
+
+ghost use Rattle.std.specs.Prelude.{◌≡◌, ◌<◌, List, take, drop};
+ghost use Rattle.std.specs.Option.{option_map};
+ghost use Rattle.eh_records.specs.Augmentation.{form_view, said_view, said_plain, said_by, data_at, form_at, personality_at, letter_at};
+ghost use Rattle.eh_records.specs.Cut.{Is};
+ghost use Rattle.eh_records.specs.Step.{Answers, reader_cursor, pointer_view};
+
+use crate::augmentation::{Augmentation, PointerForm};
+use crate::fault::RecordFault;
+use crate::layout::{ABSPTR, ABSPTR_LEN, OMIT};
+use crate::reader::Reader;
+use eh_pointer::{PointerFault, skip, usable, width};
+use sf_bytes::Field;
+use sf_model::Key;
+
+/// The augmentation data behind its length.
+#[tactic(auto, unfolding(crate::specs::Augmentation::data_at))]
+pub fn read_data<'a>(body: &mut Reader<'a>) -> Result<Reader<'a>, RecordFault>
+    ensures { Answers reader_cursor body.new result (data_at (reader_cursor body.old)) }
+{
+    let len = body.uleb()?;
+    body.sub(len)
+}
+
+// The form of function pointers, from its encoding.
+#[tactic(auto, unfolding(crate::specs::Augmentation::form_at))]
+fn read_form(data: &mut Reader<'_>) -> Result<PointerForm, RecordFault>
+    ensures { Answers form_view data.new result (form_at (reader_cursor data.old)) }
+{
+    let place = data.place();
+    let encoding = data.byte()?;
+    match usable(encoding) {
+        Some(width) => Ok(PointerForm { encoding, width }),
+        None => Err(RecordFault::Encoding(place)),
+    }
+}
+
+// Passes a personality pointer, and answers it where its width is fixed.
+#[tactic(auto, unfolding(crate::specs::Augmentation::personality_at))]
+fn read_personality(data: &mut Reader<'_>) -> Result<Option<Field>, RecordFault>
+    ensures { Answers (λ field. option_map pointer_view field) data.new result (personality_at (reader_cursor data.old)) }
+{
+    let encoding_place = data.place();
+    let encoding = data.byte()?;
+    if encoding == OMIT {
+        return Ok(None);
+    }
+    let place = data.place();
+    let mut after = data.part;
+    match skip(&mut after, encoding) {
+        Err(PointerFault::Encoding) => Err(RecordFault::Encoding(encoding_place)),
+        Err(PointerFault::Short) => Err(RecordFault::Short(place)),
+        Err(PointerFault::Leb) => Err(RecordFault::Leb(place)),
+        Ok(()) => match width(encoding) {
+            Some(bytes) => Ok(Some(data.pointer(bytes)?)),
+            None => {
+                data.part = after;
+                Ok(None)
+            }
+        },
+    }
+}
+
+// What one letter says, from the data that is left.
+#[tactic(auto, unfolding(crate::specs::Augmentation::letter_at))]
+fn read_letter(
+    letter: u8,
+    said: Augmentation,
+    data: &mut Reader<'_>,
+) -> Result<Augmentation, RecordFault>
+    ensures { Answers said_view data.new result (letter_at letter (said_view said) (reader_cursor data.old)) }
+{
+    match letter {
+        b'R' => {
+            let pointers = read_form(data)?;
+            Ok(Augmentation { pointers, ..said })
+        }
+        b'P' => {
+            let personality = read_personality(data)?;
+            Ok(Augmentation {
+                personality,
+                ..said
+            })
+        }
+        b'L' => {
+            let lsda = Some(data.byte()?);
+            Ok(Augmentation { lsda, ..said })
+        }
+        b'S' => Ok(Augmentation {
+            signal: true,
+            ..said
+        }),
+        _ => Ok(Augmentation {
+            key: Key::B,
+            ..said
+        }),
+    }
+}
+
+/// What an entry without augmentation says.
+pub fn plain() -> Augmentation
+    ensures { said_view result ≡ said_plain }
+{
+    Augmentation {
+        pointers: PointerForm {
+            encoding: ABSPTR,
+            width: ABSPTR_LEN,
+        },
+        lsda: None,
+        personality: None,
+        signal: false,
+        key: Key::A,
+    }
+}
+
+/// What the letters say, in their order, from the augmentation data. Bytes that are left over aren't read.
+pub fn read_said(letters: &[u8], mut left: Reader<'_>) -> Result<Augmentation, RecordFault>
+    ensures { Is said_view result (said_by letters.now said_plain (reader_cursor left.entry)) }
+{
+    let mut said = plain();
+    for letter in letters {
+        said = read_letter(*letter, said, &mut left)?;
+    }
+    Ok(said)
+}

@@ -1,0 +1,37 @@
+-- The lines on the error sink.
+use Rattle.std.specs.Prelude.{ℕ, List, [], ◌∷◌, ◌++◌, codes}
+use Rattle.sf_run.specs.declared.refusal.Limit.{Limit}
+use Rattle.sf_run.specs.declared.refusal.Limit.TheVariants.{File, Functions, Rows}
+
+-- a text and a line feed
+abbrev pub line : List ℕ → List ℕ
+line text = text ++ 10 ∷ []
+
+-- the words have none of the forms
+abbrev pub usage_line : List ℕ
+usage_line = line (codes "usage")
+
+-- the item of this name could not be read
+abbrev pub read_line : List ℕ → List ℕ
+read_line name = line (codes "read " ++ name)
+
+-- the file of this name could not be written
+abbrev pub write_file_line : List ℕ → List ℕ
+write_file_line name = line (codes "write file " ++ name)
+
+-- the text could not be written
+abbrev pub write_output_line : List ℕ
+write_output_line = line (codes "write output")
+
+-- memory ran out
+abbrev pub memory_line : List ℕ
+memory_line = line (codes "memory")
+
+-- what is exceeded: the bytes of the one item, the functions, or the rows
+abbrev pub limit_name : Limit → List ℕ
+limit_name File = codes "file 0"
+limit_name Functions = codes "functions"
+limit_name Rows = codes "rows"
+
+abbrev pub limit_line : Limit → List ℕ
+limit_line limit = line (codes "limit " ++ limit_name limit)

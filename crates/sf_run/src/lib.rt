@@ -1,0 +1,13 @@
+//! The commands, from the words of a command line to the files and texts that they leave.
+#![tactic(auto)]
+
+mod command;
+mod deliver;
+mod lines;
+mod link;
+mod refusal;
+mod status;
+mod words;
+
+pub use command::run;
+pub use status::Status;

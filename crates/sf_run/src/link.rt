@@ -1,0 +1,98 @@
+//! What `link` makes before it writes anything.
+
+ghost use Rattle.std.specs.Prelude.{◌≡◌, ◌<◌, ◌^◌, length, IsTrue, IfErr, IfSome, IsErrOf};
+ghost use Rattle.sf_base.specs.Contents.{contents_of};
+ghost use Rattle.sf_base.specs.Faults.{Rose};
+ghost use Rattle.sf_asm.specs.Fault.{is_answered};
+ghost use Rattle.sf_run.specs.Refused.{IsTold, IsLinkRefusal, IsLoadRefusal};
+
+use crate::refusal::{Limit, Refusal};
+use crate::words::Bare;
+use sf_asm::{Form, GatherFault, Input, LinkFault, Linked, assemble};
+use sf_base::{Files, LoadFault, NoMemory, load};
+use sf_text::report;
+use std::alloc::Global;
+
+/// The most bytes of one input.
+pub const INPUT_LIMIT: u64 = 1 << 28;
+
+/// A section, and the text that tells what it holds.
+#[derive(Drop)]
+pub struct Made {
+    pub section: Vec<u8>,
+    pub text: Vec<u8>,
+}
+
+/// Why an item was not loaded, as a refusal of the run.
+fn not_loaded(fault: LoadFault) -> Refusal
+    ensures { IsLoadRefusal fault result }
+{
+    match fault {
+        LoadFault::Read => Refusal::Read,
+        LoadFault::TooLong(_) => Refusal::Limit(Limit::File),
+        LoadFault::NoMemory => Refusal::Memory,
+    }
+}
+
+/// Why inputs were not linked, as a refusal of the run.
+fn not_linked(fault: &LinkFault) -> Refusal
+    requires { IsTrue (is_answered fault.now) }
+    ensures { IsLinkRefusal result }
+{
+    match fault {
+        LinkFault::NoMemory => Refusal::Memory,
+        LinkFault::Gather(GatherFault::NoMemory) => Refusal::Memory,
+        LinkFault::Gather(GatherFault::TooManyFunctions) => Refusal::Limit(Limit::Functions),
+        LinkFault::Gather(GatherFault::TooManyRows) => Refusal::Limit(Limit::Rows),
+        LinkFault::Gather(GatherFault::Input(_, _)) => Refusal::Input(fault.notice(None)),
+        LinkFault::Gather(GatherFault::MixedArch(_, _)) => Refusal::Input(fault.notice(None)),
+        LinkFault::Gather(GatherFault::Overlap(_, _, _, _)) => Refusal::Input(fault.notice(None)),
+        LinkFault::OutOfReach(_) => Refusal::Input(fault.notice(None)),
+    }
+}
+
+/// The section and the text of one input that is loaded.
+fn made_of(alloc: Global, input: &Bare<'_>, at: u64, bytes: &[u8]) -> Result<Made, Refusal>
+    requires { length bytes.now < 2 ^ 32 }
+    ensures { IfErr result IsLinkRefusal }
+{
+    let input = Input {
+        form: Form::Bare(input.arch),
+        bytes,
+        base: input.base,
+    };
+    let linked = match assemble(alloc, &input, at) {
+        Ok(linked) => linked,
+        Err(fault) => return Err(not_linked(&fault)),
+    };
+    match report(alloc, linked.kept, &linked.omitted) {
+        Ok(text) => Ok(Made {
+            section: linked.section,
+            text,
+        }),
+        Err(NoMemory) => Err(Refusal::Memory),
+    }
+}
+
+/// Loads the one input, links it, and makes the text. Nothing is written.
+pub fn make<F: Files>(
+    alloc: Global,
+    input: &Bare<'_>,
+    at: u64,
+    files: &mut F,
+) -> Result<Made, Refusal>
+    requires { IsTrue (F.may_open files.old input.now.name.now) }
+    ensures told { IfErr result IsTold }
+    ensures read { IsErrOf result Refusal.Read → Rose (F.read_faults files.old) (F.read_faults files.new) }
+    ensures too_long { IsErrOf result (Refusal.Limit Limit.File) → IfSome (F.contents files.old) (λ told. 2 ^ 28 < length (contents_of told input.now.name.now)) }
+    ensures contents { F.contents files.new ≡ F.contents files.old }
+    ensures created { F.created files.new ≡ F.created files.old }
+    ensures may_create { F.may_create files.new ≡ F.may_create files.old }
+    ensures write_faults { F.write_faults files.new ≡ F.write_faults files.old }
+{
+    let bytes = match load(alloc, files, input.name, INPUT_LIMIT) {
+        Ok(bytes) => bytes,
+        Err(fault) => return Err(not_loaded(fault)),
+    };
+    made_of(alloc, input, at, &bytes)
+}

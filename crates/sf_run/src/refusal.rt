@@ -1,0 +1,27 @@
+//! Why a run makes nothing.
+
+use sf_model::Notice;
+
+/// A limit that an input exceeds.
+#[derive(Clone, Copy, Debug, PartialEq, Eq)]
+pub enum Limit {
+    /// The bytes of the one item.
+    File,
+    /// The functions of a run, omitted ones too.
+    Functions,
+    /// The rows of a run.
+    Rows,
+}
+
+/// Why nothing was made.
+#[derive(Drop)]
+pub enum Refusal {
+    /// The item could not be read.
+    Read,
+    /// Memory ran out.
+    Memory,
+    /// A limit is exceeded.
+    Limit(Limit),
+    /// The input is refused.
+    Input(Notice),
+}

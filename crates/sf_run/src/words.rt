@@ -1,0 +1,100 @@
+//! The words of a command line.
+
+ghost use Rattle.std.specs.Prelude.{◌≡◌, ℕ, ◌++◌, [], ◌∷◌, List, map, IfSome, IsSome, IsSomeAnd};
+ghost use Rattle.std.specs.String.{string_bytes};
+ghost use Rattle.sf_model.specs.declared.machine.Arch.{Arch as machine};
+ghost use Rattle.sf_run.specs.Words.{IsPlaced, IsBareInput, IsLink, BareInput, LinkWords, HasNoForm, prefix_of};
+ghost use Rattle.sf_run.specs.Parsed.{bare_of, link_of};
+
+use sf_base::hex_word;
+use sf_model::Arch;
+
+/// A name and the address behind its last `@`.
+#[derive(Clone, Copy)]
+struct Placed<'a> {
+    name: &'a str,
+    address: u64,
+}
+
+/// A bare call frame section of this machine, whose first byte lies at `base`.
+#[derive(Clone, Copy)]
+pub struct Bare<'a> {
+    pub arch: Arch,
+    pub name: &'a str,
+    pub base: u64,
+}
+
+/// What `link OUT@AT IN@BASE` asks for.
+#[derive(Clone, Copy)]
+pub struct Link<'a> {
+    pub out: &'a str,
+    pub at: u64,
+    pub input: Bare<'a>,
+}
+
+fn name_and_address(word: &str) -> Option<Placed<'_>>
+    ensures found { IfSome result (λ p. IsPlaced word.now p.name.now p.address) }
+    ensures only { (name : List ℕ) (address : ℕ) → IsPlaced word.now name address → IsSomeAnd result (λ p. (p.name.now ≡ name) × (p.address ≡ address)) }
+{
+    let (name, digits) = word.rsplit_once('@')?;
+    let address = hex_word(digits)?;
+    Some(Placed { name, address })
+}
+
+fn machine_of(name: &str) -> Option<(Arch, &str)>
+    ensures found { IfSome result (λ m. name.now ≡ prefix_of m.0 ++ m.1.now) }
+    ensures only { (arch : machine) (rest : List ℕ) → name.now ≡ prefix_of arch ++ rest → IsSomeAnd result (λ m. (m.0 ≡ arch) × (m.1.now ≡ rest)) }
+{
+    if let Some(rest) = name.strip_prefix("eh-amd64:") {
+        return Some((Arch::Amd64, rest));
+    }
+    let rest = name.strip_prefix("eh-aarch64:")?;
+    Some((Arch::Aarch64, rest))
+}
+
+fn bare_input(word: &str) -> Option<Bare<'_>>
+    ensures found { IfSome result (λ b. IsBareInput word.now (bare_of b)) }
+    ensures only { (input : BareInput) → IsBareInput word.now input → IsSomeAnd result (λ b. bare_of b ≡ input) }
+{
+    let placed = name_and_address(word)?;
+    let (arch, name) = machine_of(placed.name)?;
+    if name.is_empty() {
+        return None;
+    }
+    Some(Bare {
+        arch,
+        name,
+        base: placed.address,
+    })
+}
+
+/// The three words, where there are three.
+fn three_words(words: &[String]) -> Option<(&str, &str, &str)>
+    ensures found { IfSome result (λ t. map string_bytes words.now ≡ t.0.now ∷ t.1.now ∷ t.2.now ∷ []) }
+    ensures only { (a b c : List ℕ) → map string_bytes words.now ≡ a ∷ b ∷ c ∷ [] → IsSome result }
+{
+    match words {
+        [first, second, third] => Some((first.as_str(), second.as_str(), third.as_str())),
+        _ => None,
+    }
+}
+
+/// What the words ask for, where they have the form `link OUT@AT IN@BASE`.
+pub fn link_words(words: &[String]) -> Option<Link<'_>>
+    ensures found { IfSome result (λ l. IsLink (map string_bytes words.now) (link_of l)) }
+    ensures only { (link : LinkWords) → IsLink (map string_bytes words.now) link → IsSomeAnd result (λ l. link_of l ≡ link) }
+{
+    let (command, out, input) = three_words(words)?;
+    if command != "link" {
+        return None;
+    }
+    let out = name_and_address(out)?;
+    if out.name.is_empty() {
+        return None;
+    }
+    Some(Link {
+        out: out.name,
+        at: out.address,
+        input: bare_input(input)?,
+    })
+}
