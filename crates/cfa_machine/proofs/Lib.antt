@@ -1,2 +1,4 @@
 pub mod Before
 pub mod GoodRows
+pub mod Agrees
+pub mod Says

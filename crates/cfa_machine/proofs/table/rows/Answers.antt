@@ -1,6 +1,7 @@
 use Rattle.std.proofs.Common.{◌≡◌, w64, FitsSigned}
 use Rattle.std.proofs.lemmas.Int.{to_z-of_z}
 use Rattle.cfa_machine.proofs.GoodRows.{rows_from-are_rows, answers_are_rows}
+use Rattle.cfa_machine.proofs.Says.{latest_front}
 use Rattle.cfa_machine.proofs.table.rows.Goals as goal
 
 pub returns-clause-rows : goal.returns-clause-rows
