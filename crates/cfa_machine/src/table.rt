@@ -3,6 +3,7 @@
 ghost use Rattle.std.specs.Prelude.{◌≡◌, [], IfOk};
 ghost use Rattle.sf_bytes.specs.Cursor.{cursor};
 ghost use Rattle.cfa_insn.specs.Listing.{listing};
+ghost use Rattle.cfa_machine.specs.At.{SayAll};
 ghost use Rattle.cfa_machine.specs.Columns.{no_columns};
 ghost use Rattle.cfa_machine.specs.RowList.{AreRows};
 ghost use Rattle.cfa_machine.specs.Pass.{Appends, Gives, defined_by, rows_by, rows_from};
@@ -73,6 +74,7 @@ pub fn rows(
     size: u64,
 ) -> Result<Vec<DwRow>, MachineFault>
     ensures rows { IfOk result (λ v. AreRows arch size v.items) }
+    ensures at { IfOk result (λ v. SayAll arch code factor size (listing (cursor cie.entry)) (listing (cursor fde.entry)) v.items) }
     ensures exact { Gives (λ v. v.items) result (rows_by arch code factor size (listing (cursor cie.entry)) (listing (cursor fde.entry))) }
 {
     let initial = initial_row(arch, factor, cie)?;
