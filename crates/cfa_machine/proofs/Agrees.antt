@@ -73,7 +73,7 @@ restore_agrees Aarch64 r initial row =
     rw (sp, fp, ra, sign) refl
 
 -- ---- the common information entry
-define_agrees : (arch : Arch) (place : ℕ) (effect : Effect) (row : FullRow) → ChangesTo arch (defined arch place effect (columns_of arch row)) (row_defined effect row)
+pub define_agrees : (arch : Arch) (place : ℕ) (effect : Effect) (row : FullRow) → ChangesTo arch (defined arch place effect (columns_of arch row)) (row_defined effect row)
 define_agrees arch place (Row change) row = change_agrees arch place change row
 define_agrees arch place (Advance n) row = tt
 define_agrees arch place (Restore r) row = tt

@@ -20,7 +20,7 @@ use Rattle.cfa_machine.specs.declared.machine.Setup.{Setup}
 use Rattle.cfa_machine.specs.declared.row.DwRow.{DwRow}
 use Rattle.cfa_machine.specs.Columns.{no_columns, changed, with_cfa_register, with_cfa_offset, row_from}
 use Rattle.cfa_machine.specs.Effects.{effect_by}
-use Rattle.cfa_machine.specs.Pass.{◌>>=◌, State, defined, defined_more, defined_by, advanced, row_before, with_remembered, with_recalled, ran, ran_more, last_row, in_front, rows_from, Gives}
+use Rattle.cfa_machine.specs.Pass.{◌>>=◌, State, defined, defined_more, defined_by, advanced, row_before, with_remembered, with_recalled, ran, ran_more, last_row, in_front, rows_from, rows_by, Gives}
 use Rattle.cfa_machine.specs.RowList.{RiseFrom, BeginAtZero, sign_fits, AreRows}
 
 -- ---- the sign
@@ -209,13 +209,20 @@ pub no_sign : (arch : Arch) → SignFits arch no_columns
 no_sign Amd64 = record { fits = refl }
 no_sign Aarch64 = record { fits = refl }
 
-pub rows_from-are_rows : (arch : Arch) (code : ℕ) (f : ℤ) (size : ℕ) (initial : Columns) (cie fde : List Item) → Ok initial ≡ defined_by arch f no_columns cie
+rows_from-are_rows : (arch : Arch) (code : ℕ) (f : ℤ) (size : ℕ) (initial : Columns) (cie fde : List Item) → Ok initial ≡ defined_by arch f no_columns cie
     → AreRowsIfOk arch size (rows_from (record { arch = arch; code = code; size = size; initial = initial }) f (record { columns = initial; remembered = []; offset = 0 }) fde)
 rows_from-are_rows arch code f size initial cie fde e =
     let k : Setup = record { arch = arch; code = code; size = size; initial = initial } in
     let s : State = record { columns = initial; remembered = []; offset = 0 } in
     let sign : SignFits arch initial = subst (SignsFit arch) (sym e) (defined_by_sign arch f no_columns cie (no_sign arch)) in
     whole k (rows_from k f s fde) (rows_from_rest k f s fde (record { sign = sign; remembered = All-nil (SignFits arch); capped = omega arith }))
+
+then_rows : (arch : Arch) (size : ℕ) (initial : Result Columns MachineFault) (next : Columns → Result (List DwRow) MachineFault) → ((c : Columns) → initial ≡ Ok c → AreRowsIfOk arch size (next c)) → AreRowsIfOk arch size (initial >>= next)
+then_rows arch size (Ok c) next go = go c refl
+then_rows arch size (Err e) next go = tt
+
+pub rows_by-are_rows : (arch : Arch) (code : ℕ) (f : ℤ) (size : ℕ) (cie fde : List Item) → AreRowsIfOk arch size (rows_by arch code f size cie fde)
+rows_by-are_rows arch code f size cie fde = then_rows arch size (defined_by arch f no_columns cie) _ (λ initial e. rows_from-are_rows arch code f size initial cie fde (sym e))
 
 pub answers_are_rows : (arch : Arch) (size : ℕ) (answer : Result (Vec DwRow Global) MachineFault) (given : Result (List DwRow) MachineFault) → Gives (λ (v : Vec DwRow Global). v.items) answer given → AreRowsIfOk arch size given → IfOk answer (λ v. AreRows arch size v.items)
 answers_are_rows arch size (Ok v) given e h = subst (AreRowsIfOk arch size) e h

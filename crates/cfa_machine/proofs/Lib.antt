@@ -2,3 +2,4 @@ pub mod Before
 pub mod GoodRows
 pub mod Agrees
 pub mod Says
+pub mod Faults

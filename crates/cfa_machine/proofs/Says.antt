@@ -16,7 +16,7 @@ use Rattle.cfa_machine.specs.declared.machine.Setup.{Setup}
 use Rattle.cfa_machine.specs.declared.row.DwRow.{DwRow}
 use Rattle.cfa_machine.specs.Columns.{no_columns, restored, changed, row_from}
 use Rattle.cfa_machine.specs.Effects.{effect_by}
-use Rattle.cfa_machine.specs.Pass.{◌>>=◌, State, defined_by, advanced, row_before, with_remembered, with_recalled, ran, ran_more, last_row, in_front, rows_from, Gives}
+use Rattle.cfa_machine.specs.Pass.{◌>>=◌, State, defined_by, advanced, row_before, with_remembered, with_recalled, ran, ran_more, last_row, in_front, rows_from, rows_by, Gives}
 use Rattle.cfa_machine.specs.RowList.{RiseFrom}
 use Rattle.cfa_machine.specs.FullRow.{FullRow, no_row, rule_of, with_register_rule, row_after, columns_of}
 use Rattle.cfa_machine.specs.At.{Full, recalled, full_after, offset_behind, full_at, initial_by, row_at_offset, latest_at, SaysAt, SayAll}
@@ -24,16 +24,16 @@ use Rattle.cfa_machine.proofs.GoodRows.{SignFits, SignsFit, StateFits, GoesOn, A
 use Rattle.cfa_machine.proofs.Agrees.{ChangesTo, change_agrees, restore_agrees, initial_agrees}
 
 -- ---- the state of the pass and the full state at an offset
-record Agrees (k : Setup) (s : State) (n : ℕ) (full : Full) : Type 0 where
-  columns : s.columns ≡ columns_of k.arch full.row
-  remembered : s.remembered ≡ map (columns_of k.arch) full.remembered
-  offset : s.offset ≡ min n (2 ^ 64 - 1)
+pub record Agrees (k : Setup) (s : State) (n : ℕ) (full : Full) : Type 0 where
+  pub columns : s.columns ≡ columns_of k.arch full.row
+  pub remembered : s.remembered ≡ map (columns_of k.arch) full.remembered
+  pub offset : s.offset ≡ min n (2 ^ 64 - 1)
 
-record StepAgrees (k : Setup) (s t : State) (row : Option DwRow) (m : ℕ) (full : Full) : Type 0 where
-  agrees : Agrees k t m full
-  row_is : row ≡ row_before k.size t.offset s.offset s.columns
+pub record StepAgrees (k : Setup) (s t : State) (row : Option DwRow) (m : ℕ) (full : Full) : Type 0 where
+  pub agrees : Agrees k t m full
+  pub row_is : row ≡ row_before k.size t.offset s.offset s.columns
 
-abbrev StepsAgree : Setup → State → Result (State × Option DwRow) MachineFault → ℕ → Full → Type 0
+abbrev pub StepsAgree : Setup → State → Result (State × Option DwRow) MachineFault → ℕ → Full → Type 0
 StepsAgree k s (Ok o) m full = StepAgrees k s o.0 o.1 m full
 StepsAgree k s (Err e) m full = Unit {0}
 
@@ -61,7 +61,7 @@ advance_caps code delta offset n e = rw e (plain (code * delta) n)
     plain : (by n : ℕ) → min (min n (2 ^ 64 - 1) + min by (2 ^ 64 - 1)) (2 ^ 64 - 1) ≡ min (n + by) (2 ^ 64 - 1)
     plain by n = omega arith
 
-ran_agrees : (k : Setup) (initial : FullRow) (place : ℕ) (effect : Effect) (s : State) (n : ℕ) (full : Full) → k.initial ≡ columns_of k.arch initial → Agrees k s n full
+pub ran_agrees : (k : Setup) (initial : FullRow) (place : ℕ) (effect : Effect) (s : State) (n : ℕ) (full : Full) → k.initial ≡ columns_of k.arch initial → Agrees k s n full
     → StepsAgree k s (ran k place effect s) (offset_behind k.code effect n) (full_after initial effect full)
 ran_agrees k initial place (Row change) s n full init h =
     change_steps k s n full (changed k.arch place change s.columns) (row_after change full.row) h (subst (λ (c : Columns). ChangesTo k.arch (changed k.arch place change c) (row_after change full.row)) (sym h.columns) (change_agrees k.arch place change full.row))
@@ -145,7 +145,7 @@ rows_say k initial f o s n full (Ok (place, i) ∷ items) init h fits le inside 
     (λ t agrees t_fits. record { rest = rows_from_rest k f t items t_fits; says = λ on. rows_say k initial f o t m behind items init agrees t_fits on inside small })
 
 -- ---- a whole function
-no_columns_there : (arch : Arch) → columns_of arch no_row ≡ no_columns
+pub no_columns_there : (arch : Arch) → columns_of arch no_row ≡ no_columns
 no_columns_there Amd64 = refl
 no_columns_there Aarch64 = refl
 
@@ -157,7 +157,7 @@ all_say : (arch : Arch) (code : ℕ) (f : ℤ) (size : ℕ) (cie fde : List Item
 all_say arch code f size cie fde (Ok rows) h = λ o lt. h o lt None
 all_say arch code f size cie fde (Err e) h = tt
 
-pub rows_from-say : (arch : Arch) (code : ℕ) (f : ℤ) (size : ℕ) (initial : Columns) (cie fde : List Item) → size < 2 ^ 64 → Ok initial ≡ defined_by arch f no_columns cie
+rows_from-say : (arch : Arch) (code : ℕ) (f : ℤ) (size : ℕ) (initial : Columns) (cie fde : List Item) → size < 2 ^ 64 → Ok initial ≡ defined_by arch f no_columns cie
     → SaysAllIfOk arch code f size cie fde (rows_from (record { arch = arch; code = code; size = size; initial = initial }) f (record { columns = initial; remembered = []; offset = 0 }) fde)
 rows_from-say arch code f size initial cie fde small e =
     let k : Setup = record { arch = arch; code = code; size = size; initial = initial } in
@@ -167,6 +167,13 @@ rows_from-say arch code f size initial cie fde small e =
     let from_none : ChangesTo arch (defined_by arch f no_columns cie) row = subst (λ (c : Columns). ChangesTo arch (defined_by arch f c cie) row) (no_columns_there arch) (initial_agrees arch f no_row cie) in
     let init : initial ≡ columns_of arch row = subst (λ (d : Result Columns MachineFault). ChangesTo arch d row) (sym e) from_none in
     all_say arch code f size cie fde (rows_from k f s fde) (λ o lt. rows_say k row f o s 0 (record { row = row; remembered = [] }) fde init (record { columns = init; remembered = refl; offset = refl }) (record { sign = sign; remembered = All-nil (SignFits arch); capped = omega arith }) (omega arith) lt small)
+
+then_say : (arch : Arch) (code : ℕ) (f : ℤ) (size : ℕ) (cie fde : List Item) (initial : Result Columns MachineFault) (next : Columns → Result (List DwRow) MachineFault) → ((c : Columns) → initial ≡ Ok c → SaysAllIfOk arch code f size cie fde (next c)) → SaysAllIfOk arch code f size cie fde (initial >>= next)
+then_say arch code f size cie fde (Ok c) next go = go c refl
+then_say arch code f size cie fde (Err e) next go = tt
+
+pub rows_by-say : (arch : Arch) (code : ℕ) (f : ℤ) (size : ℕ) (cie fde : List Item) → size < 2 ^ 64 → SaysAllIfOk arch code f size cie fde (rows_by arch code f size cie fde)
+rows_by-say arch code f size cie fde small = then_say arch code f size cie fde (defined_by arch f no_columns cie) _ (λ initial e. rows_from-say arch code f size initial cie fde small (sym e))
 
 pub answers_say : (arch : Arch) (code : ℕ) (f : ℤ) (size : ℕ) (cie fde : List Item) (answer : Result (Vec DwRow Global) MachineFault) (given : Result (List DwRow) MachineFault) → Gives (λ (v : Vec DwRow Global). v.items) answer given → SaysAllIfOk arch code f size cie fde given
     → IfOk answer (λ v. SayAll arch code f size cie fde v.items)

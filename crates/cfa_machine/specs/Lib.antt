@@ -5,3 +5,4 @@ pub mod Pass
 pub mod RowList
 pub mod FullRow
 pub mod At
+pub mod FirstFault
