@@ -3,3 +3,4 @@ pub mod GoodRows
 pub mod Agrees
 pub mod Says
 pub mod Faults
+pub mod Starts

@@ -1,7 +1,7 @@
 -- The row of a function at an offset (DWARF 5, section 6.4.3): the instructions of the common information entry and
 -- then those of its own before the first advance to an offset above are run afresh, with all registers. Offsets are
 -- plain integers.
-use Rattle.std.specs.Prelude.{◌≡◌, ◌<◌, ℕ, ℤ, ◌+◌, ◌*◌, Bool, nat_lt, nat_le, List, [], ◌∷◌, Option, Some, None, Result, Ok, Err, if◌then◌else◌}
+use Rattle.std.specs.Prelude.{◌≡◌, ◌<◌, ℕ, ℤ, ◌+◌, ◌*◌, ◌==◌, ◌||◌, Bool, false, nat_lt, nat_le, List, [], ◌∷◌, Option, Some, None, Result, Ok, Err, if◌then◌else◌}
 use Rattle.sf_model.specs.declared.machine.Arch.{Arch}
 use Rattle.cfa_insn.specs.Listing.{Item}
 use Rattle.cfa_machine.specs.declared.effect.Effect.{Effect}
@@ -76,3 +76,19 @@ pub record SaysAt (arch : Arch) (row : FullRow) (found : Option DwRow) : Type 0 
 
 abbrev pub SayAll : Arch → (code : ℕ) (f : ℤ) (size : ℕ) (cie fde : List Item) → List DwRow → Type 0
 SayAll arch code f size cie fde rows = (o : ℕ) → o < size → SaysAt arch (row_at_offset code f cie fde o) (latest_at o None rows)
+
+-- ---- where rows start
+-- whether the offset is o before some instruction or at the end: 0 is, and each that an advance arrives at
+unfoldable pub reaches : (code : ℕ) (f : ℤ) (o offset : ℕ) → List Item → Bool
+reaches code f o offset [] = offset == o
+reaches code f o offset (Err e ∷ items) = offset == o
+reaches code f o offset (Ok (place, i) ∷ items) = (offset == o) || reaches code f o (offset_behind code (effect_by f i) offset) items
+
+-- whether a row starts at o
+abbrev pub has_start : ℕ → List DwRow → Bool
+has_start o [] = false
+has_start o (r ∷ rows) = (r.start == o) || has_start o rows
+
+-- the starts are the offsets below the size that are reached
+abbrev pub StartWhereReached : (code : ℕ) (f : ℤ) (size : ℕ) (fde : List Item) → List DwRow → Type 0
+StartWhereReached code f size fde rows = (o : ℕ) → o < size → has_start o rows ≡ reaches code f o 0 fde

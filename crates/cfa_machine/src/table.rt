@@ -3,7 +3,7 @@
 ghost use Rattle.std.specs.Prelude.{◌≡◌, [], IfOk};
 ghost use Rattle.sf_bytes.specs.Cursor.{cursor};
 ghost use Rattle.cfa_insn.specs.Listing.{listing};
-ghost use Rattle.cfa_machine.specs.At.{SayAll};
+ghost use Rattle.cfa_machine.specs.At.{SayAll, StartWhereReached};
 ghost use Rattle.cfa_machine.specs.FirstFault.{Answers, first_fault};
 ghost use Rattle.cfa_machine.specs.Columns.{no_columns};
 ghost use Rattle.cfa_machine.specs.RowList.{AreRows};
@@ -100,6 +100,8 @@ pub fn rows(
     ensures rows { IfOk result (λ v. AreRows arch size v.items) }
     // At each offset below the size they say what the instructions give there.
     ensures at { IfOk result (λ v. SayAll arch code factor size (listing (cursor cie.entry)) (listing (cursor fde.entry)) v.items) }
+    // One starts at each offset below the size that is 0 or that an advance arrives at, and no other.
+    ensures starts { IfOk result (λ v. StartWhereReached code factor size (listing (cursor fde.entry)) v.items) }
     // Which instruction can't be read or run.
     ensures fault { Answers result (first_fault arch factor (listing (cursor cie.entry)) (listing (cursor fde.entry))) }
     // The same by one pass.
