@@ -20,14 +20,14 @@ use Rattle.cfa_machine.specs.declared.machine.Setup.{Setup}
 use Rattle.cfa_machine.specs.declared.row.DwRow.{DwRow}
 use Rattle.cfa_machine.specs.Columns.{no_columns, changed, with_cfa_register, with_cfa_offset, row_from}
 use Rattle.cfa_machine.specs.Effects.{effect_by}
-use Rattle.cfa_machine.specs.Pass.{◌>>=◌, State, defined, defined_more, defined_by, advanced, row_before, with_remembered, with_recalled, ran, ran_more, last_row, in_front, rows_from, Gives}
+use Rattle.cfa_machine.specs.Pass.{◌>>=◌, State, defined, defined_more, defined_by, advanced, row_before, with_remembered, with_recalled, ran, ran_more, last_row, in_front, rows_from, rows_by, Gives}
 use Rattle.cfa_machine.specs.RowList.{RiseFrom, BeginAtZero, sign_fits, AreRows}
 
 -- ---- the sign
 pub record SignFits (arch : Arch) (c : Columns) : Type 0 where
   pub fits : IsTrue (sign_fits arch c.signed)
 
-abbrev SignsFit : Arch → Result Columns MachineFault → Type 0
+abbrev pub SignsFit : Arch → Result Columns MachineFault → Type 0
 SignsFit arch (Ok c) = SignFits arch c
 SignsFit arch (Err e) = Unit {0}
 
@@ -66,7 +66,7 @@ then_sign : (arch : Arch) (d : Result Columns MachineFault) (next : Columns → 
 then_sign arch (Ok c) next h go = go c h
 then_sign arch (Err e) next h go = tt
 
-defined_by_sign : (arch : Arch) (f : ℤ) (c : Columns) (items : List Item) → SignFits arch c → SignsFit arch (defined_by arch f c items)
+pub defined_by_sign : (arch : Arch) (f : ℤ) (c : Columns) (items : List Item) → SignFits arch c → SignsFit arch (defined_by arch f c items)
 unfolding defined_by
 defined_by_sign arch f c [] h = h
 defined_by_sign arch f c (x ∷ items) h = then_sign arch (defined_more arch f x c) _ (defined_more_sign arch f x c h) (λ d g. defined_by_sign arch f d items g)
@@ -78,15 +78,15 @@ pub record StateFits (k : Setup) (s : State) : Type 0 where
   pub capped : s.offset < 2 ^ 64
 
 -- where an instruction goes: on with no row, or to a later offset behind a row
-abbrev Moves : Setup → State → State → Option DwRow → Type 0
+abbrev pub Moves : Setup → State → State → Option DwRow → Type 0
 Moves k s t None = (t.offset ≡ s.offset) ⊎ ((k.size ≤ s.offset) × (s.offset ≤ t.offset))
 Moves k s t (Some row) = (row ≡ row_from s.offset s.columns) × (s.offset < t.offset) × (s.offset < k.size)
 
-record Goes (k : Setup) (s t : State) (row : Option DwRow) : Type 0 where
-  fits : StateFits k t
-  moves : Moves k s t row
+pub record Goes (k : Setup) (s t : State) (row : Option DwRow) : Type 0 where
+  pub fits : StateFits k t
+  pub moves : Moves k s t row
 
-abbrev GoesOn : Setup → State → Result (State × Option DwRow) MachineFault → Type 0
+abbrev pub GoesOn : Setup → State → Result (State × Option DwRow) MachineFault → Type 0
 GoesOn k s (Ok o) = Goes k s o.0 o.1
 GoesOn k s (Err e) = Unit {0}
 
@@ -119,22 +119,22 @@ ran_goes k place (Restore r) s h = record { fits = record { sign = record { fits
 ran_goes k place Remember s h = remember_goes k place s (nat_lt (length s.remembered) 64) (StateDepth place) h
 ran_goes k place Recall s h = recall_goes k place s s.remembered h h.remembered
 
-ran_more_goes : (k : Setup) (f : ℤ) (x : Item) (s : State) → StateFits k s → GoesOn k s (ran_more k f x s)
+pub ran_more_goes : (k : Setup) (f : ℤ) (x : Item) (s : State) → StateFits k s → GoesOn k s (ran_more k f x s)
 ran_more_goes k f (Ok (place, i)) s h = ran_goes k place (effect_by f i) s h
 ran_more_goes k f (Err e) s h = tt
 
 -- ---- the rows
-abbrev StartsAt : ℕ → List DwRow → Type 0
+abbrev pub StartsAt : ℕ → List DwRow → Type 0
 StartsAt n [] = ⊥
 StartsAt n (r ∷ rows) = r.start ≡ n
 
-record AreRest (arch : Arch) (size offset : ℕ) (rows : List DwRow) : Type 0 where
-  begins : offset < size → StartsAt offset rows
-  rise : RiseFrom offset rows
-  below : All (λ (r : DwRow). r.start < size) rows
-  signs : All (λ (r : DwRow). IsTrue (sign_fits arch r.signed)) rows
+pub record AreRest (arch : Arch) (size offset : ℕ) (rows : List DwRow) : Type 0 where
+  pub begins : offset < size → StartsAt offset rows
+  pub rise : RiseFrom offset rows
+  pub below : All (λ (r : DwRow). r.start < size) rows
+  pub signs : All (λ (r : DwRow). IsTrue (sign_fits arch r.signed)) rows
 
-abbrev IsRest : Setup → ℕ → Result (List DwRow) MachineFault → Type 0
+abbrev pub IsRest : Setup → ℕ → Result (List DwRow) MachineFault → Type 0
 IsRest k offset (Ok rows) = AreRest k.arch k.size offset rows
 IsRest k offset (Err e) = Unit {0}
 
@@ -175,7 +175,7 @@ last_rest k s false fits e =
     let past : k.size ≤ s.offset = ltb-false s.offset k.size e in
     record { begins = λ lt. absurd (omega arith); rise = tt; below = All-nil (λ (r : DwRow). r.start < k.size); signs = All-nil (λ (r : DwRow). IsTrue (sign_fits k.arch r.signed)) }
 
-rows_from_rest : (k : Setup) (f : ℤ) (s : State) (items : List Item) → StateFits k s → IsRest k s.offset (rows_from k f s items)
+pub rows_from_rest : (k : Setup) (f : ℤ) (s : State) (items : List Item) → StateFits k s → IsRest k s.offset (rows_from k f s items)
 unfolding rows_from
 rows_from_rest k f s [] fits = last_rest k s (nat_lt s.offset k.size) fits refl
 rows_from_rest k f s (x ∷ items) fits = rest_then k s (ran_more k f x s) (λ t. rows_from k f t items) fits (ran_more_goes k f x s fits) (λ t h. rows_from_rest k f t items h)
@@ -205,17 +205,24 @@ whole k (Ok rows) h = record {
   }
 whole k (Err e) h = tt
 
-no_sign : (arch : Arch) → SignFits arch no_columns
+pub no_sign : (arch : Arch) → SignFits arch no_columns
 no_sign Amd64 = record { fits = refl }
 no_sign Aarch64 = record { fits = refl }
 
-pub rows_from-are_rows : (arch : Arch) (code : ℕ) (f : ℤ) (size : ℕ) (initial : Columns) (cie fde : List Item) → Ok initial ≡ defined_by arch f no_columns cie
+rows_from-are_rows : (arch : Arch) (code : ℕ) (f : ℤ) (size : ℕ) (initial : Columns) (cie fde : List Item) → Ok initial ≡ defined_by arch f no_columns cie
     → AreRowsIfOk arch size (rows_from (record { arch = arch; code = code; size = size; initial = initial }) f (record { columns = initial; remembered = []; offset = 0 }) fde)
 rows_from-are_rows arch code f size initial cie fde e =
     let k : Setup = record { arch = arch; code = code; size = size; initial = initial } in
     let s : State = record { columns = initial; remembered = []; offset = 0 } in
     let sign : SignFits arch initial = subst (SignsFit arch) (sym e) (defined_by_sign arch f no_columns cie (no_sign arch)) in
     whole k (rows_from k f s fde) (rows_from_rest k f s fde (record { sign = sign; remembered = All-nil (SignFits arch); capped = omega arith }))
+
+then_rows : (arch : Arch) (size : ℕ) (initial : Result Columns MachineFault) (next : Columns → Result (List DwRow) MachineFault) → ((c : Columns) → initial ≡ Ok c → AreRowsIfOk arch size (next c)) → AreRowsIfOk arch size (initial >>= next)
+then_rows arch size (Ok c) next go = go c refl
+then_rows arch size (Err e) next go = tt
+
+pub rows_by-are_rows : (arch : Arch) (code : ℕ) (f : ℤ) (size : ℕ) (cie fde : List Item) → AreRowsIfOk arch size (rows_by arch code f size cie fde)
+rows_by-are_rows arch code f size cie fde = then_rows arch size (defined_by arch f no_columns cie) _ (λ initial e. rows_from-are_rows arch code f size initial cie fde (sym e))
 
 pub answers_are_rows : (arch : Arch) (size : ℕ) (answer : Result (Vec DwRow Global) MachineFault) (given : Result (List DwRow) MachineFault) → Gives (λ (v : Vec DwRow Global). v.items) answer given → AreRowsIfOk arch size given → IfOk answer (λ v. AreRows arch size v.items)
 answers_are_rows arch size (Ok v) given e h = subst (AreRowsIfOk arch size) e h

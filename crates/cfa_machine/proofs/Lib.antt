@@ -1,2 +1,6 @@
 pub mod Before
 pub mod GoodRows
+pub mod Agrees
+pub mod Says
+pub mod Faults
+pub mod Starts

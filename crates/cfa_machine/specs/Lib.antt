@@ -3,3 +3,6 @@ pub mod Effects
 pub mod Columns
 pub mod Pass
 pub mod RowList
+pub mod FullRow
+pub mod At
+pub mod FirstFault

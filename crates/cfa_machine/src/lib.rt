@@ -22,3 +22,6 @@ pub use fault::MachineFault;
 pub use row::DwRow;
 pub use rule::{CfaRule, Rule};
 pub use table::rows;
+
+#[cfg(test)]
+mod tests;

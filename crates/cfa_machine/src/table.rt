@@ -3,6 +3,8 @@
 ghost use Rattle.std.specs.Prelude.{◌≡◌, [], IfOk};
 ghost use Rattle.sf_bytes.specs.Cursor.{cursor};
 ghost use Rattle.cfa_insn.specs.Listing.{listing};
+ghost use Rattle.cfa_machine.specs.At.{SayAll, StartWhereReached};
+ghost use Rattle.cfa_machine.specs.FirstFault.{Answers, first_fault};
 ghost use Rattle.cfa_machine.specs.Columns.{no_columns};
 ghost use Rattle.cfa_machine.specs.RowList.{AreRows};
 ghost use Rattle.cfa_machine.specs.Pass.{Appends, Gives, defined_by, rows_by, rows_from};
@@ -56,6 +58,28 @@ fn rows_after(
     Ok(rows)
 }
 
+// The rows of a function, as one pass over the instructions gives them.
+fn pass(
+    alloc: Global,
+    arch: Arch,
+    code: u64,
+    factor: i64,
+    cie: Part<'_>,
+    fde: Part<'_>,
+    size: u64,
+) -> Result<Vec<DwRow>, MachineFault>
+    ensures { Gives (λ v. v.items) result (rows_by arch code factor size (listing (cursor cie.entry)) (listing (cursor fde.entry))) }
+{
+    let initial = initial_row(arch, factor, cie)?;
+    let setup = Setup {
+        arch,
+        code,
+        size,
+        initial,
+    };
+    rows_after(alloc, setup, factor, fde)
+}
+
 /// The rows of a function, by rising start: for each offset below `size` that is 0 or that an advance
 /// arrives at, the state from there on. For size 0 there are none.
 ///
@@ -72,15 +96,16 @@ pub fn rows(
     fde: Part<'_>,
     size: u64,
 ) -> Result<Vec<DwRow>, MachineFault>
+    // They rise from 0 on, below the size.
     ensures rows { IfOk result (λ v. AreRows arch size v.items) }
+    // At each offset below the size they say what the instructions give there.
+    ensures at { IfOk result (λ v. SayAll arch code factor size (listing (cursor cie.entry)) (listing (cursor fde.entry)) v.items) }
+    // One starts at each offset below the size that is 0 or that an advance arrives at, and no other.
+    ensures starts { IfOk result (λ v. StartWhereReached code factor size (listing (cursor fde.entry)) v.items) }
+    // Which instruction can't be read or run.
+    ensures fault { Answers result (first_fault arch factor (listing (cursor cie.entry)) (listing (cursor fde.entry))) }
+    // The same by one pass.
     ensures exact { Gives (λ v. v.items) result (rows_by arch code factor size (listing (cursor cie.entry)) (listing (cursor fde.entry))) }
 {
-    let initial = initial_row(arch, factor, cie)?;
-    let setup = Setup {
-        arch,
-        code,
-        size,
-        initial,
-    };
-    rows_after(alloc, setup, factor, fde)
+    pass(alloc, arch, code, factor, cie, fde, size)
 }

@@ -16,3 +16,6 @@ mod row;
 pub use fault::ExpressFault;
 pub use function::express;
 pub use row::content;
+
+#[cfg(test)]
+mod tests;
