@@ -1,6 +1,6 @@
 //! Widths of numbers (SFrame Version 2, the info words of function and frame row entries).
 
-ghost use Rattle.std.specs.Prelude.{◌≡◌, ◌≤◌, ◌^◌, IsTrue, option_to_list};
+ghost use Rattle.std.specs.Prelude.{◌≡◌, ◌≤◌, IsTrue, option_to_list};
 ghost use Rattle.std.specs.List.{list_all};
 ghost use Rattle.sf_sizes.specs.Width.{width_len, holds_unsigned, holds_signed, least_width, IsLeastWidth};
 

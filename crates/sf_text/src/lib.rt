@@ -1,7 +1,7 @@
 //! The texts that a program of this repository prints: the report of a link, and the line of a fault.
 //!
-//! Each text is a definition in `specs/`, and the calls give it byte for byte. `report` builds its text;
-//! `fault_line` takes no memory, since it tells of a want of memory's neighbours too.
+//! Each text is a definition in `specs/`, and the calls give it byte for byte. `report` builds its text,
+//! `fault_line` takes no memory.
 #![tactic(auto)]
 
 mod digits;

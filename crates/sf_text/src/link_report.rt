@@ -1,6 +1,6 @@
 //! The report of a link.
 
-ghost use Rattle.std.specs.Prelude.{◌≡◌, ◌++◌, length, string_bytes, OnOk, IfOk};
+ghost use Rattle.std.specs.Prelude.{◌≡◌, ◌++◌, string_bytes, OnOk, IfOk};
 ghost use Rattle.std.specs.List.{flat_map};
 ghost use Rattle.sf_text.specs.Report.{span_text, origin_text, omission_text, omitted_line, counts_line, report_text};
 

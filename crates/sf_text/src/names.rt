@@ -1,6 +1,6 @@
 //! The names of reasons, groups and faults.
 
-ghost use Rattle.std.specs.Prelude.{◌≡◌, ◌≤◌, ◌==◌, length, IsTrue, IsSome};
+ghost use Rattle.std.specs.Prelude.{◌≡◌, ◌≤◌, length, IsTrue, IsSome};
 ghost use Rattle.sf_model.specs.Notice.{up_to, values_shown};
 ghost use Rattle.sf_text.specs.Names.{reason_name, group_name, elf_name, place_name, reloc_name, record_name, insn_name, machine_name, section_name, core_name, link_name, fault_name as name_of_fault};
 

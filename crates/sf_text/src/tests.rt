@@ -1,4 +1,4 @@
-ghost use Rattle.std.specs.Prelude.{◌≡◌, ◌≤◌, Some, length, IsTrue, is_some};
+ghost use Rattle.std.specs.Prelude.{◌≡◌, Some, length, IsTrue, is_some};
 ghost use Rattle.sf_model.specs.Notice.{values_shown, shows_item};
 
 use super::*;

@@ -1,5 +1,5 @@
 -- How long the parts of a section are.
-use Rattle.std.proofs.Common.{◌≡◌, ℕ, suc, zero, ◌+◌, ◌*◌, ◌^◌, List, [], ◌∷◌, ◌++◌, length, refl, ap, sym, ◌∙◌, arith, length-append, rules}
+use Rattle.std.proofs.Common.{◌≡◌, ℕ, ◌+◌, ◌*◌, List, [], ◌∷◌, ◌++◌, length, refl, ap, sym, ◌∙◌, arith, length-append}
 use Rattle.std.specs.Prelude.{ℤ, sum_by}
 use Rattle.std.specs.Int.{w32, cast_unsigned}
 use Rattle.std.specs.List.{flat_map}
@@ -13,9 +13,9 @@ use Rattle.sf_model.specs.declared.function.Func.{Func}
 use Rattle.sf_sizes.specs.Width.{width_len}
 use Rattle.sf_sizes.specs.RowLength.{offsets, offset_width, row_len}
 use Rattle.sf_write.specs.Number.{number_bytes, signed_bytes}
-use Rattle.sf_write.specs.Row.{row_info, offset_bytes, row_bytes, start_width, rows_bytes, rows_len}
+use Rattle.sf_write.specs.Row.{offset_bytes, row_bytes, start_width, rows_bytes, rows_len}
 use Rattle.sf_write.specs.Reach.{start_distance}
-use Rattle.sf_write.specs.Entry.{entry_info, entry_bytes, entries_bytes, repeat_size}
+use Rattle.sf_write.specs.Entry.{entry_bytes, entries_bytes}
 use Rattle.sf_write.specs.Section.{preamble, header_bytes, section_bytes, section_len, row_count, row_section_len}
 
 pub length-number : (len n : ℕ) → length (number_bytes len n) ≡ len

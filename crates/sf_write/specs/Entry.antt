@@ -1,5 +1,5 @@
 -- GNU SFrame specification, Version 2, function descriptor entries: their bytes.
-use Rattle.std.specs.Prelude.{◌+◌, ◌*◌, ◌++◌, ℕ, suc, List, [], ◌∷◌, length}
+use Rattle.std.specs.Prelude.{◌+◌, ◌*◌, ◌++◌, ℕ, List, [], ◌∷◌, length}
 use Rattle.sf_model.specs.declared.machine.Key.{Key}
 use Rattle.sf_model.specs.declared.machine.Key.TheVariants.{A, B}
 use Rattle.sf_model.specs.declared.function.Shape.{Shape}

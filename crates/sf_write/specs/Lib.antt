@@ -3,3 +3,4 @@ pub mod Row
 pub mod Entry
 pub mod Reach
 pub mod Section
+pub mod Writable

@@ -1,6 +1,6 @@
 -- GNU SFrame specification, Version 2, the flag SFRAME_F_FDE_FUNC_START_PCREL: a function's start counts from the address of
 -- its start field, in four signed bytes.
-use Rattle.std.specs.Prelude.{◌+◌, ◌*◌, ◌-ℤ◌, ℕ, zero, suc, ℤ, pos, Bool, List, [], ◌∷◌, Option, Some, None, if◌then◌else◌, ◌≡◌, ⊤}
+use Rattle.std.specs.Prelude.{◌+◌, ◌*◌, ◌-ℤ◌, ℕ, ℤ, pos, Bool, List, [], ◌∷◌, Option, Some, None, if◌then◌else◌, ◌≡◌, ⊤}
 use Rattle.sf_model.specs.declared.function.Func.{Func}
 use Rattle.sf_sizes.specs.Width.{holds_signed}
 use Rattle.sf_write.specs.declared.fault.WriteFault.{WriteFault}

@@ -1,5 +1,5 @@
 -- GNU SFrame specification, Version 2, frame row entries: the bytes of a function's rows.
-use Rattle.std.specs.Prelude.{◌+◌, ◌*◌, ◌-◌, ◌++◌, ℕ, Bool, List, [], ◌∷◌, length, sum_by, slice_get, if◌then◌else◌}
+use Rattle.std.specs.Prelude.{◌+◌, ◌*◌, ◌-◌, ◌++◌, ℕ, List, ◌∷◌, length, sum_by, slice_get, if◌then◌else◌}
 use Rattle.std.specs.Option.{option_map_or}
 use Rattle.std.specs.List.{flat_map}
 use Rattle.sf_model.specs.declared.machine.Base.{Base}

@@ -1,6 +1,6 @@
 //! Function descriptor entries (SFrame Version 2).
 
-ghost use Rattle.std.specs.Prelude.{◌≡◌, ◌≤◌, ◌<◌, ◌^◌, ◌*◌, ◌++◌, [], ◌∷◌, Some, None, length, OnOk, IfErr};
+ghost use Rattle.std.specs.Prelude.{◌≡◌, ◌≤◌, ◌^◌, ◌++◌, [], ◌∷◌, None, length, OnOk, IfErr};
 ghost use Rattle.sf_write.specs.Entry.{entry_info, entry_bytes, entries_bytes, repeat_size};
 ghost use Rattle.sf_write.specs.Reach.{first_out_of_reach, Refuses};
 ghost use Rattle.sf_write.specs.Section.{row_count};

@@ -1,7 +1,7 @@
 //! The header (SFrame Version 2).
 
-ghost use Rattle.std.specs.Prelude.{◌≡◌, ◌≤◌, ◌^◌, ◌++◌, [], ◌∷◌, OnOk};
-ghost use Rattle.sf_write.specs.Section.{abi, fixed_return, preamble, header_bytes};
+ghost use Rattle.std.specs.Prelude.{◌≡◌, ◌≤◌, ◌^◌, ◌++◌, OnOk};
+ghost use Rattle.sf_write.specs.Section.{preamble, header_bytes};
 
 use crate::layout::{
     ABI_AARCH64, ABI_AMD64, FIXED_RETURN_AMD64, FLAGS, FUNCTION_ENTRY_LEN, MAGIC, VERSION,

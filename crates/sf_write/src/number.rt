@@ -1,6 +1,6 @@
 //! Numbers as little-endian bytes.
 
-ghost use Rattle.std.specs.Prelude.{◌≡◌, ◌≤◌, ◌++◌, [], ◌∷◌, ◌⊎◌, OnOk};
+ghost use Rattle.std.specs.Prelude.{◌≡◌, ◌≤◌, ◌++◌, OnOk};
 ghost use Rattle.sf_sizes.specs.Width.{width_len};
 ghost use Rattle.sf_write.specs.Number.{number_bytes, signed_bytes};
 

@@ -1,11 +1,10 @@
 //! A function's rows (SFrame Version 2, frame row entries).
 
-ghost use Rattle.std.specs.Prelude.{◌≡◌, ◌≤◌, ◌<◌, ◌^◌, ◌*◌, ◌++◌, [], ◌∷◌, length, sum_by, OnOk, option_to_list};
+ghost use Rattle.std.specs.Prelude.{◌≡◌, ◌≤◌, ◌^◌, ◌*◌, ◌++◌, length, OnOk, option_to_list};
 ghost use Rattle.std.specs.List.{flat_map};
 ghost use Rattle.sf_sizes.specs.Width.{width_len};
-ghost use Rattle.sf_sizes.specs.RowLength.{offsets, return_offset, offset_width, row_len};
 ghost use Rattle.sf_write.specs.Number.{signed_bytes};
-ghost use Rattle.sf_write.specs.Row.{row_info, offset_bytes, row_bytes as row_spelling, last_start, start_width, rows_bytes, rows_len};
+ghost use Rattle.sf_write.specs.Row.{row_info, offset_bytes, row_bytes as row_spelling, start_width, rows_bytes, rows_len};
 
 use crate::number::{push_narrow, push_narrow_signed};
 use sf_model::{Base, Content, Row};

@@ -1,6 +1,6 @@
 //! How much a section holds in all.
 
-ghost use Rattle.std.specs.Prelude.{◌≡◌, ◌≤◌, ◌^◌, ◌*◌, length};
+ghost use Rattle.std.specs.Prelude.{◌≡◌, ◌≤◌, ◌^◌, ◌*◌};
 ghost use Rattle.sf_write.specs.Section.{row_count, row_section_len};
 
 use crate::row::rows_len_of;

@@ -1,7 +1,7 @@
 use Rattle.std.proofs.Common.{◌≡◌, ◌++◌, ◌*◌, ◌≤◌, take, drop}
 use Rattle.sf_write.specs.Entry.{entries_bytes}
 use Rattle.sf_write.specs.Reach.{first_out_of_reach}
-use Rattle.sf_write.specs.Section.{row_count, row_section_len}
+use Rattle.sf_write.specs.Section.{row_count}
 use Rattle.sf_write.proofs.entry.push_entries.Given as goal
 
 -- what is there and the entries that are left are all that is to be there; the first start that is out of reach is among
