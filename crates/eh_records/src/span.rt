@@ -1,6 +1,6 @@
 //! A function's start and size.
 
-ghost use Rattle.std.specs.Prelude.{◌≡◌};
+ghost use Rattle.std.specs.Prelude.{◌≡◌, ◌≤◌, ◌+◌, ◌^◌, IfOk};
 ghost use Rattle.eh_records.specs.Span.{span_of};
 
 use crate::fault::RecordFault;
@@ -20,7 +20,8 @@ impl Fde<'_> {
         shift: u64,
         values: &V,
     ) -> Result<(u64, u64), RecordFault>
-        ensures { result ≡ span_of self.now.cie.encoding self.now.begin.place address shift (V.field_bits values.now self.now.begin.place self.now.begin.width self.now.begin.raw) (V.field_bits values.now self.now.range.place self.now.range.width self.now.range.raw) }
+        ensures exact { result ≡ span_of self.now.cie.encoding self.now.begin.place address shift (V.field_bits values.now self.now.begin.place self.now.begin.width self.now.begin.raw) (V.field_bits values.now self.now.range.place self.now.range.width self.now.range.raw) }
+        ensures end { IfOk result (λ s. s.0 + s.1 ≤ 2 ^ 64) }
     {
         let place = self.begin.place as u32;
         let (Some(begin), Some(range)) = (values.bits(self.begin), values.bits(self.range)) else {

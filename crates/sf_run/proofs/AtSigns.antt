@@ -1,15 +1,12 @@
 -- Where a word is cut: at its last `@`, since an address has none.
 use Rattle.std.proofs.Common.{◌≡◌, ◌≢◌, ℕ, zero, suc, ◌+◌, ◌-◌, ◌<◌, ◌≤◌, Bool, true, false, eqb, ltb, cond, List, [], ◌∷◌, ◌++◌, length, map, get_or, take, drop, Option, Some, None, refl, sym, ap, subst, ◌∙◌, arith, inl, inr}
-use Rattle.std.specs.Prelude.{All}
-use Rattle.std.specs.List.{AllByRecursion}
 use Rattle.std.specs.Str.{NoCharPasses}
 use Rattle.std.specs.Str.Pattern.{HasCharAt}
 use Rattle.std.proofs.lemmas.Bool.{cases_lt}
 use Rattle.std.proofs.lemmas.Bool.Decides.{nat_tests}
 use Rattle.std.proofs.lemmas.List.{take-append-drop}
-use Rattle.std.proofs.lemmas.List.Elements.{recursion_from_All}
 use Rattle.std.proofs.lemmas.Str.Pattern.{NoCharPasses-char, drop_at_char}
-use Rattle.sf_base.specs.Word.{SpellsHexadecimal, digit_character}
+use Rattle.sf_base.specs.Word.{SpellsHexadecimal, AllBelow, digit_character}
 use Rattle.sf_run.specs.Words.{IsPlaced}
 
 -- no byte is an `@`
@@ -39,14 +36,14 @@ cut_once (x ∷ a) b (y ∷ c) d e p q =
 digit_is_no_at : (d : ℕ) → d < 16 → digit_character d ≢ 64
 digit_is_no_at d lt = grind (arith, nat_tests)
 
-digits_have_no_at : (ds : List ℕ) → AllByRecursion (λ d. d < 16) ds → HasNoAt (map digit_character ds)
+digits_have_no_at : (ds : List ℕ) → AllBelow 16 ds → HasNoAt (map digit_character ds)
 digits_have_no_at [] h = tt
 digits_have_no_at (d ∷ ds) h = (digit_is_no_at d h.0, digits_have_no_at ds h.1)
 
 -- an address has no `@`
 pub HasNoAt-address : (text : List ℕ) (n : ℕ) → SpellsHexadecimal text n → HasNoAt text
 HasNoAt-address text n h =
-    subst HasNoAt (sym h.1.text_is) (omega arith, (omega arith, digits_have_no_at h.0 (recursion_from_All (λ d. d < 16) h.0 h.1.below)))
+    subst HasNoAt (sym h.1.text_is) (omega arith, (omega arith, digits_have_no_at h.0 h.1.below))
 
 -- what `rsplit_once` gives is the cut of a word with an address
 pub cut_is_last : (s name digits : List ℕ) (i j : ℕ) → NoCharPasses (λ d. eqb d 64) (drop j s) → HasCharAt 64 s i j → s ≡ name ++ 64 ∷ digits → HasNoAt digits

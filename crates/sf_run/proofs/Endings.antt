@@ -8,7 +8,7 @@ use Rattle.sf_run.specs.declared.refusal.Refusal.{Refusal}
 use Rattle.sf_run.specs.declared.refusal.Refusal.TheVariants as refusal
 use Rattle.sf_run.specs.declared.status.Status.{Status}
 use Rattle.sf_run.specs.declared.status.Status.TheVariants as status
-use Rattle.sf_text.specs.Line.{fault_text}
+use Rattle.sf_text.specs.FaultLine.{fault_text}
 use Rattle.sf_run.specs.Words.{LinkWords}
 use Rattle.sf_run.specs.Lines.{read_line, memory_line, limit_line}
 use Rattle.sf_run.specs.Refused.{IsTold}

@@ -5,7 +5,7 @@ use Rattle.sf_base.specs.Faults.{Rose}
 use Rattle.sf_base.specs.Written.{Appends, AppendsPrefix}
 use Rattle.sf_model.specs.declared.notice.Notice.{Notice}
 use Rattle.sf_model.specs.Notice.{HasLine}
-use Rattle.sf_text.specs.Line.{fault_text}
+use Rattle.sf_text.specs.FaultLine.{fault_text}
 use Rattle.sf_run.specs.declared.refusal.Limit.{Limit}
 use Rattle.sf_run.specs.declared.refusal.Limit.TheVariants.{File, Functions, Rows}
 use Rattle.sf_run.specs.declared.refusal.Refusal.{Refusal}
