@@ -11,3 +11,6 @@ mod words;
 
 pub use command::run;
 pub use status::Status;
+
+#[cfg(test)]
+mod tests;
