@@ -65,7 +65,8 @@ pub fn run<F: Files, O: Sink, E: Sink>(
 ) -> Status
     requires open { (link : LinkWords) → IsLink (map string_bytes words.now) link → IsTrue (F.may_open files.old link.input.name) }
     requires create { (link : LinkWords) → IsLink (map string_bytes words.now) link → IsTrue (F.may_create files.old link.out) }
-    ensures usage { HasNoForm (map string_bytes words.now) → (result ≡ Status.Usage) × IsTurnedAway
+    ensures usage { (result ≡ Status.Usage) ↔ HasNoForm (map string_bytes words.now) }
+    ensures turned_away { HasNoForm (map string_bytes words.now) → IsTurnedAway
         (files_seen F.contents F.created F.read_faults F.write_faults files.old)
         (files_seen F.contents F.created F.read_faults F.write_faults files.new)
         (sink_seen O.written O.faults out.old) (sink_seen O.written O.faults out.new)

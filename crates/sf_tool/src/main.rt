@@ -2,6 +2,10 @@
 //! standard streams, and ends with its status.
 #![tactic(auto)]
 
+ghost use Rattle.std.specs.Prelude.{◌≡◌, ◌↔◌, map};
+ghost use Rattle.std.specs.String.{string_bytes};
+ghost use Rattle.sf_run.specs.Words.{HasNoForm};
+
 use sf_base::{HostFiles, HostSink};
 use sf_run::{Status, run};
 use std::process::ExitCode;
@@ -13,7 +17,9 @@ fn words(rt: &HostRuntime) -> io::Result<Vec<String>> {
 }
 
 /// Runs over the machine's files and streams.
-fn run_on_host(rt: &HostRuntime, words: &[String]) -> Status {
+fn run_on_host(rt: &HostRuntime, words: &[String]) -> Status
+    ensures usage { (result ≡ Status.Usage) ↔ HasNoForm (map string_bytes words.now) }
+{
     let mut files = HostFiles::new(rt);
     let mut out = HostSink::new(rt.stdout());
     let mut err = HostSink::new(rt.stderr());
