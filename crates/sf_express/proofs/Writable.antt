@@ -65,7 +65,7 @@ abbrev ContentFits : Arch → Result Content Reason → Type 0
 ContentFits arch (Ok c) = IsTrue (content_fits arch c)
 ContentFits arch (Err e) = Unit {0}
 
-abbrev made : Base × ℤ → Ra → Option ℤ → Bool → Content
+abbrev pub made : Base × ℤ → Ra → Option ℤ → Bool → Content
 made x ra fp signed = record { base = x.0; cfa = x.1; ra = ra; fp = fp; signed = signed }
 
 pair_fits : (arch : Arch) (x : Base × ℤ) (ra : Ra) (fp : Option ℤ) (sign : Result (Unit {0}) Reason) (signed : Bool) → RaFits arch (Ok ra) → IsTrue (sign_fits arch signed) → ContentFits arch (pair_part ra fp >>> λ _. (sign >>> λ _. Ok (made x ra fp signed)))
@@ -93,7 +93,7 @@ unfolding content_of
 content_of-fits arch r h = parts_fit arch (cfa_part arch r.cfa) (sp_part r.sp) (ra_part arch r.ra) (fp_part r.fp) (sign_part arch r.sign) r.signed (ra_fits arch r.ra) h
 
 -- ---- rows
-abbrev StartsRise : ℕ → List Row → Type 0
+abbrev pub StartsRise : ℕ → List Row → Type 0
 StartsRise least [] = Unit {0}
 StartsRise least (r ∷ rows) = (least ≤ r.start) × StartsRise (r.start + 1) rows
 
@@ -109,11 +109,11 @@ adjacent least (r ∷ s ∷ rows) h (suc k) d lt =
     let e : suc k + 1 ≡ suc (k + 1) = omega arith in
     rw e (adjacent (r.start + 1) (s ∷ rows) h.1 k d (omega arith))
 
-record AreKept (arch : Arch) (least : ℕ) (rows : List Row) : Type 0 where
-  rise : StartsRise least rows
-  contents : All (λ (r : Row). IsTrue (content_fits arch r.content)) rows
+pub record AreKept (arch : Arch) (least : ℕ) (rows : List Row) : Type 0 where
+  pub rise : StartsRise least rows
+  pub contents : All (λ (r : Row). IsTrue (content_fits arch r.content)) rows
 
-abbrev KeptFit : Arch → ℕ → Result (List Row) Omission → Type 0
+abbrev pub KeptFit : Arch → ℕ → Result (List Row) Omission → Type 0
 KeptFit arch least (Ok rows) = AreKept arch least rows
 KeptFit arch least (Err e) = Unit {0}
 
@@ -127,7 +127,7 @@ kept_then : (arch : Arch) (least start : ℕ) (last : Option Content) (content :
 kept_then arch least start last (Ok c) next le fits go = kept_front arch least (repeats last c) (record { start = start; content = c }) (next (record { start = start; content = c })) le fits (go (record { start = start; content = c }))
 kept_then arch least start last (Err e) next le fits go = tt
 
-kept_fit : (arch : Arch) (least : ℕ) (last : Option Content) (rows : List DwRow) → RiseFrom least rows → All (λ (r : DwRow). IsTrue (sign_fits arch r.signed)) rows → KeptFit arch least (expressed_rows arch last rows)
+pub kept_fit : (arch : Arch) (least : ℕ) (last : Option Content) (rows : List DwRow) → RiseFrom least rows → All (λ (r : DwRow). IsTrue (sign_fits arch r.signed)) rows → KeptFit arch least (expressed_rows arch last rows)
 unfolding expressed_rows
 kept_fit arch least last [] rise signs = record { rise = tt; contents = All-nil (λ (r : Row). IsTrue (content_fits arch r.content)) }
 kept_fit arch least last (r ∷ rows) rise signs = kept_then arch least r.start last (content_of arch r) _ rise.0 (content_of-fits arch r (signs 0 r (omega arith))) (λ row. kept_fit arch (r.start + 1) (Some row.content) rows rise.1 (All-tail (λ (r : DwRow). IsTrue (sign_fits arch r.signed)) r rows signs))

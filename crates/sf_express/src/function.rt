@@ -3,6 +3,7 @@
 ghost use Rattle.std.specs.Prelude.{◌≡◌, ◌^◌, ◌<◌, ◌+◌, ◌≤◌, List, All, IfOk, IsTrue, None};
 ghost use Rattle.sf_model.specs.Function.{IsWritable, key_fits};
 ghost use Rattle.cfa_machine.specs.RowList.{AreRows};
+ghost use Rattle.sf_express.specs.Offsets.{SayTheSame};
 ghost use Rattle.sf_express.specs.Expressed.{repeats, same_content, column_of, reason_of, row_by, Makes, Appends, Gives, unless_repeated, expressed_rows, function_by};
 
 use crate::fault::ExpressFault;
@@ -116,6 +117,7 @@ pub fn express(
 ) -> Result<Func, ExpressFault>
     requires { AreRows arch facts.now.size rows.now }
     ensures writable { IfOk result (λ f. facts.now.start + facts.now.size ≤ 2 ^ 64 → IsTrue (key_fits arch facts.now.key) → IsWritable arch f) }
+    ensures same { IfOk result (λ f. SayTheSame arch rows.now f.rows) }
     ensures exact { Gives (λ f. f) result (function_by arch facts.now rows.now) }
 {
     if let Some(reason) = function_reason(arch, facts) {

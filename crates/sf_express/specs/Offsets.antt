@@ -1,0 +1,31 @@
+-- What rows say at an offset of their function: the row with the greatest start not above it (GNU SFrame
+-- specification, "SFrame Frame Row Entries").
+use Rattle.std.specs.Prelude.{◌≡◌, ◌<◌, ℕ, nat_le, List, [], ◌∷◌, Option, Some, None, Result, Ok, Err, if◌then◌else◌}
+use Rattle.sf_model.specs.declared.machine.Arch.{Arch}
+use Rattle.sf_model.specs.declared.content.Content.{Content}
+use Rattle.sf_model.specs.declared.omission.Reason.{Reason}
+use Rattle.sf_model.specs.declared.rows.Row.{Row}
+use Rattle.cfa_machine.specs.declared.row.DwRow.{DwRow}
+use Rattle.cfa_machine.specs.At.{latest_at}
+use Rattle.sf_express.specs.Parts.{content_of}
+
+-- the content, or the reason against it, of the call frame instructions' row at an offset
+abbrev pub said : Arch → Option DwRow → Option (Result Content Reason)
+said arch None = None
+said arch (Some r) = Some (content_of arch r)
+
+abbrev pub said_at : Arch → ℕ → List DwRow → Option (Result Content Reason)
+said_at arch o rows = said arch (latest_at o None rows)
+
+-- the content of the SFrame row at an offset
+abbrev pub latest_content : ℕ → Option Content → List Row → Option Content
+latest_content o found [] = found
+latest_content o found (r ∷ rows) = latest_content o (if nat_le r.start o then Some r.content else found) rows
+
+abbrev pub as_said : Option Content → Option (Result Content Reason)
+as_said None = None
+as_said (Some c) = Some (Ok c)
+
+-- at every offset SFrame's rows say what the call frame instructions' rows say
+abbrev pub SayTheSame : Arch → List DwRow → List Row → Type 0
+SayTheSame arch rows kept = (o : ℕ) → said_at arch o rows ≡ as_said (latest_content o None kept)
