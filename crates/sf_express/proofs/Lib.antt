@@ -1,3 +1,4 @@
 pub mod Kept
 pub mod Writable
 pub mod Same
+pub mod Omitted

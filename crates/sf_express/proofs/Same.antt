@@ -81,7 +81,7 @@ repeated_is None c e = cc
 repeated_is (Some d) c e = ap (λ (x : Content). Some x) (content_same d c e)
 
 -- ---- rows past the offset
-rows_past : (o least : ℕ) (found : Option DwRow) (rows : List DwRow) → o < least → RiseFrom least rows → latest_at o found rows ≡ found
+pub rows_past : (o least : ℕ) (found : Option DwRow) (rows : List DwRow) → o < least → RiseFrom least rows → latest_at o found rows ≡ found
 rows_past o least found [] lt h = refl
 rows_past o least found (r ∷ rows) lt h =
     let first : least ≤ r.start = h.0 in
