@@ -2,3 +2,4 @@ pub mod Kept
 pub mod Writable
 pub mod Same
 pub mod Omitted
+pub mod Changes

@@ -76,7 +76,7 @@ content_same a b e =
     let sign = sign_same a.signed b.signed p.1 in
     parts_same a.base b.base a.cfa b.cfa a.ra b.ra a.fp b.fp a.signed b.signed base cfa ra fp sign
 
-repeated_is : (last : Option Content) (c : Content) → repeats last c ≡ true → last ≡ Some c
+pub repeated_is : (last : Option Content) (c : Content) → repeats last c ≡ true → last ≡ Some c
 repeated_is None c e = cc
 repeated_is (Some d) c e = ap (λ (x : Content). Some x) (content_same d c e)
 

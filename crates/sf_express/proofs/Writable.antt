@@ -151,7 +151,7 @@ some_kept arch [] h = absurd (omega arith)
 some_kept arch (r ∷ rows) h = first_kept r.start (content_of arch r) _
 
 -- ---- the function
-size_is_some : (arch : Arch) (facts : FdeFacts) → reason_of arch facts ≡ None → 0 < facts.size
+pub size_is_some : (arch : Arch) (facts : FdeFacts) → reason_of arch facts ≡ None → 0 < facts.size
 size_is_some arch facts e = grind arith
 
 abbrev FunctionFits : Arch → Result Func Omission → Type 0

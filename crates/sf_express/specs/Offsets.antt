@@ -1,6 +1,6 @@
 -- What rows say at an offset of their function: the row with the greatest start not above it (GNU SFrame
 -- specification, "SFrame Frame Row Entries").
-use Rattle.std.specs.Prelude.{◌≡◌, ◌<◌, ℕ, nat_le, List, [], ◌∷◌, Option, Some, None, Result, Ok, Err, if◌then◌else◌}
+use Rattle.std.specs.Prelude.{◌≡◌, ◌≢◌, ◌<◌, ℕ, nat_le, List, [], ◌∷◌, Option, Some, None, Result, Ok, Err, if◌then◌else◌}
 use Rattle.sf_model.specs.declared.machine.Arch.{Arch}
 use Rattle.sf_model.specs.declared.content.Content.{Content}
 use Rattle.sf_model.specs.declared.omission.Reason.{Reason}
@@ -57,3 +57,18 @@ abbrev pub Omits : Arch → FdeFacts → List DwRow → Result Func ExpressFault
 Omits arch facts rows (Ok f) = reason_of arch facts ≡ None
 Omits arch facts rows (Err (Omit omission)) = IsOmission arch facts rows omission.reason omission.offset
 Omits arch facts rows (Err NoMemory) = Unit {0}
+
+-- a row's content is not that of the row before it
+abbrev pub DifferFrom : Option Content → List Row → Type 0
+DifferFrom last [] = Unit {0}
+DifferFrom last (r ∷ rows) = (last ≢ Some r.content) × DifferFrom (Some r.content) rows
+
+-- the first row starts at 0
+abbrev pub StartAtZero : List Row → Type 0
+StartAtZero [] = ⊥
+StartAtZero (r ∷ rows) = r.start ≡ 0
+
+-- rows stand at 0 and where the content changes, and nowhere else
+pub record StandAtChanges (rows : List Row) : Type 0 where
+  pub first : StartAtZero rows
+  pub differ : DifferFrom None rows

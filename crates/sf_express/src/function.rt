@@ -3,7 +3,7 @@
 ghost use Rattle.std.specs.Prelude.{◌≡◌, ◌^◌, ◌<◌, ◌+◌, ◌≤◌, List, All, IfOk, IsTrue, None};
 ghost use Rattle.sf_model.specs.Function.{IsWritable, key_fits};
 ghost use Rattle.cfa_machine.specs.RowList.{AreRows};
-ghost use Rattle.sf_express.specs.Offsets.{Omits, SayTheSame};
+ghost use Rattle.sf_express.specs.Offsets.{Omits, SayTheSame, StandAtChanges};
 ghost use Rattle.sf_express.specs.Expressed.{repeats, same_content, column_of, reason_of, row_by, Makes, Appends, Gives, unless_repeated, expressed_rows, function_by};
 
 use crate::fault::ExpressFault;
@@ -115,6 +115,7 @@ fn whole(
     requires { AreRows arch facts.now.size rows.now }
     ensures writable { IfOk result (λ f. facts.now.start + facts.now.size ≤ 2 ^ 64 → IsTrue (key_fits arch facts.now.key) → IsWritable arch f) }
     ensures same { IfOk result (λ f. SayTheSame arch rows.now f.rows) }
+    ensures changes { IfOk result (λ f. StandAtChanges f.rows) }
     ensures exact { Gives (λ f. f) result (function_by arch facts.now rows.now) }
 {
     if let Some(reason) = function_reason(arch, facts) {
@@ -148,6 +149,8 @@ pub fn express(
     ensures writable { IfOk result (λ f. facts.now.start + facts.now.size ≤ 2 ^ 64 → IsTrue (key_fits arch facts.now.key) → IsWritable arch f) }
     // It says at every offset what the rows say.
     ensures same { IfOk result (λ f. SayTheSame arch rows.now f.rows) }
+    // It has a row at 0 and where the content changes, and no other.
+    ensures changes { IfOk result (λ f. StandAtChanges f.rows) }
     // An omission is the first reason.
     ensures omits { Omits arch facts.now rows.now result }
     // Start, size, key and rows.
