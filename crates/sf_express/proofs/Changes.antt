@@ -1,7 +1,7 @@
 -- Kept rows stand where the content changes.
 use Rattle.std.specs.Ordering.{int_eq}
 use Rattle.std.proofs.lemmas.Bool.Decides.{Decides-int_eq}
-use Rattle.std.proofs.Common.{◌≡◌, ◌≢◌, ℕ, ℤ, ◌+◌, ◌<◌, ◌≤◌, Bool, true, false, cond, ◌&&◌, List, [], ◌∷◌, length, Option, Some, None, Result, Ok, Err, refl, sym, ap, subst, ◌∙◌, arith}
+use Rattle.std.proofs.Common.{◌≡◌, ℕ, ℤ, ◌<◌, Bool, true, false, cond, ◌&&◌, List, [], ◌∷◌, length, Option, Some, None, Result, Ok, Err, refl, sym, ap, subst, ◌∙◌, arith}
 use Rattle.sf_model.specs.declared.machine.Arch.{Arch}
 use Rattle.sf_model.specs.declared.machine.Base.{Base}
 use Rattle.sf_model.specs.declared.machine.Base.TheVariants.{Fp, Sp}
@@ -92,6 +92,6 @@ first_at_zero arch (r ∷ rows) some e = first_then r.start (content_of arch r) 
 
 pub kept_stand_at_changes : (arch : Arch) (facts : FdeFacts) (rows : List DwRow) (kept : List Row) → AreRows arch facts.size rows → reason_of arch facts ≡ None → expressed_rows arch None rows ≡ Ok kept → StandAtChanges kept
 kept_stand_at_changes arch facts rows kept h none e = record {
-    first = subst FirstAtZero e (first_at_zero arch rows (h.some (size_is_some arch facts none)) h.first);
-    differ = subst (Differ None) e (differ arch None rows);
-  }
+  first = subst FirstAtZero e (first_at_zero arch rows (h.some (size_is_some arch facts none)) h.first);
+  differ = subst (Differ None) e (differ arch None rows);
+}

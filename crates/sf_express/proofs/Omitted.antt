@@ -16,7 +16,7 @@ use Rattle.sf_express.specs.declared.fault.ExpressFault.{ExpressFault}
 use Rattle.sf_express.specs.declared.fault.ExpressFault.TheVariants.{Omit, NoMemory}
 use Rattle.sf_express.specs.Parts.{content_of}
 use Rattle.sf_express.specs.Expressed.{◌>>=◌, reason_of, row_from, unless_repeated, expressed_rows, with_rows, function_by, Gives}
-use Rattle.sf_express.specs.Offsets.{said, IsSayable, IsFirstReason, IsOmission, Omits}
+use Rattle.sf_express.specs.Offsets.{said, IsSayable, IsOmission, Omits}
 use Rattle.sf_express.proofs.Same.{rows_past}
 
 record FirstIs (arch : Arch) (least : ℕ) (found : Option DwRow) (rows : List DwRow) (reason : Reason) (offset : Option ℕ) : Type 0 where
@@ -38,12 +38,12 @@ passed arch p r rows found rise lt = let all : RiseFrom r.start (r ∷ rows) = (
 
 refused_here : (arch : Arch) (least : ℕ) (found : Option DwRow) (r : DwRow) (rows : List DwRow) (reason : Reason) → content_of arch r ≡ Err reason → RiseFrom least (r ∷ rows) → IsSayable (said arch found) → FirstIs arch least found (r ∷ rows) reason (Some r.start)
 refused_here arch least found r rows reason e rise ok = record {
-    at = r.start;
-    is = refl;
-    from = rise.0;
-    there = taken arch r.start r rows found (omega arith) ∙ ap (said arch) (rows_past r.start (r.start + 1) (Some r) rows (omega arith) rise.1) ∙ ap (λ (x : Result Content Reason). Some x) e;
-    before = λ p lt. subst IsSayable (sym (passed arch p r rows found rise.1 lt)) ok;
-  }
+  at = r.start;
+  is = refl;
+  from = rise.0;
+  there = taken arch r.start r rows found (omega arith) ∙ ap (said arch) (rows_past r.start (r.start + 1) (Some r) rows (omega arith) rise.1) ∙ ap (λ (x : Result Content Reason). Some x) e;
+  before = λ p lt. subst IsSayable (sym (passed arch p r rows found rise.1 lt)) ok;
+}
 
 before_later : (arch : Arch) (p : ℕ) (found : Option DwRow) (r : DwRow) (rows : List DwRow) (below : Bool) → nat_le r.start p ≡ below → RiseFrom (r.start + 1) rows → IsSayable (said arch found) → IsSayable (said arch (latest_at p (Some r) rows)) → IsSayable (said arch (latest_at p found (r ∷ rows)))
 before_later arch p found r rows true test rise ok h = subst IsSayable (sym (taken arch p r rows found (leb-true r.start p test))) h

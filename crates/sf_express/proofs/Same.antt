@@ -1,5 +1,5 @@
 -- At every offset the kept rows say what all rows say.
-use Rattle.std.specs.Prelude.{nat_le, IsTrue, not}
+use Rattle.std.specs.Prelude.{nat_le, IsTrue}
 use Rattle.std.specs.List.{All}
 use Rattle.std.proofs.lemmas.Bool.Decides.{Decides-int_eq}
 use Rattle.std.specs.Ordering.{int_eq}
@@ -21,7 +21,7 @@ use Rattle.cfa_machine.specs.At.{latest_at}
 use Rattle.sf_express.specs.Parts.{content_of}
 use Rattle.sf_express.specs.Expressed.{◌>>=◌, same_base, same_ra, same_fp, same_sign, same_content, repeats, row_from, unless_repeated, expressed_rows}
 use Rattle.sf_express.specs.Offsets.{said, latest_content, as_said, SayTheSame}
-use Rattle.sf_express.proofs.Writable.{made, StartsRise, AreKept, KeptFit, kept_fit}
+use Rattle.sf_express.proofs.Writable.{made, StartsRise, KeptFit, kept_fit}
 
 -- ---- the test of contents
 both : (a b : Bool) → (a && b) ≡ true → (a ≡ true) × (b ≡ true)

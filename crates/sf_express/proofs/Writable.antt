@@ -1,7 +1,7 @@
 -- What a function in SFrame's form is as a section takes it.
-use Rattle.std.specs.Prelude.{IsTrue, not, is_none, nat_le}
-use Rattle.std.specs.List.{All, AllAdjacentBelow}
-use Rattle.std.proofs.Common.{◌≡◌, ℕ, zero, suc, ℤ, ◌==◌, ◌+◌, ◌^◌, ◌<◌, ◌≤◌, Bool, true, false, cond, List, [], ◌∷◌, length, get_or, Option, Some, None, Result, Ok, Err, refl, sym, ap, subst, ◌∙◌, arith}
+use Rattle.std.specs.Prelude.{IsTrue}
+use Rattle.std.specs.List.{All}
+use Rattle.std.proofs.Common.{◌≡◌, ℕ, zero, suc, ℤ, ◌+◌, ◌^◌, ◌<◌, ◌≤◌, Bool, true, false, cond, List, [], ◌∷◌, length, get_or, Option, Some, None, Result, Ok, Err, refl, subst, arith}
 use Rattle.std.proofs.lemmas.List.Elements.{All-cons, All-tail, All-nil}
 use Rattle.sf_model.specs.declared.machine.Arch.{Arch}
 use Rattle.sf_model.specs.declared.machine.Arch.TheVariants.{Amd64, Aarch64}
@@ -16,14 +16,14 @@ use Rattle.sf_model.specs.declared.omission.Omission.{Omission}
 use Rattle.sf_model.specs.declared.omission.Reason.{Reason}
 use Rattle.sf_model.specs.declared.omission.Reason.TheVariants.{RaOffset}
 use Rattle.sf_model.specs.declared.rows.Row.{Row}
-use Rattle.sf_model.specs.Content.{content_fits, return_fits}
+use Rattle.sf_model.specs.Content.{content_fits}
 use Rattle.sf_model.specs.Function.{IsWritable, key_fits}
 use Rattle.cfa_machine.specs.declared.rule.Rule.{Rule}
 use Rattle.cfa_machine.specs.declared.rule.Rule.TheVariants as rule
 use Rattle.cfa_machine.specs.declared.row.DwRow.{DwRow}
 use Rattle.cfa_machine.specs.RowList.{RiseFrom, sign_fits, AreRows}
 use Rattle.sf_express.specs.Parts.{◌>>=◌ as ◌>>>◌, narrowed, saved_at, is_minus_8, cfa_part, sp_part, ra_part, fp_part, pair_part, sign_part, content_of}
-use Rattle.sf_express.specs.Expressed.{◌>>=◌, repeats, reason_of, row_from, row_by, unless_repeated, expressed_rows, with_rows, function_by}
+use Rattle.sf_express.specs.Expressed.{◌>>=◌, repeats, reason_of, row_from, unless_repeated, expressed_rows, with_rows, function_by}
 
 -- ---- contents
 abbrev RaFits : Arch → Result Ra Reason → Type 0
@@ -162,14 +162,14 @@ whole_fits : (arch : Arch) (facts : FdeFacts) (reason : Option Reason) (given : 
 whole_fits arch facts (Some reason) given size fit some = tt
 whole_fits arch facts None (Err e) size fit some = tt
 whole_fits arch facts None (Ok rows) size fit some = λ end key. record {
-    size = size refl;
-    end = end;
-    has_rows = some (size refl);
-    rows_rise = adjacent 0 rows fit.rise;
-    contents = fit.contents;
-    key = key;
-    shape = refl;
-  }
+  size = size refl;
+  end = end;
+  has_rows = some (size refl);
+  rows_rise = adjacent 0 rows fit.rise;
+  contents = fit.contents;
+  key = key;
+  shape = refl;
+}
 
 function_by-fits : (arch : Arch) (facts : FdeFacts) (rows : List DwRow) → AreRows arch facts.size rows → FunctionFits arch (function_by arch facts rows)
 function_by-fits arch facts rows h = whole_fits arch facts (reason_of arch facts) (expressed_rows arch None rows) (size_is_some arch facts) (kept_fit arch 0 None rows h.rise h.signs) (λ some. some_kept arch rows (h.some some))

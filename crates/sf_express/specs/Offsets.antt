@@ -4,7 +4,6 @@ use Rattle.std.specs.Prelude.{◌≡◌, ◌≢◌, ◌<◌, ℕ, nat_le, List, 
 use Rattle.sf_model.specs.declared.machine.Arch.{Arch}
 use Rattle.sf_model.specs.declared.content.Content.{Content}
 use Rattle.sf_model.specs.declared.omission.Reason.{Reason}
-use Rattle.sf_model.specs.declared.omission.Omission.{Omission}
 use Rattle.sf_model.specs.declared.facts.FdeFacts.{FdeFacts}
 use Rattle.sf_model.specs.declared.function.Func.{Func}
 use Rattle.sf_model.specs.declared.rows.Row.{Row}

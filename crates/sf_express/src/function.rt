@@ -106,12 +106,7 @@ fn express_rows(alloc: Global, arch: Arch, rows: &[DwRow]) -> Result<Rows, Expre
 }
 
 // The function, or its first omission.
-fn whole(
-    alloc: Global,
-    arch: Arch,
-    facts: &FdeFacts,
-    rows: &[DwRow],
-) -> Result<Func, ExpressFault>
+fn whole(alloc: Global, arch: Arch, facts: &FdeFacts, rows: &[DwRow]) -> Result<Func, ExpressFault>
     requires { AreRows arch facts.now.size rows.now }
     ensures writable { IfOk result (λ f. facts.now.start + facts.now.size ≤ 2 ^ 64 → IsTrue (key_fits arch facts.now.key) → IsWritable arch f) }
     ensures same { IfOk result (λ f. SayTheSame arch rows.now f.rows) }

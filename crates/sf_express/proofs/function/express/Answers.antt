@@ -1,4 +1,3 @@
-use Rattle.std.proofs.Common.{◌≡◌}
 use Rattle.sf_express.proofs.Omitted.{answer_omits}
 use Rattle.sf_express.proofs.function.express.Goals as goal
 
