@@ -1,10 +1,10 @@
 -- The first item of a listing, and the listing behind it.
-use Rattle.std.proofs.Common.{◌≡◌, ℕ, zero, suc, ◌+◌, ◌-◌, ◌<◌, List, [], ◌∷◌, length, drop, Option, Some, None, Result, Ok, Err, refl, sym, ap, subst, ◌∙◌, arith, length-drop}
+use Rattle.std.proofs.Common.{◌≡◌, ℕ, zero, suc, ◌+◌, ◌-◌, ◌<◌, List, [], ◌∷◌, length, drop, Ok, Err, refl, ap, subst, ◌∙◌, arith, length-drop}
 use Rattle.sf_bytes.specs.Cursor.{Cursor, past}
 use Rattle.cfa_insn.specs.declared.fault.InsnFault.{InsnFault}
 use Rattle.cfa_insn.specs.Instruction.{Instruction}
 use Rattle.cfa_insn.specs.Table.{instruction_at}
-use Rattle.cfa_insn.specs.Listing.{Item, listing, listing_after, left_behind, front_of}
+use Rattle.cfa_insn.specs.Listing.{Item, listing, listing_after}
 use Rattle.cfa_insn.proofs.Moves.{IsBehind, Passed, instruction_passes}
 
 pub listing-nil : (skipped place : ℕ) → listing_after skipped place [] ≡ []

@@ -1,6 +1,5 @@
 -- The one pass over the columns agrees with the full rows, run afresh for each offset.
-use Rattle.std.specs.Prelude.{nat_lt, nat_le, not, map}
-use Rattle.std.proofs.Common.{◌≡◌, ℕ, ℤ, ◌==◌, min, Bool, true, false, cond, ◌&&◌, List, [], ◌∷◌, length, Option, Some, None, Result, Ok, Err, IfOk, Vec, Global, refl, sym, ap, subst, ◌∙◌, arith}
+use Rattle.std.proofs.Common.{◌≡◌, ℕ, ℤ, ◌==◌, Bool, true, false, cond, List, [], ◌∷◌, Result, Ok, Err, refl, sym, ap, subst}
 use Rattle.std.proofs.lemmas.Bool.{eqb-true}
 use Rattle.sf_model.specs.declared.machine.Arch.{Arch}
 use Rattle.sf_model.specs.declared.machine.Arch.TheVariants.{Amd64, Aarch64}
@@ -13,16 +12,12 @@ use Rattle.cfa_machine.specs.declared.effect.RowEffect.TheVariants.{Nothing, Set
 use Rattle.cfa_machine.specs.declared.effect.Effect.{Effect}
 use Rattle.cfa_machine.specs.declared.effect.Effect.TheVariants.{Row, Advance, Restore, Remember, Recall}
 use Rattle.cfa_machine.specs.declared.fault.MachineFault.{MachineFault}
-use Rattle.cfa_machine.specs.declared.fault.MachineFault.TheVariants.{StateDepth}
 use Rattle.cfa_machine.specs.declared.columns.Columns.{Columns}
-use Rattle.cfa_machine.specs.declared.machine.Setup.{Setup}
-use Rattle.cfa_machine.specs.declared.row.DwRow.{DwRow}
-use Rattle.cfa_machine.specs.Registers.{stack_pointer, frame_pointer, return_address, is_sign_state}
-use Rattle.cfa_machine.specs.Columns.{no_columns, with_rule, restored, changed, with_cfa_register, with_cfa_offset, row_from}
+use Rattle.cfa_machine.specs.Columns.{with_rule, restored, changed, with_cfa_register, with_cfa_offset}
 use Rattle.cfa_machine.specs.Effects.{effect_by}
-use Rattle.cfa_machine.specs.Pass.{◌>>=◌, State, defined, defined_more, defined_by, advanced, row_before, with_remembered, with_recalled, ran, ran_more, last_row, in_front, rows_from}
-use Rattle.cfa_machine.specs.FullRow.{FullRow, no_row, rule_of, with_register_rule, cfa_register, cfa_offset, row_after, sign_rule, columns_of}
-use Rattle.cfa_machine.specs.At.{Full, recalled, full_after, row_defined, initial_by}
+use Rattle.cfa_machine.specs.Pass.{◌>>=◌, defined, defined_by}
+use Rattle.cfa_machine.specs.FullRow.{FullRow, rule_of, with_register_rule, cfa_register, cfa_offset, row_after, columns_of}
+use Rattle.cfa_machine.specs.At.{row_defined, initial_by}
 
 -- ---- one change
 abbrev pub ChangesTo : Arch → Result Columns MachineFault → FullRow → Type 0

@@ -1,6 +1,6 @@
 -- What one pass gives is by rising start from the present offset on, below the size, and unsigned on AMD64.
-use Rattle.std.specs.Prelude.{nat_lt, IsTrue, not}
-use Rattle.std.proofs.Common.{◌≡◌, ℕ, ℤ, ◌+◌, ◌*◌, ◌-◌, ◌^◌, ◌<◌, ◌≤◌, min, Bool, true, false, cond, ◌&&◌, ◌⊎◌, inl, inr, List, [], ◌∷◌, length, Option, Some, None, Result, Ok, Err, refl, sym, ap, subst, ◌∙◌, arith, Vec, Global, IfOk}
+use Rattle.std.specs.Prelude.{nat_lt, IsTrue}
+use Rattle.std.proofs.Common.{◌≡◌, ℕ, ℤ, ◌+◌, ◌^◌, ◌<◌, ◌≤◌, Bool, true, false, cond, ◌&&◌, ◌⊎◌, inl, inr, List, [], ◌∷◌, length, Option, Some, None, Result, Ok, Err, refl, sym, ap, subst, arith, Vec, Global, IfOk}
 use Rattle.std.specs.List.{All}
 use Rattle.std.proofs.lemmas.List.Elements.{All-cons, All-tail, All-nil}
 use Rattle.std.proofs.lemmas.Bool.{ltb-true, ltb-false}
@@ -20,7 +20,7 @@ use Rattle.cfa_machine.specs.declared.machine.Setup.{Setup}
 use Rattle.cfa_machine.specs.declared.row.DwRow.{DwRow}
 use Rattle.cfa_machine.specs.Columns.{no_columns, changed, with_cfa_register, with_cfa_offset, row_from}
 use Rattle.cfa_machine.specs.Effects.{effect_by}
-use Rattle.cfa_machine.specs.Pass.{◌>>=◌, State, defined, defined_more, defined_by, advanced, row_before, with_remembered, with_recalled, ran, ran_more, last_row, in_front, rows_from, rows_by, Gives}
+use Rattle.cfa_machine.specs.Pass.{◌>>=◌, State, defined, defined_more, defined_by, advanced, with_recalled, ran, ran_more, in_front, rows_from, rows_by, Gives}
 use Rattle.cfa_machine.specs.RowList.{RiseFrom, BeginAtZero, sign_fits, AreRows}
 
 -- ---- the sign
@@ -197,12 +197,12 @@ begin_at_zero size (r ∷ rows) begins below =
 
 whole : (k : Setup) (given : Result (List DwRow) MachineFault) → IsRest k 0 given → AreRowsIfOk k.arch k.size given
 whole k (Ok rows) h = record {
-    some = λ lt. some_rows 0 rows (h.begins lt);
-    first = begin_at_zero k.size rows h.begins h.below;
-    rise = h.rise;
-    below = h.below;
-    signs = h.signs;
-  }
+  some = λ lt. some_rows 0 rows (h.begins lt);
+  first = begin_at_zero k.size rows h.begins h.below;
+  rise = h.rise;
+  below = h.below;
+  signs = h.signs;
+}
 whole k (Err e) h = tt
 
 pub no_sign : (arch : Arch) → SignFits arch no_columns

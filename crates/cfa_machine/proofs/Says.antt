@@ -1,12 +1,11 @@
 -- At each offset below the size the rows of the one pass say what the full rows say there.
 use Rattle.std.specs.Prelude.{nat_lt, nat_le, map}
-use Rattle.std.proofs.Common.{◌≡◌, ℕ, ℤ, ◌+◌, ◌*◌, ◌-◌, ◌^◌, ◌<◌, ◌≤◌, min, Bool, true, false, cond, ◌&&◌, List, [], ◌∷◌, length, Option, Some, None, Result, Ok, Err, IfOk, Vec, Global, refl, sym, ap, subst, ◌∙◌, arith}
+use Rattle.std.proofs.Common.{◌≡◌, ℕ, ℤ, ◌+◌, ◌*◌, ◌-◌, ◌^◌, ◌<◌, ◌≤◌, min, Bool, true, false, cond, List, [], ◌∷◌, length, Option, Some, None, Result, Ok, Err, IfOk, Vec, Global, refl, sym, ap, subst, ◌∙◌, arith}
 use Rattle.std.proofs.lemmas.List.Elements.{All-nil}
 use Rattle.std.proofs.lemmas.Bool.{ltb-true, ltb-false, lt-ltb, le-ltb, lt-leb, le-leb}
 use Rattle.sf_model.specs.declared.machine.Arch.{Arch}
 use Rattle.sf_model.specs.declared.machine.Arch.TheVariants.{Amd64, Aarch64}
 use Rattle.cfa_insn.specs.Listing.{Item}
-use Rattle.cfa_machine.specs.declared.effect.RowEffect.{RowEffect}
 use Rattle.cfa_machine.specs.declared.effect.Effect.{Effect}
 use Rattle.cfa_machine.specs.declared.effect.Effect.TheVariants.{Row, Advance, Restore, Remember, Recall}
 use Rattle.cfa_machine.specs.declared.fault.MachineFault.{MachineFault}
@@ -16,11 +15,11 @@ use Rattle.cfa_machine.specs.declared.machine.Setup.{Setup}
 use Rattle.cfa_machine.specs.declared.row.DwRow.{DwRow}
 use Rattle.cfa_machine.specs.Columns.{no_columns, restored, changed, row_from}
 use Rattle.cfa_machine.specs.Effects.{effect_by}
-use Rattle.cfa_machine.specs.Pass.{◌>>=◌, State, defined_by, advanced, row_before, with_remembered, with_recalled, ran, ran_more, last_row, in_front, rows_from, rows_by, Gives}
+use Rattle.cfa_machine.specs.Pass.{◌>>=◌, State, defined_by, advanced, row_before, with_recalled, ran, last_row, in_front, rows_from, rows_by, Gives}
 use Rattle.cfa_machine.specs.RowList.{RiseFrom}
 use Rattle.cfa_machine.specs.FullRow.{FullRow, no_row, rule_of, with_register_rule, row_after, columns_of}
 use Rattle.cfa_machine.specs.At.{Full, recalled, full_after, offset_behind, full_at, initial_by, row_at_offset, latest_at, SaysAt, SayAll}
-use Rattle.cfa_machine.proofs.GoodRows.{SignFits, SignsFit, StateFits, GoesOn, AreRest, IsRest, ran_more_goes, rows_from_rest, defined_by_sign, no_sign}
+use Rattle.cfa_machine.proofs.GoodRows.{SignFits, SignsFit, StateFits, GoesOn, IsRest, ran_more_goes, rows_from_rest, defined_by_sign, no_sign}
 use Rattle.cfa_machine.proofs.Agrees.{ChangesTo, change_agrees, restore_agrees, initial_agrees}
 
 -- ---- the state of the pass and the full state at an offset
@@ -66,9 +65,9 @@ pub ran_agrees : (k : Setup) (initial : FullRow) (place : ℕ) (effect : Effect)
 ran_agrees k initial place (Row change) s n full init h =
     change_steps k s n full (changed k.arch place change s.columns) (row_after change full.row) h (subst (λ (c : Columns). ChangesTo k.arch (changed k.arch place change c) (row_after change full.row)) (sym h.columns) (change_agrees k.arch place change full.row))
 ran_agrees k initial place (Advance delta) s n full init h = record {
-    agrees = record { columns = h.columns; remembered = h.remembered; offset = advance_caps k.code delta s.offset n h.offset };
-    row_is = refl;
-  }
+  agrees = record { columns = h.columns; remembered = h.remembered; offset = advance_caps k.code delta s.offset n h.offset };
+  row_is = refl;
+}
 ran_agrees k initial place (Restore r) s n full init h =
     let e : restored k.arch r k.initial s.columns ≡ columns_of k.arch (with_register_rule r (rule_of r initial.rules) full.row) = rw (init, h.columns) (restore_agrees k.arch r initial full.row) in
     record { agrees = record { columns = e; remembered = h.remembered; offset = h.offset }; row_is = no_row_here k.size s.offset s.columns }

@@ -1,7 +1,7 @@
 -- Rows start where the offset arrives.
 use Rattle.std.specs.Prelude.{nat_lt}
-use Rattle.std.proofs.Common.{◌≡◌, ℕ, ℤ, ◌+◌, ◌*◌, ◌-◌, ◌^◌, ◌<◌, ◌≤◌, ◌==◌, min, Bool, true, false, cond, ◌&&◌, ◌||◌, List, [], ◌∷◌, Option, Some, None, Result, Ok, Err, IfOk, Vec, Global, refl, sym, ap, subst, ◌∙◌, arith}
-use Rattle.std.proofs.lemmas.Bool.{ltb-true, ltb-false, lt-ltb, le-ltb, eqb-true, eq-eqb, ne_eqb}
+use Rattle.std.proofs.Common.{◌≡◌, ℕ, ℤ, ◌-◌, ◌^◌, ◌<◌, ◌≤◌, ◌==◌, min, Bool, true, false, cond, ◌&&◌, ◌||◌, List, [], ◌∷◌, Option, Some, None, Result, Ok, Err, IfOk, Vec, Global, refl, sym, ap, subst, ◌∙◌, arith}
+use Rattle.std.proofs.lemmas.Bool.{ltb-true, ltb-false, eqb-true, eq-eqb, ne_eqb}
 use Rattle.sf_model.specs.declared.machine.Arch.{Arch}
 use Rattle.cfa_insn.specs.Listing.{Item}
 use Rattle.cfa_machine.specs.declared.effect.Effect.{Effect}
@@ -12,11 +12,11 @@ use Rattle.cfa_machine.specs.declared.machine.Setup.{Setup}
 use Rattle.cfa_machine.specs.declared.row.DwRow.{DwRow}
 use Rattle.cfa_machine.specs.Columns.{no_columns, row_from}
 use Rattle.cfa_machine.specs.Effects.{effect_by}
-use Rattle.cfa_machine.specs.Pass.{◌>>=◌, State, defined_by, row_before, ran, last_row, in_front, rows_from, rows_by, Gives}
+use Rattle.cfa_machine.specs.Pass.{◌>>=◌, State, defined_by, ran, in_front, rows_from, rows_by, Gives}
 use Rattle.cfa_machine.specs.FullRow.{FullRow, no_row, columns_of}
 use Rattle.cfa_machine.specs.At.{Full, full_after, offset_behind, initial_by, reaches, has_start, StartWhereReached}
 use Rattle.cfa_machine.proofs.Agrees.{ChangesTo, initial_agrees}
-use Rattle.cfa_machine.proofs.Says.{Agrees, StepAgrees, StepsAgree, ran_agrees, no_columns_there}
+use Rattle.cfa_machine.proofs.Says.{Agrees, StepsAgree, ran_agrees, no_columns_there}
 
 not_equal : (n o : ℕ) → o < n → (n == o) ≡ false
 not_equal n o lt = ne_eqb n o (λ e. omega arith)

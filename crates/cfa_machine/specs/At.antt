@@ -1,7 +1,7 @@
 -- The row of a function at an offset (DWARF 5, section 6.4.3): the instructions of the common information entry and
 -- then those of its own before the first advance to an offset above are run afresh, with all registers. Offsets are
 -- plain integers.
-use Rattle.std.specs.Prelude.{◌≡◌, ◌<◌, ℕ, ℤ, ◌+◌, ◌*◌, ◌==◌, ◌||◌, Bool, false, nat_lt, nat_le, List, [], ◌∷◌, Option, Some, None, Result, Ok, Err, if◌then◌else◌}
+use Rattle.std.specs.Prelude.{◌≡◌, ◌<◌, ℕ, ℤ, ◌+◌, ◌*◌, ◌==◌, ◌||◌, Bool, false, nat_lt, nat_le, List, [], ◌∷◌, Option, Some, None, Ok, Err, if◌then◌else◌}
 use Rattle.sf_model.specs.declared.machine.Arch.{Arch}
 use Rattle.cfa_insn.specs.Listing.{Item}
 use Rattle.cfa_machine.specs.declared.effect.Effect.{Effect}
@@ -41,8 +41,8 @@ unfoldable pub full_at : (initial : FullRow) (code : ℕ) (f : ℤ) (o offset : 
 full_at initial code f o offset s [] = s
 full_at initial code f o offset s (Err e ∷ items) = s
 full_at initial code f o offset s (Ok (place, i) ∷ items) =
-  if nat_lt o (offset_behind code (effect_by f i) offset) then s
-  else full_at initial code f o (offset_behind code (effect_by f i) offset) (full_after initial (effect_by f i) s) items
+    if nat_lt o (offset_behind code (effect_by f i) offset) then s
+    else full_at initial code f o (offset_behind code (effect_by f i) offset) (full_after initial (effect_by f i) s) items
 
 -- the initial row
 abbrev pub row_defined : Effect → FullRow → FullRow
@@ -60,8 +60,8 @@ initial_by f row (Ok (place, i) ∷ items) = initial_by f (row_defined (effect_b
 -- the row at an offset
 abbrev pub row_at_offset : (code : ℕ) (f : ℤ) (cie fde : List Item) (o : ℕ) → FullRow
 row_at_offset code f cie fde o =
-  let initial = initial_by f no_row cie in
-  (full_at initial code f o 0 (record { row = initial; remembered = [] }) fde).row
+    let initial = initial_by f no_row cie in
+    (full_at initial code f o 0 (record { row = initial; remembered = [] }) fde).row
 
 -- ---- rows that were given
 -- the row with the greatest start not above o, among rows by rising start

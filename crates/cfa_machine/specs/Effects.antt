@@ -1,12 +1,9 @@
 -- What call frame instructions do (DWARF 5, section 6.4.2). `f` is the data alignment factor; products are
 -- plain integers.
-use Rattle.std.specs.Prelude.{ℕ, ℤ, pos, ◌*ℤ◌}
+use Rattle.std.specs.Prelude.{ℤ, pos, ◌*ℤ◌}
 use Rattle.cfa_insn.specs.Instruction.{Instruction, advance_loc, offset, restore, nop, advance_loc_n, offset_extended, restore_extended, undefined, same_value, in_register, remember_state, restore_state, def_cfa, def_cfa_register, def_cfa_offset, def_cfa_expression, expression, offset_extended_sf, def_cfa_sf, def_cfa_offset_sf, val_offset, val_offset_sf, val_expression, negate_ra_state, args_size}
-use Rattle.cfa_machine.specs.declared.rule.CfaRule.{CfaRule}
 use Rattle.cfa_machine.specs.declared.rule.CfaRule.TheVariants as cfa
-use Rattle.cfa_machine.specs.declared.rule.Rule.{Rule}
 use Rattle.cfa_machine.specs.declared.rule.Rule.TheVariants as rule
-use Rattle.cfa_machine.specs.declared.effect.RowEffect.{RowEffect}
 use Rattle.cfa_machine.specs.declared.effect.RowEffect.TheVariants.{Nothing, SetRule, SetCfa, SetCfaRegister, SetCfaOffset, NegateSign}
 use Rattle.cfa_machine.specs.declared.effect.Effect.{Effect}
 use Rattle.cfa_machine.specs.declared.effect.Effect.TheVariants.{Row, Advance, Restore, Remember, Recall}

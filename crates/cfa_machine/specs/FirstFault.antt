@@ -74,7 +74,7 @@ function_fault arch f initial s (Ok (place, i) ∷ items) = or_later (run_fault 
 -- the first of both; none where the function runs whole
 abbrev pub first_fault : Arch → ℤ → (cie fde : List Item) → Option MachineFault
 first_fault arch f cie fde =
-  or_later (initial_fault arch f no_row cie) (function_fault arch f (initial_by f no_row cie) (record { row = initial_by f no_row cie; remembered = [] }) fde)
+    or_later (initial_fault arch f no_row cie) (function_fault arch f (initial_by f no_row cie) (record { row = initial_by f no_row cie; remembered = [] }) fde)
 
 -- an answer is Ok where there is no fault, and else the fault, unless memory is wanting
 abbrev pub Answers : {X : Type 0} → Result X MachineFault → Option MachineFault → Type 0

@@ -1,6 +1,6 @@
 -- The DWARF numbers of the registers that a row keeps (System V AMD64 psABI, figure 3.36; DWARF for the Arm
 -- 64-bit Architecture, section 4.1).
-use Rattle.std.specs.Prelude.{ℕ, Bool, true, false, ◌==◌}
+use Rattle.std.specs.Prelude.{ℕ, Bool, false, ◌==◌}
 use Rattle.sf_model.specs.declared.machine.Arch.{Arch}
 use Rattle.sf_model.specs.declared.machine.Arch.TheVariants.{Amd64, Aarch64}
 

@@ -94,7 +94,10 @@ pub fn row_changed(
         RowEffect::SetRule(register, rule) => Ok(rule_set(arch, register, rule, columns)),
         RowEffect::SetCfa(cfa) => Ok(Columns { cfa, ..columns }),
         RowEffect::SetCfaRegister(register) => match columns.cfa {
-            CfaRule::Reg { register: _, offset } => Ok(Columns {
+            CfaRule::Reg {
+                register: _,
+                offset,
+            } => Ok(Columns {
                 cfa: CfaRule::Reg { register, offset },
                 ..columns
             }),
@@ -102,7 +105,10 @@ pub fn row_changed(
             CfaRule::Expression => Err(MachineFault::NoCfaRegister(place)),
         },
         RowEffect::SetCfaOffset(offset) => match columns.cfa {
-            CfaRule::Reg { register, offset: _ } => Ok(Columns {
+            CfaRule::Reg {
+                register,
+                offset: _,
+            } => Ok(Columns {
                 cfa: CfaRule::Reg { register, offset },
                 ..columns
             }),

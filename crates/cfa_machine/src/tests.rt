@@ -101,8 +101,8 @@ fn signed_rows(rt: HostRuntime) -> Result<(), Fail> {
         rt.alloc(),
         &[0x0c, 0x1f, 0x00],
         &[
-            0x41, 0x2d, 0x41, 0x0e, 0x20, 0x9d, 0x04, 0x9e, 0x03, 0x43, 0xdd, 0xde, 0x0e, 0x00, 0x41,
-            0x2d,
+            0x41, 0x2d, 0x41, 0x0e, 0x20, 0x9d, 0x04, 0x9e, 0x03, 0x43, 0xdd, 0xde, 0x0e, 0x00,
+            0x41, 0x2d,
         ],
         28,
     )?;
@@ -125,9 +125,15 @@ fn the_first_instruction_that_cannot_be_run_is_the_fault(rt: HostRuntime) -> Res
     let deep = amd64(rt.alloc(), &cie, &[0x0a; 65], 6).err();
     assert_eq!(rt; deep, Some(MachineFault::StateDepth(264)));
     let unknown = amd64(rt.alloc(), &cie, &[0x48, 0x01], 6).err();
-    assert_eq!(rt; unknown, Some(MachineFault::Insn(InsnFault::Opcode(201, 1))));
+    assert_eq!(rt;
+        unknown,
+        Some(MachineFault::Insn(InsnFault::Opcode(201, 1)))
+    );
     let negated = amd64(rt.alloc(), &cie, &[0x2d], 6).err();
-    assert_eq!(rt; negated, Some(MachineFault::Insn(InsnFault::Opcode(200, 0x2d))));
+    assert_eq!(rt;
+        negated,
+        Some(MachineFault::Insn(InsnFault::Opcode(200, 0x2d)))
+    );
     let moved = aarch64(rt.alloc(), &[0x0d, 0x1d], &[0x01], 6).err();
     assert_eq!(rt; moved, Some(MachineFault::NoCfaRegister(100)));
     let advanced = aarch64(rt.alloc(), &[0x00, 0x41], &[0x01], 6).err();

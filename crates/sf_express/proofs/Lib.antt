@@ -1,2 +1,5 @@
 pub mod Kept
 pub mod Writable
+pub mod Same
+pub mod Omitted
+pub mod Changes

@@ -1,7 +1,7 @@
 -- What a function in SFrame's form is as a section takes it.
-use Rattle.std.specs.Prelude.{IsTrue, not, is_none, nat_le}
-use Rattle.std.specs.List.{All, AllAdjacentBelow}
-use Rattle.std.proofs.Common.{◌≡◌, ℕ, zero, suc, ℤ, ◌==◌, ◌+◌, ◌^◌, ◌<◌, ◌≤◌, Bool, true, false, cond, List, [], ◌∷◌, length, get_or, Option, Some, None, Result, Ok, Err, refl, sym, ap, subst, ◌∙◌, arith}
+use Rattle.std.specs.Prelude.{IsTrue}
+use Rattle.std.specs.List.{All}
+use Rattle.std.proofs.Common.{◌≡◌, ℕ, zero, suc, ℤ, ◌+◌, ◌^◌, ◌<◌, ◌≤◌, Bool, true, false, cond, List, [], ◌∷◌, length, get_or, Option, Some, None, Result, Ok, Err, refl, subst, arith}
 use Rattle.std.proofs.lemmas.List.Elements.{All-cons, All-tail, All-nil}
 use Rattle.sf_model.specs.declared.machine.Arch.{Arch}
 use Rattle.sf_model.specs.declared.machine.Arch.TheVariants.{Amd64, Aarch64}
@@ -16,14 +16,14 @@ use Rattle.sf_model.specs.declared.omission.Omission.{Omission}
 use Rattle.sf_model.specs.declared.omission.Reason.{Reason}
 use Rattle.sf_model.specs.declared.omission.Reason.TheVariants.{RaOffset}
 use Rattle.sf_model.specs.declared.rows.Row.{Row}
-use Rattle.sf_model.specs.Content.{content_fits, return_fits}
+use Rattle.sf_model.specs.Content.{content_fits}
 use Rattle.sf_model.specs.Function.{IsWritable, key_fits}
 use Rattle.cfa_machine.specs.declared.rule.Rule.{Rule}
 use Rattle.cfa_machine.specs.declared.rule.Rule.TheVariants as rule
 use Rattle.cfa_machine.specs.declared.row.DwRow.{DwRow}
 use Rattle.cfa_machine.specs.RowList.{RiseFrom, sign_fits, AreRows}
 use Rattle.sf_express.specs.Parts.{◌>>=◌ as ◌>>>◌, narrowed, saved_at, is_minus_8, cfa_part, sp_part, ra_part, fp_part, pair_part, sign_part, content_of}
-use Rattle.sf_express.specs.Expressed.{◌>>=◌, repeats, reason_of, row_from, row_by, unless_repeated, expressed_rows, with_rows, function_by}
+use Rattle.sf_express.specs.Expressed.{◌>>=◌, repeats, reason_of, row_from, unless_repeated, expressed_rows, with_rows, function_by}
 
 -- ---- contents
 abbrev RaFits : Arch → Result Ra Reason → Type 0
@@ -65,7 +65,7 @@ abbrev ContentFits : Arch → Result Content Reason → Type 0
 ContentFits arch (Ok c) = IsTrue (content_fits arch c)
 ContentFits arch (Err e) = Unit {0}
 
-abbrev made : Base × ℤ → Ra → Option ℤ → Bool → Content
+abbrev pub made : Base × ℤ → Ra → Option ℤ → Bool → Content
 made x ra fp signed = record { base = x.0; cfa = x.1; ra = ra; fp = fp; signed = signed }
 
 pair_fits : (arch : Arch) (x : Base × ℤ) (ra : Ra) (fp : Option ℤ) (sign : Result (Unit {0}) Reason) (signed : Bool) → RaFits arch (Ok ra) → IsTrue (sign_fits arch signed) → ContentFits arch (pair_part ra fp >>> λ _. (sign >>> λ _. Ok (made x ra fp signed)))
@@ -93,7 +93,7 @@ unfolding content_of
 content_of-fits arch r h = parts_fit arch (cfa_part arch r.cfa) (sp_part r.sp) (ra_part arch r.ra) (fp_part r.fp) (sign_part arch r.sign) r.signed (ra_fits arch r.ra) h
 
 -- ---- rows
-abbrev StartsRise : ℕ → List Row → Type 0
+abbrev pub StartsRise : ℕ → List Row → Type 0
 StartsRise least [] = Unit {0}
 StartsRise least (r ∷ rows) = (least ≤ r.start) × StartsRise (r.start + 1) rows
 
@@ -109,11 +109,11 @@ adjacent least (r ∷ s ∷ rows) h (suc k) d lt =
     let e : suc k + 1 ≡ suc (k + 1) = omega arith in
     rw e (adjacent (r.start + 1) (s ∷ rows) h.1 k d (omega arith))
 
-record AreKept (arch : Arch) (least : ℕ) (rows : List Row) : Type 0 where
-  rise : StartsRise least rows
-  contents : All (λ (r : Row). IsTrue (content_fits arch r.content)) rows
+pub record AreKept (arch : Arch) (least : ℕ) (rows : List Row) : Type 0 where
+  pub rise : StartsRise least rows
+  pub contents : All (λ (r : Row). IsTrue (content_fits arch r.content)) rows
 
-abbrev KeptFit : Arch → ℕ → Result (List Row) Omission → Type 0
+abbrev pub KeptFit : Arch → ℕ → Result (List Row) Omission → Type 0
 KeptFit arch least (Ok rows) = AreKept arch least rows
 KeptFit arch least (Err e) = Unit {0}
 
@@ -127,7 +127,7 @@ kept_then : (arch : Arch) (least start : ℕ) (last : Option Content) (content :
 kept_then arch least start last (Ok c) next le fits go = kept_front arch least (repeats last c) (record { start = start; content = c }) (next (record { start = start; content = c })) le fits (go (record { start = start; content = c }))
 kept_then arch least start last (Err e) next le fits go = tt
 
-kept_fit : (arch : Arch) (least : ℕ) (last : Option Content) (rows : List DwRow) → RiseFrom least rows → All (λ (r : DwRow). IsTrue (sign_fits arch r.signed)) rows → KeptFit arch least (expressed_rows arch last rows)
+pub kept_fit : (arch : Arch) (least : ℕ) (last : Option Content) (rows : List DwRow) → RiseFrom least rows → All (λ (r : DwRow). IsTrue (sign_fits arch r.signed)) rows → KeptFit arch least (expressed_rows arch last rows)
 unfolding expressed_rows
 kept_fit arch least last [] rise signs = record { rise = tt; contents = All-nil (λ (r : Row). IsTrue (content_fits arch r.content)) }
 kept_fit arch least last (r ∷ rows) rise signs = kept_then arch least r.start last (content_of arch r) _ rise.0 (content_of-fits arch r (signs 0 r (omega arith))) (λ row. kept_fit arch (r.start + 1) (Some row.content) rows rise.1 (All-tail (λ (r : DwRow). IsTrue (sign_fits arch r.signed)) r rows signs))
@@ -151,7 +151,7 @@ some_kept arch [] h = absurd (omega arith)
 some_kept arch (r ∷ rows) h = first_kept r.start (content_of arch r) _
 
 -- ---- the function
-size_is_some : (arch : Arch) (facts : FdeFacts) → reason_of arch facts ≡ None → 0 < facts.size
+pub size_is_some : (arch : Arch) (facts : FdeFacts) → reason_of arch facts ≡ None → 0 < facts.size
 size_is_some arch facts e = grind arith
 
 abbrev FunctionFits : Arch → Result Func Omission → Type 0
@@ -162,14 +162,14 @@ whole_fits : (arch : Arch) (facts : FdeFacts) (reason : Option Reason) (given : 
 whole_fits arch facts (Some reason) given size fit some = tt
 whole_fits arch facts None (Err e) size fit some = tt
 whole_fits arch facts None (Ok rows) size fit some = λ end key. record {
-    size = size refl;
-    end = end;
-    has_rows = some (size refl);
-    rows_rise = adjacent 0 rows fit.rise;
-    contents = fit.contents;
-    key = key;
-    shape = refl;
-  }
+  size = size refl;
+  end = end;
+  has_rows = some (size refl);
+  rows_rise = adjacent 0 rows fit.rise;
+  contents = fit.contents;
+  key = key;
+  shape = refl;
+}
 
 function_by-fits : (arch : Arch) (facts : FdeFacts) (rows : List DwRow) → AreRows arch facts.size rows → FunctionFits arch (function_by arch facts rows)
 function_by-fits arch facts rows h = whole_fits arch facts (reason_of arch facts) (expressed_rows arch None rows) (size_is_some arch facts) (kept_fit arch 0 None rows h.rise h.signs) (λ some. some_kept arch rows (h.some some))

@@ -63,10 +63,10 @@ column_of Aarch64 = 30
 -- the first reason of the function as a whole
 abbrev pub reason_of : Arch → FdeFacts → Option Reason
 reason_of arch facts =
-  if facts.size == 0 then Some EmptyRange else
-  if nat_le (2 ^ 32) facts.size then Some SizeTooLarge else
-  if facts.column == column_of arch then (if facts.signal then Some SignalFrame else None) else
-  Some ReturnColumn
+    if facts.size == 0 then Some EmptyRange else
+    if nat_le (2 ^ 32) facts.size then Some SizeTooLarge else
+    if facts.column == column_of arch then (if facts.signal then Some SignalFrame else None) else
+    Some ReturnColumn
 
 -- ---- its rows
 -- a step that goes on behind another one, whose omission comes first

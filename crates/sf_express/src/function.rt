@@ -3,6 +3,7 @@
 ghost use Rattle.std.specs.Prelude.{◌≡◌, ◌^◌, ◌<◌, ◌+◌, ◌≤◌, List, All, IfOk, IsTrue, None};
 ghost use Rattle.sf_model.specs.Function.{IsWritable, key_fits};
 ghost use Rattle.cfa_machine.specs.RowList.{AreRows};
+ghost use Rattle.sf_express.specs.Offsets.{Omits, SayTheSame, StandAtChanges};
 ghost use Rattle.sf_express.specs.Expressed.{repeats, same_content, column_of, reason_of, row_by, Makes, Appends, Gives, unless_repeated, expressed_rows, function_by};
 
 use crate::fault::ExpressFault;
@@ -104,18 +105,12 @@ fn express_rows(alloc: Global, arch: Arch, rows: &[DwRow]) -> Result<Rows, Expre
     Ok(kept)
 }
 
-/// The function as SFrame Version 2 expresses it: a row where the content changes, from offset 0 on.
-///
-/// `Omit` has the first reason of the function as a whole, or else the first reason of a row at the least
-/// offset where one holds.
-pub fn express(
-    alloc: Global,
-    arch: Arch,
-    facts: &FdeFacts,
-    rows: &[DwRow],
-) -> Result<Func, ExpressFault>
+// The function, or its first omission.
+fn whole(alloc: Global, arch: Arch, facts: &FdeFacts, rows: &[DwRow]) -> Result<Func, ExpressFault>
     requires { AreRows arch facts.now.size rows.now }
     ensures writable { IfOk result (λ f. facts.now.start + facts.now.size ≤ 2 ^ 64 → IsTrue (key_fits arch facts.now.key) → IsWritable arch f) }
+    ensures same { IfOk result (λ f. SayTheSame arch rows.now f.rows) }
+    ensures changes { IfOk result (λ f. StandAtChanges f.rows) }
     ensures exact { Gives (λ f. f) result (function_by arch facts.now rows.now) }
 {
     if let Some(reason) = function_reason(arch, facts) {
@@ -132,4 +127,29 @@ pub fn express(
         key: facts.key,
         rows: kept,
     })
+}
+
+/// The function as SFrame Version 2 expresses it: a row where the content changes, from offset 0 on.
+///
+/// `Omit` has the first reason of the function as a whole, or else the first reason of a row at the least
+/// offset where one holds.
+pub fn express(
+    alloc: Global,
+    arch: Arch,
+    facts: &FdeFacts,
+    rows: &[DwRow],
+) -> Result<Func, ExpressFault>
+    requires { AreRows arch facts.now.size rows.now }
+    // A section can hold what is kept.
+    ensures writable { IfOk result (λ f. facts.now.start + facts.now.size ≤ 2 ^ 64 → IsTrue (key_fits arch facts.now.key) → IsWritable arch f) }
+    // It says at every offset what the rows say.
+    ensures same { IfOk result (λ f. SayTheSame arch rows.now f.rows) }
+    // It has a row at 0 and where the content changes, and no other.
+    ensures changes { IfOk result (λ f. StandAtChanges f.rows) }
+    // An omission is the first reason.
+    ensures omits { Omits arch facts.now rows.now result }
+    // Start, size, key and rows.
+    ensures exact { Gives (λ f. f) result (function_by arch facts.now rows.now) }
+{
+    whole(alloc, arch, facts, rows)
 }

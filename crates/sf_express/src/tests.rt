@@ -53,7 +53,10 @@ fn amd64_content(cfa: i32, fp: Option<i32>) -> Content {
 #[test]
 fn contents_and_reasons_of_rows(rt: HostRuntime) {
     let saved = amd64_row(0, 2147483647, Rule::Offset(-128));
-    assert_eq!(rt; content(Arch::Amd64, &saved), Ok(amd64_content(2147483647, Some(-128))));
+    assert_eq!(rt;
+        content(Arch::Amd64, &saved),
+        Ok(amd64_content(2147483647, Some(-128)))
+    );
     let far = amd64_row(0, 2147483648, Rule::Missing);
     assert_eq!(rt; content(Arch::Amd64, &far), Err(Reason::CfaOffset));
     let moved = amd64_row(0, 8, Rule::Register(3));

@@ -1,6 +1,6 @@
-use Rattle.std.proofs.Common.{◌≡◌, ◌<◌, length, [], Err, ◌∷◌, arith, ◌∙◌, sym, ap, rules}
+use Rattle.std.proofs.Common.{◌≡◌, ◌<◌, length, [], Err, ◌∷◌, ◌∙◌, sym, ap, rules}
 use Rattle.sf_bytes.specs.Cursor.{cursor}
-use Rattle.cfa_insn.specs.Listing.{Item, listing}
+use Rattle.cfa_insn.specs.Listing.{listing}
 use Rattle.cfa_insn.proofs.Listings.{starts_with_instruction, starts_with_fault, nothing_left}
 use Rattle.cfa_insn.proofs.read.first_of.Goals as goal
 

@@ -1,9 +1,6 @@
-use Rattle.std.proofs.Common.{◌≡◌, Err, sym, ◌∙◌, w64, FitsSigned}
+use Rattle.std.proofs.Common.{w64, FitsSigned}
 use Rattle.std.proofs.lemmas.Result.{err_from_is_err_and}
 use Rattle.std.proofs.lemmas.Int.{to_z-of_z}
-use Rattle.cfa_insn.specs.Listing.{item}
-use Rattle.cfa_insn.specs.Remaining.{items_left}
-use Rattle.cfa_machine.specs.Pass.{defined_by, defined_more}
 use Rattle.cfa_machine.proofs.Before.{defined_goes_on, defined_ends, defined_done}
 use Rattle.cfa_machine.proofs.table.initial_row.Goals as goal
 
@@ -15,10 +12,10 @@ returns-in_err-columns c =
 
 pub loop-item-preserved : goal.loop-item-preserved
 loop-item-preserved c = record {
-    can = tt;
-    ends = tt;
-    same = defined_goes_on _ _ _ _ _ _ _ _ c.in-Some.ensures.steps c.in_ok-columns.ensures c.loop-item.invariant.same
-  }
+  can = tt;
+  ends = tt;
+  same = defined_goes_on _ _ _ _ _ _ _ _ c.in-Some.ensures.steps c.in_ok-columns.ensures c.loop-item.invariant.same;
+}
 
 pub returns : goal.returns
 returns c =

@@ -8,7 +8,7 @@ use Rattle.cfa_machine.proofs.table.initial_row.Given as goal
 
 abbrev pub invariant-loop-item : goal.invariant-loop-item
 invariant-loop-item l = record {
-    can : (goal.iterator-loop-item).can_next l.item-iterator;
-    ends : (goal.iterator-loop-item).is_finite l.item-iterator;
-    same : defined_by l.arch l.factor l.columns (items_left l.item-iterator) ≡ defined_by l.arch l.factor no_columns (listing (cursor l.fn.cie))
-  }
+  can : (goal.iterator-loop-item).can_next l.item-iterator;
+  ends : (goal.iterator-loop-item).is_finite l.item-iterator;
+  same : defined_by l.arch l.factor l.columns (items_left l.item-iterator) ≡ defined_by l.arch l.factor no_columns (listing (cursor l.fn.cie));
+}

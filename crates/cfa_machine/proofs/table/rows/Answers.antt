@@ -1,4 +1,4 @@
-use Rattle.std.proofs.Common.{◌≡◌, ◌<◌, ◌^◌, w64, FitsSigned, rules}
+use Rattle.std.proofs.Common.{◌<◌, ◌^◌, w64, FitsSigned, rules}
 use Rattle.std.proofs.lemmas.Int.{to_z-of_z}
 use Rattle.sf_bytes.specs.Cursor.{cursor}
 use Rattle.cfa_insn.specs.Listing.{listing}

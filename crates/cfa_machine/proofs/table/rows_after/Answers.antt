@@ -1,4 +1,4 @@
-use Rattle.std.proofs.Common.{◌≡◌, Err, sym, ◌∙◌, w64, FitsSigned}
+use Rattle.std.proofs.Common.{w64, FitsSigned}
 use Rattle.std.proofs.lemmas.Result.{err_from_is_err_and}
 use Rattle.std.proofs.lemmas.Int.{to_z-of_z}
 use Rattle.cfa_machine.proofs.Before.{rows_go_on, rows_end, rows_done, fails}
@@ -12,10 +12,10 @@ returns-in_err-row c =
 
 pub loop-item-preserved : goal.loop-item-preserved
 loop-item-preserved c = record {
-    can = tt;
-    ends = tt;
-    same = rows_go_on _ _ _ _ _ _ _ _ _ _ _ c.in-Some.ensures.steps c.in_ok-row.ensures c.in_ok-append.ensures c.loop-item.invariant.same
-  }
+  can = tt;
+  ends = tt;
+  same = rows_go_on _ _ _ _ _ _ _ _ _ _ _ c.in-Some.ensures.steps c.in_ok-row.ensures c.in_ok-append.ensures c.loop-item.invariant.same;
+}
 
 pub returns : goal.returns
 returns c =

@@ -8,7 +8,7 @@ use Rattle.cfa_machine.proofs.table.rows_after.Given as goal
 
 abbrev pub invariant-loop-item : goal.invariant-loop-item
 invariant-loop-item l = record {
-    can : (goal.iterator-loop-item).can_next l.item-iterator;
-    ends : (goal.iterator-loop-item).is_finite l.item-iterator;
-    same : after_rows l.rows.items (rows_from l.setup l.factor (state l.machine) (items_left l.item-iterator)) ≡ rows_from l.setup l.factor (record { columns = l.setup.initial; remembered = []; offset = 0 }) (listing (cursor l.fn.fde))
-  }
+  can : (goal.iterator-loop-item).can_next l.item-iterator;
+  ends : (goal.iterator-loop-item).is_finite l.item-iterator;
+  same : after_rows l.rows.items (rows_from l.setup l.factor (state l.machine) (items_left l.item-iterator)) ≡ rows_from l.setup l.factor (record { columns = l.setup.initial; remembered = []; offset = 0 }) (listing (cursor l.fn.fde));
+}

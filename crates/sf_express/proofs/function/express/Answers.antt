@@ -1,9 +1,5 @@
-use Rattle.std.proofs.Common.{◌≡◌, None, rules}
-use Rattle.sf_express.specs.Expressed.{reason_of}
-use Rattle.sf_express.proofs.Writable.{kept_is_writable}
+use Rattle.sf_express.proofs.Omitted.{answer_omits}
 use Rattle.sf_express.proofs.function.express.Goals as goal
 
-pub returns-clause-writable : goal.returns-clause-writable
-returns-clause-writable c =
-    let none : reason_of c.args.arch c.args.facts.now ≡ None = search rules in
-    kept_is_writable _ _ _ _ c.requires none c.in_ok-kept.ensures
+pub returns-clause-omits : goal.returns-clause-omits
+returns-clause-omits c = answer_omits _ _ _ _ c.requires c.whole.ensures.exact

@@ -1,4 +1,3 @@
-use Rattle.std.proofs.Common.{◌≡◌}
 use Rattle.std.proofs.lemmas.Result.{err_from_is_err_and}
 use Rattle.sf_express.proofs.Kept.{goes_on, ends, is_done}
 use Rattle.sf_express.proofs.function.express_rows.Goals as goal
