@@ -23,13 +23,7 @@ fn widths(rt: HostRuntime) {
 }
 
 #[test]
-#[tactic(
-    auto,
-    unfolding(
-        crate::specs::Pointer::usable_width,
-        crate::specs::Pointer::pointer_width
-    )
-)]
+#[tactic(auto, unfolding(crate::specs::Pointer::usable_width, crate::specs::Pointer::pointer_width))]
 fn pointers(rt: HostRuntime) {
     assert_eq!(rt; value(0x1b, 0xffff_efe0, 0x2020), 0x1000);
     assert_eq!(rt; value(0x0a, 0x8000, 7), 0xffff_ffff_ffff_8000);

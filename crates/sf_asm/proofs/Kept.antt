@@ -1,8 +1,8 @@
 -- The kept ones of functions that are apart can be written.
-use Rattle.std.proofs.Common.{◌≡◌, ◌≢◌, ℕ, zero, suc, ◌+◌, ◌^◌, ◌<◌, ◌≤◌, Bool, true, false, ◌&&◌, cond, eqb, leb, List, [], ◌∷◌, ◌++◌, length, get_or, sum_by, refl, sym, ap, subst, ◌∙◌, add-one, arith, inl, inr}
+use Rattle.std.proofs.Common.{◌≡◌, ℕ, zero, suc, ◌+◌, ◌^◌, ◌<◌, ◌≤◌, Bool, true, false, ◌&&◌, cond, eqb, leb, List, [], ◌∷◌, ◌++◌, length, get_or, sum_by, refl, ap, ◌∙◌, add-one, arith, inl, inr}
 use Rattle.std.specs.Prelude.{All}
-use Rattle.std.specs.List.{AllByRecursion, AllAdjacentBelow}
-use Rattle.std.proofs.lemmas.Bool.{cases_lt, le-leb}
+use Rattle.std.specs.List.{AllByRecursion}
+use Rattle.std.proofs.lemmas.Bool.{cases_lt}
 use Rattle.std.proofs.lemmas.Bool.Decides.{nat_tests}
 use Rattle.std.proofs.lemmas.List.{append-nil}
 use Rattle.std.proofs.lemmas.List.Sums.{sum_by-cons}
@@ -49,8 +49,8 @@ kept_from arch end span (Kept f) es one others h =
 kept_from arch end span (Left omission) es one others h =
     elim (cases_lt 0 span.size) [
       | inl some ↦
-        let t = split_test end span.start span.size (are_apart (span.start + span.size) es) (are_apart end es) h some in
-        ApartFrom-earlier end (span.start + span.size) (kept_of es) (omega (arith, t.0)) (others (span.start + span.size) t.1)
+          let t = split_test end span.start span.size (are_apart (span.start + span.size) es) (are_apart end es) h some in
+          ApartFrom-earlier end (span.start + span.size) (kept_of es) (omega (arith, t.0)) (others (span.start + span.size) t.1)
       | inr none ↦ others end (skip_test end span.start span.size (are_apart (span.start + span.size) es) (are_apart end es) h (omega arith))
     ]
 

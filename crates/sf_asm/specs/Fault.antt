@@ -1,5 +1,5 @@
 -- Which faults are refusals of the inputs, with a line of their own, and which ones a call answers.
-use Rattle.std.specs.Prelude.{ℕ, Bool, true, false}
+use Rattle.std.specs.Prelude.{Bool, true, false}
 use Rattle.eh_records.specs.declared.fault.RecordFault.{RecordFault}
 use Rattle.eh_records.specs.declared.fault.RecordFault.TheVariants as record_faults
 use Rattle.cfa_machine.specs.declared.fault.MachineFault.{MachineFault}

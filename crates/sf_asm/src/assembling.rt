@@ -3,14 +3,13 @@
 ghost use Rattle.std.specs.Prelude.{◌≡◌, ◌<◌, ◌^◌, length, IfOk, IfErr, IsTrue};
 ghost use Rattle.sf_asm.specs.Fault.{is_answered};
 
-use sf_model::Omitted;
-use sf_write::{WriteFault, write};
-use std::alloc::Global;
-
 use crate::fault::{GatherFault, LinkFault};
 use crate::gathering::gather_one;
 use crate::input::Input;
 use crate::reading::arch_of;
+use sf_model::Omitted;
+use sf_write::{WriteFault, write};
+use std::alloc::Global;
 
 /// A section, and what it holds.
 #[derive(Drop)]

@@ -7,13 +7,12 @@ ghost use Rattle.sf_asm.specs.Entry.{IsSound, kept_of, omitted_of, spans_of};
 ghost use Rattle.sf_asm.specs.Order.{are_apart, entry_rows, rows_of};
 ghost use Rattle.sf_asm.specs.Fault.{is_gather_answered};
 
-use sf_model::{Arch, Func, Omitted, Origin, Span};
-use std::alloc::{AllocError, Global};
-
 use crate::entry::{Entry, Outcome};
 use crate::fault::{AsmFault, GatherFault};
 use crate::input::Input;
 use crate::reading::{arch_of, read_input};
+use sf_model::{Arch, Func, Omitted, Origin, Span};
+use std::alloc::{AllocError, Global};
 
 /// The most functions of one run, omitted ones included.
 const FUNCTION_LIMIT: usize = 1 << 21;
@@ -167,14 +166,13 @@ pub fn gather_one(
     }
 }
 
-/// Gathers the functions of the inputs. `before` is the machine of an item that comes before them, so
-/// that the items count from 1. There is one input.
+/// Gathers the functions of the inputs, of which there is one for now. `before` is the machine of an item
+/// that comes before them; there is none for now.
 ///
 /// # Errors
 ///
-/// The first fault of the input, then `MixedArch` where its machine differs from that before, the limits
-/// of functions and rows, and two functions that share an address, in this order; want of memory at any
-/// time.
+/// The first fault of the input, then the limits of functions and rows, and two functions that share an
+/// address, in this order; want of memory at any time.
 pub fn gather(
     alloc: Global,
     inputs: &[Input<'_>],

@@ -4,13 +4,12 @@ ghost use Rattle.std.specs.Prelude.{◌≡◌, ◌∷◌, [], IsTrue, IsSome};
 ghost use Rattle.sf_model.specs.Notice.{HasLine, up_to};
 ghost use Rattle.sf_asm.specs.Fault.{is_record_refusal, is_machine_refusal, is_input_refusal, is_gather_refusal, is_refusal};
 
+use crate::fault::{AsmFault, GatherFault, LinkFault};
 use arrayvec::ArrayVec;
 use cfa_insn::InsnFault;
 use cfa_machine::MachineFault;
 use eh_records::RecordFault;
 use sf_model::{Group, Notice};
-
-use crate::fault::{AsmFault, GatherFault, LinkFault};
 
 /// Values of a notice, of which there are one to four.
 fn one(a: u64) -> ArrayVec<u64, 4>

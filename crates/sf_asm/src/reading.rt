@@ -5,16 +5,15 @@ ghost use Rattle.sf_model.specs.Function.{key_fits};
 ghost use Rattle.sf_asm.specs.Entry.{IsSound};
 ghost use Rattle.sf_asm.specs.Fault.{is_input_answered};
 
+use crate::entry::{Entry, Outcome};
+use crate::fault::AsmFault;
+use crate::input::{Form, Input};
 use cfa_machine::{MachineFault, rows};
 use eh_records::{Fde, RecordFault, Records};
 use sf_bytes::Plain;
 use sf_express::{ExpressFault, express};
 use sf_model::{Arch, FdeFacts, Key, Origin, Span};
 use std::alloc::Global;
-
-use crate::entry::{Entry, Outcome};
-use crate::fault::AsmFault;
-use crate::input::{Form, Input};
 
 /// The section number of a bare input.
 const BARE_SECTION: u32 = 0;
@@ -89,7 +88,11 @@ fn read_function(
         place: fde.place,
     };
     Ok(Entry {
-        span: Span { start, size, origin },
+        span: Span {
+            start,
+            size,
+            origin,
+        },
         outcome,
     })
 }

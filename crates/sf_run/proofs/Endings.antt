@@ -1,7 +1,7 @@
 -- How a run ends, from how its last step ends.
-use Rattle.std.proofs.Common.{◌≡◌, ◌⊎◌, ◌<◌, ◌^◌, ℕ, List, length, Option, Some, None, refl, sym, subst, inl, inr}
+use Rattle.std.proofs.Common.{◌≡◌, ◌⊎◌, ◌<◌, ◌^◌, ℕ, List, length, refl, sym, subst, inl, inr}
 use Rattle.std.specs.Prelude.{IfSome}
-use Rattle.sf_base.specs.Contents.{contents_of, Unchanged, Holds, HoldsPrefix}
+use Rattle.sf_base.specs.Contents.{contents_of}
 use Rattle.sf_base.specs.Faults.{Rose}
 use Rattle.sf_run.specs.declared.refusal.Limit.TheVariants.{File, Functions, Rows}
 use Rattle.sf_run.specs.declared.refusal.Refusal.{Refusal}
@@ -12,7 +12,7 @@ use Rattle.sf_text.specs.FaultLine.{fault_text}
 use Rattle.sf_run.specs.Words.{LinkWords}
 use Rattle.sf_run.specs.Lines.{read_line, memory_line, limit_line}
 use Rattle.sf_run.specs.Refused.{IsTold}
-use Rattle.sf_run.specs.Ends.{FilesSeen, SinkSeen, Says, IsTurnedAway, IsDone, FileFails, OutputFails, IsExceeded, Ends, Delivers, Tells}
+use Rattle.sf_run.specs.Ends.{FilesSeen, SinkSeen, Says, IsTurnedAway, IsDone, FileFails, OutputFails, Ends, Delivers, Tells}
 
 -- files that hold and count the same as before
 pub record IsSameForWrites (before after : FilesSeen) : Type 0 where

@@ -1,5 +1,5 @@
 -- How a run ends: for each status what files and sinks then hold, and which line was told.
-use Rattle.std.specs.Prelude.{◌≡◌, ◌⊎◌, ◌<◌, ◌^◌, ℕ, Bool, List, [], ◌∷◌, ◌++◌, length, Option, IfSome}
+use Rattle.std.specs.Prelude.{◌≡◌, ◌⊎◌, ◌<◌, ◌^◌, ℕ, Bool, List, length, Option, IfSome}
 use Rattle.sf_base.specs.Contents.{contents_of, Unchanged, Holds, HoldsPrefix}
 use Rattle.sf_base.specs.Faults.{Rose}
 use Rattle.sf_base.specs.Written.{Appends, AppendsPrefix}
@@ -13,7 +13,7 @@ use Rattle.sf_run.specs.declared.refusal.Refusal.TheVariants as refusal
 use Rattle.sf_run.specs.declared.status.Status.{Status}
 use Rattle.sf_run.specs.declared.status.Status.TheVariants as status
 use Rattle.sf_run.specs.Words.{LinkWords}
-use Rattle.sf_run.specs.Lines.{usage_line, read_line, write_file_line, write_output_line, memory_line, limit_line}
+use Rattle.sf_run.specs.Lines.{read_line, write_file_line, write_output_line, memory_line, limit_line}
 
 -- what is seen of files: what they hold where it is told, whether one is created, and the counts of faults
 pub record FilesSeen : Type 0 where

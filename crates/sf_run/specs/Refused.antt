@@ -1,9 +1,8 @@
 -- What a refusal says of itself.
-use Rattle.std.specs.Prelude.{◌≡◌, ℕ}
+use Rattle.std.specs.Prelude.{◌≡◌}
 use Rattle.sf_base.specs.declared.loading.LoadFault.{LoadFault}
 use Rattle.sf_base.specs.declared.loading.LoadFault.TheVariants as load
 use Rattle.sf_model.specs.Notice.{HasLine}
-use Rattle.sf_run.specs.declared.refusal.Limit.{Limit}
 use Rattle.sf_run.specs.declared.refusal.Limit.TheVariants.{File, Functions, Rows}
 use Rattle.sf_run.specs.declared.refusal.Refusal.{Refusal}
 use Rattle.sf_run.specs.declared.refusal.Refusal.TheVariants as refusal

@@ -6,14 +6,17 @@ ghost use Rattle.std.specs.Prelude.{◌≡◌, ◌↔◌, map};
 ghost use Rattle.std.specs.String.{string_bytes};
 ghost use Rattle.sf_run.specs.Words.{HasNoForm};
 
-use sf_base::{HostFiles, HostSink};
+use sf_base::{HostFiles, HostSink, put_all};
 use sf_run::{Status, run};
 use std::process::ExitCode;
 use std::{env, io};
 
 /// The words after the program's name.
 fn words(rt: &HostRuntime) -> io::Result<Vec<String>> {
-    env::args(rt)?.skip(1).collect(rt.alloc()).map_err(io::Error::from)
+    env::args(rt)?
+        .skip(1)
+        .collect(rt.alloc())
+        .map_err(io::Error::from)
 }
 
 /// Runs over the machine's files and streams.
@@ -31,7 +34,10 @@ fn main(rt: HostRuntime) -> ExitCode {
         Ok(words) => run_on_host(&rt, &words),
         // Words that are no text have no form.
         Err(fault) if fault.kind() != io::ErrorKind::OutOfMemory => run_on_host(&rt, &[]),
-        Err(_) => Status::Memory,
+        Err(_) => {
+            let _ = put_all(&mut HostSink::new(rt.stderr()), b"memory\n");
+            Status::Memory
+        }
     };
     ExitCode::from(status.code())
 }

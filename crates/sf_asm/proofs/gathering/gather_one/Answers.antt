@@ -1,6 +1,4 @@
-use Rattle.std.proofs.Common.{◌≡◌, sym, ◌∙◌}
 use Rattle.std.proofs.lemmas.List.Sorted.{All-permutation}
-use Rattle.sf_model.specs.Function.{AreWritable}
 use Rattle.sf_asm.specs.Entry.{IsSound}
 use Rattle.sf_asm.proofs.Kept.{kept_AreWritable}
 use Rattle.sf_asm.proofs.gathering.gather_one.Goals as goal

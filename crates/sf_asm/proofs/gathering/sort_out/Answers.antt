@@ -1,4 +1,4 @@
-use Rattle.std.proofs.Common.{◌≡◌, ◌++◌, ◌∷◌, [], List, ap, sym, ◌∙◌}
+use Rattle.std.proofs.Common.{◌++◌, ◌∷◌, [], List, ap, sym, ◌∙◌}
 use Rattle.sf_model.specs.declared.function.Func.{Func}
 use Rattle.sf_model.specs.declared.omission.Omitted.{Omitted}
 use Rattle.sf_model.specs.declared.omission.Span.{Span}
@@ -10,12 +10,12 @@ loop-entry-preserved-in-Continue-branch-2 c =
     let so_far = c.loop-entry.invariant in
     record {
       kept =
-        c.in_ok-push-in-Kept.ensures.items ∙ ap (λ (fs : List Func). fs ++ c.in-Kept.func ∷ []) so_far.kept
-        ∙ sym (kept_of-kept c.loop-entry.yielded c.in-Some.entry c.in-Kept.func c.in-Kept.is);
+          c.in_ok-push-in-Kept.ensures.items ∙ ap (λ (fs : List Func). fs ++ c.in-Kept.func ∷ []) so_far.kept
+          ∙ sym (kept_of-kept c.loop-entry.yielded c.in-Some.entry c.in-Kept.func c.in-Kept.is);
       omitted = so_far.omitted ∙ sym (omitted_of-kept c.loop-entry.yielded c.in-Some.entry c.in-Kept.func c.in-Kept.is);
       spans =
-        c.in_ok-push.ensures.items ∙ ap (λ (xs : List Span). xs ++ c.in-Some.entry.span ∷ []) so_far.spans
-        ∙ sym (spans_of-push c.loop-entry.yielded c.in-Some.entry);
+          c.in_ok-push.ensures.items ∙ ap (λ (xs : List Span). xs ++ c.in-Some.entry.span ∷ []) so_far.spans
+          ∙ sym (spans_of-push c.loop-entry.yielded c.in-Some.entry);
     }
 
 pub loop-entry-preserved : goal.loop-entry-preserved
@@ -24,10 +24,10 @@ loop-entry-preserved c =
     record {
       kept = so_far.kept ∙ sym (kept_of-left c.loop-entry.yielded c.in-Some.entry c.in-Left.omission c.in-Left.is);
       omitted =
-        c.in_ok-push-in-Left.ensures.items
-        ∙ ap (λ (xs : List Omitted). xs ++ record { start = c.in-Some.entry.span.start; size = c.in-Some.entry.span.size; origin = c.in-Some.entry.span.origin; omission = c.in-Left.omission } ∷ []) so_far.omitted
-        ∙ sym (omitted_of-left c.loop-entry.yielded c.in-Some.entry c.in-Left.omission c.in-Left.is);
+          c.in_ok-push-in-Left.ensures.items
+          ∙ ap (λ (xs : List Omitted). xs ++ record { start = c.in-Some.entry.span.start; size = c.in-Some.entry.span.size; origin = c.in-Some.entry.span.origin; omission = c.in-Left.omission } ∷ []) so_far.omitted
+          ∙ sym (omitted_of-left c.loop-entry.yielded c.in-Some.entry c.in-Left.omission c.in-Left.is);
       spans =
-        c.in_ok-push.ensures.items ∙ ap (λ (xs : List Span). xs ++ c.in-Some.entry.span ∷ []) so_far.spans
-        ∙ sym (spans_of-push c.loop-entry.yielded c.in-Some.entry);
+          c.in_ok-push.ensures.items ∙ ap (λ (xs : List Span). xs ++ c.in-Some.entry.span ∷ []) so_far.spans
+          ∙ sym (spans_of-push c.loop-entry.yielded c.in-Some.entry);
     }

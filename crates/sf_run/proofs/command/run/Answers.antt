@@ -1,7 +1,6 @@
-use Rattle.std.proofs.Common.{◌≡◌, Err, List, ℕ, ap, refl, sym, ◌∙◌}
-use Rattle.sf_run.specs.Words.{LinkWords, IsLink}
+use Rattle.std.proofs.Common.{◌≡◌, Err, ap, ◌∙◌}
 use Rattle.sf_run.specs.Parsed.{link_of}
-use Rattle.sf_run.specs.Ends.{Ends, files_seen, sink_seen}
+use Rattle.sf_run.specs.Ends.{files_seen, sink_seen}
 use Rattle.sf_run.proofs.Endings.{ends_from_delivers, ends_from_tells}
 use Rattle.sf_run.proofs.command.run.Goals as goal
 

@@ -1,4 +1,4 @@
-use Rattle.std.proofs.Common.{rules, arith, inr}
+use Rattle.std.proofs.Common.{arith, inr}
 use Rattle.std.proofs.lemmas.Grind.{common_steps}
 use Rattle.sf_run.proofs.deliver.deliver.Goals as goal
 

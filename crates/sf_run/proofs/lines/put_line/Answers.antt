@@ -1,6 +1,5 @@
-use Rattle.std.proofs.Common.{rules, ◌≡◌, ◌++◌, ◌∷◌, [], ap, append_assoc, subst}
+use Rattle.std.proofs.Common.{◌++◌, ◌∷◌, []}
 use Rattle.std.proofs.lemmas.Result.{err_from_is_err_and, on_err_weaker}
-use Rattle.sf_base.specs.Written.{Appends, AppendsPrefix}
 use Rattle.sf_run.proofs.Pieces.{appends_both, appends_some, appends_front}
 use Rattle.sf_run.proofs.lines.put_line.Goals as goal
 

@@ -1,4 +1,4 @@
-use Rattle.std.proofs.Common.{◌≡◌, ℕ, List, Some, sym, subst, ◌∙◌}
+use Rattle.std.proofs.Common.{◌≡◌, ℕ, List, sym, subst, ◌∙◌}
 use Rattle.sf_base.specs.Word.{SpellsHexadecimal}
 use Rattle.sf_run.proofs.AtSigns.{HasNoAt-address, cut_is_last, has_at}
 use Rattle.sf_run.proofs.words.name_and_address.Goals as goal
