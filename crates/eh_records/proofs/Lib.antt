@@ -1,4 +1,6 @@
+pub mod Cuts
 pub mod LetterLoop
 pub mod LetterViews
+pub mod Moves
 pub mod SaidLoop
 pub mod Widths
