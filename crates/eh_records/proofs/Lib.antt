@@ -1,3 +1,4 @@
+pub mod Before
 pub mod Cuts
 pub mod LetterLoop
 pub mod LetterViews

@@ -46,38 +46,43 @@ cuts at = cuts_after 0 at.place at.left
 abbrev pub cuts_of : List ℕ → List Cutting
 cuts_of section = cuts (record { place = 0; left = section })
 
--- a record that was read
-pub data Entry : Type 0 where
-  Common : SharedView → Entry
-  Frame : FdeView → Entry
+-- an entry that was read
+pub data EntryView : Type 0 where
+  Common : SharedView → EntryView
+  Frame : FdeView → EntryView
+
+-- the entry of a record, by the word behind its length
+unfoldable pub entry_here : Arch → List ℕ → Piece → Result EntryView RecordFault
+entry_here arch section p = if p.id == 0 then (cie_of arch p >>= λ c. Ok (Common c)) else (fde_of arch section p >>= λ f. Ok (Frame f))
+
+-- a frame description entry names one of these places, at which common information entries stand before it
+abbrev pub place_among : List ℕ → Piece → ℕ → Result ℕ RecordFault
+place_among cies p place = if list_any (λ q. q == place) cies then Ok place else Err (CiePointer p.id_place)
+
+unfoldable pub shared_place : List ℕ → Piece → Result ℕ RecordFault
+shared_place cies p = if p.id == 0 then Ok p.place else (named_place p >>= place_among cies p)
 
 -- the entry of a record, where common information entries stand before it at these places
-abbrev pub frame_at : Arch → List ℕ → List ℕ → Piece → Result FdeView RecordFault
-frame_at arch section cies p = named_place p >>= λ place.
-    if list_any (λ q. q == place) cies then fde_of arch section p else Err (CiePointer p.id_place)
-
-unfoldable pub entry_at : Arch → List ℕ → List ℕ → Piece → Result Entry RecordFault
-entry_at arch section cies p =
-    if p.id == 0 then (cie_of arch p >>= λ c. Ok (Common c))
-    else (frame_at arch section cies p >>= λ f. Ok (Frame f))
+unfoldable pub entry_at : Arch → List ℕ → List ℕ → Piece → Result EntryView RecordFault
+entry_at arch section cies p = shared_place cies p >>= λ _. entry_here arch section p
 
 -- the places of the common information entries, with this record's
 abbrev pub with_place : List ℕ → Piece → List ℕ
 with_place cies p = if p.id == 0 then cies ++ p.place ∷ [] else cies
 
 -- the entries of records, or the first fault
-unfoldable pub entries_in : Arch → List ℕ → List ℕ → List Cutting → Result (List Entry) RecordFault
+unfoldable pub entries_in : Arch → List ℕ → List ℕ → List Cutting → Result (List EntryView) RecordFault
 entries_in arch section cies [] = Ok []
 entries_in arch section cies (Err e ∷ others) = Err e
 entries_in arch section cies (Ok p ∷ others) =
     entry_at arch section cies p >>= λ e. entries_in arch section (with_place cies p) others >>= λ es. Ok (e ∷ es)
 
 -- the entries of a section, or the first fault from the left
-unfoldable pub entries_of : Arch → List ℕ → Result (List Entry) RecordFault
+unfoldable pub entries_of : Arch → List ℕ → Result (List EntryView) RecordFault
 entries_of arch section = entries_in arch section [] (cuts_of section)
 
 -- the frame description entries among these
-abbrev pub frames : List Entry → List FdeView
+abbrev pub frames : List EntryView → List FdeView
 frames [] = []
 frames (Common c ∷ es) = frames es
 frames (Frame f ∷ es) = f ∷ frames es
@@ -87,13 +92,23 @@ abbrev pub optional : Option PointerField → List PointerField
 optional None = []
 optional (Some f) = f ∷ []
 
-abbrev pub entry_fields : Entry → List PointerField
+abbrev pub entry_fields : EntryView → List PointerField
 entry_fields (Common c) = optional c.cie.personality
 entry_fields (Frame f) = f.begin ∷ f.range ∷ optional f.lsda
 
-abbrev pub pointer_fields : List Entry → List PointerField
+abbrev pub pointer_fields : List EntryView → List PointerField
 pointer_fields [] = []
 pointer_fields (e ∷ es) = entry_fields e ++ pointer_fields es
+
+-- the entries of records up to the first that can't be read
+abbrev pub entry_before : Result EntryView RecordFault → List EntryView → List EntryView
+entry_before (Ok e) es = e ∷ es
+entry_before (Err x) es = []
+
+unfoldable pub entries_before : Arch → List ℕ → List Cutting → List EntryView
+entries_before arch section [] = []
+entries_before arch section (Err e ∷ others) = []
+entries_before arch section (Ok p ∷ others) = entry_before (entry_here arch section p) (entries_before arch section others)
 
 -- the fault of a section, if there is one
 abbrev pub fault_in : {X : Type 0} → Result X RecordFault → Option RecordFault

@@ -14,6 +14,7 @@ mod augmentation;
 mod cie;
 mod common;
 mod cut;
+mod entry;
 mod fault;
 mod fde;
 mod frame;

@@ -1,9 +1,14 @@
 //! The records of a section.
 
-ghost use Rattle.std.specs.Prelude.{◌<◌, ◌+◌, ◌^◌, ◌≡◌, length};
+ghost use Rattle.std.specs.Prelude.{◌<◌, ◌+◌, ◌^◌, ◌≡◌, ◌++◌, OnOk, length, map};
+ghost use Rattle.std.specs.Option.{option_map};
+ghost use Rattle.eh_records.specs.Entry.{entry_view};
+ghost use Rattle.eh_records.specs.Section.{optional, entry_fields};
+ghost use Rattle.eh_records.specs.Step.{pointer_view};
 
 use crate::common::read_cie;
 use crate::cut::next_cut;
+use crate::entry::{Entry, next_entry};
 use crate::fault::RecordFault;
 use crate::frame::read_fde;
 use crate::iter::FdeIter;
@@ -21,7 +26,36 @@ pub struct Records<'a> {
     ghost small: { length bytes.now < 2 ^ 32 },
 }
 
+// Appends a field, if there is one.
+fn push_optional(fields: &mut Vec<Field>, field: Option<Field>) -> Result<(), NoMemory>
+    ensures { OnOk result (map pointer_view fields.new.items ≡ map pointer_view fields.old.items ++ optional (option_map pointer_view field)) }
+{
+    if let Some(field) = field {
+        fields.push(field)?;
+    }
+    Ok(())
+}
+
+// Appends the pointer fields of an entry.
+fn push_fields(fields: &mut Vec<Field>, entry: &Entry<'_>) -> Result<(), NoMemory>
+    ensures { OnOk result (map pointer_view fields.new.items ≡ map pointer_view fields.old.items ++ entry_fields (entry_view entry.now)) }
+{
+    match entry {
+        Entry::Common(shared) => push_optional(fields, shared.cie.personality),
+        Entry::Frame(fde) => {
+            fields.push(fde.begin)?;
+            fields.push(fde.range)?;
+            push_optional(fields, fde.lsda)
+        }
+    }
+}
+
 impl<'a> Records<'a> {
+    ghost use Rattle.std.specs.Prelude.{IfOk, map};
+    ghost use Rattle.eh_records.specs.Section.{frames, pointer_fields};
+    ghost use Rattle.eh_records.specs.Step.{pointer_view};
+    ghost use Rattle.eh_records.specs.View.{entries, frames_left};
+
     /// Cuts a section into records, and checks each. The fault is the first from the left.
     ///
     /// `Unresolved` and `FunctionEnd` are never answered.
@@ -46,29 +80,21 @@ impl<'a> Records<'a> {
     }
 
     /// Each frame description entry, in the section's order.
-    pub fn fdes(&self) -> FdeIter<'a> {
+    pub fn fdes(&self) -> FdeIter<'a>
+        ensures { frames_left result ≡ frames (entries self.now) }
+    {
         FdeIter::new(self.bytes, self.arch)
     }
 
     /// All pointer fields by rising place: personality pointers of fixed width, starts, sizes, and pointers
     /// to language-specific data areas.
-    pub fn fields(&self, alloc: Global) -> Result<Vec<Field>, NoMemory> {
+    pub fn fields(&self, alloc: Global) -> Result<Vec<Field>, NoMemory>
+        ensures { IfOk result (λ fields. map pointer_view fields.items ≡ pointer_fields (entries self.now)) }
+    {
         let mut fields: Vec<Field> = Vec::new(alloc);
         let mut rest = Reader::from_place(self.bytes, 0);
-        while let Ok(Some(record)) = next_cut(&mut rest) {
-            if record.is_cie() {
-                if let Ok(shared) = read_cie(&record, self.arch)
-                    && let Some(field) = shared.cie.personality
-                {
-                    fields.push(field)?;
-                }
-            } else if let Ok(fde) = read_fde(self.bytes, &record, self.arch) {
-                fields.push(fde.begin)?;
-                fields.push(fde.range)?;
-                if let Some(field) = fde.lsda {
-                    fields.push(field)?;
-                }
-            }
+        while let Some(entry) = next_entry(self.bytes, self.arch, &mut rest) {
+            push_fields(&mut fields, &entry)?;
         }
         Ok(fields)
     }
