@@ -13,6 +13,7 @@ use crate::cut::{Cut, next_cut};
 use crate::fault::RecordFault;
 use crate::fde::Fde;
 use crate::frame::read_fde;
+use crate::places::place_of_shared;
 use crate::reader::Reader;
 use sf_model::Arch;
 
@@ -38,6 +39,22 @@ fn read_here<'a>(section: &'a [u8], cut: &Cut<'a>, arch: Arch) -> Result<Entry<'
         let fde = read_fde(section, cut, arch)?;
         Ok(Entry::Frame(fde))
     }
+}
+
+/// The entry of a record. `places` has those of the common information entries before it, and rises.
+#[tactic(auto, unfolding(crate::specs::Section::entry_at))]
+pub fn read_after<'a>(
+    section: &'a [u8],
+    places: &[u32],
+    cut: &Cut<'a>,
+    arch: Arch,
+) -> Result<Entry<'a>, RecordFault>
+    requires small { length section.now < 2 ^ 32 }
+    requires rising { IsRising places.now }
+    ensures { Is entry_view result (entry_at arch section.now places.now (piece cut.now)) }
+{
+    place_of_shared(cut, places)?;
+    read_here(section, cut, arch)
 }
 
 /// The first entry of what is left of a section that was parsed, or none at its end.

@@ -21,6 +21,7 @@ mod frame;
 mod iter;
 mod layout;
 mod letters;
+mod places;
 mod reader;
 mod records;
 mod said;

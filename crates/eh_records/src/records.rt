@@ -6,12 +6,11 @@ ghost use Rattle.eh_records.specs.Entry.{entry_view};
 ghost use Rattle.eh_records.specs.Section.{optional, entry_fields};
 ghost use Rattle.eh_records.specs.Step.{pointer_view};
 
-use crate::common::read_cie;
 use crate::cut::next_cut;
-use crate::entry::{Entry, next_entry};
+use crate::entry::{Entry, next_entry, read_after};
 use crate::fault::RecordFault;
-use crate::frame::read_fde;
 use crate::iter::FdeIter;
+use crate::places::note_place;
 use crate::reader::Reader;
 use sf_base::NoMemory;
 use sf_bytes::Field;
@@ -54,27 +53,20 @@ impl<'a> Records<'a> {
     ghost use Rattle.std.specs.Prelude.{IfOk, map};
     ghost use Rattle.eh_records.specs.Section.{frames, pointer_fields};
     ghost use Rattle.eh_records.specs.Step.{pointer_view};
-    ghost use Rattle.eh_records.specs.View.{entries, frames_left};
+    ghost use Rattle.eh_records.specs.View.{IsParsed, entries, frames_left};
 
     /// Cuts a section into records, and checks each. The fault is the first from the left.
     ///
     /// `Unresolved` and `FunctionEnd` are never answered.
     pub fn parse(alloc: Global, bytes: &'a [u8], arch: Arch) -> Result<Records<'a>, RecordFault>
         requires { length bytes.now < 2 ^ 32 }
+        ensures exact { IsParsed arch bytes.now result }
     {
-        let mut cies: Vec<u32> = Vec::new(alloc);
+        let mut places: Vec<u32> = Vec::new(alloc);
         let mut rest = Reader::from_place(bytes, 0);
-        while let Some(record) = next_cut(&mut rest)? {
-            if record.is_cie() {
-                read_cie(&record, arch)?;
-                cies.push(record.place)?;
-            } else {
-                let place = record.cie_place()?;
-                if cies.as_slice().binary_search(&place).is_err() {
-                    return Err(RecordFault::CiePointer(record.id_place));
-                }
-                read_fde(bytes, &record, arch)?;
-            }
+        while let Some(cut) = next_cut(&mut rest)? {
+            read_after(bytes, places.as_slice(), &cut, arch)?;
+            note_place(&cut, &mut places)?;
         }
         Ok(Records { bytes, arch })
     }
