@@ -1,8 +1,7 @@
 -- Places that rise, and what a search among them finds.
 use Rattle.std.specs.Prelude.{◌==◌, nat_lt, is_ok, Result, Ok, Err, MatchResult}
 use Rattle.std.specs.List.{list_any}
-use Rattle.std.proofs.Common.{◌≡◌, ℕ, zero, suc, ◌+◌, ◌-◌, ◌<◌, ◌≤◌, Bool, true, false, cond, List, [], ◌∷◌, ◌++◌, length, get_or, refl, sym, ap, subst, ◌∙◌, arith, length-append}
-use Rattle.std.proofs.lemmas.Bool.{eqb-true}
+use Rattle.std.proofs.Common.{◌≡◌, ℕ, zero, suc, ◌+◌, ◌<◌, ◌≤◌, Bool, true, false, cond, List, [], ◌∷◌, ◌++◌, length, get_or, refl, sym, ap, ◌∙◌, arith, length-append}
 use Rattle.std.proofs.lemmas.Bool.Decides.{nat_tests}
 use Rattle.std.proofs.lemmas.List.{get_or_append_left}
 use Rattle.std.proofs.Math.Seq.{get_or-append_seam}
@@ -88,10 +87,10 @@ pub found : (xs : List ℕ) (x : ℕ) (r : Result ℕ ℕ) → MatchResult r (λ
     → is_ok r ≡ among x xs
 found xs x (Ok i) h = sym (is_among i x xs h.0 h.1)
 found xs x (Err i) h = sym (isnt_among x xs (λ k within e. elim (nat_lt k i) as (λ b. nat_lt k i ≡ b → ⊥) [
-    | true ↦ λ t.
-        let lower : get_or xs k 0 < x = h.1 k (grind (arith, nat_tests)) in
-        omega (arith, e)
-    | false ↦ λ t.
-        let higher : x < get_or xs k 0 = h.2 k (grind (arith, nat_tests)) within in
-        omega (arith, e)
-  ] refl))
+  | true ↦ λ t.
+      let lower : get_or xs k 0 < x = h.1 k (grind (arith, nat_tests)) in
+      omega (arith, e)
+  | false ↦ λ t.
+      let higher : x < get_or xs k 0 = h.2 k (grind (arith, nat_tests)) within in
+      omega (arith, e)
+] refl))

@@ -1,10 +1,10 @@
 -- The first entry from a cursor on, and those behind it.
-use Rattle.std.proofs.Common.{◌≡◌, ℕ, List, [], ◌∷◌, Option, Some, None, Result, Ok, Err, refl, ap, ◌∙◌}
+use Rattle.std.proofs.Common.{◌≡◌, ℕ, List, [], ◌∷◌, Some, None, Result, Ok, Err, refl, ap, ◌∙◌}
 use Rattle.sf_bytes.specs.Cursor.{Cursor}
 use Rattle.sf_model.specs.declared.machine.Arch.{Arch}
 use Rattle.eh_records.specs.declared.fault.RecordFault.{RecordFault}
 use Rattle.eh_records.specs.Cut.{Piece, piece_at}
-use Rattle.eh_records.specs.Section.{EntryView, Cutting, Front, cuts, entry_here, entry_before, entries_before}
+use Rattle.eh_records.specs.Section.{EntryView, Cutting, cuts, entry_here, entry_before, entries_before}
 use Rattle.eh_records.proofs.Cuts.{starts_with_record, stops, faults}
 
 nil : (arch : Arch) (section : List ℕ) → entries_before arch section [] ≡ []

@@ -1,5 +1,5 @@
 -- The first record from a cursor on, and those behind it.
-use Rattle.std.proofs.Common.{◌≡◌, ℕ, zero, suc, ◌+◌, ◌-◌, ◌<◌, ◌≤◌, List, [], ◌∷◌, length, drop, Some, None, Ok, Err, refl, ap, subst, sym, ◌∙◌, arith, length-drop}
+use Rattle.std.proofs.Common.{◌≡◌, ℕ, zero, suc, ◌+◌, ◌-◌, ◌<◌, ◌≤◌, List, [], ◌∷◌, length, drop, Some, None, Ok, Err, refl, ap, ◌∙◌, arith, length-drop}
 use Rattle.sf_bytes.specs.Cursor.{Cursor, past}
 use Rattle.eh_records.specs.declared.fault.RecordFault.{RecordFault}
 use Rattle.eh_records.specs.Cut.{Piece, piece_at}

@@ -1,6 +1,6 @@
 -- What a record that was cut off is, and where the next one stands.
 use Rattle.std.specs.Prelude.{◌==◌, nat_lt}
-use Rattle.std.proofs.Common.{◌≡◌, ℕ, ◌+◌, ◌<◌, ◌≤◌, Bool, true, false, cond, List, [], length, take, drop, subst, length-drop, Option, Some, None, Result, Ok, Err, refl, sym, ap, ◌∙◌, arith}
+use Rattle.std.proofs.Common.{◌≡◌, ℕ, ◌+◌, ◌≤◌, Bool, true, false, cond, [], length, take, drop, subst, length-drop, Option, Some, None, Result, Ok, Err, refl, sym, ap, ◌∙◌, arith}
 use Rattle.std.proofs.lemmas.Bool.Decides.{nat_tests}
 use Rattle.std.proofs.lemmas.List.{drop-drop}
 use Rattle.byteorder.specs.Endian.{little_number}
@@ -98,7 +98,7 @@ piece_cut len at at1 x enough four e1 e =
     let s2 = through (number_field 4 s1.first.0) _ x s1.rest in
     let p2 = number_read 4 s1.first.0 s2.first s2.read in
     let p1' : IsRead len (past 4 at) (record { place = at.place + 4; left = take len (drop 4 at.left) }) s1.first =
-        subst (λ (c : Cursor). IsRead len c (record { place = c.place; left = take len c.left }) s1.first) e1 p1 in
+    subst (λ (c : Cursor). IsRead len c (record { place = c.place; left = take len c.left }) s1.first) e1 p1 in
     built len at x.0 x.1 s1.first.0 s1.first.1 s2.first.0 s2.first.1 enough four p1' p2 (ap (λ (y : Piece × Cursor). y.0) (ok_same _ _ s2.rest)) (ap (λ (y : Piece × Cursor). y.1) (ok_same _ _ s2.rest))
 
 -- the first record of a cursor

@@ -1,11 +1,11 @@
 -- A whole section (LSB Core, "The .eh_frame section"): records one behind the other, up to the section's end or
 -- to a length word of 0. A frame description entry names a common information entry that stands before it.
-use Rattle.std.specs.Prelude.{◌≡◌, ℕ, zero, suc, ◌+◌, ◌-◌, ◌==◌, ◌⊎◌, Bool, true, false, List, [], ◌∷◌, ◌++◌, length, Option, Some, None, Result, Ok, Err, if◌then◌else◌}
+use Rattle.std.specs.Prelude.{ℕ, zero, suc, ◌+◌, ◌-◌, ◌==◌, List, [], ◌∷◌, ◌++◌, length, Option, Some, None, Result, Ok, Err, if◌then◌else◌}
 use Rattle.std.specs.List.{list_any}
 use Rattle.sf_bytes.specs.Cursor.{Cursor}
 use Rattle.sf_model.specs.declared.machine.Arch.{Arch}
 use Rattle.eh_records.specs.declared.fault.RecordFault.{RecordFault}
-use Rattle.eh_records.specs.declared.fault.RecordFault.TheVariants.{CiePointer, NoMemory}
+use Rattle.eh_records.specs.declared.fault.RecordFault.TheVariants.{CiePointer}
 use Rattle.eh_records.specs.Cie.{SharedView, cie_of}
 use Rattle.eh_records.specs.Cut.{Piece, piece_at, named_place}
 use Rattle.eh_records.specs.Fde.{FdeView, fde_of}

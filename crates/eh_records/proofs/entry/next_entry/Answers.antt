@@ -1,6 +1,5 @@
-use Rattle.std.proofs.Common.{◌≡◌, [], refl}
+use Rattle.std.proofs.Common.{◌≡◌, []}
 use Rattle.eh_records.specs.Cut.{piece}
-use Rattle.eh_records.specs.Entry.{entry_view}
 use Rattle.eh_records.specs.Section.{entries_before, cuts}
 use Rattle.eh_records.specs.Step.{reader_cursor}
 use Rattle.eh_records.proofs.Before.{none_at_fault, none_at_end, begins}
@@ -10,7 +9,7 @@ pub returns-in-Err-read_here : goal.returns-in-Err-read_here
 returns-in-Err-read_here c =
     let cut_read = rw c.in-Ok-Some.field-0-is at c.in-Ok-Some.ensures.exact in
     let none : entries_before c.args.arch c.args.section.now (cuts (reader_cursor c.args.rest.now)) ≡ [] =
-        begins c.args.arch c.args.section.now (reader_cursor c.args.rest.now) (piece c.in-Ok-Some.cut) (reader_cursor c.next_cut.new.rest) _ cut_read c.in-Err-read_here.ensures in
+    begins c.args.arch c.args.section.now (reader_cursor c.args.rest.now) (piece c.in-Ok-Some.cut) (reader_cursor c.next_cut.new.rest) _ cut_read c.in-Err-read_here.ensures in
     (none, none)
 
 pub returns-in-Ok : goal.returns-in-Ok

@@ -1,5 +1,5 @@
 use Rattle.std.specs.Prelude.{◌==◌}
-use Rattle.std.proofs.Common.{◌≡◌, ◌+◌, ◌<◌, ℕ, List, [], length, Some, None, refl, sym, ap, subst, inl, inr, ◌∙◌, arith}
+use Rattle.std.proofs.Common.{◌≡◌, ◌+◌, ◌<◌, [], length, Some, None, sym, ap, subst, inr, ◌∙◌, arith}
 use Rattle.std.proofs.lemmas.Result.{err_from_is_err_and}
 use Rattle.sf_bytes.specs.Cursor.{Cursor}
 use Rattle.eh_records.specs.Cut.{piece}
@@ -22,7 +22,7 @@ pub returns-in_err-cut : goal.returns-in_err-cut
 returns-in_err-cut c =
     let p = err_from_is_err_and c.from_residual.result c.from_residual.ensures.1 in
     let fault : fault_in (entries_of c.args.arch c.args.bytes.now) ≡ Some c.in_err-cut.field-0.0 =
-        sym c.loop-places.invariant.fault ∙ uncut c.args.arch c.args.bytes.now c.loop-places.places.items (reader_cursor c.loop-places.rest) c.in_err-cut.field-0.0 c.in_err-cut.ensures.exact in
+    sym c.loop-places.invariant.fault ∙ uncut c.args.arch c.args.bytes.now c.loop-places.places.items (reader_cursor c.loop-places.rest) c.in_err-cut.field-0.0 c.in_err-cut.ensures.exact in
     record { exact = rw (p.1, p.2) (inr (fault_is _ _ fault)) }
 
 pub returns-in_err-read_after : goal.returns-in_err-read_after
@@ -31,7 +31,7 @@ returns-in_err-read_after c =
     let cut_read = rw c.in-Some.is at c.in_ok-cut.ensures.exact in
     let read = rw c.as_slice.ensures.value at c.in_err-read_after.ensures in
     let fault : fault_in (entries_of c.args.arch c.args.bytes.now) ≡ Some c.in_err-read_after.field-0.0 =
-        sym c.loop-places.invariant.fault ∙ refused c.args.arch c.args.bytes.now c.loop-places.places.items (reader_cursor c.loop-places.rest) (piece c.in-Some.cut) (reader_cursor c.next_cut.new.rest) c.in_err-read_after.field-0.0 cut_read read in
+    sym c.loop-places.invariant.fault ∙ refused c.args.arch c.args.bytes.now c.loop-places.places.items (reader_cursor c.loop-places.rest) (piece c.in-Some.cut) (reader_cursor c.next_cut.new.rest) c.in_err-read_after.field-0.0 cut_read read in
     record { exact = rw (p.1, p.2) (inr (fault_is _ _ fault)) }
 
 pub loop-places-preserved : goal.loop-places-preserved
@@ -54,5 +54,5 @@ pub returns : goal.returns
 returns c =
     let cut_read = rw c.in_default.is at c.in_ok-cut.ensures.exact in
     let none : fault_in (entries_of c.args.arch c.args.bytes.now) ≡ None =
-        sym c.loop-places.invariant.fault ∙ ended c.args.arch c.args.bytes.now c.loop-places.places.items (reader_cursor c.loop-places.rest) cut_read in
+    sym c.loop-places.invariant.fault ∙ ended c.args.arch c.args.bytes.now c.loop-places.places.items (reader_cursor c.loop-places.rest) cut_read in
     record { exact = whole c.args.arch c.args.bytes.now none }
