@@ -2,6 +2,7 @@ pub mod Among
 pub mod Before
 pub mod Cuts
 pub mod Faults
+pub mod Keys
 pub mod LetterLoop
 pub mod LetterViews
 pub mod Moves
