@@ -1,5 +1,6 @@
 -- The first fault of a section is that of what is left of it.
-use Rattle.std.proofs.Common.{◌≡◌, ℕ, List, [], ◌∷◌, Option, Some, None, Result, Ok, Err, refl, sym, ap, ◌∙◌}
+use Rattle.std.specs.Prelude.{is_ok}
+use Rattle.std.proofs.Common.{true, ◌≡◌, ℕ, List, [], ◌∷◌, Option, Some, None, Result, Ok, Err, refl, sym, ap, ◌∙◌}
 use Rattle.sf_bytes.specs.Cursor.{Cursor}
 use Rattle.sf_model.specs.declared.machine.Arch.{Arch}
 use Rattle.eh_records.specs.declared.fault.RecordFault.{RecordFault}
@@ -85,3 +86,14 @@ whole arch section none = ok_all arch section [] (cuts_of section) (entries_in a
 pub fault_is : (r : Result (List EntryView) RecordFault) (x : RecordFault) → fault_in r ≡ Some x → r ≡ Err x
 fault_is (Ok es) x h = absurd cc
 fault_is (Err y) x h = cc
+
+pub is_whole : (arch : Arch) (section : List ℕ) → fault_in (entries_of arch section) ≡ None → is_ok (entries_of arch section) ≡ true
+is_whole arch section none = ap is_ok (whole arch section none)
+
+none_if_ok : (r : Result (List EntryView) RecordFault) → is_ok r ≡ true → fault_in r ≡ None
+none_if_ok (Ok es) h = refl
+none_if_ok (Err x) h = absurd cc
+
+-- a section that was read once can be read again
+pub read_again : (arch : Arch) (section : List ℕ) → is_ok (entries_of arch section) ≡ true → entries_of arch section ≡ Ok (entries_before arch section (cuts_of section))
+read_again arch section h = whole arch section (none_if_ok (entries_of arch section) h)

@@ -1,9 +1,9 @@
 //! The records of a section.
 
-ghost use Rattle.std.specs.Prelude.{◌<◌, ◌+◌, ◌^◌, ◌≡◌, ◌++◌, OnOk, length, map};
+ghost use Rattle.std.specs.Prelude.{◌<◌, ◌+◌, ◌^◌, ◌≡◌, ◌++◌, OnOk, is_ok, length, map, true};
 ghost use Rattle.std.specs.Option.{option_map};
 ghost use Rattle.eh_records.specs.Entry.{entry_view};
-ghost use Rattle.eh_records.specs.Section.{optional, entry_fields};
+ghost use Rattle.eh_records.specs.Section.{optional, entry_fields, entries_of};
 ghost use Rattle.eh_records.specs.Step.{pointer_view};
 
 use crate::cut::next_cut;
@@ -23,6 +23,7 @@ pub struct Records<'a> {
     bytes: &'a [u8],
     arch: Arch,
     ghost small: { length bytes.now < 2 ^ 32 },
+    ghost whole: { is_ok (entries_of arch bytes.now) ≡ true },
 }
 
 // Appends a field, if there is one.
@@ -53,7 +54,7 @@ impl<'a> Records<'a> {
     ghost use Rattle.std.specs.Prelude.{IfOk, map};
     ghost use Rattle.eh_records.specs.Section.{frames, pointer_fields};
     ghost use Rattle.eh_records.specs.Step.{pointer_view};
-    ghost use Rattle.eh_records.specs.View.{IsParsed, entries, frames_left};
+    ghost use Rattle.eh_records.specs.View.{IsParsed, IsWhole, KeysFit, arch_of, entries, frames_left};
 
     /// Cuts a section into records, and checks each. The fault is the first from the left.
     ///
@@ -61,6 +62,7 @@ impl<'a> Records<'a> {
     pub fn parse(alloc: Global, bytes: &'a [u8], arch: Arch) -> Result<Records<'a>, RecordFault>
         requires { length bytes.now < 2 ^ 32 }
         ensures exact { IsParsed arch bytes.now result }
+        ensures machine { IfOk result (λ records. arch_of records ≡ arch) }
     {
         let mut places: Vec<u32> = Vec::new(alloc);
         let mut rest = Reader::from_place(bytes, 0);
@@ -73,7 +75,9 @@ impl<'a> Records<'a> {
 
     /// Each frame description entry, in the section's order.
     pub fn fdes(&self) -> FdeIter<'a>
-        ensures { frames_left result ≡ frames (entries self.now) }
+        ensures gives { frames_left result ≡ frames (entries self.now) }
+        ensures keys { KeysFit self.now }
+        ensures whole { IsWhole self.now }
     {
         FdeIter::new(self.bytes, self.arch)
     }

@@ -7,7 +7,7 @@ use Rattle.eh_records.specs.Places.{IsRising, IsBefore}
 use Rattle.eh_records.specs.Section.{entries_of, fault_in, with_place}
 use Rattle.eh_records.specs.Step.{reader_cursor}
 use Rattle.eh_records.proofs.Among.{rising_with, before_with}
-use Rattle.eh_records.proofs.Faults.{fault_from, begins, goes_on, refused, uncut, ended, whole, fault_is}
+use Rattle.eh_records.proofs.Faults.{fault_from, begins, goes_on, refused, uncut, ended, whole, is_whole, fault_is}
 use Rattle.eh_records.proofs.Moves.{IsCut, cut_is}
 use Rattle.eh_records.proofs.records.Records.parse.Goals as goal
 
@@ -18,21 +18,21 @@ loop-places-init c = record {
   before = λ i within. absurd (omega (arith, ap length c.new-places.ensures.items));
 }
 
-pub returns-in_err-cut : goal.returns-in_err-cut
-returns-in_err-cut c =
+pub returns-in_err-cut-clause-exact : goal.returns-in_err-cut-clause-exact
+returns-in_err-cut-clause-exact c =
     let p = err_from_is_err_and c.from_residual.result c.from_residual.ensures.1 in
     let fault : fault_in (entries_of c.args.arch c.args.bytes.now) ≡ Some c.in_err-cut.field-0.0 =
     sym c.loop-places.invariant.fault ∙ uncut c.args.arch c.args.bytes.now c.loop-places.places.items (reader_cursor c.loop-places.rest) c.in_err-cut.field-0.0 c.in_err-cut.ensures.exact in
-    record { exact = rw (p.1, p.2) (inr (fault_is _ _ fault)) }
+    rw (p.1, p.2) (inr (fault_is _ _ fault))
 
-pub returns-in_err-read_after : goal.returns-in_err-read_after
-returns-in_err-read_after c =
+pub returns-in_err-read_after-clause-exact : goal.returns-in_err-read_after-clause-exact
+returns-in_err-read_after-clause-exact c =
     let p = err_from_is_err_and c.from_residual-in_err-read_after.result c.from_residual-in_err-read_after.ensures.1 in
     let cut_read = rw c.in-Some.is at c.in_ok-cut.ensures.exact in
     let read = rw c.as_slice.ensures.value at c.in_err-read_after.ensures in
     let fault : fault_in (entries_of c.args.arch c.args.bytes.now) ≡ Some c.in_err-read_after.field-0.0 =
     sym c.loop-places.invariant.fault ∙ refused c.args.arch c.args.bytes.now c.loop-places.places.items (reader_cursor c.loop-places.rest) (piece c.in-Some.cut) (reader_cursor c.next_cut.new.rest) c.in_err-read_after.field-0.0 cut_read read in
-    record { exact = rw (p.1, p.2) (inr (fault_is _ _ fault)) }
+    rw (p.1, p.2) (inr (fault_is _ _ fault))
 
 pub loop-places-preserved : goal.loop-places-preserved
 loop-places-preserved c =
@@ -50,9 +50,16 @@ loop-places-preserved c =
       before = subst (IsBefore c.next_cut.new.rest.part.place) (sym noted) (before_with (c.in-Some.cut.id == 0) c.loop-places.places.items c.in-Some.cut.place c.next_cut.new.rest.part.place before further);
     }
 
-pub returns : goal.returns
-returns c =
+pub returns-clause-exact : goal.returns-clause-exact
+returns-clause-exact c =
     let cut_read = rw c.in_default.is at c.in_ok-cut.ensures.exact in
     let none : fault_in (entries_of c.args.arch c.args.bytes.now) ≡ None =
     sym c.loop-places.invariant.fault ∙ ended c.args.arch c.args.bytes.now c.loop-places.places.items (reader_cursor c.loop-places.rest) cut_read in
-    record { exact = whole c.args.arch c.args.bytes.now none }
+    whole c.args.arch c.args.bytes.now none
+
+pub invariant_of-result-clause-whole : goal.invariant_of-result-clause-whole
+invariant_of-result-clause-whole c =
+    let cut_read = rw c.in_default.is at c.in_ok-cut.ensures.exact in
+    let none : fault_in (entries_of c.args.arch c.args.bytes.now) ≡ None =
+    sym c.loop-places.invariant.fault ∙ ended c.args.arch c.args.bytes.now c.loop-places.places.items (reader_cursor c.loop-places.rest) cut_read in
+    is_whole c.args.arch c.args.bytes.now none
