@@ -7,4 +7,5 @@ pub mod LetterLoop
 pub mod LetterViews
 pub mod Moves
 pub mod SaidLoop
+pub mod Stands
 pub mod Widths

@@ -63,7 +63,7 @@ pub record IsCut (at : Cursor) (p : Piece) (after : Cursor) : Type 0 where
   pub body : p.body ≡ record { place = at.place + 8; left = drop 4 (take len (drop 4 at.left)) }
   pub behind : after ≡ past (4 + len) at
 
-past-past : (m n : ℕ) (at : Cursor) → past n (past m at) ≡ past (m + n) at
+pub past-past : (m n : ℕ) (at : Cursor) → past n (past m at) ≡ past (m + n) at
 past-past m n at =
     let place : at.place + m + n ≡ at.place + (m + n) = omega arith in
     let left : drop n (drop m at.left) ≡ drop (m + n) at.left = drop-drop n m at.left in

@@ -1,6 +1,7 @@
 pub mod Augmentation
 pub mod Cie
 pub mod Cut
+pub mod Cutting
 pub mod Entry
 pub mod Fde
 pub mod Iter
