@@ -2,9 +2,10 @@
 use Rattle.std.proofs.Common.{◌≡◌, ℕ, zero, suc, ◌+◌, ◌-◌, ◌<◌, ◌≤◌, List, [], ◌∷◌, length, drop, Some, None, Ok, Err, refl, ap, ◌∙◌, arith, length-drop}
 use Rattle.sf_bytes.specs.Cursor.{Cursor, past}
 use Rattle.eh_records.specs.declared.fault.RecordFault.{RecordFault}
+use Rattle.eh_records.specs.Cutting.{Stands}
 use Rattle.eh_records.specs.Cut.{Piece, piece_at}
 use Rattle.eh_records.specs.Section.{Cutting, cuts_after, cuts}
-use Rattle.eh_records.proofs.Moves.{IsCut, cut_is, nothing_there}
+use Rattle.eh_records.proofs.Moves.{cut_is, nothing_there}
 
 cuts-nil : (skipped place : ℕ) → cuts_after skipped place [] ≡ []
 unfolding cuts_after
@@ -43,12 +44,12 @@ starts_bytes : (place : ℕ) (bytes : List ℕ) (p : Piece) (after : Cursor) →
 unfolding cuts_after
 starts_bytes place [] p after some e = absurd (omega arith)
 starts_bytes place (b ∷ bs) p after some e =
-    let c : IsCut (record { place = place; left = b ∷ bs }) p after = cut_is _ p after e in
+    let c : Stands (record { place = place; left = b ∷ bs }) p after = cut_is _ p after e in
     rw e (ap (λ (others : List Cutting). Ok p ∷ others) (next_behind place b bs p after c.len c.enough c.behind))
 
 pub starts_with_record : (at : Cursor) (p : Piece) (after : Cursor) → piece_at at ≡ Ok (Some (p, after)) → cuts at ≡ Ok p ∷ cuts after
 starts_with_record at p after e =
-    let c : IsCut at p after = cut_is at p after e in
+    let c : Stands at p after = cut_is at p after e in
     let some : 0 < length at.left = omega (arith, c.within) in
     starts_bytes at.place at.left p after some e
 

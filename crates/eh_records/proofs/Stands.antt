@@ -2,6 +2,7 @@
 use Rattle.std.specs.Prelude.{◌==◌, nat_lt}
 use Rattle.std.proofs.Common.{◌≡◌, ◌⊎◌, inl, inr, ℕ, ◌+◌, ◌-◌, ◌<◌, ◌≤◌, Bool, true, false, cond, List, [], ◌∷◌, length, take, drop, subst, length-drop, Option, Some, None, Result, Ok, Err, refl, sym, ap, ◌∙◌, arith}
 use Rattle.std.proofs.lemmas.List.{length-take-le}
+use Rattle.std.proofs.lemmas.Bool.{eqb-true}
 use Rattle.std.proofs.lemmas.Bool.Decides.{nat_tests}
 use Rattle.byteorder.specs.Endian.{little_number}
 use Rattle.sf_bytes.specs.declared.fault.ByteFault.TheVariants as byte_faults
@@ -12,8 +13,8 @@ use Rattle.eh_records.specs.Cut.{Piece, piece_at, piece_of, whole, sized}
 use Rattle.eh_records.specs.Cutting.{Stands, EndsWithZero, AreCut}
 use Rattle.eh_records.specs.Section.{Cutting, cuts}
 use Rattle.eh_records.specs.Step.{Step, ◌>>=◌, placed, number_field, part_field}
-use Rattle.eh_records.proofs.Cuts.{starts_with_record, stops}
-use Rattle.eh_records.proofs.Moves.{IsRead, number_read, past-past}
+use Rattle.eh_records.proofs.Cuts.{starts_with_record, stops, faults}
+use Rattle.eh_records.proofs.Moves.{IsRead, number_read, past-past, cut_is, end_is}
 
 -- a field that lies in the bytes is read
 there_if : {X : Type 0} (n place : ℕ) (at : Cursor) (v : X) (b : Bool) → nat_lt (length at.left) n ≡ b → n ≤ length at.left
@@ -33,11 +34,11 @@ abbrev Found : Type 0
 Found = Result (Option (Piece × Cursor)) RecordFault
 
 -- the tests of a length word
-sized_some : (len : ℕ) (at1 : Cursor) (place : ℕ) (x : Piece × Cursor) → (a b c : Bool) → (len == 0) ≡ a → (len == 4294967295) ≡ b → nat_lt len 4 ≡ c → 4 ≤ len → len < 4294967295
+sized_some : (len : ℕ) (at1 : Cursor) (place : ℕ) (x : Piece × Cursor) → (a b c : Bool) → (len == 0) ≡ a → (len == 4294967295) ≡ b → nat_lt len 4 ≡ c → 4 ≤ len → (len ≡ 4294967295 → ⊥)
     → piece_of place len at1 ≡ Ok x
     → cond {A = Found} a (Ok None) (cond b (Err (Extended place)) (cond c (Err (Short place)) (piece_of place len at1 >>= λ p. Ok (Some p)))) ≡ Ok (Some x)
 sized_some len at1 place x true b c ta tb tc enough short e = absurd (grind (arith, nat_tests))
-sized_some len at1 place x false true c ta tb tc enough short e = absurd (grind (arith, nat_tests))
+sized_some len at1 place x false true c ta tb tc enough short e = absurd (short (eqb-true len 4294967295 tb))
 sized_some len at1 place x false false true ta tb tc enough short e = absurd (grind (arith, nat_tests))
 sized_some len at1 place x false false false ta tb tc enough short e = ap (λ (r : Step Piece). r >>= λ p. Ok (Some p)) e
 
@@ -105,3 +106,68 @@ cut_read [] at (inl e) = stops at (end_nothing at e)
 cut_read [] at (inr z) = stops at (end_zero at z)
 cut_read (p ∷ ps) at (after, stands, rest) =
     starts_with_record at p after (stands_is at p after stands) ∙ ap (λ (xs : List Cutting). Ok p ∷ xs) (cut_read ps after rest)
+
+-- what is cut off is a cut
+abbrev faulted : RecordFault → List Cutting
+faulted f = Err f ∷ []
+
+abbrev first : Piece → List Cutting → List Cutting
+first p xs = Ok p ∷ xs
+
+abbrev nothing : List Cutting
+nothing = []
+
+some_more : (p : Piece) (xs : List Cutting) → first p xs ≡ nothing → ⊥
+some_more p xs e = cc
+
+some_fault : (f : RecordFault) → faulted f ≡ nothing → ⊥
+some_fault f e = cc
+
+other_fault : (f : RecordFault) (p : Piece) (xs : List Cutting) → faulted f ≡ first p xs → ⊥
+other_fault f p xs e = cc
+
+same_first : (p q : Piece) (xs ys : List Cutting) → first p xs ≡ first q ys → p ≡ q
+same_first p q xs ys e = cc
+
+same_others : (p q : Piece) (xs ys : List Cutting) → first p xs ≡ first q ys → xs ≡ ys
+same_others p q xs ys e = cc
+
+ends_empty : (at : Cursor) → cuts at ≡ [] → (r : Found) → piece_at at ≡ r → r ≡ Ok None
+ends_empty at e (Ok None) h = refl
+ends_empty at e (Ok (Some x)) h = absurd (some_more x.0 (cuts x.1) (sym (starts_with_record at x.0 x.1 h) ∙ e))
+ends_empty at e (Err f) h = absurd (some_fault f (sym (faults at f h) ∙ e))
+
+record Next (at : Cursor) (p : Piece) (xs : List Cutting) : Type 0 where
+  after : Cursor
+  stands : Stands at p after
+  rest : cuts after ≡ xs
+
+next_of : (at : Cursor) (p : Piece) (xs : List Cutting) → cuts at ≡ Ok p ∷ xs → (r : Found) → piece_at at ≡ r → Next at p xs
+next_of at p xs e (Ok None) h = absurd (some_more p xs (sym e ∙ stops at h))
+next_of at p xs e (Ok (Some x)) h =
+    let same : first x.0 (cuts x.1) ≡ first p xs = sym (starts_with_record at x.0 x.1 h) ∙ e in
+    record {
+      after = x.1;
+      stands = subst (λ (q : Piece). Stands at q x.1) (same_first x.0 p (cuts x.1) xs same) (cut_is at x.0 x.1 h);
+      rest = same_others x.0 p (cuts x.1) xs same;
+    }
+next_of at p xs e (Err f) h = absurd (other_fault f p xs (sym (faults at f h) ∙ e))
+
+pub read_cut : (ps : List Piece) (at : Cursor) → cuts at ≡ all_cut ps → AreCut ps at
+read_cut [] at e = end_is at (ends_empty at e (piece_at at) refl)
+read_cut (p ∷ ps) at e =
+    let n = next_of at p (all_cut ps) e (piece_at at) refl in
+    (n.after, n.stands, read_cut ps n.after n.rest)
+
+-- there is at most one cut
+both_same : (p q : Piece) (ps qs : List Piece) → p ≡ q → ps ≡ qs → p ∷ ps ≡ q ∷ qs
+both_same p q ps qs e h = cc
+
+same_cut : (ps qs : List Piece) → all_cut ps ≡ all_cut qs → ps ≡ qs
+same_cut [] [] e = refl
+same_cut [] (q ∷ qs) e = absurd (some_more q (all_cut qs) (sym e))
+same_cut (p ∷ ps) [] e = absurd (some_more p (all_cut ps) e)
+same_cut (p ∷ ps) (q ∷ qs) e = both_same p q ps qs (same_first p q (all_cut ps) (all_cut qs) e) (same_cut ps qs (same_others p q (all_cut ps) (all_cut qs) e))
+
+pub one_cut : (ps qs : List Piece) (at : Cursor) → AreCut ps at → AreCut qs at → ps ≡ qs
+one_cut ps qs at h k = same_cut ps qs (sym (cut_read ps at h) ∙ cut_read qs at k)

@@ -1,6 +1,6 @@
 -- The cut of a section in the standard's words (LSB Core, "The .eh_frame section"): records that stand one behind
 -- the other from the first byte on, each a length word and as many bytes, and then nothing or a length word of 0.
-use Rattle.std.specs.Prelude.{◌≡◌, ◌⊎◌, ℕ, ◌+◌, ◌<◌, ◌≤◌, List, [], ◌∷◌, length, take, drop}
+use Rattle.std.specs.Prelude.{◌≡◌, ◌≢◌, ◌⊎◌, ℕ, ◌+◌, ◌≤◌, List, [], ◌∷◌, length, take, drop}
 use Rattle.byteorder.specs.Endian.{little_number}
 use Rattle.sf_bytes.specs.Cursor.{Cursor, past}
 use Rattle.eh_records.specs.Cut.{Piece}
@@ -10,7 +10,7 @@ pub record Stands (at : Cursor) (p : Piece) (after : Cursor) : Type 0 where
   pub len : ℕ
   pub word : little_number 4 (take 4 at.left) ≡ len
   pub enough : 4 ≤ len
-  pub short : len < 4294967295
+  pub short : len ≢ 4294967295
   pub within : 4 + len ≤ length at.left
   pub piece : p ≡ record {
     place = at.place;

@@ -2,13 +2,14 @@ use Rattle.std.specs.Prelude.{◌==◌}
 use Rattle.std.proofs.Common.{◌≡◌, ◌+◌, ◌<◌, [], length, Some, None, sym, ap, subst, inr, ◌∙◌, arith}
 use Rattle.std.proofs.lemmas.Result.{err_from_is_err_and}
 use Rattle.sf_bytes.specs.Cursor.{Cursor}
-use Rattle.eh_records.specs.Cut.{piece}
+use Rattle.eh_records.specs.Cutting.{Stands}
+use Rattle.eh_records.specs.Cut.{Piece, piece}
 use Rattle.eh_records.specs.Places.{IsRising, IsBefore}
 use Rattle.eh_records.specs.Section.{entries_of, fault_in, with_place}
 use Rattle.eh_records.specs.Step.{reader_cursor}
 use Rattle.eh_records.proofs.Among.{rising_with, before_with}
 use Rattle.eh_records.proofs.Faults.{fault_from, begins, goes_on, refused, uncut, ended, whole, is_whole, fault_is}
-use Rattle.eh_records.proofs.Moves.{IsCut, cut_is}
+use Rattle.eh_records.proofs.Moves.{cut_is}
 use Rattle.eh_records.proofs.records.Records.parse.Goals as goal
 
 pub loop-places-init : goal.loop-places-init
@@ -38,8 +39,8 @@ pub loop-places-preserved : goal.loop-places-preserved
 loop-places-preserved c =
     let cut_read = rw c.in-Some.is at c.in_ok-cut.ensures.exact in
     let read = rw c.as_slice.ensures.value at c.in_ok-read_after.ensures in
-    let cut : IsCut (reader_cursor c.loop-places.rest) (piece c.in-Some.cut) (reader_cursor c.next_cut.new.rest) = cut_is (reader_cursor c.loop-places.rest) (piece c.in-Some.cut) (reader_cursor c.next_cut.new.rest) cut_read in
-    let place : c.in-Some.cut.place ≡ c.loop-places.rest.part.place = cut.place in
+    let cut : Stands (reader_cursor c.loop-places.rest) (piece c.in-Some.cut) (reader_cursor c.next_cut.new.rest) = cut_is (reader_cursor c.loop-places.rest) (piece c.in-Some.cut) (reader_cursor c.next_cut.new.rest) cut_read in
+    let place : c.in-Some.cut.place ≡ c.loop-places.rest.part.place = ap (λ (q : Piece). q.place) cut.piece in
     let end : c.next_cut.new.rest.part.place ≡ c.loop-places.rest.part.place + (4 + cut.len) = ap (λ (at : Cursor). at.place) cut.behind in
     let further : c.in-Some.cut.place < c.next_cut.new.rest.part.place = omega arith in
     let before : IsBefore c.in-Some.cut.place c.loop-places.places.items = rw place c.loop-places.invariant.before in
