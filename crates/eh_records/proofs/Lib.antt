@@ -1,4 +1,11 @@
+pub mod Among
+pub mod Before
+pub mod Cuts
+pub mod Faults
+pub mod Keys
 pub mod LetterLoop
 pub mod LetterViews
+pub mod Moves
 pub mod SaidLoop
+pub mod Stands
 pub mod Widths

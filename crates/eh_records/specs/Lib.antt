@@ -1,7 +1,13 @@
 pub mod Augmentation
 pub mod Cie
 pub mod Cut
+pub mod Cutting
+pub mod Entry
 pub mod Fde
+pub mod Iter
+pub mod Places
+pub mod Section
 pub mod Span
 pub mod Step
+pub mod View
 pub mod Width

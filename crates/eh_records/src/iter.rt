@@ -1,11 +1,12 @@
 //! The frame description entries of a section, one after the other.
 
-ghost use Rattle.std.specs.Prelude.{◌<◌, ◌+◌, ◌^◌, ◌≡◌, length, IfSome};
-ghost use Rattle.std.specs.Iterator.{at_most};
+ghost use Rattle.std.specs.Prelude.{◌<◌, ◌+◌, ◌^◌, ◌≡◌, length};
+ghost use Rattle.eh_records.specs.Iter.{GivesFrame};
+ghost use Rattle.eh_records.specs.Section.{cuts, cuts_of, entries_before, frames};
+ghost use Rattle.eh_records.specs.Step.{reader_cursor};
 
-use crate::cut::next_cut;
+use crate::entry::{Entry, next_entry};
 use crate::fde::Fde;
-use crate::frame::read_fde;
 use crate::reader::Reader;
 use sf_model::Arch;
 
@@ -19,9 +20,12 @@ pub struct FdeIter<'a> {
 }
 
 impl<'a> FdeIter<'a> {
+    ghost use Rattle.eh_records.specs.View.{frames_left};
+
     /// The iterator over the whole section.
     pub fn new(section: &'a [u8], arch: Arch) -> FdeIter<'a>
         requires { length section.now < 2 ^ 32 }
+        ensures { frames_left result ≡ frames (entries_before arch section.now (cuts_of section.now)) }
     {
         FdeIter {
             section,
@@ -34,20 +38,26 @@ impl<'a> FdeIter<'a> {
 // The next frame description entry of what is left.
 fn next_fde<'a>(section: &'a [u8], arch: Arch, rest: &mut Reader<'a>) -> Option<Fde<'a>>
     requires { length section.now < 2 ^ 32 }
-    ensures { IfSome result (λ _. length rest.new.part.bytes.now < length rest.old.part.bytes.now) }
+    ensures { GivesFrame result (entries_before arch section.now (cuts (reader_cursor rest.old))) (entries_before arch section.now (cuts (reader_cursor rest.new))) }
 {
-    while let Ok(Some(record)) = next_cut(rest) {
-        if !record.is_cie() {
-            return read_fde(section, &record, arch).ok();
+    while let Some(entry) = next_entry(section, arch, rest) {
+        if let Entry::Frame(fde) = entry {
+            return Some(fde);
         }
     }
     None
 }
 
 impl<'a> Iterator for FdeIter<'a> {
+    ghost use Rattle.std.specs.Iterator.{YieldsFirstBy, item_count};
+    ghost use Rattle.eh_records.specs.Fde.{fde_view};
+    ghost use Rattle.eh_records.specs.View.{frames_left};
+
     type Item = Fde<'a>;
 
-    ghost remaining = { λ s. at_most (length s.rest.part.bytes.now) };
+    ghost next_gives = { YieldsFirstBy fde_view frames_left };
+
+    ghost remaining = { item_count frames_left };
 
     fn next(&mut self) -> Option<Fde<'a>> {
         next_fde(self.section, self.arch, &mut self.rest)

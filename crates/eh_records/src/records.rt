@@ -1,12 +1,16 @@
 //! The records of a section.
 
-ghost use Rattle.std.specs.Prelude.{◌<◌, ◌+◌, ◌^◌, ◌≡◌, length};
+ghost use Rattle.std.specs.Prelude.{◌<◌, ◌+◌, ◌^◌, ◌≡◌, ◌++◌, OnOk, is_ok, length, map, true};
+ghost use Rattle.std.specs.Option.{option_map};
+ghost use Rattle.eh_records.specs.Entry.{entry_view};
+ghost use Rattle.eh_records.specs.Section.{optional, entry_fields, entries_of};
+ghost use Rattle.eh_records.specs.Step.{pointer_view};
 
-use crate::common::read_cie;
 use crate::cut::next_cut;
+use crate::entry::{Entry, next_entry, read_after};
 use crate::fault::RecordFault;
-use crate::frame::read_fde;
 use crate::iter::FdeIter;
+use crate::places::note_place;
 use crate::reader::Reader;
 use sf_base::NoMemory;
 use sf_bytes::Field;
@@ -19,56 +23,74 @@ pub struct Records<'a> {
     bytes: &'a [u8],
     arch: Arch,
     ghost small: { length bytes.now < 2 ^ 32 },
+    ghost whole: { is_ok (entries_of arch bytes.now) ≡ true },
+}
+
+// Appends a field, if there is one.
+fn push_optional(fields: &mut Vec<Field>, field: Option<Field>) -> Result<(), NoMemory>
+    ensures { OnOk result (map pointer_view fields.new.items ≡ map pointer_view fields.old.items ++ optional (option_map pointer_view field)) }
+{
+    if let Some(field) = field {
+        fields.push(field)?;
+    }
+    Ok(())
+}
+
+// Appends the pointer fields of an entry.
+fn push_fields(fields: &mut Vec<Field>, entry: &Entry<'_>) -> Result<(), NoMemory>
+    ensures { OnOk result (map pointer_view fields.new.items ≡ map pointer_view fields.old.items ++ entry_fields (entry_view entry.now)) }
+{
+    match entry {
+        Entry::Common(shared) => push_optional(fields, shared.cie.personality),
+        Entry::Frame(fde) => {
+            fields.push(fde.begin)?;
+            fields.push(fde.range)?;
+            push_optional(fields, fde.lsda)
+        }
+    }
 }
 
 impl<'a> Records<'a> {
+    ghost use Rattle.std.specs.Prelude.{IfOk, map};
+    ghost use Rattle.eh_records.specs.Section.{frames, pointer_fields};
+    ghost use Rattle.eh_records.specs.Step.{pointer_view};
+    ghost use Rattle.eh_records.specs.View.{IsParsed, IsWhole, KeysFit, arch_of, entries, frames_left};
+
     /// Cuts a section into records, and checks each. The fault is the first from the left.
     ///
     /// `Unresolved` and `FunctionEnd` are never answered.
     pub fn parse(alloc: Global, bytes: &'a [u8], arch: Arch) -> Result<Records<'a>, RecordFault>
         requires { length bytes.now < 2 ^ 32 }
+        ensures exact { IsParsed arch bytes.now result }
+        ensures machine { IfOk result (λ records. arch_of records ≡ arch) }
     {
-        let mut cies: Vec<u32> = Vec::new(alloc);
+        let mut places: Vec<u32> = Vec::new(alloc);
         let mut rest = Reader::from_place(bytes, 0);
-        while let Some(record) = next_cut(&mut rest)? {
-            if record.is_cie() {
-                read_cie(&record, arch)?;
-                cies.push(record.place)?;
-            } else {
-                let place = record.cie_place()?;
-                if cies.as_slice().binary_search(&place).is_err() {
-                    return Err(RecordFault::CiePointer(record.id_place));
-                }
-                read_fde(bytes, &record, arch)?;
-            }
+        while let Some(cut) = next_cut(&mut rest)? {
+            read_after(bytes, places.as_slice(), &cut, arch)?;
+            note_place(&cut, &mut places)?;
         }
         Ok(Records { bytes, arch })
     }
 
     /// Each frame description entry, in the section's order.
-    pub fn fdes(&self) -> FdeIter<'a> {
+    pub fn fdes(&self) -> FdeIter<'a>
+        ensures gives { frames_left result ≡ frames (entries self.now) }
+        ensures keys { KeysFit self.now }
+        ensures whole { IsWhole self.now }
+    {
         FdeIter::new(self.bytes, self.arch)
     }
 
     /// All pointer fields by rising place: personality pointers of fixed width, starts, sizes, and pointers
     /// to language-specific data areas.
-    pub fn fields(&self, alloc: Global) -> Result<Vec<Field>, NoMemory> {
+    pub fn fields(&self, alloc: Global) -> Result<Vec<Field>, NoMemory>
+        ensures { IfOk result (λ fields. map pointer_view fields.items ≡ pointer_fields (entries self.now)) }
+    {
         let mut fields: Vec<Field> = Vec::new(alloc);
         let mut rest = Reader::from_place(self.bytes, 0);
-        while let Ok(Some(record)) = next_cut(&mut rest) {
-            if record.is_cie() {
-                if let Ok(shared) = read_cie(&record, self.arch)
-                    && let Some(field) = shared.cie.personality
-                {
-                    fields.push(field)?;
-                }
-            } else if let Ok(fde) = read_fde(self.bytes, &record, self.arch) {
-                fields.push(fde.begin)?;
-                fields.push(fde.range)?;
-                if let Some(field) = fde.lsda {
-                    fields.push(field)?;
-                }
-            }
+        while let Some(entry) = next_entry(self.bytes, self.arch, &mut rest) {
+            push_fields(&mut fields, &entry)?;
         }
         Ok(fields)
     }

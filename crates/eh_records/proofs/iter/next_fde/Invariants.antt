@@ -1,8 +1,10 @@
-use Rattle.std.proofs.Common.{length, ◌≤◌}
+use Rattle.std.proofs.Common.{◌≡◌, length}
+use Rattle.eh_records.specs.Section.{cuts, entries_before, frames}
+use Rattle.eh_records.specs.Step.{reader_cursor}
 use Rattle.eh_records.proofs.iter.next_fde.Given as goal
 
-abbrev pub invariant-loop-record : goal.invariant-loop-record
-invariant-loop-record l = length l.rest.part.bytes.now ≤ length l.initial.rest.part.bytes.now
+abbrev pub invariant-loop-entry : goal.invariant-loop-entry
+invariant-loop-entry l = frames (entries_before l.arch l.section (cuts (reader_cursor l.rest))) ≡ frames (entries_before l.arch l.section (cuts (reader_cursor l.initial.rest)))
 
-abbrev pub decreases-loop-record : goal.decreases-loop-record
-decreases-loop-record l = length l.rest.part.bytes.now
+abbrev pub decreases-loop-entry : goal.decreases-loop-entry
+decreases-loop-entry l = length (entries_before l.arch l.section (cuts (reader_cursor l.rest)))

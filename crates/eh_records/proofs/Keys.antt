@@ -1,0 +1,171 @@
+-- On AMD64 every key is A.
+use Rattle.std.specs.Prelude.{◌==◌, ◌||◌, ◌&&◌, IsTrue, All}
+use Rattle.std.proofs.Common.{◌≡◌, ℕ, Bool, true, false, cond, List, [], ◌∷◌, ◌++◌, Option, Some, None, Result, Ok, Err, refl, sym, ap, subst, drop, ◌∙◌}
+use Rattle.std.proofs.lemmas.List.Elements.{All-nil, All-cons}
+use Rattle.sf_bytes.specs.Cursor.{Cursor}
+use Rattle.sf_model.specs.declared.machine.Arch.TheVariants.{Amd64, Aarch64}
+use Rattle.sf_model.specs.declared.machine.Arch.{Arch}
+use Rattle.sf_model.specs.Function.{key_fits}
+use Rattle.sf_model.specs.declared.machine.Key.{Key}
+use Rattle.sf_model.specs.declared.machine.Key.TheVariants.{A, B}
+use Rattle.eh_records.specs.declared.fault.RecordFault.{RecordFault}
+use Rattle.eh_records.specs.declared.fault.RecordFault.TheVariants.{Augmentation, CieVersion}
+use Rattle.eh_records.specs.Augmentation.{Said, said_plain, is_letter, is_new, are_letters, letters_in, letters_at, form_at, personality_at, letter_at, said_by, data_at}
+use Rattle.eh_records.specs.Cie.{SharedView, CieView, cie_fields, cie_of, said_at, passed_data, numbers_at}
+use Rattle.eh_records.specs.Cut.{Piece, piece_at, named_place}
+use Rattle.eh_records.specs.Fde.{FdeView, fde_of, entry_of, cie_in, cie_at_place, lsda_at}
+use Rattle.eh_records.specs.Section.{EntryView, Common, Frame, Cutting, frames, entry_here, entry_before, entries_before}
+use Rattle.eh_records.specs.Step.{Step, ◌>>=◌, number_field, text_field, pointer_field}
+use Rattle.eh_records.proofs.Moves.{through, ok_same}
+
+first_of : {A B : Type 0} (x y : A × B) → x ≡ y → x.0 ≡ y.0
+first_of x y e = ap (λ p. p.0) e
+
+letter_if : (said : Said) (at : Cursor) (x : Said × Cursor) (r p l s k : Bool) → said.key ≡ A → (r || p || s || l || (k && false)) ≡ true
+    → cond {A = Step Said} r (form_at at >>= λ f. Ok (record said { pointers = f.0 }, f.1))
+    (cond p (personality_at at >>= λ f. Ok (record said { personality = f.0 }, f.1))
+    (cond l (number_field 1 at >>= λ e. Ok (record said { lsda = Some e.0 }, e.1))
+    (cond s (Ok (record said { signal = true }, at)) (Ok (record said { key = B }, at))))) ≡ Ok x
+    → x.0.key ≡ A
+letter_if said at x true p l s k key h e =
+    let t = through (form_at at) _ x e in
+    sym (ap (λ (y : Said × Cursor). y.0.key) (ok_same _ x t.rest)) ∙ key
+letter_if said at x false true l s k key h e =
+    let t = through (personality_at at) _ x e in
+    sym (ap (λ (y : Said × Cursor). y.0.key) (ok_same _ x t.rest)) ∙ key
+letter_if said at x false false true s k key h e =
+    let t = through (number_field 1 at) _ x e in
+    sym (ap (λ (y : Said × Cursor). y.0.key) (ok_same _ x t.rest)) ∙ key
+letter_if said at x false false false true k key h e = sym (ap (λ (y : Said × Cursor). y.0.key) (ok_same _ x e)) ∙ key
+letter_if said at x false false false false true key h e = absurd cc
+letter_if said at x false false false false false key h e = absurd cc
+
+letter_keeps : (b : ℕ) (said : Said) (at : Cursor) (x : Said × Cursor) → said.key ≡ A → is_letter Amd64 b ≡ true → letter_at b said at ≡ Ok x → x.0.key ≡ A
+unfolding letter_at
+letter_keeps b said at x key h e = letter_if said at x (b == 82) (b == 80) (b == 76) (b == 83) (b == 66) key h e
+
+both : (a b : Bool) → (a && b) ≡ true → (a ≡ true) × (b ≡ true)
+both true b h = (refl, h)
+both false b h = absurd cc
+
+letters_keep : (before letters : List ℕ) (said : Said) (at : Cursor) (s : Said) → said.key ≡ A → are_letters Amd64 before letters ≡ true → said_by letters said at ≡ Ok s → s.key ≡ A
+unfolding are_letters said_by
+letters_keep before [] said at s key h e = sym (ap (λ (y : Said). y.key) (ok_same said s e)) ∙ key
+letters_keep before (b ∷ bs) said at s key h e =
+    let p = both (is_new Amd64 before b) _ h in
+    let q = both (is_letter Amd64 b) _ p.0 in
+    let t = through (letter_at b said at) _ s e in
+    letters_keep (before ++ b ∷ []) bs t.first.0 t.first.1 s (letter_keeps b said at t.first key q.0 t.read) p.1 t.rest
+
+-- letters that were read are letters of this machine
+abbrev pub AreLetters : Option (List ℕ) → Type 0
+AreLetters None = Unit {0}
+AreLetters (Some letters) = are_letters Amd64 [] letters ≡ true
+
+letters_if : (place : ℕ) (bs : List ℕ) (after : Cursor) (x : Option (List ℕ) × Cursor) (z known : Bool) → are_letters Amd64 [] bs ≡ known
+    → cond {A = Step (Option (List ℕ))} (z && known) (Ok (Some bs, after)) (Err (Augmentation place)) ≡ Ok x → AreLetters x.0
+letters_if place bs after x true true h e = subst (λ (y : Option (List ℕ) × Cursor). AreLetters y.0) (ok_same _ x e) h
+letters_if place bs after x true false h e = absurd cc
+letters_if place bs after x false known h e = absurd cc
+
+letters_of : (place : ℕ) (text : List ℕ) (after : Cursor) (x : Option (List ℕ) × Cursor) → letters_in Amd64 place text after ≡ Ok x → AreLetters x.0
+letters_of place [] after x e = subst (λ (y : Option (List ℕ) × Cursor). AreLetters y.0) (ok_same _ x e) tt
+letters_of place (b ∷ bs) after x e = letters_if place bs after x (b == 122) (are_letters Amd64 [] bs) refl e
+
+letters_are : (at : Cursor) (x : Option (List ℕ) × Cursor) → letters_at Amd64 at ≡ Ok x → AreLetters x.0
+unfolding letters_at
+letters_are at x e =
+    let t = through (text_field at) _ x e in
+    letters_of at.place t.first.0 t.first.1 x t.rest
+
+passed_key : (after : Cursor) (r : Result Said RecordFault) (x : Said × Cursor) → ((s : Said) → r ≡ Ok s → s.key ≡ A) → passed_data after r ≡ Ok x → x.0.key ≡ A
+passed_key after (Ok said) x h e = sym (ap (λ (y : Said × Cursor). y.0.key) (ok_same _ x e)) ∙ h said refl
+passed_key after (Err f) x h e = absurd cc
+
+said_key : (letters : Option (List ℕ)) (at : Cursor) (x : Said × Cursor) → AreLetters letters → said_at letters at ≡ Ok x → x.0.key ≡ A
+unfolding said_at
+said_key None at x h e = sym (ap (λ (y : Said × Cursor). y.0.key) (ok_same _ x e))
+said_key (Some letters) at x h e =
+    let t = through (data_at at) _ x e in
+    passed_key t.first.1 (said_by letters said_plain t.first.0) x (λ s r. letters_keep [] letters said_plain t.first.0 s refl h r) t.rest
+
+fields_key : (place version : ℕ) (at : Cursor) (shared : SharedView) → cie_fields Amd64 place version at ≡ Ok shared → shared.cie.key ≡ A
+unfolding cie_fields
+fields_key place version at shared e =
+    let t = through (letters_at Amd64 at) _ shared e in
+    let u = through (numbers_at version t.first.1) _ shared t.rest in
+    let v = through (said_at t.first.0 u.first.1) _ shared u.rest in
+    sym (ap (λ (s : SharedView). s.cie.key) (ok_same _ shared v.rest)) ∙ said_key t.first.0 u.first.1 v.first (letters_are at t.first t.read) v.read
+
+version_key : (p : Piece) (version : ℕ × Cursor) (shared : SharedView) (b : Bool) → cond b (cie_fields Amd64 p.place version.0 version.1) (Err (CieVersion p.body.place)) ≡ Ok shared → shared.cie.key ≡ A
+version_key p version shared true e = fields_key p.place version.0 version.1 shared e
+version_key p version shared false e = absurd cc
+
+cie_key : (p : Piece) (shared : SharedView) → cie_of Amd64 p ≡ Ok shared → shared.cie.key ≡ A
+unfolding cie_of
+cie_key p shared e =
+    let t = through (number_field 1 p.body) _ shared e in
+    version_key p t.first shared ((t.first.0 == 1) || (t.first.0 == 3)) t.rest
+
+at_place_key : (place : ℕ) (found : Option (Piece × Cursor)) (shared : SharedView) → cie_in Amd64 place found ≡ Ok shared → shared.cie.key ≡ A
+at_place_key place None shared e = absurd cc
+at_place_key place (Some p) shared e = cie_key p.0 shared e
+
+named_key : (section : List ℕ) (place : ℕ) (shared : SharedView) → cie_at_place Amd64 section place ≡ Ok shared → shared.cie.key ≡ A
+unfolding cie_at_place
+named_key section place shared e =
+    let t = through (piece_at (record { place = place; left = drop place section })) _ shared e in
+    at_place_key place t.first shared t.rest
+
+same_cie : (shared : SharedView) (p : Piece) (f : FdeView) → entry_of shared p ≡ Ok f → f.cie ≡ shared.cie
+unfolding entry_of
+same_cie shared p f e =
+    let t = through (pointer_field shared.width p.body) _ f e in
+    let u = through (pointer_field shared.width t.first.1) _ f t.rest in
+    let v = through (lsda_at shared u.first.1) _ f u.rest in
+    sym (ap (λ (g : FdeView). g.cie) (ok_same _ f v.rest))
+
+frame_key : (section : List ℕ) (p : Piece) (f : FdeView) → fde_of Amd64 section p ≡ Ok f → f.cie.key ≡ A
+unfolding fde_of
+frame_key section p f e =
+    let t = through (named_place p) _ f e in
+    let u = through (cie_at_place Amd64 section t.first) _ f t.rest in
+    ap (λ (c : CieView). c.key) (same_cie u.first p f u.rest) ∙ named_key section t.first u.first u.read
+
+fits : (k : Key) → k ≡ A → IsTrue (key_fits Amd64 k)
+fits A h = refl
+fits B h = absurd cc
+
+abbrev Fits : FdeView → Type 0
+Fits f = IsTrue (key_fits Amd64 f.cie.key)
+
+abbrev EntryFits : EntryView → Type 0
+EntryFits (Common c) = Unit {0}
+EntryFits (Frame f) = Fits f
+
+here_fits : (section : List ℕ) (p : Piece) (x : EntryView) (b : Bool) → cond b (cie_of Amd64 p >>= λ c. Ok (Common c)) (fde_of Amd64 section p >>= λ f. Ok (Frame f)) ≡ Ok x → EntryFits x
+here_fits section p x true e =
+    let t = through (cie_of Amd64 p) _ x e in
+    subst EntryFits (ok_same _ x t.rest) tt
+here_fits section p x false e =
+    let t = through (fde_of Amd64 section p) _ x e in
+    subst EntryFits (ok_same _ x t.rest) (fits t.first.cie.key (frame_key section p t.first t.read))
+
+entry_fits : (section : List ℕ) (p : Piece) (x : EntryView) → entry_here Amd64 section p ≡ Ok x → EntryFits x
+unfolding entry_here
+entry_fits section p x e = here_fits section p x (p.id == 0) e
+
+before_fit : (r : Result EntryView RecordFault) (es : List EntryView) → ((x : EntryView) → r ≡ Ok x → EntryFits x) → All Fits (frames es) → All Fits (frames (entry_before r es))
+before_fit (Ok (Common c)) es h rest = rest
+before_fit (Ok (Frame f)) es h rest = All-cons Fits f (frames es) (h (Frame f) refl) rest
+before_fit (Err e) es h rest = All-nil Fits
+
+amd64_fit : (section : List ℕ) (xs : List Cutting) → All Fits (frames (entries_before Amd64 section xs))
+unfolding entries_before
+amd64_fit section [] = All-nil Fits
+amd64_fit section (Err e ∷ others) = All-nil Fits
+amd64_fit section (Ok p ∷ others) = before_fit (entry_here Amd64 section p) (entries_before Amd64 section others) (entry_fits section p) (amd64_fit section others)
+
+pub keys_fit : (arch : Arch) (section : List ℕ) (xs : List Cutting) → All (λ (f : FdeView). IsTrue (key_fits arch f.cie.key)) (frames (entries_before arch section xs))
+keys_fit Amd64 section xs = amd64_fit section xs
+keys_fit Aarch64 section xs = λ k d within. refl

@@ -1,0 +1,116 @@
+-- A whole section (LSB Core, "The .eh_frame section"): records one behind the other, up to the section's end or
+-- to a length word of 0. A frame description entry names a common information entry that stands before it.
+use Rattle.std.specs.Prelude.{ℕ, zero, suc, ◌+◌, ◌-◌, ◌==◌, List, [], ◌∷◌, ◌++◌, length, Option, Some, None, Result, Ok, Err, if◌then◌else◌}
+use Rattle.std.specs.List.{list_any}
+use Rattle.sf_bytes.specs.Cursor.{Cursor}
+use Rattle.sf_model.specs.declared.machine.Arch.{Arch}
+use Rattle.eh_records.specs.declared.fault.RecordFault.{RecordFault}
+use Rattle.eh_records.specs.declared.fault.RecordFault.TheVariants.{CiePointer}
+use Rattle.eh_records.specs.Cie.{SharedView, cie_of}
+use Rattle.eh_records.specs.Cut.{Piece, piece_at, named_place}
+use Rattle.eh_records.specs.Fde.{FdeView, fde_of}
+use Rattle.eh_records.specs.Step.{◌>>=◌, PointerField}
+
+-- a record that was cut off, or the fault at which the cut ends
+abbrev pub Cutting : Type 0
+Cutting = Result Piece RecordFault
+
+abbrev pub Front : Type 0
+Front = Result (Option (Piece × Cursor)) RecordFault
+
+-- how many bytes are left behind the first record
+abbrev pub left_behind : Front → ℕ
+left_behind (Ok (Some (p, after))) = length after.left
+left_behind (Ok None) = 0
+left_behind (Err e) = 0
+
+-- the first record and those behind it
+abbrev pub front_of : Front → List Cutting → List Cutting
+front_of (Ok (Some (p, after))) others = Ok p ∷ others
+front_of (Ok None) others = []
+front_of (Err e) others = Err e ∷ []
+
+-- the records behind that many further bytes of a record that was cut off
+unfoldable pub cuts_after : (skipped place : ℕ) → List ℕ → List Cutting
+cuts_after skipped place [] = []
+cuts_after (suc n) place (b ∷ bs) = cuts_after n (place + 1) bs
+cuts_after zero place (b ∷ bs) =
+    let first = piece_at (record { place = place; left = b ∷ bs }) in
+    front_of first (cuts_after (length bs - left_behind first) (place + 1) bs)
+
+-- the records from a cursor on
+abbrev pub cuts : Cursor → List Cutting
+cuts at = cuts_after 0 at.place at.left
+
+-- the records of a section
+abbrev pub cuts_of : List ℕ → List Cutting
+cuts_of section = cuts (record { place = 0; left = section })
+
+-- an entry that was read
+pub data EntryView : Type 0 where
+  Common : SharedView → EntryView
+  Frame : FdeView → EntryView
+
+-- the entry of a record, by the word behind its length
+unfoldable pub entry_here : Arch → List ℕ → Piece → Result EntryView RecordFault
+entry_here arch section p = if p.id == 0 then (cie_of arch p >>= λ c. Ok (Common c)) else (fde_of arch section p >>= λ f. Ok (Frame f))
+
+-- a frame description entry names one of these places, at which common information entries stand before it
+abbrev pub place_among : List ℕ → Piece → ℕ → Result ℕ RecordFault
+place_among cies p place = if list_any (λ q. q == place) cies then Ok place else Err (CiePointer p.id_place)
+
+unfoldable pub shared_place : List ℕ → Piece → Result ℕ RecordFault
+shared_place cies p = if p.id == 0 then Ok p.place else (named_place p >>= place_among cies p)
+
+-- the entry of a record, where common information entries stand before it at these places
+unfoldable pub entry_at : Arch → List ℕ → List ℕ → Piece → Result EntryView RecordFault
+entry_at arch section cies p = shared_place cies p >>= λ _. entry_here arch section p
+
+-- the places of the common information entries, with this record's
+abbrev pub with_place : List ℕ → Piece → List ℕ
+with_place cies p = if p.id == 0 then cies ++ p.place ∷ [] else cies
+
+-- the entries of records, or the first fault
+unfoldable pub entries_in : Arch → List ℕ → List ℕ → List Cutting → Result (List EntryView) RecordFault
+entries_in arch section cies [] = Ok []
+entries_in arch section cies (Err e ∷ others) = Err e
+entries_in arch section cies (Ok p ∷ others) =
+    entry_at arch section cies p >>= λ e. entries_in arch section (with_place cies p) others >>= λ es. Ok (e ∷ es)
+
+-- the entries of a section, or the first fault from the left
+unfoldable pub entries_of : Arch → List ℕ → Result (List EntryView) RecordFault
+entries_of arch section = entries_in arch section [] (cuts_of section)
+
+-- the frame description entries among these
+abbrev pub frames : List EntryView → List FdeView
+frames [] = []
+frames (Common c ∷ es) = frames es
+frames (Frame f ∷ es) = f ∷ frames es
+
+-- the pointer fields of entries, from left to right
+abbrev pub optional : Option PointerField → List PointerField
+optional None = []
+optional (Some f) = f ∷ []
+
+abbrev pub entry_fields : EntryView → List PointerField
+entry_fields (Common c) = optional c.cie.personality
+entry_fields (Frame f) = f.begin ∷ f.range ∷ optional f.lsda
+
+abbrev pub pointer_fields : List EntryView → List PointerField
+pointer_fields [] = []
+pointer_fields (e ∷ es) = entry_fields e ++ pointer_fields es
+
+-- the entries of records up to the first that can't be read
+abbrev pub entry_before : Result EntryView RecordFault → List EntryView → List EntryView
+entry_before (Ok e) es = e ∷ es
+entry_before (Err x) es = []
+
+unfoldable pub entries_before : Arch → List ℕ → List Cutting → List EntryView
+entries_before arch section [] = []
+entries_before arch section (Err e ∷ others) = []
+entries_before arch section (Ok p ∷ others) = entry_before (entry_here arch section p) (entries_before arch section others)
+
+-- the fault of a section, if there is one
+abbrev pub fault_in : {X : Type 0} → Result X RecordFault → Option RecordFault
+fault_in (Ok x) = None
+fault_in (Err e) = Some e
