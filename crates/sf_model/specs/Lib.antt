@@ -1,3 +1,9 @@
 pub mod Content
 pub mod Function
+pub mod Memory
+pub mod Recovery
+pub mod Table
+pub mod Lookup
+pub mod Union
+pub mod Walk
 pub mod Notice
