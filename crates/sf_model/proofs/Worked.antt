@@ -28,10 +28,13 @@ signed_row start cfa ra fp signed = record { start = start; content = record { b
 
 -- a function that pushes its frame pointer: six bytes at 0x1000
 abbrev pushing : List Func
-pushing = record
-  { start = 0x1000; size = 6; shape = Plain; key = A
-  ; rows = row 0 Sp (pos 8) None ∷ row 1 Sp (pos 16) (Some (negsuc 15)) ∷ row 4 Fp (pos 16) (Some (negsuc 15)) ∷ row 5 Sp (pos 8) (Some (negsuc 15)) ∷ []
-  } ∷ []
+pushing = record {
+  start = 0x1000;
+  size = 6;
+  shape = Plain;
+  key = A;
+  rows = row 0 Sp (pos 8) None ∷ row 1 Sp (pos 16) (Some (negsuc 15)) ∷ row 4 Fp (pos 16) (Some (negsuc 15)) ∷ row 5 Sp (pos 8) (Some (negsuc 15)) ∷ [];
+} ∷ []
 
 -- two functions of 16 bytes, not sorted, of one row each
 abbrev unsorted : List Func
@@ -45,12 +48,15 @@ blocks = record { start = 0x1000; size = 64; shape = Repeat 16; key = A; rows = 
 
 -- a function that signs its return address with key B: 28 bytes at 0x1000
 abbrev signing : List Func
-signing = record
-  { start = 0x1000; size = 28; shape = Plain; key = B
-  ; rows = signed_row 0 (pos 0) Link None false ∷ signed_row 4 (pos 0) Link None true
+signing = record {
+  start = 0x1000;
+  size = 28;
+  shape = Plain;
+  key = B;
+  rows = signed_row 0 (pos 0) Link None false ∷ signed_row 4 (pos 0) Link None true
       ∷ signed_row 8 (pos 32) (At (negsuc 23)) (Some (negsuc 31)) true ∷ signed_row 20 (pos 0) Link None true
-      ∷ signed_row 24 (pos 0) Link None false ∷ []
-  } ∷ []
+      ∷ signed_row 24 (pos 0) Link None false ∷ [];
+} ∷ []
 
 -- the start of the found function, and that of its row
 abbrev place_found : Option FoundRow → Option (ℕ × ℕ)
@@ -79,10 +85,10 @@ found_in_block = refl
 
 -- 32 bytes of stack at 0x7000: the return address 0x1005 at 0x7008, and 0 at 0x7018
 abbrev stack : List Region
-stack = record
-  { start = 0x7000
-  ; bytes = 0x10 ∷ 0x70 ∷ 0 ∷ 0 ∷ 0 ∷ 0 ∷ 0 ∷ 0 ∷ 5 ∷ 0x10 ∷ 0 ∷ 0 ∷ 0 ∷ 0 ∷ 0 ∷ 0 ∷ 0 ∷ 0 ∷ 0 ∷ 0 ∷ 0 ∷ 0 ∷ 0 ∷ 0 ∷ 0 ∷ 0 ∷ 0 ∷ 0 ∷ 0 ∷ 0 ∷ 0 ∷ 0 ∷ []
-  } ∷ []
+stack = record {
+  start = 0x7000;
+  bytes = 0x10 ∷ 0x70 ∷ 0 ∷ 0 ∷ 0 ∷ 0 ∷ 0 ∷ 0 ∷ 5 ∷ 0x10 ∷ 0 ∷ 0 ∷ 0 ∷ 0 ∷ 0 ∷ 0 ∷ 0 ∷ 0 ∷ 0 ∷ 0 ∷ 0 ∷ 0 ∷ 0 ∷ 0 ∷ 0 ∷ 0 ∷ 0 ∷ 0 ∷ 0 ∷ 0 ∷ 0 ∷ 0 ∷ [];
+} ∷ []
 
 abbrev amd64_registers : (sp fp : ℕ) → Regs
 amd64_registers sp fp = record { sp = sp; fp = fp; lr = 0 }

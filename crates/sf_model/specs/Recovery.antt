@@ -90,3 +90,7 @@ known (Unreadable address) = None
 -- the same without the addresses of what can't be read
 abbrev pub recovered : Recovery → Recovered
 recovered r = record { cfa = r.frame_address; ra = known r.return_address; fp = known r.frame_pointer; signed = r.signed }
+
+-- the registers of the one case that tells all contents apart, with a memory that holds nothing
+abbrev pub deciding_registers : Regs
+deciding_registers = record { sp = 0; fp = 2 ^ 40; lr = 0 }

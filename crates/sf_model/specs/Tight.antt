@@ -24,7 +24,7 @@ WithoutGaps arch bytes place offset [] = offset ≡ rows_len bytes
 WithoutGaps arch bytes place offset (f ∷ later) =
     (row_offset_at bytes place ≡ offset) × (number_in 2 (place + 18) bytes ≡ 0) × IsZeroIfPlain f.shape (slice_index bytes (place + 17))
     × ((end : ℕ) × RowsStand AnyWidth arch (row_bytes_of bytes) (start_width_at bytes place) offset end f.rows
-        × WithoutGaps arch bytes (place + 20) end later)
+    × WithoutGaps arch bytes (place + 20) end later)
 
 -- A section whose functions are sorted and whose starts count from their own fields, without an auxiliary header: the header,
 -- the entries and the rows stand one behind the other, and nothing stands besides.

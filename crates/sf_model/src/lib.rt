@@ -8,6 +8,7 @@
 mod content;
 mod facts;
 mod function;
+mod laws;
 mod machine;
 mod memory;
 mod notice;
@@ -20,6 +21,7 @@ mod walk;
 pub use content::{Content, Ra, fits};
 pub use facts::FdeFacts;
 pub use function::{Func, FuncHead, Shape};
+pub use laws::equal_recoveries_mean_equal_contents;
 pub use machine::{Arch, Base, Key};
 pub use memory::Memory;
 pub use notice::{Group, Notice};
