@@ -1,3 +1,4 @@
 pub mod Addresses
 pub mod Recoveries
 pub mod Worked
+pub mod WorkedSection

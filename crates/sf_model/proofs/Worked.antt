@@ -19,7 +19,7 @@ use Rattle.sf_model.specs.Lookup.{FoundRow, row_at, found_at}
 use Rattle.sf_model.specs.Walk.{ThreadState, frames_from, walk_by, recover_by_rows, section_walk}
 
 -- a row of AMD64
-abbrev row : (start : ℕ) → Base → (cfa : ℤ) → (fp : Option ℤ) → Row
+abbrev pub row : (start : ℕ) → Base → (cfa : ℤ) → (fp : Option ℤ) → Row
 row start base cfa fp = record { start = start; content = record { base = base; cfa = cfa; ra = Fixed; fp = fp; signed = false } }
 
 -- a row of AArch64
@@ -27,14 +27,11 @@ abbrev signed_row : (start : ℕ) → (cfa : ℤ) → Ra → (fp : Option ℤ) �
 signed_row start cfa ra fp signed = record { start = start; content = record { base = Sp; cfa = cfa; ra = ra; fp = fp; signed = signed } }
 
 -- a function that pushes its frame pointer: six bytes at 0x1000
-abbrev pushing : List Func
-pushing = record {
-  start = 0x1000;
-  size = 6;
-  shape = Plain;
-  key = A;
-  rows = row 0 Sp (pos 8) None ∷ row 1 Sp (pos 16) (Some (negsuc 15)) ∷ row 4 Fp (pos 16) (Some (negsuc 15)) ∷ row 5 Sp (pos 8) (Some (negsuc 15)) ∷ [];
-} ∷ []
+abbrev pub pushing_rows : List Row
+pushing_rows = row 0 Sp (pos 8) None ∷ row 1 Sp (pos 16) (Some (negsuc 15)) ∷ row 4 Fp (pos 16) (Some (negsuc 15)) ∷ row 5 Sp (pos 8) (Some (negsuc 15)) ∷ []
+
+abbrev pub pushing : Func
+pushing = record { start = 0x1000; size = 6; shape = Plain; key = A; rows = pushing_rows }
 
 -- two functions of 16 bytes, not sorted, of one row each
 abbrev unsorted : List Func
@@ -63,11 +60,11 @@ abbrev place_found : Option FoundRow → Option (ℕ × ℕ)
 place_found (Some found) = Some (found.func.start, found.row.start)
 place_found None = None
 
-found_last : place_found (found_at pushing 0x1005) ≡ Some (0x1000, 5)
+found_last : place_found (found_at (pushing ∷ []) 0x1005) ≡ Some (0x1000, 5)
 unfolding found_at row_at
 found_last = refl
 
-found_nothing_behind : place_found (found_at pushing 0x1006) ≡ None
+found_nothing_behind : place_found (found_at (pushing ∷ []) 0x1006) ≡ None
 unfolding found_at row_at
 found_nothing_behind = refl
 
@@ -97,17 +94,17 @@ abbrev frame : ℕ → Option ℕ → Frame
 frame pc cfa = record { pc = pc; cfa = cfa }
 
 -- a caller is asked for at the address before the one that it returns to
-walked_outside : section_walk pushing (record { pc = 0x1004; regs = amd64_registers 0x6ff0 0x7000; mask = None }) stack 64
+walked_outside : section_walk (pushing ∷ []) (record { pc = 0x1004; regs = amd64_registers 0x6ff0 0x7000; mask = None }) stack 64
     ≡ record { frames = frame 0x1004 (Some 0x7010) ∷ frame 0x1005 (Some 0x7020) ∷ frame 0 None ∷ []; stop = Outside 0xffffffffffffffff }
 unfolding section_walk walk_by frames_from recover_by_rows recovery moved read_eight found_at row_at
 walked_outside = refl
 
-walked_to_depth : section_walk pushing (record { pc = 0x1004; regs = amd64_registers 0x6ff0 0x7000; mask = None }) stack 2
+walked_to_depth : section_walk (pushing ∷ []) (record { pc = 0x1004; regs = amd64_registers 0x6ff0 0x7000; mask = None }) stack 2
     ≡ record { frames = frame 0x1004 (Some 0x7010) ∷ frame 0x1005 (Some 0x7020) ∷ []; stop = Depth }
 unfolding section_walk walk_by frames_from recover_by_rows recovery moved read_eight found_at row_at
 walked_to_depth = refl
 
-walked_unreadable : section_walk pushing (record { pc = 0x1000; regs = amd64_registers 0x9000 0; mask = None }) stack 64
+walked_unreadable : section_walk (pushing ∷ []) (record { pc = 0x1000; regs = amd64_registers 0x9000 0; mask = None }) stack 64
     ≡ record { frames = frame 0x1000 (Some 0x9008) ∷ []; stop = Stop.Unreadable 0x9000 }
 unfolding section_walk walk_by frames_from recover_by_rows recovery moved read_eight found_at row_at
 walked_unreadable = refl
