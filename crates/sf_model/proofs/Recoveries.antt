@@ -80,7 +80,7 @@ frames_same Sp Sp y z p q e = (refl, moved_same 0 y z p q e)
 true_is_not_false : true ≡ false → ⊥
 true_is_not_false e = cc
 
-not_true : IsTrue false → ⊥
+pub not_true : IsTrue false → ⊥
 not_true e = cc
 
 -- an empty memory holds nothing
@@ -140,7 +140,7 @@ keys_same true true j k e = (refl, λ h. ap (λ o. unwrap_or o j) e)
 abbrev content_of : Base → ℤ → Ra → Option ℤ → Bool → Content
 content_of base cfa ra fp signed = record { base = base; cfa = cfa; ra = ra; fp = fp; signed = signed }
 
-by_fields : (a b : Content) → a.base ≡ b.base → a.cfa ≡ b.cfa → a.ra ≡ b.ra → a.fp ≡ b.fp → a.signed ≡ b.signed → a ≡ b
+pub by_fields : (a b : Content) → a.base ≡ b.base → a.cfa ≡ b.cfa → a.ra ≡ b.ra → a.fp ≡ b.fp → a.signed ≡ b.signed → a ≡ b
 by_fields a b p q r s t =
     ap (λ x. content_of x a.cfa a.ra a.fp a.signed) p ∙ (ap (λ x. content_of b.base x a.ra a.fp a.signed) q ∙ (ap (λ x. content_of b.base b.cfa x a.fp a.signed) r
     ∙ (ap (λ x. content_of b.base b.cfa b.ra x a.signed) s ∙ ap (λ x. content_of b.base b.cfa b.ra b.fp x) t)))
