@@ -2,5 +2,6 @@ pub mod Addresses
 pub mod Recoveries
 pub mod RowNumbers
 pub mod RowsSame
+pub mod TableSame
 pub mod Worked
 pub mod WorkedSection

@@ -1,9 +1,9 @@
 -- What the bytes of a row tell: its start, its info byte and its offsets.
-use Rattle.std.proofs.Common.{◌≡◌, ℕ, ◌+◌, ◌-◌, ◌*◌, ◌<◌, ◌≤◌, ◌/◌, ◌%◌, ◌^◌, w32, ℤ, pos, Bool, true, false, IsTrue, List, [], ◌∷◌, ◌++◌, length, of_z, refl, ap, sym, ◌∙◌, arith, nat_lt}
-use Rattle.std.specs.Prelude.{zero, suc, negsuc, ◌&&◌}
+use Rattle.std.proofs.Common.{◌≡◌, ℕ, ◌+◌, ◌*◌, ◌<◌, ◌≤◌, ◌/◌, ◌%◌, ◌^◌, w32, ℤ, pos, true, IsTrue, List, ◌++◌, of_z, ap, sym, ◌∙◌, arith, nat_lt}
+use Rattle.std.specs.Prelude.{zero, suc, negsuc}
 use Rattle.byteorder.specs.Numbers.{little_from-bytes, little_number-reads_back}
 use Rattle.byteorder.specs.Endian.{little_from, little_bytes}
-use Rattle.sf_model.specs.Width.{width_len, holds_unsigned, holds_signed, unsigned_bytes, signed_bytes}
+use Rattle.sf_model.specs.Width.{holds_unsigned, holds_signed, unsigned_bytes, signed_bytes}
 
 -- a test that passed
 pub below_if : (m n : ℕ) → nat_lt m n ≡ true → m < n

@@ -1,6 +1,6 @@
 -- The bytes of a function's rows tell the rows, where the start width and the number of rows are known.
-use Rattle.std.proofs.Common.{◌≡◌, ℕ, ◌+◌, ◌*◌, ◌<◌, ◌≤◌, ℤ, Bool, true, false, IsTrue, List, [], ◌∷◌, ◌++◌, length, refl, ap, sym, ◌∙◌, arith}
-use Rattle.std.specs.Prelude.{zero, suc, ◌&&◌, Option, Some, None, take, drop, option_to_list, is_none}
+use Rattle.std.proofs.Common.{◌≡◌, ℕ, ◌+◌, ◌≤◌, ℤ, Bool, true, false, IsTrue, List, [], ◌∷◌, ◌++◌, length, refl, ap, sym, ◌∙◌, arith}
+use Rattle.std.specs.Prelude.{◌&&◌, Option, Some, None, drop, option_to_list, is_none}
 use Rattle.std.specs.List.{flat_map, list_all}
 use Rattle.std.proofs.lemmas.List.{append_assoc, append_cancel_left, take-append-drop}
 use Rattle.std.proofs.lemmas.List.Concat.{flat_map-cons}
@@ -46,17 +46,17 @@ offsets_same w [] (y ∷ ys) t u k p q n e = absurd (omega (n, arith))
 offsets_same w (x ∷ xs) [] t u k p q n e = absurd (omega (n, arith))
 offsets_same w (x ∷ xs) (y ∷ ys) t u k p q n e =
     let here : signed_bytes w x ++ (flat_map (signed_bytes w) xs ++ t) ≡ signed_bytes w y ++ (flat_map (signed_bytes w) ys ++ u) =
-        sym (append_assoc (signed_bytes w x) (flat_map (signed_bytes w) xs) t)
-        ∙ (ap (λ l. l ++ t) (sym (flat_map-cons (signed_bytes w) x xs)) ∙ (e ∙ (ap (λ l. l ++ u) (flat_map-cons (signed_bytes w) y ys)
-        ∙ append_assoc (signed_bytes w y) (flat_map (signed_bytes w) ys) u))) in
+    sym (append_assoc (signed_bytes w x) (flat_map (signed_bytes w) xs) t)
+    ∙ (ap (λ l. l ++ t) (sym (flat_map-cons (signed_bytes w) x xs)) ∙ (e ∙ (ap (λ l. l ++ u) (flat_map-cons (signed_bytes w) y ys)
+    ∙ append_assoc (signed_bytes w y) (flat_map (signed_bytes w) ys) u))) in
     let same : x ≡ y = signed_same w x y (flat_map (signed_bytes w) xs ++ t) (flat_map (signed_bytes w) ys ++ u) k
-        (first_of (holds_signed x w) (list_all (λ z. holds_signed z w) xs) p) (first_of (holds_signed y w) (list_all (λ z. holds_signed z w) ys) q) here in
+    (first_of (holds_signed x w) (list_all (λ z. holds_signed z w) xs) p) (first_of (holds_signed y w) (list_all (λ z. holds_signed z w) ys) q) here in
     let later : flat_map (signed_bytes w) xs ++ t ≡ flat_map (signed_bytes w) ys ++ u =
-        append_cancel_left (signed_bytes w x) (flat_map (signed_bytes w) xs ++ t) (flat_map (signed_bytes w) ys ++ u)
-            (here ∙ ap (λ v. signed_bytes w v ++ (flat_map (signed_bytes w) ys ++ u)) (sym same)) in
+    append_cancel_left (signed_bytes w x) (flat_map (signed_bytes w) xs ++ t) (flat_map (signed_bytes w) ys ++ u)
+    (here ∙ ap (λ v. signed_bytes w v ++ (flat_map (signed_bytes w) ys ++ u)) (sym same)) in
     let n' : length xs ≡ length ys = omega (n, arith) in
     ap (λ v. v ∷ xs) same ∙ ap (λ l. y ∷ l) (offsets_same w xs ys t u k
-        (second_of (holds_signed x w) (list_all (λ z. holds_signed z w) xs) p) (second_of (holds_signed y w) (list_all (λ z. holds_signed z w) ys) q) n' later)
+    (second_of (holds_signed x w) (list_all (λ z. holds_signed z w) xs) p) (second_of (holds_signed y w) (list_all (λ z. holds_signed z w) ys) q) n' later)
 
 -- the offsets of a machine's row tell where its return address and its frame pointer are
 pointer_told : (x y : Option ℤ) → option_to_list x ≡ option_to_list y → x ≡ y
@@ -118,3 +118,62 @@ few_saved (At m) (Some n) = omega arith
 
 few_offsets : (c : Content) → length (row_offsets c) ≤ 15
 few_offsets c = let few : length (return_offset c.ra ++ option_to_list c.fp) ≤ 2 = few_saved c.ra c.fp in omega (few, arith)
+
+abbrev row_of : ℕ → Content → Row
+row_of start content = record { start = start; content = content }
+
+row_by_fields : (x y : Row) → x.start ≡ y.start → x.content ≡ y.content → x ≡ y
+row_by_fields x y p q = ap (λ s. row_of s x.content) p ∙ ap (λ c. row_of y.start c) q
+
+-- what stands at a place is in front there
+in_front : (bytes : List ℕ) (place : ℕ) (run : List ℕ) → StandsAt bytes place run → drop place bytes ≡ run ++ drop (length run) (drop place bytes)
+in_front bytes place run s = sym (take-append-drop (length run) (drop place bytes)) ∙ ap (λ l. l ++ drop (length run) (drop place bytes)) s
+
+-- two rows that are spelled in front of the same bytes
+spelled_same : (arch : Arch) (w z v : ℕ) (x y : Row) (t u : List ℕ) → IsTrue (content_fits arch x.content) → IsTrue (content_fits arch y.content)
+    → IsWidth (holds_unsigned x.start) w → IsWidth (holds_unsigned y.start) w → IsWidth (holds_row_offsets x.content) z → IsWidth (holds_row_offsets y.content) v
+    → spelled_row w z x ++ t ≡ spelled_row w v y ++ u → (x ≡ y) × (z ≡ v)
+unfolding spelled_row
+spelled_same arch w z v x y t u f g p q r s e =
+    let xs : List ℕ = flat_map (signed_bytes z) (row_offsets x.content) in
+    let ys : List ℕ = flat_map (signed_bytes v) (row_offsets y.content) in
+    let i : ℕ = row_info_byte z x.content in
+    let j : ℕ = row_info_byte v y.content in
+    let here : unsigned_bytes w x.start ++ (i ∷ (xs ++ t)) ≡ unsigned_bytes w y.start ++ (j ∷ (ys ++ u)) =
+    sym (append_assoc (unsigned_bytes w x.start) (i ∷ xs) t) ∙ (e ∙ append_assoc (unsigned_bytes w y.start) (j ∷ ys) u) in
+    let start : x.start ≡ y.start = unsigned_same w x.start y.start (i ∷ (xs ++ t)) (j ∷ (ys ++ u)) p.there_is p.held q.held here in
+    let later : i ∷ (xs ++ t) ≡ j ∷ (ys ++ u) = append_cancel_left (unsigned_bytes w x.start) (i ∷ (xs ++ t)) (j ∷ (ys ++ u))
+    (here ∙ ap (λ n. unsigned_bytes w n ++ (j ∷ (ys ++ u))) (sym start)) in
+    let parts = info_base (base_number x.content.base) (length (row_offsets x.content)) z (signed_number x.content.signed)
+    (base_number y.content.base) (length (row_offsets y.content)) v (signed_number y.content.signed)
+    (base_small x.content.base) (few_offsets x.content) r.there_is (sign_small x.content.signed)
+    (base_small y.content.base) (few_offsets y.content) s.there_is (sign_small y.content.signed) (head_same i j (xs ++ t) (ys ++ u) later) in
+    let width : z ≡ v = parts.2 in
+    let offsets : row_offsets x.content ≡ row_offsets y.content = offsets_same z (row_offsets x.content) (row_offsets y.content) t u r.there_is r.held
+    (ap (holds_row_offsets y.content) width ∙ s.held) parts.1
+    (tail_same i j (xs ++ t) (ys ++ u) later ∙ ap (λ n. flat_map (signed_bytes n) (row_offsets y.content) ++ u) (sym width)) in
+    let saved : (x.content.ra ≡ y.content.ra) × (x.content.fp ≡ y.content.fp) = saved_told arch x.content.ra y.content.ra x.content.fp y.content.fp x.content.signed y.content.signed f g
+    (tail_same x.content.cfa y.content.cfa (return_offset x.content.ra ++ option_to_list x.content.fp) (return_offset y.content.ra ++ option_to_list y.content.fp) offsets) in
+    let cfa : x.content.cfa ≡ y.content.cfa = head_same x.content.cfa y.content.cfa (return_offset x.content.ra ++ option_to_list x.content.fp) (return_offset y.content.ra ++ option_to_list y.content.fp) offsets in
+    let content : x.content ≡ y.content = by_fields x.content y.content (base_told x.content.base y.content.base parts.0) cfa saved.0 saved.1 (sign_told x.content.signed y.content.signed parts.3) in
+    (row_by_fields x y start content, width)
+
+row_same : (arch : Arch) (rows : List ℕ) (w z v p q : ℕ) (x y : Row) → p ≡ q → RowStands arch rows w z p x → RowStands arch rows w v q y → (x ≡ y) × (z ≡ v)
+row_same arch rows w z v p q x y place a b =
+    spelled_same arch w z v x y (drop (length (spelled_row w z x)) (drop p rows)) (drop (length (spelled_row w v y)) (drop q rows))
+    a.fits b.fits a.start_width_fits b.start_width_fits a.offset_width_fits b.offset_width_fits
+    (sym (in_front rows p (spelled_row w z x) a.spelled) ∙ (ap (λ n. drop n rows) place ∙ in_front rows q (spelled_row w v y) b.spelled))
+
+-- as many rows from one place on
+pub rows_same : (arch : Arch) (rows : List ℕ) (w p q k l : ℕ) (xs ys : List Row) → p ≡ q → length xs ≡ length ys
+    → RowsStand AnyWidth arch rows w p k xs → RowsStand AnyWidth arch rows w q l ys → xs ≡ ys
+rows_same arch rows w p q k l [] [] place n a b = refl
+rows_same arch rows w p q k l [] (y ∷ ys) place n a b = absurd (omega (n, arith))
+rows_same arch rows w p q k l (x ∷ xs) [] place n a b = absurd (omega (n, arith))
+rows_same arch rows w p q k l (x ∷ xs) (y ∷ ys) place n a b =
+    let same : (x ≡ y) × (a.0 ≡ b.0) = row_same arch rows w a.0 b.0 p q x y place a.2 b.2 in
+    let len : length (spelled_row w a.0 x) ≡ length (spelled_row w b.0 y) =
+    ap (λ r. length (spelled_row w a.0 r)) same.0 ∙ ap (λ z. length (spelled_row w z y)) same.1 in
+    let next : p + length (spelled_row w a.0 x) ≡ q + length (spelled_row w b.0 y) = ap (λ m. m + length (spelled_row w a.0 x)) place ∙ ap (λ m. q + m) len in
+    let n' : length xs ≡ length ys = omega (n, arith) in
+    ap (λ r. r ∷ xs) same.0 ∙ ap (λ rs. y ∷ rs) (rows_same arch rows w (p + length (spelled_row w a.0 x)) (q + length (spelled_row w b.0 y)) k l xs ys next n' a.3 b.3)

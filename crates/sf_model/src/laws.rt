@@ -4,6 +4,8 @@ ghost use Rattle.std.specs.Prelude.{◌≡◌, IsTrue, [], FitsSigned};
 ghost use Rattle.std.specs.Int.{w32};
 ghost use Rattle.sf_model.specs.Content.{PointerInRange, ReturnInRange, content_fits};
 ghost use Rattle.sf_model.specs.Recovery.{deciding_registers, recovery};
+ghost use Rattle.sf_model.specs.Section.{Section};
+ghost use Rattle.sf_model.specs.Table.{Table};
 
 use crate::content::{Content, Ra};
 use crate::machine::{Arch, Key};
@@ -30,6 +32,12 @@ pub fn equal_recoveries_mean_equal_contents(
     frame_offset_in_range(first);
     frame_offset_in_range(second);
 }
+
+/// Bytes at an address are a section of at most one table.
+#[tactic(auto, using(crate::proofs::TableSame::table_same))]
+pub fn section_has_one_table(bytes: &[u8], at: u64)
+    ensures { (one other : Table) → Section bytes.now at one → Section bytes.now at other → one ≡ other }
+{}
 
 /// An offset is a number of 32 signed bits.
 fn offset_in_range(offset: i32)
