@@ -1,6 +1,5 @@
 -- GNU SFrame specification, Version 2: the one layout of a section without gaps, and with the least widths.
-use Rattle.std.specs.Prelude.{◌≡◌, ◌+◌, ◌-◌, ◌*◌, ℕ, List, [], ◌∷◌, length, slice_get, slice_index, ⊤}
-use Rattle.std.specs.Option.{option_map_or}
+use Rattle.std.specs.Prelude.{◌≡◌, ◌+◌, ◌*◌, ℕ, List, [], ◌∷◌, length, slice_index, ⊤}
 use Rattle.sf_model.specs.declared.machine.Arch.{Arch}
 use Rattle.sf_model.specs.declared.content.Content.{Content}
 use Rattle.sf_model.specs.declared.rows.Row.{Row}
@@ -39,7 +38,9 @@ pub record Tight (bytes : List ℕ) (at : ℕ) (table : Table) : Type 0 where
 
 -- the start of the last row, 0 where there is none
 abbrev pub last_start : List Row → ℕ
-last_start rows = option_map_or (λ (row : Row). row.start) (slice_get rows (length rows - 1)) 0
+last_start [] = 0
+last_start (row ∷ []) = row.start
+last_start (row ∷ next ∷ rows) = last_start (next ∷ rows)
 
 -- the least width that holds a row's offsets
 abbrev pub LeastWidth : Content → (offset_width : ℕ) → Type 0
