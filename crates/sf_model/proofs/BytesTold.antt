@@ -1,22 +1,18 @@
 -- What numbers at places, and runs that stand, tell of the bytes there.
-use Rattle.std.proofs.Common.{◌≡◌, ℕ, ◌+◌, ◌-◌, ◌*◌, ◌<◌, ◌≤◌, ◌/◌, ◌%◌, ◌^◌, ℤ, pos, ◌+ℤ◌, ◌-ℤ◌, Bool, true, false, IsTrue, List, [], ◌∷◌, length, refl, ap, sym, ◌∙◌, arith, nat_lt, slice_index}
+use Rattle.std.proofs.Common.{◌≡◌, ℕ, ◌+◌, ◌-◌, ◌*◌, ◌<◌, ◌≤◌, ℤ, pos, ◌+ℤ◌, ◌-ℤ◌, Bool, true, false, List, [], ◌∷◌, length, refl, ap, sym, ◌∙◌, arith, nat_lt, slice_index}
 use Rattle.std.specs.Prelude.{zero, suc, take, drop, if◌then◌else◌}
 use Rattle.std.proofs.lemmas.List.{get_or-take, get_or-drop}
-use Rattle.std.proofs.Math.ListN.{get_or}
 use Rattle.std.proofs.Math.IntN.{+ℤ-neg_ℤ_cancel, -ℤ-+ℤ_cancel, +ℤ_comm}
 use Rattle.byteorder.specs.Endian.{little_from, twos_complement}
+use Rattle.sf_model.specs.Section.{AreBytes}
 use Rattle.sf_model.specs.RowBytes.{StandsAt}
 use Rattle.sf_model.proofs.RowNumbers.{below_if}
-
--- every number of the list is a byte
-abbrev pub AreBytes : List ℕ → Type 0
-AreBytes xs = (k : ℕ) → slice_index xs k < 256
 
 -- two lists are the same from one place up to another
 abbrev pub SameWithin : (a b : List ℕ) → (low high : ℕ) → Type 0
 SameWithin a b low high = (k : ℕ) → low ≤ k → k < high → slice_index a k ≡ slice_index b k
 
-not_below : (m n : ℕ) → nat_lt m n ≡ false → n ≤ m
+pub not_below : (m n : ℕ) → nat_lt m n ≡ false → n ≤ m
 not_below m n e = search arith
 
 join_by : (a b : List ℕ) (low mid high k : ℕ) (t : Bool) → nat_lt k mid ≡ t → SameWithin a b low mid → SameWithin a b mid high → low ≤ k → k < high → slice_index a k ≡ slice_index b k

@@ -4,5 +4,6 @@ pub mod Recoveries
 pub mod RowNumbers
 pub mod RowsSame
 pub mod TableSame
+pub mod TightOne
 pub mod Worked
 pub mod WorkedSection

@@ -158,7 +158,7 @@ spelled_same arch w z v x y t u f g p q r s e =
     let content : x.content ≡ y.content = by_fields x.content y.content (base_told x.content.base y.content.base parts.0) cfa saved.0 saved.1 (sign_told x.content.signed y.content.signed parts.3) in
     (row_by_fields x y start content, width)
 
-row_same : (arch : Arch) (rows : List ℕ) (w z v p q : ℕ) (x y : Row) → p ≡ q → RowStands arch rows w z p x → RowStands arch rows w v q y → (x ≡ y) × (z ≡ v)
+pub row_same : (arch : Arch) (rows : List ℕ) (w z v p q : ℕ) (x y : Row) → p ≡ q → RowStands arch rows w z p x → RowStands arch rows w v q y → (x ≡ y) × (z ≡ v)
 row_same arch rows w z v p q x y place a b =
     spelled_same arch w z v x y (drop (length (spelled_row w z x)) (drop p rows)) (drop (length (spelled_row w v y)) (drop q rows))
     a.fits b.fits a.start_width_fits b.start_width_fits a.offset_width_fits b.offset_width_fits

@@ -19,6 +19,10 @@ use Rattle.sf_model.specs.Width.{holds_unsigned, IsWidth}
 use Rattle.sf_model.specs.RowBytes.{holds_row_offsets, spelled_row, StandsAt}
 use Rattle.sf_model.specs.Table.{Table, row_count}
 
+-- every number of the list is a byte
+abbrev pub AreBytes : List ℕ → Type 0
+AreBytes bytes = (k : ℕ) → slice_index bytes k < 256
+
 -- the little-endian number in so many bytes at a place
 abbrev pub number_in : (len place : ℕ) → List ℕ → ℕ
 number_in len place bytes = little_from place len bytes

@@ -1,11 +1,12 @@
 //! Laws over the definitions: functions that do nothing, for their contracts.
 
-ghost use Rattle.std.specs.Prelude.{◌≡◌, IsTrue, [], FitsSigned};
+ghost use Rattle.std.specs.Prelude.{◌≡◌, ℕ, IsTrue, List, [], FitsSigned};
 ghost use Rattle.std.specs.Int.{w32};
 ghost use Rattle.sf_model.specs.Content.{PointerInRange, ReturnInRange, content_fits};
 ghost use Rattle.sf_model.specs.Recovery.{deciding_registers, recovery};
-ghost use Rattle.sf_model.specs.Section.{Section};
+ghost use Rattle.sf_model.specs.Section.{AreBytes, Section};
 ghost use Rattle.sf_model.specs.Table.{Table};
+ghost use Rattle.sf_model.specs.Tight.{Narrow, Tight};
 
 use crate::content::{Content, Ra};
 use crate::machine::{Arch, Key};
@@ -37,6 +38,14 @@ pub fn equal_recoveries_mean_equal_contents(
 #[tactic(auto, using(crate::proofs::TableSame::table_same))]
 pub fn section_has_one_table(bytes: &[u8], at: u64)
     ensures { (one other : Table) → Section bytes.now at one → Section bytes.now at other → one ≡ other }
+{}
+
+/// At most one list of bytes is a section of a table at an address without gaps and with the least
+/// widths.
+#[tactic(auto, using(crate::proofs::TightOne::tight_one, crate::proofs::TightOne::tight_section))]
+pub fn tight_section_is_the_only_one(at: u64)
+    ensures only { (table : Table) (one other : List ℕ) → AreBytes one → AreBytes other → Tight one at table → Tight other at table → Narrow one table → Narrow other table → one ≡ other }
+    ensures section { (table : Table) (bytes : List ℕ) → Tight bytes at table → Section bytes at table }
 {}
 
 /// An offset is a number of 32 signed bits.

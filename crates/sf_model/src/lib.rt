@@ -21,7 +21,9 @@ mod walk;
 pub use content::{Content, Ra, fits};
 pub use facts::FdeFacts;
 pub use function::{Func, FuncHead, Shape};
-pub use laws::{equal_recoveries_mean_equal_contents, section_has_one_table};
+pub use laws::{
+    equal_recoveries_mean_equal_contents, section_has_one_table, tight_section_is_the_only_one,
+};
 pub use machine::{Arch, Base, Key};
 pub use memory::Memory;
 pub use notice::{Group, Notice};
