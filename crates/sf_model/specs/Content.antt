@@ -1,5 +1,6 @@
 -- GNU SFrame specification, Version 2: which contents a frame row entry of a machine can have.
-use Rattle.std.specs.Prelude.{Bool, true, false, not, is_none}
+use Rattle.std.specs.Prelude.{ℤ, Bool, true, false, not, is_none, Option, Some, None, FitsSigned, ⊤}
+use Rattle.std.specs.Int.{w32}
 use Rattle.sf_model.specs.declared.machine.Arch.{Arch}
 use Rattle.sf_model.specs.declared.machine.Arch.TheVariants.{Amd64, Aarch64}
 use Rattle.sf_model.specs.declared.content.Ra.{Ra}
@@ -19,3 +20,20 @@ return_fits Aarch64 (At n) fp_is_free signed = true
 -- a saved frame pointer needs a saved return address.
 abbrev pub content_fits : Arch → Content → Bool
 content_fits arch content = return_fits arch content.ra (is_none content.fp) content.signed
+
+-- the return address's offset is a number of 32 signed bits
+abbrev pub ReturnInRange : Ra → Type 0
+ReturnInRange Fixed = ⊤
+ReturnInRange Link = ⊤
+ReturnInRange (At offset) = FitsSigned w32 offset
+
+-- the frame pointer's offset is one
+abbrev pub PointerInRange : Option ℤ → Type 0
+PointerInRange None = ⊤
+PointerInRange (Some offset) = FitsSigned w32 offset
+
+-- all offsets are
+pub record OffsetsInRange (content : Content) : Type 0 where
+  pub frame_address : FitsSigned w32 content.cfa
+  pub return_address : ReturnInRange content.ra
+  pub frame_pointer : PointerInRange content.fp

@@ -8,18 +8,30 @@
 mod content;
 mod facts;
 mod function;
+mod laws;
 mod machine;
+mod memory;
 mod notice;
 mod omission;
+mod recovery;
 mod rows;
+mod verdict;
+mod walk;
 
 pub use content::{Content, Ra, fits};
 pub use facts::FdeFacts;
 pub use function::{Func, FuncHead, Shape};
+pub use laws::{
+    equal_recoveries_mean_equal_contents, section_has_one_table, tight_section_is_the_only_one,
+};
 pub use machine::{Arch, Base, Key};
+pub use memory::Memory;
 pub use notice::{Group, Notice};
 pub use omission::{Omission, Omitted, Origin, Reason, Span};
+pub use recovery::{Recovered, Regs, moved, recover};
 pub use rows::{Row, Rows};
+pub use verdict::Verdict;
+pub use walk::{Frame, Stop, Walk};
 
 #[cfg(test)]
 mod tests;

@@ -1,0 +1,9 @@
+pub mod Addresses
+pub mod BytesTold
+pub mod Recoveries
+pub mod RowNumbers
+pub mod RowsSame
+pub mod TableSame
+pub mod TightOne
+pub mod Worked
+pub mod WorkedSection
