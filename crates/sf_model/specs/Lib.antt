@@ -1,3 +1,13 @@
 pub mod Content
 pub mod Function
+pub mod Memory
+pub mod Recovery
+pub mod Width
+pub mod RowBytes
+pub mod Table
+pub mod Section
+pub mod Tight
+pub mod Lookup
+pub mod Union
+pub mod Walk
 pub mod Notice

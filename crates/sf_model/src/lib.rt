@@ -9,17 +9,25 @@ mod content;
 mod facts;
 mod function;
 mod machine;
+mod memory;
 mod notice;
 mod omission;
+mod recovery;
 mod rows;
+mod verdict;
+mod walk;
 
 pub use content::{Content, Ra, fits};
 pub use facts::FdeFacts;
 pub use function::{Func, FuncHead, Shape};
 pub use machine::{Arch, Base, Key};
+pub use memory::Memory;
 pub use notice::{Group, Notice};
 pub use omission::{Omission, Omitted, Origin, Reason, Span};
+pub use recovery::{Recovered, Regs, moved, recover};
 pub use rows::{Row, Rows};
+pub use verdict::Verdict;
+pub use walk::{Frame, Stop, Walk};
 
 #[cfg(test)]
 mod tests;
