@@ -4,3 +4,4 @@ pub mod Agrees
 pub mod Says
 pub mod Faults
 pub mod Starts
+pub mod Worked

@@ -6,3 +6,4 @@ pub mod RowList
 pub mod FullRow
 pub mod At
 pub mod FirstFault
+pub mod Recovery

@@ -3,3 +3,4 @@ pub mod Writable
 pub mod Same
 pub mod Omitted
 pub mod Changes
+pub mod Alike

@@ -5,16 +5,21 @@
 //! first reason of the function or else of the row with the least offset. Neighbouring rows that say the
 //! same are one row.
 //!
+//! [`rows_recover_alike`] and [`functions_recover_alike`] are laws: what SFrame expresses recovers the same of
+//! the caller's frame as the call frame instructions.
+//!
 //! The caller of [`express`] owes rows as `cfa_machine` gives them. Only `express` takes memory.
 #![tactic(auto)]
 
 mod fault;
 mod function;
 mod part;
+mod recovery;
 mod row;
 
 pub use fault::ExpressFault;
 pub use function::express;
+pub use recovery::{functions_recover_alike, rows_recover_alike};
 pub use row::content;
 
 #[cfg(test)]

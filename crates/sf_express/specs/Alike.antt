@@ -1,0 +1,37 @@
+-- A row of call frame instructions and what a frame row entry says of it recover the same of the caller's frame (DWARF 5,
+-- section 6.4.1; GNU SFrame specification, Version 2, "SFrame Frame Row Entries").
+use Rattle.std.specs.Prelude.{◌≡◌, List, Option, Some}
+use Rattle.std.specs.Option.{option_map}
+use Rattle.sf_model.specs.declared.machine.Arch.{Arch}
+use Rattle.sf_model.specs.declared.machine.Key.{Key}
+use Rattle.sf_model.specs.declared.content.Content.{Content}
+use Rattle.sf_model.specs.declared.recovery.Regs.{Regs}
+use Rattle.sf_model.specs.Memory.{Region}
+use Rattle.sf_model.specs.Recovery.{Recovery, Known, recovery}
+use Rattle.cfa_machine.specs.declared.columns.Columns.{Columns}
+use Rattle.cfa_machine.specs.FullRow.{FullRow, columns_of}
+use Rattle.cfa_machine.specs.Recovery.{RuleRecovery, recovery_by_rules}
+
+-- a recovery in which nothing is undefined
+abbrev pub defined : Recovery → RuleRecovery
+defined r = record {
+  frame_address = Some r.frame_address;
+  return_address = Some r.return_address;
+  frame_pointer = Some r.frame_pointer;
+  stack_pointer = Some (Known r.stack_pointer);
+  signed = r.signed;
+}
+
+-- With every key, all registers and all memory a row's rules and a content recover the same: the canonical frame address, the
+-- return address, the frame pointer and the key of the signature, where what can't be read has the same address.
+pub record RecoverAlike (arch : Arch) (columns : Columns) (content : Content) : Type 0 where
+  pub alike : (key : Key) (regs : Regs) (memory : List Region) → recovery_by_rules arch columns key regs memory ≡ defined (recovery content key regs memory)
+  -- by the rules the caller's stack pointer is the canonical frame address
+  pub stack_pointer : (key : Key) (regs : Regs) (memory : List Region)
+      → (recovery_by_rules arch columns key regs memory).stack_pointer ≡ option_map Known (recovery_by_rules arch columns key regs memory).frame_address
+
+-- a content was found, and it recovers what the full row recovers
+pub record FoundAlike (arch : Arch) (row : FullRow) (found : Option Content) : Type 0 where
+  pub content : Content
+  pub is : found ≡ Some content
+  pub alike : RecoverAlike arch (columns_of arch row) content
