@@ -1,0 +1,89 @@
+-- The checks of an ELF64 file, in their order, up to the sections' names (ELF64 gABI, "ELF Header",
+-- "Sections", "Program Header"). A check answers what is wrong, with its place in the file.
+use Rattle.std.specs.Prelude.{ℕ, zero, suc, ◌+◌, ◌==◌, Bool, true, false, ◌&&◌, ◌||◌, not, List, length, Result, Ok, Err, nat_lt, nat_le, if◌then◌else◌}
+use Rattle.elf_read.specs.declared.fault.ElfFault.{ElfFault}
+use Rattle.elf_read.specs.declared.fault.ElfFault.TheVariants.{Short, NotElf, Class, Order, Version, Machine, Kind, EntrySize, Strings, OutOfFile}
+use Rattle.elf_read.specs.Number.{number_in, lies_in, has_text}
+use Rattle.elf_read.specs.Header.{e_type, e_machine, e_phoff, e_shoff, e_phentsize, e_phnum, e_shentsize, is_core, program_header, p_offset, p_filesz}
+use Rattle.elf_read.specs.Sections.{section_header, sh_name, sh_type, sh_offset, sh_size, section_count, segment_total, has_bytes, section_bytes, name_table}
+
+abbrev pub Check : Type 0
+Check = Result (Unit {0}) ElfFault
+
+-- a test that must hold
+abbrev pub unless : Bool → ElfFault → Check
+unless test fault = if test then Ok tt else Err fault
+
+-- a check that is made where a test holds
+abbrev pub where_so : Bool → Check → Check
+where_so test check = if test then check else Ok tt
+
+-- one check after the other: the first fault counts
+infixl 10 ◌>>◌
+abbrev pub ◌>>◌ : Check → Check → Check
+(Ok x) >> next = next
+(Err e) >> next = Err e
+
+-- the same check of the first n items, from 0 on
+unfoldable pub each_below : ℕ → (ℕ → Check) → Check
+each_below zero check = Ok tt
+each_below (suc n) check = each_below n check >> check n
+
+-- the identification, and the fields that say for which machine and of what kind the file is
+unfoldable pub identity_check : List ℕ → Check
+identity_check file =
+    unless (nat_le 64 (length file)) (Short (length file))
+    >> unless (number_in 4 0 file == 0x464c457f) (NotElf 0)
+    >> unless (number_in 1 4 file == 2) (Class 4)
+    >> unless (number_in 1 5 file == 1) (Order 5)
+    >> unless (number_in 1 6 file == 1) (Version 6)
+    >> unless (number_in 4 20 file == 1) (Version 20)
+
+unfoldable pub purpose_check : List ℕ → Check
+purpose_check file =
+    unless ((e_machine file == 62) || (e_machine file == 183)) (Machine 18)
+    >> unless (nat_le 1 (e_type file) && nat_le (e_type file) 4) (Kind 16)
+
+-- whether section 0's header is needed: for sections, or for the number of segments
+unfoldable pub needs_sections : List ℕ → Bool
+needs_sections file = (not (e_shoff file == 0) && not (is_core file)) || (e_phnum file == 0xffff)
+
+unfoldable pub first_section_check : List ℕ → Check
+first_section_check file =
+    unless (e_shentsize file == 64) (EntrySize 58)
+    >> unless (not (e_shoff file == 0) && nat_le (e_shoff file + 64) (length file)) (OutOfFile 40)
+
+-- a segment's bytes lie in the file
+unfoldable pub segment_check : List ℕ → ℕ → Check
+segment_check file i = unless (nat_le (p_offset file i + p_filesz file i) (length file)) (OutOfFile (program_header file i))
+
+unfoldable pub core_check : List ℕ → Check
+core_check file =
+    unless ((segment_total file == 0) || (e_phentsize file == 56)) (EntrySize 54)
+    >> unless (lies_in (length file) (e_phoff file) (segment_total file) 56) (OutOfFile 32)
+    >> each_below (segment_total file) (segment_check file)
+
+-- a section's bytes lie in the file
+unfoldable pub bytes_check : List ℕ → ℕ → Check
+bytes_check file i =
+    where_so (has_bytes file i) (unless (nat_le (sh_offset file i + sh_size file i) (length file)) (OutOfFile (section_header file i)))
+
+unfoldable pub sections_check : List ℕ → Check
+sections_check file =
+    unless (lies_in (length file) (e_shoff file) (section_count file) 64) (OutOfFile 40)
+    >> each_below (section_count file) (bytes_check file)
+
+-- a section's name stands in the name table
+unfoldable pub name_check : List ℕ → ℕ → Check
+name_check file i = unless (has_text (sh_name file i) (section_bytes file (name_table file))) (Strings (section_header file i))
+
+-- a number of a section of type SHT_STRTAB 3
+unfoldable pub is_string_table : List ℕ → ℕ → Bool
+is_string_table file i = nat_lt i (section_count file) && (sh_type file i == 3)
+
+unfoldable pub has_names : List ℕ → Bool
+has_names file = not (section_count file == 0) && not (name_table file == 0)
+
+unfoldable pub names_check : List ℕ → Check
+names_check file =
+    where_so (has_names file) (unless (is_string_table file (name_table file)) (Strings 62) >> each_below (section_count file) (name_check file))

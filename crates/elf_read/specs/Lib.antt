@@ -1,0 +1,6 @@
+pub mod Number
+pub mod Header
+pub mod Sections
+pub mod Checks
+pub mod Used
+pub mod Parsing

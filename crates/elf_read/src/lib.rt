@@ -1,0 +1,14 @@
+//! ELF64 files of both machines and all four kinds (ELF64 gABI), little-endian, as views over lent bytes.
+#![tactic(auto)]
+
+mod fault;
+mod header;
+mod kind;
+mod layout;
+mod number;
+mod program_header;
+mod section_header;
+mod sections;
+
+pub use fault::ElfFault;
+pub use kind::Kind;
