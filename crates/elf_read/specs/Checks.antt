@@ -39,19 +39,30 @@ identity_check file =
     >> unless (number_in 1 6 file == 1) (Version 6)
     >> unless (number_in 4 20 file == 1) (Version 20)
 
+-- EM_X86_64 62, EM_AARCH64 183
+abbrev pub is_known_machine : ℕ → Bool
+is_known_machine machine = (machine == 62) || (machine == 183)
+
+-- ET_REL 1 to ET_CORE 4
+abbrev pub is_known_type : ℕ → Bool
+is_known_type kind = nat_le 1 kind && nat_le kind 4
+
 unfoldable pub purpose_check : List ℕ → Check
 purpose_check file =
-    unless ((e_machine file == 62) || (e_machine file == 183)) (Machine 18)
-    >> unless (nat_le 1 (e_type file) && nat_le (e_type file) 4) (Kind 16)
+    unless (is_known_machine (e_machine file)) (Machine 18)
+    >> unless (is_known_type (e_type file)) (Kind 16)
 
 -- whether section 0's header is needed: for sections, or for the number of segments
 unfoldable pub needs_sections : List ℕ → Bool
 needs_sections file = (not (e_shoff file == 0) && not (is_core file)) || (e_phnum file == 0xffff)
 
+unfoldable pub has_first_section : List ℕ → Bool
+has_first_section file = not (e_shoff file == 0) && lies_in (length file) (e_shoff file) 1 64
+
 unfoldable pub first_section_check : List ℕ → Check
 first_section_check file =
     unless (e_shentsize file == 64) (EntrySize 58)
-    >> unless (not (e_shoff file == 0) && nat_le (e_shoff file + 64) (length file)) (OutOfFile 40)
+    >> unless (has_first_section file) (OutOfFile 40)
 
 -- a segment's bytes lie in the file
 unfoldable pub segment_check : List ℕ → ℕ → Check

@@ -1,8 +1,11 @@
 //! ELF64 files of both machines and all four kinds (ELF64 gABI), little-endian, as views over lent bytes.
 #![tactic(auto)]
 
+mod check;
+mod entries;
 mod fault;
 mod header;
+mod identity;
 mod kind;
 mod layout;
 mod number;
