@@ -66,18 +66,22 @@ first_section_check file =
 
 -- a segment's bytes lie in the file
 unfoldable pub segment_check : List ℕ → ℕ → Check
-segment_check file i = unless (nat_le (p_offset file i + p_filesz file i) (length file)) (OutOfFile (program_header file i))
+segment_check file i = unless (lies_in (length file) (p_offset file i) (p_filesz file i) 1) (OutOfFile (program_header file i))
+
+-- where there are program headers, they have the format's length
+abbrev pub has_program_headers : List ℕ → Bool
+has_program_headers file = (segment_total file == 0) || (e_phentsize file == 56)
 
 unfoldable pub core_check : List ℕ → Check
 core_check file =
-    unless ((segment_total file == 0) || (e_phentsize file == 56)) (EntrySize 54)
+    unless (has_program_headers file) (EntrySize 54)
     >> unless (lies_in (length file) (e_phoff file) (segment_total file) 56) (OutOfFile 32)
     >> each_below (segment_total file) (segment_check file)
 
 -- a section's bytes lie in the file
 unfoldable pub bytes_check : List ℕ → ℕ → Check
 bytes_check file i =
-    where_so (has_bytes file i) (unless (nat_le (sh_offset file i + sh_size file i) (length file)) (OutOfFile (section_header file i)))
+    where_so (has_bytes file i) (unless (lies_in (length file) (sh_offset file i) (sh_size file i) 1) (OutOfFile (section_header file i)))
 
 unfoldable pub sections_check : List ℕ → Check
 sections_check file =

@@ -2,16 +2,19 @@
 #![tactic(auto)]
 
 mod check;
+
 mod entries;
 mod fault;
 mod header;
 mod identity;
 mod kind;
 mod layout;
+mod names;
 mod number;
 mod program_header;
 mod section_header;
 mod sections;
+mod segments;
 
 pub use fault::ElfFault;
 pub use kind::Kind;
