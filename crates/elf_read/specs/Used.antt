@@ -5,12 +5,16 @@ use Rattle.elf_read.specs.declared.fault.ElfFault.{ElfFault}
 use Rattle.elf_read.specs.declared.fault.ElfFault.TheVariants.{EntrySize, Strings, Compressed, SymbolIndex}
 use Rattle.elf_read.specs.Number.{has_text}
 use Rattle.elf_read.specs.Header.{is_rel}
-use Rattle.elf_read.specs.Sections.{section_header, sh_type, sh_offset, sh_size, sh_link, sh_info, sh_entsize, section_count, section_bytes, is_compressed, is_eh_frame, st_name, st_shndx, rela_symbol, group_member, member_count}
+use Rattle.elf_read.specs.Sections.{section_header, sh_type, sh_offset, sh_size, sh_link, sh_info, sh_entsize, section_count, section_bytes, is_compressed, is_eh_frame, st_name, st_shndx, rela_symbol, group_member, member_count, entry_count}
 use Rattle.elf_read.specs.Checks.{Check, unless, where_so, ◌>>◌, each_below, is_string_table}
+
+-- the number of a section that holds call frame information
+unfoldable pub names_eh_frame : List ℕ → ℕ → Bool
+names_eh_frame file i = nat_lt i (section_count file) && is_eh_frame file i
 
 -- an SHT_RELA section (4) of an object whose info names call frame information
 unfoldable pub is_used_rela : List ℕ → ℕ → Bool
-is_used_rela file i = is_rel file && (sh_type file i == 4) && (nat_lt (sh_info file i) (section_count file) && is_eh_frame file (sh_info file i))
+is_used_rela file i = is_rel file && (sh_type file i == 4) && names_eh_frame file (sh_info file i)
 
 -- an SHT_GROUP section (17) of an object
 unfoldable pub is_group : List ℕ → ℕ → Bool
@@ -24,9 +28,9 @@ is_symbol_table file i = nat_lt i (section_count file) && (sh_type file i == 2)
 unfoldable pub is_entry_table : List ℕ → ℕ → Bool
 is_entry_table file i = (sh_entsize file i == 24) && (sh_size file i % 24 == 0)
 
--- how many entries of 24 bytes it has
-abbrev pub entry_count : List ℕ → ℕ → ℕ
-entry_count file i = sh_size file i / 24
+-- whether a table has a symbol of this number
+unfoldable pub is_symbol : List ℕ → ℕ → ℕ → Bool
+is_symbol file table k = nat_lt k (entry_count file table)
 
 -- a relocation section's symbol table, its own entries, and that table's
 unfoldable pub rela_tables : List ℕ → ℕ → Check
@@ -44,13 +48,17 @@ has_signature file i =
     is_string_table file (sh_link file (sh_link file i))
     && has_text (st_name file (sh_link file i) (sh_info file i)) (section_bytes file (sh_link file (sh_link file i)))
 
+-- whether a section is made of at least one word of 4 bytes
+unfoldable pub is_word_table : List ℕ → ℕ → Bool
+is_word_table file i = (sh_size file i % 4 == 0) && not (sh_size file i == 0)
+
 -- a group's size, its symbol table, its symbol, and the name of that
 unfoldable pub group_tables : List ℕ → ℕ → Check
 group_tables file i =
-    unless ((sh_size file i % 4 == 0) && not (sh_size file i == 0)) (EntrySize (section_header file i))
+    unless (is_word_table file i) (EntrySize (section_header file i))
     >> unless (is_symbol_table file (sh_link file i)) (SymbolIndex (section_header file i))
     >> unless (is_entry_table file (sh_link file i)) (EntrySize (section_header file (sh_link file i)))
-    >> unless (nat_lt (sh_info file i) (entry_count file (sh_link file i))) (SymbolIndex (section_header file i))
+    >> unless (is_symbol file (sh_link file i) (sh_info file i)) (SymbolIndex (section_header file i))
     >> unless (has_signature file i) (Strings (section_header file i))
 
 -- a member is the number of a section
@@ -98,11 +106,13 @@ compressed_check file = refused_compressed file (least_compressed file (section_
 abbrev pub is_section_number : List ℕ → ℕ → Bool
 is_section_number file index = nat_le 0xff00 index || nat_lt index (section_count file)
 
--- an entry's symbol is in the table, and lies in a section of the file or has a reserved index
+-- whether a table has a symbol of this number that lies in a section of the file or has a reserved index
+unfoldable pub is_sound_symbol : List ℕ → ℕ → ℕ → Bool
+is_sound_symbol file table k = is_symbol file table k && is_section_number file (st_shndx file table k)
+
+-- an entry's symbol is sound
 unfoldable pub entry_check : List ℕ → ℕ → ℕ → Check
-entry_check file i k =
-    unless (nat_lt (rela_symbol file i k) (entry_count file (sh_link file i)) && is_section_number file (st_shndx file (sh_link file i) (rela_symbol file i k)))
-        (SymbolIndex (sh_offset file i + 24 * k))
+entry_check file i k = unless (is_sound_symbol file (sh_link file i) (rela_symbol file i k)) (SymbolIndex (sh_offset file i + 24 * k))
 
 unfoldable pub entries_check : List ℕ → ℕ → Check
 entries_check file i = where_so (is_used_rela file i) (each_below (entry_count file i) (entry_check file i))

@@ -1,6 +1,6 @@
 //! Entries of symbol tables, relocation sections and groups.
 
-ghost use Rattle.std.specs.Prelude.{◌≡◌};
+ghost use Rattle.std.specs.Prelude.{◌≡◌, ◌<◌, ◌≤◌, length};
 ghost use Rattle.elf_read.specs.Sections as spec;
 ghost use Rattle.elf_read.specs.Used as used;
 
@@ -8,7 +8,6 @@ use crate::layout::{
     ENTRY_LEN, GROUP_WORD_LEN, R_SYMBOL, SHN_LORESERVE, ST_NAME, ST_SHNDX, ST_VALUE,
 };
 use crate::number::{u16_at, u32_at, u64_at};
-use crate::section_header::sh_size;
 use crate::sections::{section_bytes, section_count};
 
 /// The place of a symbol's name in the string table of its table.
@@ -54,21 +53,42 @@ pub fn group_member(file: &[u8], i: u32, k: u32) -> u32
 /// How many members a group has.
 #[tactic(auto, unfolding(crate::specs::Sections::member_count))]
 pub fn member_count(file: &[u8], i: u32) -> u64
-    ensures { result ≡ spec.member_count file.now i }
+    ensures value { result ≡ spec.member_count file.now i }
+    ensures within { 0 < result → spec.sh_offset file.now i < length file.now }
+    ensures small { result ≤ length file.now }
 {
-    (sh_size(file, i) / GROUP_WORD_LEN).saturating_sub(1)
+    (section_bytes(file, i).len() as u64 / GROUP_WORD_LEN).saturating_sub(1)
 }
 
 /// How many symbols or relocations a section has.
+#[tactic(auto, unfolding(crate::specs::Sections::entry_count))]
 pub fn entry_count(file: &[u8], i: u32) -> u64
-    ensures { result ≡ used.entry_count file.now i }
+    ensures value { result ≡ spec.entry_count file.now i }
+    ensures within { 0 < result → spec.sh_offset file.now i < length file.now }
+    ensures small { result ≤ length file.now }
 {
-    sh_size(file, i) / ENTRY_LEN
+    section_bytes(file, i).len() as u64 / ENTRY_LEN
 }
 
-/// Whether a symbol's index is reserved or the number of a section.
-pub fn is_section_number(file: &[u8], index: u16) -> bool
+/// Whether a table has a symbol of this number.
+#[tactic(auto, unfolding(crate::specs::Used::is_symbol))]
+pub fn is_symbol(file: &[u8], table: u32, k: u32) -> bool
+    ensures { result ≡ used.is_symbol file.now table k }
+{
+    u64::from(k) < entry_count(file, table)
+}
+
+// Whether a symbol's index is reserved or the number of a section.
+fn is_section_number(file: &[u8], index: u16) -> bool
     ensures { result ≡ used.is_section_number file.now index }
 {
     index >= SHN_LORESERVE || u64::from(index) < section_count(file)
+}
+
+/// Whether a table has a symbol of this number that lies in a section of the file or has a reserved index.
+#[tactic(auto, unfolding(crate::specs::Used::is_sound_symbol))]
+pub fn is_sound_symbol(file: &[u8], table: u32, k: u32) -> bool
+    ensures { result ≡ used.is_sound_symbol file.now table k }
+{
+    is_symbol(file, table, k) && is_section_number(file, st_shndx(file, table, k))
 }

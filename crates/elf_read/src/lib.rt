@@ -2,7 +2,6 @@
 #![tactic(auto)]
 
 mod check;
-
 mod entries;
 mod fault;
 mod header;
@@ -15,6 +14,7 @@ mod program_header;
 mod section_header;
 mod sections;
 mod segments;
+mod used;
 
 pub use fault::ElfFault;
 pub use kind::Kind;

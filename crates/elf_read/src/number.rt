@@ -1,6 +1,6 @@
 //! Numbers and bytes at places. What lies past the end reads as 0 or as no bytes; the checks rule it out.
 
-ghost use Rattle.std.specs.Prelude.{◌≡◌, ◌==◌, ◌<◌, drop, is_some};
+ghost use Rattle.std.specs.Prelude.{◌≡◌, ◌==◌, ◌<◌, ◌≤◌, ◌-◌, drop, length, is_some};
 ghost use Rattle.std.specs.List.{position};
 ghost use Rattle.elf_read.specs.Number.{front_number, number_in, window, lies_in, has_flag, text_in, has_text};
 
@@ -8,7 +8,8 @@ use byteorder::{ByteOrder, LittleEndian};
 
 /// The bytes from a place on.
 pub fn bytes_from(bytes: &[u8], place: u64) -> &[u8]
-    ensures { result.now ≡ drop place bytes.now }
+    ensures rest { result.now ≡ drop place bytes.now }
+    ensures len { length result.now ≡ length bytes.now - place }
 {
     match bytes.get(place as usize..) {
         Some(rest) => rest,
@@ -18,7 +19,9 @@ pub fn bytes_from(bytes: &[u8], place: u64) -> &[u8]
 
 /// So many bytes from a place on.
 pub fn bytes_at(bytes: &[u8], place: u64, size: u64) -> &[u8]
-    ensures { result.now ≡ window place size bytes.now }
+    ensures bytes { result.now ≡ window place size bytes.now }
+    ensures within { 0 < length result.now → place < length bytes.now }
+    ensures small { length result.now ≤ length bytes.now }
 {
     let rest = bytes_from(bytes, place);
     match rest.get(..size as usize) {

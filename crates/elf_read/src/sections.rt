@@ -1,7 +1,7 @@
 //! What the headers say of sections: how many there are, their bytes and names, and which hold call
 //! frame information.
 
-ghost use Rattle.std.specs.Prelude.{◌≡◌};
+ghost use Rattle.std.specs.Prelude.{◌≡◌, ◌<◌, ◌≤◌, length};
 ghost use Rattle.elf_read.specs.Sections as spec;
 
 use crate::header::{e_phnum, e_shnum, e_shoff, e_shstrndx, is_core_file};
@@ -71,7 +71,9 @@ pub fn has_bytes(file: &[u8], i: u32) -> bool
 /// A section's bytes.
 #[tactic(auto, unfolding(crate::specs::Sections::section_bytes))]
 pub fn section_bytes(file: &[u8], i: u32) -> &[u8]
-    ensures { result.now ≡ spec.section_bytes file.now i }
+    ensures bytes { result.now ≡ spec.section_bytes file.now i }
+    ensures within { 0 < length result.now → spec.sh_offset file.now i < length file.now }
+    ensures small { length result.now ≤ length file.now }
 {
     if has_bytes(file, i) {
         bytes_at(file, sh_offset(file, i), sh_size(file, i))
