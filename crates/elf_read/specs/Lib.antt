@@ -4,3 +4,4 @@ pub mod Sections
 pub mod Checks
 pub mod Used
 pub mod Parsing
+pub mod Views

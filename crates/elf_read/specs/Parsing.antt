@@ -14,6 +14,10 @@ used_check file =
     >> compressed_check file
     >> each_below (section_count file) (entries_check file)
 
+-- section 0's header, where it is needed
+unfoldable pub table_check : List ℕ → Check
+table_check file = where_so (needs_sections file) (first_section_check file)
+
 -- everything behind the file header and section 0's header
 unfoldable pub content_check : List ℕ → Check
 content_check file = if is_core file then core_check file else (sections_check file >> names_check file >> used_check file)
@@ -21,9 +25,7 @@ content_check file = if is_core file then core_check file else (sections_check f
 -- all checks: the first that fails is the file's fault
 unfoldable pub file_check : List ℕ → Check
 file_check file =
-    identity_check file >> purpose_check file
-    >> where_so (needs_sections file) (first_section_check file)
-    >> content_check file
+    identity_check file >> purpose_check file >> table_check file >> content_check file
 
 -- whether a call that answers something answered what the checks say
 abbrev pub verdict : {X : Type 0} → Result X ElfFault → Check

@@ -85,7 +85,7 @@ if_compressed file used i = if used then (if is_compressed file i then Some i el
 -- the string table of that
 unfoldable pub compressed_by : List ℕ → ℕ → Option ℕ
 compressed_by file i =
-    least (if_compressed file (is_eh_frame file i || is_used_rela file i || is_group file i) i)
+    least (if_compressed file (is_eh_frame file i || (is_used_rela file i || is_group file i)) i)
     (least (if_compressed file (is_used_rela file i || is_group file i) (sh_link file i))
     (if_compressed file (is_group file i) (sh_link file (sh_link file i))))
 

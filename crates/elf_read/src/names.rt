@@ -1,6 +1,6 @@
 //! Checks of the section headers and of the sections' names.
 
-ghost use Rattle.std.specs.Prelude.{◌≡◌, ◌<◌, ◌^◌, length};
+ghost use Rattle.std.specs.Prelude.{◌≡◌, ◌<◌, ◌≤◌, ◌+◌, ◌*◌, ◌^◌, length, OnOk};
 ghost use Rattle.elf_read.specs.Checks as spec;
 ghost use Rattle.elf_read.specs.Checks.{each_below};
 ghost use Rattle.elf_read.specs.Header.{e_shoff as shoff};
@@ -44,7 +44,8 @@ fn check_all_bytes(file: &[u8], count: u32) -> Result<(), ElfFault>
 #[tactic(auto, unfolding(crate::specs::Checks::sections_check))]
 pub fn check_sections(file: &[u8]) -> Result<(), ElfFault>
     requires { length file.now < 2 ^ 32 }
-    ensures { result ≡ spec.sections_check file.now }
+    ensures check { result ≡ spec.sections_check file.now }
+    ensures headers { OnOk result (shoff file.now + 64 * counts.section_count file.now ≤ length file.now) }
 {
     let count = section_count(file);
     require(
