@@ -23,5 +23,6 @@ each_below-stop zero i check e within before here = absurd (omega arith)
 each_below-stop (suc n) i check e within before here =
     let upto : i ≤ n = omega arith in
     elim (eq-or-lt_of_le upto) [
-      inl same ↦ each_below-suc n check ∙ ap (λ (k : ℕ). each_below k check >> check k) (sym same) ∙ ap (λ (c : Check). c >> check i) before ∙ here
-    | inr below ↦ each_below-suc n check ∙ ap (λ (c : Check). c >> check n) (each_below-stop n i check e below before here) ]
+      | inl same ↦ each_below-suc n check ∙ ap (λ (k : ℕ). each_below k check >> check k) (sym same) ∙ ap (λ (c : Check). c >> check i) before ∙ here
+      | inr below ↦ each_below-suc n check ∙ ap (λ (c : Check). c >> check n) (each_below-stop n i check e below before here)
+    ]

@@ -15,7 +15,10 @@ use crate::sections::{section_bytes, section_count};
 pub fn st_name(file: &[u8], table: u32, k: u32) -> u32
     ensures { result ≡ spec.st_name file.now table k }
 {
-    u32_at(section_bytes(file, table), ENTRY_LEN * u64::from(k) + ST_NAME)
+    u32_at(
+        section_bytes(file, table),
+        ENTRY_LEN * u64::from(k) + ST_NAME,
+    )
 }
 
 /// The number of a symbol's section, or a reserved index.
@@ -23,7 +26,10 @@ pub fn st_name(file: &[u8], table: u32, k: u32) -> u32
 pub fn st_shndx(file: &[u8], table: u32, k: u32) -> u16
     ensures { result ≡ spec.st_shndx file.now table k }
 {
-    u16_at(section_bytes(file, table), ENTRY_LEN * u64::from(k) + ST_SHNDX)
+    u16_at(
+        section_bytes(file, table),
+        ENTRY_LEN * u64::from(k) + ST_SHNDX,
+    )
 }
 
 /// A symbol's value.
@@ -31,7 +37,10 @@ pub fn st_shndx(file: &[u8], table: u32, k: u32) -> u16
 pub fn st_value(file: &[u8], table: u32, k: u32) -> u64
     ensures { result ≡ spec.st_value file.now table k }
 {
-    u64_at(section_bytes(file, table), ENTRY_LEN * u64::from(k) + ST_VALUE)
+    u64_at(
+        section_bytes(file, table),
+        ENTRY_LEN * u64::from(k) + ST_VALUE,
+    )
 }
 
 /// The number of the symbol that a relocation names.
@@ -47,7 +56,10 @@ pub fn rela_symbol(file: &[u8], i: u32, k: u32) -> u32
 pub fn group_member(file: &[u8], i: u32, k: u32) -> u32
     ensures { result ≡ spec.group_member file.now i k }
 {
-    u32_at(section_bytes(file, i), GROUP_WORD_LEN * u64::from(k) + GROUP_WORD_LEN)
+    u32_at(
+        section_bytes(file, i),
+        GROUP_WORD_LEN * u64::from(k) + GROUP_WORD_LEN,
+    )
 }
 
 /// How many members a group has.

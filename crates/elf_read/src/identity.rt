@@ -22,9 +22,18 @@ pub fn check_identity(file: &[u8]) -> Result<(), ElfFault>
     let len = file.len() as u64;
     require(FILE_HEADER_LEN <= len, ElfFault::Short(len))?;
     require(u32_at(file, 0) == ELF_MAGIC, ElfFault::NotElf(0))?;
-    require(u8_at(file, EI_CLASS) == ELF_CLASS_64, ElfFault::Class(EI_CLASS))?;
-    require(u8_at(file, EI_DATA) == ELF_DATA_LITTLE, ElfFault::Order(EI_DATA))?;
-    require(u8_at(file, EI_VERSION) == EV_CURRENT, ElfFault::Version(EI_VERSION))?;
+    require(
+        u8_at(file, EI_CLASS) == ELF_CLASS_64,
+        ElfFault::Class(EI_CLASS),
+    )?;
+    require(
+        u8_at(file, EI_DATA) == ELF_DATA_LITTLE,
+        ElfFault::Order(EI_DATA),
+    )?;
+    require(
+        u8_at(file, EI_VERSION) == EV_CURRENT,
+        ElfFault::Version(EI_VERSION),
+    )?;
     require(
         u32_at(file, E_VERSION) == u32::from(EV_CURRENT),
         ElfFault::Version(E_VERSION),

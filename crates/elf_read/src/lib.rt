@@ -37,3 +37,6 @@ pub use entry::{GroupHead, Rela, Section, Segment, Symbol};
 pub use fault::ElfFault;
 pub use kind::Kind;
 pub use view::Elf;
+
+#[cfg(test)]
+mod tests;

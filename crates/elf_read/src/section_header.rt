@@ -96,7 +96,10 @@ pub fn sh_info(file: &[u8], i: u32) -> u32
 pub fn sh_addralign(file: &[u8], i: u32) -> u64
     ensures { result ≡ spec.sh_addralign file.now i }
 {
-    u64_at(headers(file), SECTION_HEADER_LEN * u64::from(i) + SH_ADDRALIGN)
+    u64_at(
+        headers(file),
+        SECTION_HEADER_LEN * u64::from(i) + SH_ADDRALIGN,
+    )
 }
 
 /// How many bytes its entries have.
@@ -104,5 +107,8 @@ pub fn sh_addralign(file: &[u8], i: u32) -> u64
 pub fn sh_entsize(file: &[u8], i: u32) -> u64
     ensures { result ≡ spec.sh_entsize file.now i }
 {
-    u64_at(headers(file), SECTION_HEADER_LEN * u64::from(i) + SH_ENTSIZE)
+    u64_at(
+        headers(file),
+        SECTION_HEADER_LEN * u64::from(i) + SH_ENTSIZE,
+    )
 }

@@ -5,11 +5,11 @@ ghost use Rattle.std.specs.Prelude.{◌≡◌, ◌<◌, ◌≤◌, length};
 ghost use Rattle.elf_read.specs.Sections as spec;
 
 use crate::header::{e_phnum, e_shnum, e_shoff, e_shstrndx, is_core_file};
-use crate::layout::{EH_FRAME, PN_XNUM, SHF_ALLOC, SHF_COMPRESSED, SHN_XINDEX, SHT_NOBITS, SHT_NULL};
-use crate::number::{bytes_at, flag_is_set, text_at};
-use crate::section_header::{
-    sh_flags, sh_info, sh_link, sh_name, sh_offset, sh_size, sh_type,
+use crate::layout::{
+    EH_FRAME, PN_XNUM, SHF_ALLOC, SHF_COMPRESSED, SHN_XINDEX, SHT_NOBITS, SHT_NULL,
 };
+use crate::number::{bytes_at, flag_is_set, text_at};
+use crate::section_header::{sh_flags, sh_info, sh_link, sh_name, sh_offset, sh_size, sh_type};
 
 // How many section headers the file has.
 #[tactic(auto, unfolding(crate::specs::Sections::section_total))]

@@ -6,10 +6,10 @@ ghost use Rattle.elf_read.specs.Sections.{section_count as count_of};
 
 use crate::entry::{GroupHead, Rela, Section, Segment, Symbol};
 use crate::fault::ElfFault;
-use crate::parsing::check_file;
 use crate::kind::Kind;
-use crate::{entries, header, program_header, reading, section_header, sections};
 use crate::number::bytes_at;
+use crate::parsing::check_file;
+use crate::{entries, header, program_header, reading, section_header, sections};
 use sf_model::Arch;
 
 /// An ELF file that was checked. It lends the file's bytes, of which there are fewer than 2^32.
