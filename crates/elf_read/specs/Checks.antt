@@ -1,33 +1,15 @@
 -- The checks of an ELF64 file, in their order, up to the sections' names (ELF64 gABI, "ELF Header",
 -- "Sections", "Program Header"). A check answers what is wrong, with its place in the file.
-use Rattle.std.specs.Prelude.{ℕ, zero, suc, ◌+◌, ◌==◌, Bool, true, false, ◌&&◌, ◌||◌, not, List, length, Result, Ok, Err, nat_lt, nat_le, if◌then◌else◌}
+use Rattle.std.specs.Prelude.{ℕ, ◌==◌, Bool, ◌&&◌, ◌||◌, not, List, length, Result, nat_lt, nat_le}
 use Rattle.elf_read.specs.declared.fault.ElfFault.{ElfFault}
 use Rattle.elf_read.specs.declared.fault.ElfFault.TheVariants.{Short, NotElf, Class, Order, Version, Machine, Kind, EntrySize, Strings, OutOfFile}
+use Rattle.elf_read.specs.Checking.{unless, where_so, ◌>>◌, each_below}
 use Rattle.elf_read.specs.Number.{number_in, lies_in, has_text}
 use Rattle.elf_read.specs.Header.{e_type, e_machine, e_phoff, e_shoff, e_phentsize, e_phnum, e_shentsize, is_core, program_header, p_offset, p_filesz}
 use Rattle.elf_read.specs.Sections.{section_header, sh_name, sh_type, sh_offset, sh_size, section_count, segment_total, has_bytes, section_bytes, name_table}
 
 abbrev pub Check : Type 0
 Check = Result (Unit {0}) ElfFault
-
--- a test that must hold
-abbrev pub unless : Bool → ElfFault → Check
-unless test fault = if test then Ok tt else Err fault
-
--- a check that is made where a test holds
-abbrev pub where_so : Bool → Check → Check
-where_so test check = if test then check else Ok tt
-
--- one check after the other: the first fault counts
-infixl 10 ◌>>◌
-abbrev pub ◌>>◌ : Check → Check → Check
-(Ok x) >> next = next
-(Err e) >> next = Err e
-
--- the same check of the first n items, from 0 on
-unfoldable pub each_below : ℕ → (ℕ → Check) → Check
-each_below zero check = Ok tt
-each_below (suc n) check = each_below n check >> check n
 
 -- the identification, and the fields that say for which machine and of what kind the file is
 unfoldable pub identity_check : List ℕ → Check

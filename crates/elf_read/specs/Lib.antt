@@ -1,4 +1,5 @@
 pub mod Number
+pub mod Checking
 pub mod Header
 pub mod Sections
 pub mod Checks

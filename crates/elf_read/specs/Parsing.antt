@@ -1,9 +1,10 @@
 -- What is checked of an ELF64 file, in order.
-use Rattle.std.specs.Prelude.{◌≡◌, ℕ, List, Result, Ok, Err, if◌then◌else◌}
+use Rattle.std.specs.Prelude.{ℕ, List, Result, Ok, Err, if◌then◌else◌}
 use Rattle.elf_read.specs.declared.fault.ElfFault.{ElfFault}
 use Rattle.elf_read.specs.Header.{is_core}
 use Rattle.elf_read.specs.Sections.{section_count}
-use Rattle.elf_read.specs.Checks.{Check, ◌>>◌, where_so, each_below, identity_check, purpose_check, needs_sections, first_section_check, core_check, sections_check, names_check}
+use Rattle.elf_read.specs.Checking.{◌>>◌, where_so, each_below}
+use Rattle.elf_read.specs.Checks.{Check, identity_check, purpose_check, needs_sections, first_section_check, core_check, sections_check, names_check}
 use Rattle.elf_read.specs.Used.{rela_check, group_check, compressed_check, entries_check}
 
 -- the used sections of a file that is no core file

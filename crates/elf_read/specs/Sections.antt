@@ -1,9 +1,9 @@
 -- Sections, symbols and relocations (ELF64 gABI, "Sections", "String Table", "Symbol Table", "Relocation"
 -- and "Section Groups").
-use Rattle.std.specs.Prelude.{ℕ, true, false, ◌+◌, ◌-◌, ◌*◌, ◌/◌, ◌==◌, Bool, ◌&&◌, ◌||◌, List, [], ◌∷◌, length, drop, Option, Some, None, nat_lt, if◌then◌else◌}
+use Rattle.std.specs.Prelude.{ℕ, true, false, ◌+◌, ◌-◌, ◌*◌, ◌/◌, ◌==◌, Bool, ◌&&◌, List, [], ◌∷◌, length, drop, if◌then◌else◌}
 use Rattle.std.specs.Cmp.Lexicographic.{pointwise}
 use Rattle.elf_read.specs.Number.{number_in, window, has_flag, text_in}
-use Rattle.elf_read.specs.Header.{e_shoff, e_shnum, e_shstrndx, e_phnum, is_core, is_rel}
+use Rattle.elf_read.specs.Header.{e_shoff, e_shnum, e_shstrndx, e_phnum, is_core}
 
 -- the place of a section header
 abbrev pub section_header : List ℕ → ℕ → ℕ

@@ -1,12 +1,12 @@
 -- The checks of the sections that are used: call frame information, its relocations, section groups, and
 -- the symbol and string tables that these name (ELF64 gABI, "Relocation", "Section Groups", "Symbol Table").
-use Rattle.std.specs.Prelude.{ℕ, zero, suc, ◌+◌, ◌*◌, ◌/◌, ◌%◌, ◌==◌, Bool, ◌&&◌, ◌||◌, not, List, length, Option, Some, None, Result, Ok, Err, min, nat_lt, nat_le, if◌then◌else◌}
-use Rattle.elf_read.specs.declared.fault.ElfFault.{ElfFault}
+use Rattle.std.specs.Prelude.{ℕ, zero, suc, ◌+◌, ◌*◌, ◌%◌, ◌==◌, Bool, ◌&&◌, ◌||◌, not, List, Option, Some, None, Ok, Err, min, nat_lt, nat_le, if◌then◌else◌}
 use Rattle.elf_read.specs.declared.fault.ElfFault.TheVariants.{EntrySize, Strings, Compressed, SymbolIndex}
 use Rattle.elf_read.specs.Number.{has_text}
 use Rattle.elf_read.specs.Header.{is_rel}
 use Rattle.elf_read.specs.Sections.{section_header, sh_type, sh_offset, sh_size, sh_link, sh_info, sh_entsize, section_count, section_bytes, is_compressed, is_eh_frame, st_name, st_shndx, rela_symbol, group_member, member_count, entry_count}
-use Rattle.elf_read.specs.Checks.{Check, unless, where_so, ◌>>◌, each_below, is_string_table}
+use Rattle.elf_read.specs.Checking.{unless, where_so, ◌>>◌, each_below}
+use Rattle.elf_read.specs.Checks.{Check, is_string_table}
 
 -- the number of a section that holds call frame information
 unfoldable pub names_eh_frame : List ℕ → ℕ → Bool

@@ -1,7 +1,7 @@
 //! A test that must hold.
 
 ghost use Rattle.std.specs.Prelude.{◌≡◌, OnOk, IsTrue};
-ghost use Rattle.elf_read.specs.Checks.{unless};
+ghost use Rattle.elf_read.specs.Checking.{unless};
 
 use crate::fault::ElfFault;
 

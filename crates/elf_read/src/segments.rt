@@ -2,7 +2,7 @@
 
 ghost use Rattle.std.specs.Prelude.{◌≡◌, ◌<◌, ◌^◌, length};
 ghost use Rattle.elf_read.specs.Checks as spec;
-ghost use Rattle.elf_read.specs.Checks.{each_below};
+ghost use Rattle.elf_read.specs.Checking.{each_below};
 ghost use Rattle.elf_read.specs.Header.{e_phoff as phoff};
 
 use crate::check::require;

@@ -1,5 +1,5 @@
 use Rattle.std.proofs.Common.{◌≡◌, Ok}
-use Rattle.elf_read.specs.Checks.{each_below}
+use Rattle.elf_read.specs.Checking.{each_below}
 use Rattle.elf_read.specs.Checks.{bytes_check}
 use Rattle.elf_read.proofs.names.check_all_bytes.Given as goal
 

@@ -1,5 +1,5 @@
 use Rattle.std.proofs.Common.{◌≡◌, Ok}
-use Rattle.elf_read.specs.Checks.{each_below}
+use Rattle.elf_read.specs.Checking.{each_below}
 use Rattle.elf_read.specs.Used.{entries_check}
 use Rattle.elf_read.proofs.used.check_all_entries.Given as goal
 
