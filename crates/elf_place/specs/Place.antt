@@ -88,8 +88,12 @@ abbrev pub verdict : {X : Type 0} → Result X PlaceFault → Result (Unit {0}) 
 verdict (Ok x) = Ok tt
 verdict (Err e) = Err e
 
+-- a fault is what the check says; that memory ran out says nothing of it
+abbrev pub Fails : PlaceFault → Result (Unit {0}) PlaceFault → Type 0
+Fails NoMemory check = Unit {0}
+Fails e check = check ≡ Err e
+
 -- what a call answered is what the check says, unless memory ran out
 abbrev pub Answers : {X : Type 0} → Result X PlaceFault → Result (Unit {0}) PlaceFault → Type 0
 Answers (Ok x) check = check ≡ Ok tt
-Answers (Err NoMemory) check = Unit {0}
-Answers (Err e) check = check ≡ Err e
+Answers (Err e) check = Fails e check

@@ -37,9 +37,9 @@ fn align_up(from: u128, align: u64) -> u128
     (from + (align - 1)) / align * align
 }
 
-/// Whether the file is an object, whose sections have no addresses of their own.
+// Whether the file is an object, whose sections have no addresses of their own.
 #[tactic(auto, unfolding(elf_read::specs::Header::kind_of))]
-pub fn is_object(elf: &Elf<'_>) -> bool
+fn is_object(elf: &Elf<'_>) -> bool
     ensures { result ≡ is_rel (file elf.now) }
 {
     matches!(elf.kind(), Kind::Rel)
@@ -121,4 +121,12 @@ pub fn addresses_of(
         cursor = spot.cursor;
     }
     Ok(addresses)
+}
+
+/// How far the addresses of a file are from those in its headers.
+#[tactic(auto, unfolding(crate::specs::Place::shift_of))]
+pub fn shift_of(elf: &Elf<'_>, base: u64) -> u64
+    ensures { result ≡ spec.shift_of (file elf.now) base }
+{
+    if is_object(elf) { 0 } else { base }
 }

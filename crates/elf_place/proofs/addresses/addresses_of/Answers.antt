@@ -5,7 +5,7 @@ use Rattle.elf_read.proofs.Each.{each_below-none, each_below-more, each_below-st
 use Rattle.elf_place.specs.Dropped.{values_below}
 use Rattle.elf_place.specs.Place.{cursor_at, cursor_from, address_from, address_of, overflow_from, overflow_check}
 use Rattle.elf_place.proofs.Values.{values_below-none, values_below-more}
-use Rattle.elf_place.proofs.Cursor.{cursor_at-none, cursor_at-more, answers_err}
+use Rattle.elf_place.proofs.Cursor.{cursor_at-none, cursor_at-more, fails}
 use Rattle.elf_place.proofs.addresses.addresses_of.Goals as goal
 
 pub loop-i-init : goal.loop-i-init
@@ -23,7 +23,7 @@ returns-in_err-spot-clause-exact c =
     let here : overflow_check f c.args.dropped.now c.args.base c.loop-i.i ≡ Err c.in_err-spot.field-0.0 =
     ap (λ (k : ℕ). overflow_from f c.args.dropped.now c.args.base k c.loop-i.i) (sym c.loop-i.invariant.0) ∙ sym c.in_err-spot.ensures.exact in
     rw (p.1, p.2)
-    (answers_err c.in_err-spot.field-0.0 _
+    (fails c.in_err-spot.field-0.0 _
     (each_below-stop c.args.count c.loop-i.i (overflow_check f c.args.dropped.now c.args.base) c.in_err-spot.field-0.0 c.loop-i-test.true c.loop-i.invariant.3 here))
 
 pub loop-i-preserved : goal.loop-i-preserved
