@@ -40,12 +40,13 @@ is_member-more file group k i =
 pub marked : (xs : List Bool) (m i : ℕ) (a b : Bool) → i < length xs → get_or xs i false ≡ (a || b) → get_or (set xs m true) i false ≡ (a || (b || (m == i)))
 marked xs m i a b within h =
     elim (cases_eq m i) [
-      inl same ↦
-        let test : (m == i) ≡ true = eq-eqb m i same in
-        rw test (subst (λ (k : ℕ). get_or (set xs m true) k false ≡ (a || (b || true))) same (get_or-set_same xs m true false (subst (λ (k : ℕ). k < length xs) (sym same) within) ∙ or_true_twice a b))
-    | inr differ ↦
-        let test : (m == i) ≡ false = ne_eqb m i differ in
-        rw test (get_or-set_other xs m i true false (λ e. differ (sym e)) ∙ h ∙ ap (λ (z : Bool). a || z) (or_false b)) ]
+      | inl same ↦
+          let test : (m == i) ≡ true = eq-eqb m i same in
+          rw test (subst (λ (k : ℕ). get_or (set xs m true) k false ≡ (a || (b || true))) same (get_or-set_same xs m true false (subst (λ (k : ℕ). k < length xs) (sym same) within) ∙ or_true_twice a b))
+      | inr differ ↦
+          let test : (m == i) ≡ false = ne_eqb m i differ in
+          rw test (get_or-set_other xs m i true false (λ e. differ (sym e)) ∙ h ∙ ap (λ (z : Bool). a || z) (or_false b))
+    ]
 
 pub unmarked : (xs : List Bool) (m i : ℕ) (a b : Bool) → i < length xs → length xs ≤ m → get_or xs i false ≡ (a || b) → get_or xs i false ≡ (a || (b || (m == i)))
 unmarked xs m i a b within past h =

@@ -32,15 +32,16 @@ get_or-values_below {X = X} (suc n) f i d within =
     let upto : i ≤ n = omega arith in
     let len : length (values_below n f) ≡ n = length-values_below n f in
     elim (eq-or-lt_of_le upto) [
-      inl same ↦
-        ap (λ (xs : List X). get_or xs i d) (values_below-suc n f)
-        ∙ ap (λ (k : ℕ). get_or (values_below n f ++ f n ∷ []) k d) (same ∙ sym len)
-        ∙ get_or-append_seam (values_below n f) (f n) [] d
-        ∙ ap f (sym same)
-    | inr below ↦
-        ap (λ (xs : List X). get_or xs i d) (values_below-suc n f)
-        ∙ get_or-append (values_below n f) (f n ∷ []) d i (omega (arith, len))
-        ∙ get_or-values_below n f i d below ]
+      | inl same ↦
+          ap (λ (xs : List X). get_or xs i d) (values_below-suc n f)
+          ∙ ap (λ (k : ℕ). get_or (values_below n f ++ f n ∷ []) k d) (same ∙ sym len)
+          ∙ get_or-append_seam (values_below n f) (f n) [] d
+          ∙ ap f (sym same)
+      | inr below ↦
+          ap (λ (xs : List X). get_or xs i d) (values_below-suc n f)
+          ∙ get_or-append (values_below n f) (f n ∷ []) d i (omega (arith, len))
+          ∙ get_or-values_below n f i d below
+    ]
 
 -- items that are the values make the list of the values
 pub are_values_below : {X : Type 0} → (n : ℕ) (f : ℕ → X) (xs : List X) (d : X) → length xs ≡ n → ((i : ℕ) → i < n → get_or xs i d ≡ f i) → xs ≡ values_below n f

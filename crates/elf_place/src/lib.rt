@@ -18,3 +18,6 @@ mod placed;
 
 pub use fault::PlaceFault;
 pub use placed::Placed;
+
+#[cfg(test)]
+mod tests;

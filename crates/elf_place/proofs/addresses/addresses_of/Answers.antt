@@ -10,11 +10,12 @@ use Rattle.elf_place.proofs.addresses.addresses_of.Goals as goal
 
 pub loop-i-init : goal.loop-i-init
 loop-i-init c =
-    let f = file c.args.elf.now in
-    ( c.from-cursor.ensures ∙ sym (cursor_at-none f c.args.dropped.now c.args.base)
-    , search rules
-    , c.new-addresses.ensures.items ∙ sym (values_below-none (address_of f c.args.dropped.now c.args.base))
-    , each_below-none (overflow_check f c.args.dropped.now c.args.base) )
+    let f = file c.args.elf.now in (
+      c.from-cursor.ensures ∙ sym (cursor_at-none f c.args.dropped.now c.args.base),
+      search rules,
+      c.new-addresses.ensures.items ∙ sym (values_below-none (address_of f c.args.dropped.now c.args.base)),
+      each_below-none (overflow_check f c.args.dropped.now c.args.base),
+    )
 
 pub returns-in_err-spot-clause-exact : goal.returns-in_err-spot-clause-exact
 returns-in_err-spot-clause-exact c =
@@ -32,13 +33,14 @@ loop-i-preserved c =
     let here : overflow_check f c.args.dropped.now c.args.base c.loop-i.i ≡ Ok tt =
     ap (λ (k : ℕ). overflow_from f c.args.dropped.now c.args.base k c.loop-i.i) (sym c.loop-i.invariant.0) ∙ sym c.in_ok-spot.ensures.exact in
     let address : c.in_ok-spot.spot.address ≡ address_of f c.args.dropped.now c.args.base c.loop-i.i =
-    c.in_ok-spot.ensures.address ∙ ap (λ (k : ℕ). address_from f c.args.dropped.now c.args.base k c.loop-i.i) c.loop-i.invariant.0 in
-    ( c.in_ok-spot.ensures.cursor
-    ∙ ap (λ (k : ℕ). cursor_from f c.args.dropped.now c.args.base k c.loop-i.i) c.loop-i.invariant.0
-    ∙ sym (cursor_at-more f c.args.dropped.now c.args.base c.loop-i.i)
-    , c.in_ok-spot.ensures.end
-    , c.in_ok-push.ensures.items
-    ∙ ap (λ (xs : List (Option ℕ)). xs ++ c.in_ok-spot.spot.address ∷ []) c.loop-i.invariant.2
-    ∙ ap (λ (o : Option ℕ). values_below c.loop-i.i (address_of f c.args.dropped.now c.args.base) ++ o ∷ []) address
-    ∙ sym (values_below-more c.loop-i.i (address_of f c.args.dropped.now c.args.base))
-    , each_below-more c.loop-i.i (overflow_check f c.args.dropped.now c.args.base) c.loop-i.invariant.3 here )
+    c.in_ok-spot.ensures.address ∙ ap (λ (k : ℕ). address_from f c.args.dropped.now c.args.base k c.loop-i.i) c.loop-i.invariant.0 in (
+      c.in_ok-spot.ensures.cursor
+          ∙ ap (λ (k : ℕ). cursor_from f c.args.dropped.now c.args.base k c.loop-i.i) c.loop-i.invariant.0
+          ∙ sym (cursor_at-more f c.args.dropped.now c.args.base c.loop-i.i),
+      c.in_ok-spot.ensures.end,
+      c.in_ok-push.ensures.items
+          ∙ ap (λ (xs : List (Option ℕ)). xs ++ c.in_ok-spot.spot.address ∷ []) c.loop-i.invariant.2
+          ∙ ap (λ (o : Option ℕ). values_below c.loop-i.i (address_of f c.args.dropped.now c.args.base) ++ o ∷ []) address
+          ∙ sym (values_below-more c.loop-i.i (address_of f c.args.dropped.now c.args.base)),
+      each_below-more c.loop-i.i (overflow_check f c.args.dropped.now c.args.base) c.loop-i.invariant.3 here,
+    )

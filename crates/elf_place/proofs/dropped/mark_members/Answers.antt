@@ -15,11 +15,12 @@ pub loop-k-preserved : goal.loop-k-preserved
 loop-k-preserved c = λ i within.
     rw (is_member-more (file c.args.elf.now) c.args.group c.loop-k.k i)
     (elim c.if-member-dropped.branch [
-      then-member-dropped w ↦
-        ap (λ (xs : List Bool). get_or xs i false) w.dropped-is
-        ∙ marked c.loop-k.dropped c.member-member.result i (get_or c.args.dropped.now i false) (is_member (file c.args.elf.now) c.args.group c.loop-k.k i) (omega arith) (c.loop-k.invariant i within)
-        ∙ ap (λ (m : ℕ). get_or c.args.dropped.now i false || (is_member (file c.args.elf.now) c.args.group c.loop-k.k i || (m == i))) c.member-member.ensures
-    | else-member-dropped w ↦
-        ap (λ (xs : List Bool). get_or xs i false) w.dropped-is
-        ∙ unmarked c.loop-k.dropped c.member-member.result i (get_or c.args.dropped.now i false) (is_member (file c.args.elf.now) c.args.group c.loop-k.k i) (omega arith) w.if-member-dropped.false (c.loop-k.invariant i within)
-        ∙ ap (λ (m : ℕ). get_or c.args.dropped.now i false || (is_member (file c.args.elf.now) c.args.group c.loop-k.k i || (m == i))) c.member-member.ensures ])
+      | then-member-dropped w ↦
+          ap (λ (xs : List Bool). get_or xs i false) w.dropped-is
+          ∙ marked c.loop-k.dropped c.member-member.result i (get_or c.args.dropped.now i false) (is_member (file c.args.elf.now) c.args.group c.loop-k.k i) (omega arith) (c.loop-k.invariant i within)
+          ∙ ap (λ (m : ℕ). get_or c.args.dropped.now i false || (is_member (file c.args.elf.now) c.args.group c.loop-k.k i || (m == i))) c.member-member.ensures
+      | else-member-dropped w ↦
+          ap (λ (xs : List Bool). get_or xs i false) w.dropped-is
+          ∙ unmarked c.loop-k.dropped c.member-member.result i (get_or c.args.dropped.now i false) (is_member (file c.args.elf.now) c.args.group c.loop-k.k i) (omega arith) w.if-member-dropped.false (c.loop-k.invariant i within)
+          ∙ ap (λ (m : ℕ). get_or c.args.dropped.now i false || (is_member (file c.args.elf.now) c.args.group c.loop-k.k i || (m == i))) c.member-member.ensures
+    ])

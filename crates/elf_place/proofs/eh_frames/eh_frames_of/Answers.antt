@@ -15,9 +15,10 @@ loop-i-preserved c =
     let i = c.loop-i.i in
     rw (eh_frames_below-more f d i)
     (elim c.if-is_kept_eh_frame.branch [
-      then-is_kept_eh_frame+in_ok-push w ↦
-        let test : is_kept_eh_frame f d i ≡ true = sym c.is_kept_eh_frame.ensures ∙ w.if-is_kept_eh_frame.true in
-        rw (test, w.found-is) (w.in_ok-push.ensures.items ∙ ap (λ (xs : List ℕ). xs ++ i ∷ []) c.loop-i.invariant)
-    | else-is_kept_eh_frame w ↦
-        let test : is_kept_eh_frame f d i ≡ false = sym c.is_kept_eh_frame.ensures ∙ w.if-is_kept_eh_frame.false in
-        rw (test, w.found-is) c.loop-i.invariant ])
+      | then-is_kept_eh_frame+in_ok-push w ↦
+          let test : is_kept_eh_frame f d i ≡ true = sym c.is_kept_eh_frame.ensures ∙ w.if-is_kept_eh_frame.true in
+          rw (test, w.found-is) (w.in_ok-push.ensures.items ∙ ap (λ (xs : List ℕ). xs ++ i ∷ []) c.loop-i.invariant)
+      | else-is_kept_eh_frame w ↦
+          let test : is_kept_eh_frame f d i ≡ false = sym c.is_kept_eh_frame.ensures ∙ w.if-is_kept_eh_frame.false in
+          rw (test, w.found-is) c.loop-i.invariant
+    ])
