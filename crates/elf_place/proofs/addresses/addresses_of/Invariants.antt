@@ -1,0 +1,13 @@
+use Rattle.std.proofs.Common.{◌≡◌, ◌≤◌, ◌^◌, ℕ, List, Option, Ok}
+use Rattle.elf_read.specs.Checking.{each_below}
+use Rattle.elf_read.specs.Views.{file}
+use Rattle.elf_place.specs.Dropped.{values_below}
+use Rattle.elf_place.specs.Place.{cursor_at, address_of, overflow_check}
+use Rattle.elf_place.specs.declared.fault.PlaceFault.{PlaceFault}
+use Rattle.elf_place.proofs.addresses.addresses_of.Given as goal
+
+abbrev pub invariant-loop-i : goal.invariant-loop-i
+invariant-loop-i l = (l.cursor ≡ cursor_at (file l.elf) l.dropped l.base l.i)
+    × (l.cursor ≤ 2 ^ 64)
+    × (l.addresses.items ≡ values_below l.i (address_of (file l.elf) l.dropped l.base))
+    × (each_below l.i (overflow_check (file l.elf) l.dropped l.base) ≡ Ok tt)

@@ -1,0 +1,18 @@
+use Rattle.std.proofs.Common.{sym}
+use Rattle.std.proofs.lemmas.Result.{err_from_is_err_and}
+use Rattle.elf_read.specs.Views.{file}
+use Rattle.elf_read.proofs.Each.{each_below-none, each_below-more, each_below-stop}
+use Rattle.elf_place.specs.Place.{align_check}
+use Rattle.elf_place.proofs.checks.check_aligns.Goals as goal
+
+pub loop-i-init : goal.loop-i-init
+loop-i-init c = each_below-none (align_check (file c.args.elf.now) c.args.dropped.now)
+
+pub returns-in_err-check_align : goal.returns-in_err-check_align
+returns-in_err-check_align c =
+    let p = err_from_is_err_and c.from_residual.result c.from_residual.ensures.1 in
+    rw (p.1, p.2)
+    (sym (each_below-stop c.args.count c.loop-i.i (align_check (file c.args.elf.now) c.args.dropped.now) c.in_err-check_align.field-0.0 c.loop-i-test.true c.loop-i.invariant (sym c.in_err-check_align.ensures)))
+
+pub loop-i-preserved : goal.loop-i-preserved
+loop-i-preserved c = each_below-more c.loop-i.i (align_check (file c.args.elf.now) c.args.dropped.now) c.loop-i.invariant (sym c.in_ok-check_align.ensures)

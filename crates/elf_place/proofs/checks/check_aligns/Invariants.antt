@@ -1,0 +1,8 @@
+use Rattle.std.proofs.Common.{◌≡◌, Ok}
+use Rattle.elf_read.specs.Checking.{each_below}
+use Rattle.elf_read.specs.Views.{file}
+use Rattle.elf_place.specs.Place.{align_check}
+use Rattle.elf_place.proofs.checks.check_aligns.Given as goal
+
+abbrev pub invariant-loop-i : goal.invariant-loop-i
+invariant-loop-i l = each_below l.i (align_check (file l.elf) l.dropped) ≡ Ok tt

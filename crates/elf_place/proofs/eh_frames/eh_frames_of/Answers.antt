@@ -1,0 +1,24 @@
+use Rattle.std.proofs.Common.{◌≡◌, ◌++◌, ◌∷◌, [], ℕ, Bool, true, false, List, sym, ap, ◌∙◌}
+use Rattle.elf_read.specs.Views.{file}
+use Rattle.elf_place.specs.Place.{is_kept_eh_frame, eh_frames_below}
+use Rattle.elf_place.proofs.Cursor.{eh_frames_below-none, eh_frames_below-more}
+use Rattle.elf_place.proofs.eh_frames.eh_frames_of.Goals as goal
+use Rattle.elf_place.proofs.eh_frames.eh_frames_of.Goals.{then-is_kept_eh_frame+in_ok-push, else-is_kept_eh_frame}
+
+pub loop-i-init : goal.loop-i-init
+loop-i-init c = c.new-found.ensures.items ∙ sym (eh_frames_below-none (file c.args.elf.now) c.args.dropped.now)
+
+pub loop-i-preserved : goal.loop-i-preserved
+loop-i-preserved c =
+    let f = file c.args.elf.now in
+    let d = c.args.dropped.now in
+    let i = c.loop-i.i in
+    rw (eh_frames_below-more f d i)
+    (elim c.if-is_kept_eh_frame.branch [
+      | then-is_kept_eh_frame+in_ok-push w ↦
+          let test : is_kept_eh_frame f d i ≡ true = sym c.is_kept_eh_frame.ensures ∙ w.if-is_kept_eh_frame.true in
+          rw (test, w.found-is) (w.in_ok-push.ensures.items ∙ ap (λ (xs : List ℕ). xs ++ i ∷ []) c.loop-i.invariant)
+      | else-is_kept_eh_frame w ↦
+          let test : is_kept_eh_frame f d i ≡ false = sym c.is_kept_eh_frame.ensures ∙ w.if-is_kept_eh_frame.false in
+          rw (test, w.found-is) c.loop-i.invariant
+    ])

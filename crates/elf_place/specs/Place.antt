@@ -1,0 +1,99 @@
+-- Where the sections of a file lie (ELF64 gABI, "Sections", sh_addr and sh_addralign). `dropped` says of
+-- each section whether it is dropped.
+use Rattle.std.specs.Prelude.{◌≡◌, ℕ, zero, suc, ◌+◌, ◌-◌, ◌*◌, ◌/◌, ◌^◌, ◌==◌, Bool, false, ◌&&◌, ◌||◌, not, List, [], ◌∷◌, ◌++◌, Option, Some, None, Result, Ok, Err, nat_le, nat_lt, slice_index_or, if◌then◌else◌}
+use Rattle.std.specs.Int.{is_power_of_two}
+use Rattle.elf_read.specs.Checking.{unless, where_so, ◌>>◌, each_below}
+use Rattle.elf_read.specs.Header.{is_rel}
+use Rattle.elf_read.specs.Sections.{sh_type, sh_addr, sh_size, sh_addralign, section_count, is_allocated, is_eh_frame}
+use Rattle.elf_place.specs.declared.fault.PlaceFault.{PlaceFault}
+use Rattle.elf_place.specs.declared.fault.PlaceFault.TheVariants.{Align, AddressOverflow, NoBits, NoMemory}
+use Rattle.elf_place.specs.Dropped.{values_below}
+
+-- a section gets an address where it is loaded and not dropped
+unfoldable pub is_placed : List ℕ → List Bool → ℕ → Bool
+is_placed file dropped i = is_allocated file i && not (slice_index_or dropped i false)
+
+-- no alignment, or a power of two
+abbrev pub is_alignment : ℕ → Bool
+is_alignment align = (align == 0) || is_power_of_two align
+
+unfoldable pub align_check : List ℕ → List Bool → ℕ → Result (Unit {0}) PlaceFault
+align_check file dropped i = where_so (is_placed file dropped i) (unless (is_alignment (sh_addralign file i)) (Align i))
+
+-- the least multiple of the alignment that is not below the number; no alignment counts as 1
+unfoldable pub aligned : ℕ → ℕ → ℕ
+aligned from align = if align == 0 then from else (from + (align - 1)) / align * align
+
+-- where a section starts: in an object at the cursor, as its alignment asks; else at its own address, moved by the base
+unfoldable pub start_from : List ℕ → (base cursor : ℕ) → ℕ → ℕ
+start_from file base cursor i = if is_rel file then aligned cursor (sh_addralign file i) else base + sh_addr file i
+
+-- the cursor behind a section
+unfoldable pub cursor_from : List ℕ → List Bool → (base cursor : ℕ) → ℕ → ℕ
+cursor_from file dropped base cursor i = if is_placed file dropped i then start_from file base cursor i + sh_size file i else cursor
+
+-- the section's address, where it has one
+unfoldable pub address_from : List ℕ → List Bool → (base cursor : ℕ) → ℕ → Option ℕ
+address_from file dropped base cursor i = if is_placed file dropped i then Some (start_from file base cursor i) else None
+
+-- it starts below 2^64 and ends there or before
+abbrev pub is_in_memory : ℕ → ℕ → Bool
+is_in_memory start size = nat_lt start (2 ^ 64) && nat_le (start + size) (2 ^ 64)
+
+unfoldable pub overflow_from : List ℕ → List Bool → (base cursor : ℕ) → ℕ → Result (Unit {0}) PlaceFault
+overflow_from file dropped base cursor i =
+    where_so (is_placed file dropped i) (unless (is_in_memory (start_from file base cursor i) (sh_size file i)) (AddressOverflow i))
+
+-- the cursor before a section: it starts at the base
+unfoldable pub cursor_at : List ℕ → List Bool → ℕ → ℕ → ℕ
+cursor_at file dropped base zero = base
+cursor_at file dropped base (suc i) = cursor_from file dropped base (cursor_at file dropped base i) i
+
+-- a section's address
+abbrev pub address_of : List ℕ → List Bool → ℕ → ℕ → Option ℕ
+address_of file dropped base i = address_from file dropped base (cursor_at file dropped base i) i
+
+abbrev pub overflow_check : List ℕ → List Bool → ℕ → ℕ → Result (Unit {0}) PlaceFault
+overflow_check file dropped base i = overflow_from file dropped base (cursor_at file dropped base i) i
+
+-- the sections with call frame information that are not dropped
+unfoldable pub is_kept_eh_frame : List ℕ → List Bool → ℕ → Bool
+is_kept_eh_frame file dropped i = is_eh_frame file i && not (slice_index_or dropped i false)
+
+-- call frame information has bytes: it isn't of type SHT_NOBITS 8
+unfoldable pub bits_check : List ℕ → List Bool → ℕ → Result (Unit {0}) PlaceFault
+bits_check file dropped i = where_so (is_kept_eh_frame file dropped i) (unless (not (sh_type file i == 8)) (NoBits i))
+
+-- the first fault: of the alignments, of the addresses, of the call frame information
+unfoldable pub place_check : List ℕ → List Bool → ℕ → Result (Unit {0}) PlaceFault
+place_check file dropped base =
+    each_below (section_count file) (align_check file dropped)
+    >> each_below (section_count file) (overflow_check file dropped base)
+    >> each_below (section_count file) (bits_check file dropped)
+
+abbrev pub with_one : Bool → ℕ → List ℕ → List ℕ
+with_one kept i before = if kept then before ++ i ∷ [] else before
+
+-- the numbers below n of sections with call frame information that are not dropped
+unfoldable pub eh_frames_below : List ℕ → List Bool → ℕ → List ℕ
+eh_frames_below file dropped zero = []
+eh_frames_below file dropped (suc n) = with_one (is_kept_eh_frame file dropped n) n (eh_frames_below file dropped n)
+
+-- how far a section's address is from the one in its header, where that is no object's
+unfoldable pub shift_of : List ℕ → ℕ → ℕ
+shift_of file base = if is_rel file then 0 else base
+
+-- what a call answered, without its value
+abbrev pub verdict : {X : Type 0} → Result X PlaceFault → Result (Unit {0}) PlaceFault
+verdict (Ok x) = Ok tt
+verdict (Err e) = Err e
+
+-- a fault is what the check says; that memory ran out says nothing of it
+abbrev pub Fails : PlaceFault → Result (Unit {0}) PlaceFault → Type 0
+Fails NoMemory check = Unit {0}
+Fails e check = check ≡ Err e
+
+-- what a call answered is what the check says, unless memory ran out
+abbrev pub Answers : {X : Type 0} → Result X PlaceFault → Result (Unit {0}) PlaceFault → Type 0
+Answers (Ok x) check = check ≡ Ok tt
+Answers (Err e) check = Fails e check

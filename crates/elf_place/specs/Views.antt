@@ -1,0 +1,26 @@
+-- What is seen of a file whose sections are placed.
+use Rattle.std.specs.Prelude.{ℕ, false, Bool, List, Option, None, slice_index_or}
+use Rattle.elf_read.specs.Views.{file as file_of}
+use Rattle.elf_place.specs.declared.placed.Placed.{Placed}
+
+-- the bytes of the whole file
+abbrev pub file : Placed → List ℕ
+file p = file_of p.elf
+
+-- the address of each section, where it has one
+abbrev pub addresses : Placed → List (Option ℕ)
+addresses p = p.addresses.items
+
+-- for each section whether it is dropped
+abbrev pub dropped : Placed → List Bool
+dropped p = p.dropped.items
+
+-- the numbers of the sections with call frame information
+abbrev pub eh_frames : Placed → List ℕ
+eh_frames p = p.eh_frames.items
+
+abbrev pub address_in : Placed → ℕ → Option ℕ
+address_in p i = slice_index_or p.addresses.items i None
+
+abbrev pub is_dropped_in : Placed → ℕ → Bool
+is_dropped_in p i = slice_index_or p.dropped.items i false

@@ -1,0 +1,28 @@
+//! The sections with call frame information.
+
+ghost use Rattle.std.specs.Prelude.{◌≡◌, length, IfOk};
+ghost use Rattle.elf_read.specs.Views.{file};
+ghost use Rattle.elf_place.specs.Place as spec;
+
+use crate::checks::is_kept_eh_frame;
+use elf_read::Elf;
+use std::alloc::{AllocError, Global};
+
+/// The numbers of the sections with call frame information that are not dropped, in order.
+pub fn eh_frames_of(
+    alloc: Global,
+    elf: &Elf<'_>,
+    dropped: &[bool],
+    count: u32,
+) -> Result<Vec<u32>, AllocError>
+    requires { count ≡ length dropped.now }
+    ensures { IfOk result (λ v. v.items ≡ spec.eh_frames_below (file elf.now) dropped.now count) }
+{
+    let mut found = Vec::new(alloc);
+    for i in 0..count {
+        if is_kept_eh_frame(elf, dropped, i) {
+            found.push(i)?;
+        }
+    }
+    Ok(found)
+}

@@ -1,0 +1,107 @@
+//! A file whose sections are placed.
+
+use crate::addresses::{addresses_of, shift_of};
+use crate::checks::{check_aligns, check_all_bits};
+use crate::dropped::dropped_sections;
+use crate::eh_frames::eh_frames_of;
+use crate::fault::PlaceFault;
+use elf_read::Elf;
+use std::alloc::Global;
+
+/// An ELF file with the addresses of its sections.
+#[derive(Debug, Drop)]
+pub struct Placed<'a> {
+    elf: Elf<'a>,
+    shift: u64,
+    dropped: Vec<bool>,
+    addresses: Vec<Option<u64>>,
+    eh_frames: Vec<u32>,
+}
+
+impl<'a> Placed<'a> {
+    ghost use Rattle.std.specs.Prelude.{◌≡◌, ◌<◌, IfOk, length};
+    ghost use Rattle.elf_read.specs.Sections.{section_count};
+    ghost use Rattle.elf_read.specs.Views.{file as file_of};
+    ghost use Rattle.elf_place.specs.Dropped as drops;
+    ghost use Rattle.elf_place.specs.Place as spec;
+    ghost use Rattle.elf_place.specs.Dropped.{values_below};
+    ghost use Rattle.elf_place.specs.Views as seen;
+
+    /// Places the sections of a file that is loaded at `base`. `gone` are the numbers of its groups that are
+    /// dropped: their members get no address.
+    ///
+    /// In an object the sections that are loaded follow one another from the base on, each at the least
+    /// multiple of its alignment; in another file each lies at its own address, moved by the base.
+    #[tactic(auto, unfolding(crate::specs::Place::place_check))]
+    pub fn new(
+        alloc: Global,
+        elf: &Elf<'a>,
+        base: u64,
+        gone: &[u32],
+    ) -> Result<Placed<'a>, PlaceFault>
+        // The file, and how far its addresses are moved.
+        ensures file { IfOk result (λ p. seen.file p ≡ file_of elf.now) }
+        ensures shift { IfOk result (λ p. p.shift ≡ spec.shift_of (file_of elf.now) base) }
+        // What is dropped, the addresses, and the call frame information.
+        ensures dropped { IfOk result (λ p. seen.dropped p ≡ drops.dropped_sections (file_of elf.now) gone.now) }
+        ensures addresses { IfOk result (λ p. seen.addresses p ≡ values_below (section_count (file_of elf.now)) (spec.address_of (file_of elf.now) (drops.dropped_sections (file_of elf.now) gone.now) base)) }
+        ensures eh_frames { IfOk result (λ p. seen.eh_frames p ≡ spec.eh_frames_below (file_of elf.now) (drops.dropped_sections (file_of elf.now) gone.now) (section_count (file_of elf.now))) }
+        // It is placed exactly where no check fails; else the fault is the first, unless memory ran out.
+        ensures exact { spec.Answers result (spec.place_check (file_of elf.now) (drops.dropped_sections (file_of elf.now) gone.now) base) }
+    {
+        let count = elf.sections();
+        let dropped = dropped_sections(alloc, elf, gone)?;
+        check_aligns(elf, &dropped, count)?;
+        let addresses = addresses_of(alloc, elf, base, &dropped, count)?;
+        check_all_bits(elf, &dropped, count)?;
+        let eh_frames = eh_frames_of(alloc, elf, &dropped, count)?;
+        Ok(Placed {
+            elf: *elf,
+            shift: shift_of(elf, base),
+            dropped,
+            addresses,
+            eh_frames,
+        })
+    }
+
+    /// The address of a section, or none where it has none: it is not loaded, or it is dropped.
+    pub fn address(&self, i: u32) -> Option<u64>
+        ensures { result ≡ seen.address_in self.now i }
+    {
+        match self.addresses.get(i as usize) {
+            Some(address) => *address,
+            None => None,
+        }
+    }
+
+    /// How far the addresses are from those in the file: the base, or 0 in an object.
+    pub fn shift(&self) -> u64
+        ensures { result ≡ self.now.shift }
+    {
+        self.shift
+    }
+
+    /// The numbers of the sections with call frame information, in order.
+    pub fn eh_frames(&self) -> &[u32]
+        ensures { result.now ≡ seen.eh_frames self.now }
+    {
+        self.eh_frames.as_slice()
+    }
+
+    /// The file.
+    pub fn elf(&self) -> &Elf<'a>
+        ensures { file_of result.now ≡ seen.file self.now }
+    {
+        &self.elf
+    }
+
+    /// Whether a section is dropped with its group.
+    pub fn dropped(&self, i: u32) -> bool
+        ensures { result ≡ seen.is_dropped_in self.now i }
+    {
+        match self.dropped.get(i as usize) {
+            Some(dropped) => *dropped,
+            None => false,
+        }
+    }
+}

@@ -1,0 +1,27 @@
+-- The same check of each item below a number: how a loop over the items follows it.
+use Rattle.std.proofs.Common.{◌≡◌, ℕ, zero, suc, ◌+◌, ◌<◌, ◌≤◌, Result, Ok, Err, refl, sym, ap, ◌∙◌, arith, inl, inr}
+use Rattle.std.proofs.Math.Nat.{eq-or-lt_of_le}
+use Rattle.elf_read.specs.Checking.{◌>>◌, each_below}
+
+each_below-suc : {E : Type 0} → (n : ℕ) (check : ℕ → Result (Unit {0}) E) → each_below (suc n) check ≡ (each_below n check >> check n)
+unfolding each_below
+each_below-suc n check = refl
+
+pub each_below-none : {E : Type 0} → (check : ℕ → Result (Unit {0}) E) → each_below 0 check ≡ Ok tt
+unfolding each_below
+each_below-none check = refl
+
+pub each_below-more : {E : Type 0} → (i : ℕ) (check : ℕ → Result (Unit {0}) E) → each_below i check ≡ Ok tt → check i ≡ Ok tt → each_below (i + 1) check ≡ Ok tt
+each_below-more {E = E} i check before here =
+    let next : i + 1 ≡ suc i = omega arith in
+    ap (λ (n : ℕ). each_below n check) next ∙ each_below-suc i check ∙ ap (λ (c : Result (Unit {0}) E). c >> check i) before ∙ here
+
+-- an item that fails behind items that don't is the fault of all
+pub each_below-stop : {E : Type 0} → (n i : ℕ) (check : ℕ → Result (Unit {0}) E) (e : E) → i < n → each_below i check ≡ Ok tt → check i ≡ Err e → each_below n check ≡ Err e
+each_below-stop {E = E} zero i check e within before here = absurd (omega arith)
+each_below-stop {E = E} (suc n) i check e within before here =
+    let upto : i ≤ n = omega arith in
+    elim (eq-or-lt_of_le upto) [
+      | inl same ↦ each_below-suc n check ∙ ap (λ (k : ℕ). each_below k check >> check k) (sym same) ∙ ap (λ (c : Result (Unit {0}) E). c >> check i) before ∙ here
+      | inr below ↦ each_below-suc n check ∙ ap (λ (c : Result (Unit {0}) E). c >> check n) (each_below-stop n i check e below before here)
+    ]

@@ -1,0 +1,37 @@
+-- Numbers and bytes at places (ELF64 gABI, "Data Representation"): little-endian, without sign.
+use Rattle.std.specs.Prelude.{ℕ, ◌+◌, ◌*◌, ◌/◌, ◌%◌, ◌==◌, Bool, List, length, take, drop, Option, Some, None, is_some, nat_lt, nat_le, if◌then◌else◌}
+use Rattle.std.specs.List.{position}
+use Rattle.byteorder.specs.Endian.{little_number}
+
+-- the number in the first bytes, where there are as many
+unfoldable pub front_number : ℕ → List ℕ → ℕ
+front_number width bytes = if nat_lt (length bytes) width then 0 else little_number width bytes
+
+-- the number of so many bytes at a place, where the bytes go that far
+abbrev pub number_in : ℕ → ℕ → List ℕ → ℕ
+number_in width place bytes = front_number width (drop place bytes)
+
+-- so many bytes from a place on
+abbrev pub window : ℕ → ℕ → List ℕ → List ℕ
+window place size bytes = take size (drop place bytes)
+
+-- whether so many entries of a length from a place on lie in so many bytes
+abbrev pub lies_in : ℕ → ℕ → ℕ → ℕ → Bool
+lies_in len place count entry = nat_le (place + entry * count) len
+
+-- whether a flag that is a power of two is set
+abbrev pub has_flag : ℕ → ℕ → Bool
+has_flag flags flag = flags / flag % 2 == 1
+
+-- the bytes before the first zero byte, or all of them
+abbrev pub upto : Option ℕ → List ℕ → List ℕ
+upto None bytes = bytes
+upto (Some n) bytes = take n bytes
+
+-- the text that begins at a place of a string table (ELF64 gABI, "String Table")
+unfoldable pub text_in : ℕ → List ℕ → List ℕ
+text_in place table = upto (position (λ b. b == 0) (drop place table)) (drop place table)
+
+-- whether a text begins at that place of the table and ends there with a zero byte
+unfoldable pub has_text : ℕ → List ℕ → Bool
+has_text place table = is_some (position (λ b. b == 0) (drop place table))

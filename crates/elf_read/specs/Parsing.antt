@@ -1,0 +1,34 @@
+-- What is checked of an ELF64 file, in order.
+use Rattle.std.specs.Prelude.{ℕ, List, Result, Ok, Err, if◌then◌else◌}
+use Rattle.elf_read.specs.declared.fault.ElfFault.{ElfFault}
+use Rattle.elf_read.specs.Header.{is_core}
+use Rattle.elf_read.specs.Sections.{section_count}
+use Rattle.elf_read.specs.Checking.{◌>>◌, where_so, each_below}
+use Rattle.elf_read.specs.Checks.{Check, identity_check, purpose_check, needs_sections, first_section_check, core_check, sections_check, names_check}
+use Rattle.elf_read.specs.Used.{rela_check, group_check, compressed_check, entries_check}
+
+-- the used sections of a file that is no core file
+unfoldable pub used_check : List ℕ → Check
+used_check file =
+    each_below (section_count file) (rela_check file)
+    >> each_below (section_count file) (group_check file)
+    >> compressed_check file
+    >> each_below (section_count file) (entries_check file)
+
+-- section 0's header, where it is needed
+unfoldable pub table_check : List ℕ → Check
+table_check file = where_so (needs_sections file) (first_section_check file)
+
+-- everything behind the file header and section 0's header
+unfoldable pub content_check : List ℕ → Check
+content_check file = if is_core file then core_check file else (sections_check file >> names_check file >> used_check file)
+
+-- all checks: the first that fails is the file's fault
+unfoldable pub file_check : List ℕ → Check
+file_check file =
+    identity_check file >> purpose_check file >> table_check file >> content_check file
+
+-- whether a call that answers something answered what the checks say
+abbrev pub verdict : {X : Type 0} → Result X ElfFault → Check
+verdict (Ok x) = Ok tt
+verdict (Err e) = Err e

@@ -1,0 +1,30 @@
+//! Why a file is refused.
+
+/// A refused ELF file, with the place of what is wrong, in bytes from the file's start.
+#[derive(Clone, Copy, Debug, PartialEq, Eq)]
+pub enum ElfFault {
+    /// The file has fewer bytes than its header; the place is the file's length.
+    Short(u64),
+    /// The file doesn't begin with the ELF identification.
+    NotElf(u64),
+    /// The file isn't of class ELFCLASS64.
+    Class(u64),
+    /// The file isn't little-endian.
+    Order(u64),
+    /// The version isn't EV_CURRENT.
+    Version(u64),
+    /// The machine is neither EM_X86_64 nor EM_AARCH64.
+    Machine(u64),
+    /// The type is none of ET_REL, ET_EXEC, ET_DYN and ET_CORE.
+    Kind(u64),
+    /// Entries have another length than the format's, or a table isn't made of whole entries.
+    EntrySize(u64),
+    /// A name doesn't stand in a string table.
+    Strings(u64),
+    /// Headers or bytes don't lie in the file.
+    OutOfFile(u64),
+    /// A section that is used is compressed.
+    Compressed(u64),
+    /// A symbol, a symbol's section or a group's member isn't in the file.
+    SymbolIndex(u64),
+}

@@ -1,0 +1,42 @@
+//! ELF64 files of both machines and all four kinds (ELF64 gABI), little-endian, as views over lent bytes.
+//!
+//! [`Elf::parse`] checks a file once, in a fixed order of checks, and the first that fails is the fault,
+//! with its place. What it answers lends the file's bytes: sections, segments, symbols, relocations and
+//! groups are read from their places when they are asked for.
+//!
+//! The meaning of a file is its list of bytes. Each field is a function of it (`specs/Header.antt`,
+//! `specs/Sections.antt`), and so is each check (`specs/Checks.antt`, `specs/Used.antt`,
+//! `specs/Parsing.antt`): `parse` answers Ok exactly where no check fails, and the accessors give the
+//! fields.
+//!
+//! The caller owes a file of fewer than 2^32 bytes. Nothing takes memory. The checks go once over the
+//! headers, and once over the relocations and group members that are used.
+#![tactic(auto)]
+
+mod check;
+mod compressed;
+mod entries;
+mod entry;
+mod fault;
+mod header;
+mod identity;
+mod kind;
+mod layout;
+mod names;
+mod number;
+mod parsing;
+mod program_header;
+mod reading;
+mod section_header;
+mod sections;
+mod segments;
+mod used;
+mod view;
+
+pub use entry::{GroupHead, Rela, Section, Segment, Symbol};
+pub use fault::ElfFault;
+pub use kind::Kind;
+pub use view::Elf;
+
+#[cfg(test)]
+mod tests;

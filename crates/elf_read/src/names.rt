@@ -1,0 +1,113 @@
+//! Checks of the section headers and of the sections' names.
+
+ghost use Rattle.std.specs.Prelude.{◌≡◌, ◌<◌, ◌≤◌, ◌+◌, ◌*◌, ◌^◌, length, OnOk};
+ghost use Rattle.elf_read.specs.Checks as spec;
+ghost use Rattle.elf_read.specs.Checking.{each_below};
+ghost use Rattle.elf_read.specs.Header.{e_shoff as shoff};
+ghost use Rattle.elf_read.specs.Sections as counts;
+
+use crate::check::require;
+use crate::fault::ElfFault;
+use crate::header::e_shoff;
+use crate::layout::{E_SHOFF, E_SHSTRNDX, SHT_STRTAB};
+use crate::number::{lies, text_stands};
+use crate::section_header::{header_place, sh_name, sh_offset, sh_size, sh_type};
+use crate::sections::{has_bytes, name_table, section_bytes, section_count};
+
+// A section's bytes lie in the file.
+#[tactic(auto, unfolding(crate::specs::Checks::bytes_check))]
+fn check_bytes(file: &[u8], i: u32) -> Result<(), ElfFault>
+    requires { shoff file.now < 2 ^ 32 }
+    ensures { result ≡ spec.bytes_check file.now i }
+{
+    if !has_bytes(file, i) {
+        return Ok(());
+    }
+    require(
+        lies(file.len() as u64, sh_offset(file, i), sh_size(file, i), 1),
+        ElfFault::OutOfFile(header_place(file, i)),
+    )
+}
+
+// The bytes of each section lie in the file.
+fn check_all_bytes(file: &[u8], count: u32) -> Result<(), ElfFault>
+    requires { shoff file.now < 2 ^ 32 }
+    ensures { result ≡ each_below count (spec.bytes_check file.now) }
+{
+    for i in 0..count {
+        check_bytes(file, i)?;
+    }
+    Ok(())
+}
+
+/// The section headers and the sections' bytes.
+#[tactic(auto, unfolding(crate::specs::Checks::sections_check))]
+pub fn check_sections(file: &[u8]) -> Result<(), ElfFault>
+    requires { length file.now < 2 ^ 32 }
+    ensures check { result ≡ spec.sections_check file.now }
+    ensures headers { OnOk result (shoff file.now + 64 * counts.section_count file.now ≤ length file.now) }
+{
+    let count = section_count(file);
+    require(
+        lies(file.len() as u64, e_shoff(file), count, 64),
+        ElfFault::OutOfFile(E_SHOFF),
+    )?;
+    check_all_bytes(file, count as u32)
+}
+
+/// Whether a number is that of a string table.
+#[tactic(auto, unfolding(crate::specs::Checks::is_string_table))]
+pub fn is_string_table(file: &[u8], i: u32) -> bool
+    ensures { result ≡ spec.is_string_table file.now i }
+{
+    u64::from(i) < section_count(file) && sh_type(file, i) == SHT_STRTAB
+}
+
+// A section's name stands in the name table.
+#[tactic(auto, unfolding(crate::specs::Checks::name_check))]
+fn check_name(file: &[u8], i: u32) -> Result<(), ElfFault>
+    requires { shoff file.now < 2 ^ 32 }
+    ensures { result ≡ spec.name_check file.now i }
+{
+    let names = section_bytes(file, name_table(file));
+    require(
+        text_stands(names, u64::from(sh_name(file, i))),
+        ElfFault::Strings(header_place(file, i)),
+    )
+}
+
+// The name of each section stands in the name table.
+fn check_all_names(file: &[u8], count: u32) -> Result<(), ElfFault>
+    requires { shoff file.now < 2 ^ 32 }
+    ensures { result ≡ each_below count (spec.name_check file.now) }
+{
+    for i in 0..count {
+        check_name(file, i)?;
+    }
+    Ok(())
+}
+
+// Whether there are sections with names.
+#[tactic(auto, unfolding(crate::specs::Checks::has_names))]
+fn has_names(file: &[u8]) -> bool
+    ensures { result ≡ spec.has_names file.now }
+{
+    section_count(file) != 0 && name_table(file) != 0
+}
+
+/// The name table, and the sections' names.
+#[tactic(auto, unfolding(crate::specs::Checks::names_check))]
+pub fn check_names(file: &[u8], count: u32) -> Result<(), ElfFault>
+    requires count { count ≡ counts.section_count file.now }
+    requires small { shoff file.now < 2 ^ 32 }
+    ensures { result ≡ spec.names_check file.now }
+{
+    if !has_names(file) {
+        return Ok(());
+    }
+    require(
+        is_string_table(file, name_table(file)),
+        ElfFault::Strings(E_SHSTRNDX),
+    )?;
+    check_all_names(file, count)
+}

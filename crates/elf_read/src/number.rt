@@ -1,0 +1,120 @@
+//! Numbers and bytes at places. What lies past the end reads as 0 or as no bytes; the checks rule it out.
+
+ghost use Rattle.std.specs.Prelude.{◌≡◌, ◌==◌, ◌<◌, ◌≤◌, ◌-◌, drop, length, is_some};
+ghost use Rattle.std.specs.List.{position};
+ghost use Rattle.elf_read.specs.Number.{front_number, number_in, window, lies_in, has_flag, text_in, has_text};
+
+use byteorder::{ByteOrder, LittleEndian};
+
+/// The bytes from a place on.
+pub fn bytes_from(bytes: &[u8], place: u64) -> &[u8]
+    ensures rest { result.now ≡ drop place bytes.now }
+    ensures len { length result.now ≡ length bytes.now - place }
+{
+    match bytes.get(place as usize..) {
+        Some(rest) => rest,
+        None => &[],
+    }
+}
+
+/// So many bytes from a place on.
+pub fn bytes_at(bytes: &[u8], place: u64, size: u64) -> &[u8]
+    ensures bytes { result.now ≡ window place size bytes.now }
+    ensures within { 0 < length result.now → place < length bytes.now }
+    ensures small { length result.now ≤ length bytes.now }
+{
+    let rest = bytes_from(bytes, place);
+    match rest.get(..size as usize) {
+        Some(front) => front,
+        None => rest,
+    }
+}
+
+/// The byte at a place.
+#[tactic(auto, unfolding(crate::specs::Number::front_number))]
+pub fn u8_at(bytes: &[u8], place: u64) -> u8
+    ensures { result ≡ number_in 1 place bytes.now }
+{
+    match bytes_from(bytes, place) {
+        [byte, ..] => *byte,
+        [] => 0,
+    }
+}
+
+/// The number in two bytes at a place.
+#[tactic(auto, unfolding(crate::specs::Number::front_number))]
+pub fn u16_at(bytes: &[u8], place: u64) -> u16
+    ensures { result ≡ number_in 2 place bytes.now }
+{
+    let rest = bytes_from(bytes, place);
+    if rest.len() < 2 {
+        return 0;
+    }
+    LittleEndian::read_u16(rest)
+}
+
+/// The number in four bytes at a place.
+#[tactic(auto, unfolding(crate::specs::Number::front_number))]
+pub fn u32_at(bytes: &[u8], place: u64) -> u32
+    ensures { result ≡ number_in 4 place bytes.now }
+{
+    let rest = bytes_from(bytes, place);
+    if rest.len() < 4 {
+        return 0;
+    }
+    LittleEndian::read_u32(rest)
+}
+
+/// The number in eight bytes at a place.
+#[tactic(auto, unfolding(crate::specs::Number::front_number))]
+pub fn u64_at(bytes: &[u8], place: u64) -> u64
+    ensures { result ≡ number_in 8 place bytes.now }
+{
+    let rest = bytes_from(bytes, place);
+    if rest.len() < 8 {
+        return 0;
+    }
+    LittleEndian::read_u64(rest)
+}
+
+/// Whether so many entries of a length from a place on lie in so many bytes.
+pub fn lies(len: u64, place: u64, count: u64, entry: u32) -> bool
+    ensures { result ≡ lies_in len place count entry }
+{
+    u128::from(place) + u128::from(entry) * u128::from(count) <= u128::from(len)
+}
+
+/// Whether a flag that is a power of two is set.
+pub fn flag_is_set(flags: u64, flag: u64) -> bool
+    requires { 0 < flag }
+    ensures { result ≡ has_flag flags flag }
+{
+    flags / flag % 2 == 1
+}
+
+// How many bytes stand before the first zero byte.
+fn text_len(bytes: &[u8]) -> Option<usize>
+    ensures { result ≡ position (λ b. b == 0) bytes.now }
+{
+    bytes.iter().position(|byte| *byte == 0)
+}
+
+/// The text that begins at a place of a string table.
+#[tactic(auto, unfolding(crate::specs::Number::text_in))]
+pub fn text_at(table: &[u8], place: u64) -> &[u8]
+    ensures { result.now ≡ text_in place table.now }
+{
+    let rest = bytes_from(table, place);
+    match text_len(rest) {
+        Some(len) => rest.split_at(len).0,
+        None => rest,
+    }
+}
+
+/// Whether a text begins at that place of a string table and ends there with a zero byte.
+#[tactic(auto, unfolding(crate::specs::Number::has_text))]
+pub fn text_stands(table: &[u8], place: u64) -> bool
+    ensures { result ≡ has_text place table.now }
+{
+    text_len(bytes_from(table, place)).is_some()
+}

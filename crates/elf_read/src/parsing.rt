@@ -1,0 +1,69 @@
+//! All checks of a file, in their order.
+
+ghost use Rattle.std.specs.Prelude.{◌≡◌, ◌<◌, ◌^◌, length, OnOk};
+ghost use Rattle.elf_read.specs.Header.{e_shoff as shoff};
+ghost use Rattle.elf_read.specs.Sections as fields;
+ghost use Rattle.elf_read.specs.Parsing as spec;
+
+use crate::compressed::check_compressed;
+use crate::fault::ElfFault;
+use crate::header::is_core_file;
+use crate::identity::{check_first_section, check_identity, check_purpose, needs_sections};
+use crate::names::{check_names, check_sections};
+use crate::sections::section_count;
+use crate::segments::check_core;
+use crate::used::{check_all_entries, check_groups, check_relas};
+
+// Section 0's header, where it is needed.
+#[tactic(auto, unfolding(crate::specs::Parsing::table_check))]
+fn check_table(file: &[u8]) -> Result<(), ElfFault>
+    ensures { result ≡ spec.table_check file.now }
+{
+    if !needs_sections(file) {
+        return Ok(());
+    }
+    check_first_section(file)
+}
+
+// The sections that are used.
+#[tactic(auto, unfolding(crate::specs::Parsing::used_check))]
+fn check_used(file: &[u8], count: u32) -> Result<(), ElfFault>
+    requires small { length file.now < 2 ^ 32 }
+    requires headers { shoff file.now < 2 ^ 32 }
+    requires count { count ≡ fields.section_count file.now }
+    ensures { result ≡ spec.used_check file.now }
+{
+    check_relas(file, count)?;
+    check_groups(file, count)?;
+    check_compressed(file, count)?;
+    check_all_entries(file, count)
+}
+
+// The segments of a core file, or the sections of another.
+#[tactic(auto, unfolding(crate::specs::Parsing::content_check, crate::specs::Sections::section_count))]
+fn check_content(file: &[u8]) -> Result<(), ElfFault>
+    requires { length file.now < 2 ^ 32 }
+    ensures check { result ≡ spec.content_check file.now }
+    ensures count { OnOk result (fields.section_count file.now < 2 ^ 32) }
+{
+    if is_core_file(file) {
+        return check_core(file);
+    }
+    check_sections(file)?;
+    let count = section_count(file) as u32;
+    check_names(file, count)?;
+    check_used(file, count)
+}
+
+/// All checks of a file: the first that fails is its fault.
+#[tactic(auto, unfolding(crate::specs::Parsing::file_check))]
+pub fn check_file(file: &[u8]) -> Result<(), ElfFault>
+    requires { length file.now < 2 ^ 32 }
+    ensures check { result ≡ spec.file_check file.now }
+    ensures count { OnOk result (fields.section_count file.now < 2 ^ 32) }
+{
+    check_identity(file)?;
+    check_purpose(file)?;
+    check_table(file)?;
+    check_content(file)
+}

@@ -1,0 +1,56 @@
+//! Program headers.
+
+ghost use Rattle.std.specs.Prelude.{◌≡◌, ◌<◌, ◌^◌, drop};
+ghost use Rattle.elf_read.specs.Header as spec;
+ghost use Rattle.elf_read.specs.Header.{e_phoff as phoff, program_header};
+
+use crate::header::e_phoff;
+use crate::layout::{P_FILESZ, P_OFFSET, P_TYPE, P_VADDR, PROGRAM_HEADER_LEN};
+use crate::number::{bytes_from, u32_at, u64_at};
+
+// The program headers, and what stands behind them.
+fn headers(file: &[u8]) -> &[u8]
+    ensures { result.now ≡ drop (phoff file.now) file.now }
+{
+    bytes_from(file, e_phoff(file))
+}
+
+/// The place of a program header.
+pub fn header_place(file: &[u8], i: u32) -> u64
+    requires { phoff file.now < 2 ^ 32 }
+    ensures { result ≡ program_header file.now i }
+{
+    e_phoff(file) + PROGRAM_HEADER_LEN * u64::from(i)
+}
+
+/// Its type.
+#[tactic(auto, unfolding(crate::specs::Header::p_type))]
+pub fn p_type(file: &[u8], i: u32) -> u32
+    ensures { result ≡ spec.p_type file.now i }
+{
+    u32_at(headers(file), PROGRAM_HEADER_LEN * u64::from(i) + P_TYPE)
+}
+
+/// The place of its bytes in the file.
+#[tactic(auto, unfolding(crate::specs::Header::p_offset))]
+pub fn p_offset(file: &[u8], i: u32) -> u64
+    ensures { result ≡ spec.p_offset file.now i }
+{
+    u64_at(headers(file), PROGRAM_HEADER_LEN * u64::from(i) + P_OFFSET)
+}
+
+/// Its address.
+#[tactic(auto, unfolding(crate::specs::Header::p_vaddr))]
+pub fn p_vaddr(file: &[u8], i: u32) -> u64
+    ensures { result ≡ spec.p_vaddr file.now i }
+{
+    u64_at(headers(file), PROGRAM_HEADER_LEN * u64::from(i) + P_VADDR)
+}
+
+/// How many bytes it has in the file.
+#[tactic(auto, unfolding(crate::specs::Header::p_filesz))]
+pub fn p_filesz(file: &[u8], i: u32) -> u64
+    ensures { result ≡ spec.p_filesz file.now i }
+{
+    u64_at(headers(file), PROGRAM_HEADER_LEN * u64::from(i) + P_FILESZ)
+}

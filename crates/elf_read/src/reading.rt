@@ -1,0 +1,116 @@
+//! What a file's tables hold, read as values.
+
+ghost use Rattle.std.specs.Prelude.{◌≡◌, ◌<◌, ◌^◌, length};
+ghost use Rattle.std.specs.Option.{option_map};
+ghost use Rattle.elf_read.specs.Sections as fields;
+ghost use Rattle.elf_read.specs.Views as spec;
+
+use crate::entries::{member_count, rela_symbol, st_name, st_shndx, st_value};
+use crate::entry::{GroupHead, Rela, Section, Symbol};
+use crate::layout::{ENTRY_LEN, R_ADDEND, R_TYPE, SHN_LORESERVE};
+use crate::number::{text_at, u32_at, u64_at};
+use crate::section_header::{
+    sh_addr, sh_addralign, sh_entsize, sh_flags, sh_info, sh_link, sh_offset, sh_size, sh_type,
+};
+use crate::sections::{section_bytes, section_count, section_name};
+use crate::used::is_group;
+
+/// The header of a section.
+pub fn section_at(file: &[u8], i: u32) -> Section
+    ensures { result ≡ spec.section_of file.now i }
+{
+    Section {
+        kind: sh_type(file, i),
+        flags: sh_flags(file, i),
+        addr: sh_addr(file, i),
+        offset: sh_offset(file, i),
+        size: sh_size(file, i),
+        link: sh_link(file, i),
+        info: sh_info(file, i),
+        align: sh_addralign(file, i),
+        entry: sh_entsize(file, i),
+    }
+}
+
+/// A symbol of a table.
+pub fn symbol_at(file: &[u8], table: u32, k: u32) -> Symbol
+    ensures { result ≡ spec.symbol_of file.now table k }
+{
+    Symbol {
+        name: st_name(file, table, k),
+        section: st_shndx(file, table, k),
+        value: st_value(file, table, k),
+    }
+}
+
+/// An entry of a relocation section.
+#[tactic(auto, unfolding(crate::specs::Views::rela_offset, crate::specs::Views::rela_type, crate::specs::Views::rela_addend))]
+pub fn rela_at(file: &[u8], i: u32, k: u32) -> Rela
+    ensures offset { result.offset ≡ spec.rela_offset file.now i k }
+    ensures symbol { result.symbol ≡ fields.rela_symbol file.now i k }
+    ensures kind { result.kind ≡ spec.rela_type file.now i k }
+    ensures addend { result.addend ≡ spec.rela_addend file.now i k }
+{
+    let bytes = section_bytes(file, i);
+    let place = ENTRY_LEN * u64::from(k);
+    Rela {
+        offset: u64_at(bytes, place),
+        symbol: rela_symbol(file, i, k),
+        kind: u32_at(bytes, place + R_TYPE),
+        addend: u64_at(bytes, place + R_ADDEND).cast_signed(),
+    }
+}
+
+// The name of a symbol.
+#[tactic(auto, unfolding(crate::specs::Views::symbol_name))]
+fn symbol_name(file: &[u8], table: u32, k: u32) -> &[u8]
+    ensures { result.now ≡ spec.symbol_name file.now table k }
+{
+    let strings = section_bytes(file, sh_link(file, table));
+    text_at(strings, u64::from(st_name(file, table, k)))
+}
+
+// Whether an index is the number of a section.
+fn names_section(file: &[u8], index: u16) -> bool
+    ensures { result ≡ spec.names_section file.now index }
+{
+    index < SHN_LORESERVE && u64::from(index) < section_count(file)
+}
+
+// The name of a symbol, or where that is empty the name of its section.
+#[tactic(auto, unfolding(crate::specs::Views::symbol_text))]
+fn symbol_text(file: &[u8], table: u32, k: u32) -> &[u8]
+    ensures { result.now ≡ spec.symbol_text file.now table k }
+{
+    let name = symbol_name(file, table, k);
+    let section = st_shndx(file, table, k);
+    if name.is_empty() && names_section(file, section) {
+        section_name(file, u32::from(section))
+    } else {
+        name
+    }
+}
+
+// Whether one copy of a group is kept.
+#[tactic(auto, unfolding(crate::specs::Views::is_comdat))]
+fn is_comdat(file: &[u8], i: u32) -> bool
+    ensures { result ≡ spec.is_comdat file.now i }
+{
+    u32_at(section_bytes(file, i), 0) % 2 == 1
+}
+
+/// The head of a section group.
+#[tactic(auto, unfolding(crate::specs::Views::group_of))]
+pub fn group_at(file: &[u8], i: u32) -> Option<GroupHead<'_>>
+    requires { length file.now < 2 ^ 32 }
+    ensures { option_map spec.group_view result ≡ spec.group_of file.now i }
+{
+    if !is_group(file, i) {
+        return None;
+    }
+    Some(GroupHead {
+        comdat: is_comdat(file, i),
+        signature: symbol_text(file, sh_link(file, i), sh_info(file, i)),
+        count: member_count(file, i) as u32,
+    })
+}

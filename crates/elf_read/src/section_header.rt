@@ -1,0 +1,114 @@
+//! Section headers.
+
+ghost use Rattle.std.specs.Prelude.{◌≡◌, ◌<◌, ◌^◌, drop};
+ghost use Rattle.elf_read.specs.Header.{e_shoff as shoff};
+ghost use Rattle.elf_read.specs.Sections as spec;
+ghost use Rattle.elf_read.specs.Sections.{section_header};
+
+use crate::header::e_shoff;
+use crate::layout::{
+    SECTION_HEADER_LEN, SH_ADDR, SH_ADDRALIGN, SH_ENTSIZE, SH_FLAGS, SH_INFO, SH_LINK, SH_NAME,
+    SH_OFFSET, SH_SIZE, SH_TYPE,
+};
+use crate::number::{bytes_from, u32_at, u64_at};
+
+// The section headers, and what stands behind them.
+fn headers(file: &[u8]) -> &[u8]
+    ensures { result.now ≡ drop (shoff file.now) file.now }
+{
+    bytes_from(file, e_shoff(file))
+}
+
+/// The place of a section's header.
+pub fn header_place(file: &[u8], i: u32) -> u64
+    requires { shoff file.now < 2 ^ 32 }
+    ensures { result ≡ section_header file.now i }
+{
+    e_shoff(file) + SECTION_HEADER_LEN * u64::from(i)
+}
+
+/// The place of its name in the name table.
+#[tactic(auto, unfolding(crate::specs::Sections::sh_name))]
+pub fn sh_name(file: &[u8], i: u32) -> u32
+    ensures { result ≡ spec.sh_name file.now i }
+{
+    u32_at(headers(file), SECTION_HEADER_LEN * u64::from(i) + SH_NAME)
+}
+
+/// Its type.
+#[tactic(auto, unfolding(crate::specs::Sections::sh_type))]
+pub fn sh_type(file: &[u8], i: u32) -> u32
+    ensures { result ≡ spec.sh_type file.now i }
+{
+    u32_at(headers(file), SECTION_HEADER_LEN * u64::from(i) + SH_TYPE)
+}
+
+/// Its flags.
+#[tactic(auto, unfolding(crate::specs::Sections::sh_flags))]
+pub fn sh_flags(file: &[u8], i: u32) -> u64
+    ensures { result ≡ spec.sh_flags file.now i }
+{
+    u64_at(headers(file), SECTION_HEADER_LEN * u64::from(i) + SH_FLAGS)
+}
+
+/// Its address.
+#[tactic(auto, unfolding(crate::specs::Sections::sh_addr))]
+pub fn sh_addr(file: &[u8], i: u32) -> u64
+    ensures { result ≡ spec.sh_addr file.now i }
+{
+    u64_at(headers(file), SECTION_HEADER_LEN * u64::from(i) + SH_ADDR)
+}
+
+/// The place of its bytes in the file.
+#[tactic(auto, unfolding(crate::specs::Sections::sh_offset))]
+pub fn sh_offset(file: &[u8], i: u32) -> u64
+    ensures { result ≡ spec.sh_offset file.now i }
+{
+    u64_at(headers(file), SECTION_HEADER_LEN * u64::from(i) + SH_OFFSET)
+}
+
+/// How many bytes it has.
+#[tactic(auto, unfolding(crate::specs::Sections::sh_size))]
+pub fn sh_size(file: &[u8], i: u32) -> u64
+    ensures { result ≡ spec.sh_size file.now i }
+{
+    u64_at(headers(file), SECTION_HEADER_LEN * u64::from(i) + SH_SIZE)
+}
+
+/// The number of the section that it is linked to.
+#[tactic(auto, unfolding(crate::specs::Sections::sh_link))]
+pub fn sh_link(file: &[u8], i: u32) -> u32
+    ensures { result ≡ spec.sh_link file.now i }
+{
+    u32_at(headers(file), SECTION_HEADER_LEN * u64::from(i) + SH_LINK)
+}
+
+/// What its type says.
+#[tactic(auto, unfolding(crate::specs::Sections::sh_info))]
+pub fn sh_info(file: &[u8], i: u32) -> u32
+    ensures { result ≡ spec.sh_info file.now i }
+{
+    u32_at(headers(file), SECTION_HEADER_LEN * u64::from(i) + SH_INFO)
+}
+
+/// Its alignment.
+#[tactic(auto, unfolding(crate::specs::Sections::sh_addralign))]
+pub fn sh_addralign(file: &[u8], i: u32) -> u64
+    ensures { result ≡ spec.sh_addralign file.now i }
+{
+    u64_at(
+        headers(file),
+        SECTION_HEADER_LEN * u64::from(i) + SH_ADDRALIGN,
+    )
+}
+
+/// How many bytes its entries have.
+#[tactic(auto, unfolding(crate::specs::Sections::sh_entsize))]
+pub fn sh_entsize(file: &[u8], i: u32) -> u64
+    ensures { result ≡ spec.sh_entsize file.now i }
+{
+    u64_at(
+        headers(file),
+        SECTION_HEADER_LEN * u64::from(i) + SH_ENTSIZE,
+    )
+}

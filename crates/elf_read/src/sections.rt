@@ -1,0 +1,130 @@
+//! What the headers say of sections: how many there are, their bytes and names, and which hold call
+//! frame information.
+
+ghost use Rattle.std.specs.Prelude.{◌≡◌, ◌<◌, ◌≤◌, length};
+ghost use Rattle.elf_read.specs.Sections as spec;
+
+use crate::header::{e_phnum, e_shnum, e_shoff, e_shstrndx, is_core_file};
+use crate::layout::{
+    EH_FRAME, PN_XNUM, SHF_ALLOC, SHF_COMPRESSED, SHN_XINDEX, SHT_NOBITS, SHT_NULL,
+};
+use crate::number::{bytes_at, flag_is_set, text_at};
+use crate::section_header::{sh_flags, sh_info, sh_link, sh_name, sh_offset, sh_size, sh_type};
+
+// How many section headers the file has.
+#[tactic(auto, unfolding(crate::specs::Sections::section_total))]
+fn section_total(file: &[u8]) -> u64
+    ensures { result ≡ spec.section_total file.now }
+{
+    if e_shoff(file) == 0 {
+        return 0;
+    }
+    match e_shnum(file) {
+        0 => sh_size(file, 0),
+        count => u64::from(count),
+    }
+}
+
+/// The number of sections. Those of a core file aren't read.
+#[tactic(auto, unfolding(crate::specs::Sections::section_count))]
+pub fn section_count(file: &[u8]) -> u64
+    ensures { result ≡ spec.section_count file.now }
+{
+    if is_core_file(file) {
+        0
+    } else {
+        section_total(file)
+    }
+}
+
+/// How many program headers the file has.
+#[tactic(auto, unfolding(crate::specs::Sections::segment_total))]
+pub fn segment_total(file: &[u8]) -> u32
+    ensures { result ≡ spec.segment_total file.now }
+{
+    match e_phnum(file) {
+        PN_XNUM => sh_info(file, 0),
+        count => u32::from(count),
+    }
+}
+
+/// The number of segments. Only those of a core file are read.
+#[tactic(auto, unfolding(crate::specs::Sections::segment_count))]
+pub fn segment_count(file: &[u8]) -> u32
+    ensures { result ≡ spec.segment_count file.now }
+{
+    if is_core_file(file) {
+        segment_total(file)
+    } else {
+        0
+    }
+}
+
+/// Whether a section has bytes in the file.
+#[tactic(auto, unfolding(crate::specs::Sections::has_bytes))]
+pub fn has_bytes(file: &[u8], i: u32) -> bool
+    ensures { result ≡ spec.has_bytes file.now i }
+{
+    !matches!(sh_type(file, i), SHT_NULL | SHT_NOBITS)
+}
+
+/// A section's bytes.
+#[tactic(auto, unfolding(crate::specs::Sections::section_bytes))]
+pub fn section_bytes(file: &[u8], i: u32) -> &[u8]
+    ensures bytes { result.now ≡ spec.section_bytes file.now i }
+    ensures within { 0 < length result.now → spec.sh_offset file.now i < length file.now }
+    ensures small { length result.now ≤ length file.now }
+{
+    if has_bytes(file, i) {
+        bytes_at(file, sh_offset(file, i), sh_size(file, i))
+    } else {
+        &[]
+    }
+}
+
+/// The number of the section that holds the sections' names, or 0.
+#[tactic(auto, unfolding(crate::specs::Sections::name_table))]
+pub fn name_table(file: &[u8]) -> u32
+    ensures { result ≡ spec.name_table file.now }
+{
+    match e_shstrndx(file) {
+        SHN_XINDEX => sh_link(file, 0),
+        number => u32::from(number),
+    }
+}
+
+/// A section's name.
+#[tactic(auto, unfolding(crate::specs::Sections::section_name))]
+pub fn section_name(file: &[u8], i: u32) -> &[u8]
+    ensures { result.now ≡ spec.section_name file.now i }
+{
+    let table = name_table(file);
+    if table == 0 {
+        return &[];
+    }
+    text_at(section_bytes(file, table), u64::from(sh_name(file, i)))
+}
+
+/// Whether a section is loaded.
+#[tactic(auto, unfolding(crate::specs::Sections::is_allocated))]
+pub fn is_allocated(file: &[u8], i: u32) -> bool
+    ensures { result ≡ spec.is_allocated file.now i }
+{
+    flag_is_set(sh_flags(file, i), SHF_ALLOC)
+}
+
+/// Whether a section's bytes are compressed.
+#[tactic(auto, unfolding(crate::specs::Sections::is_compressed))]
+pub fn is_compressed(file: &[u8], i: u32) -> bool
+    ensures { result ≡ spec.is_compressed file.now i }
+{
+    flag_is_set(sh_flags(file, i), SHF_COMPRESSED)
+}
+
+/// Whether a section holds call frame information that is loaded.
+#[tactic(auto, unfolding(crate::specs::Sections::is_eh_frame))]
+pub fn is_eh_frame(file: &[u8], i: u32) -> bool
+    ensures { result ≡ spec.is_eh_frame file.now i }
+{
+    is_allocated(file, i) && section_name(file, i) == EH_FRAME
+}

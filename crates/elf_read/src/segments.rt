@@ -1,0 +1,59 @@
+//! Checks of a core file.
+
+ghost use Rattle.std.specs.Prelude.{◌≡◌, ◌<◌, ◌^◌, length};
+ghost use Rattle.elf_read.specs.Checks as spec;
+ghost use Rattle.elf_read.specs.Checking.{each_below};
+ghost use Rattle.elf_read.specs.Header.{e_phoff as phoff};
+
+use crate::check::require;
+use crate::fault::ElfFault;
+use crate::header::{e_phentsize, e_phoff};
+use crate::layout::{E_PHENTSIZE, E_PHOFF, PROGRAM_HEADER_LEN};
+use crate::number::lies;
+use crate::program_header::{header_place, p_filesz, p_offset};
+use crate::sections::segment_total;
+
+// A segment's bytes lie in the file.
+#[tactic(auto, unfolding(crate::specs::Checks::segment_check))]
+fn check_segment(file: &[u8], i: u32) -> Result<(), ElfFault>
+    requires { phoff file.now < 2 ^ 32 }
+    ensures { result ≡ spec.segment_check file.now i }
+{
+    require(
+        lies(file.len() as u64, p_offset(file, i), p_filesz(file, i), 1),
+        ElfFault::OutOfFile(header_place(file, i)),
+    )
+}
+
+// The bytes of each segment lie in the file.
+fn check_segments(file: &[u8], count: u32) -> Result<(), ElfFault>
+    requires { phoff file.now < 2 ^ 32 }
+    ensures { result ≡ each_below count (spec.segment_check file.now) }
+{
+    for i in 0..count {
+        check_segment(file, i)?;
+    }
+    Ok(())
+}
+
+// Whether the program headers have the format's length, where there are some.
+fn has_program_headers(file: &[u8]) -> bool
+    ensures { result ≡ spec.has_program_headers file.now }
+{
+    segment_total(file) == 0 || u64::from(e_phentsize(file)) == PROGRAM_HEADER_LEN
+}
+
+/// The program headers and the segments.
+#[tactic(auto, unfolding(crate::specs::Checks::core_check))]
+pub fn check_core(file: &[u8]) -> Result<(), ElfFault>
+    requires { length file.now < 2 ^ 32 }
+    ensures { result ≡ spec.core_check file.now }
+{
+    let count = segment_total(file);
+    require(has_program_headers(file), ElfFault::EntrySize(E_PHENTSIZE))?;
+    require(
+        lies(file.len() as u64, e_phoff(file), u64::from(count), 56),
+        ElfFault::OutOfFile(E_PHOFF),
+    )?;
+    check_segments(file, count)
+}

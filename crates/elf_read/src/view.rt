@@ -1,0 +1,141 @@
+//! A file that was checked.
+
+ghost use Rattle.std.specs.Prelude.{◌<◌, ◌^◌, length, IsTrue, is_ok};
+ghost use Rattle.elf_read.specs.Parsing.{file_check};
+ghost use Rattle.elf_read.specs.Sections.{section_count as count_of};
+
+use crate::entry::{GroupHead, Rela, Section, Segment, Symbol};
+use crate::fault::ElfFault;
+use crate::kind::Kind;
+use crate::number::bytes_at;
+use crate::parsing::check_file;
+use crate::{entries, header, program_header, reading, section_header, sections};
+use sf_model::Arch;
+
+/// An ELF file that was checked. It lends the file's bytes, of which there are fewer than 2^32.
+#[derive(Clone, Copy, Debug)]
+pub struct Elf<'a> {
+    bytes: &'a [u8],
+    ghost small: { length bytes.now < 2 ^ 32 },
+    ghost counted: { count_of bytes.now < 2 ^ 32 },
+    ghost checked: { IsTrue (is_ok (file_check bytes.now)) },
+}
+
+impl<'a> Elf<'a> {
+    ghost use Rattle.std.specs.Prelude.{◌≡◌, IfOk};
+    ghost use Rattle.std.specs.Option.{option_map};
+    ghost use Rattle.elf_read.specs.Header as head;
+    ghost use Rattle.elf_read.specs.Parsing.{verdict};
+    ghost use Rattle.elf_read.specs.Sections as fields;
+    ghost use Rattle.elf_read.specs.Views.{file, section_of, segment_bytes, symbol_of, rela_offset, rela_type, rela_addend, group_view, group_of};
+
+    /// Checks a file: the header, then the segments of a core file, or else the section headers, the
+    /// sections' names, and the sections that are used (call frame information, its relocations and section
+    /// groups, with the tables that these name). The fault is that of the first check that fails.
+    pub fn parse(bytes: &'a [u8]) -> Result<Elf<'a>, ElfFault>
+        requires { length bytes.now < 2 ^ 32 }
+        // It is read exactly where no check fails; else the fault is that of the first that does.
+        ensures exact { verdict result ≡ file_check bytes.now }
+        ensures file { IfOk result (λ elf. file elf ≡ bytes.now) }
+    {
+        check_file(bytes)?;
+        Ok(Elf { bytes })
+    }
+
+    /// What kind of file it is.
+    pub fn kind(&self) -> Kind
+        ensures { result ≡ head.kind_of (file self.now) }
+    {
+        header::kind_of(self.bytes)
+    }
+
+    /// For which machine it is.
+    pub fn arch(&self) -> Arch
+        ensures { result ≡ head.arch_of (file self.now) }
+    {
+        header::arch_of(self.bytes)
+    }
+
+    /// How many sections it has, none in a core file.
+    pub fn sections(&self) -> u32
+        ensures { result ≡ fields.section_count (file self.now) }
+    {
+        sections::section_count(self.bytes) as u32
+    }
+
+    /// How many segments it has, none in another than a core file.
+    pub fn segments(&self) -> u32
+        ensures { result ≡ fields.segment_count (file self.now) }
+    {
+        sections::segment_count(self.bytes)
+    }
+
+    /// The header of a section.
+    pub fn section(&self, i: u32) -> Section
+        ensures { result ≡ section_of (file self.now) i }
+    {
+        reading::section_at(self.bytes, i)
+    }
+
+    /// The name of a section, empty where the file has no names.
+    pub fn name(&self, i: u32) -> &'a [u8]
+        ensures { result.now ≡ fields.section_name (file self.now) i }
+    {
+        sections::section_name(self.bytes, i)
+    }
+
+    /// The bytes of a section, none where its type is SHT_NULL or SHT_NOBITS.
+    pub fn bytes(&self, i: u32) -> &'a [u8]
+        ensures { result.now ≡ fields.section_bytes (file self.now) i }
+    {
+        sections::section_bytes(self.bytes, i)
+    }
+
+    /// A segment.
+    pub fn segment(&self, i: u32) -> Segment<'a>
+        ensures kind { result.kind ≡ head.p_type (file self.now) i }
+        ensures vaddr { result.vaddr ≡ head.p_vaddr (file self.now) i }
+        ensures place { result.place ≡ head.p_offset (file self.now) i }
+        ensures bytes { result.bytes.now ≡ segment_bytes (file self.now) i }
+    {
+        let place = program_header::p_offset(self.bytes, i);
+        let size = program_header::p_filesz(self.bytes, i);
+        Segment {
+            kind: program_header::p_type(self.bytes, i),
+            vaddr: program_header::p_vaddr(self.bytes, i),
+            place,
+            bytes: bytes_at(self.bytes, place, size),
+        }
+    }
+
+    /// Entry `k` of the relocation section `i`.
+    pub fn rela(&self, i: u32, k: u32) -> Rela
+        ensures offset { result.offset ≡ rela_offset (file self.now) i k }
+        ensures symbol { result.symbol ≡ fields.rela_symbol (file self.now) i k }
+        ensures kind { result.kind ≡ rela_type (file self.now) i k }
+        ensures addend { result.addend ≡ rela_addend (file self.now) i k }
+    {
+        reading::rela_at(self.bytes, i, k)
+    }
+
+    /// Symbol `k` of the symbol table `table`.
+    pub fn symbol(&self, table: u32, k: u32) -> Symbol
+        ensures { result ≡ symbol_of (file self.now) table k }
+    {
+        reading::symbol_at(self.bytes, table, k)
+    }
+
+    /// The head of a section group, or none where the section isn't one or the file is no object.
+    pub fn group(&self, i: u32) -> Option<GroupHead<'a>>
+        ensures { option_map group_view result ≡ group_of (file self.now) i }
+    {
+        reading::group_at(self.bytes, i)
+    }
+
+    /// The number of the section that member `k` of a group is.
+    pub fn member(&self, i: u32, k: u32) -> u32
+        ensures { result ≡ fields.group_member (file self.now) i k }
+    {
+        entries::group_member(self.bytes, i, k)
+    }
+}
