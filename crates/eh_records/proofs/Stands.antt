@@ -77,9 +77,9 @@ stands_is at p after s =
     let four : 4 ≤ length at.left = omega (arith, s.within) in
     let read : number_field 4 at ≡ Ok (s.len, past 4 at) = number_there 4 at four ∙ ap (λ (n : ℕ). Ok (n, past 4 at)) s.word in
     let piece : piece_of at.place s.len (past 4 at) ≡ Ok (p, after) =
-        piece_there s.len at s.enough s.within ∙ ap (λ (q : Piece). Ok (q, past (4 + s.len) at)) (sym s.piece) ∙ ap (λ (c : Cursor). Ok (p, c)) (sym s.behind) in
+    piece_there s.len at s.enough s.within ∙ ap (λ (q : Piece). Ok (q, past (4 + s.len) at)) (sym s.piece) ∙ ap (λ (c : Cursor). Ok (p, c)) (sym s.behind) in
     let sized_is : sized at.place s.len (past 4 at) ≡ Ok (Some (p, after)) =
-        sized_some s.len (past 4 at) at.place (p, after) (s.len == 0) (s.len == 4294967295) (nat_lt s.len 4) refl refl refl s.enough s.short piece in
+    sized_some s.len (past 4 at) at.place (p, after) (s.len == 0) (s.len == 4294967295) (nat_lt s.len 4) refl refl refl s.enough s.short piece in
     front_if at (length at.left == 0) (Ok (Some (p, after))) refl four (ap (λ (r : Step ℕ). r >>= λ len. sized at.place len.0 len.1) read ∙ sized_is)
 
 end_if : (at : Cursor) (b : Bool) → number_field 4 at ≡ Ok (0, past 4 at) → cond {A = Found} b (Ok None) (number_field 4 at >>= λ len. sized at.place len.0 len.1) ≡ Ok None
