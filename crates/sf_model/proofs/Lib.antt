@@ -7,3 +7,4 @@ pub mod TableSame
 pub mod TightOne
 pub mod Worked
 pub mod WorkedSection
+pub mod WorkedSigned

@@ -88,9 +88,12 @@ none_anyway : (b : Bool) (x : Option ℕ) → x ≡ None → (if b then x else N
 none_anyway true x e = e
 none_anyway false x e = refl
 
-saved_nowhere : (address : ℕ) → saved_at [] address ≡ Unreadable address
+pub read_nowhere : (address : ℕ) → read_eight [] address ≡ None
 unfolding read_eight
-saved_nowhere address = ap (saved_value address) (none_anyway (nat_le (address + 8) (2 ^ 64)) None refl)
+read_nowhere address = none_anyway (nat_le (address + 8) (2 ^ 64)) None refl
+
+saved_nowhere : (address : ℕ) → saved_at [] address ≡ Unreadable address
+saved_nowhere address = ap (saved_value address) (read_nowhere address)
 
 address_of : Value → ℕ
 address_of (Known value) = value

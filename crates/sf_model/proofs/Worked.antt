@@ -44,16 +44,13 @@ abbrev blocks : List Func
 blocks = record { start = 0x1000; size = 64; shape = Repeat 16; key = A; rows = row 0 Sp (pos 8) None ∷ row 11 Sp (pos 16) None ∷ [] } ∷ []
 
 -- a function that signs its return address with key B: 28 bytes at 0x1000
-abbrev signing : List Func
-signing = record {
-  start = 0x1000;
-  size = 28;
-  shape = Plain;
-  key = B;
-  rows = signed_row 0 (pos 0) Link None false ∷ signed_row 4 (pos 0) Link None true
-      ∷ signed_row 8 (pos 32) (At (negsuc 23)) (Some (negsuc 31)) true ∷ signed_row 20 (pos 0) Link None true
-      ∷ signed_row 24 (pos 0) Link None false ∷ [];
-} ∷ []
+abbrev pub signing_rows : List Row
+signing_rows = signed_row 0 (pos 0) Link None false ∷ signed_row 4 (pos 0) Link None true
+    ∷ signed_row 8 (pos 32) (At (negsuc 23)) (Some (negsuc 31)) true ∷ signed_row 20 (pos 0) Link None true
+    ∷ signed_row 24 (pos 0) Link None false ∷ []
+
+abbrev pub signing : Func
+signing = record { start = 0x1000; size = 28; shape = Plain; key = B; rows = signing_rows }
 
 -- the start of the found function, and that of its row
 abbrev place_found : Option FoundRow → Option (ℕ × ℕ)
@@ -116,12 +113,12 @@ signed_stack = record { start = 0x7000; bytes = 0x11 ∷ 0x11 ∷ 0 ∷ 0 ∷ 0 
 abbrev signing_thread : (mask : Option ℕ) → ThreadState
 signing_thread mask = record { pc = 0x1008; regs = record { sp = 0x7000; fp = 0; lr = 0 }; mask = mask }
 
-walked_signed : section_walk signing (signing_thread (Some 0x7f000000000000)) signed_stack 64
+walked_signed : section_walk (signing ∷ []) (signing_thread (Some 0x7f000000000000)) signed_stack 64
     ≡ record { frames = frame 0x1008 (Some 0x7020) ∷ frame 0x1014 (Some 0x7040) ∷ []; stop = Stop.Unreadable 0x7028 }
 unfolding section_walk walk_by frames_from recover_by_rows recovery moved read_eight found_at row_at
 walked_signed = refl
 
-walked_without_mask : section_walk signing (signing_thread None) signed_stack 64
+walked_without_mask : section_walk (signing ∷ []) (signing_thread None) signed_stack 64
     ≡ record { frames = frame 0x1008 (Some 0x7020) ∷ []; stop = Signed 0x2a000000001014 }
 unfolding section_walk walk_by frames_from recover_by_rows recovery moved read_eight found_at row_at
 walked_without_mask = refl
