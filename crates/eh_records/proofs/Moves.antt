@@ -83,10 +83,10 @@ built len at p after body after1 id rest word short enough four r1 r2 ep ea =
     let place : at.place + 4 + 4 ≡ at.place + 8 = omega arith in
     let after_is : after1 ≡ past len (past 4 at) = r1.after in
     let all : (record { place = at.place; id_place = body.place; id = id; body = rest }) ≡ piece_there_is len at =
-        ap (λ (n : ℕ). record { place = at.place; id_place = body.place; id = n; body = rest }) id_is
-        ∙ ap (λ (c : Cursor). record { place = at.place; id_place = body.place; id = little_number 4 (take 4 body.left); body = c }) rest_is
-        ∙ ap (λ (c : Cursor). record { place = at.place; id_place = c.place; id = little_number 4 (take 4 c.left); body = past 4 c }) body_is
-        ∙ ap (λ (n : ℕ). record { place = at.place; id_place = at.place + 4; id = little_number 4 (take 4 (take len (drop 4 at.left))); body = record { place = n; left = drop 4 (take len (drop 4 at.left)) } }) place in
+    ap (λ (n : ℕ). record { place = at.place; id_place = body.place; id = n; body = rest }) id_is
+    ∙ ap (λ (c : Cursor). record { place = at.place; id_place = body.place; id = little_number 4 (take 4 body.left); body = c }) rest_is
+    ∙ ap (λ (c : Cursor). record { place = at.place; id_place = c.place; id = little_number 4 (take 4 c.left); body = past 4 c }) body_is
+    ∙ ap (λ (n : ℕ). record { place = at.place; id_place = at.place + 4; id = little_number 4 (take 4 (take len (drop 4 at.left))); body = record { place = n; left = drop 4 (take len (drop 4 at.left)) } }) place in
     record {
       len = len;
       word = word;
