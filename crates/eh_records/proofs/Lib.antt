@@ -1,6 +1,7 @@
 pub mod Among
 pub mod Before
 pub mod Cuts
+pub mod Entries
 pub mod Faults
 pub mod Keys
 pub mod LetterLoop

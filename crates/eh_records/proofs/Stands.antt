@@ -1,6 +1,6 @@
 -- A record is cut off exactly where one stands.
 use Rattle.std.specs.Prelude.{◌==◌, nat_lt}
-use Rattle.std.proofs.Common.{◌≡◌, ◌⊎◌, inl, inr, ℕ, ◌+◌, ◌-◌, ◌<◌, ◌≤◌, Bool, true, false, cond, List, [], ◌∷◌, length, take, drop, subst, length-drop, Option, Some, None, Result, Ok, Err, refl, sym, ap, ◌∙◌, arith}
+use Rattle.std.proofs.Common.{◌≡◌, inl, inr, ℕ, ◌+◌, ◌-◌, ◌≤◌, Bool, true, false, cond, List, [], ◌∷◌, length, take, drop, subst, length-drop, Option, Some, None, Result, Ok, Err, refl, sym, ap, ◌∙◌, arith}
 use Rattle.std.proofs.lemmas.List.{length-take-le}
 use Rattle.std.proofs.lemmas.Bool.{eqb-true}
 use Rattle.std.proofs.lemmas.Bool.Decides.{nat_tests}
@@ -10,11 +10,11 @@ use Rattle.sf_bytes.specs.Cursor.{Cursor, Read, past, number_at, part_at}
 use Rattle.eh_records.specs.declared.fault.RecordFault.{RecordFault}
 use Rattle.eh_records.specs.declared.fault.RecordFault.TheVariants.{Short, Extended}
 use Rattle.eh_records.specs.Cut.{Piece, piece_at, piece_of, whole, sized}
-use Rattle.eh_records.specs.Cutting.{Stands, EndsWithZero, AreCut}
+use Rattle.eh_records.specs.Cutting.{Stands, EndsWithZero, AreCut, all_cut}
 use Rattle.eh_records.specs.Section.{Cutting, cuts}
 use Rattle.eh_records.specs.Step.{Step, ◌>>=◌, placed, number_field, part_field}
 use Rattle.eh_records.proofs.Cuts.{starts_with_record, stops, faults}
-use Rattle.eh_records.proofs.Moves.{IsRead, number_read, past-past, cut_is, end_is}
+use Rattle.eh_records.proofs.Moves.{past-past, cut_is, end_is}
 
 -- a field that lies in the bytes is read
 there_if : {X : Type 0} (n place : ℕ) (at : Cursor) (v : X) (b : Bool) → nat_lt (length at.left) n ≡ b → n ≤ length at.left
@@ -95,10 +95,6 @@ unfolding piece_at
 end_nothing at e =
     let none : (length at.left == 0) ≡ true = ap (λ (xs : List ℕ). length xs == 0) e in
     ap (λ (b : Bool). cond {A = Found} b (Ok None) (number_field 4 at >>= λ len. sized at.place len.0 len.1)) none
-
-abbrev all_cut : List Piece → List Cutting
-all_cut [] = []
-all_cut (p ∷ ps) = Ok p ∷ all_cut ps
 
 -- the records of a cut are those that are cut off
 pub cut_read : (ps : List Piece) (at : Cursor) → AreCut ps at → cuts at ≡ all_cut ps

@@ -1,9 +1,11 @@
 -- The cut of a section in the standard's words (LSB Core, "The .eh_frame section"): records that stand one behind
 -- the other from the first byte on, each a length word and as many bytes, and then nothing or a length word of 0.
-use Rattle.std.specs.Prelude.{◌≡◌, ◌≢◌, ◌⊎◌, ℕ, ◌+◌, ◌≤◌, List, [], ◌∷◌, length, take, drop}
+use Rattle.std.specs.Prelude.{◌≡◌, ◌≢◌, ◌⊎◌, ℕ, ◌+◌, ◌≤◌, List, [], ◌∷◌, length, take, drop, Ok}
+use Rattle.sf_model.specs.declared.machine.Arch.{Arch}
 use Rattle.byteorder.specs.Endian.{little_number}
 use Rattle.sf_bytes.specs.Cursor.{Cursor, past}
 use Rattle.eh_records.specs.Cut.{Piece}
+use Rattle.eh_records.specs.Section.{Cutting, EntryView, entry_at, with_place}
 
 -- a record stands at the front: its length, the word behind that, and the bytes to its end
 pub record Stands (at : Cursor) (p : Piece) (after : Cursor) : Type 0 where
@@ -29,3 +31,22 @@ pub record EndsWithZero (at : Cursor) : Type 0 where
 abbrev pub AreCut : List Piece → Cursor → Type 0
 AreCut [] at = (at.left ≡ []) ⊎ EndsWithZero at
 AreCut (p ∷ ps) at = (after : Cursor) × Stands at p after × AreCut ps after
+
+abbrev pub all_cut : List Piece → List Cutting
+all_cut [] = []
+all_cut (p ∷ ps) = Ok p ∷ all_cut ps
+
+-- the first byte of a section
+abbrev pub start : List ℕ → Cursor
+start section = record { place = 0; left = section }
+
+-- these are the entries of the records, where common information entries stand before them at these places
+abbrev pub AreRead : Arch → List ℕ → List ℕ → List Piece → List EntryView → Type 0
+AreRead arch section cies [] [] = Unit {0}
+AreRead arch section cies [] (e ∷ es) = ⊥
+AreRead arch section cies (p ∷ ps) [] = ⊥
+AreRead arch section cies (p ∷ ps) (e ∷ es) = (entry_at arch section cies p ≡ Ok e) × AreRead arch section (with_place cies p) ps es
+
+-- these are the entries of a section: those of the records of its cut
+abbrev pub AreEntries : Arch → List ℕ → List EntryView → Type 0
+AreEntries arch section es = (ps : List Piece) × AreCut ps (start section) × AreRead arch section [] ps es

@@ -19,6 +19,7 @@ mod fault;
 mod fde;
 mod frame;
 mod iter;
+mod laws;
 mod layout;
 mod letters;
 mod places;
@@ -31,6 +32,7 @@ pub use cie::Cie;
 pub use fault::RecordFault;
 pub use fde::Fde;
 pub use iter::FdeIter;
+pub use laws::entries_law;
 pub use records::Records;
 
 #[cfg(test)]

@@ -1,0 +1,48 @@
+-- The entries of a section in the standard's words are those that are read.
+use Rattle.std.proofs.Common.{◌≡◌, ℕ, List, [], ◌∷◌, Result, Ok, Err, refl, ap, subst, ◌∙◌}
+use Rattle.sf_model.specs.declared.machine.Arch.{Arch}
+use Rattle.eh_records.specs.declared.fault.RecordFault.{RecordFault}
+use Rattle.eh_records.specs.Cut.{Piece}
+use Rattle.eh_records.specs.Cutting.{AreRead, AreEntries, all_cut, start}
+use Rattle.eh_records.specs.Section.{EntryView, Cutting, cuts_of, entry_at, with_place, entries_in, entries_of}
+use Rattle.eh_records.specs.Step.{◌>>=◌}
+use Rattle.eh_records.proofs.Moves.{through, ok_same}
+use Rattle.eh_records.proofs.Stands.{cut_read, read_cut}
+
+read_all : (arch : Arch) (section cies : List ℕ) (ps : List Piece) (es : List EntryView) → AreRead arch section cies ps es → entries_in arch section cies (all_cut ps) ≡ Ok es
+unfolding entries_in
+read_all arch section cies [] [] h = refl
+read_all arch section cies [] (e ∷ es) h = absurd h
+read_all arch section cies (p ∷ ps) [] h = absurd h
+read_all arch section cies (p ∷ ps) (e ∷ es) h =
+    ap (λ (r : Result EntryView RecordFault). r >>= λ x. entries_in arch section (with_place cies p) (all_cut ps) >>= λ xs. Ok (x ∷ xs)) h.0
+    ∙ ap (λ (r : Result (List EntryView) RecordFault). r >>= λ xs. Ok (e ∷ xs)) (read_all arch section (with_place cies p) ps es h.1)
+
+record Read (arch : Arch) (section cies : List ℕ) (xs : List Cutting) (es : List EntryView) : Type 0 where
+  pieces : List Piece
+  cut : xs ≡ all_cut pieces
+  read : AreRead arch section cies pieces es
+
+all_read : (arch : Arch) (section cies : List ℕ) (xs : List Cutting) (es : List EntryView) → entries_in arch section cies xs ≡ Ok es → Read arch section cies xs es
+unfolding entries_in
+all_read arch section cies [] es h = record { pieces = []; cut = refl; read = subst (AreRead arch section cies []) (ok_same [] es h) tt }
+all_read arch section cies (Err x ∷ others) es h = absurd cc
+all_read arch section cies (Ok p ∷ others) es h =
+    let one = through (entry_at arch section cies p) _ es h in
+    let rest = through (entries_in arch section (with_place cies p) others) _ es one.rest in
+    let more = all_read arch section (with_place cies p) others rest.first rest.read in
+    record {
+      pieces = p ∷ more.pieces;
+      cut = ap (λ (ys : List Cutting). Ok p ∷ ys) more.cut;
+      read = subst (AreRead arch section cies (p ∷ more.pieces)) (ok_same (one.first ∷ rest.first) es rest.rest) (one.read, more.read);
+    }
+
+pub entries_read : (arch : Arch) (section : List ℕ) (es : List EntryView) → AreEntries arch section es → entries_of arch section ≡ Ok es
+unfolding entries_of
+entries_read arch section es (ps, cut, read) = ap (entries_in arch section []) (cut_read ps (start section) cut) ∙ read_all arch section [] ps es read
+
+pub read_entries : (arch : Arch) (section : List ℕ) (es : List EntryView) → entries_of arch section ≡ Ok es → AreEntries arch section es
+unfolding entries_of
+read_entries arch section es h =
+    let r = all_read arch section [] (cuts_of section) es h in
+    (r.pieces, read_cut r.pieces (start section) r.cut, r.read)

@@ -1,0 +1,16 @@
+//! What the records of a section are, in the standard's words.
+
+ghost use Rattle.std.specs.Prelude.{◌≡◌, List, Ok};
+ghost use Rattle.eh_records.specs.Cut.{Piece};
+ghost use Rattle.eh_records.specs.Cutting.{AreCut, AreEntries, start};
+ghost use Rattle.eh_records.specs.Section.{EntryView, entries_of};
+
+use sf_model::Arch;
+
+/// Says, by its contract alone, that the entries of a section's cut are those that are read, and that a
+/// section has at most one cut. It does nothing.
+pub fn entries_law(section: &[u8], arch: Arch)
+    ensures found { (es : List EntryView) → AreEntries arch section.now es → entries_of arch section.now ≡ Ok es }
+    ensures only { (es : List EntryView) → entries_of arch section.now ≡ Ok es → AreEntries arch section.now es }
+    ensures one { (ps : List Piece) → (qs : List Piece) → AreCut ps (start section.now) → AreCut qs (start section.now) → ps ≡ qs }
+{}
