@@ -1,0 +1,10 @@
+//! Relocations of call frame information.
+#![tactic(auto)]
+
+mod entry;
+mod fault;
+mod fix;
+mod table;
+mod target;
+
+pub use fault::RelocFault;
