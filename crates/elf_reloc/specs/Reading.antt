@@ -3,6 +3,7 @@
 use Rattle.std.specs.Prelude.{◌≡◌, ℕ, zero, suc, ◌+◌, ◌-◌, ◌*◌, ◌%◌, ◌^◌, ◌==◌, Bool, true, false, ◌&&◌, List, [], ◌∷◌, ◌++◌, length, min, Option, Some, None, Result, Ok, Err, nat_lt, if◌then◌else◌}
 use Rattle.std.specs.Option.{unwrap_or}
 use Rattle.std.specs.Int.{w64, cast_unsigned}
+use Rattle.elf_read.specs.Checking.{each_below}
 use Rattle.elf_read.specs.Header.{is_rel, arch_of}
 use Rattle.elf_read.specs.Sections.{sh_type, sh_link, sh_info, section_count, section_bytes, rela_symbol, entry_count}
 use Rattle.elf_read.specs.Views.{rela_offset, rela_type, rela_addend}
@@ -11,6 +12,7 @@ use Rattle.elf_place.specs.Views.{file, address_in}
 use Rattle.elf_reloc.specs.declared.fault.RelocFault.{RelocFault}
 use Rattle.elf_reloc.specs.declared.fault.RelocFault.TheVariants.{UnknownType, Range, Place, Twice, RelSection, OutOfSection, NoMemory}
 use Rattle.elf_reloc.specs.declared.fix.Fix.{Fix}
+use Rattle.elf_reloc.specs.declared.reading.Read.{Read}
 use Rattle.elf_reloc.specs.declared.table.Effect.{Effect}
 use Rattle.elf_reloc.specs.declared.table.Effect.TheVariants.{Nothing, Absolute, Relative}
 use Rattle.elf_reloc.specs.declared.table.Range.{Range as range}
@@ -56,7 +58,7 @@ applied (Some (Relative form)) len address place index addend target =
 unfoldable pub section_address : Placed → ℕ → ℕ
 section_address p section = unwrap_or (address_in p section) 0
 
--- entry k of relocation section i, which has this number among all
+-- what entry k of relocation section i does, which has this number among all
 unfoldable pub entry_fix : Placed → (section index i k : ℕ) → Result (Option Fix) RelocFault
 entry_fix p section index i k =
     applied (effect_of (arch_of (file p)) (rela_type (file p) i k)) (length (section_bytes (file p) section)) (section_address p section)
@@ -80,10 +82,10 @@ unfoldable pub after_entry : Placed → (section i k : ℕ) → State → Result
 after_entry p section i k state =
     entry_fix p section state.index i k >>= λ f. Ok (record { fixes = with_fix state.fixes f; index = next_index state.index })
 
--- after the first n entries of relocation section i
-unfoldable pub after_entries : Placed → (section i : ℕ) → State → ℕ → Result State RelocFault
-after_entries p section i state zero = Ok state
-after_entries p section i state (suc n) = after_entries p section i state n >>= after_entry p section i n
+-- the same step for each number below n, from 0 on; the first fault ends it
+unfoldable pub steps_below : {S : Type 0} → ℕ → (ℕ → S → Result S RelocFault) → S → Result S RelocFault
+steps_below zero step state = Ok state
+steps_below (suc n) step state = steps_below n step state >>= step n
 
 -- an SHT_RELA section (4) whose info is the section's number
 unfoldable pub is_rela_of : List ℕ → ℕ → ℕ → Bool
@@ -91,13 +93,40 @@ is_rela_of file section i = (sh_type file i == 4) && (sh_info file i == section)
 
 unfoldable pub after_section : Placed → (section i : ℕ) → State → Result State RelocFault
 after_section p section i state =
-    if is_rela_of (file p) section i then after_entries p section i state (entry_count (file p) i) else Ok state
+    if is_rela_of (file p) section i then steps_below (entry_count (file p) i) (after_entry p section i) state else Ok state
 
--- after the first n sections
-unfoldable pub after_sections : Placed → ℕ → ℕ → Result State RelocFault
-after_sections p section zero = Ok (record { fixes = []; index = 0 })
-after_sections p section (suc n) = after_sections p section n >>= after_section p section n
+abbrev pub start : State
+start = record { fixes = []; index = 0 }
 
--- the first SHT_REL section (9) whose info is the section's number
-unfoldable pub rel_check : List ℕ → ℕ → ℕ → Result (Unit {0}) RelocFault
+-- an SHT_REL section (9) whose info is the section's number
+unfoldable pub rel_check : List ℕ → (section i : ℕ) → Result (Unit {0}) RelocFault
 rel_check file section i = if (sh_type file i == 9) && (sh_info file i == section) then Err (RelSection i) else Ok tt
+
+-- the relocations of an object's section; the section may have none without addends
+unfoldable pub object_state : Placed → ℕ → Result State RelocFault
+object_state p section =
+    each_below (section_count (file p)) (rel_check (file p) section)
+    >>= λ _. steps_below (section_count (file p)) (after_section p section) start
+
+-- what a section's relocations write, in their order; only an object's are applied
+unfoldable pub section_state : Placed → ℕ → Result State RelocFault
+section_state p section = if is_rel (file p) then object_state p section else Ok start
+
+-- a fault is what was asked; that memory ran out says nothing of it
+abbrev pub Fails : {X : Type 0} → RelocFault → Result X RelocFault → Type 0
+Fails NoMemory given = Unit {0}
+Fails e given = given ≡ Err e
+
+-- what a call read so far
+abbrev pub state_of : Read → State
+state_of r = record { fixes = r.fixes.items; index = r.next }
+
+-- what a call answered, and what it has read then, is what a step gives
+abbrev pub Steps : {X : Type 0} → Result X RelocFault → Read → Result State RelocFault → Type 0
+Steps (Ok x) new given = given ≡ Ok (state_of new)
+Steps (Err e) new given = Fails e given
+
+-- what a call answered is what is read
+abbrev pub Gives : Result Read RelocFault → Result State RelocFault → Type 0
+Gives (Ok r) given = given ≡ Ok (state_of r)
+Gives (Err e) given = Fails e given
