@@ -1,3 +1,4 @@
 pub mod Table
 pub mod Target
 pub mod Reading
+pub mod Order

@@ -18,7 +18,7 @@ use Rattle.elf_reloc.specs.declared.table.Effect.TheVariants.{Nothing, Absolute,
 use Rattle.elf_reloc.specs.declared.table.Range.{Range as range}
 use Rattle.elf_reloc.specs.declared.target.Target.{Target}
 use Rattle.elf_reloc.specs.declared.target.Target.TheVariants.{Address, Unresolved, Dropped}
-use Rattle.elf_reloc.specs.Table.{effect_of, width_of, absolute, relative, fits, low_bits}
+use Rattle.elf_reloc.specs.Table.{effect_of, width_of, absolute, relative, fits}
 use Rattle.elf_reloc.specs.Target.{target_of}
 
 infixl 10 ◌>>=◌
@@ -26,20 +26,20 @@ abbrev pub ◌>>=◌ : {A B : Type 0} → Result A RelocFault → (A → Result 
 (Ok x) >>= f = f x
 (Err e) >>= f = Err e
 
--- a field that is written: its place, its width in bytes, the relocation's number, and its bits where they are known
-abbrev pub fix : (place index width : ℕ) → Option ℕ → Bool → Fix
-fix place index width value dropped = record { place = place; index = index; width = width; value = value; dropped = dropped }
+-- a field that is written: its place, the relocation's number, its form, and its value where that is known
+abbrev pub fix : (place index : ℕ) → range → Option ℕ → Bool → Fix
+fix place index form value dropped = record { place = place; index = index; range = form; value = value; dropped = dropped }
 
 -- a value that must fit its field
 unfoldable pub written : (place index : ℕ) → range → ℕ → Result Fix RelocFault
 written place index form value =
-    if fits form value then Ok (fix place index (width_of form) (Some (low_bits form value)) false) else Err (Range index)
+    if fits form value then Ok (fix place index form (Some value) false) else Err (Range index)
 
 -- what is written where the symbol's value is known, else what is known of the field
 abbrev pub aimed : (place index : ℕ) → range → (ℕ → ℕ) → Target → Result Fix RelocFault
 aimed place index form value (Address symbol) = written place index form (value symbol)
-aimed place index form value Unresolved = Ok (fix place index (width_of form) None false)
-aimed place index form value Dropped = Ok (fix place index (width_of form) None true)
+aimed place index form value Unresolved = Ok (fix place index form None false)
+aimed place index form value Dropped = Ok (fix place index form None true)
 
 -- a field that must lie in the section's bytes
 unfoldable pub inside : (len place index : ℕ) → range → Result Fix RelocFault → Result (Option Fix) RelocFault

@@ -7,7 +7,7 @@ ghost use Rattle.elf_reloc.specs.Table as table;
 
 use crate::fault::RelocFault;
 use crate::fix::Fix;
-use crate::table::{Effect, Range, absolute, effect_of, fits, low_bits, relative, width_of};
+use crate::table::{Effect, Range, absolute, effect_of, fits, relative, width_of};
 use crate::target::{Target, target_of};
 use elf_place::Placed;
 
@@ -20,12 +20,12 @@ struct Spot {
 
 // A field whose bits are not known.
 fn unknown(spot: Spot, range: Range, dropped: bool) -> Fix
-    ensures { result ≡ spec.fix spot.place spot.index (table.width_of range) None dropped }
+    ensures { result ≡ spec.fix spot.place spot.index range None dropped }
 {
     Fix {
         place: spot.place,
         index: spot.index,
-        width: width_of(range),
+        range,
         value: None,
         dropped,
     }
@@ -42,8 +42,8 @@ fn written(spot: Spot, range: Range, value: u64) -> Result<Fix, RelocFault>
     Ok(Fix {
         place: spot.place,
         index: spot.index,
-        width: width_of(range),
-        value: Some(low_bits(range, value)),
+        range,
+        value: Some(value),
         dropped: false,
     })
 }

@@ -1,6 +1,8 @@
 //! A field that a relocation writes.
 
 
+use crate::table::Range;
+
 /// A field that a relocation writes.
 #[derive(Clone, Copy, Debug, PartialEq, Eq)]
 pub struct Fix {
@@ -8,9 +10,9 @@ pub struct Fix {
     pub place: u64,
     /// The relocation's number.
     pub index: u32,
-    /// How many bytes it has.
-    pub width: u8,
-    /// Its bits, or none where they can't be known yet.
+    /// How wide it is, and what it can hold.
+    pub range: Range,
+    /// Its value, or none where that can't be known yet.
     pub value: Option<u64>,
     /// Whether the symbol lies in a section that is dropped.
     pub dropped: bool,

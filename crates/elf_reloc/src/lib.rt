@@ -4,6 +4,7 @@
 mod entry;
 mod fault;
 mod fix;
+mod order;
 mod reading;
 mod table;
 mod target;
