@@ -1,3 +1,5 @@
 pub mod Stepping
 pub mod Overlaps
 pub mod First
+pub mod Placing
+pub mod Refusing

@@ -2,3 +2,5 @@ pub mod Table
 pub mod Target
 pub mod Reading
 pub mod Order
+pub mod Fields
+pub mod Views

@@ -26,3 +26,20 @@ overlap_check end (f ∷ fs) = if nat_lt f.place end then Err (Twice f.index) el
 unfoldable pub first_at : {X : Type 0} → (X → ℕ) → ℕ → List X → Option X
 first_at number n [] = None
 first_at number n (x ∷ xs) = if number x == n then Some x else first_at number n xs
+
+abbrev pub field_place : Field → ℕ
+field_place g = g.place
+
+-- whether a field that was found has the width that is written
+abbrev pub has_width : Option Field → Fix → Bool
+has_width None f = false
+has_width (Some g) f = g.width == width_of f.range
+
+-- a field that is written lies on one of these at the same place and with the same width
+abbrev pub lies_on : List Field → Fix → Bool
+lies_on fields f = has_width (first_at field_place f.place fields) f
+
+-- each that is written lies on one; the first that doesn't is named
+unfoldable pub place_check : List Field → List Fix → Result (Unit {0}) RelocFault
+place_check fields [] = Ok tt
+place_check fields (f ∷ fs) = if lies_on fields f then place_check fields fs else Err (Place f.index)
