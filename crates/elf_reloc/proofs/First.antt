@@ -49,13 +49,13 @@ pub missed : {X : Type 0} → (number : X → ℕ) (n : ℕ) (xs : List X) (i : 
 missed {X = X} number n xs i x rising before within is above differ =
     let more : n < number x = omega (arith, above, differ) in
     let far : (k : ℕ) → k < length (drop i xs) → n < number (get_or (drop i xs) k x) = λ k inside.
-        let at : get_or (drop i xs) k x ≡ get_or xs (i + k) x = get_or-drop i xs k x in
-        let len : length (drop i xs) ≡ length xs - i = length-drop i xs in
-        let end : i + k < length xs = omega (arith, len, inside) in
-        let up : number (get_or xs i x) ≤ number (get_or xs (i + k) x) = rising i (i + k) x (omega arith) end in
-        let here : number (get_or xs i x) ≡ number x = ap number (sym is) in
-        let there : number (get_or (drop i xs) k x) ≡ number (get_or xs (i + k) x) = ap number at in
-        omega (arith, more, up, here, there) in
+    let at : get_or (drop i xs) k x ≡ get_or xs (i + k) x = get_or-drop i xs k x in
+    let len : length (drop i xs) ≡ length xs - i = length-drop i xs in
+    let end : i + k < length xs = omega (arith, len, inside) in
+    let up : number (get_or xs i x) ≤ number (get_or xs (i + k) x) = rising i (i + k) x (omega arith) end in
+    let here : number (get_or xs i x) ≡ number x = ap number (sym is) in
+    let there : number (get_or (drop i xs) k x) ≡ number (get_or xs (i + k) x) = ap number at in
+    omega (arith, more, up, here, there) in
     sym (skipped number n xs i before ∙ beyond number n x (drop i xs) far)
 
 pub past : {X : Type 0} → (number : X → ℕ) (n : ℕ) (xs : List X) (i : ℕ) → AllBefore number n xs i → length xs ≤ i → None ≡ first_at number n xs

@@ -23,8 +23,9 @@ steps_below-stop {S = S} zero i step s t e within before here = absurd (omega ar
 steps_below-stop {S = S} (suc n) i step s t e within before here =
     let upto : i ≤ n = omega arith in
     elim (eq-or-lt_of_le upto) [
-      inl same ↦ steps_below-suc n step s ∙ ap (λ (k : ℕ). steps_below k step s >>= step k) (sym same) ∙ ap (λ (r : Result S RelocFault). r >>= step i) before ∙ here
-    | inr below ↦ steps_below-suc n step s ∙ ap (λ (r : Result S RelocFault). r >>= step n) (steps_below-stop n i step s t e below before here) ]
+      | inl same ↦ steps_below-suc n step s ∙ ap (λ (k : ℕ). steps_below k step s >>= step k) (sym same) ∙ ap (λ (r : Result S RelocFault). r >>= step i) before ∙ here
+      | inr below ↦ steps_below-suc n step s ∙ ap (λ (r : Result S RelocFault). r >>= step n) (steps_below-stop n i step s t e below before here)
+    ]
 
 -- a step that fails behind steps that don't is how all fail
 pub steps_below-fails : {S : Type 0} → (n i : ℕ) (step : ℕ → S → Result S RelocFault) (s t : S) (e : RelocFault) → i < n → steps_below i step s ≡ Ok t → Fails e (step i t) → Fails e (steps_below n step s)

@@ -49,12 +49,7 @@ fn written(spot: Spot, range: Range, value: u64) -> Result<Fix, RelocFault>
 }
 
 // A field that holds the symbol's value and the addend.
-fn write_absolute(
-    spot: Spot,
-    range: Range,
-    addend: u64,
-    target: Target,
-) -> Result<Fix, RelocFault>
+fn write_absolute(spot: Spot, range: Range, addend: u64, target: Target) -> Result<Fix, RelocFault>
     ensures { result ≡ spec.aimed spot.place spot.index range (λ s. table.absolute s addend) target }
 {
     match target {
@@ -130,7 +125,12 @@ pub fn entry_fix(
         None => Err(RelocFault::UnknownType(index)),
         Some(Effect::Nothing) => Ok(None),
         Some(Effect::Absolute(range)) => {
-            inside(len, spot, range, write_absolute(spot, range, addend, target))
+            inside(
+                len,
+                spot,
+                range,
+                write_absolute(spot, range, addend, target),
+            )
         }
         Some(Effect::Relative(range)) => {
             let address = section_address(placed, section).wrapping_add(rela.offset);

@@ -1,6 +1,5 @@
 //! A field that a relocation writes.
 
-
 use crate::table::Range;
 
 /// A field that a relocation writes.

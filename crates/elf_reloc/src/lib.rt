@@ -23,3 +23,6 @@ mod target;
 
 pub use fault::RelocFault;
 pub use relocs::Relocs;
+
+#[cfg(test)]
+mod tests;

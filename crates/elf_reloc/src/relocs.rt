@@ -32,11 +32,7 @@ impl Relocs {
     /// The fault is the first: a section with relocations without addends, then each relocation in order of
     /// section and entry (its type, whether its field lies in the section, whether its value fits), then two
     /// fields that overlap.
-    pub fn new(
-        alloc: Global,
-        placed: &Placed<'_>,
-        section: u32,
-    ) -> Result<Relocs, RelocFault>
+    pub fn new(alloc: Global, placed: &Placed<'_>, section: u32) -> Result<Relocs, RelocFault>
         ensures { Relocated result (section_state placed.now section) }
     {
         let read = read_relocations(alloc, placed, section)?;
