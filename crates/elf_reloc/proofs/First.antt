@@ -5,7 +5,7 @@ use Rattle.std.proofs.Math.Seq.{drop-nil}
 use Rattle.std.proofs.lemmas.List.{drop_all, get_or-drop, length-drop}
 use Rattle.elf_reloc.specs.Order.{first_at}
 
-nil : {X : Type 0} → (number : X → ℕ) (n : ℕ) → first_at number n [] ≡ None
+pub nil : {X : Type 0} → (number : X → ℕ) (n : ℕ) → first_at number n [] ≡ None
 unfolding first_at
 nil number n = refl
 
@@ -13,10 +13,10 @@ cons : {X : Type 0} → (number : X → ℕ) (n : ℕ) (x : X) (xs : List X) →
 unfolding first_at
 cons number n x xs = refl
 
-same : {X : Type 0} → (number : X → ℕ) (n : ℕ) (x : X) (xs : List X) → number x ≡ n → first_at number n (x ∷ xs) ≡ Some x
+pub same : {X : Type 0} → (number : X → ℕ) (n : ℕ) (x : X) (xs : List X) → number x ≡ n → first_at number n (x ∷ xs) ≡ Some x
 same {X = X} number n x xs h = cons number n x xs ∙ ap (λ (b : Bool). if b then Some x else first_at number n xs) (eq-eqb (number x) n h)
 
-other : {X : Type 0} → (number : X → ℕ) (n : ℕ) (x : X) (xs : List X) → (number x ≡ n → ⊥) → first_at number n (x ∷ xs) ≡ first_at number n xs
+pub other : {X : Type 0} → (number : X → ℕ) (n : ℕ) (x : X) (xs : List X) → (number x ≡ n → ⊥) → first_at number n (x ∷ xs) ≡ first_at number n xs
 other {X = X} number n x xs h = cons number n x xs ∙ ap (λ (b : Bool). if b then Some x else first_at number n xs) (ne_eqb (number x) n h)
 
 skip : {X : Type 0} → (number : X → ℕ) (n : ℕ) (xs : List X) (i : ℕ) → ((k : ℕ) (d : X) → k < i → number (get_or xs k d) < n) → first_at number n xs ≡ first_at number n (drop i xs)

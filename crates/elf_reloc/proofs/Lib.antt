@@ -3,3 +3,4 @@ pub mod Overlaps
 pub mod First
 pub mod Placing
 pub mod Refusing
+pub mod Patching

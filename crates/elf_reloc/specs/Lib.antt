@@ -3,4 +3,5 @@ pub mod Target
 pub mod Reading
 pub mod Order
 pub mod Fields
+pub mod Patched
 pub mod Views

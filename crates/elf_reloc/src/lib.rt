@@ -15,6 +15,7 @@ mod entry;
 mod fault;
 mod fields;
 mod fix;
+mod laws;
 mod order;
 mod reading;
 mod relocs;
@@ -22,6 +23,7 @@ mod table;
 mod target;
 
 pub use fault::RelocFault;
+pub use laws::fields_hold_what_is_patched;
 pub use relocs::Relocs;
 
 #[cfg(test)]
