@@ -9,7 +9,7 @@ use Rattle.elf_reloc.specs.declared.fault.RelocFault.TheVariants.{Twice}
 use Rattle.elf_reloc.specs.declared.fix.Fix.{Fix}
 use Rattle.elf_reloc.specs.Fields.{fix_bits}
 use Rattle.elf_reloc.specs.Order.{overlap_check, first_at, place_of}
-use Rattle.elf_reloc.specs.Patched.{overwritten, with_bits, patched, AreInside}
+use Rattle.elf_reloc.specs.Patched.{overwritten, with_bits, patched, AreInside, IsFree}
 use Rattle.elf_reloc.specs.Table.{width_of}
 use Rattle.elf_reloc.proofs.First.{nil, same, other}
 
@@ -151,7 +151,19 @@ holds (g ∷ gs) xs end place f v apart inside found known fits =
         ap (λ (ys : List ℕ). little_number (width_of f.range) (drop place ys)) (patched-cons g gs xs)
         ∙ holds gs (with_bits g (fix_bits g) xs) (g.place + width_of g.range) place f v p.1 (inside_still g gs xs inside) left known fits ]
 
--- a field that no other covers is as it was
-abbrev pub IsFree : (place width : ℕ) → List Fix → Type 0
-IsFree place width [] = Unit {0}
-IsFree place width (f ∷ fs) = ((place + width ≤ f.place) ⊎ (f.place + width_of f.range ≤ place)) × IsFree place width fs
+clear_side : (place width k : ℕ) (f : Fix) → (place + width ≤ f.place) ⊎ (f.place + width_of f.range ≤ place) → k < width → (place + k < f.place) ⊎ (f.place + width_of f.range ≤ place + k)
+clear_side place width k f (inl h) low = inl (omega (arith, h, low))
+clear_side place width k f (inr h) low = inr (omega (arith, h, low))
+
+clear_free : (place width k : ℕ) (fs : List Fix) → IsFree place width fs → k < width → Clear (place + k) fs
+clear_free place width k [] free low = tt
+clear_free place width k (f ∷ fs) free low = (clear_side place width k f free.0 low, clear_free place width k fs free.1 low)
+
+-- a field that no other covers holds what it held
+pub holds_still : (fs : List Fix) (xs : List ℕ) (place width : ℕ) → AreInside (length xs) fs → IsFree place width fs → little_number width (drop place (patched fs xs)) ≡ little_number width (drop place xs)
+holds_still fs xs place width inside free =
+    same_number width 0 (drop place (patched fs xs)) (drop place xs)
+    (λ k low high.
+        get_or-drop place (patched fs xs) k 0
+        ∙ keeps fs xs (place + k) inside (clear_free place width k fs free (omega (arith, high)))
+        ∙ sym (get_or-drop place xs k 0))

@@ -1,6 +1,6 @@
 -- A section's bytes in which its relocations are applied (ELF64 gABI, "Relocation"): a copy in which the low
 -- bits of each known value stand in the place of its field.
-use Rattle.std.specs.Prelude.{ℕ, ◌+◌, ◌≤◌, List, [], ◌∷◌, ◌++◌, length, take, drop, Option, Some, None}
+use Rattle.std.specs.Prelude.{ℕ, ◌+◌, ◌≤◌, ◌⊎◌, List, [], ◌∷◌, ◌++◌, length, take, drop, Option, Some, None}
 use Rattle.byteorder.specs.Endian.{little_bytes}
 use Rattle.elf_reloc.specs.declared.fix.Fix.{Fix}
 use Rattle.elf_reloc.specs.Table.{width_of}
@@ -23,3 +23,8 @@ patched (f ∷ fs) section = patched fs (with_bits f (fix_bits f) section)
 abbrev pub AreInside : ℕ → List Fix → Type 0
 AreInside len [] = Unit {0}
 AreInside len (f ∷ fs) = (f.place + width_of f.range ≤ len) × AreInside len fs
+
+-- no field that is written covers a byte of this one
+abbrev pub IsFree : (place width : ℕ) → List Fix → Type 0
+IsFree place width [] = Unit {0}
+IsFree place width (f ∷ fs) = ((place + width ≤ f.place) ⊎ (f.place + width_of f.range ≤ place)) × IsFree place width fs
