@@ -4,3 +4,4 @@ pub mod First
 pub mod Placing
 pub mod Refusing
 pub mod Patching
+pub mod Inside

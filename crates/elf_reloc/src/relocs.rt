@@ -21,7 +21,10 @@ pub struct Relocs {
 }
 
 impl Relocs {
-    ghost use Rattle.std.specs.Prelude.{◌≡◌};
+    ghost use Rattle.std.specs.Prelude.{◌≡◌, length, IfOk};
+    ghost use Rattle.elf_read.specs.Sections.{section_bytes};
+    ghost use Rattle.elf_place.specs.Views.{file};
+    ghost use Rattle.elf_reloc.specs.Patched.{AreInside};
     ghost use Rattle.elf_reloc.specs.Order.{place_check, field_place};
     ghost use Rattle.elf_reloc.specs.Fields.{is_dropped_in};
     ghost use Rattle.elf_reloc.specs.Reading.{section_state};
@@ -33,7 +36,10 @@ impl Relocs {
     /// section and entry (its type, whether its field lies in the section, whether its value fits), then two
     /// fields that overlap.
     pub fn new(alloc: Global, placed: &Placed<'_>, section: u32) -> Result<Relocs, RelocFault>
-        ensures { Relocated result (section_state placed.now section) }
+        // What it answers is what the relocations give, and each fault is the first.
+        ensures exact { Relocated result (section_state placed.now section) }
+        // What is written lies in the section.
+        ensures inside { IfOk result (λ r. AreInside (length (section_bytes (file placed.now) section)) (fixes_in r)) }
     {
         let read = read_relocations(alloc, placed, section)?;
         let mut fixes = read.fixes;
