@@ -122,13 +122,13 @@ first_holds f fs xs v apart inside known fits =
     let len : length (little_bytes (width_of f.range) v) ≡ width_of f.range = length-bytes_low_first 0 (width_of f.range) v in
     let one : with_bits f (fix_bits f) xs ≡ overwritten f.place (little_bytes (width_of f.range) v) xs = ap (λ (o : Option ℕ). with_bits f o xs) known in
     let each : (k : ℕ) → 0 ≤ k → k < 0 + width_of f.range → get_or (drop f.place (patched (f ∷ fs) xs)) k 0 ≡ get_or (little_bytes (width_of f.range) v ++ []) k 0 = λ k low high.
-        let k_in : k < length (little_bytes (width_of f.range) v) = omega (arith, len, high) in
-        get_or-drop f.place (patched (f ∷ fs) xs) k 0
-        ∙ ap (λ (ys : List ℕ). get_or ys (f.place + k) 0) (patched-cons f fs xs)
-        ∙ keeps fs (with_bits f (fix_bits f) xs) (f.place + k) (inside_still f fs xs inside) (clear_below (f.place + width_of f.range) (f.place + k) fs apart (omega (arith, high)))
-        ∙ ap (λ (ys : List ℕ). get_or ys (f.place + k) 0) one
-        ∙ within_bytes f.place (little_bytes (width_of f.range) v) xs k (omega (arith, len, inside.0)) k_in
-        ∙ sym (get_or_append_left (little_bytes (width_of f.range) v) [] 0 k k_in) in
+    let k_in : k < length (little_bytes (width_of f.range) v) = omega (arith, len, high) in
+    get_or-drop f.place (patched (f ∷ fs) xs) k 0
+    ∙ ap (λ (ys : List ℕ). get_or ys (f.place + k) 0) (patched-cons f fs xs)
+    ∙ keeps fs (with_bits f (fix_bits f) xs) (f.place + k) (inside_still f fs xs inside) (clear_below (f.place + width_of f.range) (f.place + k) fs apart (omega (arith, high)))
+    ∙ ap (λ (ys : List ℕ). get_or ys (f.place + k) 0) one
+    ∙ within_bytes f.place (little_bytes (width_of f.range) v) xs k (omega (arith, len, inside.0)) k_in
+    ∙ sym (get_or_append_left (little_bytes (width_of f.range) v) [] 0 k k_in) in
     same_number (width_of f.range) 0 (drop f.place (patched (f ∷ fs) xs)) (little_bytes (width_of f.range) v ++ []) each
     ∙ little_number-reads_back (width_of f.range) v [] fits
 
@@ -139,17 +139,18 @@ holds [] xs end place f v apart inside found known fits = absurd (cc (sym (nil p
 holds (g ∷ gs) xs end place f v apart inside found known fits =
     let p = apart_here end g gs apart in
     elim (cases_eq g.place place) [
-      inl here ↦
-        let is : Some g ≡ Some f = sym (same place_of place g gs here) ∙ found in
-        let e : f ≡ g = cc is in
-        let goal : Fix → Type 0 = λ h. little_number (width_of h.range) (drop place (patched (g ∷ gs) xs)) ≡ v in
-        let known' : fix_bits g ≡ Some v = ap fix_bits (sym e) ∙ known in
-        let fits' : v < 256 ^ width_of g.range = subst (λ (h : Fix). v < 256 ^ width_of h.range) e fits in
-        subst goal (sym e) (subst (λ (k : ℕ). little_number (width_of g.range) (drop k (patched (g ∷ gs) xs)) ≡ v) here (first_holds g gs xs v p.1 inside known' fits'))
-    | inr differ ↦
-        let left : first_at place_of place gs ≡ Some f = sym (other place_of place g gs differ) ∙ found in
-        ap (λ (ys : List ℕ). little_number (width_of f.range) (drop place ys)) (patched-cons g gs xs)
-        ∙ holds gs (with_bits g (fix_bits g) xs) (g.place + width_of g.range) place f v p.1 (inside_still g gs xs inside) left known fits ]
+      | inl here ↦
+          let is : Some g ≡ Some f = sym (same place_of place g gs here) ∙ found in
+          let e : f ≡ g = cc is in
+          let goal : Fix → Type 0 = λ h. little_number (width_of h.range) (drop place (patched (g ∷ gs) xs)) ≡ v in
+          let known' : fix_bits g ≡ Some v = ap fix_bits (sym e) ∙ known in
+          let fits' : v < 256 ^ width_of g.range = subst (λ (h : Fix). v < 256 ^ width_of h.range) e fits in
+          subst goal (sym e) (subst (λ (k : ℕ). little_number (width_of g.range) (drop k (patched (g ∷ gs) xs)) ≡ v) here (first_holds g gs xs v p.1 inside known' fits'))
+      | inr differ ↦
+          let left : first_at place_of place gs ≡ Some f = sym (other place_of place g gs differ) ∙ found in
+          ap (λ (ys : List ℕ). little_number (width_of f.range) (drop place ys)) (patched-cons g gs xs)
+          ∙ holds gs (with_bits g (fix_bits g) xs) (g.place + width_of g.range) place f v p.1 (inside_still g gs xs inside) left known fits
+    ]
 
 clear_side : (place width k : ℕ) (f : Fix) → (place + width ≤ f.place) ⊎ (f.place + width_of f.range ≤ place) → k < width → (place + k < f.place) ⊎ (f.place + width_of f.range ≤ place + k)
 clear_side place width k f (inl h) low = inl (omega (arith, h, low))
@@ -164,6 +165,6 @@ pub holds_still : (fs : List Fix) (xs : List ℕ) (place width : ℕ) → AreIns
 holds_still fs xs place width inside free =
     same_number width 0 (drop place (patched fs xs)) (drop place xs)
     (λ k low high.
-        get_or-drop place (patched fs xs) k 0
-        ∙ keeps fs xs (place + k) inside (clear_free place width k fs free (omega (arith, high)))
-        ∙ sym (get_or-drop place xs k 0))
+    get_or-drop place (patched fs xs) k 0
+    ∙ keeps fs xs (place + k) inside (clear_free place width k fs free (omega (arith, high)))
+    ∙ sym (get_or-drop place xs k 0))

@@ -14,5 +14,4 @@ pub fn fields_hold_what_is_patched()
     ensures written { (fixes : List written) (section : List ℕ) (place : ℕ) (f : written) (bits : ℕ) → overlap_check 0 fixes ≡ Ok tt → AreInside (length section) fixes → first_at place_of place fixes ≡ Some f → fix_bits f ≡ Some bits → bits < 256 ^ width_of f.range → little_number (width_of f.range) (drop place (patched fixes section)) ≡ bits }
     // A field that no relocation covers holds its raw number.
     ensures free { (fixes : List written) (section : List ℕ) (place width : ℕ) → AreInside (length section) fixes → IsFree place width fixes → little_number width (drop place (patched fixes section)) ≡ little_number width (drop place section) }
-{
-}
+{}
