@@ -86,7 +86,8 @@ impl<'a> Elf<'a> {
 
     /// The bytes of a section, none where its type is SHT_NULL or SHT_NOBITS.
     pub fn bytes(&self, i: u32) -> &'a [u8]
-        ensures { result.now ≡ fields.section_bytes (file self.now) i }
+        ensures bytes { result.now ≡ fields.section_bytes (file self.now) i }
+        ensures small { length result.now < 2 ^ 32 }
     {
         sections::section_bytes(self.bytes, i)
     }

@@ -1,0 +1,135 @@
+-- What is read of a section lies in its bytes.
+use Rattle.std.proofs.Common.{◌≡◌, ℕ, zero, suc, ◌+◌, ◌%◌, ◌^◌, ◌<◌, ◌≤◌, Bool, true, false, List, [], ◌∷◌, ◌++◌, length, get_or, Option, Some, None, Result, Ok, Err, refl, sym, ap, ◌∙◌, subst, arith, nat_lt, ltb-false, if◌then◌else◌}
+use Rattle.std.specs.List.{All}
+use Rattle.std.specs.List.Sorted.{IsPermutation}
+use Rattle.std.proofs.lemmas.List.Elements.{All-nil, All-push}
+use Rattle.std.proofs.lemmas.List.Sorted.{All-permutation}
+use Rattle.elf_read.specs.Checking.{each_below}
+use Rattle.elf_read.specs.Header.{is_rel}
+use Rattle.elf_read.specs.Sections.{section_bytes, section_count, entry_count}
+use Rattle.elf_place.specs.declared.placed.Placed.{Placed}
+use Rattle.elf_place.specs.Views.{file}
+use Rattle.elf_reloc.specs.declared.fault.RelocFault.{RelocFault}
+use Rattle.elf_reloc.specs.declared.fault.RelocFault.TheVariants as faults
+use Rattle.elf_reloc.specs.declared.fix.Fix.{Fix}
+use Rattle.elf_reloc.specs.declared.table.Effect.{Effect}
+use Rattle.elf_reloc.specs.declared.table.Effect.TheVariants.{Nothing, Absolute, Relative}
+use Rattle.elf_reloc.specs.declared.table.Range.{Range}
+use Rattle.elf_reloc.specs.declared.target.Target.{Target}
+use Rattle.elf_reloc.specs.declared.target.Target.TheVariants.{Address, Unresolved, Dropped}
+use Rattle.elf_reloc.specs.Patched.{AreInside}
+use Rattle.elf_reloc.specs.Reading as spec
+use Rattle.elf_reloc.specs.Reading.{◌>>=◌, State, written, aimed, inside, applied, entry_fix, with_fix, after_entry, steps_below, after_section, object_state, section_state, start}
+use Rattle.elf_reloc.specs.Table.{width_of, fits, absolute, relative}
+
+abbrev IsInside : ℕ → Fix → Type 0
+IsInside len f = f.place + width_of f.range ≤ len
+
+-- what a choice answered, and by which test
+picked : {A E : Type 0} → (b : Bool) (x y : A) (e : E) → (if b then Ok x else Err e) ≡ Ok y → x ≡ y
+picked true x y e h = cc h
+picked false x y e h = absurd (cc h)
+
+refused_unless : {A E : Type 0} → (b : Bool) (r : Result A E) (e : E) (y : A) → (if b then Err e else r) ≡ Ok y → (b ≡ false) × (r ≡ Ok y)
+refused_unless true r e y h = absurd (cc h)
+refused_unless false r e y h = (refl, h)
+
+abbrev okay : {A : Type 0} → A → Result A RelocFault
+okay x = Ok x
+
+ok_is : {A : Type 0} → (x y : A) → okay x ≡ okay y → x ≡ y
+ok_is x y h = cc h
+
+bound : {A B : Type 0} → (r : Result A RelocFault) (g : A → Result B RelocFault) (y : B) → (r >>= g) ≡ Ok y → (x : A) × (r ≡ Ok x) × (g x ≡ Ok y)
+bound (Ok x) g y h = (x, refl, h)
+bound (Err e) g y h = absurd (cc h)
+
+aimed_at : (place index : ℕ) (form : Range) (value : ℕ → ℕ) (target : Target) (f : Fix) → aimed place index form value target ≡ Ok f → (f.place ≡ place) × (f.range ≡ form)
+unfolding written
+aimed_at place index form value (Address s) f h =
+    let e : spec.fix place index form (Some (value s)) false ≡ f = picked (fits form (value s)) (spec.fix place index form (Some (value s)) false) f (faults.Range index) h in
+    (sym (ap (λ (g : Fix). g.place) e), sym (ap (λ (g : Fix). g.range) e))
+aimed_at place index form value Unresolved f h =
+    let e : spec.fix place index form None false ≡ f = cc h in
+    (sym (ap (λ (g : Fix). g.place) e), sym (ap (λ (g : Fix). g.range) e))
+aimed_at place index form value Dropped f h =
+    let e : spec.fix place index form None true ≡ f = cc h in
+    (sym (ap (λ (g : Fix). g.place) e), sym (ap (λ (g : Fix). g.range) e))
+
+inside_is : (len place index : ℕ) (form : Range) (value : ℕ → ℕ) (target : Target) (f : Fix) → inside len place index form (aimed place index form value target) ≡ Ok (Some f) → IsInside len f
+unfolding inside
+inside_is len place index form value target f h =
+    let p = refused_unless (nat_lt len (place + width_of form)) (aimed place index form value target >>= λ g. Ok (Some g)) (faults.OutOfSection index) (Some f) h in
+    let q = bound (aimed place index form value target) (λ g. Ok (Some g)) (Some f) p.1 in
+    let same : q.0 ≡ f = cc (q.2) in
+    let at = aimed_at place index form value target q.0 q.1 in
+    let low : place + width_of form ≤ len = ltb-false len (place + width_of form) p.0 in
+    subst (λ (g : Fix). IsInside len g) same
+    (subst (λ (n : ℕ). n + width_of q.0.range ≤ len) (sym at.0) (subst (λ (r : Range). place + width_of r ≤ len) (sym at.1) low))
+
+applied_inside : (effect : Option Effect) (len address place index addend : ℕ) (target : Target) (f : Fix) → applied effect len address place index addend target ≡ Ok (Some f) → IsInside len f
+applied_inside None len address place index addend target f h = absurd (cc h)
+applied_inside (Some Nothing) len address place index addend target f h = absurd (cc h)
+applied_inside (Some (Absolute form)) len address place index addend target f h = inside_is len place index form (λ s. absolute s addend) target f h
+applied_inside (Some (Relative form)) len address place index addend target f h = inside_is len place index form (λ s. relative s addend ((address + place) % 2 ^ 64)) target f h
+
+entry_inside : (p : Placed) (section index i k : ℕ) (f : Fix) → entry_fix p section index i k ≡ Ok (Some f) → IsInside (length (section_bytes (file p) section)) f
+unfolding entry_fix
+entry_inside p section index i k f h = applied_inside _ _ _ _ _ _ _ f h
+
+with_fix_inside : (len : ℕ) (fixes : List Fix) (o : Option Fix) → All (IsInside len) fixes → ((f : Fix) → o ≡ Some f → IsInside len f) → All (IsInside len) (with_fix fixes o)
+with_fix_inside len fixes None all one = all
+with_fix_inside len fixes (Some f) all one = All-push (IsInside len) fixes f all (one f refl)
+
+entry_keeps : (p : Placed) (section i k : ℕ) (s t : State) → All (IsInside (length (section_bytes (file p) section))) s.fixes → after_entry p section i k s ≡ Ok t → All (IsInside (length (section_bytes (file p) section))) t.fixes
+unfolding after_entry
+entry_keeps p section i k s t all h =
+    let q = bound (entry_fix p section s.index i k) (λ f. Ok (record { fixes = with_fix s.fixes f; index = spec.next_index s.index })) t h in
+    let e : with_fix s.fixes q.0 ≡ t.fixes = ap (λ (r : State). r.fixes) (ok_is _ _ q.2) in
+    subst (λ (fs : List Fix). All (IsInside (length (section_bytes (file p) section))) fs) e
+    (with_fix_inside (length (section_bytes (file p) section)) s.fixes q.0 all (λ f found. entry_inside p section s.index i k f (q.1 ∙ ap (λ (o : Option Fix). Ok o) found)))
+
+steps_keep : (P : State → Type 0) (step : ℕ → State → Result State RelocFault) → ((i : ℕ) (s t : State) → P s → step i s ≡ Ok t → P t) → (n : ℕ) (s t : State) → P s → steps_below n step s ≡ Ok t → P t
+unfolding steps_below
+steps_keep P step each zero s t h e = subst P (ok_is s t e) h
+steps_keep P step each (suc n) s t h e =
+    let q = bound (steps_below n step s) (step n) t e in
+    each n q.0 t (steps_keep P step each n s q.0 h q.1) q.2
+
+section_cases : (p : Placed) (section i : ℕ) (s t : State) (b : Bool) → All (IsInside (length (section_bytes (file p) section))) s.fixes
+    → (if b then steps_below (entry_count (file p) i) (after_entry p section i) s else Ok s) ≡ Ok t → All (IsInside (length (section_bytes (file p) section))) t.fixes
+section_cases p section i s t true all h =
+    steps_keep (λ r. All (IsInside (length (section_bytes (file p) section))) r.fixes) (after_entry p section i) (λ k u v. entry_keeps p section i k u v) (entry_count (file p) i) s t all h
+section_cases p section i s t false all h = subst (λ (r : State). All (IsInside (length (section_bytes (file p) section))) r.fixes) (ok_is s t h) all
+
+section_keeps : (p : Placed) (section i : ℕ) (s t : State) → All (IsInside (length (section_bytes (file p) section))) s.fixes → after_section p section i s ≡ Ok t → All (IsInside (length (section_bytes (file p) section))) t.fixes
+unfolding after_section
+section_keeps p section i s t all h = section_cases p section i s t (spec.is_rela_of (file p) section i) all h
+
+all_none : (len : ℕ) → All (IsInside len) start.fixes
+all_none len = All-nil (IsInside len)
+
+object_inside : (p : Placed) (section : ℕ) (t : State) → object_state p section ≡ Ok t → All (IsInside (length (section_bytes (file p) section))) t.fixes
+unfolding object_state
+object_inside p section t h =
+    let q = bound (each_below (section_count (file p)) (spec.rel_check (file p) section)) (λ _. steps_below (section_count (file p)) (after_section p section) start) t h in
+    steps_keep (λ r. All (IsInside (length (section_bytes (file p) section))) r.fixes) (after_section p section) (λ k u v. section_keeps p section k u v) (section_count (file p)) start t (all_none (length (section_bytes (file p) section))) q.2
+
+state_cases : (p : Placed) (section : ℕ) (t : State) (b : Bool) → (if b then object_state p section else Ok start) ≡ Ok t → All (IsInside (length (section_bytes (file p) section))) t.fixes
+state_cases p section t true h = object_inside p section t h
+state_cases p section t false h = subst (λ (r : State). All (IsInside (length (section_bytes (file p) section))) r.fixes) (ok_is start t h) (all_none (length (section_bytes (file p) section)))
+
+pub read_inside : (p : Placed) (section : ℕ) (t : State) → section_state p section ≡ Ok t → All (IsInside (length (section_bytes (file p) section))) t.fixes
+unfolding section_state
+read_inside p section t h = state_cases p section t (is_rel (file p)) h
+
+pub from_all : (len : ℕ) (fs : List Fix) → All (IsInside len) fs → AreInside len fs
+from_all len [] all = tt
+from_all len (f ∷ fs) all = (all 0 f (omega arith), from_all len fs (λ k d h. all (suc k) d (omega (arith, h))))
+
+pub moved_inside : (len : ℕ) (fs gs : List Fix) → IsPermutation fs gs → All (IsInside len) fs → AreInside len gs
+moved_inside len fs gs moved all = from_all len gs (All-permutation (IsInside len) fs gs moved all)
+
+-- the same of what was read and brought into order
+pub reads_inside : (p : Placed) (section : ℕ) (t : State) (fixes : List Fix) → section_state p section ≡ Ok t → IsPermutation t.fixes fixes → AreInside (length (section_bytes (file p) section)) fixes
+reads_inside p section t fixes read moved = moved_inside (length (section_bytes (file p) section)) t.fixes fixes moved (read_inside p section t read)

@@ -1,0 +1,7 @@
+pub mod Stepping
+pub mod Overlaps
+pub mod First
+pub mod Placing
+pub mod Refusing
+pub mod Patching
+pub mod Inside

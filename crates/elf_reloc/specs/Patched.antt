@@ -1,0 +1,30 @@
+-- A section's bytes in which its relocations are applied (ELF64 gABI, "Relocation"): a copy in which the low
+-- bits of each known value stand in the place of its field.
+use Rattle.std.specs.Prelude.{ℕ, ◌+◌, ◌≤◌, ◌⊎◌, List, [], ◌∷◌, ◌++◌, length, take, drop, Option, Some, None}
+use Rattle.byteorder.specs.Endian.{little_bytes}
+use Rattle.elf_reloc.specs.declared.fix.Fix.{Fix}
+use Rattle.elf_reloc.specs.Table.{width_of}
+use Rattle.elf_reloc.specs.Fields.{fix_bits}
+
+-- bytes in place of as many others
+unfoldable pub overwritten : ℕ → (bytes section : List ℕ) → List ℕ
+overwritten place bytes section = take place section ++ (bytes ++ drop (place + length bytes) section)
+
+-- the field's bits in its place, where they are known
+abbrev pub with_bits : Fix → Option ℕ → List ℕ → List ℕ
+with_bits f None section = section
+with_bits f (Some bits) section = overwritten f.place (little_bytes (width_of f.range) bits) section
+
+unfoldable pub patched : List Fix → List ℕ → List ℕ
+patched [] section = section
+patched (f ∷ fs) section = patched fs (with_bits f (fix_bits f) section)
+
+-- each field that is written lies in so many bytes
+abbrev pub AreInside : ℕ → List Fix → Type 0
+AreInside len [] = Unit {0}
+AreInside len (f ∷ fs) = (f.place + width_of f.range ≤ len) × AreInside len fs
+
+-- no field that is written covers a byte of this one
+abbrev pub IsFree : (place width : ℕ) → List Fix → Type 0
+IsFree place width [] = Unit {0}
+IsFree place width (f ∷ fs) = ((place + width ≤ f.place) ⊎ (f.place + width_of f.range ≤ place)) × IsFree place width fs

@@ -1,0 +1,37 @@
+-- What fields hold once a section's relocations are applied.
+use Rattle.std.specs.Prelude.{◌≡◌, ℕ, ◌==◌, Bool, false, List, ◌⊎◌, Option, Some, None, Result, Ok, Err, if◌then◌else◌}
+use Rattle.elf_reloc.specs.declared.fault.RelocFault.{RelocFault}
+use Rattle.elf_reloc.specs.declared.fault.RelocFault.TheVariants.{NoMemory}
+use Rattle.elf_reloc.specs.declared.fix.Fix.{Fix}
+use Rattle.elf_reloc.specs.declared.relocs.Relocs.{Relocs}
+use Rattle.elf_reloc.specs.Order.{InOrder, overlap_check}
+use Rattle.elf_reloc.specs.Reading.{State}
+
+-- the fields that are written, by rising place
+abbrev pub fixes_in : Relocs → List Fix
+fixes_in r = r.fixes.items
+
+-- a section's relocations were read, and no two of their fields overlap
+pub record Reads (given : Result State RelocFault) (sorted : List Fix) : Type 0 where
+  pub state : State
+  pub read : given ≡ Ok state
+  pub order : InOrder state.fixes sorted
+  pub apart : overlap_check 0 sorted ≡ Ok tt
+
+-- they were read, and the later of the first two fields that overlap, by their places, is refused
+pub record Overlaps (given : Result State RelocFault) (e : RelocFault) : Type 0 where
+  pub state : State
+  pub sorted : List Fix
+  pub read : given ≡ Ok state
+  pub order : InOrder state.fixes sorted
+  pub refused : overlap_check 0 sorted ≡ Err e
+
+-- the first fault: of reading, and then of the fields; that memory ran out says nothing of it
+abbrev pub Refuses : RelocFault → Result State RelocFault → Type 0
+Refuses NoMemory given = Unit {0}
+Refuses e given = (given ≡ Err e) ⊎ Overlaps given e
+
+-- what a call answered is what a section's relocations give
+abbrev pub Relocated : Result Relocs RelocFault → Result State RelocFault → Type 0
+Relocated (Ok r) given = Reads given (fixes_in r)
+Relocated (Err e) given = Refuses e given

@@ -1,0 +1,141 @@
+//! What one relocation does.
+
+ghost use Rattle.std.specs.Prelude.{◌≡◌, None};
+ghost use Rattle.std.specs.Int.{w64, cast_unsigned};
+ghost use Rattle.elf_reloc.specs.Reading as spec;
+ghost use Rattle.elf_reloc.specs.Table as table;
+
+use crate::fault::RelocFault;
+use crate::fix::Fix;
+use crate::table::{Effect, Range, absolute, effect_of, fits, relative, width_of};
+use crate::target::{Target, target_of};
+use elf_place::Placed;
+
+/// Where a relocation is applied.
+#[derive(Clone, Copy)]
+struct Spot {
+    place: u64,
+    index: u32,
+}
+
+// A field whose bits are not known.
+fn unknown(spot: Spot, range: Range, dropped: bool) -> Fix
+    ensures { result ≡ spec.fix spot.place spot.index range None dropped }
+{
+    Fix {
+        place: spot.place,
+        index: spot.index,
+        range,
+        value: None,
+        dropped,
+    }
+}
+
+// A value that must fit its field.
+#[tactic(auto, unfolding(crate::specs::Reading::written))]
+fn written(spot: Spot, range: Range, value: u64) -> Result<Fix, RelocFault>
+    ensures { result ≡ spec.written spot.place spot.index range value }
+{
+    if !fits(range, value) {
+        return Err(RelocFault::Range(spot.index));
+    }
+    Ok(Fix {
+        place: spot.place,
+        index: spot.index,
+        range,
+        value: Some(value),
+        dropped: false,
+    })
+}
+
+// A field that holds the symbol's value and the addend.
+fn write_absolute(spot: Spot, range: Range, addend: u64, target: Target) -> Result<Fix, RelocFault>
+    ensures { result ≡ spec.aimed spot.place spot.index range (λ s. table.absolute s addend) target }
+{
+    match target {
+        Target::Address(symbol) => written(spot, range, absolute(symbol, addend)),
+        Target::Unresolved => Ok(unknown(spot, range, false)),
+        Target::Dropped => Ok(unknown(spot, range, true)),
+    }
+}
+
+// The same minus the field's address.
+fn write_relative(
+    spot: Spot,
+    range: Range,
+    addend: u64,
+    address: u64,
+    target: Target,
+) -> Result<Fix, RelocFault>
+    ensures { result ≡ spec.aimed spot.place spot.index range (λ s. table.relative s addend address) target }
+{
+    match target {
+        Target::Address(symbol) => written(spot, range, relative(symbol, addend, address)),
+        Target::Unresolved => Ok(unknown(spot, range, false)),
+        Target::Dropped => Ok(unknown(spot, range, true)),
+    }
+}
+
+// A field that must lie in the section's bytes.
+#[tactic(auto, unfolding(crate::specs::Reading::inside))]
+fn inside(
+    len: u64,
+    spot: Spot,
+    range: Range,
+    read: Result<Fix, RelocFault>,
+) -> Result<Option<Fix>, RelocFault>
+    ensures { result ≡ spec.inside len spot.place spot.index range read }
+{
+    if u128::from(len) < u128::from(spot.place) + u128::from(width_of(range)) {
+        return Err(RelocFault::OutOfSection(spot.index));
+    }
+    let fix = read?;
+    Ok(Some(fix))
+}
+
+// The address of a section that has one.
+#[tactic(auto, unfolding(crate::specs::Reading::section_address))]
+fn section_address(placed: &Placed<'_>, section: u32) -> u64
+    ensures { result ≡ spec.section_address placed.now section }
+{
+    placed.address(section).unwrap_or(0)
+}
+
+/// What entry `k` of relocation section `i` does, which has this number among all.
+#[tactic(auto, unfolding(crate::specs::Reading::entry_fix))]
+pub fn entry_fix(
+    placed: &Placed<'_>,
+    section: u32,
+    index: u32,
+    i: u32,
+    k: u32,
+) -> Result<Option<Fix>, RelocFault>
+    ensures { result ≡ spec.entry_fix placed.now section index i k }
+{
+    let elf = placed.elf();
+    let rela = elf.rela(i, k);
+    let spot = Spot {
+        place: rela.offset,
+        index,
+    };
+    let len = elf.bytes(section).len() as u64;
+    let addend = rela.addend.cast_unsigned();
+    let target = target_of(placed, elf.section(i).link, rela.symbol);
+    match effect_of(elf.arch(), rela.kind) {
+        None => Err(RelocFault::UnknownType(index)),
+        Some(Effect::Nothing) => Ok(None),
+        Some(Effect::Absolute(range)) => {
+            inside(
+                len,
+                spot,
+                range,
+                write_absolute(spot, range, addend, target),
+            )
+        }
+        Some(Effect::Relative(range)) => {
+            let address = section_address(placed, section).wrapping_add(rela.offset);
+            let field = write_relative(spot, range, addend, address, target);
+            inside(len, spot, range, field)
+        }
+    }
+}

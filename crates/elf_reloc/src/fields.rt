@@ -1,0 +1,59 @@
+//! Pointer fields on which relocations lie.
+
+ghost use Rattle.std.specs.Prelude.{◌≡◌, ◌<◌, ◌^◌, IfSome};
+ghost use Rattle.std.specs.List.Sorted.{IsNonDecreasingBy};
+ghost use Rattle.elf_reloc.specs.Fields as spec;
+ghost use Rattle.elf_reloc.specs.Order.{first_at, field_place, lies_on, place_check};
+ghost use Rattle.elf_reloc.specs.Table as table;
+
+use crate::fault::RelocFault;
+use crate::fix::Fix;
+use crate::table::{low_bits, width_of};
+use sf_bytes::Field;
+
+/// The low bits of a value that is written, where it is known.
+pub fn fix_bits(fix: Fix) -> Option<u64>
+    ensures value { result ≡ spec.fix_bits fix }
+    ensures fits { IfSome result (λ bits. bits < 256 ^ table.width_of fix.range) }
+{
+    match fix.value {
+        Some(value) => Some(low_bits(fix.range, value)),
+        None => None,
+    }
+}
+
+// The field at a place.
+fn field_at(fields: &[Field], place: u64) -> Option<Field>
+    requires { IsNonDecreasingBy field_place fields.now }
+    ensures { result ≡ first_at field_place place fields.now }
+{
+    let i = fields.partition_point(|field| field.place < place);
+    match fields.get(i) {
+        Some(field) if field.place == place => Some(*field),
+        _ => None,
+    }
+}
+
+// Whether a field that is written lies on one of these.
+fn lies(fields: &[Field], fix: Fix) -> bool
+    requires { IsNonDecreasingBy field_place fields.now }
+    ensures { result ≡ lies_on fields.now fix }
+{
+    match field_at(fields, fix.place) {
+        Some(field) => field.width == width_of(fix.range),
+        None => false,
+    }
+}
+
+/// Each field that is written lies on one of these.
+pub fn check_places(fixes: &[Fix], fields: &[Field]) -> Result<(), RelocFault>
+    requires { IsNonDecreasingBy field_place fields.now }
+    ensures { result ≡ place_check fields.now fixes.now }
+{
+    for fix in fixes {
+        if !lies(fields, *fix) {
+            return Err(RelocFault::Place(fix.index));
+        }
+    }
+    Ok(())
+}

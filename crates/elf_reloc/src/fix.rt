@@ -1,0 +1,18 @@
+//! A field that a relocation writes.
+
+use crate::table::Range;
+
+/// A field that a relocation writes.
+#[derive(Clone, Copy, Debug, PartialEq, Eq)]
+pub struct Fix {
+    /// Its place in the section.
+    pub place: u64,
+    /// The relocation's number.
+    pub index: u32,
+    /// How wide it is, and what it can hold.
+    pub range: Range,
+    /// Its value, or none where that can't be known yet.
+    pub value: Option<u64>,
+    /// Whether the symbol lies in a section that is dropped.
+    pub dropped: bool,
+}

@@ -1,0 +1,82 @@
+//! The relocations of a section.
+
+ghost use Rattle.std.specs.List.Sorted.{IsNonDecreasingBy};
+ghost use Rattle.elf_reloc.specs.Order.{place_of};
+
+use crate::fault::RelocFault;
+use crate::fields::{check_places, fix_bits};
+use crate::fix::Fix;
+use crate::order::{bring_into_order, check_overlap, fix_at};
+use crate::reading::read_relocations;
+use crate::table::width_of;
+use elf_place::Placed;
+use sf_bytes::{Field, Values};
+use std::alloc::Global;
+
+/// What the relocations of a section with call frame information write, by place.
+#[derive(Debug, Drop)]
+pub struct Relocs {
+    fixes: Vec<Fix>,
+    ghost rising: { IsNonDecreasingBy place_of fixes.items },
+}
+
+impl Relocs {
+    ghost use Rattle.std.specs.Prelude.{◌≡◌, length, IfOk};
+    ghost use Rattle.elf_read.specs.Sections.{section_bytes};
+    ghost use Rattle.elf_place.specs.Views.{file};
+    ghost use Rattle.elf_reloc.specs.Patched.{AreInside};
+    ghost use Rattle.elf_reloc.specs.Order.{place_check, field_place};
+    ghost use Rattle.elf_reloc.specs.Fields.{is_dropped_in};
+    ghost use Rattle.elf_reloc.specs.Reading.{section_state};
+    ghost use Rattle.elf_reloc.specs.Views.{Relocated, fixes_in};
+
+    /// Reads the relocations of a section. Only an object's are applied.
+    ///
+    /// The fault is the first: a section with relocations without addends, then each relocation in order of
+    /// section and entry (its type, whether its field lies in the section, whether its value fits), then two
+    /// fields that overlap.
+    pub fn new(alloc: Global, placed: &Placed<'_>, section: u32) -> Result<Relocs, RelocFault>
+        // What it answers is what the relocations give, and each fault is the first.
+        ensures exact { Relocated result (section_state placed.now section) }
+        // What is written lies in the section.
+        ensures inside { IfOk result (λ r. AreInside (length (section_bytes (file placed.now) section)) (fixes_in r)) }
+    {
+        let read = read_relocations(alloc, placed, section)?;
+        let mut fixes = read.fixes;
+        bring_into_order(&mut fixes)?;
+        check_overlap(&fixes)?;
+        Ok(Relocs { fixes })
+    }
+
+    /// Whether each relocation lies on one of these pointer fields, which rise in place, at its place and
+    /// with its width. `Place` names the one of the least place that doesn't.
+    pub fn check(&self, fields: &[Field]) -> Result<(), RelocFault>
+        requires { IsNonDecreasingBy field_place fields.now }
+        ensures { result ≡ place_check fields.now (fixes_in self.now) }
+    {
+        check_places(&self.fixes, fields)
+    }
+
+    /// Whether a field's relocation names a symbol in a section that is dropped.
+    pub fn dropped(&self, field: Field) -> bool
+        ensures { result ≡ is_dropped_in (fixes_in self.now) field.place field.width }
+    {
+        match fix_at(&self.fixes, field.place) {
+            Some(fix) if width_of(fix.range) == field.width => fix.dropped,
+            _ => false,
+        }
+    }
+}
+
+impl Values for Relocs {
+    ghost use Rattle.elf_reloc.specs.Fields.{bits_in};
+
+    ghost field_bits = { λ r place width raw. bits_in r.fixes.items place width raw };
+
+    fn bits(&self, field: Field) -> Option<u64> {
+        match fix_at(&self.fixes, field.place) {
+            Some(fix) if width_of(fix.range) == field.width => fix_bits(fix),
+            _ => Some(field.raw),
+        }
+    }
+}

@@ -1,0 +1,113 @@
+//! The relocation types of both machines.
+
+ghost use Rattle.std.specs.Prelude.{◌≡◌, ◌<◌, ◌^◌};
+ghost use Rattle.elf_reloc.specs.Table as spec;
+
+use sf_model::Arch;
+
+/// 2^64, by which sums of addresses wrap.
+const MODULUS: u128 = 1 << 64;
+
+/// In which range the value of a field must lie.
+#[derive(Clone, Copy, Debug, PartialEq, Eq)]
+pub enum Range {
+    /// Eight bytes hold every value.
+    Any,
+    /// Four bytes, a number without sign.
+    Unsigned,
+    /// Four bytes, a signed number.
+    Signed,
+    /// Four bytes, a number with or without sign.
+    Either,
+}
+
+/// What a relocation writes.
+#[derive(Clone, Copy, Debug, PartialEq, Eq)]
+pub enum Effect {
+    /// Nothing.
+    Nothing,
+    /// The symbol's value and the addend.
+    Absolute(Range),
+    /// The same minus the field's address.
+    Relative(Range),
+}
+
+/// What a type of relocation does, or none where it isn't known.
+#[tactic(auto, unfolding(crate::specs::Table::effect_of))]
+pub fn effect_of(arch: Arch, kind: u32) -> Option<Effect>
+    ensures { result ≡ spec.effect_of arch kind }
+{
+    match arch {
+        Arch::Amd64 => match kind {
+            0 => Some(Effect::Nothing),
+            1 => Some(Effect::Absolute(Range::Any)),
+            2 => Some(Effect::Relative(Range::Signed)),
+            10 => Some(Effect::Absolute(Range::Unsigned)),
+            11 => Some(Effect::Absolute(Range::Signed)),
+            24 => Some(Effect::Relative(Range::Any)),
+            _ => None,
+        },
+        Arch::Aarch64 => match kind {
+            0 => Some(Effect::Nothing),
+            257 => Some(Effect::Absolute(Range::Any)),
+            258 => Some(Effect::Absolute(Range::Either)),
+            260 => Some(Effect::Relative(Range::Any)),
+            261 => Some(Effect::Relative(Range::Signed)),
+            _ => None,
+        },
+    }
+}
+
+/// How many bytes the field has.
+pub fn width_of(range: Range) -> u8
+    ensures { result ≡ spec.width_of range }
+{
+    match range {
+        Range::Any => 8,
+        Range::Unsigned | Range::Signed | Range::Either => 4,
+    }
+}
+
+/// The symbol's value and the addend, modulo 2^64.
+#[tactic(auto, unfolding(crate::specs::Table::absolute))]
+pub fn absolute(symbol: u64, addend: u64) -> u64
+    ensures { result ≡ spec.absolute symbol addend }
+{
+    ((u128::from(symbol) + u128::from(addend)) % MODULUS) as u64
+}
+
+/// The symbol's value and the addend minus the field's address, modulo 2^64.
+#[tactic(auto, unfolding(crate::specs::Table::relative))]
+pub fn relative(symbol: u64, addend: u64, place: u64) -> u64
+    ensures { result ≡ spec.relative symbol addend place }
+{
+    let sum = u128::from(symbol) + u128::from(addend) + (MODULUS - u128::from(place));
+    (sum % MODULUS) as u64
+}
+
+/// Whether a value lies in the range.
+#[tactic(auto, unfolding(crate::specs::Table::fits))]
+pub fn fits(range: Range, value: u64) -> bool
+    ensures { result ≡ spec.fits range value }
+{
+    // Signed numbers of 32 bits that are below 0, as 64 bits.
+    const LEAST_NEGATIVE: u64 = 0xffff_ffff_8000_0000;
+    match range {
+        Range::Any => true,
+        Range::Unsigned => value < 1 << 32,
+        Range::Signed => value < 1 << 31 || value >= LEAST_NEGATIVE,
+        Range::Either => value < 1 << 32 || value >= LEAST_NEGATIVE,
+    }
+}
+
+/// The low bits that the field holds.
+#[tactic(auto, unfolding(crate::specs::Table::low_bits))]
+pub fn low_bits(range: Range, value: u64) -> u64
+    ensures value { result ≡ spec.low_bits range value }
+    ensures fits { result < 256 ^ spec.width_of range }
+{
+    match range {
+        Range::Any => value,
+        Range::Unsigned | Range::Signed | Range::Either => value % (1 << 32),
+    }
+}

@@ -1,0 +1,64 @@
+//! What a symbol stands for.
+
+ghost use Rattle.std.specs.Prelude.{◌≡◌};
+ghost use Rattle.elf_reloc.specs.Target as spec;
+
+use elf_place::Placed;
+
+/// SHN_UNDEF.
+const SHN_UNDEF: u16 = 0;
+/// SHN_ABS.
+const SHN_ABS: u16 = 0xfff1;
+/// SHN_LORESERVE.
+const SHN_LORESERVE: u16 = 0xff00;
+
+/// What a symbol stands for once sections are placed.
+#[derive(Clone, Copy, Debug, PartialEq, Eq)]
+pub enum Target {
+    /// An address.
+    Address(u64),
+    /// Something that another file has, or a place in a section without address.
+    Unresolved,
+    /// A place in a section that is dropped.
+    Dropped,
+}
+
+// A value in a section of the file.
+#[tactic(auto, unfolding(crate::specs::Target::section_target))]
+fn section_target(placed: &Placed<'_>, section: u32, value: u64) -> Target
+    ensures { result ≡ spec.section_target placed.now section value }
+{
+    if placed.dropped(section) {
+        return Target::Dropped;
+    }
+    match placed.address(section) {
+        Some(address) => Target::Address(address.wrapping_add(value)),
+        None => Target::Unresolved,
+    }
+}
+
+// A value in the section of this index.
+#[tactic(auto, unfolding(crate::specs::Target::index_target))]
+fn index_target(placed: &Placed<'_>, index: u16, value: u64) -> Target
+    ensures { result ≡ spec.index_target placed.now index value }
+{
+    if index == SHN_ABS {
+        return Target::Address(value);
+    }
+    if index == SHN_UNDEF || index >= SHN_LORESERVE {
+        return Target::Unresolved;
+    }
+    section_target(placed, u32::from(index), value)
+}
+
+/// What a symbol stands for.
+#[tactic(auto, unfolding(crate::specs::Target::target_of))]
+pub fn target_of(placed: &Placed<'_>, table: u32, k: u32) -> Target
+    ensures { result ≡ spec.target_of placed.now table k }
+{
+    if k == 0 {
+        return Target::Unresolved;
+    }
+    let symbol = placed.elf().symbol(table, k);
+    index_target(placed, symbol.section, symbol.value)
+}
