@@ -1,1 +1,4 @@
 pub mod Kept
+pub mod Overlaps
+pub mod ReadFunctions
+pub mod Limits
