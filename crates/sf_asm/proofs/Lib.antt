@@ -2,3 +2,6 @@ pub mod Kept
 pub mod Overlaps
 pub mod ReadFunctions
 pub mod Limits
+pub mod Finding
+pub mod Agreeing
+pub mod Walking

@@ -4,6 +4,9 @@
 //! out what SFrame Version 2 can express: the functions that are kept, each list by rising start, the
 //! functions that are left out, with their reasons, and the addresses of all. [`assemble`] writes the
 //! section of one input. An input has fewer than 2^32 bytes. Both take memory; no section is copied.
+//!
+//! [`kept_functions_recover_alike`] and [`walks_are_alike`] are laws: the kept functions recover what DWARF
+//! recovers, and walks over them are walks by DWARF.
 #![tactic(auto)]
 
 mod assembling;
@@ -11,6 +14,7 @@ mod entry;
 mod fault;
 mod gathering;
 mod input;
+mod laws;
 mod notices;
 mod reading;
 
@@ -18,3 +22,4 @@ pub use assembling::{Linked, assemble};
 pub use fault::{AsmFault, GatherFault, LinkFault};
 pub use gathering::{Gathered, gather};
 pub use input::{Form, Input};
+pub use laws::{kept_functions_recover_alike, walks_are_alike};
