@@ -1,2 +1,3 @@
+pub mod LastStart
 pub mod Lengths
 pub mod Writing

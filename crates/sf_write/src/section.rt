@@ -1,9 +1,10 @@
 //! A whole section.
 
-ghost use Rattle.std.specs.Prelude.{◌≡◌, ◌++◌, None, IfOk, OnOk, IfErr, vec_len};
-ghost use Rattle.std.specs.List.{flat_map};
+ghost use Rattle.std.specs.Prelude.{◌≡◌, ◌++◌, None, IsTrue, IfOk, OnOk, IfErr, vec_len};
+ghost use Rattle.std.specs.List.{flat_map, list_all};
 ghost use Rattle.sf_model.specs.Function.{AreWritable};
 ghost use Rattle.sf_model.specs.declared.function.Func.{Func as func_fact};
+ghost use Rattle.sf_write.specs.Numbers.{rows_fit};
 ghost use Rattle.sf_write.specs.Row.{rows_bytes};
 ghost use Rattle.sf_write.specs.Reach.{first_out_of_reach, Refuses};
 ghost use Rattle.sf_write.specs.Section.{section_bytes, section_len};
@@ -42,8 +43,10 @@ pub fn write(alloc: Global, arch: Arch, at: u64, funcs: &[Func]) -> Result<Vec<u
 }
 
 /// Appends the rows of all functions.
+#[tactic(auto, unfolding(crate::specs::Numbers::rows_fit))]
 fn push_all_rows(bytes: &mut Vec<u8>, funcs: &[Func]) -> Result<(), AllocError>
-    ensures { OnOk result (bytes.new.items ≡ bytes.old.items ++ flat_map (λ (f : func_fact). rows_bytes f.rows) funcs.now) }
+    ensures ok { OnOk result (bytes.new.items ≡ bytes.old.items ++ flat_map (λ (f : func_fact). rows_bytes f.rows) funcs.now) }
+    ensures fits { OnOk result (IsTrue (list_all rows_fit funcs.now)) }
 {
     for func in funcs {
         push_rows(bytes, func.rows.as_slice())?;
