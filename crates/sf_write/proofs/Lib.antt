@@ -1,3 +1,6 @@
+pub mod EntryWritten
 pub mod LastStart
 pub mod Lengths
+pub mod Places
+pub mod RowsWritten
 pub mod Writing
