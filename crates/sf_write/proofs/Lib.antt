@@ -1,4 +1,5 @@
 pub mod EntryWritten
+pub mod FunctionsWritten
 pub mod LastStart
 pub mod Lengths
 pub mod Places
