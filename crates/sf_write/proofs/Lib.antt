@@ -4,4 +4,5 @@ pub mod LastStart
 pub mod Lengths
 pub mod Places
 pub mod RowsWritten
+pub mod SectionWritten
 pub mod Writing

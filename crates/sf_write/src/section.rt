@@ -3,11 +3,13 @@
 ghost use Rattle.std.specs.Prelude.{◌≡◌, ◌++◌, None, IsTrue, IfOk, OnOk, IfErr, vec_len};
 ghost use Rattle.std.specs.List.{flat_map, list_all};
 ghost use Rattle.sf_model.specs.Function.{AreWritable};
+ghost use Rattle.sf_model.specs.Section.{Section};
+ghost use Rattle.sf_model.specs.Tight.{Narrow, Tight};
 ghost use Rattle.sf_model.specs.declared.function.Func.{Func as func_fact};
 ghost use Rattle.sf_write.specs.Numbers.{rows_fit};
 ghost use Rattle.sf_write.specs.Row.{rows_bytes};
 ghost use Rattle.sf_write.specs.Reach.{first_out_of_reach, Refuses};
-ghost use Rattle.sf_write.specs.Section.{section_bytes, section_len};
+ghost use Rattle.sf_write.specs.Section.{section_bytes, section_len, table_of};
 
 use crate::entry::push_entries;
 use crate::fault::WriteFault;
@@ -27,6 +29,9 @@ use std::alloc::{AllocError, Global};
 #[tactic(auto, unfolding(crate::specs::Section::section_bytes))]
 pub fn write(alloc: Global, arch: Arch, at: u64, funcs: &[Func]) -> Result<Vec<u8>, WriteFault>
     requires { AreWritable arch funcs.now }
+    ensures section { IfOk result (λ v. Section v.items at (table_of arch funcs.now)) }
+    ensures tight { IfOk result (λ v. Tight v.items at (table_of arch funcs.now)) }
+    ensures narrow { IfOk result (λ v. Narrow v.items (table_of arch funcs.now)) }
     ensures bytes { IfOk result (λ v. v.items ≡ section_bytes arch at funcs.now) }
     ensures len { IfOk result (λ v. vec_len v ≡ section_len funcs.now) }
     ensures in_reach { OnOk result (first_out_of_reach at 0 funcs.now ≡ None) }

@@ -1,7 +1,10 @@
-use Rattle.std.proofs.Common.{◌≡◌, ap, ◌∙◌, arith, length}
+use Rattle.std.proofs.Common.{◌≡◌, ◌≤◌, ◌∙◌, ap, sym, arith, length, None, IsTrue}
+use Rattle.std.specs.List.{list_all}
 use Rattle.std.proofs.lemmas.Grind.{common_steps}
-use Rattle.sf_write.specs.Section.{section_bytes}
+use Rattle.sf_write.specs.Numbers.{entry_fits, rows_fit}
+use Rattle.sf_write.specs.Section.{section_bytes, row_section_len}
 use Rattle.sf_write.proofs.Lengths.{length-section}
+use Rattle.sf_write.proofs.SectionWritten.{SectionWritten, section_written}
 use Rattle.sf_write.proofs.section.write.Goals as goal
 
 pub returns-clause-bytes : goal.returns-clause-bytes
@@ -12,3 +15,21 @@ pub returns-clause-len : goal.returns-clause-len
 returns-clause-len c =
     let bytes : c.push_all_rows.new.bytes.items ≡ section_bytes c.args.arch c.args.at c.args.funcs.now = returns-clause-bytes c in
     c.push_all_rows.new.bytes.ok.0 ∙ (ap length bytes ∙ length-section c.args.arch c.args.at c.args.funcs.now)
+
+pub returns-clause-section : goal.returns-clause-section
+returns-clause-section c =
+    let len : row_section_len c.args.funcs.now ≤ 285212672 = omega (c.totals_of-totals.ensures.len, c.totals_of-totals.ensures.most, arith) in
+    (section_written c.args.arch c.push_all_rows.new.bytes.items c.args.at c.args.funcs.now c.requires
+    c.in_ok-push_entries.ensures.fits c.in_ok-push_all_rows.ensures.fits c.in_ok-push_entries.ensures.in_reach len (returns-clause-bytes c)).tight.section
+
+pub returns-clause-tight : goal.returns-clause-tight
+returns-clause-tight c =
+    let len : row_section_len c.args.funcs.now ≤ 285212672 = omega (c.totals_of-totals.ensures.len, c.totals_of-totals.ensures.most, arith) in
+    (section_written c.args.arch c.push_all_rows.new.bytes.items c.args.at c.args.funcs.now c.requires
+    c.in_ok-push_entries.ensures.fits c.in_ok-push_all_rows.ensures.fits c.in_ok-push_entries.ensures.in_reach len (returns-clause-bytes c)).tight
+
+pub returns-clause-narrow : goal.returns-clause-narrow
+returns-clause-narrow c =
+    let len : row_section_len c.args.funcs.now ≤ 285212672 = omega (c.totals_of-totals.ensures.len, c.totals_of-totals.ensures.most, arith) in
+    (section_written c.args.arch c.push_all_rows.new.bytes.items c.args.at c.args.funcs.now c.requires
+    c.in_ok-push_entries.ensures.fits c.in_ok-push_all_rows.ensures.fits c.in_ok-push_entries.ensures.in_reach len (returns-clause-bytes c)).narrow
