@@ -1,5 +1,5 @@
 -- A function descriptor entry that is written says its function.
-use Rattle.std.proofs.Common.{◌≡◌, ◌≤◌, ◌<◌, ℕ, ℤ, zero, suc, pos, ◌+◌, ◌*◌, ◌/◌, ◌%◌, ◌-ℤ◌, Bool, true, false, IsTrue, List, [], ◌∷◌, ◌++◌, length, drop, slice_index, refl, ap, sym, ◌∙◌, arith}
+use Rattle.std.proofs.Common.{◌≡◌, ◌≤◌, ◌<◌, ℕ, ℤ, zero, suc, pos, ◌+◌, ◌*◌, ◌/◌, ◌%◌, ◌-ℤ◌, Bool, true, false, IsTrue, List, [], ◌∷◌, ◌++◌, length, drop, slice_index, refl, ap, sym, ◌∙◌, arith, nat_lt}
 use Rattle.std.proofs.lemmas.List.{append_assoc}
 use Rattle.byteorder.specs.Endian.{twos_complement}
 use Rattle.sf_model.specs.declared.machine.Arch.{Arch}
@@ -12,7 +12,7 @@ use Rattle.sf_model.specs.Section.{number_in, shape_number, key_number, start_wi
 use Rattle.sf_model.specs.Tight.{last_start, IsZeroIfPlain}
 use Rattle.sf_model.proofs.RowNumbers.{below_if}
 use Rattle.sf_write.specs.Number.{word_bytes, signed_word_bytes}
-use Rattle.sf_write.specs.Numbers.{entry_fits}
+use Rattle.sf_write.specs.Room.{entry_fits}
 use Rattle.sf_write.specs.Row.{start_width}
 use Rattle.sf_write.specs.Reach.{start_distance, is_in_reach}
 use Rattle.sf_write.specs.Entry.{entry_info, entry_bytes, repeat_size}
@@ -91,11 +91,12 @@ zero_if_plain (Repeat size) byte e = tt
 
 size_fits : (f : Func) → IsTrue (entry_fits f) → f.size < 4294967296
 unfolding entry_fits
-size_fits f h = below_if f.size 4294967296 (first_of _ (holds_unsigned (last_start f.rows) (start_width f.rows)) h)
+size_fits f h =
+    below_if f.size 4294967296 (first_of _ (holds_unsigned (last_start f.rows) (start_width f.rows)) (first_of _ (nat_lt (repeat_size f.shape) 256) h))
 
 pub last_start_fits : (f : Func) → IsTrue (entry_fits f) → IsTrue (holds_unsigned (last_start f.rows) (start_width f.rows))
 unfolding entry_fits
-last_start_fits f h = second_of _ (holds_unsigned (last_start f.rows) (start_width f.rows)) h
+last_start_fits f h = second_of _ (holds_unsigned (last_start f.rows) (start_width f.rows)) (first_of _ (nat_lt (repeat_size f.shape) 256) h)
 
 -- what an entry says, beside what it says of its function
 pub record EntryWritten (arch : Arch) (bytes : List ℕ) (at place offset : ℕ) (f : Func) : Type 0 where

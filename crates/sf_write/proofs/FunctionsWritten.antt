@@ -17,7 +17,7 @@ use Rattle.sf_model.specs.Section.{rows_len, row_bytes_of, start_width_at, row_o
 use Rattle.sf_model.specs.Tight.{last_start, LeastWidth, WithoutGaps, LeastWidths}
 use Rattle.sf_sizes.specs.RowLength.{offset_width}
 use Rattle.sf_write.specs.Row.{narrow_row, start_width, rows_bytes, rows_len as function_rows_len}
-use Rattle.sf_write.specs.Numbers.{offsets_fit, rows_fit, entry_fits}
+use Rattle.sf_write.specs.Room.{offsets_fit, rows_fit, entry_fits}
 use Rattle.sf_write.specs.Reach.{is_in_reach, first_out_of_reach}
 use Rattle.sf_write.specs.Entry.{entry_bytes, entries_bytes}
 use Rattle.sf_write.specs.Section.{row_section_len}

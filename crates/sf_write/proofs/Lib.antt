@@ -1,3 +1,4 @@
+pub mod BytesWritten
 pub mod EntryWritten
 pub mod FunctionsWritten
 pub mod LastStart

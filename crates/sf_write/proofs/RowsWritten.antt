@@ -20,7 +20,7 @@ use Rattle.sf_model.proofs.TightOne.{zero_held}
 use Rattle.sf_sizes.specs.Width.{least_width}
 use Rattle.sf_sizes.specs.RowLength.{offset_width}
 use Rattle.sf_write.specs.Row.{narrow_row, start_width}
-use Rattle.sf_write.specs.Numbers.{offsets_fit}
+use Rattle.sf_write.specs.Room.{offsets_fit}
 use Rattle.sf_write.proofs.Places.{after}
 
 -- both parts of a test

@@ -11,7 +11,7 @@ use Rattle.sf_model.specs.Table.{Table, row_count}
 use Rattle.sf_model.specs.Section.{Section, IsHeader, number_in, auxiliary_len, rows_len, functions_offset, rows_offset, rows_place, functions_place, row_bytes_of, abi_number, fixed_return_byte, FunctionsStand}
 use Rattle.sf_model.specs.Tight.{Tight, Narrow, WithoutGaps, LeastWidths}
 use Rattle.sf_write.specs.Number.{word_bytes}
-use Rattle.sf_write.specs.Numbers.{rows_fit, entry_fits}
+use Rattle.sf_write.specs.Room.{rows_fit, entry_fits}
 use Rattle.sf_write.specs.Row.{rows_bytes}
 use Rattle.sf_write.specs.Reach.{first_out_of_reach}
 use Rattle.sf_write.specs.Entry.{entries_bytes}

@@ -1,6 +1,6 @@
 pub mod Number
 pub mod Row
-pub mod Numbers
+pub mod Room
 pub mod Entry
 pub mod Reach
 pub mod Section

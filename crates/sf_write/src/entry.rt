@@ -8,7 +8,7 @@ ghost use Rattle.sf_model.specs.Width.{holds_unsigned, IsWidth};
 ghost use Rattle.sf_write.specs.Entry.{entry_info, entry_bytes, entries_bytes, repeat_size};
 ghost use Rattle.sf_write.specs.Row.{start_width};
 ghost use Rattle.sf_write.specs.Reach.{first_out_of_reach, Refuses};
-ghost use Rattle.sf_write.specs.Numbers.{entry_fits};
+ghost use Rattle.sf_write.specs.Room.{entry_fits};
 
 use crate::fault::WriteFault;
 use crate::number::{push_signed_word, push_word};
@@ -36,7 +36,7 @@ pub(crate) fn push_entries(bytes: &mut Vec<u8>, at: u64, funcs: &[Func]) -> Resu
 }
 
 /// Appends the entry with this number, whose rows begin at this place among all rows.
-#[tactic(auto, unfolding(crate::specs::Entry::entry_bytes, crate::specs::Numbers::entry_fits))]
+#[tactic(auto, unfolding(crate::specs::Entry::entry_bytes, crate::specs::Room::entry_fits))]
 fn push_entry(
     bytes: &mut Vec<u8>,
     at: u64,

@@ -6,7 +6,7 @@ ghost use Rattle.sf_model.specs.RowBytes.{holds_row_offsets, row_info_byte, row_
 ghost use Rattle.sf_model.specs.Tight.{last_start};
 ghost use Rattle.sf_model.specs.Width.{holds_unsigned, signed_bytes, IsWidth};
 ghost use Rattle.sf_sizes.specs.RowLength.{offset_width};
-ghost use Rattle.sf_write.specs.Numbers.{offsets_fit};
+ghost use Rattle.sf_write.specs.Room.{offsets_fit};
 ghost use Rattle.sf_write.specs.Row.{narrow_row, start_width, rows_bytes, rows_len};
 
 use crate::number::{push_narrow, push_narrow_signed};
@@ -59,7 +59,7 @@ pub(crate) fn push_rows(bytes: &mut Vec<u8>, rows: &[Row]) -> Result<(), AllocEr
 }
 
 /// Appends a row: its start in bytes of the width `kind`, its info byte and its offsets.
-#[tactic(auto, unfolding(sf_model::specs::RowBytes::spelled_row, crate::specs::Numbers::offsets_fit))]
+#[tactic(auto, unfolding(sf_model::specs::RowBytes::spelled_row, crate::specs::Room::offsets_fit))]
 fn push_row(bytes: &mut Vec<u8>, kind: u8, row: &Row) -> Result<(), AllocError>
     requires { kind ≤ 2 }
     ensures ok { OnOk result (bytes.new.items ≡ bytes.old.items ++ narrow_row kind row.now) }

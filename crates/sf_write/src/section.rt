@@ -3,10 +3,10 @@
 ghost use Rattle.std.specs.Prelude.{◌≡◌, ◌++◌, None, IsTrue, IfOk, OnOk, IfErr, vec_len};
 ghost use Rattle.std.specs.List.{flat_map, list_all};
 ghost use Rattle.sf_model.specs.Function.{AreWritable};
-ghost use Rattle.sf_model.specs.Section.{Section};
+ghost use Rattle.sf_model.specs.Section.{AreBytes, Section};
 ghost use Rattle.sf_model.specs.Tight.{Narrow, Tight};
 ghost use Rattle.sf_model.specs.declared.function.Func.{Func as func_fact};
-ghost use Rattle.sf_write.specs.Numbers.{rows_fit};
+ghost use Rattle.sf_write.specs.Room.{rows_fit};
 ghost use Rattle.sf_write.specs.Row.{rows_bytes};
 ghost use Rattle.sf_write.specs.Reach.{first_out_of_reach, Refuses};
 ghost use Rattle.sf_write.specs.Section.{section_bytes, section_len, table_of};
@@ -32,6 +32,7 @@ pub fn write(alloc: Global, arch: Arch, at: u64, funcs: &[Func]) -> Result<Vec<u
     ensures section { IfOk result (λ v. Section v.items at (table_of arch funcs.now)) }
     ensures tight { IfOk result (λ v. Tight v.items at (table_of arch funcs.now)) }
     ensures narrow { IfOk result (λ v. Narrow v.items (table_of arch funcs.now)) }
+    ensures are_bytes { IfOk result (λ v. AreBytes v.items) }
     ensures bytes { IfOk result (λ v. v.items ≡ section_bytes arch at funcs.now) }
     ensures len { IfOk result (λ v. vec_len v ≡ section_len funcs.now) }
     ensures in_reach { OnOk result (first_out_of_reach at 0 funcs.now ≡ None) }
@@ -48,7 +49,7 @@ pub fn write(alloc: Global, arch: Arch, at: u64, funcs: &[Func]) -> Result<Vec<u
 }
 
 /// Appends the rows of all functions.
-#[tactic(auto, unfolding(crate::specs::Numbers::rows_fit))]
+#[tactic(auto, unfolding(crate::specs::Room::rows_fit))]
 fn push_all_rows(bytes: &mut Vec<u8>, funcs: &[Func]) -> Result<(), AllocError>
     ensures ok { OnOk result (bytes.new.items ≡ bytes.old.items ++ flat_map (λ (f : func_fact). rows_bytes f.rows) funcs.now) }
     ensures fits { OnOk result (IsTrue (list_all rows_fit funcs.now)) }

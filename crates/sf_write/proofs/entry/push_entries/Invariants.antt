@@ -4,7 +4,7 @@ use Rattle.std.specs.List.{list_all}
 use Rattle.sf_write.specs.Entry.{entries_bytes}
 use Rattle.sf_write.specs.Reach.{first_out_of_reach}
 use Rattle.sf_model.specs.Table.{row_count}
-use Rattle.sf_write.specs.Numbers.{entry_fits}
+use Rattle.sf_write.specs.Room.{entry_fits}
 use Rattle.sf_write.proofs.entry.push_entries.Given as goal
 
 -- what is there and the entries that are left are all that is to be there; the first start that is out of reach is among

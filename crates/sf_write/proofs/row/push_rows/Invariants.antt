@@ -1,7 +1,7 @@
 use Rattle.std.proofs.Common.{◌≡◌, ◌++◌, drop, take}
 use Rattle.std.specs.Prelude.{IsTrue}
 use Rattle.std.specs.List.{flat_map, list_all}
-use Rattle.sf_write.specs.Numbers.{offsets_fit}
+use Rattle.sf_write.specs.Room.{offsets_fit}
 use Rattle.sf_write.specs.Row.{narrow_row}
 use Rattle.sf_write.proofs.row.push_rows.Given as goal
 

@@ -2,7 +2,7 @@ use Rattle.std.proofs.Common.{◌≡◌, ◌++◌, drop, take}
 use Rattle.std.specs.Prelude.{IsTrue}
 use Rattle.std.specs.List.{flat_map, list_all}
 use Rattle.sf_model.specs.declared.function.Func.{Func}
-use Rattle.sf_write.specs.Numbers.{rows_fit}
+use Rattle.sf_write.specs.Room.{rows_fit}
 use Rattle.sf_write.specs.Row.{rows_bytes}
 use Rattle.sf_write.proofs.section.push_all_rows.Given as goal
 

@@ -8,6 +8,7 @@ use Rattle.sf_model.specs.RowBytes.{holds_row_offsets}
 use Rattle.sf_model.specs.Tight.{last_start}
 use Rattle.sf_sizes.specs.RowLength.{offset_width}
 use Rattle.sf_write.specs.Row.{start_width}
+use Rattle.sf_write.specs.Entry.{repeat_size}
 
 -- a row's offsets have room
 unfoldable pub offsets_fit : Row → Bool
@@ -17,6 +18,6 @@ offsets_fit row = holds_row_offsets row.content (offset_width row.content)
 unfoldable pub rows_fit : Func → Bool
 rows_fit f = list_all offsets_fit f.rows
 
--- its size and its row starts do
+-- its size, its row starts and its repeat size do
 unfoldable pub entry_fits : Func → Bool
-entry_fits f = nat_lt f.size (2 ^ 32) && holds_unsigned (last_start f.rows) (start_width f.rows)
+entry_fits f = nat_lt f.size (2 ^ 32) && holds_unsigned (last_start f.rows) (start_width f.rows) && nat_lt (repeat_size f.shape) 256
