@@ -100,7 +100,7 @@ three_apart a b c = append_assoc a b c
 
 section_is : (arch : Arch) (at : ℕ) (functions : List Func) →
     section_bytes arch at functions ≡ header_bytes arch (length functions) (row_count functions) (row_section_len functions)
-        ++ (entries_bytes at 0 0 functions ++ flat_map (λ (f : Func). rows_bytes f.rows) functions)
+    ++ (entries_bytes at 0 0 functions ++ flat_map (λ (f : Func). rows_bytes f.rows) functions)
 unfolding section_bytes
 section_is arch at functions =
     three_apart (header_bytes arch (length functions) (row_count functions) (row_section_len functions)) (entries_bytes at 0 0 functions) (flat_map (λ (f : Func). rows_bytes f.rows) functions)

@@ -1,6 +1,6 @@
 //! A whole section.
 
-ghost use Rattle.std.specs.Prelude.{◌≡◌, ◌++◌, None, IsTrue, IfOk, OnOk, IfErr, vec_len};
+ghost use Rattle.std.specs.Prelude.{◌≡◌, ◌++◌, ℕ, List, None, IsTrue, IfOk, OnOk, IfErr, vec_len};
 ghost use Rattle.std.specs.List.{flat_map, list_all};
 ghost use Rattle.sf_model.specs.Function.{AreWritable};
 ghost use Rattle.sf_model.specs.Section.{AreBytes, Section};
@@ -20,8 +20,8 @@ use crate::totals::totals_of;
 use sf_model::{Arch, Func};
 use std::alloc::{AllocError, Global};
 
-/// The section of these functions, in their order, for the address `at`: flags 0x5, no auxiliary header,
-/// the entries before the rows, every width the least. Memory is taken once.
+/// The section of these functions, in their order, for the address `at`: the one list of bytes that says
+/// their table with flags 0x5, without gaps and with the least widths. Memory is taken once.
 ///
 /// # Errors
 ///
@@ -32,6 +32,7 @@ pub fn write(alloc: Global, arch: Arch, at: u64, funcs: &[Func]) -> Result<Vec<u
     ensures section { IfOk result (λ v. Section v.items at (table_of arch funcs.now)) }
     ensures tight { IfOk result (λ v. Tight v.items at (table_of arch funcs.now)) }
     ensures narrow { IfOk result (λ v. Narrow v.items (table_of arch funcs.now)) }
+    ensures only { IfOk result (λ v. (other : List ℕ) → AreBytes other → Tight other at (table_of arch funcs.now) → Narrow other (table_of arch funcs.now) → other ≡ v.items) }
     ensures are_bytes { IfOk result (λ v. AreBytes v.items) }
     ensures bytes { IfOk result (λ v. v.items ≡ section_bytes arch at funcs.now) }
     ensures len { IfOk result (λ v. vec_len v ≡ section_len funcs.now) }

@@ -2,10 +2,11 @@ use Rattle.std.proofs.Common.{◌≡◌, ◌≤◌, ◌∙◌, ap, sym, subst, a
 use Rattle.std.specs.List.{list_all}
 use Rattle.std.proofs.lemmas.Grind.{common_steps}
 use Rattle.sf_write.specs.Room.{entry_fits, rows_fit}
-use Rattle.sf_write.specs.Section.{section_bytes, row_section_len}
+use Rattle.sf_write.specs.Section.{section_bytes, row_section_len, table_of}
 use Rattle.sf_write.proofs.Lengths.{length-section}
 use Rattle.sf_write.proofs.SectionWritten.{SectionWritten, section_written}
 use Rattle.sf_model.specs.Section.{AreBytes}
+use Rattle.sf_model.proofs.TightOne.{tight_one}
 use Rattle.sf_write.proofs.BytesWritten.{section_is_bytes}
 use Rattle.sf_write.proofs.section.write.Goals as goal
 
@@ -37,3 +38,8 @@ returns-clause-narrow c = (written c).narrow
 pub returns-clause-are_bytes : goal.returns-clause-are_bytes
 returns-clause-are_bytes c =
     subst AreBytes (sym (returns-clause-bytes c)) (section_is_bytes c.args.arch c.args.at c.args.funcs.now c.in_ok-push_entries.ensures.fits)
+
+pub returns-clause-only : goal.returns-clause-only
+returns-clause-only c = λ other other_bytes other_tight other_narrow.
+    tight_one other c.push_all_rows.new.bytes.items c.args.at (table_of c.args.arch c.args.funcs.now) other_bytes (returns-clause-are_bytes c)
+    other_tight (written c).tight other_narrow (written c).narrow
