@@ -1,5 +1,5 @@
 -- Width 2 is the least where the two below hold not.
-use Rattle.std.proofs.Common.{◌≡◌, ◌<◌, ℕ, zero, suc, Bool, true, false, arith, lit≤}
+use Rattle.std.proofs.Common.{◌≡◌, ℕ, zero, suc, Bool, true, false, arith, lit≤}
 use Rattle.sf_model.specs.Width.{IsWidth, NoneLess}
 
 pub none_below_two : (holds : ℕ → Bool) → holds 0 ≡ false → holds 1 ≡ false → NoneLess holds 2

@@ -1,6 +1,6 @@
 -- The functions that are written stand, without gaps and with the least widths.
-use Rattle.std.proofs.Common.{◌≡◌, ◌≤◌, ◌<◌, ℕ, zero, suc, ◌+◌, ◌*◌, Bool, true, false, IsTrue, Option, Some, None, List, [], ◌∷◌, ◌++◌, length, drop, slice_index, refl, ap, sym, subst, ◌∙◌, arith}
-use Rattle.std.specs.Prelude.{All, if◌then◌else◌, sum_by}
+use Rattle.std.proofs.Common.{◌≡◌, ◌≤◌, ◌<◌, ℕ, ◌+◌, ◌*◌, Bool, true, false, IsTrue, Option, Some, None, List, [], ◌∷◌, ◌++◌, length, drop, refl, ap, sym, subst, ◌∙◌, arith}
+use Rattle.std.specs.Prelude.{All, if◌then◌else◌}
 use Rattle.std.specs.List.{flat_map, list_all}
 use Rattle.std.proofs.lemmas.List.{append_assoc}
 use Rattle.std.proofs.lemmas.List.Concat.{flat_map-cons}
@@ -8,16 +8,15 @@ use Rattle.std.proofs.lemmas.List.Elements.{All-tail}
 use Rattle.std.proofs.lemmas.List.Sums.{sum_by-cons}
 use Rattle.sf_model.specs.declared.machine.Arch.{Arch}
 use Rattle.sf_model.specs.declared.content.Content.{Content}
-use Rattle.sf_model.specs.declared.rows.Row.{Row}
 use Rattle.sf_model.specs.declared.function.Func.{Func}
 use Rattle.sf_model.specs.Function.{IsWritable}
 use Rattle.sf_model.specs.Table.{row_count}
 use Rattle.sf_model.specs.Width.{holds_unsigned, NoneLess}
-use Rattle.sf_model.specs.Section.{rows_len, row_bytes_of, start_width_at, row_offset_at, AnyWidth, RowsStand, FunctionsStand}
+use Rattle.sf_model.specs.Section.{rows_len, row_bytes_of, start_width_at, AnyWidth, RowsStand, FunctionsStand}
 use Rattle.sf_model.specs.Tight.{last_start, LeastWidth, WithoutGaps, LeastWidths}
 use Rattle.sf_sizes.specs.RowLength.{offset_width}
-use Rattle.sf_write.specs.Row.{narrow_row, start_width, rows_bytes, rows_len as function_rows_len}
-use Rattle.sf_write.specs.Room.{offsets_fit, rows_fit, entry_fits}
+use Rattle.sf_write.specs.Row.{start_width, rows_bytes, rows_len as function_rows_len}
+use Rattle.sf_write.specs.Room.{rows_fit, entry_fits}
 use Rattle.sf_write.specs.Reach.{is_in_reach, first_out_of_reach}
 use Rattle.sf_write.specs.Entry.{entry_bytes, entries_bytes}
 use Rattle.sf_write.specs.Section.{row_section_len}

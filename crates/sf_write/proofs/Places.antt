@@ -1,11 +1,11 @@
 -- What numbers stand at a place, where the bytes from there on are known.
-use Rattle.std.proofs.Common.{◌≡◌, ◌≤◌, ◌<◌, ℕ, ℤ, zero, suc, pos, negsuc, ◌+◌, ◌*◌, ◌%◌, ◌^◌, ◌-ℤ◌, ◌+ℤ◌, Bool, true, false, IsTrue, List, [], ◌∷◌, ◌++◌, length, drop, slice_index, refl, ap, sym, subst, ◌∙◌, arith, nat_lt, of_z, w32}
+use Rattle.std.proofs.Common.{◌≡◌, ◌≤◌, ◌<◌, ℕ, ℤ, zero, suc, pos, negsuc, ◌+◌, ◌*◌, ◌-ℤ◌, ◌+ℤ◌, Bool, true, false, IsTrue, List, ◌++◌, length, drop, slice_index, refl, ap, sym, ◌∙◌, arith, nat_lt, of_z, w32}
 use Rattle.std.specs.Prelude.{if◌then◌else◌}
 use Rattle.std.proofs.lemmas.List.{drop-drop, get_or-drop}
 use Rattle.std.proofs.Math.Seq.{drop-append_seam}
 use Rattle.std.proofs.Math.IntN.{+ℤ_comm, -ℤ-+ℤ_cancel}
 use Rattle.byteorder.specs.Endian.{little_from, little_bytes, twos_complement}
-use Rattle.byteorder.specs.Numbers.{little_number-reads_back, little_from-bytes}
+use Rattle.byteorder.specs.Numbers.{little_number-reads_back}
 use Rattle.sf_model.specs.Width.{holds_signed}
 use Rattle.sf_model.specs.Section.{number_in}
 use Rattle.sf_model.proofs.RowNumbers.{below_if}

@@ -1,5 +1,5 @@
 -- The rows of a function that are written stand, with the least widths.
-use Rattle.std.proofs.Common.{◌≡◌, ◌≤◌, ◌<◌, ℕ, zero, suc, ◌+◌, ◌*◌, ◌^◌, Bool, true, false, ◌&&◌, IsTrue, List, [], ◌∷◌, ◌++◌, length, take, drop, get_or, refl, ap, sym, subst, ◌∙◌, arith, add-one, nat_lt, length-append}
+use Rattle.std.proofs.Common.{◌≡◌, ◌≤◌, ◌<◌, ℕ, zero, suc, ◌+◌, ◌*◌, ◌^◌, Bool, true, false, ◌&&◌, IsTrue, List, [], ◌∷◌, ◌++◌, length, take, drop, get_or, refl, ap, subst, ◌∙◌, arith, add-one, nat_lt, length-append}
 use Rattle.std.specs.Prelude.{All, if◌then◌else◌}
 use Rattle.std.specs.List.{flat_map, list_all}
 use Rattle.std.proofs.lemmas.List.{append_assoc}
@@ -12,14 +12,14 @@ use Rattle.sf_model.specs.declared.rows.Row.{Row}
 use Rattle.sf_model.specs.Content.{content_fits}
 use Rattle.sf_model.specs.Function.{RowsRise}
 use Rattle.sf_model.specs.Width.{width_len, holds_unsigned, IsWidth, NoneLess}
-use Rattle.sf_model.specs.RowBytes.{holds_row_offsets, spelled_row, StandsAt}
+use Rattle.sf_model.specs.RowBytes.{holds_row_offsets, StandsAt}
 use Rattle.sf_model.specs.Section.{RowStands, RowsStand}
 use Rattle.sf_model.specs.Tight.{last_start, LeastWidth}
 use Rattle.sf_model.proofs.RowNumbers.{below_if}
 use Rattle.sf_model.proofs.TightOne.{zero_held}
 use Rattle.sf_sizes.specs.Width.{least_width}
 use Rattle.sf_sizes.specs.RowLength.{offset_width}
-use Rattle.sf_write.specs.Row.{narrow_row, start_width}
+use Rattle.sf_write.specs.Row.{narrow_row}
 use Rattle.sf_write.specs.Room.{offsets_fit}
 use Rattle.sf_write.proofs.Places.{after}
 

@@ -1,21 +1,20 @@
 -- A section that is written says its table, without gaps and with the least widths.
-use Rattle.std.proofs.Common.{◌≡◌, ◌≤◌, ◌<◌, ℕ, zero, suc, ◌+◌, ◌*◌, Bool, true, false, IsTrue, None, List, [], ◌∷◌, ◌++◌, length, take, drop, slice_index, refl, ap, sym, subst, ◌∙◌, arith}
+use Rattle.std.proofs.Common.{◌≡◌, ◌≤◌, ◌<◌, ℕ, ◌+◌, ◌*◌, IsTrue, None, List, ◌++◌, length, take, drop, slice_index, refl, ap, sym, subst, ◌∙◌, arith}
 use Rattle.std.specs.List.{flat_map, list_all}
 use Rattle.std.proofs.lemmas.List.{append_assoc}
 use Rattle.std.proofs.Math.Seq.{take-length}
 use Rattle.sf_model.specs.declared.machine.Arch.{Arch}
-use Rattle.sf_model.specs.declared.machine.Arch.TheVariants.{Amd64, Aarch64}
 use Rattle.sf_model.specs.declared.function.Func.{Func}
 use Rattle.sf_model.specs.Function.{AreWritable}
-use Rattle.sf_model.specs.Table.{Table, row_count}
-use Rattle.sf_model.specs.Section.{Section, IsHeader, number_in, auxiliary_len, rows_len, functions_offset, rows_offset, rows_place, functions_place, row_bytes_of, abi_number, fixed_return_byte, FunctionsStand}
+use Rattle.sf_model.specs.Table.{row_count}
+use Rattle.sf_model.specs.Section.{Section, number_in, auxiliary_len, rows_len, functions_offset, rows_offset, rows_place, functions_place, row_bytes_of, abi_number, fixed_return_byte, FunctionsStand}
 use Rattle.sf_model.specs.Tight.{Tight, Narrow, WithoutGaps, LeastWidths}
 use Rattle.sf_write.specs.Number.{word_bytes}
 use Rattle.sf_write.specs.Room.{rows_fit, entry_fits}
 use Rattle.sf_write.specs.Row.{rows_bytes}
 use Rattle.sf_write.specs.Reach.{first_out_of_reach}
 use Rattle.sf_write.specs.Entry.{entries_bytes}
-use Rattle.sf_write.specs.Section.{table_of, preamble, header_bytes, section_bytes, section_len, row_section_len}
+use Rattle.sf_write.specs.Section.{table_of, preamble, header_bytes, section_bytes, row_section_len}
 use Rattle.sf_write.proofs.Lengths.{length-word, length-header, length-entries, length-all_rows, length-section}
 use Rattle.sf_write.proofs.Places.{after, word_at}
 use Rattle.sf_write.proofs.FunctionsWritten.{FunctionsWritten, functions_written}

@@ -1,7 +1,5 @@
-use Rattle.std.proofs.Common.{◌≡◌, ◌≤◌, ◌∙◌, ap, sym, subst, arith, length, None, IsTrue}
-use Rattle.std.specs.List.{list_all}
+use Rattle.std.proofs.Common.{◌≡◌, ◌≤◌, ◌∙◌, ap, sym, subst, arith, length}
 use Rattle.std.proofs.lemmas.Grind.{common_steps}
-use Rattle.sf_write.specs.Room.{entry_fits, rows_fit}
 use Rattle.sf_write.specs.Section.{section_bytes, row_section_len, table_of}
 use Rattle.sf_write.proofs.Lengths.{length-section}
 use Rattle.sf_write.proofs.SectionWritten.{SectionWritten, section_written}
