@@ -1,11 +1,8 @@
--- Width 2 is the least where the two below hold not.
-use Rattle.std.proofs.Common.{◌≡◌, ℕ, zero, suc, Bool, true, false, arith, lit≤}
-use Rattle.sf_model.specs.Width.{IsWidth, NoneLess}
+-- No byte and no two bytes hold a start that is greater than theirs.
+use Rattle.std.proofs.Common.{◌≡◌, ◌<◌, ℕ, zero, suc, false, arith}
+use Rattle.sf_model.specs.Width.{holds_unsigned}
 
-pub none_below_two : (holds : ℕ → Bool) → holds 0 ≡ false → holds 1 ≡ false → NoneLess holds 2
-none_below_two holds zero_not one_not zero h = zero_not
-none_below_two holds zero_not one_not (suc zero) h = one_not
-none_below_two holds zero_not one_not (suc (suc s)) h = absurd (omega arith)
-
-pub two_is_width : (holds : ℕ → Bool) → holds 2 ≡ true → IsWidth holds 2
-two_is_width holds two = record { there_is = lit≤ tt; held = two }
+pub none_below_two : (last smaller : ℕ) → 65535 < last → smaller < 2 → holds_unsigned last smaller ≡ false
+none_below_two last zero h lt = search (arith, h)
+none_below_two last (suc zero) h lt = search (arith, h)
+none_below_two last (suc (suc smaller)) h lt = absurd (omega (lt, arith))

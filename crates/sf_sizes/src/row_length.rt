@@ -26,6 +26,7 @@ pub fn offset_size(content: &Content) -> u8
 
 /// How many bytes a row has, whose start has the width `kind`: the start, the info byte and the
 /// offsets, of which AMD64 has 1 or 2 and AArch64 has 1 to 3. They are 17 at most.
+#[tactic(auto, using(crate::proofs::Spelled::spelled_is))]
 pub fn row_bytes(kind: u8, content: &Content) -> u32
     requires { kind ≤ 2 }
     ensures value { result ≡ row_len kind content.now }

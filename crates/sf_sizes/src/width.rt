@@ -7,6 +7,7 @@ ghost use Rattle.sf_sizes.specs.Width.{least_width};
 
 /// The width of a function's row starts, of which `last` is the greatest: 0, 1 or 2 for 1, 2 or 4
 /// unsigned bytes, the least that holds it.
+#[tactic(auto, using(crate::proofs::Least::none_below_two))]
 pub fn row_type(last: u32) -> u8
     ensures value { result ≡ least_width (holds_unsigned last) }
     ensures width { IsWidth (holds_unsigned last) result }
