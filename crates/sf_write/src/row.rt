@@ -24,6 +24,7 @@ pub(crate) fn start_width_of(rows: &[Row]) -> u8
 }
 
 /// The start of the last row.
+#[tactic(auto, using(crate::proofs::LastStart::last_start_by))]
 fn last_start_of(rows: &[Row]) -> u32
     ensures { result ≡ last_start rows.now }
 {
