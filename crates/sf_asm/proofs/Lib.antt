@@ -5,3 +5,4 @@ pub mod Limits
 pub mod Finding
 pub mod Agreeing
 pub mod Walking
+pub mod FaithfulSections

@@ -1,12 +1,13 @@
 -- What calls answer, by the definitions of what inputs come to.
-use Rattle.std.specs.Prelude.{◌≡◌, ◌⊎◌, ℕ, List, [], ◌∷◌, map, length, Option, Result, Ok, Err}
+use Rattle.std.specs.Prelude.{◌≡◌, ◌⊎◌, ℕ, List, [], ◌∷◌, map, length, Option, None, Result, Ok, Err}
 use Rattle.sf_model.specs.declared.function.Func.{Func}
 use Rattle.sf_model.specs.declared.omission.Omitted.{Omitted}
 use Rattle.sf_model.specs.declared.omission.Span.{Span}
 use Rattle.cfa_machine.specs.declared.fault.MachineFault.{MachineFault}
 use Rattle.eh_records.specs.declared.fault.RecordFault.{RecordFault}
 use Rattle.eh_records.specs.Section.{EntryView}
-use Rattle.sf_write.specs.Section.{section_bytes}
+use Rattle.sf_model.specs.Tight.{Narrow, Tight}
+use Rattle.sf_write.specs.Section.{table_of}
 use Rattle.sf_asm.specs.declared.assembling.Linked.{Linked}
 use Rattle.sf_asm.specs.declared.entry.Entry.{Entry}
 use Rattle.sf_asm.specs.declared.fault.AsmFault.{AsmFault}
@@ -17,9 +18,10 @@ use Rattle.sf_asm.specs.declared.fault.LinkFault.{LinkFault}
 use Rattle.sf_asm.specs.declared.fault.LinkFault.TheVariants as link
 use Rattle.sf_asm.specs.declared.gathering.Sorted.{Sorted}
 use Rattle.sf_asm.specs.Entry.{kept_of, omitted_of, spans_of}
-use Rattle.sf_asm.specs.Functions.{Function, Object, machine_of, named, unless}
+use Rattle.sf_asm.specs.Faithful.{Faithful}
+use Rattle.sf_asm.specs.Functions.{Function, Object, functions_of, machine_of, named, unless}
 use Rattle.sf_asm.specs.Kept.{entry_of}
-use Rattle.sf_asm.specs.Linking.{Gathers, Links}
+use Rattle.sf_asm.specs.Linking.{Gathers, InOrder, Links, link_fault}
 
 -- a value that is seen as another one
 abbrev pub seen_as : {A B F : Type 0} → (A → B) → Result A F → Result B F
@@ -56,11 +58,17 @@ pub record AreGathered (objects : List Object) (kept : List Func) (omitted : Lis
 abbrev pub IsFirstGathered : List Object → GatherFault → Type 0
 IsFirstGathered objects fault = (fault ≡ gather.NoMemory) ⊎ Gathers objects (Err fault)
 
--- the section of an input, and what it holds
+-- These bytes are the section of an input: its functions are read and none is refused, the bytes are a faithful section of them,
+-- without gaps and with the least widths, and so many functions are kept, and these are left out.
 pub record IsAssembled (object : Object) (at : ℕ) (section : List ℕ) (kept : ℕ) (omitted : List Omitted) : Type 0 where
+  pub functions : List Function
+  pub are : functions_of 0 (object ∷ []) ≡ Ok functions
   pub ordered : List Entry
-  pub is : Links (object ∷ []) at (Ok ordered)
-  pub section_is : section ≡ section_bytes (machine_of object.form) at (kept_of ordered)
+  pub in_order : InOrder (map entry_of functions) ordered
+  pub accepted : link_fault at ordered ≡ None
+  pub faithful : Faithful section at (machine_of object.form) functions
+  pub tight : Tight section at (table_of (machine_of object.form) (kept_of ordered))
+  pub narrow : Narrow section (table_of (machine_of object.form) (kept_of ordered))
   pub kept_is : kept ≡ length (kept_of ordered)
   pub omitted_are : omitted ≡ omitted_of ordered
 

@@ -77,10 +77,16 @@ abbrev pub Ordered : Result (List Function) GatherFault → (List Entry → Type
 Ordered (Ok functions) Then Fails = (ordered : List Entry) × InOrder (map entry_of functions) ordered × Then ordered
 Ordered (Err fault) Then Fails = Fails fault
 
--- gathering these inputs, numbered from 0 on, comes to this
+-- gathering inputs, numbered from 0 on, comes to this
+abbrev pub GathersFrom : Result (List Function) GatherFault → Result (List Entry) GatherFault → Type 0
+GathersFrom given result = Ordered given (λ ordered. result ≡ unless_fault (functions_fault ordered) ordered) (λ fault. result ≡ Err fault)
+
 abbrev pub Gathers : List Object → Result (List Entry) GatherFault → Type 0
-Gathers objects result = Ordered (functions_of 0 objects) (λ ordered. result ≡ unless_fault (functions_fault ordered) ordered) (λ fault. result ≡ Err fault)
+Gathers objects result = GathersFrom (functions_of 0 objects) result
 
 -- linking them for this address comes to this
+abbrev pub LinksFrom : (at : ℕ) → Result (List Function) GatherFault → Result (List Entry) LinkFault → Type 0
+LinksFrom at given result = Ordered given (λ ordered. result ≡ unless_fault (link_fault at ordered) ordered) (λ fault. result ≡ Err (Gather fault))
+
 abbrev pub Links : List Object → (at : ℕ) → Result (List Entry) LinkFault → Type 0
-Links objects at result = Ordered (functions_of 0 objects) (λ ordered. result ≡ unless_fault (link_fault at ordered) ordered) (λ fault. result ≡ Err (Gather fault))
+Links objects at result = LinksFrom at (functions_of 0 objects) result
