@@ -6,3 +6,4 @@ pub mod Kept
 pub mod Linking
 pub mod Faithful
 pub mod Answers
+pub mod Told
