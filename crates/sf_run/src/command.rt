@@ -81,7 +81,7 @@ pub fn run<F: Files, O: Sink, E: Sink>(
         say(err, "usage", "");
         return Status::Usage;
     };
-    match make(alloc, &link.input, link.at, files) {
+    match make(alloc, &link, files) {
         Ok(made) => deliver(&link, &made, files, out, err),
         Err(refusal) => tell(&refusal, link.input.name, err),
     }

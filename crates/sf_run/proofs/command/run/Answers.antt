@@ -14,8 +14,8 @@ returns-in-Ok-clause-ends g c link h =
     let loaded = files_seen g.F.Files.contents g.F.Files.created g.F.Files.read_faults g.F.Files.write_faults c.make.new.files in
     let after = files_seen g.F.Files.contents g.F.Files.created g.F.Files.read_faults g.F.Files.write_faults c.deliver.new.files in
     rw (← same)
-    (ends_from_delivers c.deliver.result (link_of c.in-Some.link) before loaded after _ _ _ _
-    record { contents = c.make.ensures.contents; created = c.make.ensures.created; write_faults = c.make.ensures.write_faults } c.deliver.ensures)
+    (ends_from_delivers c.deliver.result (link_of c.in-Some.link) before loaded after _ _ _ _ _ _
+    record { contents = c.make.ensures.contents; created = c.make.ensures.created; write_faults = c.make.ensures.write_faults } c.in-Ok.ensures.made c.deliver.ensures)
 
 pub returns-in-Err-clause-ends : goal.returns-in-Err-clause-ends
 returns-in-Err-clause-ends g c link h =
@@ -26,4 +26,4 @@ returns-in-Err-clause-ends g c link h =
     rw (← same)
     (ends_from_tells c.in-Err.refusal c.tell.result (link_of c.in-Some.link) before loaded out _ _
     record { contents = c.make.ensures.contents; created = c.make.ensures.created; write_faults = c.make.ensures.write_faults }
-    c.in-Err.ensures.told (λ e. c.make.ensures.read (c.in-Err.is ∙ ap Err e)) (λ e. c.make.ensures.too_long (c.in-Err.is ∙ ap Err e)) c.tell.ensures)
+    (λ e. c.make.ensures.read (c.in-Err.is ∙ ap Err e)) c.in-Err.ensures.first c.tell.ensures)
