@@ -6,3 +6,4 @@ pub mod Finding
 pub mod Agreeing
 pub mod Walking
 pub mod FaithfulSections
+pub mod OneOrder

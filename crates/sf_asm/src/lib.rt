@@ -5,8 +5,9 @@
 //! functions that are left out, with their reasons, and the addresses of all. [`assemble`] writes the
 //! section of one input. An input has fewer than 2^32 bytes. Both take memory; no section is copied.
 //!
-//! [`kept_functions_recover_alike`] and [`walks_are_alike`] are laws: the kept functions recover what DWARF
-//! recovers, and walks over them are walks by DWARF.
+//! [`kept_functions_recover_alike`], [`walks_are_alike`] and [`linking_comes_to_one_result`] are laws: the kept
+//! functions recover what DWARF recovers, walks over them are walks by DWARF, and what linking comes to is
+//! determined by the inputs.
 #![tactic(auto)]
 
 mod assembling;
@@ -22,4 +23,6 @@ pub use assembling::{Linked, assemble};
 pub use fault::{AsmFault, GatherFault, LinkFault};
 pub use gathering::{Gathered, gather};
 pub use input::{Form, Input};
-pub use laws::{kept_functions_recover_alike, walks_are_alike};
+pub use laws::{
+    kept_functions_recover_alike, linking_comes_to_one_result, walks_are_alike,
+};

@@ -1,6 +1,6 @@
 -- How a run ends: for each status what files and sinks then hold, and which line was told.
-use Rattle.std.specs.Prelude.{◌≡◌, ◌⊎◌, ℕ, Bool, List, Option}
-use Rattle.sf_base.specs.Contents.{Unchanged, Holds, HoldsPrefix}
+use Rattle.std.specs.Prelude.{◌≡◌, ◌⊎◌, ℕ, Bool, List, Option, None, IfSome}
+use Rattle.sf_base.specs.Contents.{contents_of, Unchanged, Holds, HoldsPrefix}
 use Rattle.sf_base.specs.Faults.{Rose}
 use Rattle.sf_base.specs.Written.{Appends, AppendsPrefix}
 use Rattle.sf_model.specs.declared.notice.Notice.{Notice}
@@ -10,7 +10,7 @@ use Rattle.sf_run.specs.declared.refusal.Refusal.{Refusal}
 use Rattle.sf_run.specs.declared.refusal.Refusal.TheVariants as refusal
 use Rattle.sf_run.specs.declared.status.Status.{Status}
 use Rattle.sf_run.specs.declared.status.Status.TheVariants as status
-use Rattle.sf_run.specs.First.{IsMade, IsRefused, IsExceeded}
+use Rattle.sf_run.specs.First.{First, IsMade, IsRefused, IsExceeded}
 use Rattle.sf_run.specs.Words.{LinkWords}
 use Rattle.sf_run.specs.Lines.{read_line, write_file_line, write_output_line, memory_line, limit_line}
 
@@ -86,6 +86,18 @@ Ends status.Refused link files files' out out' err err' =
 Ends status.Memory link files files' out out' err err' = IsTurnedAway files files' out out' err err' memory_line
 Ends status.Limit link files files' out out' err err' =
     (limit : Limit) × IsExceeded link files.contents limit × IsTurnedAway files files' out out' err err' (limit_line limit)
+
+-- no open, read, create or write failed, of the files and of the output
+pub record IsUnfaulted (files files' : FilesSeen) (out out' : SinkSeen) : Type 0 where
+  pub reads : Rose files.read_faults files'.read_faults → ⊥
+  pub writes : Rose files.write_faults files'.write_faults → ⊥
+  pub output : Rose out.faults out'.faults → ⊥
+
+-- Where the contents are told and nothing is refused, a run in which no call failed is done, unless memory was wanting.
+abbrev pub IsComplete : Status → LinkWords → FilesSeen → FilesSeen → SinkSeen → SinkSeen → Type 0
+IsComplete answer link files files' out out' =
+    IfSome files.contents (λ told. First link.input link.at (contents_of told link.input.name) None → IsUnfaulted files files' out out'
+    → (answer ≡ status.Done) ⊎ (answer ≡ status.Memory))
 
 -- what a run leaves that has made this section and this text
 abbrev pub Delivers : Status → LinkWords → FilesSeen → FilesSeen → SinkSeen → SinkSeen → SinkSeen → SinkSeen → (section text : List ℕ) → Type 0

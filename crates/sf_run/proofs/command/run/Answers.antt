@@ -2,6 +2,7 @@ use Rattle.std.proofs.Common.{◌≡◌, Err, ap, ◌∙◌}
 use Rattle.sf_run.specs.Parsed.{link_of}
 use Rattle.sf_run.specs.Ends.{files_seen, sink_seen}
 use Rattle.sf_run.proofs.Endings.{ends_from_delivers, ends_from_tells}
+use Rattle.sf_run.proofs.Completeness.{complete_from}
 use Rattle.sf_run.proofs.command.run.Goals as goal
 
 pub returns-in_default-clause-ends : goal.returns-in_default-clause-ends
@@ -27,3 +28,12 @@ returns-in-Err-clause-ends g c link h =
     (ends_from_tells c.in-Err.refusal c.tell.result (link_of c.in-Some.link) before loaded out _ _
     record { contents = c.make.ensures.contents; created = c.make.ensures.created; write_faults = c.make.ensures.write_faults }
     (λ e. c.make.ensures.read (c.in-Err.is ∙ ap Err e)) c.in-Err.ensures.first c.tell.ensures)
+
+pub returns-in_default-clause-complete : goal.returns-in_default-clause-complete
+returns-in_default-clause-complete g c link h = absurd (c.in_default.ensures.only link h)
+
+pub returns-in-Ok-clause-complete : goal.returns-in-Ok-clause-complete
+returns-in-Ok-clause-complete g c link h = complete_from _ link _ _ _ _ _ _ (returns-in-Ok-clause-ends g c link h)
+
+pub returns-in-Err-clause-complete : goal.returns-in-Err-clause-complete
+returns-in-Err-clause-complete g c link h = complete_from _ link _ _ _ _ _ _ (returns-in-Err-clause-ends g c link h)
