@@ -7,3 +7,4 @@ pub mod Agreeing
 pub mod Walking
 pub mod FaithfulSections
 pub mod OneOrder
+pub mod Worked
