@@ -100,7 +100,7 @@ guarded : (b : Bool) (e : RelocFault) (r : Result (Unit {0}) RelocFault) → (if
 guarded true e r h = absurd (cc h)
 guarded false e r h = (refl, h)
 
-apart_here : (end : ℕ) (f : Fix) (fs : List Fix) → overlap_check end (f ∷ fs) ≡ Ok tt → (end ≤ f.place) × (overlap_check (f.place + width_of f.range) fs ≡ Ok tt)
+pub apart_here : (end : ℕ) (f : Fix) (fs : List Fix) → overlap_check end (f ∷ fs) ≡ Ok tt → (end ≤ f.place) × (overlap_check (f.place + width_of f.range) fs ≡ Ok tt)
 apart_here end f fs apart =
     let p = guarded (nat_lt f.place end) (Twice f.index) (overlap_check (f.place + width_of f.range) fs) (sym (overlap_check-cons end f fs) ∙ apart) in
     (ltb-false f.place end p.0, p.1)

@@ -7,7 +7,7 @@ use Rattle.elf_reloc.specs.declared.fault.RelocFault.TheVariants.{Place}
 use Rattle.elf_reloc.specs.declared.fix.Fix.{Fix}
 use Rattle.elf_reloc.specs.Order.{place_check, lies_on}
 
-cons : (fields : List Field) (f : Fix) (fs : List Fix) → place_check fields (f ∷ fs) ≡ (if lies_on fields f then place_check fields fs else Err (Place f.index))
+pub cons : (fields : List Field) (f : Fix) (fs : List Fix) → place_check fields (f ∷ fs) ≡ (if lies_on fields f then place_check fields fs else Err (Place f.index))
 unfolding place_check
 cons fields f fs = refl
 

@@ -1,5 +1,5 @@
 -- Fields in the order of their places, and whether they overlap.
-use Rattle.std.specs.Prelude.{◌≡◌, ℕ, ◌+◌, ◌==◌, Bool, false, List, [], ◌∷◌, Option, Some, None, Result, Ok, Err, nat_lt, if◌then◌else◌}
+use Rattle.std.specs.Prelude.{◌≡◌, ℕ, ◌+◌, ◌<◌, ◌≤◌, ◌==◌, Bool, false, List, [], ◌∷◌, length, Option, Some, None, Result, Ok, Err, nat_lt, slice_index_or, if◌then◌else◌}
 use Rattle.std.specs.List.Sorted.{IsPermutation, IsNonDecreasingBy, IsStableByKey}
 use Rattle.std.specs.Ordering.{nat_cmp}
 use Rattle.sf_bytes.specs.declared.field.Field.{Field}
@@ -29,6 +29,14 @@ first_at number n (x ∷ xs) = if number x == n then Some x else first_at number
 
 abbrev pub field_place : Field → ℕ
 field_place g = g.place
+
+-- pointer fields by rising place
+abbrev pub FieldsRise : List Field → Type 0
+FieldsRise fields = IsNonDecreasingBy field_place fields
+
+-- each ends where a later one begins, or before
+abbrev pub AreApart : List Field → Type 0
+AreApart fields = (i j : ℕ) (d : Field) → i < j → j < length fields → (slice_index_or fields i d).place + (slice_index_or fields i d).width ≤ (slice_index_or fields j d).place
 
 -- whether a field that was found has the width that is written
 abbrev pub has_width : Option Field → Fix → Bool
