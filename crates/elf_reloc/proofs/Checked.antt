@@ -1,8 +1,8 @@
 -- What the fields of a list hold on which all relocations lie.
-use Rattle.std.proofs.Common.{◌≡◌, ◌⊎◌, ℕ, zero, suc, ◌+◌, ◌<◌, ◌≤◌, ◌^◌, ◌==◌, Bool, true, false, List, [], ◌∷◌, length, get_or, drop, Option, Some, None, Result, Ok, Err, refl, sym, ap, ◌∙◌, subst, arith, inl, inr, if◌then◌else◌, eq-eqb}
+use Rattle.std.proofs.Common.{◌≡◌, ◌⊎◌, ℕ, zero, suc, ◌+◌, ◌<◌, ◌≤◌, ◌^◌, Bool, true, false, List, [], ◌∷◌, length, get_or, drop, Option, Some, None, Result, Ok, Err, refl, sym, ap, ◌∙◌, subst, arith, inl, inr, if◌then◌else◌, eq-eqb}
 use Rattle.std.specs.List.{All, Contains}
 use Rattle.std.proofs.lemmas.Bool.{cases_eq, cases_lt, eqb-true}
-use Rattle.std.specs.Prelude.{IsTrue}
+use Rattle.std.specs.Prelude.{IsTrue, ◌↔◌}
 use Rattle.std.proofs.Math.Nat.{mod-lt}
 use Rattle.std.specs.Option.{option_map}
 use Rattle.std.proofs.lemmas.List.Elements.{All-nil, All-cons, All-head, All-tail, All-contains}
@@ -17,14 +17,14 @@ use Rattle.elf_reloc.specs.declared.fault.RelocFault.TheVariants as faults
 use Rattle.elf_reloc.specs.declared.fix.Fix.{Fix}
 use Rattle.elf_reloc.specs.declared.table.Range.{Range}
 use Rattle.elf_reloc.specs.declared.table.Range.TheVariants.{Any, Unsigned, Signed, Either}
-use Rattle.elf_reloc.specs.Fields.{fix_bits, bits_by, bits_in}
+use Rattle.elf_reloc.specs.Fields.{fix_bits, bits_by, bits_in, dropped_by, is_dropped_in}
 use Rattle.elf_reloc.specs.Order.{overlap_check, first_at, place_of, field_place, has_width, lies_on, place_check, AreApart}
-use Rattle.elf_reloc.specs.Patched.{patched, AreInside, IsFree, AreRaw, IsUnresolved, Holds}
+use Rattle.elf_reloc.specs.Patched.{patched, AreInside, IsFree, AreRaw, IsUnresolved, IsDropped, Holds}
 use Rattle.elf_reloc.specs.Reading.{section_state}
 use Rattle.elf_reloc.specs.Table.{width_of, low_bits}
 use Rattle.elf_reloc.specs.Views.{Reads}
 use Rattle.elf_reloc.proofs.First.{nil, same, other}
-use Rattle.elf_reloc.proofs.Inside.{IsSmall, reads_inside, reads_small}
+use Rattle.elf_reloc.proofs.Inside.{IsSmall, reads_inside, reads_small, reads_hidden}
 use Rattle.elf_reloc.proofs.Patching.{apart_here, holds, holds_still}
 use Rattle.elf_reloc.proofs.Placing as placing
 
@@ -231,3 +231,35 @@ pub reads_free : (p : Placed) (section : ℕ) (fixes : List Fix) (place width : 
     → little_number width (drop place (patched fixes (section_bytes (file p) section))) ≡ little_number width (drop place (section_bytes (file p) section))
 reads_free p section fixes place width reads free =
     holds_still fixes (section_bytes (file p) section) place width (reads_inside p section reads.state fixes reads.read reads.order.moved) free
+
+-- whether a field is dropped, by what was found at its place
+drops_by : (fixes : List Fix) (fields : List Field) (i : ℕ) (d : Field) (o : Option Fix) → overlap_check 0 fixes ≡ Ok tt → AreApart fields → All (λ f. lies_on fields f ≡ true) fixes → i < length fields → first_at place_of (get_or fields i d).place fixes ≡ o
+    → (dropped_by o (get_or fields i d).width ≡ true) ↔ IsDropped fixes (get_or fields i d)
+drops_by fixes fields i d None apart clear lie within found =
+    let g = get_or fields i d in
+    let differ = none_has place_of g.place fixes found in
+    (λ h. absurd (cc h), λ u. absurd (All-contains (λ (f : Fix). f.place ≡ g.place → ⊥) fixes u.fix differ u.among u.at))
+drops_by fixes fields i d (Some f) apart clear lie within found =
+    let g = get_or fields i d in
+    let at = found_at place_of g.place fixes f f found in
+    let among : Contains fixes f = (at.0, at.1, at.2) in
+    let t : lies_on fields f ≡ true = All-contains (λ (x : Fix). lies_on fields x ≡ true) fixes f lie among in
+    let width : width_of f.range ≡ g.width = width_there fields i d f clear within (positive_width g.width g.wide) t at.3 in
+    let is : dropped_by (Some f) g.width ≡ f.dropped = ap (λ (b : Bool). if b then f.dropped else false) (eq-eqb (width_of f.range) g.width width) in (
+      λ h. record { fix = f; among = among; at = at.3; gone = sym is ∙ h },
+      λ u.
+          let first : first_at place_of u.fix.place fixes ≡ Some u.fix = All-contains (λ (x : Fix). first_at place_of x.place fixes ≡ Some x) fixes u.fix (each_first 0 fixes apart) u.among in
+          let both : Some f ≡ Some u.fix = sym found ∙ ap (λ (k : ℕ). first_at place_of k fixes) (sym u.at) ∙ first in
+          let e : f ≡ u.fix = cc both in
+          is ∙ ap (λ (x : Fix). x.dropped) e ∙ u.gone,
+    )
+
+pub reads_drop : (p : Placed) (section : ℕ) (fixes : List Fix) (fields : List Field) → Reads (section_state p section) fixes → AreApart fields → place_check fields fixes ≡ Ok tt
+    → All (λ g. (is_dropped_in fixes g.place g.width ≡ true) ↔ IsDropped fixes g) fields
+reads_drop p section fixes fields reads clear checked = λ i d within.
+    drops_by fixes fields i d (first_at place_of (get_or fields i d).place fixes) reads.apart clear (each_lies fields fixes checked) within refl
+
+pub reads_unknown : (p : Placed) (section : ℕ) (fixes : List Fix) (g : Field) → Reads (section_state p section) fixes → IsDropped fixes g → IsUnresolved fixes g
+reads_unknown p section fixes g reads u =
+    let hidden = reads_hidden p section reads.state fixes reads.read reads.order.moved in
+    record { fix = u.fix; among = u.among; at = u.at; unknown = All-contains (λ (f : Fix). f.dropped ≡ true → f.value ≡ None) fixes u.fix hidden u.among u.gone }

@@ -1,5 +1,5 @@
 -- What is read of a section lies in its bytes, and its values are numbers of 64 bits.
-use Rattle.std.proofs.Common.{◌≡◌, ℕ, zero, suc, ◌+◌, ◌-◌, ◌%◌, ◌^◌, ◌<◌, ◌≤◌, Bool, true, false, List, [], ◌∷◌, ◌++◌, length, get_or, Option, Some, None, Result, Ok, Err, refl, sym, ap, ◌∙◌, subst, arith, nat_lt, ltb-false, if◌then◌else◌}
+use Rattle.std.proofs.Common.{◌≡◌, ℕ, zero, suc, ◌+◌, ◌-◌, ◌%◌, ◌^◌, ◌<◌, ◌≤◌, Bool, true, false, List, [], ◌∷◌, length, Option, Some, None, Result, Ok, Err, refl, sym, ap, ◌∙◌, subst, arith, nat_lt, ltb-false, if◌then◌else◌}
 use Rattle.std.specs.List.{All}
 use Rattle.std.specs.List.Sorted.{IsPermutation}
 use Rattle.std.proofs.Math.Nat.{mod-lt}
@@ -27,8 +27,12 @@ use Rattle.elf_reloc.specs.Table.{width_of, fits, absolute, relative}
 abbrev pub IsSmall : Fix → Type 0
 IsSmall f = (v : ℕ) → f.value ≡ Some v → v < 2 ^ 64
 
+-- a dropped one's value is not known
+abbrev pub IsHidden : Fix → Type 0
+IsHidden f = f.dropped ≡ true → f.value ≡ None
+
 abbrev IsInside : ℕ → Fix → Type 0
-IsInside len f = (f.place + width_of f.range ≤ len) × IsSmall f
+IsInside len f = (f.place + width_of f.range ≤ len) × IsSmall f × IsHidden f
 
 -- what a choice answered, and by which test
 picked : {A E : Type 0} → (b : Bool) (x y : A) (e : E) → (if b then Ok x else Err e) ≡ Ok y → x ≡ y
@@ -61,17 +65,20 @@ some_small u h v e = let same : u ≡ v = cc e in subst (λ (k : ℕ). k < 2 ^ 6
 none_small : (v : ℕ) → None ≡ some v → v < 2 ^ 64
 none_small v e = absurd (cc e)
 
-aimed_at : (place index : ℕ) (form : Range) (value : ℕ → ℕ) (target : Target) (f : Fix) → ((s : ℕ) → value s < 2 ^ 64) → aimed place index form value target ≡ Ok f → (f.place ≡ place) × (f.range ≡ form) × IsSmall f
+not_dropped : (f : Fix) → f.dropped ≡ false → IsHidden f
+not_dropped f kept gone = absurd (cc (sym gone ∙ kept))
+
+aimed_at : (place index : ℕ) (form : Range) (value : ℕ → ℕ) (target : Target) (f : Fix) → ((s : ℕ) → value s < 2 ^ 64) → aimed place index form value target ≡ Ok f → (f.place ≡ place) × (f.range ≡ form) × IsSmall f × IsHidden f
 unfolding written
 aimed_at place index form value (Address s) f small h =
     let e : spec.fix place index form (Some (value s)) false ≡ f = picked (fits form (value s)) (spec.fix place index form (Some (value s)) false) f (faults.Range index) h in
-    (sym (ap (λ (g : Fix). g.place) e), sym (ap (λ (g : Fix). g.range) e), small_value f (Some (value s)) (ap (λ (g : Fix). g.value) e) (some_small (value s) (small s)))
+    (sym (ap (λ (g : Fix). g.place) e), sym (ap (λ (g : Fix). g.range) e), small_value f (Some (value s)) (ap (λ (g : Fix). g.value) e) (some_small (value s) (small s)), not_dropped f (sym (ap (λ (g : Fix). g.dropped) e)))
 aimed_at place index form value Unresolved f small h =
     let e : spec.fix place index form None false ≡ f = cc h in
-    (sym (ap (λ (g : Fix). g.place) e), sym (ap (λ (g : Fix). g.range) e), small_value f None (ap (λ (g : Fix). g.value) e) none_small)
+    (sym (ap (λ (g : Fix). g.place) e), sym (ap (λ (g : Fix). g.range) e), small_value f None (ap (λ (g : Fix). g.value) e) none_small, λ _. sym (ap (λ (g : Fix). g.value) e))
 aimed_at place index form value Dropped f small h =
     let e : spec.fix place index form None true ≡ f = cc h in
-    (sym (ap (λ (g : Fix). g.place) e), sym (ap (λ (g : Fix). g.range) e), small_value f None (ap (λ (g : Fix). g.value) e) none_small)
+    (sym (ap (λ (g : Fix). g.place) e), sym (ap (λ (g : Fix). g.range) e), small_value f None (ap (λ (g : Fix). g.value) e) none_small, λ _. sym (ap (λ (g : Fix). g.value) e))
 
 absolute_small : (addend s : ℕ) → absolute s addend < 2 ^ 64
 unfolding absolute
@@ -90,7 +97,7 @@ inside_is len place index form value target f small h =
     let at = aimed_at place index form value target q.0 small q.1 in
     let low : place + width_of form ≤ len = ltb-false len (place + width_of form) p.0 in
     subst (λ (g : Fix). IsInside len g) same
-    (subst (λ (n : ℕ). n + width_of q.0.range ≤ len) (sym at.0) (subst (λ (r : Range). place + width_of r ≤ len) (sym at.1) low), at.2)
+    (subst (λ (n : ℕ). n + width_of q.0.range ≤ len) (sym at.0) (subst (λ (r : Range). place + width_of r ≤ len) (sym at.1) low), at.2, at.3)
 
 applied_inside : (effect : Option Effect) (len address place index addend : ℕ) (target : Target) (f : Fix) → applied effect len address place index addend target ≡ Ok (Some f) → IsInside len f
 applied_inside None len address place index addend target f h = absurd (cc h)
@@ -162,3 +169,7 @@ reads_inside p section t fixes read moved = moved_inside (length (section_bytes 
 pub reads_small : (p : Placed) (section : ℕ) (t : State) (fixes : List Fix) → section_state p section ≡ Ok t → IsPermutation t.fixes fixes → All IsSmall fixes
 reads_small p section t fixes read moved = λ k d within.
     (All-permutation (IsInside (length (section_bytes (file p) section))) t.fixes fixes moved (read_inside p section t read) k d within).1
+
+pub reads_hidden : (p : Placed) (section : ℕ) (t : State) (fixes : List Fix) → section_state p section ≡ Ok t → IsPermutation t.fixes fixes → All IsHidden fixes
+reads_hidden p section t fixes read moved = λ k d within.
+    (All-permutation (IsInside (length (section_bytes (file p) section))) t.fixes fixes moved (read_inside p section t read) k d within).2

@@ -1,6 +1,6 @@
 -- A section's bytes in which its relocations are applied (ELF64 gABI, "Relocation"): a copy in which the low
 -- bits of each known value stand in the place of its field.
-use Rattle.std.specs.Prelude.{◌≡◌, ℕ, ◌+◌, ◌≤◌, ◌⊎◌, List, [], ◌∷◌, ◌++◌, length, take, drop, Option, Some, None}
+use Rattle.std.specs.Prelude.{◌≡◌, ℕ, ◌+◌, ◌≤◌, ◌⊎◌, true, List, [], ◌∷◌, ◌++◌, length, take, drop, Option, Some, None}
 use Rattle.std.specs.List.{All, Contains}
 use Rattle.byteorder.specs.Endian.{little_bytes, little_number}
 use Rattle.sf_bytes.specs.declared.field.Field.{Field}
@@ -41,6 +41,13 @@ pub record IsUnresolved (fixes : List Fix) (g : Field) : Type 0 where
   pub among : Contains fixes fix
   pub at : fix.place ≡ g.place
   pub unknown : fix.value ≡ None
+
+-- a relocation lies on a pointer field, and its symbol lies in a section that is dropped
+pub record IsDropped (fixes : List Fix) (g : Field) : Type 0 where
+  pub fix : Fix
+  pub among : Contains fixes fix
+  pub at : fix.place ≡ g.place
+  pub gone : fix.dropped ≡ true
 
 -- what a pointer field holds: the number in the patched section, or nothing exactly where it is unresolved
 abbrev pub Holds : List Fix → List ℕ → Field → Option ℕ → Type 0
