@@ -1,5 +1,5 @@
 -- Placing one section after the other.
-use Rattle.std.proofs.Common.{◌≡◌, ℕ, suc, ◌+◌, Bool, List, [], Result, Ok, Err, refl, ap, ◌∙◌, arith}
+use Rattle.std.proofs.Common.{◌≡◌, ℕ, suc, ◌+◌, Bool, List, [], Result, Err, refl, ap, ◌∙◌, arith}
 use Rattle.elf_place.specs.declared.fault.PlaceFault.{PlaceFault}
 use Rattle.elf_place.specs.declared.fault.PlaceFault.TheVariants.{Align, AddressOverflow, NoBits, NoMemory}
 use Rattle.elf_place.specs.Place.{cursor_at, cursor_from, Fails, is_kept_eh_frame, with_one, eh_frames_below}

@@ -7,7 +7,6 @@ use Rattle.elf_read.specs.Header.{is_rel}
 use Rattle.elf_read.specs.Sections.{sh_type, sh_addr, sh_size, sh_addralign, section_count, is_allocated, is_eh_frame}
 use Rattle.elf_place.specs.declared.fault.PlaceFault.{PlaceFault}
 use Rattle.elf_place.specs.declared.fault.PlaceFault.TheVariants.{Align, AddressOverflow, NoBits, NoMemory}
-use Rattle.elf_place.specs.Dropped.{values_below}
 
 -- a section gets an address where it is loaded and not dropped
 unfoldable pub is_placed : List ℕ → List Bool → ℕ → Bool

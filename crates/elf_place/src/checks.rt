@@ -13,8 +13,6 @@ use elf_read::Elf;
 const SHF_ALLOC: u64 = 2;
 /// SHT_NOBITS.
 const SHT_NOBITS: u32 = 8;
-/// The name of a section with call frame information.
-const EH_FRAME: &[u8] = b".eh_frame";
 
 // Whether a section is loaded.
 #[tactic(auto, unfolding(elf_read::specs::Sections::is_allocated))]
@@ -34,12 +32,12 @@ pub fn is_placed(elf: &Elf<'_>, dropped: &[bool], i: u32) -> bool
 }
 
 /// Whether a section is call frame information that is not dropped.
-#[tactic(auto, unfolding(crate::specs::Place::is_kept_eh_frame, elf_read::specs::Sections::is_eh_frame))]
+#[tactic(auto, unfolding(crate::specs::Place::is_kept_eh_frame))]
 pub fn is_kept_eh_frame(elf: &Elf<'_>, dropped: &[bool], i: u32) -> bool
     requires { i < length dropped.now }
     ensures { result ≡ spec.is_kept_eh_frame (file elf.now) dropped.now i }
 {
-    is_allocated(elf, i) && elf.name(i) == EH_FRAME && !dropped[i as usize]
+    elf.is_eh_frame(i) && !dropped[i as usize]
 }
 
 // Whether an alignment is none or a power of two.

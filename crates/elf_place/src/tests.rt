@@ -1,139 +1,186 @@
-//! An object with a section group at several bases, and with some of its bytes changed.
+//! Whole files at several bases, and with some of their bytes changed.
+
+mod files;
+mod groups;
+
 use super::*;
 use elf_read::Elf;
+use files::{AARCH64, COMPILED, GENERATED, GROUPED, SHARED};
+use std::alloc::Global;
 use std::test::*;
 
-// `.group` 1, `.text` 2, `.gcc_except_table` 3, `.eh_frame` 4, `.rela.eh_frame` 5, `.symtab` 6, `.strtab` 7
-// and `.shstrtab` 8; the section headers stand from 536 on.
-const OBJECT: [u8; 1112] = *b"\
-    \x7f\x45\x4c\x46\x02\x01\x01\x00\x00\x00\x00\x00\x00\x00\x00\x00\x01\x00\x3e\x00\x01\x00\x00\x00\
-    \x00\x00\x00\x00\x00\x00\x00\x00\x00\x00\x00\x00\x00\x00\x00\x00\x18\x02\x00\x00\x00\x00\x00\x00\
-    \x00\x00\x00\x00\x40\x00\x00\x00\x00\x00\x40\x00\x09\x00\x08\x00\x01\x00\x00\x00\x02\x00\x00\x00\
-    \x03\x00\x00\x00\x00\x00\x00\x00\x00\x00\x00\x00\x00\x00\x00\x00\x00\x00\x00\x00\x00\x00\x00\x00\
-    \x00\x00\x00\x00\x00\x00\x00\x00\x00\x00\x00\x00\x00\x00\x00\x00\x00\x00\x00\x00\x00\x00\x00\x00\
-    \x00\x00\x00\x00\x00\x00\x00\x00\x1c\x00\x00\x00\x00\x00\x00\x00\x01\x7a\x50\x4c\x52\x00\x01\x78\
-    \x10\x07\x03\x00\x00\x00\x00\x03\x1b\x0c\x07\x08\x90\x01\x00\x00\x24\x00\x00\x00\x24\x00\x00\x00\
-    \x00\x00\x00\x00\x1b\x00\x00\x00\x04\x00\x00\x00\x00\x41\x0e\x10\x86\x02\x43\x0d\x06\x56\x0c\x07\
-    \x08\x00\x00\x00\x00\x00\x00\x00\x13\x00\x00\x00\x00\x00\x00\x00\x0a\x00\x00\x00\x01\x00\x00\x00\
-    \x00\x00\x00\x00\x00\x00\x00\x00\x28\x00\x00\x00\x00\x00\x00\x00\x02\x00\x00\x00\x02\x00\x00\x00\
-    \x00\x00\x00\x00\x00\x00\x00\x00\x31\x00\x00\x00\x00\x00\x00\x00\x0a\x00\x00\x00\x03\x00\x00\x00\
-    \x00\x00\x00\x00\x00\x00\x00\x00\x00\x00\x00\x00\x00\x00\x00\x00\x00\x00\x00\x00\x00\x00\x00\x00\
-    \x00\x00\x00\x00\x00\x00\x00\x00\x01\x00\x00\x00\x10\x00\x00\x00\x00\x00\x00\x00\x00\x00\x00\x00\
-    \x00\x00\x00\x00\x00\x00\x00\x00\x00\x00\x00\x00\x03\x00\x02\x00\x00\x00\x00\x00\x00\x00\x00\x00\
-    \x00\x00\x00\x00\x00\x00\x00\x00\x00\x00\x00\x00\x03\x00\x03\x00\x00\x00\x00\x00\x00\x00\x00\x00\
-    \x00\x00\x00\x00\x00\x00\x00\x00\x01\x00\x00\x00\x10\x00\x00\x00\x00\x00\x00\x00\x00\x00\x00\x00\
-    \x00\x00\x00\x00\x00\x00\x00\x00\x16\x00\x00\x00\x22\x00\x02\x00\x00\x00\x00\x00\x00\x00\x00\x00\
-    \x00\x00\x00\x00\x00\x00\x00\x00\x00\x5f\x5f\x67\x78\x78\x5f\x70\x65\x72\x73\x6f\x6e\x61\x6c\x69\
-    \x74\x79\x5f\x76\x30\x00\x5f\x5a\x31\x66\x76\x00\x00\x00\x00\x00\x00\x2e\x67\x72\x6f\x75\x70\x00\
-    \x2e\x74\x65\x78\x74\x00\x2e\x67\x63\x63\x5f\x65\x78\x63\x65\x70\x74\x5f\x74\x61\x62\x6c\x65\x00\
-    \x2e\x65\x68\x5f\x66\x72\x61\x6d\x65\x00\x2e\x72\x65\x6c\x61\x2e\x65\x68\x5f\x66\x72\x61\x6d\x65\
-    \x00\x2e\x73\x79\x6d\x74\x61\x62\x00\x2e\x73\x74\x72\x74\x61\x62\x00\x2e\x73\x68\x73\x74\x72\x74\
-    \x61\x62\x00\x00\x00\x00\x00\x00\x00\x00\x00\x00\x00\x00\x00\x00\x00\x00\x00\x00\x00\x00\x00\x00\
-    \x00\x00\x00\x00\x00\x00\x00\x00\x00\x00\x00\x00\x00\x00\x00\x00\x00\x00\x00\x00\x00\x00\x00\x00\
-    \x00\x00\x00\x00\x00\x00\x00\x00\x00\x00\x00\x00\x00\x00\x00\x00\x00\x00\x00\x00\x00\x00\x00\x00\
-    \x01\x00\x00\x00\x11\x00\x00\x00\x00\x00\x00\x00\x00\x00\x00\x00\x00\x00\x00\x00\x00\x00\x00\x00\
-    \x40\x00\x00\x00\x00\x00\x00\x00\x0c\x00\x00\x00\x00\x00\x00\x00\x06\x00\x00\x00\x05\x00\x00\x00\
-    \x04\x00\x00\x00\x00\x00\x00\x00\x04\x00\x00\x00\x00\x00\x00\x00\x08\x00\x00\x00\x01\x00\x00\x00\
-    \x06\x02\x00\x00\x00\x00\x00\x00\x00\x00\x00\x00\x00\x00\x00\x00\x50\x00\x00\x00\x00\x00\x00\x00\
-    \x1b\x00\x00\x00\x00\x00\x00\x00\x00\x00\x00\x00\x00\x00\x00\x00\x10\x00\x00\x00\x00\x00\x00\x00\
-    \x00\x00\x00\x00\x00\x00\x00\x00\x0e\x00\x00\x00\x01\x00\x00\x00\x02\x02\x00\x00\x00\x00\x00\x00\
-    \x00\x00\x00\x00\x00\x00\x00\x00\x70\x00\x00\x00\x00\x00\x00\x00\x10\x00\x00\x00\x00\x00\x00\x00\
-    \x00\x00\x00\x00\x00\x00\x00\x00\x01\x00\x00\x00\x00\x00\x00\x00\x00\x00\x00\x00\x00\x00\x00\x00\
-    \x20\x00\x00\x00\x01\x00\x00\x00\x02\x00\x00\x00\x00\x00\x00\x00\x00\x00\x00\x00\x00\x00\x00\x00\
-    \x80\x00\x00\x00\x00\x00\x00\x00\x48\x00\x00\x00\x00\x00\x00\x00\x00\x00\x00\x00\x00\x00\x00\x00\
-    \x08\x00\x00\x00\x00\x00\x00\x00\x00\x00\x00\x00\x00\x00\x00\x00\x2a\x00\x00\x00\x04\x00\x00\x00\
-    \x00\x00\x00\x00\x00\x00\x00\x00\x00\x00\x00\x00\x00\x00\x00\x00\xc8\x00\x00\x00\x00\x00\x00\x00\
-    \x48\x00\x00\x00\x00\x00\x00\x00\x06\x00\x00\x00\x04\x00\x00\x00\x08\x00\x00\x00\x00\x00\x00\x00\
-    \x18\x00\x00\x00\x00\x00\x00\x00\x39\x00\x00\x00\x02\x00\x00\x00\x00\x00\x00\x00\x00\x00\x00\x00\
-    \x00\x00\x00\x00\x00\x00\x00\x00\x10\x01\x00\x00\x00\x00\x00\x00\x90\x00\x00\x00\x00\x00\x00\x00\
-    \x07\x00\x00\x00\x01\x00\x00\x00\x08\x00\x00\x00\x00\x00\x00\x00\x18\x00\x00\x00\x00\x00\x00\x00\
-    \x41\x00\x00\x00\x03\x00\x00\x00\x00\x00\x00\x00\x00\x00\x00\x00\x00\x00\x00\x00\x00\x00\x00\x00\
-    \xa0\x01\x00\x00\x00\x00\x00\x00\x1c\x00\x00\x00\x00\x00\x00\x00\x00\x00\x00\x00\x00\x00\x00\x00\
-    \x01\x00\x00\x00\x00\x00\x00\x00\x00\x00\x00\x00\x00\x00\x00\x00\x49\x00\x00\x00\x03\x00\x00\x00\
-    \x00\x00\x00\x00\x00\x00\x00\x00\x00\x00\x00\x00\x00\x00\x00\x00\xc0\x01\x00\x00\x00\x00\x00\x00\
-    \x53\x00\x00\x00\x00\x00\x00\x00\x00\x00\x00\x00\x00\x00\x00\x00\x01\x00\x00\x00\x00\x00\x00\x00\
-    \x00\x00\x00\x00\x00\x00\x00\x00\
-";
-
-fn with(edits: &[(u16, u8)]) -> [u8; 1112] {
-    let mut file = OBJECT;
+/// The bytes that are written in hexadecimal, with some of them changed.
+fn bytes_of(alloc: Global, text: &str, edits: &[(u16, u8)]) -> Result<Vec<u8>, Fail> {
+    let mut bytes = Vec::new(alloc);
+    for word in text.split_whitespace() {
+        bytes.push(u8::from_str_radix(word, 16)?)?;
+    }
     for (place, byte) in edits {
-        if *place < 1112 {
-            file[*place as usize] = *byte;
+        if usize::from(*place) < bytes.len() {
+            bytes[usize::from(*place)] = *byte;
         }
     }
-    file
+    Ok(bytes)
 }
 
-/// What is changed, the base, the groups that are gone, and the address of section 4, `.eh_frame`.
-type Case<'a> = (
-    &'a [(u16, u8)],
-    u64,
-    &'a [u32],
-    Result<Option<u64>, PlaceFault>,
-);
+/// A file, its base, how far its addresses are moved, and the address of each section.
+struct Case {
+    file: &'static str,
+    base: u64,
+    shift: u64,
+    addresses: &'static [Option<u64>],
+    eh_frames: &'static [u32],
+}
+
+const CASES: [Case; 6] = [
+    Case {
+        file: COMPILED,
+        base: 0x400000,
+        shift: 0,
+        addresses: &[
+            None,
+            Some(0x400000),
+            Some(0x40001b),
+            Some(0x400030),
+            None,
+            None,
+            None,
+            None,
+        ],
+        eh_frames: &[3],
+    },
+    Case {
+        file: GROUPED,
+        base: 0x400000,
+        shift: 0,
+        addresses: &[
+            None,
+            None,
+            Some(0x400000),
+            Some(0x40001b),
+            Some(0x400030),
+            None,
+            None,
+            None,
+            None,
+        ],
+        eh_frames: &[4],
+    },
+    Case {
+        file: SHARED,
+        base: 0x400000,
+        shift: 0x400000,
+        addresses: &[None, Some(0x402000), None],
+        eh_frames: &[1],
+    },
+    Case {
+        file: SHARED,
+        base: 0,
+        shift: 0,
+        addresses: &[None, Some(0x2000), None],
+        eh_frames: &[1],
+    },
+    Case {
+        file: AARCH64,
+        base: 0x10000,
+        shift: 0,
+        addresses: &[None, Some(0x10000), Some(0x10020), None, None, None, None],
+        eh_frames: &[2],
+    },
+    Case {
+        file: GENERATED,
+        base: 0x400000,
+        shift: 0,
+        addresses: &[None, Some(0x400000), Some(0x400040), None, None, None, None],
+        eh_frames: &[2],
+    },
+];
 
 #[test]
-fn sections_follow_one_another(rt: HostRuntime) -> Result<(), Fail> {
-    let cases: [Case<'_>; 13] = [
-        (&[], 0x400000, &[], Ok(Some(0x400030))),
-        (&[], 0x400001, &[], Ok(Some(0x400040))),
-        // The group's members are dropped.
-        (&[], 0x500000, &[1], Ok(Some(0x500000))),
-        // Alignment 0 counts as 1; one of 3 is refused, but not of a dropped section.
-        (&[(840, 0)], 0x400000, &[], Ok(Some(0x40002b))),
-        (&[(712, 3)], 0x400000, &[], Err(PlaceFault::Align(2))),
-        (&[(712, 3)], 0x400000, &[1], Ok(Some(0x400000))),
-        // The first section is moved to 2^64, or the second ends above.
-        (
-            &[],
-            0xffff_ffff_ffff_fff8,
-            &[],
-            Err(PlaceFault::AddressOverflow(2)),
-        ),
-        (
-            &[],
-            0xffff_ffff_ffff_ffe0,
-            &[],
-            Err(PlaceFault::AddressOverflow(3)),
-        ),
-        // Alignments are tried before addresses, and these before the bytes of call frame information.
-        (
-            &[(840, 3)],
-            0xffff_ffff_ffff_ffe0,
-            &[],
-            Err(PlaceFault::Align(4)),
-        ),
-        (
-            &[(796, 8)],
-            0xffff_ffff_ffff_ffe0,
-            &[],
-            Err(PlaceFault::AddressOverflow(3)),
-        ),
-        (&[(796, 8)], 0x400000, &[], Err(PlaceFault::NoBits(4))),
-        // A shared object's sections lie at their own addresses, here 0, moved by the base.
-        (&[(16, 3)], 0x400000, &[], Ok(Some(0x400000))),
-        (&[(16, 3), (808, 16)], 0x400000, &[], Ok(Some(0x400010))),
-    ];
-    for (edits, base, gone, expected) in cases {
-        let file = with(edits);
-        let elf = Elf::parse(&file).ok().ok_or("the object is sound")?;
-        let got = Placed::new(rt.alloc(), &elf, base, gone).map(|placed| placed.address(4));
-        assert_eq!(rt; got, expected);
+fn addresses_of_all_sections(rt: HostRuntime) -> Result<(), Fail> {
+    for case in &CASES {
+        let bytes = bytes_of(rt.alloc(), case.file, &[])?;
+        assert!(rt; bytes.len() < 4096);
+        let elf = Elf::parse(&bytes).ok().ok_or("the file is sound")?;
+        let placed = Placed::new(rt.alloc(), &elf, case.base, &[])
+            .ok()
+            .ok_or("it can be placed")?;
+        assert_eq!(rt; placed.shift(), case.shift);
+        assert_eq!(rt; placed.eh_frames(), case.eh_frames);
+        assert_eq!(rt; placed.elf().sections() as usize, case.addresses.len());
+        let mut i = 0;
+        for address in case.addresses {
+            assert_eq!(rt; placed.address(i), *address, "section {i}");
+            assert!(rt; !placed.dropped(i), "section {i}");
+            i = i.saturating_add(1);
+        }
+        assert_eq!(rt; placed.address(i), None);
     }
     Ok(())
 }
 
+/// What is changed, the base, and the address of section 1, `.eh_frame`.
+type SharedCase = (&'static [(u16, u8)], u64, Result<Option<u64>, PlaceFault>);
+
 #[test]
-fn what_is_seen_of_a_placed_object(rt: HostRuntime) -> Result<(), Fail> {
-    let elf = Elf::parse(&OBJECT).ok().ok_or("the object is sound")?;
-    let placed = Placed::new(rt.alloc(), &elf, 0x400000, &[1])
-        .ok()
-        .ok_or("it can be placed")?;
-    assert_eq!(rt; placed.shift(), 0);
-    assert_eq!(rt; placed.eh_frames(), [4u32].as_slice());
-    assert!(rt; placed.dropped(2) && placed.dropped(3) && !placed.dropped(4));
-    assert_eq!(rt; placed.address(2), None);
-    assert_eq!(rt; placed.elf().sections(), 9);
+fn a_shared_object(rt: HostRuntime) -> Result<(), Fail> {
+    let cases: [SharedCase; 11] = [
+        // An address 32 bytes below 2^64, which the section passes; at the base 32 it starts at 2^64.
+        (BELOW_END, 0, Err(PlaceFault::AddressOverflow(1))),
+        (BELOW_END_EMPTY, 0, Ok(Some(0xffff_ffff_ffff_ffe0))),
+        (BELOW_END_EMPTY, 31, Ok(Some(0xffff_ffff_ffff_ffff))),
+        (BELOW_END_EMPTY, 32, Err(PlaceFault::AddressOverflow(1))),
+        // It may end at 2^64.
+        (UPTO_END, 0, Ok(Some(0xffff_ffff_ffff_ffc4))),
+        (UPTO_END, 1, Err(PlaceFault::AddressOverflow(1))),
+        // Its alignment is tried, though it moves nothing.
+        (&[(264, 3)], 0, Err(PlaceFault::Align(1))),
+        (&[(264, 3), (16, 2)], 0, Err(PlaceFault::Align(1))),
+        (&[(264, 128)], 0, Ok(Some(0x2000))),
+        // A program alike.
+        (&[(16, 2)], 0x1000, Ok(Some(0x3000))),
+        (&[(220, 8)], 0, Err(PlaceFault::NoBits(1))),
+    ];
+    for (edits, base, expected) in cases {
+        let bytes = bytes_of(rt.alloc(), SHARED, edits)?;
+        assert!(rt; bytes.len() < 4096);
+        let elf = Elf::parse(&bytes).ok().ok_or("the file is sound")?;
+        let got = Placed::new(rt.alloc(), &elf, base, &[]).map(|placed| placed.address(1));
+        assert_eq!(rt; got, expected, "{edits:?} at {base}");
+    }
     Ok(())
 }
+
+const BELOW_END: &[(u16, u8)] = &[
+    (232, 0xe0),
+    (233, 255),
+    (234, 255),
+    (235, 255),
+    (236, 255),
+    (237, 255),
+    (238, 255),
+    (239, 255),
+];
+
+const BELOW_END_EMPTY: &[(u16, u8)] = &[
+    (232, 0xe0),
+    (233, 255),
+    (234, 255),
+    (235, 255),
+    (236, 255),
+    (237, 255),
+    (238, 255),
+    (239, 255),
+    (248, 0),
+];
+
+const UPTO_END: &[(u16, u8)] = &[
+    (232, 0xc4),
+    (233, 255),
+    (234, 255),
+    (235, 255),
+    (236, 255),
+    (237, 255),
+    (238, 255),
+    (239, 255),
+];

@@ -1,5 +1,5 @@
 -- Numbers and bytes at places (ELF64 gABI, "Data Representation"): little-endian, without sign.
-use Rattle.std.specs.Prelude.{ℕ, ◌+◌, ◌*◌, ◌/◌, ◌%◌, ◌==◌, Bool, List, length, take, drop, Option, Some, None, is_some, nat_lt, nat_le, if◌then◌else◌}
+use Rattle.std.specs.Prelude.{◌≡◌, ℕ, ◌+◌, ◌*◌, ◌/◌, ◌%◌, ◌==◌, Bool, List, length, take, drop, Option, Some, None, is_some, nat_lt, nat_le, if◌then◌else◌}
 use Rattle.std.specs.List.{position}
 use Rattle.byteorder.specs.Endian.{little_number}
 
@@ -35,3 +35,7 @@ text_in place table = upto (position (λ b. b == 0) (drop place table)) (drop pl
 -- whether a text begins at that place of the table and ends there with a zero byte
 unfoldable pub has_text : ℕ → List ℕ → Bool
 has_text place table = is_some (position (λ b. b == 0) (drop place table))
+
+-- texts stand at exactly the places below a number
+abbrev pub EndsTexts : List ℕ → ℕ → Type 0
+EndsTexts table end = (place : ℕ) → has_text place table ≡ nat_lt place end

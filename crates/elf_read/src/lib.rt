@@ -30,6 +30,7 @@ mod reading;
 mod section_header;
 mod sections;
 mod segments;
+mod text;
 mod used;
 mod view;
 

@@ -4,15 +4,17 @@ ghost use Rattle.std.specs.Prelude.{◌≡◌, ◌<◌, ◌≤◌, ◌+◌, ◌*
 ghost use Rattle.elf_read.specs.Checks as spec;
 ghost use Rattle.elf_read.specs.Checking.{each_below};
 ghost use Rattle.elf_read.specs.Header.{e_shoff as shoff};
+ghost use Rattle.elf_read.specs.Number.{EndsTexts};
 ghost use Rattle.elf_read.specs.Sections as counts;
 
 use crate::check::require;
 use crate::fault::ElfFault;
 use crate::header::e_shoff;
 use crate::layout::{E_SHOFF, E_SHSTRNDX, SHT_STRTAB};
-use crate::number::{lies, text_stands};
+use crate::number::lies;
 use crate::section_header::{header_place, sh_name, sh_offset, sh_size, sh_type};
 use crate::sections::{has_bytes, name_table, section_bytes, section_count};
+use crate::text::texts_end;
 
 // A section's bytes lie in the file.
 #[tactic(auto, unfolding(crate::specs::Checks::bytes_check))]
@@ -63,15 +65,15 @@ pub fn is_string_table(file: &[u8], i: u32) -> bool
     u64::from(i) < section_count(file) && sh_type(file, i) == SHT_STRTAB
 }
 
-// A section's name stands in the name table.
+// A section's name stands in the name table, whose texts end there.
 #[tactic(auto, unfolding(crate::specs::Checks::name_check))]
-fn check_name(file: &[u8], i: u32) -> Result<(), ElfFault>
-    requires { shoff file.now < 2 ^ 32 }
+fn check_name(file: &[u8], end: u64, i: u32) -> Result<(), ElfFault>
+    requires headers { shoff file.now < 2 ^ 32 }
+    requires end { EndsTexts (counts.section_bytes file.now (counts.name_table file.now)) end }
     ensures { result ≡ spec.name_check file.now i }
 {
-    let names = section_bytes(file, name_table(file));
     require(
-        text_stands(names, u64::from(sh_name(file, i))),
+        u64::from(sh_name(file, i)) < end,
         ElfFault::Strings(header_place(file, i)),
     )
 }
@@ -81,8 +83,9 @@ fn check_all_names(file: &[u8], count: u32) -> Result<(), ElfFault>
     requires { shoff file.now < 2 ^ 32 }
     ensures { result ≡ each_below count (spec.name_check file.now) }
 {
+    let end = texts_end(section_bytes(file, name_table(file)));
     for i in 0..count {
-        check_name(file, i)?;
+        check_name(file, end, i)?;
     }
     Ok(())
 }

@@ -1,8 +1,7 @@
 //! Numbers and bytes at places. What lies past the end reads as 0 or as no bytes; the checks rule it out.
 
-ghost use Rattle.std.specs.Prelude.{◌≡◌, ◌==◌, ◌<◌, ◌≤◌, ◌-◌, drop, length, is_some};
-ghost use Rattle.std.specs.List.{position};
-ghost use Rattle.elf_read.specs.Number.{front_number, number_in, window, lies_in, has_flag, text_in, has_text};
+ghost use Rattle.std.specs.Prelude.{◌≡◌, ◌<◌, ◌≤◌, ◌-◌, drop, length};
+ghost use Rattle.elf_read.specs.Number.{front_number, number_in, window, lies_in, has_flag};
 
 use byteorder::{ByteOrder, LittleEndian};
 
@@ -90,31 +89,4 @@ pub fn flag_is_set(flags: u64, flag: u64) -> bool
     ensures { result ≡ has_flag flags flag }
 {
     flags / flag % 2 == 1
-}
-
-// How many bytes stand before the first zero byte.
-fn text_len(bytes: &[u8]) -> Option<usize>
-    ensures { result ≡ position (λ b. b == 0) bytes.now }
-{
-    bytes.iter().position(|byte| *byte == 0)
-}
-
-/// The text that begins at a place of a string table.
-#[tactic(auto, unfolding(crate::specs::Number::text_in))]
-pub fn text_at(table: &[u8], place: u64) -> &[u8]
-    ensures { result.now ≡ text_in place table.now }
-{
-    let rest = bytes_from(table, place);
-    match text_len(rest) {
-        Some(len) => rest.split_at(len).0,
-        None => rest,
-    }
-}
-
-/// Whether a text begins at that place of a string table and ends there with a zero byte.
-#[tactic(auto, unfolding(crate::specs::Number::has_text))]
-pub fn text_stands(table: &[u8], place: u64) -> bool
-    ensures { result ≡ has_text place table.now }
-{
-    text_len(bytes_from(table, place)).is_some()
 }

@@ -8,11 +8,12 @@ ghost use Rattle.elf_read.specs.Views as spec;
 use crate::entries::{member_count, rela_symbol, st_name, st_shndx, st_value};
 use crate::entry::{GroupHead, Rela, Section, Symbol};
 use crate::layout::{ENTRY_LEN, R_ADDEND, R_TYPE, SHN_LORESERVE};
-use crate::number::{text_at, u32_at, u64_at};
+use crate::number::{u32_at, u64_at};
 use crate::section_header::{
     sh_addr, sh_addralign, sh_entsize, sh_flags, sh_info, sh_link, sh_offset, sh_size, sh_type,
 };
 use crate::sections::{section_bytes, section_count, section_name};
+use crate::text::text_at;
 use crate::used::is_group;
 
 /// The header of a section.

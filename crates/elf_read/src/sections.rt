@@ -1,15 +1,17 @@
 //! What the headers say of sections: how many there are, their bytes and names, and which hold call
 //! frame information.
 
-ghost use Rattle.std.specs.Prelude.{◌≡◌, ◌<◌, ◌≤◌, length};
+ghost use Rattle.std.specs.Prelude.{◌≡◌, ◌==◌, ◌<◌, ◌≤◌, ◌^◌, ℕ, length};
+ghost use Rattle.std.specs.Cmp.Lexicographic.{pointwise};
 ghost use Rattle.elf_read.specs.Sections as spec;
 
 use crate::header::{e_phnum, e_shnum, e_shoff, e_shstrndx, is_core_file};
 use crate::layout::{
     EH_FRAME, PN_XNUM, SHF_ALLOC, SHF_COMPRESSED, SHN_XINDEX, SHT_NOBITS, SHT_NULL,
 };
-use crate::number::{bytes_at, flag_is_set, text_at};
+use crate::number::{bytes_at, flag_is_set};
 use crate::section_header::{sh_flags, sh_info, sh_link, sh_name, sh_offset, sh_size, sh_type};
+use crate::text::{text_at, text_is};
 
 // How many section headers the file has.
 #[tactic(auto, unfolding(crate::specs::Sections::section_total))]
@@ -121,10 +123,27 @@ pub fn is_compressed(file: &[u8], i: u32) -> bool
     flag_is_set(sh_flags(file, i), SHF_COMPRESSED)
 }
 
+// Whether a section has this name.
+#[tactic(auto, unfolding(crate::specs::Sections::section_name))]
+fn is_named(file: &[u8], i: u32, name: &[u8]) -> bool
+    requires { length name.now < 2 ^ 32 }
+    ensures { result ≡ pointwise (λ (a b : ℕ). a == b) (spec.section_name file.now i) name.now }
+{
+    let table = name_table(file);
+    if table == 0 {
+        return name.is_empty();
+    }
+    text_is(
+        section_bytes(file, table),
+        u64::from(sh_name(file, i)),
+        name,
+    )
+}
+
 /// Whether a section holds call frame information that is loaded.
 #[tactic(auto, unfolding(crate::specs::Sections::is_eh_frame))]
 pub fn is_eh_frame(file: &[u8], i: u32) -> bool
     ensures { result ≡ spec.is_eh_frame file.now i }
 {
-    is_allocated(file, i) && section_name(file, i) == EH_FRAME
+    is_allocated(file, i) && is_named(file, i, EH_FRAME)
 }

@@ -14,11 +14,11 @@ use crate::fault::ElfFault;
 use crate::header::is_object;
 use crate::layout::{ENTRY_LEN, GROUP_WORD_LEN, SHT_GROUP, SHT_RELA, SHT_SYMTAB};
 use crate::names::is_string_table;
-use crate::number::text_stands;
 use crate::section_header::{
     header_place, sh_entsize, sh_info, sh_link, sh_offset, sh_size, sh_type,
 };
 use crate::sections::{is_eh_frame, section_bytes, section_count};
+use crate::text::text_stands;
 
 // Whether a number is that of a section with call frame information.
 #[tactic(auto, unfolding(crate::specs::Used::names_eh_frame))]

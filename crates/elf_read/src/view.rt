@@ -84,6 +84,13 @@ impl<'a> Elf<'a> {
         sections::section_name(self.bytes, i)
     }
 
+    /// Whether a section holds call frame information: it is loaded and has the name `.eh_frame`.
+    pub fn is_eh_frame(&self, i: u32) -> bool
+        ensures { result ≡ fields.is_eh_frame (file self.now) i }
+    {
+        sections::is_eh_frame(self.bytes, i)
+    }
+
     /// The bytes of a section, none where its type is SHT_NULL or SHT_NOBITS.
     pub fn bytes(&self, i: u32) -> &'a [u8]
         ensures bytes { result.now ≡ fields.section_bytes (file self.now) i }

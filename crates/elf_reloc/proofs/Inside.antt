@@ -1,7 +1,8 @@
--- What is read of a section lies in its bytes.
-use Rattle.std.proofs.Common.{◌≡◌, ℕ, zero, suc, ◌+◌, ◌%◌, ◌^◌, ◌<◌, ◌≤◌, Bool, true, false, List, [], ◌∷◌, ◌++◌, length, get_or, Option, Some, None, Result, Ok, Err, refl, sym, ap, ◌∙◌, subst, arith, nat_lt, ltb-false, if◌then◌else◌}
+-- What is read of a section lies in its bytes, and its values are numbers of 64 bits.
+use Rattle.std.proofs.Common.{◌≡◌, ℕ, zero, suc, ◌+◌, ◌-◌, ◌%◌, ◌^◌, ◌<◌, ◌≤◌, Bool, true, false, List, [], ◌∷◌, length, Option, Some, None, Result, Ok, Err, refl, sym, ap, ◌∙◌, subst, arith, nat_lt, ltb-false, if◌then◌else◌}
 use Rattle.std.specs.List.{All}
 use Rattle.std.specs.List.Sorted.{IsPermutation}
+use Rattle.std.proofs.Math.Nat.{mod-lt}
 use Rattle.std.proofs.lemmas.List.Elements.{All-nil, All-push}
 use Rattle.std.proofs.lemmas.List.Sorted.{All-permutation}
 use Rattle.elf_read.specs.Checking.{each_below}
@@ -22,8 +23,16 @@ use Rattle.elf_reloc.specs.Reading as spec
 use Rattle.elf_reloc.specs.Reading.{◌>>=◌, State, written, aimed, inside, applied, entry_fix, with_fix, after_entry, steps_below, after_section, object_state, section_state, start}
 use Rattle.elf_reloc.specs.Table.{width_of, fits, absolute, relative}
 
+-- a value that is known is a number of 64 bits
+abbrev pub IsSmall : Fix → Type 0
+IsSmall f = (v : ℕ) → f.value ≡ Some v → v < 2 ^ 64
+
+-- a dropped one's value is not known
+abbrev pub IsHidden : Fix → Type 0
+IsHidden f = f.dropped ≡ true → f.value ≡ None
+
 abbrev IsInside : ℕ → Fix → Type 0
-IsInside len f = f.place + width_of f.range ≤ len
+IsInside len f = (f.place + width_of f.range ≤ len) × IsSmall f × IsHidden f
 
 -- what a choice answered, and by which test
 picked : {A E : Type 0} → (b : Bool) (x y : A) (e : E) → (if b then Ok x else Err e) ≡ Ok y → x ≡ y
@@ -44,34 +53,57 @@ bound : {A B : Type 0} → (r : Result A RelocFault) (g : A → Result B RelocFa
 bound (Ok x) g y h = (x, refl, h)
 bound (Err e) g y h = absurd (cc h)
 
-aimed_at : (place index : ℕ) (form : Range) (value : ℕ → ℕ) (target : Target) (f : Fix) → aimed place index form value target ≡ Ok f → (f.place ≡ place) × (f.range ≡ form)
-unfolding written
-aimed_at place index form value (Address s) f h =
-    let e : spec.fix place index form (Some (value s)) false ≡ f = picked (fits form (value s)) (spec.fix place index form (Some (value s)) false) f (faults.Range index) h in
-    (sym (ap (λ (g : Fix). g.place) e), sym (ap (λ (g : Fix). g.range) e))
-aimed_at place index form value Unresolved f h =
-    let e : spec.fix place index form None false ≡ f = cc h in
-    (sym (ap (λ (g : Fix). g.place) e), sym (ap (λ (g : Fix). g.range) e))
-aimed_at place index form value Dropped f h =
-    let e : spec.fix place index form None true ≡ f = cc h in
-    (sym (ap (λ (g : Fix). g.place) e), sym (ap (λ (g : Fix). g.range) e))
+small_value : (f : Fix) (o : Option ℕ) → o ≡ f.value → ((v : ℕ) → o ≡ Some v → v < 2 ^ 64) → IsSmall f
+small_value f o e small v h = small v (e ∙ h)
 
-inside_is : (len place index : ℕ) (form : Range) (value : ℕ → ℕ) (target : Target) (f : Fix) → inside len place index form (aimed place index form value target) ≡ Ok (Some f) → IsInside len f
+abbrev some : ℕ → Option ℕ
+some v = Some v
+
+some_small : (u : ℕ) → u < 2 ^ 64 → (v : ℕ) → some u ≡ Some v → v < 2 ^ 64
+some_small u h v e = let same : u ≡ v = cc e in subst (λ (k : ℕ). k < 2 ^ 64) same h
+
+none_small : (v : ℕ) → None ≡ some v → v < 2 ^ 64
+none_small v e = absurd (cc e)
+
+not_dropped : (f : Fix) → f.dropped ≡ false → IsHidden f
+not_dropped f kept gone = absurd (cc (sym gone ∙ kept))
+
+aimed_at : (place index : ℕ) (form : Range) (value : ℕ → ℕ) (target : Target) (f : Fix) → ((s : ℕ) → value s < 2 ^ 64) → aimed place index form value target ≡ Ok f → (f.place ≡ place) × (f.range ≡ form) × IsSmall f × IsHidden f
+unfolding written
+aimed_at place index form value (Address s) f small h =
+    let e : spec.fix place index form (Some (value s)) false ≡ f = picked (fits form (value s)) (spec.fix place index form (Some (value s)) false) f (faults.Range index) h in
+    (sym (ap (λ (g : Fix). g.place) e), sym (ap (λ (g : Fix). g.range) e), small_value f (Some (value s)) (ap (λ (g : Fix). g.value) e) (some_small (value s) (small s)), not_dropped f (sym (ap (λ (g : Fix). g.dropped) e)))
+aimed_at place index form value Unresolved f small h =
+    let e : spec.fix place index form None false ≡ f = cc h in
+    (sym (ap (λ (g : Fix). g.place) e), sym (ap (λ (g : Fix). g.range) e), small_value f None (ap (λ (g : Fix). g.value) e) none_small, λ _. sym (ap (λ (g : Fix). g.value) e))
+aimed_at place index form value Dropped f small h =
+    let e : spec.fix place index form None true ≡ f = cc h in
+    (sym (ap (λ (g : Fix). g.place) e), sym (ap (λ (g : Fix). g.range) e), small_value f None (ap (λ (g : Fix). g.value) e) none_small, λ _. sym (ap (λ (g : Fix). g.value) e))
+
+absolute_small : (addend s : ℕ) → absolute s addend < 2 ^ 64
+unfolding absolute
+absolute_small addend s = mod-lt (s + addend) (omega arith)
+
+relative_small : (addend place s : ℕ) → relative s addend place < 2 ^ 64
+unfolding relative
+relative_small addend place s = mod-lt (s + addend + (2 ^ 64 - place)) (omega arith)
+
+inside_is : (len place index : ℕ) (form : Range) (value : ℕ → ℕ) (target : Target) (f : Fix) → ((s : ℕ) → value s < 2 ^ 64) → inside len place index form (aimed place index form value target) ≡ Ok (Some f) → IsInside len f
 unfolding inside
-inside_is len place index form value target f h =
+inside_is len place index form value target f small h =
     let p = refused_unless (nat_lt len (place + width_of form)) (aimed place index form value target >>= λ g. Ok (Some g)) (faults.OutOfSection index) (Some f) h in
     let q = bound (aimed place index form value target) (λ g. Ok (Some g)) (Some f) p.1 in
     let same : q.0 ≡ f = cc (q.2) in
-    let at = aimed_at place index form value target q.0 q.1 in
+    let at = aimed_at place index form value target q.0 small q.1 in
     let low : place + width_of form ≤ len = ltb-false len (place + width_of form) p.0 in
     subst (λ (g : Fix). IsInside len g) same
-    (subst (λ (n : ℕ). n + width_of q.0.range ≤ len) (sym at.0) (subst (λ (r : Range). place + width_of r ≤ len) (sym at.1) low))
+    (subst (λ (n : ℕ). n + width_of q.0.range ≤ len) (sym at.0) (subst (λ (r : Range). place + width_of r ≤ len) (sym at.1) low), at.2, at.3)
 
 applied_inside : (effect : Option Effect) (len address place index addend : ℕ) (target : Target) (f : Fix) → applied effect len address place index addend target ≡ Ok (Some f) → IsInside len f
 applied_inside None len address place index addend target f h = absurd (cc h)
 applied_inside (Some Nothing) len address place index addend target f h = absurd (cc h)
-applied_inside (Some (Absolute form)) len address place index addend target f h = inside_is len place index form (λ s. absolute s addend) target f h
-applied_inside (Some (Relative form)) len address place index addend target f h = inside_is len place index form (λ s. relative s addend ((address + place) % 2 ^ 64)) target f h
+applied_inside (Some (Absolute form)) len address place index addend target f h = inside_is len place index form (λ s. absolute s addend) target f (absolute_small addend) h
+applied_inside (Some (Relative form)) len address place index addend target f h = inside_is len place index form (λ s. relative s addend ((address + place) % 2 ^ 64)) target f (relative_small addend ((address + place) % 2 ^ 64)) h
 
 entry_inside : (p : Placed) (section index i k : ℕ) (f : Fix) → entry_fix p section index i k ≡ Ok (Some f) → IsInside (length (section_bytes (file p) section)) f
 unfolding entry_fix
@@ -125,7 +157,7 @@ read_inside p section t h = state_cases p section t (is_rel (file p)) h
 
 pub from_all : (len : ℕ) (fs : List Fix) → All (IsInside len) fs → AreInside len fs
 from_all len [] all = tt
-from_all len (f ∷ fs) all = (all 0 f (omega arith), from_all len fs (λ k d h. all (suc k) d (omega (arith, h))))
+from_all len (f ∷ fs) all = ((all 0 f (omega arith)).0, from_all len fs (λ k d h. all (suc k) d (omega (arith, h))))
 
 pub moved_inside : (len : ℕ) (fs gs : List Fix) → IsPermutation fs gs → All (IsInside len) fs → AreInside len gs
 moved_inside len fs gs moved all = from_all len gs (All-permutation (IsInside len) fs gs moved all)
@@ -133,3 +165,11 @@ moved_inside len fs gs moved all = from_all len gs (All-permutation (IsInside le
 -- the same of what was read and brought into order
 pub reads_inside : (p : Placed) (section : ℕ) (t : State) (fixes : List Fix) → section_state p section ≡ Ok t → IsPermutation t.fixes fixes → AreInside (length (section_bytes (file p) section)) fixes
 reads_inside p section t fixes read moved = moved_inside (length (section_bytes (file p) section)) t.fixes fixes moved (read_inside p section t read)
+
+pub reads_small : (p : Placed) (section : ℕ) (t : State) (fixes : List Fix) → section_state p section ≡ Ok t → IsPermutation t.fixes fixes → All IsSmall fixes
+reads_small p section t fixes read moved = λ k d within.
+    (All-permutation (IsInside (length (section_bytes (file p) section))) t.fixes fixes moved (read_inside p section t read) k d within).1
+
+pub reads_hidden : (p : Placed) (section : ℕ) (t : State) (fixes : List Fix) → section_state p section ≡ Ok t → IsPermutation t.fixes fixes → All IsHidden fixes
+reads_hidden p section t fixes read moved = λ k d within.
+    (All-permutation (IsInside (length (section_bytes (file p) section))) t.fixes fixes moved (read_inside p section t read) k d within).2

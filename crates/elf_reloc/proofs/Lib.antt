@@ -5,3 +5,4 @@ pub mod Placing
 pub mod Refusing
 pub mod Patching
 pub mod Inside
+pub mod Checked

@@ -1,6 +1,6 @@
 -- What stands in a patched section.
 use Rattle.std.proofs.Common.{◌≡◌, ◌⊎◌, ℕ, zero, suc, ◌+◌, ◌-◌, ◌*◌, ◌<◌, ◌≤◌, ◌^◌, Bool, true, false, List, [], ◌∷◌, ◌++◌, length, get_or, take, drop, Option, Some, None, Result, Ok, Err, refl, sym, ap, ◌∙◌, subst, arith, inl, inr, nat_lt, ltb-false, if◌then◌else◌, length-append, length-drop}
-use Rattle.std.proofs.lemmas.Bool.{cases_eq, cases_lt}
+use Rattle.std.proofs.lemmas.Bool.{cases_eq}
 use Rattle.std.proofs.lemmas.List.{get_or-take, get_or-drop, get_or_append_left, get_or-append_right, length-take-le}
 use Rattle.byteorder.specs.Endian.{little_from, little_number, little_bytes}
 use Rattle.byteorder.specs.Numbers.{little_number-reads_back, length-bytes_low_first}
@@ -100,7 +100,7 @@ guarded : (b : Bool) (e : RelocFault) (r : Result (Unit {0}) RelocFault) → (if
 guarded true e r h = absurd (cc h)
 guarded false e r h = (refl, h)
 
-apart_here : (end : ℕ) (f : Fix) (fs : List Fix) → overlap_check end (f ∷ fs) ≡ Ok tt → (end ≤ f.place) × (overlap_check (f.place + width_of f.range) fs ≡ Ok tt)
+pub apart_here : (end : ℕ) (f : Fix) (fs : List Fix) → overlap_check end (f ∷ fs) ≡ Ok tt → (end ≤ f.place) × (overlap_check (f.place + width_of f.range) fs ≡ Ok tt)
 apart_here end f fs apart =
     let p = guarded (nat_lt f.place end) (Twice f.index) (overlap_check (f.place + width_of f.range) fs) (sym (overlap_check-cons end f fs) ∙ apart) in
     (ltb-false f.place end p.0, p.1)

@@ -1,13 +1,12 @@
 -- Fields that are written and the fields on which they lie, one after the other.
-use Rattle.std.proofs.Common.{◌≡◌, ℕ, suc, ◌+◌, ◌<◌, ◌≤◌, Bool, true, false, List, [], ◌∷◌, length, get_or, drop, Result, Ok, Err, refl, ap, ◌∙◌, arith, drop-cons, if◌then◌else◌}
+use Rattle.std.proofs.Common.{◌≡◌, ℕ, suc, ◌+◌, ◌<◌, ◌≤◌, Bool, true, false, List, [], ◌∷◌, length, get_or, drop, Ok, Err, refl, ap, ◌∙◌, arith, drop-cons, if◌then◌else◌}
 use Rattle.std.proofs.lemmas.List.{drop_all}
 use Rattle.sf_bytes.specs.declared.field.Field.{Field}
-use Rattle.elf_reloc.specs.declared.fault.RelocFault.{RelocFault}
 use Rattle.elf_reloc.specs.declared.fault.RelocFault.TheVariants.{Place}
 use Rattle.elf_reloc.specs.declared.fix.Fix.{Fix}
 use Rattle.elf_reloc.specs.Order.{place_check, lies_on}
 
-cons : (fields : List Field) (f : Fix) (fs : List Fix) → place_check fields (f ∷ fs) ≡ (if lies_on fields f then place_check fields fs else Err (Place f.index))
+pub cons : (fields : List Field) (f : Fix) (fs : List Fix) → place_check fields (f ∷ fs) ≡ (if lies_on fields f then place_check fields fs else Err (Place f.index))
 unfolding place_check
 cons fields f fs = refl
 

@@ -1,5 +1,5 @@
 -- How a refusal comes about.
-use Rattle.std.proofs.Common.{◌≡◌, List, Result, Ok, Err, inl, inr}
+use Rattle.std.proofs.Common.{Result, inl, inr}
 use Rattle.elf_reloc.specs.declared.fault.RelocFault.{RelocFault}
 use Rattle.elf_reloc.specs.declared.fault.RelocFault.TheVariants.{UnknownType, Range, Place, Twice, RelSection, OutOfSection, NoMemory}
 use Rattle.elf_reloc.specs.Reading.{State, Fails}

@@ -1,7 +1,9 @@
 -- A section's bytes in which its relocations are applied (ELF64 gABI, "Relocation"): a copy in which the low
 -- bits of each known value stand in the place of its field.
-use Rattle.std.specs.Prelude.{ℕ, ◌+◌, ◌≤◌, ◌⊎◌, List, [], ◌∷◌, ◌++◌, length, take, drop, Option, Some, None}
-use Rattle.byteorder.specs.Endian.{little_bytes}
+use Rattle.std.specs.Prelude.{◌≡◌, ℕ, ◌+◌, ◌≤◌, ◌⊎◌, true, List, [], ◌∷◌, ◌++◌, length, take, drop, Option, Some, None}
+use Rattle.std.specs.List.{All, Contains}
+use Rattle.byteorder.specs.Endian.{little_bytes, little_number}
+use Rattle.sf_bytes.specs.declared.field.Field.{Field}
 use Rattle.elf_reloc.specs.declared.fix.Fix.{Fix}
 use Rattle.elf_reloc.specs.Table.{width_of}
 use Rattle.elf_reloc.specs.Fields.{fix_bits}
@@ -28,3 +30,26 @@ AreInside len (f ∷ fs) = (f.place + width_of f.range ≤ len) × AreInside len
 abbrev pub IsFree : (place width : ℕ) → List Fix → Type 0
 IsFree place width [] = Unit {0}
 IsFree place width (f ∷ fs) = ((place + width ≤ f.place) ⊎ (f.place + width_of f.range ≤ place)) × IsFree place width fs
+
+-- the raw number of each pointer field is the one that stands in the section
+abbrev pub AreRaw : List ℕ → List Field → Type 0
+AreRaw section fields = All (λ g. g.raw ≡ little_number g.width (drop g.place section)) fields
+
+-- a relocation lies on a pointer field, and its value is not known
+pub record IsUnresolved (fixes : List Fix) (g : Field) : Type 0 where
+  pub fix : Fix
+  pub among : Contains fixes fix
+  pub at : fix.place ≡ g.place
+  pub unknown : fix.value ≡ None
+
+-- a relocation lies on a pointer field, and its symbol lies in a section that is dropped
+pub record IsDropped (fixes : List Fix) (g : Field) : Type 0 where
+  pub fix : Fix
+  pub among : Contains fixes fix
+  pub at : fix.place ≡ g.place
+  pub gone : fix.dropped ≡ true
+
+-- what a pointer field holds: the number in the patched section, or nothing exactly where it is unresolved
+abbrev pub Holds : List Fix → List ℕ → Field → Option ℕ → Type 0
+Holds fixes section g None = IsUnresolved fixes g
+Holds fixes section g (Some bits) = (IsUnresolved fixes g → ⊥) × (little_number g.width (drop g.place (patched fixes section)) ≡ bits)

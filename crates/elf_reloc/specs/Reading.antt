@@ -1,6 +1,6 @@
 -- The relocations of a section with call frame information, in order of section and entry (ELF64 gABI,
 -- "Relocation"), and the first fault.
-use Rattle.std.specs.Prelude.{◌≡◌, ℕ, zero, suc, ◌+◌, ◌-◌, ◌*◌, ◌%◌, ◌^◌, ◌==◌, Bool, true, false, ◌&&◌, List, [], ◌∷◌, ◌++◌, length, min, Option, Some, None, Result, Ok, Err, nat_lt, if◌then◌else◌}
+use Rattle.std.specs.Prelude.{◌≡◌, ℕ, zero, suc, ◌+◌, ◌%◌, ◌^◌, ◌==◌, Bool, true, false, ◌&&◌, List, [], ◌∷◌, ◌++◌, length, min, Option, Some, None, Result, Ok, Err, nat_lt, if◌then◌else◌}
 use Rattle.std.specs.Option.{unwrap_or}
 use Rattle.std.specs.Int.{w64, cast_unsigned}
 use Rattle.elf_read.specs.Checking.{each_below}
@@ -10,7 +10,7 @@ use Rattle.elf_read.specs.Views.{rela_offset, rela_type, rela_addend}
 use Rattle.elf_place.specs.declared.placed.Placed.{Placed}
 use Rattle.elf_place.specs.Views.{file, address_in}
 use Rattle.elf_reloc.specs.declared.fault.RelocFault.{RelocFault}
-use Rattle.elf_reloc.specs.declared.fault.RelocFault.TheVariants.{UnknownType, Range, Place, Twice, RelSection, OutOfSection, NoMemory}
+use Rattle.elf_reloc.specs.declared.fault.RelocFault.TheVariants.{UnknownType, Range, RelSection, OutOfSection, NoMemory}
 use Rattle.elf_reloc.specs.declared.fix.Fix.{Fix}
 use Rattle.elf_reloc.specs.declared.reading.Read.{Read}
 use Rattle.elf_reloc.specs.declared.table.Effect.{Effect}

@@ -1,5 +1,5 @@
 -- What a symbol stands for once sections are placed (ELF64 gABI, "Symbol Table", st_shndx and st_value).
-use Rattle.std.specs.Prelude.{ℕ, ◌+◌, ◌%◌, ◌^◌, ◌==◌, Bool, ◌||◌, Option, Some, None, nat_le, if◌then◌else◌}
+use Rattle.std.specs.Prelude.{ℕ, ◌+◌, ◌%◌, ◌^◌, ◌==◌, ◌||◌, Option, Some, None, nat_le, if◌then◌else◌}
 use Rattle.elf_read.specs.Sections.{st_shndx, st_value}
 use Rattle.elf_place.specs.declared.placed.Placed.{Placed}
 use Rattle.elf_place.specs.Views.{file, address_in, is_dropped_in}

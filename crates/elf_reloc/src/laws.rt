@@ -1,17 +1,32 @@
 //! What the values of fields have to do with a patched section.
 
-ghost use Rattle.std.specs.Prelude.{◌≡◌, ◌<◌, ◌^◌, ℕ, List, length, drop, Some, Ok};
+ghost use Rattle.std.specs.Prelude.{◌≡◌, ◌↔◌, ℕ, true, List, drop, Some, Ok};
+ghost use Rattle.std.specs.List.{All};
 ghost use Rattle.byteorder.specs.Endian.{little_number};
+ghost use Rattle.elf_place.specs.Views.{file};
+ghost use Rattle.elf_place.specs.declared.placed.Placed.{Placed as placing};
+ghost use Rattle.elf_read.specs.Sections.{section_bytes};
+ghost use Rattle.sf_bytes.specs.declared.field.Field.{Field as pointer};
 ghost use Rattle.elf_reloc.specs.declared.fix.Fix.{Fix as written};
-ghost use Rattle.elf_reloc.specs.Fields.{fix_bits};
-ghost use Rattle.elf_reloc.specs.Order.{overlap_check, first_at, place_of};
-ghost use Rattle.elf_reloc.specs.Patched.{patched, AreInside, IsFree};
+ghost use Rattle.elf_reloc.specs.Fields.{fix_bits, bits_in, is_dropped_in};
+ghost use Rattle.sf_bytes.specs.Rising.{AreApart};
+ghost use Rattle.elf_reloc.specs.Order.{first_at, place_of, place_check};
+ghost use Rattle.elf_reloc.specs.Patched.{patched, AreRaw, Holds, IsFree, IsDropped, IsUnresolved};
+ghost use Rattle.elf_reloc.specs.Reading.{section_state};
 ghost use Rattle.elf_reloc.specs.Table.{width_of};
+ghost use Rattle.elf_reloc.specs.Views.{Reads};
 
-/// A field on which a relocation lies holds, in a copy of the section in which all known values are written,
-/// the bits of its own value: fields that lie in the section and don't overlap leave one another alone.
+/// What a section's relocations write, in a copy of the section in which all known values are written.
 pub fn fields_hold_what_is_patched()
-    ensures written { (fixes : List written) (section : List ℕ) (place : ℕ) (f : written) (bits : ℕ) → overlap_check 0 fixes ≡ Ok tt → AreInside (length section) fixes → first_at place_of place fixes ≡ Some f → fix_bits f ≡ Some bits → bits < 256 ^ width_of f.range → little_number (width_of f.range) (drop place (patched fixes section)) ≡ bits }
+    // A field of a list on which all relocations lie: its bits are the number in the copy, and none exactly
+    // where a relocation lies on it whose value is not known.
+    ensures checked { (p : placing) (section : ℕ) (fixes : List written) (fields : List pointer) → Reads (section_state p section) fixes → AreApart fields → AreRaw (section_bytes (file p) section) fields → place_check fields fixes ≡ Ok tt → All (λ g. Holds fixes (section_bytes (file p) section) g (bits_in fixes g.place g.width g.raw)) fields }
+    // Such a field is dropped exactly where a relocation lies on it whose symbol lies in a dropped section.
+    ensures dropped { (p : placing) (section : ℕ) (fixes : List written) (fields : List pointer) → Reads (section_state p section) fixes → AreApart fields → place_check fields fixes ≡ Ok tt → All (λ g. (is_dropped_in fixes g.place g.width ≡ true) ↔ IsDropped fixes g) fields }
+    // A dropped field is unresolved as well.
+    ensures unknown { (p : placing) (section : ℕ) (fixes : List written) (g : pointer) → Reads (section_state p section) fixes → IsDropped fixes g → IsUnresolved fixes g }
+    // A field on which a relocation lies holds its bits.
+    ensures written { (p : placing) (section : ℕ) (fixes : List written) (place : ℕ) (f : written) (bits : ℕ) → Reads (section_state p section) fixes → first_at place_of place fixes ≡ Some f → fix_bits f ≡ Some bits → little_number (width_of f.range) (drop place (patched fixes (section_bytes (file p) section))) ≡ bits }
     // A field that no relocation covers holds its raw number.
-    ensures free { (fixes : List written) (section : List ℕ) (place width : ℕ) → AreInside (length section) fixes → IsFree place width fixes → little_number width (drop place (patched fixes section)) ≡ little_number width (drop place section) }
+    ensures free { (p : placing) (section : ℕ) (fixes : List written) (place width : ℕ) → Reads (section_state p section) fixes → IsFree place width fixes → little_number width (drop place (patched fixes (section_bytes (file p) section))) ≡ little_number width (drop place (section_bytes (file p) section)) }
 {}

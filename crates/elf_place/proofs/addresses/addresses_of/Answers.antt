@@ -1,9 +1,9 @@
-use Rattle.std.proofs.Common.{◌≡◌, ◌++◌, ◌∷◌, [], ℕ, List, Option, Ok, Err, sym, ap, ◌∙◌, arith, refl, rules}
+use Rattle.std.proofs.Common.{◌≡◌, ◌++◌, ◌∷◌, [], ℕ, List, Option, Ok, Err, sym, ap, ◌∙◌, rules}
 use Rattle.std.proofs.lemmas.Result.{err_from_is_err_and}
 use Rattle.elf_read.specs.Views.{file}
 use Rattle.elf_read.proofs.Each.{each_below-none, each_below-more, each_below-stop}
 use Rattle.elf_place.specs.Dropped.{values_below}
-use Rattle.elf_place.specs.Place.{cursor_at, cursor_from, address_from, address_of, overflow_from, overflow_check}
+use Rattle.elf_place.specs.Place.{cursor_from, address_from, address_of, overflow_from, overflow_check}
 use Rattle.elf_place.proofs.Values.{values_below-none, values_below-more}
 use Rattle.elf_place.proofs.Cursor.{cursor_at-none, cursor_at-more, fails}
 use Rattle.elf_place.proofs.addresses.addresses_of.Goals as goal

@@ -1,9 +1,8 @@
-use Rattle.std.proofs.Common.{◌≡◌, ◌≤◌, ◌^◌, ℕ, List, Option, Ok}
+use Rattle.std.proofs.Common.{◌≡◌, ◌≤◌, ◌^◌, Ok}
 use Rattle.elf_read.specs.Checking.{each_below}
 use Rattle.elf_read.specs.Views.{file}
 use Rattle.elf_place.specs.Dropped.{values_below}
 use Rattle.elf_place.specs.Place.{cursor_at, address_of, overflow_check}
-use Rattle.elf_place.specs.declared.fault.PlaceFault.{PlaceFault}
 use Rattle.elf_place.proofs.addresses.addresses_of.Given as goal
 
 abbrev pub invariant-loop-i : goal.invariant-loop-i

@@ -1,4 +1,4 @@
-use Rattle.std.proofs.Common.{◌≡◌, ◌||◌, ℕ, Bool, false, get_or, sym, ap, ◌∙◌, arith}
+use Rattle.std.proofs.Common.{◌||◌, Bool, get_or, sym, ap, ◌∙◌, arith}
 use Rattle.elf_read.specs.Views.{file}
 use Rattle.elf_place.specs.Dropped.{is_named}
 use Rattle.elf_place.proofs.Marks.{is_dropped-none, is_dropped-more}

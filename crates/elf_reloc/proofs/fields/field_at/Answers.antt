@@ -1,4 +1,4 @@
-use Rattle.std.proofs.Common.{◌≡◌, ◌≤◌, ltb, ltb-true, ltb-false, sym, ap, ◌∙◌, get_or, subst, ℕ, arith, rules, is_some}
+use Rattle.std.proofs.Common.{◌≤◌, ltb, ltb-true, ltb-false, sym, ap, ◌∙◌, get_or, subst, arith, rules, is_some}
 use Rattle.std.proofs.lemmas.List.Sorted.{IsPartitionPoint-from_clause, IsPartitionedBy-ltb}
 use Rattle.sf_bytes.specs.Rising.{field_place}
 use Rattle.sf_bytes.specs.declared.field.Field.{Field}

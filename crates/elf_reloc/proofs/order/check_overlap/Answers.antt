@@ -1,4 +1,4 @@
-use Rattle.std.proofs.Common.{◌≡◌, ℕ, ◌+◌, ◌<◌, ◌≤◌, true, false, nat_lt, get_or, drop, sym, ap, ◌∙◌, arith, lt-ltb, le-ltb}
+use Rattle.std.proofs.Common.{◌≡◌, ℕ, ◌+◌, ◌<◌, ◌≤◌, get_or, drop, sym, ap, ◌∙◌, arith, lt-ltb, le-ltb}
 use Rattle.elf_reloc.specs.Order.{overlap_check}
 use Rattle.elf_reloc.specs.Table.{width_of}
 use Rattle.elf_reloc.proofs.Overlaps.{no_fix, stops, goes_on, ends}

@@ -1,4 +1,4 @@
-use Rattle.std.proofs.Common.{◌≡◌, ◌≤◌, ◌^◌, drop}
+use Rattle.std.proofs.Common.{◌≡◌, drop}
 use Rattle.elf_reloc.specs.Order.{overlap_check}
 use Rattle.elf_reloc.proofs.order.check_overlap.Given as goal
 

@@ -1,4 +1,4 @@
-use Rattle.std.proofs.Common.{◌≡◌, ◌≤◌, ltb, ltb-true, ltb-false, sym, ap, ◌∙◌, get_or, subst, ℕ, arith, rules, is_some}
+use Rattle.std.proofs.Common.{◌≤◌, ltb, ltb-true, ltb-false, sym, ap, ◌∙◌, get_or, subst, arith, rules, is_some}
 use Rattle.std.proofs.lemmas.List.Sorted.{IsPartitionPoint-from_clause, IsPartitionedBy-ltb}
 use Rattle.elf_reloc.specs.Order.{place_of}
 use Rattle.elf_reloc.specs.declared.fix.Fix.{Fix}

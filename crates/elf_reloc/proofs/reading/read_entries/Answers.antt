@@ -1,4 +1,3 @@
-use Rattle.std.proofs.Common.{sym}
 use Rattle.std.proofs.lemmas.Result.{err_from_is_err_and}
 use Rattle.elf_reloc.specs.Reading.{after_entry, state_of}
 use Rattle.elf_reloc.proofs.Stepping.{steps_below-none, steps_below-more, steps_below-fails}

@@ -1,0 +1,98 @@
+-- Texts of string tables, up to their first zero byte.
+use Rattle.std.proofs.Common.{◌≡◌, ℕ, zero, suc, ◌+◌, ◌-◌, ◌<◌, ◌≤◌, ◌==◌, ◌&&◌, Bool, true, false, not, cond, List, [], ◌∷◌, length, get_or, take, drop, Some, None, refl, sym, ap, ◌∙◌, arith, nat_lt, inl, inr, lt-ltb, le-ltb, is_some}
+use Rattle.std.specs.Cmp.Lexicographic.{pointwise}
+use Rattle.std.specs.List.{position, position_or_len}
+use Rattle.std.proofs.lemmas.Bool.{cases_lt}
+use Rattle.std.proofs.lemmas.List.{get_or-drop, length-drop, take_all}
+use Rattle.std.proofs.lemmas.List.Sums.{prefix_len_passes, prefix_len_stops}
+use Rattle.elf_read.specs.Number.{upto, text_in, has_text}
+
+abbrev is_zero : ℕ → Bool
+is_zero b = b == 0
+
+abbrev not_zero : ℕ → Bool
+not_zero b = not (is_zero b)
+
+-- the bytes before the first zero byte, as what is taken
+abbrev front : List ℕ → List ℕ
+front xs = take (position_or_len is_zero xs) xs
+
+upto_is : (xs : List ℕ) → upto (position is_zero xs) xs ≡ front xs
+upto_is xs = elim (cases_lt (position_or_len is_zero xs) (length xs)) [
+  | inl within ↦ ap (λ (b : Bool). upto (cond b (Some (position_or_len is_zero xs)) None) xs) (lt-ltb _ _ within)
+  | inr past ↦ ap (λ (b : Bool). upto (cond b (Some (position_or_len is_zero xs)) None) xs) (le-ltb _ _ past) ∙ sym (take_all (position_or_len is_zero xs) xs past)
+]
+
+pub text_front : (place : ℕ) (table : List ℕ) → text_in place table ≡ front (drop place table)
+unfolding text_in
+text_front place table = upto_is (drop place table)
+
+front_taken_by : (n : ℕ) (b : Bool) (x : ℕ) (xs : List ℕ) (k m : ℕ) → take k (take n xs) ≡ take n (take m xs)
+    → take (cond (not b) (1 + k) 0) (x ∷ take n xs) ≡ take (suc n) (take (cond (not b) (1 + m) 0) (x ∷ xs))
+front_taken_by n true x xs k m h = refl
+front_taken_by n false x xs k m h =
+    let one_k : 1 + k ≡ suc k = omega arith in
+    let one_m : suc m ≡ 1 + m = omega arith in
+    ap (λ (j : ℕ). take j (x ∷ take n xs)) one_k ∙ ap (λ (ys : List ℕ). x ∷ ys) h ∙ ap (λ (j : ℕ). take (suc n) (take j (x ∷ xs))) one_m
+
+-- the front of the first n bytes is what is taken of the front
+front_taken : (n : ℕ) (xs : List ℕ) → front (take n xs) ≡ take n (front xs)
+front_taken zero xs = refl
+front_taken (suc n) [] = refl
+front_taken (suc n) (x ∷ xs) = front_taken_by n (is_zero x) x xs (position_or_len is_zero (take n xs)) (position_or_len is_zero xs) (front_taken n xs)
+
+abbrev same : ℕ → ℕ → Bool
+same a b = a == b
+
+-- one byte more than a text has tells whether it is that text
+told_by_front : (xs text : List ℕ) → pointwise same (take (suc (length text)) xs) text ≡ pointwise same xs text
+told_by_front [] [] = refl
+told_by_front [] (t ∷ ts) = refl
+told_by_front (x ∷ xs) [] = refl
+told_by_front (x ∷ xs) (t ∷ ts) = ap (λ (b : Bool). (x == t) && b) (told_by_front xs ts)
+
+pub text_told : (place : ℕ) (table text : List ℕ) → pointwise same (text_in 0 (take (length text + 1) (drop place table))) text ≡ pointwise same (text_in place table) text
+text_told place table text =
+    let one : length text + 1 ≡ suc (length text) = omega arith in
+    ap (λ (ys : List ℕ). pointwise same ys text) (text_front 0 (take (length text + 1) (drop place table)) ∙ front_taken (length text + 1) (drop place table))
+    ∙ ap (λ (n : ℕ). pointwise same (take n (front (drop place table))) text) one
+    ∙ told_by_front (front (drop place table)) text
+    ∙ ap (λ (ys : List ℕ). pointwise same ys text) (sym (text_front place table))
+
+has_by : (place : ℕ) (table : List ℕ) (b : Bool) → nat_lt (position_or_len is_zero (drop place table)) (length (drop place table)) ≡ b → has_text place table ≡ b
+unfolding has_text
+has_by place table true h = ap (λ (b : Bool). is_some (cond b (Some (position_or_len is_zero (drop place table))) None)) h
+has_by place table false h = ap (λ (b : Bool). is_some (cond b (Some (position_or_len is_zero (drop place table))) None)) h
+
+negated : (b : Bool) → b ≡ true → not b ≡ false
+negated true h = refl
+negated false h = absurd (cc h)
+
+-- a text stands before a zero byte
+pub stands : (place k : ℕ) (table : List ℕ) → place ≤ k → k < length table → is_zero (get_or table k 0) ≡ true → has_text place table ≡ true
+stands place k table low within here =
+    let at : place + (k - place) ≡ k = omega (arith, low) in
+    let byte : get_or (drop place table) (k - place) 0 ≡ get_or table k 0 = get_or-drop place table (k - place) 0 ∙ ap (λ (j : ℕ). get_or table j 0) at in
+    let len : length (drop place table) ≡ length table - place = length-drop place table in
+    has_by place table true (elim (cases_lt (position_or_len is_zero (drop place table)) (length (drop place table))) [
+      | inl before ↦ lt-ltb _ _ before
+      | inr past ↦
+          let inside : k - place < position_or_len is_zero (drop place table) = omega (arith, low, within, len, past) in
+          let passes : not_zero (get_or (drop place table) (k - place) 0) ≡ true = prefix_len_passes not_zero (drop place table) (k - place) 0 inside in
+          let fails : not_zero (get_or (drop place table) (k - place) 0) ≡ false = ap (λ (b : ℕ). not_zero b) byte ∙ negated _ here in
+          absurd (cc (sym passes ∙ fails))
+    ])
+
+-- none stands where no zero byte follows
+pub none_stands : (place : ℕ) (table : List ℕ) → ((k : ℕ) → place ≤ k → k < length table → is_zero (get_or table k 0) ≡ false) → has_text place table ≡ false
+none_stands place table none =
+    let len : length (drop place table) ≡ length table - place = length-drop place table in
+    let p : ℕ = position_or_len is_zero (drop place table) in
+    has_by place table false (elim (cases_lt (position_or_len is_zero (drop place table)) (length (drop place table))) [
+      | inl before ↦
+          let stop : not_zero (get_or (drop place table) (position_or_len is_zero (drop place table)) 0) ≡ false = prefix_len_stops not_zero (drop place table) 0 before in
+          let byte : get_or (drop place table) (position_or_len is_zero (drop place table)) 0 ≡ get_or table (place + position_or_len is_zero (drop place table)) 0 = get_or-drop place table (position_or_len is_zero (drop place table)) 0 in
+          let other : is_zero (get_or table (place + position_or_len is_zero (drop place table)) 0) ≡ false = none (place + position_or_len is_zero (drop place table)) (omega arith) (omega (arith, before, len)) in
+          absurd (cc (sym stop ∙ ap (λ (b : ℕ). not_zero b) byte ∙ ap (λ (b : Bool). not b) other))
+      | inr past ↦ le-ltb _ _ past
+    ])

@@ -1,0 +1,226 @@
+//! What is seen of whole files.
+
+use super::bytes_of;
+use super::files::{AARCH64, COMPILED, GENERATED, GROUPED, SHARED};
+use crate::{Elf, Kind, Rela, Symbol};
+use sf_model::Arch;
+use std::test::*;
+
+/// A file: its kind, its machine, and the name and the number of bytes of each section.
+struct File {
+    bytes: &'static str,
+    kind: Kind,
+    arch: Arch,
+    sections: &'static [(&'static str, usize)],
+}
+
+const FILES: [File; 5] = [
+    File {
+        bytes: COMPILED,
+        kind: Kind::Rel,
+        arch: Arch::Amd64,
+        sections: &[
+            ("", 0),
+            (".text", 27),
+            (".gcc_except_table", 16),
+            (".eh_frame", 72),
+            (".rela.eh_frame", 72),
+            (".symtab", 120),
+            (".strtab", 22),
+            (".shstrtab", 76),
+        ],
+    },
+    File {
+        bytes: GROUPED,
+        kind: Kind::Rel,
+        arch: Arch::Amd64,
+        sections: &[
+            ("", 0),
+            (".group", 12),
+            (".text", 27),
+            (".gcc_except_table", 16),
+            (".eh_frame", 72),
+            (".rela.eh_frame", 72),
+            (".symtab", 144),
+            (".strtab", 28),
+            (".shstrtab", 83),
+        ],
+    },
+    File {
+        bytes: SHARED,
+        kind: Kind::Dyn,
+        arch: Arch::Amd64,
+        sections: &[("", 0), (".eh_frame", 60), (".shstrtab", 21)],
+    },
+    File {
+        bytes: AARCH64,
+        kind: Kind::Rel,
+        arch: Arch::Aarch64,
+        sections: &[
+            ("", 0),
+            (".text", 28),
+            (".eh_frame", 60),
+            (".rela.eh_frame", 24),
+            (".symtab", 48),
+            (".strtab", 1),
+            (".shstrtab", 58),
+        ],
+    },
+    File {
+        bytes: GENERATED,
+        kind: Kind::Rel,
+        arch: Arch::Amd64,
+        sections: &[
+            ("", 0),
+            (".text", 64),
+            (".eh_frame", 88),
+            (".rela.eh_frame", 48),
+            (".symtab", 48),
+            (".strtab", 1),
+            (".shstrtab", 58),
+        ],
+    },
+];
+
+#[test]
+fn names_and_bytes_of_sections(rt: HostRuntime) -> Result<(), Fail> {
+    for file in &FILES {
+        let bytes = bytes_of(rt.alloc(), file.bytes, &[])?;
+        assert!(rt; bytes.len() < 4096);
+        let elf = Elf::parse(&bytes).ok().ok_or("the file is sound")?;
+        assert_eq!(rt; elf.kind(), file.kind);
+        assert_eq!(rt; elf.arch(), file.arch);
+        assert_eq!(rt; elf.segments(), 0);
+        assert_eq!(rt; elf.sections() as usize, file.sections.len());
+        let mut i = 0;
+        for (name, len) in file.sections {
+            assert_eq!(rt; elf.name(i), name.as_bytes(), "section {i}");
+            assert_eq!(rt; elf.bytes(i).len(), *len, "section {i}");
+            i = i.saturating_add(1);
+        }
+    }
+    Ok(())
+}
+
+/// A file, a relocation section, an entry, and what it says.
+type Entry = (&'static str, u32, u32, Rela);
+
+fn rela(offset: u64, symbol: u32, kind: u32, addend: i64) -> Rela {
+    Rela {
+        offset,
+        symbol,
+        kind,
+        addend,
+    }
+}
+
+#[test]
+fn entries_of_relocation_sections(rt: HostRuntime) -> Result<(), Fail> {
+    let cases: [Entry; 7] = [
+        (COMPILED, 4, 0, rela(0x13, 1, 10, 0)),
+        (COMPILED, 4, 1, rela(0x28, 2, 2, 0)),
+        (COMPILED, 4, 2, rela(0x31, 3, 10, 0)),
+        (GROUPED, 5, 1, rela(0x28, 2, 2, 0)),
+        (AARCH64, 3, 0, rela(0x20, 1, 261, 0)),
+        (GENERATED, 3, 0, rela(0x20, 1, 2, 0)),
+        (GENERATED, 3, 1, rela(0x40, 1, 2, 0x20)),
+    ];
+    for (file, section, entry, expected) in cases {
+        let bytes = bytes_of(rt.alloc(), file, &[])?;
+        assert!(rt; bytes.len() < 4096);
+        let elf = Elf::parse(&bytes).ok().ok_or("the file is sound")?;
+        assert_eq!(rt; elf.rela(section, entry), expected);
+    }
+    Ok(())
+}
+
+#[test]
+fn an_addend_below_zero(rt: HostRuntime) -> Result<(), Fail> {
+    let edits = [
+        (240, 0xfe),
+        (241, 255),
+        (242, 255),
+        (243, 255),
+        (244, 255),
+        (245, 255),
+        (246, 255),
+        (247, 255),
+    ];
+    let bytes = bytes_of(rt.alloc(), GROUPED, &edits)?;
+    assert!(rt; bytes.len() < 4096);
+    let elf = Elf::parse(&bytes).ok().ok_or("the file is sound")?;
+    assert_eq!(rt; elf.rela(5, 1), rela(0x28, 2, 2, -2));
+    Ok(())
+}
+
+#[test]
+fn symbols(rt: HostRuntime) -> Result<(), Fail> {
+    let cases: [(&'static str, u32, u32, u32, u16); 5] = [
+        (COMPILED, 5, 1, 1, 0),
+        (COMPILED, 5, 2, 0, 1),
+        (GROUPED, 6, 5, 22, 2),
+        (AARCH64, 4, 1, 0, 1),
+        (GENERATED, 4, 1, 0, 1),
+    ];
+    for (file, table, k, name, section) in cases {
+        let bytes = bytes_of(rt.alloc(), file, &[])?;
+        assert!(rt; bytes.len() < 4096);
+        let elf = Elf::parse(&bytes).ok().ok_or("the file is sound")?;
+        let expected = Symbol {
+            name,
+            section,
+            value: 0,
+        };
+        assert_eq!(rt; elf.symbol(table, k), expected);
+    }
+    Ok(())
+}
+
+#[test]
+fn an_object_with_a_group(rt: HostRuntime) -> Result<(), Fail> {
+    // A group that is COMDAT; one that isn't; one that is named by the section of its symbol.
+    let cases: [(&[(u16, u8)], bool, &'static str); 3] = [
+        (&[], true, "_Z1fv"),
+        (&[(64, 0)], false, "_Z1fv"),
+        (&[(644, 3)], true, ".gcc_except_table"),
+    ];
+    for (edits, comdat, signature) in cases {
+        let bytes = bytes_of(rt.alloc(), GROUPED, edits)?;
+        assert!(rt; bytes.len() < 4096);
+        let elf = Elf::parse(&bytes).ok().ok_or("the file is sound")?;
+        let group = elf.group(1).ok_or("section 1 is a group")?;
+        assert_eq!(rt; group.comdat, comdat);
+        assert_eq!(rt; group.signature, signature.as_bytes());
+        assert_eq!(rt; group.count, 2);
+        assert_eq!(rt; elf.member(1, 0), 2);
+        assert_eq!(rt; elf.member(1, 1), 3);
+        assert!(rt; elf.group(2).is_none());
+    }
+    Ok(())
+}
+
+#[test]
+fn a_segment_of_a_core_file(rt: HostRuntime) -> Result<(), Fail> {
+    let edits = [
+        (16, 4),
+        (32, 0x20),
+        (33, 4),
+        (54, 56),
+        (56, 1),
+        (1056, 1),
+        (1064, 0x40),
+        (1088, 12),
+    ];
+    let bytes = bytes_of(rt.alloc(), GROUPED, &edits)?;
+    assert!(rt; bytes.len() < 4096);
+    let elf = Elf::parse(&bytes).ok().ok_or("the file is sound")?;
+    assert_eq!(rt; elf.kind(), Kind::Core);
+    assert_eq!(rt; elf.sections(), 0);
+    assert_eq!(rt; elf.segments(), 1);
+    let segment = elf.segment(0);
+    assert_eq!(rt; segment.kind, 1);
+    assert_eq!(rt; segment.vaddr, 0x1c0);
+    assert_eq!(rt; segment.place, 0x40);
+    assert_eq!(rt; segment.bytes, b"\x01\0\0\0\x02\0\0\0\x03\0\0\0".as_slice());
+    Ok(())
+}

@@ -1,0 +1,56 @@
+//! Texts of string tables.
+
+ghost use Rattle.std.specs.Prelude.{◌≡◌, ◌==◌, ◌<◌, ◌^◌, ℕ, length, is_some};
+ghost use Rattle.std.specs.Cmp.Lexicographic.{pointwise};
+ghost use Rattle.std.specs.List.{position};
+ghost use Rattle.elf_read.specs.Number.{text_in, has_text, EndsTexts};
+
+use crate::number::{bytes_at, bytes_from};
+
+// How many bytes stand before the first zero byte.
+fn text_len(bytes: &[u8]) -> Option<usize>
+    ensures { result ≡ position (λ b. b == 0) bytes.now }
+{
+    bytes.iter().position(|byte| *byte == 0)
+}
+
+/// The text that begins at a place of a string table.
+#[tactic(auto, unfolding(crate::specs::Number::text_in))]
+pub fn text_at(table: &[u8], place: u64) -> &[u8]
+    ensures { result.now ≡ text_in place table.now }
+{
+    let rest = bytes_from(table, place);
+    match text_len(rest) {
+        Some(len) => rest.split_at(len).0,
+        None => rest,
+    }
+}
+
+/// Whether a text begins at that place of a string table and ends there with a zero byte.
+#[tactic(auto, unfolding(crate::specs::Number::has_text))]
+pub fn text_stands(table: &[u8], place: u64) -> bool
+    ensures { result ≡ has_text place table.now }
+{
+    text_len(bytes_from(table, place)).is_some()
+}
+
+/// Whether the text at a place of a string table is this one. No more of the table is looked at.
+pub fn text_is(table: &[u8], place: u64, text: &[u8]) -> bool
+    requires { length text.now < 2 ^ 32 }
+    ensures { result ≡ pointwise (λ (a b : ℕ). a == b) (text_in place table.now) text.now }
+{
+    text_at(bytes_at(table, place, text.len() as u64 + 1), 0) == text
+}
+
+/// The first place behind all texts of a string table: texts stand at the places before, and at no other.
+pub fn texts_end(table: &[u8]) -> u64
+    ensures { EndsTexts table.now result }
+{
+    let mut end = 0;
+    for i in 0..table.len() {
+        if table[i] == 0 {
+            end = i as u64 + 1;
+        }
+    }
+    end
+}
