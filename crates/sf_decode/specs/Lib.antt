@@ -1,0 +1,5 @@
+pub mod Checking
+pub mod Row
+pub mod Entry
+pub mod Header
+pub mod Decoding
