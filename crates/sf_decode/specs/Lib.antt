@@ -3,3 +3,4 @@ pub mod Row
 pub mod Entry
 pub mod Header
 pub mod Decoding
+pub mod View
