@@ -12,22 +12,8 @@ use Rattle.sf_decode.specs.Row.{rows_in, row_end, row_info, row_in}
 use Rattle.sf_decode.specs.Header.{header_check, function_count_in, row_count_in}
 use Rattle.sf_decode.specs.Entry.{row_count_at, entry_place, entry_check, entry_fields_check, follows_check, entry_rows_check, is_in_memory, function_in, functions_in}
 use Rattle.sf_decode.specs.Decoding.{rows_of_entry, count_check, section_check}
+use Rattle.sf_decode.proofs.Tests.{nothing_wrong, both_pass, unless_holds, eq_if}
 use Rattle.sf_decode.proofs.Loops.{each_from-suc, sum_from-none, sum_from-suc}
-
--- a check that found nothing
-pub nothing_wrong : (c : Check) → IsTrue (is_ok c) → c ≡ Ok tt
-nothing_wrong (Ok x) e = refl
-nothing_wrong (Err f) e = absurd (let no : false ≡ true = e in cc)
-
--- both of two checks
-pub both_pass : (a b : Check) → (a >> b) ≡ Ok tt → (a ≡ Ok tt) × (b ≡ Ok tt)
-both_pass (Ok x) b e = (refl, e)
-both_pass (Err f) b e = absurd (let no : Err f ≡ Ok tt = e in cc)
-
--- a test that held
-pub unless_holds : (t : Bool) (e : DecodeFault) → unless t e ≡ Ok tt → IsTrue t
-unless_holds true e p = refl
-unless_holds false e p = absurd (let no : Err e ≡ Ok tt = p in cc)
 
 -- each of the items
 pub each_passes : (first n k : ℕ) (check : ℕ → Check) → each_from first n check ≡ Ok tt → k < n → check (first + k) ≡ Ok tt
@@ -106,8 +92,7 @@ rows_added bytes at first (suc n) =
 count_holds : (bytes : List ℕ) → count_check bytes ≡ Ok tt → sum_from 0 (function_count_in bytes) (rows_of_entry bytes) ≡ row_count_in bytes
 unfolding count_check
 count_holds bytes e =
-    let test : IsTrue (sum_from 0 (function_count_in bytes) (rows_of_entry bytes) == row_count_in bytes) = unless_holds _ (Count 12) e in
-    search arith
+    eq_if _ _ (unless_holds _ (Count 12) e)
 
 pub row_count_checked : (bytes : List ℕ) (at : ℕ) → IsTrue (is_ok (section_check bytes at)) → row_count (functions_in bytes at 0 (function_count_in bytes)) ≡ row_count_in bytes
 row_count_checked bytes at e = rows_added bytes at 0 (function_count_in bytes) ∙ count_holds bytes (passed bytes at (nothing_wrong (section_check bytes at) e)).count

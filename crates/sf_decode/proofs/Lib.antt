@@ -1,2 +1,4 @@
 pub mod Checked
 pub mod Loops
+pub mod Standing
+pub mod Tests
