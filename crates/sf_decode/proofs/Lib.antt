@@ -1,4 +1,5 @@
 pub mod Checked
 pub mod Loops
+pub mod RowsRead
 pub mod Standing
 pub mod Tests

@@ -13,7 +13,7 @@ pub rows_check-none : (arch : Arch) (rows : List ℕ) (o w p l : ℕ) → rows_c
 unfolding rows_check
 rows_check-none arch rows o w p l = refl
 
-rows_check-suc : (arch : Arch) (rows : List ℕ) (o w p l n : ℕ)
+pub rows_check-suc : (arch : Arch) (rows : List ℕ) (o w p l n : ℕ)
     → rows_check arch rows o w p l (suc n) ≡ (row_check arch rows o w p l >> rows_check arch rows o w (row_end w p (row_info rows w p)) (unsigned_in w p rows + 1) n)
 unfolding rows_check
 rows_check-suc arch rows o w p l n = refl

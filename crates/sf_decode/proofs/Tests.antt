@@ -1,5 +1,5 @@
 -- Tests that hold and checks that pass.
-use Rattle.std.proofs.Common.{◌≡◌, ◌<◌, ◌≤◌, ℕ, zero, suc, ◌+◌, ◌*◌, Bool, true, false, IsTrue, List, [], ◌∷◌, length, Result, Ok, Err, refl, ap, sym, ◌∙◌, arith, nat_lt, nat_le}
+use Rattle.std.proofs.Common.{◌≡◌, ◌≢◌, ◌<◌, ◌≤◌, ℕ, zero, suc, ◌+◌, ◌*◌, Bool, true, false, IsTrue, List, [], ◌∷◌, length, Result, Ok, Err, refl, ap, sym, ◌∙◌, arith, nat_lt, nat_le}
 use Rattle.std.specs.Prelude.{◌&&◌, not, is_ok, if◌then◌else◌, ◌==◌}
 use Rattle.sf_decode.specs.declared.fault.DecodeFault.{DecodeFault}
 use Rattle.sf_decode.specs.Checking.{Check, unless, where_so, ◌>>◌}
@@ -71,3 +71,9 @@ if_eq m n e = search arith
 
 pub ge_if_not : (m n : ℕ) → nat_lt m n ≡ false → n ≤ m
 ge_if_not m n e = search arith
+
+pub gt_if_not : (m n : ℕ) → nat_le m n ≡ false → n < m
+gt_if_not m n e = search arith
+
+pub ne_if : (m n : ℕ) → (m == n) ≡ false → m ≢ n
+ne_if m n e = search arith
