@@ -94,8 +94,11 @@ unfolding count_check
 count_holds bytes e =
     eq_if _ _ (unless_holds _ (Count 12) e)
 
+pub row_count_passed : (bytes : List ℕ) (at : ℕ) → section_check bytes at ≡ Ok tt → row_count (functions_in bytes at 0 (function_count_in bytes)) ≡ row_count_in bytes
+row_count_passed bytes at e = rows_added bytes at 0 (function_count_in bytes) ∙ count_holds bytes (passed bytes at e).count
+
 pub row_count_checked : (bytes : List ℕ) (at : ℕ) → IsTrue (is_ok (section_check bytes at)) → row_count (functions_in bytes at 0 (function_count_in bytes)) ≡ row_count_in bytes
-row_count_checked bytes at e = rows_added bytes at 0 (function_count_in bytes) ∙ count_holds bytes (passed bytes at (nothing_wrong (section_check bytes at) e)).count
+row_count_checked bytes at e = row_count_passed bytes at (nothing_wrong (section_check bytes at) e)
 
 -- a start is an address
 pub in_memory_checked : (bytes : List ℕ) (at i : ℕ) → IsTrue (is_ok (section_check bytes at)) → i < length (functions_in bytes at 0 (function_count_in bytes))

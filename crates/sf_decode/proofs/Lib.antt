@@ -1,5 +1,7 @@
 pub mod Checked
+pub mod EntriesRead
 pub mod Loops
 pub mod RowsRead
 pub mod Standing
+pub mod Starts
 pub mod Tests
