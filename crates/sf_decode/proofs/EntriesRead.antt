@@ -178,6 +178,12 @@ abi_by : (abi : ℕ) (t : Bool) → (abi == 3) ≡ t → IsTrue ((abi == 2) || t
 abi_by abi true e p = eq_if abi 3 e
 abi_by abi false e p = other_abi abi (abi == 2) refl p
 
+at_most : (m n high : ℕ) → m ≡ n → n ≤ high → m ≤ high
+at_most m n high e le = omega (e, le, arith)
+
+within_by : (place m n high : ℕ) → m ≡ n → place + 20 * n ≤ high → place + 20 * m ≤ high
+within_by place m n high e le = omega (e, le, arith)
+
 header_stands : (bytes : List ℕ) (at : ℕ) → section_check bytes at ≡ Ok tt → IsHeader bytes (table_in bytes at)
 unfolding header_check preamble_check machine_check layout_check
 header_stands bytes at e =
@@ -207,11 +213,11 @@ header_stands bytes at e =
       fixed_frame_pointer = eq_if _ _ (unless_holds _ _ mac1.1);
       fixed_return = eq_if _ _ (unless_holds _ _ mac2.1);
       function_count = sym len;
-      function_limit = omega (len, limit, arith);
+      function_limit = at_most _ _ _ len limit;
       rows = sym rows;
-      row_limit = omega (rows, most, arith);
+      row_limit = at_most _ _ _ rows most;
       header_within = le_if _ _ (unless_holds _ _ mac3.1);
-      functions_within = omega (len, functions, arith);
+      functions_within = within_by (functions_place bytes) _ _ (length bytes) len functions;
       rows_within = le_if _ _ (unless_holds _ _ lay3.1);
     }
 

@@ -77,3 +77,6 @@ gt_if_not m n e = search arith
 
 pub ne_if : (m n : ℕ) → (m == n) ≡ false → m ≢ n
 ne_if m n e = search arith
+
+pub not_le : (m n : ℕ) → n < m → nat_le m n ≡ false
+not_le m n lt = search arith
