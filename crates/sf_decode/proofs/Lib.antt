@@ -1,4 +1,5 @@
 pub mod Checked
+pub mod EntriesFound
 pub mod EntriesRead
 pub mod Loops
 pub mod RowsFound

@@ -1,6 +1,6 @@
 -- Tests that hold and checks that pass.
 use Rattle.std.proofs.Common.{◌≡◌, ◌≢◌, ◌<◌, ◌≤◌, ℕ, zero, suc, ◌+◌, ◌*◌, Bool, true, false, IsTrue, List, [], ◌∷◌, length, Result, Ok, Err, refl, ap, sym, ◌∙◌, arith, nat_lt, nat_le}
-use Rattle.std.specs.Prelude.{◌&&◌, not, is_ok, if◌then◌else◌, ◌==◌}
+use Rattle.std.specs.Prelude.{◌&&◌, ◌||◌, not, is_ok, if◌then◌else◌, ◌==◌}
 use Rattle.sf_decode.specs.declared.fault.DecodeFault.{DecodeFault}
 use Rattle.sf_decode.specs.Checking.{Check, unless, where_so, ◌>>◌}
 
@@ -80,3 +80,10 @@ ne_if m n e = search arith
 
 pub not_le : (m n : ℕ) → n < m → nat_le m n ≡ false
 not_le m n lt = search arith
+
+pub not_eq : (m n : ℕ) → m ≢ n → (m == n) ≡ false
+not_eq m n ne = search arith
+
+pub or_right : (a b : Bool) → IsTrue b → IsTrue (a || b)
+or_right true b e = refl
+or_right false b e = e
