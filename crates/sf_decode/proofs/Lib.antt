@@ -1,6 +1,7 @@
 pub mod Checked
 pub mod EntriesFound
 pub mod EntriesRead
+pub mod Joined
 pub mod Loops
 pub mod RowsFound
 pub mod RowsRead

@@ -21,8 +21,10 @@ pub struct View<'a> {
 }
 
 impl<'a> View<'a> {
-    ghost use Rattle.std.specs.Prelude.{◌≡◌, ◌<◌, IfOk, length};
+    ghost use Rattle.std.specs.Prelude.{◌≡◌, ◌<◌, IfOk, IsOkAnd, length};
+    ghost use Rattle.sf_model.specs.Section.{Section};
     ghost use Rattle.sf_model.specs.Table as table;
+    ghost use Rattle.sf_model.specs.Table.{Table};
     ghost use Rattle.sf_decode.specs.Checking.{verdict};
     ghost use Rattle.sf_decode.specs.Decoding.{table_in};
     ghost use Rattle.sf_decode.specs.Entry as entry;
@@ -31,9 +33,12 @@ impl<'a> View<'a> {
     /// Checks the bytes of a section at an address: the header, the number of rows, and then each function
     /// descriptor entry with its rows. The fault is that of the first check that fails.
     pub fn parse(bytes: &'a [u8], at: u64) -> Result<View<'a>, DecodeFault>
+        // What was read is a section that says what the view shows.
+        ensures sound { IfOk result (λ view. Section bytes.now at (table_of view)) }
+        // Each section is read, as what it says.
+        ensures complete { (t : Table) → Section bytes.now at t → IsOkAnd result (λ view. table_of view ≡ t) }
         // It is read exactly where no check fails; else the fault is that of the first that does.
         ensures exact { verdict result ≡ section_check bytes.now at }
-        // What was read is the table that the bytes say.
         ensures table { IfOk result (λ view. table_of view ≡ table_in bytes.now at) }
         ensures bytes { IfOk result (λ view. section_bytes view ≡ bytes.now) }
     {
