@@ -1,3 +1,4 @@
+pub mod Fault
 pub mod Checking
 pub mod Row
 pub mod Entry

@@ -28,7 +28,7 @@ impl<'a> View<'a> {
     ghost use Rattle.sf_decode.specs.Checking.{verdict};
     ghost use Rattle.sf_decode.specs.Decoding.{table_in};
     ghost use Rattle.sf_decode.specs.Entry as entry;
-    ghost use Rattle.sf_decode.specs.View.{section_bytes, table_of, function_of, head_of, rows_left};
+    ghost use Rattle.sf_decode.specs.View.{section_address, section_bytes, table_of, function_of, head_of, rows_left};
 
     /// Checks the bytes of a section at an address: the header, the number of rows, and then each function
     /// descriptor entry with its rows. The fault is that of the first check that fails.
@@ -44,6 +44,20 @@ impl<'a> View<'a> {
     {
         check_section(bytes, at)?;
         Ok(View { bytes, at })
+    }
+
+    /// The section's bytes.
+    pub(crate) fn bytes(&self) -> &'a [u8]
+        ensures { result.now ≡ section_bytes self.now }
+    {
+        self.bytes
+    }
+
+    /// Its address.
+    pub(crate) fn address(&self) -> u64
+        ensures { result ≡ section_address self.now }
+    {
+        self.at
     }
 
     /// For which machine it is.
