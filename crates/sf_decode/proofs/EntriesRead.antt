@@ -184,7 +184,7 @@ at_most m n high e le = omega (e, le, arith)
 within_by : (place m n high : ℕ) → m ≡ n → place + 20 * n ≤ high → place + 20 * m ≤ high
 within_by place m n high e le = omega (e, le, arith)
 
-header_stands : (bytes : List ℕ) (at : ℕ) → section_check bytes at ≡ Ok tt → IsHeader bytes (table_in bytes at)
+pub header_stands : (bytes : List ℕ) (at : ℕ) → section_check bytes at ≡ Ok tt → IsHeader bytes (table_in bytes at)
 unfolding header_check preamble_check machine_check layout_check
 header_stands bytes at e =
     let n : ℕ = function_count_in bytes in

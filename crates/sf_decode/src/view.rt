@@ -21,7 +21,7 @@ pub struct View<'a> {
 }
 
 impl<'a> View<'a> {
-    ghost use Rattle.std.specs.Prelude.{◌≡◌, ◌<◌, IfOk, IsOkAnd, length};
+    ghost use Rattle.std.specs.Prelude.{◌≡◌, ◌<◌, ◌≤◌, ◌^◌, IfOk, IsOkAnd, length};
     ghost use Rattle.sf_model.specs.Section.{Section};
     ghost use Rattle.sf_model.specs.Table as table;
     ghost use Rattle.sf_model.specs.Table.{Table};
@@ -75,17 +75,19 @@ impl<'a> View<'a> {
     }
 
     /// How many functions it has.
-    #[tactic(auto, using(crate::proofs::Checked::functions_length))]
+    #[tactic(auto, using(crate::proofs::Checked::functions_length, crate::proofs::Joined::function_limit_checked))]
     pub fn len(&self) -> u32
-        ensures { result ≡ length (table_of self.now).functions }
+        ensures value { result ≡ length (table_of self.now).functions }
+        ensures most { result ≤ 2 ^ 21 }
     {
         header::function_count(self.bytes)
     }
 
     /// How many rows all functions have together.
-    #[tactic(auto, using(crate::proofs::Checked::row_count_checked))]
+    #[tactic(auto, using(crate::proofs::Checked::row_count_checked, crate::proofs::Joined::row_limit_checked))]
     pub fn row_count(&self) -> u32
-        ensures { result ≡ table.row_count (table_of self.now).functions }
+        ensures value { result ≡ table.row_count (table_of self.now).functions }
+        ensures most { result ≤ 2 ^ 24 }
     {
         header::row_count(self.bytes)
     }
