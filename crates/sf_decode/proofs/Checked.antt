@@ -1,18 +1,17 @@
 -- What holds where no check of a section fails.
-use Rattle.std.proofs.Common.{◌≡◌, ◌<◌, ◌≤◌, ℕ, zero, suc, ◌+◌, ◌*◌, Bool, true, false, IsTrue, List, [], ◌∷◌, length, Result, Ok, Err, refl, ap, sym, ◌∙◌, arith}
-use Rattle.std.specs.Prelude.{is_ok, if◌then◌else◌, ◌==◌, sum_by}
+use Rattle.std.proofs.Common.{◌≡◌, ◌<◌, ℕ, zero, suc, ◌+◌, IsTrue, List, ◌∷◌, length, Ok, refl, ap, sym, ◌∙◌, arith}
+use Rattle.std.specs.Prelude.{is_ok}
 use Rattle.std.proofs.lemmas.List.Sums.{sum_by-cons}
 use Rattle.sf_model.specs.declared.machine.Arch.{Arch}
 use Rattle.sf_model.specs.declared.function.Func.{Func}
 use Rattle.sf_model.specs.Table.{row_count}
-use Rattle.sf_decode.specs.declared.fault.DecodeFault.{DecodeFault}
 use Rattle.sf_decode.specs.declared.fault.DecodeFault.TheVariants.{Count}
-use Rattle.sf_decode.specs.Checking.{Check, unless, ◌>>◌, each_from, sum_from}
-use Rattle.sf_decode.specs.Row.{rows_in, row_end, row_info, row_in}
+use Rattle.sf_decode.specs.Checking.{Check, ◌>>◌, each_from, sum_from}
+use Rattle.sf_decode.specs.Row.{rows_in, row_end, row_info}
 use Rattle.sf_decode.specs.Header.{header_check, function_count_in, row_count_in}
-use Rattle.sf_decode.specs.Entry.{row_count_at, entry_place, entry_check, entry_fields_check, follows_check, entry_rows_check, is_in_memory, function_in, functions_in}
+use Rattle.sf_decode.specs.Entry.{entry_place, entry_check, entry_fields_check, follows_check, entry_rows_check, is_in_memory, function_in, functions_in}
 use Rattle.sf_decode.specs.Decoding.{rows_of_entry, count_check, section_check}
-use Rattle.sf_decode.proofs.Tests.{nothing_wrong, both_pass, unless_holds, eq_if}
+use Rattle.sf_decode.proofs.Holds.{nothing_wrong, both_pass, unless_holds, eq_if}
 use Rattle.sf_decode.proofs.Loops.{each_from-suc, sum_from-none, sum_from-suc}
 
 -- each of the items

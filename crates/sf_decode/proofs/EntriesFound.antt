@@ -1,6 +1,6 @@
 -- No check of a section fails.
-use Rattle.std.proofs.Common.{◌≡◌, ◌≢◌, ◌<◌, ◌≤◌, ℕ, zero, suc, ◌+◌, ◌-◌, ◌*◌, ◌/◌, ◌%◌, ◌^◌, ℤ, pos, ◌+ℤ◌, Bool, true, false, IsTrue, List, [], ◌∷◌, length, Ok, refl, ap, sym, subst, ◌∙◌, arith, nat_lt, nat_le}
-use Rattle.std.specs.Prelude.{◌&&◌, ◌||◌, not, if◌then◌else◌, ◌==◌, slice_index, get_or}
+use Rattle.std.proofs.Common.{◌≡◌, ◌<◌, ◌≤◌, ℕ, zero, suc, ◌+◌, ◌-◌, ◌*◌, ◌/◌, ◌%◌, ◌^◌, Bool, true, false, IsTrue, List, [], ◌∷◌, length, Ok, ap, sym, subst, ◌∙◌, arith}
+use Rattle.std.specs.Prelude.{◌||◌, not, if◌then◌else◌, ◌==◌, slice_index, get_or}
 use Rattle.std.proofs.lemmas.List.Sums.{sum_by-cons}
 use Rattle.byteorder.specs.Numbers.{little_from-lt}
 use Rattle.sf_model.specs.declared.machine.Arch.{Arch}
@@ -11,15 +11,15 @@ use Rattle.sf_model.specs.declared.function.Shape.{Shape}
 use Rattle.sf_model.specs.declared.function.Shape.TheVariants.{Plain, Repeat}
 use Rattle.sf_model.specs.declared.function.Func.{Func}
 use Rattle.sf_model.specs.declared.rows.Row.{Row}
-use Rattle.sf_model.specs.Function.{key_fits, RowsRise}
+use Rattle.sf_model.specs.Function.{key_fits}
 use Rattle.sf_model.specs.Table.{Table, row_count}
-use Rattle.sf_model.specs.Section.{AreBytes, number_in, rows_len, rows_place, functions_place, row_bytes_of, header_end, fixed_return_byte, abi_number, is_sorted, start_origin, start_width_at, row_offset_at, shape_number, key_number, IsRepeatSize, IsHeader, EntryStands, FunctionRowsStand, FunctionsStand, Section}
-use Rattle.sf_decode.specs.Checking.{Check, unless, where_so, ◌>>◌, each_from, sum_from}
-use Rattle.sf_decode.specs.Entry.{flags_in, arch_in, entry_place, size_at, row_count_at, info_at, repeat_size_at, raised_start, is_repeated, key_in, is_known_info, has_repeat_size, is_in_memory, order_check, entry_rows_check, entry_fields_check, follows_check, entry_check}
+use Rattle.sf_model.specs.Section.{AreBytes, number_in, rows_place, functions_place, row_bytes_of, fixed_return_byte, abi_number, is_sorted, start_origin, start_width_at, row_offset_at, shape_number, key_number, IsRepeatSize, IsHeader, EntryStands, FunctionRowsStand, FunctionsStand, Section}
+use Rattle.sf_decode.specs.Checking.{Check, each_from, sum_from}
+use Rattle.sf_decode.specs.Entry.{flags_in, arch_in, entry_place, size_at, info_at, repeat_size_at, raised_start, is_repeated, key_in, is_known_info, has_repeat_size, is_in_memory, order_check, entry_rows_check, entry_fields_check, follows_check, entry_check}
 use Rattle.sf_decode.specs.Row.{rows_check}
 use Rattle.sf_decode.specs.Header.{function_count_in, row_count_in, is_known_abi, preamble_check, machine_check, layout_check, header_check}
 use Rattle.sf_decode.specs.Decoding.{rows_of_entry, count_check, section_check}
-use Rattle.sf_decode.proofs.Tests.{not_true, behind, holds, where_passes, both_of, first_of, second_of, if_le, if_lt, if_eq, not_eq, or_right}
+use Rattle.sf_decode.proofs.Holds.{behind, holds, where_passes, both_of, first_of, second_of, if_le, if_lt, if_eq, not_eq, or_right}
 use Rattle.sf_decode.proofs.Loops.{each_from-none, each_from-suc, sum_from-none, sum_from-suc}
 use Rattle.sf_decode.proofs.RowsFound.{BeginsFrom, rows_pass}
 use Rattle.sf_decode.proofs.Starts.{raised_of_signed}

@@ -1,24 +1,20 @@
 -- Entries that pass their checks stand where they are read, and so does the whole section.
-use Rattle.std.proofs.Common.{◌≡◌, ◌≢◌, ◌<◌, ◌≤◌, ℕ, zero, suc, ◌+◌, ◌-◌, ◌*◌, ◌/◌, ◌%◌, ◌^◌, ℤ, pos, ◌+ℤ◌, Bool, true, false, IsTrue, List, [], ◌∷◌, length, Ok, refl, ap, sym, subst, ◌∙◌, arith, nat_lt, nat_le}
-use Rattle.std.specs.Prelude.{◌&&◌, ◌||◌, not, if◌then◌else◌, ◌==◌, slice_index, get_or}
+use Rattle.std.proofs.Common.{◌≡◌, ◌≢◌, ◌<◌, ◌≤◌, ℕ, zero, suc, ◌+◌, ◌-◌, ◌*◌, ◌/◌, ◌%◌, ◌^◌, Bool, true, false, IsTrue, List, length, Ok, refl, ap, sym, subst, ◌∙◌, arith}
+use Rattle.std.specs.Prelude.{◌||◌, not, if◌then◌else◌, ◌==◌, slice_index, get_or}
 use Rattle.std.specs.List.{AllAdjacentBelow}
-use Rattle.byteorder.specs.Endian.{twos_complement}
 use Rattle.byteorder.specs.Numbers.{little_from-lt}
-use Rattle.sf_model.specs.declared.machine.Arch.{Arch}
 use Rattle.sf_model.specs.declared.machine.Arch.TheVariants.{Amd64, Aarch64}
 use Rattle.sf_model.specs.declared.machine.Key.TheVariants.{A, B}
 use Rattle.sf_model.specs.declared.function.Shape.TheVariants.{Plain, Repeat}
 use Rattle.sf_model.specs.declared.function.Func.{Func}
-use Rattle.sf_model.specs.Function.{key_fits, RowsRise}
-use Rattle.sf_model.specs.Table.{Table, row_count}
-use Rattle.sf_model.specs.Section.{AreBytes, number_in, rows_len, rows_place, functions_place, row_bytes_of, header_end, fixed_return_byte, abi_number, is_sorted, start_origin, start_width_at, row_offset_at, shape_number, key_number, IsRepeatSize, IsHeader, EntryStands, FunctionRowsStand, FunctionsStand, Section}
-use Rattle.sf_decode.specs.Checking.{Check, unless, where_so, ◌>>◌, each_from, sum_from}
-use Rattle.sf_decode.specs.Row.{rows_in}
+use Rattle.sf_model.specs.Table.{row_count}
+use Rattle.sf_model.specs.Section.{AreBytes, number_in, rows_len, rows_place, functions_place, row_bytes_of, abi_number, is_sorted, start_origin, start_width_at, row_offset_at, shape_number, key_number, IsRepeatSize, IsHeader, EntryStands, FunctionRowsStand, FunctionsStand, Section}
+use Rattle.sf_decode.specs.Checking.{each_from}
 use Rattle.sf_decode.specs.Entry.{flags_in, arch_in, entry_place, size_at, row_count_at, info_at, repeat_size_at, raised_start, is_repeated, key_in, is_known_info, has_repeat_size, is_in_memory, order_check, entry_rows_check, entry_fields_check, follows_check, entry_check, shape_in, start_in, function_in, functions_in}
-use Rattle.sf_decode.specs.Header.{function_count_in, row_count_in, is_known_abi, preamble_check, machine_check, layout_check, header_check}
+use Rattle.sf_decode.specs.Header.{function_count_in, row_count_in, preamble_check, machine_check, layout_check, header_check}
 use Rattle.sf_decode.specs.Decoding.{section_check, table_in}
-use Rattle.sf_decode.proofs.Tests.{not_true, both_pass, unless_holds, where_holds, both_of, first_of, second_of, le_if, lt_if, eq_if, ne_if, if_lt}
-use Rattle.sf_decode.proofs.Checked.{Passed, passed, EntryPassed, entry_passed, entry_passes, functions_length, rows_length, row_count_passed}
+use Rattle.sf_decode.proofs.Holds.{not_true, both_pass, unless_holds, where_holds, both_of, first_of, second_of, le_if, lt_if, eq_if, ne_if}
+use Rattle.sf_decode.proofs.Checked.{passed, EntryPassed, entry_passed, entry_passes, functions_length, rows_length, row_count_passed}
 use Rattle.sf_decode.proofs.Loops.{each_from-suc}
 use Rattle.sf_decode.proofs.RowsRead.{rows_stand, rows_rise}
 use Rattle.sf_decode.proofs.Standing.{part_are_bytes}
@@ -89,7 +85,7 @@ entry_stands bytes at place all e r =
       row_count = sym (rows_length (arch_in bytes) (row_bytes_of bytes) (start_width_at bytes place) (row_offset_at bytes place) (row_count_at bytes place));
       start_width = ok.width;
       info = info_parts info (shape_number (shape_in info (repeat_size_at bytes place))) (key_number (key_in info)) (lt_if info 64 (first_of _ _ ok.info))
-      (shape_by (repeat_size_at bytes place) info (info / 16 % 2 == 1) refl) (key_by info (info / 32 % 2 == 0) refl);
+          (shape_by (repeat_size_at bytes place) info (info / 16 % 2 == 1) refl) (key_by info (info / 32 % 2 == 0) refl);
       repeat_size = repeat_by (repeat_size_at bytes place) (is_repeated info) ok.repeat;
       key = second_of _ _ ok.info;
       rows_rise = rows_rise (arch_in bytes) (row_bytes_of bytes) (rows_place bytes) (start_width_at bytes place) (row_offset_at bytes place) 0 (row_count_at bytes place) r;
@@ -110,8 +106,7 @@ functions_stand bytes at first zero all e = tt
 functions_stand bytes at first (suc n) all e =
     let both = both_pass (entry_check bytes at first) (each_from (first + 1) n (entry_check bytes at)) (sym (each_from-suc first n (entry_check bytes at)) ∙ e) in
     let here : EntryPassed bytes at first = entry_passed bytes at first both.0 in
-    let next : entry_place bytes (first + 1) ≡ entry_place bytes first + 20 = omega arith in
-    (
+    let next : entry_place bytes (first + 1) ≡ entry_place bytes first + 20 = omega arith in (
       entry_stands bytes at (entry_place bytes first) all here.fields here.rows,
       function_rows_stand bytes at (entry_place bytes first) all here.fields here.rows,
       subst (λ p. FunctionsStand (arch_in bytes) bytes (flags_in bytes) at p (functions_in bytes at (first + 1) n)) next (functions_stand bytes at (first + 1) n all both.1),
@@ -228,6 +223,6 @@ section_stands bytes at all e =
     record {
       header = header_stands bytes at e;
       functions = subst (λ p. FunctionsStand (arch_in bytes) bytes (flags_in bytes) at p (functions_in bytes at 0 (function_count_in bytes))) first
-      (functions_stand bytes at 0 (function_count_in bytes) all (passed bytes at e).entries);
+          (functions_stand bytes at 0 (function_count_in bytes) all (passed bytes at e).entries);
       sorted = sorted_apart bytes at e;
     }

@@ -1,5 +1,5 @@
 -- What the checks say is what the standard says.
-use Rattle.std.proofs.Common.{◌≡◌, ◌<◌, ◌≤◌, ℕ, ◌+◌, ◌^◌, IsTrue, length, get_or, arith, List, Result, Ok, Err, refl, ap, sym, ◌∙◌}
+use Rattle.std.proofs.Common.{◌≡◌, ◌<◌, ◌≤◌, ℕ, ◌+◌, ◌^◌, IsTrue, length, get_or, arith, List, Ok, Err, ap, sym, ◌∙◌}
 use Rattle.std.specs.Prelude.{is_ok}
 use Rattle.sf_model.specs.declared.function.Func.{Func}
 use Rattle.sf_model.specs.Table.{Table}
@@ -12,7 +12,7 @@ use Rattle.sf_decode.specs.Decoding.{section_check, table_in}
 use Rattle.sf_decode.proofs.EntriesFound.{section_passes}
 use Rattle.sf_decode.proofs.EntriesRead.{section_stands, header_stands, function_at}
 use Rattle.sf_decode.proofs.Checked.{functions_length}
-use Rattle.sf_decode.proofs.Tests.{nothing_wrong}
+use Rattle.sf_decode.proofs.Holds.{nothing_wrong}
 
 -- a section is what its bytes say
 pub section_found : (bytes : List ℕ) (at : ℕ) (t : Table) → AreBytes bytes → Section bytes at t → table_in bytes at ≡ t

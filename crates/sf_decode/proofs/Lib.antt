@@ -7,4 +7,4 @@ pub mod RowsFound
 pub mod RowsRead
 pub mod Standing
 pub mod Starts
-pub mod Tests
+pub mod Holds

@@ -1,7 +1,7 @@
 -- Rows that stand at a place pass their checks.
-use Rattle.std.proofs.Common.{◌≡◌, ◌<◌, ◌≤◌, ℕ, zero, suc, ◌+◌, ◌-◌, ◌*◌, ◌/◌, ◌%◌, ◌^◌, ℤ, Bool, true, false, IsTrue, List, [], ◌∷◌, ◌++◌, length, Ok, refl, ap, sym, subst, ◌∙◌, arith, nat_lt, nat_le}
-use Rattle.std.specs.Prelude.{⊤, not, is_none, Option, Some, None, take, drop, min, if◌then◌else◌, slice_index, get_or, option_to_list}
-use Rattle.std.specs.List.{flat_map, list_all}
+use Rattle.std.proofs.Common.{◌≡◌, ◌<◌, ◌≤◌, ℕ, zero, suc, ◌+◌, ◌*◌, ℤ, Bool, true, false, IsTrue, List, [], ◌∷◌, ◌++◌, length, Ok, refl, ap, sym, subst, ◌∙◌, arith, nat_le}
+use Rattle.std.specs.Prelude.{⊤, is_none, Option, Some, None, drop, slice_index, get_or, option_to_list}
+use Rattle.std.specs.List.{flat_map}
 use Rattle.std.proofs.Math.Seq.{get_or-append_seam}
 use Rattle.std.proofs.lemmas.List.{append_assoc, length-append, length-take, length-drop, take-append-drop, get_or-drop}
 use Rattle.std.proofs.lemmas.List.Concat.{flat_map-cons}
@@ -15,14 +15,13 @@ use Rattle.sf_model.specs.declared.content.Ra.{Ra}
 use Rattle.sf_model.specs.declared.content.Ra.TheVariants.{Fixed, Link, At}
 use Rattle.sf_model.specs.declared.content.Content.{Content}
 use Rattle.sf_model.specs.declared.rows.Row.{Row}
-use Rattle.sf_model.specs.Content.{content_fits, return_fits}
+use Rattle.sf_model.specs.Content.{return_fits}
 use Rattle.sf_model.specs.Function.{RowsRise}
-use Rattle.sf_model.specs.Width.{holds_unsigned, signed_bytes, unsigned_bytes, width_len, IsWidth}
+use Rattle.sf_model.specs.Width.{holds_unsigned, signed_bytes, unsigned_bytes, width_len}
 use Rattle.sf_model.specs.RowBytes.{row_offsets, return_offset, base_number, signed_number, row_info_byte, spelled_row, StandsAt}
 use Rattle.sf_model.specs.Section.{RowStands, RowsStand, AnyWidth}
-use Rattle.sf_decode.specs.Checking.{Check, unless, ◌>>◌}
-use Rattle.sf_decode.specs.Row.{number_len, numbers_len, unsigned_in, info_place, offsets_place, row_info, row_end, offset_count_in, offset_width_in, is_signed_in, has_offset_count, may_be_signed, row_check, rows_check}
-use Rattle.sf_decode.proofs.Tests.{not_true, behind, holds, if_le, lt_if, not_le}
+use Rattle.sf_decode.specs.Row.{number_len, numbers_len, unsigned_in, offsets_place, row_info, row_end, offset_count_in, offset_width_in, is_signed_in, has_offset_count, may_be_signed, row_check, rows_check}
+use Rattle.sf_decode.proofs.Holds.{not_true, behind, holds, if_le, lt_if, not_le}
 use Rattle.sf_decode.proofs.Loops.{rows_check-suc, rows_check-none}
 use Rattle.sf_decode.proofs.Standing.{len_of_width, numbers_of_width, length-unsigned, length-signed}
 

@@ -1,22 +1,20 @@
 -- Rows that pass their checks stand where they are read.
-use Rattle.std.proofs.Common.{◌≡◌, ◌≢◌, ◌<◌, ◌≤◌, ℕ, zero, suc, ◌+◌, ◌-◌, ◌*◌, ◌/◌, ◌%◌, ◌^◌, ℤ, Bool, true, false, IsTrue, List, [], ◌∷◌, ◌++◌, length, Ok, refl, ap, sym, subst, ◌∙◌, arith, nat_lt, nat_le}
-use Rattle.std.specs.Prelude.{◌&&◌, not, is_none, if◌then◌else◌, ◌==◌, slice_index, get_or, option_to_list}
-use Rattle.std.specs.List.{flat_map, list_all, AllAdjacentBelow}
+use Rattle.std.proofs.Common.{◌≡◌, ◌≢◌, ◌<◌, ◌≤◌, ℕ, zero, suc, ◌+◌, ◌*◌, ◌/◌, ◌%◌, ℤ, Bool, true, false, IsTrue, List, [], ◌∷◌, ◌++◌, length, Ok, refl, ap, sym, subst, ◌∙◌, arith, nat_le}
+use Rattle.std.specs.Prelude.{is_none, if◌then◌else◌, ◌==◌, get_or, option_to_list}
+use Rattle.std.specs.List.{flat_map, list_all}
 use Rattle.std.proofs.lemmas.List.{length-append}
 use Rattle.std.proofs.lemmas.List.Concat.{flat_map-cons}
 use Rattle.sf_model.specs.declared.machine.Arch.{Arch}
 use Rattle.sf_model.specs.declared.machine.Arch.TheVariants.{Amd64, Aarch64}
-use Rattle.sf_model.specs.declared.machine.Base.{Base}
 use Rattle.sf_model.specs.declared.machine.Base.TheVariants.{Fp, Sp}
 use Rattle.sf_model.specs.declared.rows.Row.{Row}
-use Rattle.sf_model.specs.Content.{content_fits, return_fits}
+use Rattle.sf_model.specs.Content.{return_fits}
 use Rattle.sf_model.specs.Function.{RowsRise}
-use Rattle.sf_model.specs.Width.{holds_signed, holds_unsigned, signed_bytes, unsigned_bytes, width_len, IsWidth}
-use Rattle.sf_model.specs.RowBytes.{row_offsets, return_offset, holds_row_offsets, base_number, signed_number, row_info_byte, spelled_row, StandsAt}
+use Rattle.sf_model.specs.Width.{holds_signed, signed_bytes, unsigned_bytes, width_len}
+use Rattle.sf_model.specs.RowBytes.{row_offsets, return_offset, base_number, signed_number, row_info_byte, spelled_row, StandsAt}
 use Rattle.sf_model.specs.Section.{AreBytes, RowStands, RowsStand, AnyWidth}
-use Rattle.sf_decode.specs.Checking.{Check, unless, ◌>>◌}
 use Rattle.sf_decode.specs.Row.{number_len, numbers_len, unsigned_in, signed_in, info_place, offsets_place, row_info, row_end, offset_count_in, offset_width_in, is_signed_in, base_in, has_offset_count, may_be_signed, row_check, rows_check, ra_in, fp_in, content_in, row_in, rows_in}
-use Rattle.sf_decode.proofs.Tests.{not_true, both_pass, unless_holds, both_of, second_of, le_if, eq_if, ne_if, gt_if_not}
+use Rattle.sf_decode.proofs.Holds.{not_true, both_pass, unless_holds, both_of, second_of, le_if, eq_if, ne_if, gt_if_not}
 use Rattle.sf_decode.proofs.Loops.{rows_check-suc}
 use Rattle.sf_decode.proofs.Standing.{len_of_width, numbers_of_width, stands_cons, stands_append, unsigned_stands, unsigned_held, signed_stands, signed_held, length-unsigned, length-signed}
 
@@ -179,8 +177,7 @@ rows_stand arch rows o w p least zero all k e = (p, refl)
 rows_stand arch rows o w p least (suc n) all k e =
     let both = both_pass (row_check arch rows o w p least) (rows_check arch rows o w (row_end w p (row_info rows w p)) (unsigned_in w p rows + 1) n) (sym (rows_check-suc arch rows o w p least n) ∙ e) in
     let here : RowReads arch rows w p least = row_reads arch rows o w p least all k both.0 in
-    let later = rows_stand arch rows o w (row_end w p (row_info rows w p)) (unsigned_in w p rows + 1) n all k both.1 in
-    (
+    let later = rows_stand arch rows o w (row_end w p (row_info rows w p)) (unsigned_in w p rows + 1) n all k both.1 in (
       later.0,
       (
         here.width,

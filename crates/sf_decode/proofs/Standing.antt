@@ -1,8 +1,8 @@
 -- Runs of bytes that stand at a place: of numbers that are read there.
-use Rattle.std.proofs.Common.{◌≡◌, ◌<◌, ◌≤◌, ℕ, zero, suc, ◌+◌, ◌-◌, ◌*◌, ◌/◌, ◌%◌, ◌^◌, ℤ, pos, Bool, true, false, IsTrue, List, [], ◌∷◌, ◌++◌, length, refl, ap, sym, subst, ◌∙◌, arith, nat_lt, w32, of_z}
-use Rattle.std.specs.Prelude.{negsuc, ◌-ℤ◌, if◌then◌else◌, ◌==◌, take, drop, slice_index, min}
+use Rattle.std.proofs.Common.{◌≡◌, ◌<◌, ◌≤◌, ℕ, zero, suc, ◌+◌, ◌-◌, ◌*◌, ◌%◌, ℤ, pos, Bool, true, false, IsTrue, List, [], ◌∷◌, ◌++◌, length, refl, ap, sym, subst, ◌∙◌, arith, nat_lt, w32, of_z}
+use Rattle.std.specs.Prelude.{negsuc, ◌-ℤ◌, if◌then◌else◌, take, drop, slice_index}
 use Rattle.std.proofs.Math.IntN.{sub_ℕ}
-use Rattle.std.proofs.Math.Seq.{take-add, get_or-append_seam}
+use Rattle.std.proofs.Math.Seq.{take-add}
 use Rattle.std.proofs.lemmas.Bool.{lt-ltb}
 use Rattle.std.proofs.lemmas.List.{length-append, drop-drop, get_or-drop, get_or-take, length-take, get_or_past}
 use Rattle.std.specs.Int.{byte_at}
@@ -12,7 +12,7 @@ use Rattle.sf_model.specs.Section.{AreBytes}
 use Rattle.sf_model.specs.Width.{holds_signed, holds_unsigned, signed_bytes, unsigned_bytes, width_len}
 use Rattle.sf_model.specs.RowBytes.{StandsAt}
 use Rattle.sf_decode.specs.Row.{number_len, numbers_len, unsigned_in, signed_in}
-use Rattle.sf_decode.proofs.Tests.{if_lt, lt_if, ge_if_not}
+use Rattle.sf_decode.proofs.Holds.{if_lt, lt_if, ge_if_not}
 
 -- the lengths of the three widths
 pub len_of_width : (w : ℕ) → w ≤ 2 → number_len w ≡ width_len w

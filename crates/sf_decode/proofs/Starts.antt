@@ -1,9 +1,9 @@
 -- A start moved up by 2^31, and the start as a signed number from where it counts.
-use Rattle.std.proofs.Common.{◌≡◌, ◌<◌, ◌≤◌, ℕ, ◌+◌, ◌-◌, ◌%◌, ℤ, pos, ◌+ℤ◌, ◌-ℤ◌, Bool, true, false, refl, ap, sym, ◌∙◌, arith, nat_lt}
+use Rattle.std.proofs.Common.{◌≡◌, ◌<◌, ℕ, ◌+◌, ◌%◌, pos, ◌+ℤ◌, ◌-ℤ◌, Bool, true, false, refl, ap, sym, ◌∙◌, arith, nat_lt}
 use Rattle.std.specs.Prelude.{if◌then◌else◌}
 use Rattle.std.proofs.Math.IntN.{+ℤ_assoc, +ℤ-neg_ℤ_cancel, -ℤ-+ℤ_cancel, neg_ℤ}
 use Rattle.byteorder.specs.Endian.{twos_complement}
-use Rattle.sf_decode.proofs.Tests.{lt_if, ge_if_not}
+use Rattle.sf_decode.proofs.Holds.{lt_if, ge_if_not}
 
 -- a sum of numbers from 0, a power taken off
 down : (s o x : ℕ) → s + 4294967296 ≡ o + x → pos s ≡ pos o +ℤ (pos x -ℤ pos 4294967296)

@@ -1,6 +1,6 @@
 -- GNU SFrame specification, Version 2, frame row entries: the numbers of a row at a place of the sub-section of rows, what is
 -- checked of them, and which row they are.
-use Rattle.std.specs.Prelude.{ℕ, ℤ, zero, suc, ◌+◌, ◌*◌, ◌/◌, ◌%◌, ◌==◌, Bool, true, false, not, ◌&&◌, List, [], ◌∷◌, length, slice_index, Option, Some, None, Ok, nat_le, if◌then◌else◌}
+use Rattle.std.specs.Prelude.{ℕ, ℤ, zero, suc, ◌+◌, ◌*◌, ◌/◌, ◌%◌, ◌==◌, Bool, true, not, ◌&&◌, List, [], ◌∷◌, length, slice_index, Option, Some, None, Ok, nat_le, if◌then◌else◌}
 use Rattle.byteorder.specs.Endian.{little_from, twos_complement}
 use Rattle.sf_model.specs.declared.machine.Arch.{Arch}
 use Rattle.sf_model.specs.declared.machine.Arch.TheVariants.{Amd64, Aarch64}

@@ -120,10 +120,7 @@ fn check_preamble(bytes: &[u8]) -> Result<(), DecodeFault>
         byte_at(bytes, VERSION_PLACE) == VERSION,
         DecodeFault::Version(VERSION_PLACE),
     )?;
-    require(
-        flags_of(bytes) < FLAGS_END,
-        DecodeFault::Flags(FLAGS_PLACE),
-    )
+    require(flags_of(bytes) < FLAGS_END, DecodeFault::Flags(FLAGS_PLACE))
 }
 
 // The machine, its fixed offsets, and the auxiliary header.

@@ -52,7 +52,6 @@ const EMPTY: [u8; 28] = *b"\
     \x00\x00\x00\x00\
 ";
 
-
 fn with(edits: &[(u8, u8)]) -> [u8; 63] {
     let mut section = PUSHING;
     for (place, byte) in edits {
@@ -97,12 +96,18 @@ fn the_first_fault_is_named(rt: HostRuntime) {
         (&[(44, 0x50)], Err(DecodeFault::Reserved(28))),
         (&[(44, 0x10)], Err(DecodeFault::RepeatZero(28))),
         (&[(44, 0x10), (45, 1)], Ok(1)),
-        (&[(28, 0), (29, 0), (30, 0), (31, 0x80)], Err(DecodeFault::AddressRange(28))),
+        (
+            &[(28, 0), (29, 0), (30, 0), (31, 0x80)],
+            Err(DecodeFault::AddressRange(28)),
+        ),
         (&[(31, 0x80), (44, 0x10)], Err(DecodeFault::RepeatZero(28))),
         (&[(45, 9), (46, 9), (47, 9)], Ok(1)),
         // The rows: where they lie, the width before the number, bit 7, the order.
         (&[(36, 14)], Err(DecodeFault::Layout(62))),
-        (&[(36, 0xff), (39, 0xff)], Err(DecodeFault::Layout(0xff00_00ff + 48))),
+        (
+            &[(36, 0xff), (39, 0xff)],
+            Err(DecodeFault::Layout(0xff00_00ff + 48)),
+        ),
         (&[(49, 0x63)], Err(DecodeFault::OffsetSize(48))),
         (&[(49, 0x60)], Err(DecodeFault::OffsetSize(48))),
         (&[(49, 0x01)], Err(DecodeFault::OffsetCount(48))),

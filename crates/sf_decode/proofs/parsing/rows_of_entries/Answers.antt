@@ -1,7 +1,6 @@
-use Rattle.std.proofs.Common.{ℕ, ◌≡◌, ◌+◌, ◌-◌, refl, ap, sym, ◌∙◌, arith}
+use Rattle.std.proofs.Common.{◌≡◌, ◌-◌, refl, ap, ◌∙◌, arith}
 use Rattle.sf_decode.specs.Checking.{sum_from}
 use Rattle.sf_decode.specs.Decoding.{rows_of_entry}
-use Rattle.sf_decode.specs.Entry.{entry_place, row_count_at}
 use Rattle.sf_decode.proofs.Loops.{sum_from-none, sum_from-more}
 use Rattle.sf_decode.proofs.parsing.rows_of_entries.Goals as goal
 

@@ -1,4 +1,4 @@
-use Rattle.std.proofs.Common.{ℕ, ◌≡◌, ◌+◌, ◌-◌, ap, sym, ◌∙◌, arith}
+use Rattle.std.proofs.Common.{◌≡◌, ◌-◌, ap, sym, ◌∙◌, arith}
 use Rattle.std.proofs.lemmas.Result.{err_from_is_err_and}
 use Rattle.sf_decode.specs.Row.{rows_check}
 use Rattle.sf_decode.proofs.Loops.{rows_check-none, rows_check-more, rows_check-stop}
@@ -12,13 +12,12 @@ returns-in_err-check_row c =
     ∙ c.loop-row.invariant.1)
 
 pub loop-row-preserved : goal.loop-row-preserved
-loop-row-preserved c =
-    (
-      omega (c.row_end-place.ensures.value, c.in_ok-check_row.ensures.within, c.requires.small, arith),
-      rw (c.row_end-place.ensures.value, c.from-least.ensures, c.unsigned_at.ensures)
+loop-row-preserved c = (
+  omega (c.row_end-place.ensures.value, c.in_ok-check_row.ensures.within, c.requires.small, arith),
+  rw (c.row_end-place.ensures.value, c.from-least.ensures, c.unsigned_at.ensures)
       (rows_check-more c.args.arch c.args.rows.now c.args.origin c.args.start_width c.loop-row.place c.loop-row.least c.loop-row._row c.args.count c.loop-row-test.true (sym c.in_ok-check_row.ensures.check)
       ∙ c.loop-row.invariant.1),
-    )
+)
 
 pub returns : goal.returns
 returns c =

@@ -1,5 +1,4 @@
 use Rattle.std.proofs.Common.{sym, arith}
-
 use Rattle.sf_decode.proofs.EntriesRead.{section_stands}
 use Rattle.sf_decode.proofs.Joined.{section_found, no_section}
 use Rattle.sf_decode.proofs.view.View.parse.Goals as goal

@@ -1,6 +1,6 @@
 -- Tests that hold and checks that pass.
-use Rattle.std.proofs.Common.{◌≡◌, ◌≢◌, ◌<◌, ◌≤◌, ℕ, zero, suc, ◌+◌, ◌*◌, Bool, true, false, IsTrue, List, [], ◌∷◌, length, Result, Ok, Err, refl, ap, sym, ◌∙◌, arith, nat_lt, nat_le}
-use Rattle.std.specs.Prelude.{◌&&◌, ◌||◌, not, is_ok, if◌then◌else◌, ◌==◌}
+use Rattle.std.proofs.Common.{◌≡◌, ◌≢◌, ◌<◌, ◌≤◌, ℕ, Bool, true, false, IsTrue, Ok, Err, refl, ap, ◌∙◌, arith, nat_lt, nat_le}
+use Rattle.std.specs.Prelude.{◌&&◌, ◌||◌, is_ok, ◌==◌}
 use Rattle.sf_decode.specs.declared.fault.DecodeFault.{DecodeFault}
 use Rattle.sf_decode.specs.Checking.{Check, unless, where_so, ◌>>◌}
 
