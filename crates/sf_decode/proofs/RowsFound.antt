@@ -20,10 +20,10 @@ use Rattle.sf_model.specs.Function.{RowsRise}
 use Rattle.sf_model.specs.Width.{holds_unsigned, signed_bytes, unsigned_bytes, width_len}
 use Rattle.sf_model.specs.RowBytes.{row_offsets, return_offset, base_number, signed_number, row_info_byte, spelled_row, StandsAt}
 use Rattle.sf_model.specs.Section.{RowStands, RowsStand, AnyWidth}
-use Rattle.sf_decode.specs.Row.{number_len, numbers_len, unsigned_in, offsets_place, row_info, row_end, offset_count_in, offset_width_in, is_signed_in, has_offset_count, may_be_signed, row_check, rows_check}
+use Rattle.sf_decode.specs.Row.{number_len, unsigned_in, offsets_place, row_info, row_end, offset_count_in, offset_width_in, is_signed_in, has_offset_count, may_be_signed, row_check, rows_check}
 use Rattle.sf_decode.proofs.Holds.{not_true, behind, holds, if_le, lt_if, not_le}
 use Rattle.sf_decode.proofs.Loops.{rows_check-suc, rows_check-none}
-use Rattle.sf_decode.proofs.Standing.{len_of_width, numbers_of_width, length-unsigned, length-signed}
+use Rattle.sf_decode.proofs.Standing.{len_of_width, length-unsigned, length-signed}
 
 -- a number at a place is the first of what stands from there on
 number_in_front : (n p i : ℕ) (bytes : List ℕ) → little_from (p + i) n bytes ≡ little_from i n (drop p bytes)
@@ -144,8 +144,9 @@ row_found arch rows w z p row s =
     (base_small row.content.base) (few_offsets row.content) s.offset_width_fits.there_is (sign_small row.content.signed) (sym info) in
     let run_len : length run ≡ length (row_offsets row.content) * width_len z = offsets_length z (row_offsets row.content) in
     let whole : length (head ++ (byte ∷ run)) ≡ length head + suc (length run) = length-append head (byte ∷ run) in
-    let numbers : numbers_len (offset_width_in (row_info rows w p)) (offset_count_in (row_info rows w p)) ≡ length (row_offsets row.content) * width_len z =
-    ap (λ v. numbers_len v (offset_count_in (row_info rows w p))) parts.width_of ∙ (ap (numbers_len z) parts.count_of ∙ numbers_of_width z (length (row_offsets row.content)) s.offset_width_fits.there_is) in
+    let numbers : offset_count_in (row_info rows w p) * number_len (offset_width_in (row_info rows w p)) ≡ length (row_offsets row.content) * width_len z =
+    ap (λ v. offset_count_in (row_info rows w p) * number_len v) parts.width_of
+    ∙ (ap (λ n. n * number_len z) parts.count_of ∙ ap (λ l. length (row_offsets row.content) * l) (len_of_width z s.offset_width_fits.there_is)) in
     let end : row_end w p (row_info rows w p) ≡ p + length (head ++ (byte ∷ run)) = omega (whole, start_len, head_len, run_len, numbers, arith) in
     let bounds : p + length (head ++ (byte ∷ run)) ≤ length rows = within_bytes rows p (head ++ (byte ∷ run)) s.spelled (omega (whole, arith)) in
     record {

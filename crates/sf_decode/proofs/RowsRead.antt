@@ -13,10 +13,10 @@ use Rattle.sf_model.specs.Function.{RowsRise}
 use Rattle.sf_model.specs.Width.{holds_signed, signed_bytes, unsigned_bytes, width_len}
 use Rattle.sf_model.specs.RowBytes.{row_offsets, return_offset, base_number, signed_number, row_info_byte, spelled_row, StandsAt}
 use Rattle.sf_model.specs.Section.{AreBytes, RowStands, RowsStand, AnyWidth}
-use Rattle.sf_decode.specs.Row.{number_len, numbers_len, unsigned_in, signed_in, info_place, offsets_place, row_info, row_end, offset_count_in, offset_width_in, is_signed_in, base_in, has_offset_count, may_be_signed, row_check, rows_check, ra_in, fp_in, content_in, row_in, rows_in}
+use Rattle.sf_decode.specs.Row.{number_len, unsigned_in, signed_in, info_place, offsets_place, row_info, row_end, offset_count_in, offset_width_in, is_signed_in, base_in, has_offset_count, may_be_signed, row_check, rows_check, ra_in, fp_in, content_in, row_in, rows_in}
 use Rattle.sf_decode.proofs.Holds.{not_true, both_pass, unless_holds, both_of, second_of, le_if, eq_if, ne_if, gt_if_not}
 use Rattle.sf_decode.proofs.Loops.{rows_check-suc}
-use Rattle.sf_decode.proofs.Standing.{len_of_width, numbers_of_width, stands_cons, stands_append, unsigned_stands, unsigned_held, signed_stands, signed_held, length-unsigned, length-signed}
+use Rattle.sf_decode.proofs.Standing.{len_of_width, stands_cons, stands_append, unsigned_stands, unsigned_held, signed_stands, signed_held, length-unsigned, length-signed}
 
 -- what the checks of a row say
 pub record RowPassed (arch : Arch) (rows : List ℕ) (w p least info : ℕ) : Type 0 where
@@ -140,8 +140,7 @@ row_reads arch rows o w p least all k e =
     let offset_len : len ≡ width_len v = len_of_width v ok.width in
     let offsets : List ℤ = offsets_from v len first count rows in
     let are : row_offsets (row_in arch rows w p).content ≡ offsets = offsets_are arch v len first count rows ok.count in
-    let numbers : numbers_len v count ≡ count * len = numbers_of_width v count ok.width ∙ ap (λ n. count * n) (sym offset_len) in
-    let end : first + count * len ≤ length rows = omega (numbers, ok.end, arith) in
+    let end : first + count * len ≤ length rows = ok.end in
     let byte : row_info_byte v (row_in arch rows w p).content ≡ info =
     info_whole info (base_number (base_in info)) (length (row_offsets (row_in arch rows w p).content)) (signed_number (is_signed_in info)) (all (info_place w p))
     (base_by info (info % 2 == 0) refl) (ap length are ∙ offsets_count v len first count rows) (sign_by info (nat_le 128 info) refl (all (info_place w p))) in
@@ -165,7 +164,7 @@ row_reads arch rows o w p least all k e =
         offset_width_fits = record { there_is = ok.width; held = subst (λ l. IsTrue (list_all (λ z. holds_signed z v) l)) (sym are) (offsets_held v len first count rows all ok.width) };
         spelled = stands_append rows p head (row_info_byte v (row_in arch rows w p).content ∷ run) start_stands moved;
       };
-      end = omega (whole, size, run_len, numbers, arith);
+      end = omega (whole, size, run_len, arith);
       rising = ok.rising;
     }
 

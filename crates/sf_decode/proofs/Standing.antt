@@ -1,5 +1,5 @@
 -- Runs of bytes that stand at a place: of numbers that are read there.
-use Rattle.std.proofs.Common.{◌≡◌, ◌<◌, ◌≤◌, ℕ, zero, suc, ◌+◌, ◌-◌, ◌*◌, ◌%◌, ℤ, pos, Bool, true, false, IsTrue, List, [], ◌∷◌, ◌++◌, length, refl, ap, sym, subst, ◌∙◌, arith, nat_lt, w32, of_z}
+use Rattle.std.proofs.Common.{◌≡◌, ◌<◌, ◌≤◌, ℕ, zero, suc, ◌+◌, ◌-◌, ◌%◌, ℤ, pos, Bool, true, false, IsTrue, List, [], ◌∷◌, ◌++◌, length, refl, ap, sym, subst, ◌∙◌, arith, nat_lt, w32, of_z}
 use Rattle.std.specs.Prelude.{negsuc, ◌-ℤ◌, if◌then◌else◌, take, drop, slice_index}
 use Rattle.std.proofs.Math.IntN.{sub_ℕ}
 use Rattle.std.proofs.Math.Seq.{take-add}
@@ -11,7 +11,7 @@ use Rattle.byteorder.specs.Numbers.{little_from-lt, length-bytes_low_first}
 use Rattle.sf_model.specs.Section.{AreBytes}
 use Rattle.sf_model.specs.Width.{holds_signed, holds_unsigned, signed_bytes, unsigned_bytes, width_len}
 use Rattle.sf_model.specs.RowBytes.{StandsAt}
-use Rattle.sf_decode.specs.Row.{number_len, numbers_len, unsigned_in, signed_in}
+use Rattle.sf_decode.specs.Row.{number_len, unsigned_in, signed_in}
 use Rattle.sf_decode.proofs.Holds.{if_lt, lt_if, ge_if_not}
 
 -- the lengths of the three widths
@@ -132,13 +132,6 @@ length-unsigned w n = length-bytes_low_first 0 (width_len w) n
 
 pub length-signed : (w : ℕ) (z : ℤ) → length (signed_bytes w z) ≡ width_len w
 length-signed w z = length-bytes_low_first 0 (width_len w) (of_z w32 z)
-
--- so many numbers of a width
-pub numbers_of_width : (w n : ℕ) → w ≤ 2 → numbers_len w n ≡ n * width_len w
-numbers_of_width zero n k = omega arith
-numbers_of_width (suc zero) n k = omega arith
-numbers_of_width (suc (suc zero)) n k = omega arith
-numbers_of_width (suc (suc (suc w))) n k = absurd (omega arith)
 
 part_by : (bytes : List ℕ) (p len : ℕ) → AreBytes bytes → (k : ℕ) (t : Bool) → nat_lt k len ≡ t → slice_index (take len (drop p bytes)) k < 256
 part_by bytes p len all k true e =

@@ -17,20 +17,13 @@ use Rattle.sf_decode.specs.Checking.{Check, unless, ◌>>◌}
 abbrev pub number_len : (width : ℕ) → ℕ
 number_len width = if width == 0 then 1 else (if width == 1 then 2 else 4)
 
--- so many numbers of a width, in bytes
-abbrev pub numbers_len : (width count : ℕ) → ℕ
-numbers_len width count = if width == 0 then count else (if width == 1 then 2 * count else 4 * count)
-
 -- the unsigned number of a width at a place
 unfoldable pub unsigned_in : (width place : ℕ) → List ℕ → ℕ
-unsigned_in width place bytes =
-    if width == 0 then little_from place 1 bytes else (if width == 1 then little_from place 2 bytes else little_from place 4 bytes)
+unsigned_in width place bytes = little_from place (number_len width) bytes
 
 -- the signed number of a width at a place
 unfoldable pub signed_in : (width place : ℕ) → List ℕ → ℤ
-signed_in width place bytes =
-    if width == 0 then twos_complement 1 (little_from place 1 bytes)
-    else (if width == 1 then twos_complement 2 (little_from place 2 bytes) else twos_complement 4 (little_from place 4 bytes))
+signed_in width place bytes = twos_complement (number_len width) (little_from place (number_len width) bytes)
 
 -- the place of a row's info byte, behind its start
 abbrev pub info_place : (start_width place : ℕ) → ℕ
@@ -62,7 +55,7 @@ row_info rows start_width place = slice_index rows (info_place start_width place
 
 -- where the row ends by its info byte
 abbrev pub row_end : (start_width place info : ℕ) → ℕ
-row_end start_width place info = offsets_place start_width place + numbers_len (offset_width_in info) (offset_count_in info)
+row_end start_width place info = offsets_place start_width place + offset_count_in info * number_len (offset_width_in info)
 
 -- the offsets that rows of a machine have: one or two on AMD64, one to three on AArch64
 abbrev pub has_offset_count : Arch → (count : ℕ) → Bool

@@ -1,6 +1,6 @@
 //! Frame row entries (SFrame Version 2).
 
-ghost use Rattle.std.specs.Prelude.{◌≡◌, ◌<◌, ◌≤◌, ◌+◌, ◌^◌, length, OnOk};
+ghost use Rattle.std.specs.Prelude.{◌≡◌, ◌<◌, ◌≤◌, ◌+◌, ◌*◌, ◌^◌, length, OnOk};
 ghost use Rattle.sf_decode.specs.Row as spec;
 
 use crate::check::require;
@@ -68,7 +68,7 @@ fn info_at(rows: &[u8], start_width: u8, place: u64) -> u8
 // How many bytes so many numbers of a width have.
 fn numbers_len(width: u8, count: u8) -> u64
     requires { count < 16 }
-    ensures value { result ≡ spec.numbers_len width count }
+    ensures value { result ≡ count * spec.number_len width }
     ensures most { result < 64 }
 {
     let count = u64::from(count);

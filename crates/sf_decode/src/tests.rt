@@ -221,78 +221,89 @@ fn func(start: u64, size: u32, shape: Shape, key: Key, rows: u32) -> FuncHead {
     }
 }
 
-// A section, its machine and flags, its functions with the places of their entries, and all rows.
-type Case<'a> = (
-    &'a [u8],
-    Arch,
-    u8,
-    &'a [(u64, FuncHead)],
-    &'a [(u32, Content)],
-);
+// The view of a section shows these functions, with the places of their entries, and all these rows.
+fn shows(
+    rt: &impl Abort,
+    section: &[u8],
+    functions: &[(u64, FuncHead)],
+    rows: &[(u32, Content)],
+) -> Result<(), Fail> {
+    let view = View::parse(section, 0x3000).ok().ok_or("a section")?;
+    assert_eq!(rt; view.len() as usize, functions.len());
+    assert_eq!(rt; view.row_count() as usize, rows.len());
+    let mut functions = functions.iter();
+    let mut rows = rows.iter();
+    for i in 0..view.len() {
+        let shown = (view.entry_place(i), view.func(i));
+        assert_eq!(rt; functions.next().copied(), Some(shown));
+        assert_eq!(rt; view.start(i), shown.1.start);
+        for row in view.rows(i) {
+            assert_eq!(rt; rows.next().copied(), Some((row.start, row.content)));
+        }
+    }
+    Ok(())
+}
 
 #[test]
-fn whole_sections_are_read(rt: HostRuntime) -> Result<(), Fail> {
+fn functions_of_amd64(rt: HostRuntime) -> Result<(), Fail> {
     let leaf = content(Base::Sp, 8, Ra::Fixed, None, false);
     let saved = content(Base::Sp, 16, Ra::Fixed, Some(-16), false);
     let framed = content(Base::Fp, 16, Ra::Fixed, Some(-16), false);
     let popped = content(Base::Sp, 8, Ra::Fixed, Some(-16), false);
-    let plain = content(Base::Sp, 0, Ra::Link, None, false);
-    let signed = content(Base::Sp, 0, Ra::Link, None, true);
-    let both = content(Base::Sp, 32, Ra::At(-24), Some(-32), true);
-    let deeper = content(Base::Sp, 16, Ra::Fixed, None, false);
     let pushing = func(0x1000, 6, Shape::Plain, Key::A, 4);
-    let signing = func(0x1000, 28, Shape::Plain, Key::B, 5);
+    let rows = [(0, leaf), (1, saved), (4, framed), (5, popped)];
+    shows(&rt, &EMPTY, &[], &[])?;
+    shows(&rt, &PUSHING, &[(28, pushing)], &rows)?;
+    shows(&rt, &WIDE, &[(28, pushing)], &rows)
+}
+
+#[test]
+fn functions_of_any_layout(rt: HostRuntime) -> Result<(), Fail> {
+    let leaf = content(Base::Sp, 8, Ra::Fixed, None, false);
+    let deeper = content(Base::Sp, 16, Ra::Fixed, None, false);
     let upper = func(0x3100, 16, Shape::Plain, Key::A, 1);
     let lower = func(0x3000, 16, Shape::Plain, Key::A, 1);
     let repeating = func(0x1000, 64, Shape::Repeat(16), Key::A, 2);
     let loose = func(0x1000, 6, Shape::Plain, Key::A, 1);
-    let pushed: &[(u32, Content)] = &[(0, leaf), (1, saved), (4, framed), (5, popped)];
-    let signs: &[(u32, Content)] = &[
+    shows(
+        &rt,
+        &FALLING,
+        &[(28, upper), (48, lower)],
+        &[(0, leaf), (0, leaf)],
+    )?;
+    shows(
+        &rt,
+        &REPEATING,
+        &[(28, repeating)],
+        &[(0, leaf), (11, deeper)],
+    )?;
+    shows(&rt, &LOOSE, &[(36, loose)], &[(0, leaf)])
+}
+
+#[test]
+fn functions_of_aarch64(rt: HostRuntime) -> Result<(), Fail> {
+    let plain = content(Base::Sp, 0, Ra::Link, None, false);
+    let signed = content(Base::Sp, 0, Ra::Link, None, true);
+    let saved = content(Base::Sp, 32, Ra::At(-24), Some(-32), true);
+    let signing = func(0x1000, 28, Shape::Plain, Key::B, 5);
+    let rows = [
         (0, plain),
         (4, signed),
-        (8, both),
+        (8, saved),
         (20, signed),
         (24, plain),
     ];
-    let cases: [Case<'_>; 7] = [
-        (&EMPTY, Arch::Amd64, 5, &[], &[]),
-        (&PUSHING, Arch::Amd64, 5, &[(28, pushing)], pushed),
-        (&WIDE, Arch::Amd64, 1, &[(28, pushing)], pushed),
-        (&SIGNING, Arch::Aarch64, 5, &[(28, signing)], signs),
-        (
-            &FALLING,
-            Arch::Amd64,
-            0,
-            &[(28, upper), (48, lower)],
-            &[(0, leaf), (0, leaf)],
-        ),
-        (
-            &REPEATING,
-            Arch::Amd64,
-            5,
-            &[(28, repeating)],
-            &[(0, leaf), (11, deeper)],
-        ),
-        (&LOOSE, Arch::Amd64, 0, &[(36, loose)], &[(0, leaf)]),
-    ];
-    for (section, arch, flags, functions, rows) in cases {
-        let view = View::parse(section, 0x3000).ok().ok_or("a section")?;
-        assert_eq!(rt; view.arch(), arch);
-        assert_eq!(rt; view.flags(), flags);
-        assert_eq!(rt; view.len() as usize, functions.len());
-        assert_eq!(rt; view.row_count() as usize, rows.len());
-        let mut functions = functions.iter();
-        let mut rows = rows.iter();
-        for i in 0..view.len() {
-            let shown = (view.entry_place(i), view.func(i));
-            assert_eq!(rt; Some(shown), functions.next().copied());
-            assert_eq!(rt; view.start(i), shown.1.start);
-            for row in view.rows(i) {
-                assert_eq!(rt; Some((row.start, row.content)), rows.next().copied());
-            }
-        }
-        assert!(rt; functions.next().is_none());
-        assert!(rt; rows.next().is_none());
-    }
+    shows(&rt, &SIGNING, &[(28, signing)], &rows)
+}
+
+#[test]
+fn machines_and_flags(rt: HostRuntime) -> Result<(), Fail> {
+    let pushing = View::parse(&PUSHING, 0x3000).ok().ok_or("a section")?;
+    assert_eq!(rt; pushing.arch(), Arch::Amd64);
+    assert_eq!(rt; pushing.flags(), 5);
+    let signing = View::parse(&SIGNING, 0x3000).ok().ok_or("a section")?;
+    assert_eq!(rt; signing.arch(), Arch::Aarch64);
+    let falling = View::parse(&FALLING, 0x3000).ok().ok_or("a section")?;
+    assert_eq!(rt; falling.flags(), 0);
     Ok(())
 }
