@@ -1,6 +1,7 @@
 //! Whole sections, and what is wrong with them once some of their bytes are others.
 use super::*;
 use sf_model::{Arch, Base, Content, FuncHead, Key, Ra, Shape};
+use std::process::Abort;
 use std::test::*;
 
 // A function that pushes its frame pointer: the entry stands at 28, the rows at 48, 51, 55 and 59.
