@@ -58,13 +58,13 @@ is_known_info arch info = nat_lt info 64 && key_fits arch (key_in info)
 abbrev pub has_repeat_size : (info size : ℕ) → Bool
 has_repeat_size info size = not (is_repeated info) || not (size == 0)
 
--- the start is an address, and so is the last byte
+-- the start is an address, and the function ends at 2^64 or before
 unfoldable pub is_in_memory : List ℕ → (at place : ℕ) → Bool
 is_in_memory bytes at place =
     let raised = raised_start bytes at place in
     nat_le (2 ^ 31) raised && nat_lt raised (2 ^ 64 + 2 ^ 31) && nat_le (raised + size_at bytes place) (2 ^ 64 + 2 ^ 31)
 
--- an entry behind another one, where functions are sorted: it starts where that one ends, or behind
+-- an entry behind another one: it starts where that one ends, or behind
 unfoldable pub order_check : List ℕ → (at before place : ℕ) → Check
 order_check bytes at before place =
     unless (nat_le (raised_start bytes at before) (raised_start bytes at place)) (Unsorted place)
@@ -83,7 +83,7 @@ entry_fields_check bytes at place =
     >> unless (has_repeat_size (info_at bytes place) (repeat_size_at bytes place)) (RepeatZero place)
     >> unless (is_in_memory bytes at place) (AddressRange place)
 
--- the same of every entry but the first
+-- the order of an entry that isn't the first, where functions are sorted
 unfoldable pub follows_check : List ℕ → (at i : ℕ) → Check
 follows_check bytes at i =
     where_so (is_sorted (flags_in bytes) && not (i == 0)) (order_check bytes at (entry_place bytes (i - 1)) (entry_place bytes i))

@@ -132,7 +132,7 @@ fn has_repeat_size(info: u8, size: u8) -> bool
     !is_repeated(info) || size != 0
 }
 
-// Whether the start is an address, and so is the last byte.
+// Whether the start is an address, and the function ends at 2^64 or before.
 #[tactic(auto, unfolding(crate::specs::Entry::is_in_memory))]
 fn is_in_memory(bytes: &[u8], at: u64, place: u64) -> bool
     requires { place < 2 ^ 62 }
