@@ -1,0 +1,10 @@
+pub mod Checked
+pub mod EntriesFound
+pub mod EntriesRead
+pub mod Joined
+pub mod Loops
+pub mod RowsFound
+pub mod RowsRead
+pub mod Standing
+pub mod Starts
+pub mod Holds

@@ -1,0 +1,251 @@
+//! Function descriptor entries (SFrame Version 2).
+
+ghost use Rattle.std.specs.Prelude.{◌≡◌, ◌<◌, ◌≤◌, ◌+◌, ◌-◌, ◌^◌, IsTrue, length};
+ghost use Rattle.sf_model.specs.Section as section;
+ghost use Rattle.sf_decode.specs.Entry as spec;
+
+use crate::check::require;
+use crate::fault::DecodeFault;
+use crate::header::{arch_of, flags_of, functions_place, row_bytes, rows_place};
+use crate::layout::{
+    COUNTS_FROM_FIELD, ENTRY_ROW_COUNT_PLACE, FUNCTION_ENTRY_LEN, INFO_PLACE, MOST_WIDTH,
+    REPEAT_SIZE_PLACE, ROW_OFFSET_PLACE, SIZE_PLACE, SORTED,
+};
+use crate::number::{byte_at, u32_at};
+use crate::row::check_rows;
+use sf_model::{Arch, Key, Shape};
+
+/// The place of an entry.
+pub fn entry_place(bytes: &[u8], i: u32) -> u64
+    ensures value { result ≡ spec.entry_place bytes.now i }
+    ensures small { result < 2 ^ 40 }
+{
+    functions_place(bytes) + FUNCTION_ENTRY_LEN * u64::from(i)
+}
+
+/// The size of the function in bytes.
+pub fn size_at(bytes: &[u8], place: u64) -> u32
+    requires { place < 2 ^ 62 }
+    ensures { result ≡ spec.size_at bytes.now place }
+{
+    u32_at(bytes, place + SIZE_PLACE)
+}
+
+/// The place of its first row in the sub-section of rows.
+pub fn row_offset_at(bytes: &[u8], place: u64) -> u32
+    requires { place < 2 ^ 62 }
+    ensures { result ≡ section.row_offset_at bytes.now place }
+{
+    u32_at(bytes, place + ROW_OFFSET_PLACE)
+}
+
+/// The number of its rows.
+pub fn row_count_at(bytes: &[u8], place: u64) -> u32
+    requires { place < 2 ^ 62 }
+    ensures { result ≡ spec.row_count_at bytes.now place }
+{
+    u32_at(bytes, place + ENTRY_ROW_COUNT_PLACE)
+}
+
+// The info byte.
+fn info_at(bytes: &[u8], place: u64) -> u8
+    requires { place < 2 ^ 62 }
+    ensures { result ≡ spec.info_at bytes.now place }
+{
+    byte_at(bytes, place + INFO_PLACE)
+}
+
+// The repeat size.
+fn repeat_size_at(bytes: &[u8], place: u64) -> u8
+    requires { place < 2 ^ 62 }
+    ensures { result ≡ spec.repeat_size_at bytes.now place }
+{
+    byte_at(bytes, place + REPEAT_SIZE_PLACE)
+}
+
+/// The width of its rows' starts.
+pub fn start_width_at(bytes: &[u8], place: u64) -> u8
+    requires { place < 2 ^ 62 }
+    ensures { result ≡ section.start_width_at bytes.now place }
+{
+    info_at(bytes, place) % 16
+}
+
+// Whether functions are sorted by start.
+fn is_sorted(flags: u8) -> bool
+    ensures { result ≡ section.is_sorted flags }
+{
+    flags % 2 == SORTED
+}
+
+// The address that a start counts from.
+fn start_origin(flags: u8, at: u64, place: u64) -> u128
+    ensures value { result ≡ section.start_origin flags at place }
+    ensures small { result < 2 ^ 65 }
+{
+    if flags / COUNTS_FROM_FIELD % 2 == 1 {
+        u128::from(at) + u128::from(place)
+    } else {
+        u128::from(at)
+    }
+}
+
+// The start moved up by 2^31, so that it is never below 0.
+#[tactic(auto, unfolding(crate::specs::Entry::raised_start))]
+fn raised_start(bytes: &[u8], at: u64, place: u64) -> u128
+    requires { place < 2 ^ 62 }
+    ensures value { result ≡ spec.raised_start bytes.now at place }
+    ensures small { result < 2 ^ 66 }
+{
+    let field = u32_at(bytes, place).wrapping_add(1 << 31);
+    start_origin(flags_of(bytes), at, place) + u128::from(field)
+}
+
+// Whether the rows repeat.
+fn is_repeated(info: u8) -> bool
+    ensures { result ≡ spec.is_repeated info }
+{
+    info / 16 % 2 == 1
+}
+
+// The key.
+fn key_of(info: u8) -> Key
+    ensures { result ≡ spec.key_in info }
+{
+    if info / 32 % 2 == 0 { Key::A } else { Key::B }
+}
+
+// Whether only bits that have a meaning are set, and the machine has the key.
+fn is_known_info(arch: Arch, info: u8) -> bool
+    ensures { result ≡ spec.is_known_info arch info }
+{
+    match (arch, key_of(info)) {
+        (Arch::Amd64, Key::B) => false,
+        _ => info < 64,
+    }
+}
+
+// Whether a function whose rows repeat has a repeat size.
+fn has_repeat_size(info: u8, size: u8) -> bool
+    ensures { result ≡ spec.has_repeat_size info size }
+{
+    !is_repeated(info) || size != 0
+}
+
+// Whether the start is an address, and the function ends at 2^64 or before.
+#[tactic(auto, unfolding(crate::specs::Entry::is_in_memory))]
+fn is_in_memory(bytes: &[u8], at: u64, place: u64) -> bool
+    requires { place < 2 ^ 62 }
+    ensures { result ≡ spec.is_in_memory bytes.now at place }
+{
+    let end = (1 << 64) + (1 << 31);
+    let raised = raised_start(bytes, at, place);
+    1 << 31 <= raised && raised < end && raised + u128::from(size_at(bytes, place)) <= end
+}
+
+// The checks of an entry's own fields.
+#[tactic(auto, unfolding(crate::specs::Entry::entry_fields_check))]
+fn check_fields(bytes: &[u8], at: u64, place: u64) -> Result<(), DecodeFault>
+    requires { place < 2 ^ 62 }
+    ensures { result ≡ spec.entry_fields_check bytes.now at place }
+{
+    let info = info_at(bytes, place);
+    require(
+        start_width_at(bytes, place) <= MOST_WIDTH,
+        DecodeFault::RowType(place),
+    )?;
+    require(
+        is_known_info(arch_of(bytes), info),
+        DecodeFault::Reserved(place),
+    )?;
+    require(
+        has_repeat_size(info, repeat_size_at(bytes, place)),
+        DecodeFault::RepeatZero(place),
+    )?;
+    require(
+        is_in_memory(bytes, at, place),
+        DecodeFault::AddressRange(place),
+    )
+}
+
+// That an entry of a sorted section starts where the one before ends, or behind.
+#[tactic(auto, unfolding(crate::specs::Entry::order_check))]
+fn check_order(bytes: &[u8], at: u64, before: u64, place: u64) -> Result<(), DecodeFault>
+    requires before { before < 2 ^ 62 }
+    requires place { place < 2 ^ 62 }
+    ensures { result ≡ spec.order_check bytes.now at before place }
+{
+    let start_before = raised_start(bytes, at, before);
+    let end_before = start_before + u128::from(size_at(bytes, before));
+    let start = raised_start(bytes, at, place);
+    require(start_before <= start, DecodeFault::Unsorted(place))?;
+    require(end_before <= start, DecodeFault::Overlap(place))
+}
+
+// The order, where functions are sorted and there is an entry before.
+#[tactic(auto, unfolding(crate::specs::Entry::follows_check))]
+fn check_follows(bytes: &[u8], at: u64, i: u32) -> Result<(), DecodeFault>
+    ensures { result ≡ spec.follows_check bytes.now at i }
+{
+    if !is_sorted(flags_of(bytes)) || i == 0 {
+        return Ok(());
+    }
+    check_order(bytes, at, entry_place(bytes, i - 1), entry_place(bytes, i))
+}
+
+// The rows of an entry.
+#[tactic(auto, unfolding(crate::specs::Entry::entry_rows_check))]
+fn check_entry_rows(bytes: &[u8], place: u64) -> Result<(), DecodeFault>
+    requires { place < 2 ^ 62 }
+    ensures { result ≡ spec.entry_rows_check bytes.now place }
+{
+    check_rows(
+        arch_of(bytes),
+        row_bytes(bytes),
+        rows_place(bytes),
+        start_width_at(bytes, place),
+        row_offset_at(bytes, place),
+        row_count_at(bytes, place),
+    )
+}
+
+/// The checks of an entry: its fields, its order, its rows.
+#[tactic(auto, unfolding(crate::specs::Entry::entry_check))]
+pub fn check_entry(bytes: &[u8], at: u64, i: u32) -> Result<(), DecodeFault>
+    ensures { result ≡ spec.entry_check bytes.now at i }
+{
+    let place = entry_place(bytes, i);
+    check_fields(bytes, at, place)?;
+    check_follows(bytes, at, i)?;
+    check_entry_rows(bytes, place)
+}
+
+/// The function's start.
+#[tactic(auto, unfolding(crate::specs::Entry::is_in_memory))]
+pub fn start_at(bytes: &[u8], at: u64, place: u64) -> u64
+    requires near { place < 2 ^ 62 }
+    requires address { IsTrue (spec.is_in_memory bytes.now at place) }
+    ensures { result ≡ spec.start_in bytes.now at place }
+{
+    (raised_start(bytes, at, place) - (1 << 31)) as u64
+}
+
+/// How the rows are looked up.
+pub fn shape_at(bytes: &[u8], place: u64) -> Shape
+    requires { place < 2 ^ 62 }
+    ensures { result ≡ spec.shape_in (spec.info_at bytes.now place) (spec.repeat_size_at bytes.now place) }
+{
+    if is_repeated(info_at(bytes, place)) {
+        Shape::Repeat(repeat_size_at(bytes, place))
+    } else {
+        Shape::Plain
+    }
+}
+
+/// The key of its signed return addresses.
+pub fn key_at(bytes: &[u8], place: u64) -> Key
+    requires { place < 2 ^ 62 }
+    ensures { result ≡ spec.key_in (spec.info_at bytes.now place) }
+{
+    key_of(info_at(bytes, place))
+}

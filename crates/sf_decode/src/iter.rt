@@ -1,0 +1,68 @@
+//! The rows of a function, one after the other.
+
+ghost use Rattle.std.specs.Prelude.{◌<◌, ◌+◌, ◌*◌, ◌^◌, ◌≡◌};
+
+use crate::row::{row_at, row_end};
+use sf_model::{Arch, Row};
+
+/// An iterator over the rows of a function. It lends the section's bytes.
+#[derive(Clone, Copy, Debug)]
+pub struct RowIter<'a> {
+    arch: Arch,
+    rows: &'a [u8],
+    start_width: u8,
+    place: u64,
+    left: u32,
+    ghost near: { place + 68 * left < 2 ^ 60 },
+}
+
+impl<'a> RowIter<'a> {
+    ghost use Rattle.sf_decode.specs.Row.{rows_in};
+    ghost use Rattle.sf_decode.specs.View.{rows_left};
+
+    /// The iterator over so many rows from a place of the sub-section of rows on.
+    pub(crate) fn new(
+        arch: Arch,
+        rows: &'a [u8],
+        start_width: u8,
+        first: u32,
+        count: u32,
+    ) -> RowIter<'a>
+        ensures { rows_left result ≡ rows_in arch rows.now start_width first count }
+    {
+        RowIter {
+            arch,
+            rows,
+            start_width,
+            place: u64::from(first),
+            left: count,
+        }
+    }
+}
+
+impl<'a> Iterator for RowIter<'a> {
+    ghost use Rattle.std.specs.Iterator.{YieldsFirst, item_count};
+    ghost use Rattle.sf_decode.specs.View.{rows_left};
+
+    type Item = Row;
+
+    ghost next_gives = { YieldsFirst rows_left };
+
+    ghost remaining = { item_count rows_left };
+
+    #[tactic(auto, unfolding(crate::specs::Row::rows_in))]
+    fn next(&mut self) -> Option<Row> {
+        if self.left == 0 {
+            return None;
+        }
+        let row = row_at(self.arch, self.rows, self.start_width, self.place);
+        *self = RowIter {
+            arch: self.arch,
+            rows: self.rows,
+            start_width: self.start_width,
+            place: row_end(self.rows, self.start_width, self.place),
+            left: self.left - 1,
+        };
+        Some(row)
+    }
+}

@@ -1,0 +1,89 @@
+//! Numbers at places, little-endian. What lies past the end reads as 0; the checks rule it out.
+
+ghost use Rattle.std.specs.Prelude.{◌≡◌, ◌<◌, ◌≤◌, ◌^◌, length, slice_index, take, drop};
+ghost use Rattle.sf_model.specs.Section.{number_in};
+ghost use Rattle.sf_decode.specs.Row as row;
+
+/// The byte at a place.
+pub fn byte_at(bytes: &[u8], place: u64) -> u8
+    ensures { result ≡ slice_index bytes.now place }
+{
+    match bytes.get(place as usize) {
+        Some(byte) => *byte,
+        None => 0,
+    }
+}
+
+/// The number in two bytes at a place.
+pub fn u16_at(bytes: &[u8], place: u64) -> u16
+    requires { place < 2 ^ 63 }
+    ensures { result ≡ number_in 2 place bytes.now }
+{
+    u16::from_le_bytes([byte_at(bytes, place), byte_at(bytes, place + 1)])
+}
+
+/// The number in four bytes at a place.
+pub fn u32_at(bytes: &[u8], place: u64) -> u32
+    requires { place < 2 ^ 63 }
+    ensures { result ≡ number_in 4 place bytes.now }
+{
+    u32::from_le_bytes([
+        byte_at(bytes, place),
+        byte_at(bytes, place + 1),
+        byte_at(bytes, place + 2),
+        byte_at(bytes, place + 3),
+    ])
+}
+
+/// The unsigned number of a width at a place.
+#[tactic(auto, unfolding(crate::specs::Row::unsigned_in))]
+pub fn unsigned_at(bytes: &[u8], width: u8, place: u64) -> u32
+    requires { place < 2 ^ 63 }
+    ensures { result ≡ row.unsigned_in width place bytes.now }
+{
+    match width {
+        0 => u32::from(byte_at(bytes, place)),
+        1 => u32::from(u16_at(bytes, place)),
+        _ => u32_at(bytes, place),
+    }
+}
+
+/// The signed number of a width at a place.
+#[tactic(auto, unfolding(crate::specs::Row::signed_in))]
+pub fn signed_at(bytes: &[u8], width: u8, place: u64) -> i32
+    requires { place < 2 ^ 63 }
+    ensures { result ≡ row.signed_in width place bytes.now }
+{
+    match width {
+        0 => i32::from(byte_at(bytes, place).cast_signed()),
+        1 => i32::from(u16_at(bytes, place).cast_signed()),
+        _ => u32_at(bytes, place).cast_signed(),
+    }
+}
+
+/// How many bytes a number of a width has.
+pub fn number_len(width: u8) -> u64
+    ensures value { result ≡ row.number_len width }
+    ensures some { 1 ≤ result }
+    ensures most { result ≤ 4 }
+{
+    match width {
+        0 => 1,
+        1 => 2,
+        _ => 4,
+    }
+}
+
+/// So many bytes from a place on.
+pub fn bytes_at(bytes: &[u8], place: u64, size: u64) -> &[u8]
+    ensures { result.now ≡ take size (drop place bytes.now) }
+{
+    let rest = match bytes.get(place as usize..) {
+        Some(rest) => rest,
+        None => &[],
+    };
+    match rest.get(..size as usize) {
+        Some(front) => front,
+        None => rest,
+    }
+}
