@@ -1,31 +1,27 @@
 -- What the kept functions' rows recover at an address is what DWARF recovers there, and so walks list the same frames.
-use Rattle.std.specs.Prelude.{nat_le, nat_lt, is_none, ◌⊎◌}
-use Rattle.std.specs.Option.{option_map, option_and_then}
-use Rattle.std.specs.List.{filter, find, filter_map, cons_option, range_with_len, AllByRecursion, All}
-use Rattle.std.specs.List.Sorted.{IsPermutation}
-use Rattle.std.proofs.Common.{◌≡◌, ℕ, zero, suc, ◌+◌, ◌-◌, ◌<◌, ◌≤◌, Bool, true, false, cond, ◌&&◌, eqb, leb, ltb, List, [], ◌∷◌, length, map, Option, Some, None, Result, Ok, Err, refl, sym, ap, subst, ◌∙◌, arith, inl, inr}
-use Rattle.std.proofs.lemmas.Bool.{cases_lt, leb-true, ltb-true, le-leb}
+use Rattle.std.specs.Prelude.{nat_le, nat_lt, is_none}
+use Rattle.std.specs.Option.{option_map}
+use Rattle.std.specs.List.{filter, find, cons_option, range_with_len, AllByRecursion}
+use Rattle.std.proofs.Common.{◌≡◌, ℕ, zero, suc, ◌+◌, ◌-◌, ◌<◌, ◌≤◌, Bool, true, false, cond, ◌&&◌, eqb, leb, List, [], ◌∷◌, map, Option, Some, None, Result, Ok, Err, refl, sym, ap, subst, ◌∙◌, arith, inl, inr}
+use Rattle.std.proofs.lemmas.Bool.{cases_lt, leb-true, ltb-true}
 use Rattle.std.proofs.lemmas.Bool.Decides.{nat_tests}
 use Rattle.std.proofs.lemmas.List.Sorted.{All-permutation}
 use Rattle.std.proofs.lemmas.List.Elements.{All-from_recursion, recursion_from_All}
-use Rattle.sf_model.specs.declared.machine.Key.{Key}
 use Rattle.sf_model.specs.declared.content.Content.{Content}
 use Rattle.sf_model.specs.declared.function.Func.{Func}
 use Rattle.sf_model.specs.declared.rows.Row.{Row}
 use Rattle.sf_model.specs.declared.recovery.Regs.{Regs}
 use Rattle.sf_model.specs.Memory.{Region}
 use Rattle.sf_model.specs.Lookup.{FoundRow, contains, row_at, row_in, row_in_first, found_at}
-use Rattle.sf_model.specs.Recovery.{Recovery, recovery}
+use Rattle.sf_model.specs.Recovery.{recovery}
 use Rattle.sf_model.specs.Walk.{recover_by_rows}
 use Rattle.sf_model.specs.declared.omission.Omission.{Omission}
 use Rattle.sf_model.specs.declared.omission.Reason.{Reason}
 use Rattle.cfa_machine.specs.FullRow.{columns_of}
-use Rattle.cfa_machine.specs.Columns.{row_from}
-use Rattle.cfa_machine.specs.Recovery.{RuleRecovery, recovery_by_rules}
-use Rattle.sf_express.specs.Parts.{content_of}
+use Rattle.cfa_machine.specs.Recovery.{recovery_by_rules}
 use Rattle.sf_express.specs.Expressed.{reason_of}
 use Rattle.sf_express.specs.Offsets.{as_said}
-use Rattle.sf_express.specs.Alike.{defined, RecoverAlike}
+use Rattle.sf_express.specs.Alike.{defined}
 use Rattle.sf_express.specs.Runs.{Saying, against, or_later, first_against, whole_or_row, omission_of, rows_of, expressed, unless_omitted, function_of}
 use Rattle.sf_express.proofs.Found.{SaysContent, row_said}
 use Rattle.sf_express.proofs.Alike.{recovers_alike}
@@ -54,6 +50,7 @@ find_kept pc (f ∷ fs) = at_omission (omission_of f.arch (facts_of f) (says_of 
         → find (contains pc) (expressed_of f ∷ kept_of (map entry_of fs)) ≡ option_map expressed_of (find (holds_address pc) (f ∷ kept_functions fs))
     at_address true t others = rw t refl
     at_address false t others = rw t others
+
     at_omission : (omission : Option Omission) → omission_of f.arch (facts_of f) (says_of f) ≡ omission → find (contains pc) (kept_of (map entry_of fs)) ≡ option_map expressed_of (find (holds_address pc) (kept_functions fs))
         → find (contains pc) (kept_of (map entry_of (f ∷ fs))) ≡ option_map expressed_of (find (holds_address pc) (kept_functions (f ∷ fs)))
     at_omission None e others = rw e (at_address (holds_address pc f) refl others)
@@ -79,6 +76,7 @@ find_entry pc (e ∷ es) = at_outcome e.outcome refl (find_entry pc es)
         → find (contains pc) (f ∷ kept_of es) ≡ function_in_found (cond (contains pc f) (Some e) (find (is_there pc) es))
     at_test f is true t others = rw t (sym (ap kept_in is))
     at_test f is false t others = rw t others
+
     at_outcome : (o : Outcome) → e.outcome ≡ o → find (contains pc) (kept_of es) ≡ function_in_found (find (is_there pc) es) → find (contains pc) (kept_of (e ∷ es)) ≡ function_in_found (find (is_there pc) (e ∷ es))
     at_outcome (outcome.Kept f) is others =
         ap (λ (o : Outcome). find (contains pc) (cons_option (kept_in o) (kept_of es))) is ∙ at_test f is (contains pc f) refl others
@@ -161,12 +159,14 @@ one_is_there pc end (e ∷ es) spanned h = λ x y m n s t. at_members x y m n s 
         → (are_apart end es ≡ true → T) → (are_apart (e.span.start + e.span.size) es ≡ true → T) → T
     at_rest true s h skipped behind = skipped h
     at_rest false s h skipped behind = behind (both (leb end e.span.start) (are_apart (e.span.start + e.span.size) es) h).1
+
     first_and_later : (x y : Entry) → e ≡ x → Member es y → is_there pc x ≡ true → is_there pc y ≡ true → ⊥
     first_and_later x y is m s t =
         let w = there_within pc e.outcome e.span.start e.span.size spanned.0 (ap (is_there pc) is ∙ s) in
         let rest = (past_one end pc e.span.start e.span.size (are_apart (e.span.start + e.span.size) es) (are_apart end es) h w).1 in
         let past = past_end pc (e.span.start + e.span.size) es spanned.1 rest y m t in
         omega (arith, w.to, past)
+
     at_members : (x y : Entry) → Member (e ∷ es) x → Member (e ∷ es) y → is_there pc x ≡ true → is_there pc y ≡ true
         → (Member es x → Member es y → is_there pc x ≡ true → is_there pc y ≡ true → x ≡ y) → x ≡ y
     at_members x y (inl a) (inl b) s t later = sym a ∙ b
@@ -237,6 +237,7 @@ found_passes p q (g ∷ fs) f e = at_second (q g) refl e (found_passes p q fs f)
     at_first : (b : Bool) → p g ≡ b → q g ≡ true → cond b (Some g) (find p (filter q fs)) ≡ Some f → (find p (filter q fs) ≡ Some f → (p f ≡ true) × (q f ≡ true)) → (p f ≡ true) × (q f ≡ true)
     at_first true t s e later = let is : g ≡ f = cc in (ap p (sym is) ∙ t, ap q (sym is) ∙ s)
     at_first false t s e later = later e
+
     at_second : (b : Bool) → q g ≡ b → find p (cond b (g ∷ filter q fs) (filter q fs)) ≡ Some f → (find p (filter q fs) ≡ Some f → (p f ≡ true) × (q f ≡ true)) → (p f ≡ true) × (q f ≡ true)
     at_second true s e later = at_first (p g) refl s e later
     at_second false s e later = later e

@@ -1,7 +1,6 @@
 -- The section of gathered functions is faithful.
-use Rattle.std.specs.Prelude.{◌⊎◌}
 use Rattle.std.specs.Option.{option_map}
-use Rattle.std.proofs.Common.{◌≡◌, ℕ, List, [], ◌∷◌, length, map, Option, Some, None, Result, Ok, Err, refl, sym, ap, subst, ◌∙◌, inl, inr}
+use Rattle.std.proofs.Common.{◌≡◌, ℕ, List, [], ◌∷◌, length, map, Option, Some, None, Result, Ok, Err, refl, sym, ap, subst, ◌∙◌}
 use Rattle.sf_model.specs.declared.machine.Arch.{Arch}
 use Rattle.sf_model.specs.declared.function.Func.{Func}
 use Rattle.sf_model.specs.declared.omission.Omitted.{Omitted}
@@ -12,15 +11,13 @@ use Rattle.sf_write.specs.Reach.{first_out_of_reach}
 use Rattle.sf_write.specs.Section.{table_of}
 use Rattle.sf_asm.specs.declared.entry.Entry.{Entry}
 use Rattle.sf_asm.specs.declared.fault.GatherFault.{GatherFault}
-use Rattle.sf_asm.specs.declared.fault.GatherFault.TheVariants as gather
-use Rattle.sf_asm.specs.declared.fault.LinkFault.{LinkFault}
 use Rattle.sf_asm.specs.declared.fault.LinkFault.TheVariants as link
-use Rattle.sf_asm.specs.Answers.{AreGathered, IsFirstGathered, IsAssembled, IsFirstLinked}
-use Rattle.sf_asm.specs.Entry.{kept_of, omitted_of, spans_of}
+use Rattle.sf_asm.specs.Answers.{AreGathered, IsAssembled}
+use Rattle.sf_asm.specs.Entry.{kept_of, spans_of}
 use Rattle.sf_asm.specs.Faithful.{Faithful}
 use Rattle.sf_asm.specs.Functions.{Function, Object, functions_of, machine_of}
 use Rattle.sf_asm.specs.Kept.{entry_of}
-use Rattle.sf_asm.specs.Linking.{InOrder, Ordered, overlap_fault, overlap_in, limits_fault, functions_fault, link_fault, or_later, unless_fault, Gathers, GathersFrom, Links, LinksFrom}
+use Rattle.sf_asm.specs.Linking.{InOrder, overlap_fault, overlap_in, limits_fault, functions_fault, link_fault, or_later, unless_fault, Gathers, GathersFrom, Links, LinksFrom}
 use Rattle.sf_asm.proofs.Agreeing.{recovers_by_dwarf}
 use Rattle.sf_asm.proofs.Walking.{walks_by_dwarf}
 
@@ -103,9 +100,12 @@ not_gathered objects at fault h = gathered_refused objects at (functions_of 0 ob
 out_of_reach : (at : ℕ) (given : Result (List Function) GatherFault) (ordered : List Entry) (start : ℕ) → first_out_of_reach at 0 (kept_of ordered) ≡ Some start → GathersFrom given (Ok ordered) → LinksFrom at given (Err (link.OutOfReach start))
 out_of_reach at (Ok functions) ordered start far (other, order, is) =
     let two = checked_is (functions_fault other) ordered other is in
-    let there : first_out_of_reach at 0 (kept_of other) ≡ Some start = subst (λ (es : List Entry). first_out_of_reach at 0 (kept_of es) ≡ Some start) (sym two.1) far in
-    (other, order, sym (ap (λ (first : Option GatherFault). unless_fault (or_later (option_map link.Gather first) (option_map link.OutOfReach (first_out_of_reach at 0 (kept_of other)))) other) two.0
-    ∙ ap (λ (first : Option ℕ). unless_fault (option_map link.OutOfReach first) other) there))
+    let there : first_out_of_reach at 0 (kept_of other) ≡ Some start = subst (λ (es : List Entry). first_out_of_reach at 0 (kept_of es) ≡ Some start) (sym two.1) far in (
+      other,
+      order,
+      sym (ap (λ (first : Option GatherFault). unless_fault (or_later (option_map link.Gather first) (option_map link.OutOfReach (first_out_of_reach at 0 (kept_of other)))) other) two.0
+          ∙ ap (λ (first : Option ℕ). unless_fault (option_map link.OutOfReach first) other) there),
+    )
 out_of_reach at (Err fault) ordered start far is = cc
 
 pub not_reached : (objects : List Object) (at : ℕ) (functions : List Func) (omitted : List Omitted) (spans : List Span) (start : ℕ) → AreGathered objects functions omitted spans → first_out_of_reach at 0 functions ≡ Some start

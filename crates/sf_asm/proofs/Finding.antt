@@ -2,7 +2,7 @@
 use Rattle.std.specs.Prelude.{◌⊎◌}
 use Rattle.std.specs.List.{find, list_any, Contains}
 use Rattle.std.specs.List.Sorted.{IsPermutation}
-use Rattle.std.proofs.Common.{◌≡◌, ℕ, zero, suc, ◌<◌, Bool, true, false, cond, ◌||◌, List, [], ◌∷◌, length, Option, Some, None, refl, sym, ap, subst, ◌∙◌, arith, inl, inr}
+use Rattle.std.proofs.Common.{◌≡◌, zero, suc, Bool, true, false, cond, ◌||◌, List, [], ◌∷◌, Option, Some, None, refl, sym, ap, ◌∙◌, arith, inl, inr}
 use Rattle.std.proofs.lemmas.List.Sorted.{Contains-permutation, list_any-IsPermutation}
 
 -- x is one of these, by recursion
@@ -62,6 +62,7 @@ found_alike p xs ys same one = at_left (find p xs) refl
     at_right x is h (Some y) e =
         let there = found p ys y e in
         ap Some (one x y (member ys x (Contains-permutation xs ys x same h.within)) (member ys y there.within) h.passes there.passes)
+
     at_left : (r : Option _) → find p xs ≡ r → find p xs ≡ find p ys
     at_left None e = e ∙ sym (none_found p ys (sym (list_any-IsPermutation p xs ys same) ∙ none_passes p xs e))
     at_left (Some x) e = e ∙ at_right x e (found p xs x e) (find p ys) refl

@@ -149,6 +149,7 @@ kept_of_checked arch es sound h =
     no_first : (a b : Option GatherFault) → or_later a b ≡ None → (a ≡ None) × (b ≡ None)
     no_first None b e = (refl, e)
     no_first (Some fault) b e = cc
+
     no_mapped : (pair : Option (Span × Span)) → option_map overlap_fault pair ≡ None → pair ≡ None
     no_mapped None e = refl
     no_mapped (Some pair) e = cc

@@ -1,16 +1,11 @@
 -- Overlaps among functions by rising start, one after the other.
-use Rattle.std.specs.Prelude.{not, ◌==◌, nat_lt}
+use Rattle.std.specs.Prelude.{not}
 use Rattle.std.specs.Option.{option_map}
-use Rattle.std.specs.List.{filter, find, zip}
-use Rattle.std.proofs.Common.{◌≡◌, ℕ, zero, suc, ◌+◌, ◌<◌, ◌≤◌, Bool, true, false, cond, ◌&&◌, eqb, leb, List, [], ◌∷◌, length, drop, get_or, map, Option, Some, None, Result, Ok, Err, refl, sym, ap, subst, ◌∙◌, arith, add-one, drop-cons}
-use Rattle.std.proofs.lemmas.List.{drop_all}
-use Rattle.std.proofs.lemmas.Bool.Decides.{nat_tests}
+use Rattle.std.specs.List.{filter, find}
+use Rattle.std.proofs.Common.{◌≡◌, ℕ, Bool, true, false, cond, eqb, List, [], ◌∷◌, Option, Some, None, refl, ap}
 use Rattle.sf_model.specs.declared.omission.Span.{Span}
-use Rattle.sf_asm.specs.declared.entry.Entry.{Entry}
 use Rattle.sf_asm.specs.declared.fault.GatherFault.{GatherFault}
-use Rattle.sf_asm.specs.Entry.{spans_of}
 use Rattle.sf_asm.specs.Linking.{has_bytes, neighbours, overlap, overlap_in, overlap_fault, overlap_with}
-use Rattle.sf_asm.specs.Order.{are_apart}
 
 -- the function before, if there is one, and those that follow it
 abbrev pub behind : Option Span → List Span → List Span

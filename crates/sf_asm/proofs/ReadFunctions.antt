@@ -1,14 +1,13 @@
 -- What was read is what the definitions of functions come to.
-use Rattle.std.specs.Prelude.{IsTrue, ◌⊎◌}
-use Rattle.std.proofs.Common.{◌≡◌, ℕ, ◌+◌, ◌<◌, ◌≤◌, List, [], ◌∷◌, ◌++◌, length, map, Option, Some, None, Result, Ok, Err, refl, sym, ap, subst, ◌∙◌, append_assoc, inl, inr}
+use Rattle.std.specs.Prelude.{◌⊎◌}
+use Rattle.std.proofs.Common.{◌≡◌, ℕ, List, [], ◌∷◌, ◌++◌, map, Option, Some, None, Result, Ok, Err, refl, sym, ap, ◌∙◌, append_assoc, inl, inr}
 use Rattle.std.proofs.lemmas.List.{append-nil}
 use Rattle.sf_model.specs.declared.machine.Arch.{Arch}
-use Rattle.sf_model.specs.declared.facts.FdeFacts.{FdeFacts}
-use Rattle.cfa_insn.specs.Listing.{Item, listing}
+use Rattle.cfa_insn.specs.Listing.{listing}
 use Rattle.cfa_machine.specs.declared.row.DwRow.{DwRow}
-use Rattle.cfa_machine.specs.At.{SaysAt, SayAll, latest_at}
+use Rattle.cfa_machine.specs.At.{SayAll}
 use Rattle.cfa_machine.specs.Columns.{row_from}
-use Rattle.cfa_machine.specs.FullRow.{FullRow, columns_of}
+use Rattle.cfa_machine.specs.FullRow.{columns_of}
 use Rattle.cfa_machine.specs.declared.columns.Columns.{Columns}
 use Rattle.eh_records.specs.declared.fault.RecordFault.{RecordFault}
 use Rattle.eh_records.specs.Fde.{FdeView}
@@ -20,11 +19,10 @@ use Rattle.sf_asm.specs.declared.entry.Entry.{Entry}
 use Rattle.sf_asm.specs.declared.entry.Outcome.{Outcome}
 use Rattle.sf_asm.specs.declared.fault.AsmFault.{AsmFault}
 use Rattle.sf_asm.specs.declared.fault.AsmFault.TheVariants as asm
-use Rattle.sf_asm.specs.declared.fault.GatherFault.{GatherFault}
 use Rattle.sf_asm.specs.declared.fault.GatherFault.TheVariants as gather
-use Rattle.sf_asm.specs.Answers.{seen_as, ReadsOne, ReadsAll, IsRunFault}
+use Rattle.sf_asm.specs.Answers.{seen_as}
 use Rattle.sf_asm.specs.Fault.{wraps_input}
-use Rattle.sf_asm.specs.Functions.{◌>>=◌, Function, CallFrames, Object, named, unless, span_in, fault_in, function_at, function_in, functions_in, section_functions, machine_of, bare_section, sections_functions, object_functions, functions_of}
+use Rattle.sf_asm.specs.Functions.{◌>>=◌, Function, CallFrames, Object, named, unless, span_in, fault_in, function_at, function_in, functions_in, section_functions, machine_of, bare_section, object_functions, functions_of}
 use Rattle.sf_asm.specs.Kept.{full_row, says_of, facts_of, outcome_by, entry_of}
 
 -- ---- one function

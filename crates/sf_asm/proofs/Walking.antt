@@ -1,20 +1,17 @@
 -- Walks by what is recovered at each address: where that is the same, the walks are.
 use Rattle.std.specs.Option.{option_map, option_and_then}
 use Rattle.std.proofs.Common.{◌≡◌, ℕ, zero, suc, List, map, Option, Some, None, refl, sym, ap, ◌∙◌}
-use Rattle.sf_model.specs.declared.machine.Key.{Key}
 use Rattle.sf_model.specs.declared.recovery.Regs.{Regs}
-use Rattle.sf_model.specs.declared.walk.Frame.{Frame}
 use Rattle.sf_model.specs.Memory.{Region}
 use Rattle.sf_model.specs.Recovery.{Recovery, Value, Known, Unreadable}
-use Rattle.sf_model.specs.Walk.{ThreadState, Listing, behind, unsigned_address, Going, on_by_address, on_by_pointer, on_by, frame_by, Recovering, address_before, frames_from, walk_by, recover_by_rows, section_walk}
-use Rattle.cfa_machine.specs.Recovery.{RuleRecovery}
+use Rattle.sf_model.specs.Walk.{ThreadState, behind, unsigned_address, Going, on_by_address, on_by_pointer, on_by, frame_by, Recovering, address_before, frames_from, walk_by, recover_by_rows, section_walk}
 use Rattle.sf_express.specs.Alike.{defined}
 use Rattle.sf_asm.specs.declared.entry.Entry.{Entry}
 use Rattle.sf_asm.specs.Entry.{kept_of, spans_of}
 use Rattle.sf_asm.specs.Functions.{Function}
 use Rattle.sf_asm.specs.Kept.{entry_of}
 use Rattle.sf_asm.specs.Linking.{InOrder, overlap_in}
-use Rattle.sf_asm.specs.Faithful.{recovered_at, if_whole, recover_by_dwarf, dwarf_walk}
+use Rattle.sf_asm.specs.Faithful.{if_whole, recover_by_dwarf, dwarf_walk}
 use Rattle.sf_asm.proofs.Agreeing.{recovers_by_dwarf}
 
 abbrev GoAlike : Going → Going → Type 0

@@ -45,10 +45,19 @@ abbrev a_function_that_pushes_bytes : List ℕ
 a_function_that_pushes_bytes =
     0x14 ∷ 0x00 ∷ 0x00 ∷ 0x00 ∷ 0x00 ∷ 0x00 ∷ 0x00 ∷ 0x00 ∷ 0x01 ∷ 0x7a ∷ 0x52 ∷ 0x00 ∷ 0x01 ∷ 0x78 ∷ 0x10 ∷ 0x01 ∷ 0x1b ∷ 0x0c ∷ 0x07 ∷ 0x08 ∷ 0x90 ∷ 0x01 ∷ 0x00 ∷ 0x00 ∷ 0x1c ∷ 0x00 ∷ 0x00 ∷ 0x00 ∷ 0x1c ∷ 0x00 ∷ 0x00 ∷ 0x00 ∷ 0xe0 ∷ 0xef ∷ 0xff ∷ 0xff ∷ 0x06 ∷ 0x00 ∷ 0x00 ∷ 0x00 ∷ 0x00 ∷ 0x41 ∷ 0x0e ∷ 0x10 ∷ 0x86 ∷ 0x02 ∷ 0x43 ∷ 0x0d ∷ 0x06 ∷ 0x41 ∷ 0x0c ∷ 0x07 ∷ 0x08 ∷ 0x00 ∷ 0x00 ∷ 0x00 ∷ 0x00 ∷ 0x00 ∷ 0x00 ∷ 0x00 ∷ []
 
-a_function_that_pushes : becomes Amd64 a_function_that_pushes_bytes ≡ Ok (record { span = record { start = 4096; size = 6; origin = record { item = 0; section = 0; place = 24 } }; outcome = outcome.Kept (record { start = 4096; size = 6; shape = Plain; key = A; rows = record { start = 0; content = record { base = Sp; cfa = pos 8; ra = Fixed; fp = None; signed = false } }
-    ∷ record { start = 1; content = record { base = Sp; cfa = pos 16; ra = Fixed; fp = Some (negsuc 15); signed = false } }
-    ∷ record { start = 4; content = record { base = Fp; cfa = pos 16; ra = Fixed; fp = Some (negsuc 15); signed = false } }
-    ∷ record { start = 5; content = record { base = Sp; cfa = pos 8; ra = Fixed; fp = Some (negsuc 15); signed = false } } ∷ [] }) } ∷ [])
+a_function_that_pushes : becomes Amd64 a_function_that_pushes_bytes ≡ Ok (record {
+  span = record { start = 4096; size = 6; origin = record { item = 0; section = 0; place = 24 } };
+  outcome = outcome.Kept (record {
+    start = 4096;
+    size = 6;
+    shape = Plain;
+    key = A;
+    rows = record { start = 0; content = record { base = Sp; cfa = pos 8; ra = Fixed; fp = None; signed = false } }
+        ∷ record { start = 1; content = record { base = Sp; cfa = pos 16; ra = Fixed; fp = Some (negsuc 15); signed = false } }
+        ∷ record { start = 4; content = record { base = Fp; cfa = pos 16; ra = Fixed; fp = Some (negsuc 15); signed = false } }
+        ∷ record { start = 5; content = record { base = Sp; cfa = pos 8; ra = Fixed; fp = Some (negsuc 15); signed = false } } ∷ [];
+  });
+} ∷ [])
 unfolding number_at part_at signed_at is_negative leb_signed leb_sum run_length sleb_at uleb_at text_at pointer_bits pointer_value pointer_width usable_width are_letters data_at form_at letter_at letters_at personality_at said_by cie_fields cie_of column_at numbers_at said_at named_place piece_at piece_of cie_at_place fde_entry_of fde_of lsda_at cuts_after entries_in entries_of entry_at entry_here shared_place number_field part_field pointer_field sleb_field text_field uleb_field listing_after block_at extended_at instruction_at operands_at full_at initial_by effect_by function_fault initial_fault content_of function_of omission_of rows_of function_in functions_of section_functions
 a_function_that_pushes = refl
 
@@ -84,11 +93,20 @@ abbrev a_signing_function_bytes : List ℕ
 a_signing_function_bytes =
     0x14 ∷ 0x00 ∷ 0x00 ∷ 0x00 ∷ 0x00 ∷ 0x00 ∷ 0x00 ∷ 0x00 ∷ 0x01 ∷ 0x7a ∷ 0x52 ∷ 0x42 ∷ 0x00 ∷ 0x04 ∷ 0x78 ∷ 0x1e ∷ 0x01 ∷ 0x1b ∷ 0x0c ∷ 0x1f ∷ 0x00 ∷ 0x00 ∷ 0x00 ∷ 0x00 ∷ 0x20 ∷ 0x00 ∷ 0x00 ∷ 0x00 ∷ 0x1c ∷ 0x00 ∷ 0x00 ∷ 0x00 ∷ 0xe0 ∷ 0xef ∷ 0xff ∷ 0xff ∷ 0x1c ∷ 0x00 ∷ 0x00 ∷ 0x00 ∷ 0x00 ∷ 0x41 ∷ 0x2d ∷ 0x41 ∷ 0x0e ∷ 0x20 ∷ 0x9d ∷ 0x04 ∷ 0x9e ∷ 0x03 ∷ 0x43 ∷ 0xdd ∷ 0xde ∷ 0x0e ∷ 0x00 ∷ 0x41 ∷ 0x2d ∷ 0x00 ∷ 0x00 ∷ 0x00 ∷ []
 
-a_signing_function : becomes Aarch64 a_signing_function_bytes ≡ Ok (record { span = record { start = 4096; size = 28; origin = record { item = 0; section = 0; place = 24 } }; outcome = outcome.Kept (record { start = 4096; size = 28; shape = Plain; key = B; rows = record { start = 0; content = record { base = Sp; cfa = pos 0; ra = Link; fp = None; signed = false } }
-    ∷ record { start = 4; content = record { base = Sp; cfa = pos 0; ra = Link; fp = None; signed = true } }
-    ∷ record { start = 8; content = record { base = Sp; cfa = pos 32; ra = At (negsuc 23); fp = Some (negsuc 31); signed = true } }
-    ∷ record { start = 20; content = record { base = Sp; cfa = pos 0; ra = Link; fp = None; signed = true } }
-    ∷ record { start = 24; content = record { base = Sp; cfa = pos 0; ra = Link; fp = None; signed = false } } ∷ [] }) } ∷ [])
+a_signing_function : becomes Aarch64 a_signing_function_bytes ≡ Ok (record {
+  span = record { start = 4096; size = 28; origin = record { item = 0; section = 0; place = 24 } };
+  outcome = outcome.Kept (record {
+    start = 4096;
+    size = 28;
+    shape = Plain;
+    key = B;
+    rows = record { start = 0; content = record { base = Sp; cfa = pos 0; ra = Link; fp = None; signed = false } }
+        ∷ record { start = 4; content = record { base = Sp; cfa = pos 0; ra = Link; fp = None; signed = true } }
+        ∷ record { start = 8; content = record { base = Sp; cfa = pos 32; ra = At (negsuc 23); fp = Some (negsuc 31); signed = true } }
+        ∷ record { start = 20; content = record { base = Sp; cfa = pos 0; ra = Link; fp = None; signed = true } }
+        ∷ record { start = 24; content = record { base = Sp; cfa = pos 0; ra = Link; fp = None; signed = false } } ∷ [];
+  });
+} ∷ [])
 unfolding number_at part_at signed_at is_negative leb_signed leb_sum run_length sleb_at uleb_at text_at pointer_bits pointer_value pointer_width usable_width are_letters data_at form_at letter_at letters_at personality_at said_by cie_fields cie_of column_at numbers_at said_at named_place piece_at piece_of cie_at_place fde_entry_of fde_of lsda_at cuts_after entries_in entries_of entry_at entry_here shared_place number_field part_field pointer_field sleb_field text_field uleb_field listing_after block_at extended_at instruction_at operands_at full_at initial_by effect_by function_fault initial_fault content_of function_of omission_of rows_of function_in functions_of section_functions
 a_signing_function = refl
 

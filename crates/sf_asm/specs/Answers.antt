@@ -8,7 +8,6 @@ use Rattle.eh_records.specs.declared.fault.RecordFault.{RecordFault}
 use Rattle.eh_records.specs.Section.{EntryView}
 use Rattle.sf_model.specs.Tight.{Narrow, Tight}
 use Rattle.sf_write.specs.Section.{table_of}
-use Rattle.sf_asm.specs.declared.assembling.Linked.{Linked}
 use Rattle.sf_asm.specs.declared.entry.Entry.{Entry}
 use Rattle.sf_asm.specs.declared.fault.AsmFault.{AsmFault}
 use Rattle.sf_asm.specs.declared.fault.AsmFault.TheVariants as asm
@@ -16,7 +15,6 @@ use Rattle.sf_asm.specs.declared.fault.GatherFault.{GatherFault}
 use Rattle.sf_asm.specs.declared.fault.GatherFault.TheVariants as gather
 use Rattle.sf_asm.specs.declared.fault.LinkFault.{LinkFault}
 use Rattle.sf_asm.specs.declared.fault.LinkFault.TheVariants as link
-use Rattle.sf_asm.specs.declared.gathering.Sorted.{Sorted}
 use Rattle.sf_asm.specs.Entry.{kept_of, omitted_of, spans_of}
 use Rattle.sf_asm.specs.Faithful.{Faithful}
 use Rattle.sf_asm.specs.Functions.{Function, Object, functions_of, machine_of, named, unless}

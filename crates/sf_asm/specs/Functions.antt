@@ -10,7 +10,7 @@ use Rattle.cfa_machine.specs.declared.fault.MachineFault.{MachineFault}
 use Rattle.cfa_machine.specs.FirstFault.{first_fault}
 use Rattle.eh_records.specs.declared.fault.RecordFault.{RecordFault}
 use Rattle.eh_records.specs.Fde.{FdeView}
-use Rattle.eh_records.specs.Section.{EntryView, entries_of, frames}
+use Rattle.eh_records.specs.Section.{entries_of, frames}
 use Rattle.eh_records.specs.Span.{span_of}
 use Rattle.sf_asm.specs.declared.fault.AsmFault.{AsmFault}
 use Rattle.sf_asm.specs.declared.fault.AsmFault.TheVariants.{Record, Machine}

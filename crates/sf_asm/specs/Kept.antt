@@ -1,6 +1,6 @@
 -- What becomes of a function: SFrame Version 2 can express each of its rows (GNU SFrame specification, function descriptor entries
 -- and frame row entries), or it is left out with the first reason.
-use Rattle.std.specs.Prelude.{ℕ, Bool, is_none, List, map, Result, Ok, Err}
+use Rattle.std.specs.Prelude.{ℕ, Bool, is_none, List, Result, Ok, Err}
 use Rattle.std.specs.List.{filter}
 use Rattle.sf_model.specs.declared.facts.FdeFacts.{FdeFacts}
 use Rattle.sf_model.specs.declared.function.Func.{Func}

@@ -23,6 +23,4 @@ pub use assembling::{Linked, assemble};
 pub use fault::{AsmFault, GatherFault, LinkFault};
 pub use gathering::{Gathered, gather};
 pub use input::{Form, Input};
-pub use laws::{
-    kept_functions_recover_alike, linking_comes_to_one_result, walks_are_alike,
-};
+pub use laws::{kept_functions_recover_alike, linking_comes_to_one_result, walks_are_alike};

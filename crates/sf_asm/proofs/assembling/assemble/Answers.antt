@@ -1,4 +1,4 @@
-use Rattle.std.proofs.Common.{ap, subst, sym, ◌∙◌}
+use Rattle.std.proofs.Common.{◌∙◌}
 use Rattle.sf_asm.specs.Functions.{object_of}
 use Rattle.sf_asm.proofs.FaithfulSections.{assembled}
 use Rattle.sf_asm.proofs.assembling.assemble.Goals as goal

@@ -1,4 +1,4 @@
-use Rattle.std.proofs.Common.{◌≡◌, ◌+◌, ◌≤◌, ◌<◌, ◌^◌, length, take, sum_by, ap, sym, arith}
+use Rattle.std.proofs.Common.{◌≤◌, ◌<◌, ◌^◌, sum_by, ap, sym, arith}
 use Rattle.sf_asm.specs.Functions.{unless}
 use Rattle.sf_asm.specs.Order.{entry_rows}
 use Rattle.sf_asm.proofs.Limits.{too_many_functions, too_many_rows, within_limits, more_rows, all_rows}

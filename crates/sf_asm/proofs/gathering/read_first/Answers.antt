@@ -1,5 +1,3 @@
-use Rattle.std.specs.Prelude.{◌⊎◌}
-use Rattle.std.proofs.Common.{◌≡◌, Err}
 use Rattle.sf_asm.specs.Functions.{object_of}
 use Rattle.sf_asm.proofs.ReadFunctions.{first_reads, first_wrapped}
 use Rattle.sf_asm.proofs.gathering.read_first.Goals as goal

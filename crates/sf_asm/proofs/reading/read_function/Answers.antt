@@ -1,9 +1,7 @@
-use Rattle.std.specs.Prelude.{◌⊎◌}
-use Rattle.std.proofs.Common.{◌≡◌, ℕ, List, Err, inl, inr, ap, ◌∙◌}
+use Rattle.std.proofs.Common.{inl, inr}
 use Rattle.std.proofs.lemmas.Result.{err_from_is_err_and}
 use Rattle.eh_records.specs.Fde.{fde_view}
-use Rattle.sf_asm.specs.Functions.{bare_section, function_at, named, unless, fault_in, function_in}
-use Rattle.sf_asm.specs.declared.fault.AsmFault.TheVariants as asm
+use Rattle.sf_asm.specs.Functions.{bare_section, function_at}
 use Rattle.sf_asm.specs.Kept.{says_of}
 use Rattle.sf_asm.proofs.ReadFunctions.{are_said, reads_function, span_refused, run_refused}
 use Rattle.sf_asm.proofs.reading.read_function.Goals as goal
