@@ -1,14 +1,13 @@
 -- The row that holds at an offset, among the rows of a function, has the content that is said there.
 use Rattle.std.specs.Prelude.{nat_le, ◌&&◌, not}
 use Rattle.std.specs.Option.{option_map}
-use Rattle.std.specs.List.{filter, filter_map, find, list_all, cons_option, range_with_len}
-use Rattle.std.proofs.Common.{◌≡◌, ℕ, zero, suc, ◌+◌, ◌<◌, ◌≤◌, Bool, true, false, cond, List, [], ◌∷◌, Option, Some, None, Result, Ok, Err, refl, sym, ap, subst, ◌∙◌, arith, add-one, inl, inr}
-use Rattle.std.proofs.lemmas.Bool.{cases_lt, lt-leb, le-leb, leb-true, leb-false}
+use Rattle.std.specs.List.{filter, filter_map, find, cons_option, range_with_len}
+use Rattle.std.proofs.Common.{◌≡◌, ℕ, zero, suc, ◌+◌, ◌<◌, ◌≤◌, Bool, true, false, cond, List, [], ◌∷◌, Option, Some, None, Result, Ok, Err, refl, sym, ap, ◌∙◌, arith, inl, inr}
+use Rattle.std.proofs.lemmas.Bool.{cases_lt, lt-leb, le-leb}
 use Rattle.sf_model.specs.declared.content.Content.{Content}
 use Rattle.sf_model.specs.declared.omission.Reason.{Reason}
 use Rattle.sf_model.specs.declared.rows.Row.{Row}
 use Rattle.sf_model.specs.Lookup.{begins_by, begins_last, row_at}
-use Rattle.sf_express.specs.Expressed.{same_content}
 use Rattle.sf_express.specs.Offsets.{as_said, latest_content}
 use Rattle.sf_express.specs.Runs.{Saying, say_the_same, begins, row_there, rows_among, rows_of}
 use Rattle.sf_express.proofs.Same.{kept_past, content_same}
@@ -19,7 +18,6 @@ use Rattle.sf_express.proofs.Writable.{StartsRise, rise_lower}
 abbrev last_or : Option Row → List Row → Option Row
 last_or found [] = found
 last_or found (r ∷ rows) = last_or (Some r) rows
-
 
 -- the last row that begins by an offset is the latest one
 latest_is : (o : ℕ) (found : Option Row) (rows : List Row) → latest_content o (option_map (λ (r : Row). r.content) found) rows ≡ option_map (λ (r : Row). r.content) (last_or found (filter (begins_by o) rows))
@@ -124,6 +122,7 @@ latest_said says a (suc n) found before all o le lt =
     at_here : (x : Option Content) → as_said x ≡ Some (says a) → (o ≡ a) → as_said (latest_content o x (rows_among says (range_with_len (a + 1) n))) ≡ Some (says o)
     at_here x e is =
         ap as_said (kept_past o (a + 1) x (rows_among says (range_with_len (a + 1) n)) (omega (arith, is)) (rise_among says (a + 1) n)) ∙ e ∙ ap (λ (k : ℕ). Some (says k)) (sym is)
+
     at_test : (c : Content) → says a ≡ Ok c → (b : Bool) → begins says a ≡ b
         → (begins says a ≡ true → a + 1 ≤ o → as_said (latest_content o (Some c) (rows_among says (range_with_len (a + 1) n))) ≡ Some (says o))
         → (begins says a ≡ false → a + 1 ≤ o → as_said (latest_content o found (rows_among says (range_with_len (a + 1) n))) ≡ Some (says o))

@@ -1,7 +1,6 @@
 -- What `express` answers is the definition's function by offsets, or its first reason.
 use Rattle.std.specs.List.{range_with_len, All}
-use Rattle.std.specs.Prelude.{nat_le}
-use Rattle.std.proofs.Common.{◌≡◌, ℕ, zero, suc, ◌+◌, ◌-◌, ◌<◌, ◌≤◌, Bool, true, false, cond, List, [], ◌∷◌, length, Option, Some, None, Result, Ok, Err, refl, sym, ap, subst, ◌∙◌, arith, add-one, inl, inr}
+use Rattle.std.proofs.Common.{◌≡◌, ℕ, zero, suc, ◌+◌, ◌<◌, ◌≤◌, Bool, true, false, cond, List, [], ◌∷◌, Option, Some, None, Result, Ok, Err, refl, sym, ap, subst, ◌∙◌, arith, inl, inr}
 use Rattle.std.proofs.lemmas.Bool.{cases_lt, le-leb}
 use Rattle.std.proofs.lemmas.List.Elements.{All-tail}
 use Rattle.sf_model.specs.declared.machine.Arch.{Arch}
@@ -13,16 +12,16 @@ use Rattle.sf_model.specs.declared.omission.Omission.{Omission}
 use Rattle.sf_model.specs.declared.omission.Reason.{Reason}
 use Rattle.sf_model.specs.declared.rows.Row.{Row}
 use Rattle.cfa_machine.specs.declared.row.DwRow.{DwRow}
-use Rattle.cfa_machine.specs.RowList.{AreRows, RiseFrom}
+use Rattle.cfa_machine.specs.RowList.{AreRows}
 use Rattle.cfa_machine.specs.At.{latest_at}
 use Rattle.sf_express.specs.declared.fault.ExpressFault.{ExpressFault}
 use Rattle.sf_express.specs.declared.fault.ExpressFault.TheVariants.{Omit, NoMemory}
 use Rattle.sf_express.specs.Parts.{content_of}
 use Rattle.sf_express.specs.Expressed.{◌>>=◌, reason_of, row_from, unless_repeated, repeats, expressed_rows, with_rows, function_by, Gives}
-use Rattle.sf_express.specs.Offsets.{said, said_at, as_said, latest_content, SayTheSame, IsSayable, IsOmission, IsFirstReason, DifferFrom, Omits}
-use Rattle.sf_express.specs.Runs.{Saying, against, or_later, first_against, whole_or_row, omission_of, rows_among, rows_of, expressed, unless_omitted, function_of, AreSaid}
+use Rattle.sf_express.specs.Offsets.{said, said_at, as_said, latest_content, SayTheSame, IsSayable, IsOmission, IsFirstReason, Omits}
+use Rattle.sf_express.specs.Runs.{Saying, against, or_later, first_against, whole_or_row, omission_of, rows_of, expressed, unless_omitted, function_of, AreSaid}
 use Rattle.sf_express.proofs.Runs.{RowsBelow, rows_are}
-use Rattle.sf_express.proofs.Writable.{StartsRise, KeptFit, kept_fit, size_is_some}
+use Rattle.sf_express.proofs.Writable.{KeptFit, kept_fit, size_is_some}
 use Rattle.sf_express.proofs.Same.{kept_say_the_same}
 use Rattle.sf_express.proofs.Changes.{kept_differ}
 

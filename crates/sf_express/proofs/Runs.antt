@@ -1,21 +1,12 @@
 -- Kept rows are those of the definition by offsets.
-use Rattle.std.specs.List.{filter, filter_map, range_with_len, All}
-use Rattle.std.specs.Prelude.{nat_le, not}
-use Rattle.std.proofs.Common.{◌≡◌, ◌≢◌, ℕ, zero, suc, ◌+◌, ◌<◌, ◌≤◌, Bool, true, false, cond, List, [], ◌∷◌, length, Option, Some, None, Result, Ok, Err, refl, sym, ap, subst, ◌∙◌, arith, add-one, inl, inr}
+use Rattle.std.specs.List.{filter, filter_map, range_with_len}
+use Rattle.std.specs.Prelude.{not}
+use Rattle.std.proofs.Common.{◌≡◌, ◌≢◌, ℕ, zero, suc, ◌+◌, ◌<◌, ◌≤◌, Bool, true, false, cond, List, [], ◌∷◌, Option, Some, None, Result, Ok, Err, refl, sym, ap, subst, ◌∙◌, arith, add-one, inl, inr}
 use Rattle.std.proofs.lemmas.Bool.{cases_lt}
-use Rattle.std.proofs.lemmas.Bool.{lt-leb, le-leb}
-use Rattle.sf_model.specs.declared.machine.Arch.{Arch}
+use Rattle.std.proofs.lemmas.Bool.{le-leb}
 use Rattle.sf_model.specs.declared.content.Content.{Content}
-use Rattle.sf_model.specs.declared.facts.FdeFacts.{FdeFacts}
-use Rattle.sf_model.specs.declared.function.Func.{Func}
-use Rattle.sf_model.specs.declared.omission.Omission.{Omission}
 use Rattle.sf_model.specs.declared.omission.Reason.{Reason}
 use Rattle.sf_model.specs.declared.rows.Row.{Row}
-use Rattle.cfa_machine.specs.declared.row.DwRow.{DwRow}
-use Rattle.cfa_machine.specs.RowList.{RiseFrom, AreRows}
-use Rattle.cfa_machine.specs.At.{latest_at}
-use Rattle.sf_express.specs.Parts.{content_of}
-use Rattle.sf_express.specs.Expressed.{◌>>=◌, same_content, repeats, reason_of, row_from, unless_repeated, expressed_rows}
 use Rattle.sf_express.specs.Offsets.{said, latest_content, as_said, DifferFrom}
 use Rattle.sf_express.specs.Runs.{Saying, say_the_same, begins, row_there, rows_among}
 use Rattle.sf_express.proofs.Same.{kept_past, content_same}

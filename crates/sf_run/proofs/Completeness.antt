@@ -1,9 +1,7 @@
 -- Where there is no refusal and no fault of a file or a sink, a run is done, or memory was wanting.
 use Rattle.std.specs.Prelude.{◌⊎◌, IfSome}
-use Rattle.std.proofs.Common.{◌≡◌, ℕ, ◌<◌, ◌≤◌, ◌^◌, List, [], ◌∷◌, length, Option, Some, None, Ok, Err, refl, sym, subst, inl, inr, arith}
+use Rattle.std.proofs.Common.{◌≡◌, ℕ, List, [], ◌∷◌, Some, None, Ok, Err, refl, subst, inl, inr, arith}
 use Rattle.sf_base.specs.Contents.{contents_of}
-use Rattle.sf_base.specs.Faults.{Rose}
-use Rattle.sf_asm.specs.declared.entry.Entry.{Entry}
 use Rattle.sf_asm.specs.declared.fault.LinkFault.{LinkFault}
 use Rattle.sf_asm.specs.declared.fault.LinkFault.TheVariants.{Gather}
 use Rattle.sf_asm.specs.declared.fault.GatherFault.TheVariants.{TooManyFunctions, TooManyRows}
@@ -39,8 +37,8 @@ is_done status.No link told files files' out out' err err' e none fine ends = ab
 is_done status.Usage link told files files' out out' err err' e none fine ends = absurd ends
 is_done status.Read link told files files' out out' err err' e none fine ends = absurd (fine.reads ends.1)
 is_done status.Write link told files files' out out' err err' e none fine ends = absurd (elim ends.left [
-    | inl fails ↦ fine.writes fails.cause
-    | inr fails ↦ fine.output fails.cause
+  | inl fails ↦ fine.writes fails.cause
+  | inr fails ↦ fine.output fails.cause
 ])
 is_done status.Refused link told files files' out out' err err' e none fine ends =
     absurd (not_first link told ends.1.fault none (subst (λ (contents : Contents). IsFirst link contents ends.1.fault) e ends.1.first))

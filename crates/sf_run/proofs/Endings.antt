@@ -10,7 +10,7 @@ use Rattle.sf_run.specs.First.{IsMade}
 use Rattle.sf_run.specs.Words.{LinkWords}
 use Rattle.sf_run.specs.Lines.{read_line, memory_line, limit_line}
 use Rattle.sf_run.specs.Refused.{IsFirstRefusal}
-use Rattle.sf_run.specs.Ends.{FilesSeen, SinkSeen, Says, IsTurnedAway, IsDone, FileFails, OutputFails, WasMade, Ends, Delivers, Tells}
+use Rattle.sf_run.specs.Ends.{FilesSeen, SinkSeen, Says, IsTurnedAway, IsDone, FileFails, OutputFails, Ends, Delivers, Tells}
 
 -- files that hold and count the same as before
 pub record IsSameForWrites (before after : FilesSeen) : Type 0 where
