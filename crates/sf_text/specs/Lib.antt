@@ -1,4 +1,7 @@
 pub mod Number
 pub mod Names
 pub mod Report
+pub mod Content
+pub mod Dump
+pub mod Found
 pub mod FaultLine

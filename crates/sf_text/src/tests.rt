@@ -1,6 +1,8 @@
 ghost use Rattle.std.specs.Prelude.{◌≡◌, Some, length, IsTrue, is_some};
 ghost use Rattle.sf_model.specs.Notice.{values_shown, shows_item};
 
+mod sections;
+
 use super::*;
 use arrayvec::ArrayVec;
 use sf_base::MemSink;
@@ -100,6 +102,15 @@ fn a_fault_is_shown_with_its_item_and_values(rt: HostRuntime) -> Result<(), Fail
         1,
         &[0, 0x29, 1],
         "refused 0 insn Opcode 0x0 0x29 0x1\n",
+    )?;
+    shows(
+        &rt,
+        alloc,
+        Some(0),
+        Group::Section,
+        15,
+        &[0x30],
+        "refused 0 section Unsorted 0x30\n",
     )?;
     Ok(())
 }
