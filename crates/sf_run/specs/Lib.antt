@@ -5,3 +5,5 @@ pub mod Lines
 pub mod Ends
 pub mod Status
 pub mod Refused
+pub mod Sections
+pub mod Showing

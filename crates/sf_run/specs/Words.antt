@@ -1,4 +1,4 @@
--- The words of a command line that ask for a section to be linked: `link OUT@AT IN@BASE`.
+-- The words of a command line: `link OUT@AT IN@BASE`, `dump FILE@AT` and `lookup FILE@AT PC`.
 use Rattle.std.specs.Prelude.{◌≡◌, ℕ, ◌<◌, List, [], ◌∷◌, ◌++◌, length, codes}
 use Rattle.sf_base.specs.Word.{SpellsHexadecimal}
 use Rattle.sf_model.specs.declared.machine.Arch.{Arch}
@@ -41,6 +41,48 @@ pub record IsLink (words : List (List ℕ)) (link : LinkWords) : Type 0 where
   pub out_named : 0 < length link.out
   pub input : IsBareInput input_word link.input
 
+-- a section in a file: the file's name and the section's address
+pub record SectionWords : Type 0 where
+  pub name : List ℕ
+  pub at : ℕ
+
+-- the word names this section, and the name is not empty
+pub record IsSectionWord (word : List ℕ) (section : SectionWords) : Type 0 where
+  pub placed : IsPlaced word section.name section.at
+  pub named : 0 < length section.name
+
+-- the words ask for what this section says
+pub record IsDump (words : List (List ℕ)) (section : SectionWords) : Type 0 where
+  pub section_word : List ℕ
+  pub words_are : words ≡ codes "dump" ∷ section_word ∷ []
+  pub section : IsSectionWord section_word section
+
+-- the words ask for the row of this section at this address
+pub record IsLookup (words : List (List ℕ)) (section : SectionWords) (pc : ℕ) : Type 0 where
+  pub section_word : List ℕ
+  pub address_word : List ℕ
+  pub words_are : words ≡ codes "lookup" ∷ section_word ∷ address_word ∷ []
+  pub section : IsSectionWord section_word section
+  pub address : SpellsHexadecimal address_word pc
+
+-- what a command line asks for
+pub data CommandWords : Type 0 where
+  Link : LinkWords → CommandWords
+  Dump : SectionWords → CommandWords
+  Lookup : SectionWords → (pc : ℕ) → CommandWords
+
+-- the words ask for this
+abbrev pub IsCommand : List (List ℕ) → CommandWords → Type 0
+IsCommand words (Link link) = IsLink words link
+IsCommand words (Dump section) = IsDump words section
+IsCommand words (Lookup section pc) = IsLookup words section pc
+
+-- the name of the one item that a command reads
+abbrev pub item_name : CommandWords → List ℕ
+item_name (Link link) = link.input.name
+item_name (Dump section) = section.name
+item_name (Lookup section pc) = section.name
+
 -- the words have none of the forms
 abbrev pub HasNoForm : List (List ℕ) → Type 0
-HasNoForm words = (link : LinkWords) → IsLink words link → ⊥
+HasNoForm words = (command : CommandWords) → IsCommand words command → ⊥

@@ -5,7 +5,9 @@ mod command;
 mod deliver;
 mod lines;
 mod link;
+mod print;
 mod refusal;
+mod section;
 mod status;
 mod words;
 

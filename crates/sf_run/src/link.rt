@@ -6,12 +6,12 @@ ghost use Rattle.sf_asm.specs.Answers.{IsAssembled};
 ghost use Rattle.sf_asm.specs.Fault.{is_answered};
 ghost use Rattle.sf_run.specs.First.{IsMade, IsMadeOf, object_in};
 ghost use Rattle.sf_run.specs.Parsed.{bare_of, link_of};
-ghost use Rattle.sf_run.specs.Refused.{IsFirstRefusal, IsLinkRefusal, IsLoadRefusal, IsRefusalOf, IsTold};
+ghost use Rattle.sf_run.specs.Refused.{IsFirstRefusal, IsLinkRefusal, IsRefusalOf, IsTold};
 
-use crate::refusal::{Limit, Refusal};
+use crate::refusal::{Limit, Refusal, not_loaded};
 use crate::words::{Bare, Link};
 use sf_asm::{Form, GatherFault, Input, LinkFault, Linked, assemble};
-use sf_base::{Files, LoadFault, NoMemory, load};
+use sf_base::{Files, NoMemory, load};
 use sf_text::report;
 use std::alloc::Global;
 
@@ -23,17 +23,6 @@ pub const INPUT_LIMIT: u64 = 1 << 28;
 pub struct Made {
     pub section: Vec<u8>,
     pub text: Vec<u8>,
-}
-
-/// Why an item was not loaded, as a refusal of the run.
-fn not_loaded(fault: LoadFault) -> Refusal
-    ensures { IsLoadRefusal fault result }
-{
-    match fault {
-        LoadFault::Read => Refusal::Read,
-        LoadFault::TooLong(_) => Refusal::Limit(Limit::File),
-        LoadFault::NoMemory => Refusal::Memory,
-    }
 }
 
 /// Why inputs were not linked, as a refusal of the run.

@@ -1,5 +1,8 @@
 //! Why a run makes nothing.
 
+ghost use Rattle.sf_run.specs.Refused.{IsLoadRefusal};
+
+use sf_base::LoadFault;
 use sf_model::Notice;
 
 /// A limit that an input exceeds.
@@ -24,4 +27,15 @@ pub enum Refusal {
     Limit(Limit),
     /// The input is refused.
     Input(Notice),
+}
+
+/// Why an item was not loaded, as a refusal of the run.
+pub fn not_loaded(fault: LoadFault) -> Refusal
+    ensures { IsLoadRefusal fault result }
+{
+    match fault {
+        LoadFault::Read => Refusal::Read,
+        LoadFault::TooLong(_) => Refusal::Limit(Limit::File),
+        LoadFault::NoMemory => Refusal::Memory,
+    }
 }

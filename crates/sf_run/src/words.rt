@@ -3,8 +3,8 @@
 ghost use Rattle.std.specs.Prelude.{◌≡◌, ℕ, ◌++◌, [], ◌∷◌, List, map, IfSome, IsSome, IsSomeAnd};
 ghost use Rattle.std.specs.String.{string_bytes};
 ghost use Rattle.sf_model.specs.declared.machine.Arch.{Arch as machine};
-ghost use Rattle.sf_run.specs.Words.{IsPlaced, IsBareInput, IsLink, BareInput, LinkWords, HasNoForm, prefix_of};
-ghost use Rattle.sf_run.specs.Parsed.{bare_of, link_of};
+ghost use Rattle.sf_run.specs.Words.{IsPlaced, IsBareInput, IsLink, IsSectionWord, IsDump, IsLookup, IsCommand, BareInput, LinkWords, SectionWords, CommandWords, prefix_of};
+ghost use Rattle.sf_run.specs.Parsed.{bare_of, link_of, section_of, command_of};
 
 use sf_base::hex_word;
 use sf_model::Arch;
@@ -30,6 +30,24 @@ pub struct Link<'a> {
     pub out: &'a str,
     pub at: u64,
     pub input: Bare<'a>,
+}
+
+/// A section in a file, and the address at which it lies.
+#[derive(Clone, Copy)]
+pub struct SectionFile<'a> {
+    pub name: &'a str,
+    pub at: u64,
+}
+
+/// What a command line asks for.
+#[derive(Clone, Copy)]
+pub enum Command<'a> {
+    /// `link OUT@AT IN@BASE`
+    Link(Link<'a>),
+    /// `dump FILE@AT`
+    Dump(SectionFile<'a>),
+    /// `lookup FILE@AT PC`
+    Lookup(SectionFile<'a>, u64),
 }
 
 fn name_and_address(word: &str) -> Option<Placed<'_>>
@@ -68,6 +86,31 @@ fn bare_input(word: &str) -> Option<Bare<'_>>
     })
 }
 
+fn section_file(word: &str) -> Option<SectionFile<'_>>
+    ensures found { IfSome result (λ s. IsSectionWord word.now (section_of s)) }
+    ensures only { (section : SectionWords) → IsSectionWord word.now section → IsSomeAnd result (λ s. section_of s ≡ section) }
+{
+    let placed = name_and_address(word)?;
+    if placed.name.is_empty() {
+        return None;
+    }
+    Some(SectionFile {
+        name: placed.name,
+        at: placed.address,
+    })
+}
+
+/// The two words, where there are two.
+fn two_words(words: &[String]) -> Option<(&str, &str)>
+    ensures found { IfSome result (λ t. map string_bytes words.now ≡ t.0.now ∷ t.1.now ∷ []) }
+    ensures only { (a b : List ℕ) → map string_bytes words.now ≡ a ∷ b ∷ [] → IsSome result }
+{
+    match words {
+        [first, second] => Some((first.as_str(), second.as_str())),
+        _ => None,
+    }
+}
+
 /// The three words, where there are three.
 fn three_words(words: &[String]) -> Option<(&str, &str, &str)>
     ensures found { IfSome result (λ t. map string_bytes words.now ≡ t.0.now ∷ t.1.now ∷ t.2.now ∷ []) }
@@ -80,7 +123,7 @@ fn three_words(words: &[String]) -> Option<(&str, &str, &str)>
 }
 
 /// What the words ask for, where they have the form `link OUT@AT IN@BASE`.
-pub fn link_words(words: &[String]) -> Option<Link<'_>>
+fn link_words(words: &[String]) -> Option<Link<'_>>
     ensures found { IfSome result (λ l. IsLink (map string_bytes words.now) (link_of l)) }
     ensures only { (link : LinkWords) → IsLink (map string_bytes words.now) link → IsSomeAnd result (λ l. link_of l ≡ link) }
 {
@@ -97,4 +140,43 @@ pub fn link_words(words: &[String]) -> Option<Link<'_>>
         at: out.address,
         input: bare_input(input)?,
     })
+}
+
+/// The section, where the words have the form `dump FILE@AT`.
+fn dump_words(words: &[String]) -> Option<SectionFile<'_>>
+    ensures found { IfSome result (λ s. IsDump (map string_bytes words.now) (section_of s)) }
+    ensures only { (section : SectionWords) → IsDump (map string_bytes words.now) section → IsSomeAnd result (λ s. section_of s ≡ section) }
+{
+    let (command, section) = two_words(words)?;
+    if command != "dump" {
+        return None;
+    }
+    section_file(section)
+}
+
+/// The section and the address, where the words have the form `lookup FILE@AT PC`.
+fn lookup_words(words: &[String]) -> Option<(SectionFile<'_>, u64)>
+    ensures found { IfSome result (λ l. IsLookup (map string_bytes words.now) (section_of l.0) l.1) }
+    ensures only { (section : SectionWords) (pc : ℕ) → IsLookup (map string_bytes words.now) section pc → IsSomeAnd result (λ l. (section_of l.0 ≡ section) × (l.1 ≡ pc)) }
+{
+    let (command, section, address) = three_words(words)?;
+    if command != "lookup" {
+        return None;
+    }
+    Some((section_file(section)?, hex_word(address)?))
+}
+
+/// What the words ask for, where they have one of the forms.
+pub fn command_words(words: &[String]) -> Option<Command<'_>>
+    ensures found { IfSome result (λ c. IsCommand (map string_bytes words.now) (command_of c)) }
+    ensures only { (command : CommandWords) → IsCommand (map string_bytes words.now) command → IsSomeAnd result (λ c. command_of c ≡ command) }
+{
+    if let Some(link) = link_words(words) {
+        return Some(Command::Link(link));
+    }
+    if let Some(section) = dump_words(words) {
+        return Some(Command::Dump(section));
+    }
+    let (section, pc) = lookup_words(words)?;
+    Some(Command::Lookup(section, pc))
 }
