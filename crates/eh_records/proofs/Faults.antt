@@ -59,7 +59,7 @@ unfolding entries_of
 begins arch section = refl
 
 -- the entries of a section without a fault are all that can be read
-here : (arch : Arch) (section cies : List ℕ) (p : Piece) (e : EntryView) → entry_at arch section cies p ≡ Ok e → entry_here arch section p ≡ Ok e
+pub here : (arch : Arch) (section cies : List ℕ) (p : Piece) (e : EntryView) → entry_at arch section cies p ≡ Ok e → entry_here arch section p ≡ Ok e
 unfolding entry_at
 here arch section cies p e h = (through (shared_place cies p) _ e h).rest
 

@@ -1,12 +1,16 @@
 pub mod Among
 pub mod Before
+pub mod Between
 pub mod Cuts
 pub mod Entries
 pub mod Faults
 pub mod Keys
 pub mod LetterLoop
 pub mod LetterViews
+pub mod Lie
 pub mod Moves
+pub mod Onward
+pub mod Rising
 pub mod SaidLoop
 pub mod Stands
 pub mod Widths

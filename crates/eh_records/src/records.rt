@@ -52,6 +52,7 @@ fn push_fields(fields: &mut Vec<Field>, entry: &Entry<'_>) -> Result<(), NoMemor
 
 impl<'a> Records<'a> {
     ghost use Rattle.std.specs.Prelude.{IfOk, map};
+    ghost use Rattle.sf_bytes.specs.Rising.{AreRising, AreApart};
     ghost use Rattle.eh_records.specs.Section.{frames, pointer_fields};
     ghost use Rattle.eh_records.specs.Step.{pointer_view};
     ghost use Rattle.eh_records.specs.View.{IsParsed, IsWhole, KeysFit, arch_of, entries, frames_left};
@@ -85,7 +86,9 @@ impl<'a> Records<'a> {
     /// All pointer fields by rising place: personality pointers of fixed width, starts, sizes, and pointers
     /// to language-specific data areas.
     pub fn fields(&self, alloc: Global) -> Result<Vec<Field>, NoMemory>
-        ensures { IfOk result (λ fields. map pointer_view fields.items ≡ pointer_fields (entries self.now)) }
+        ensures exact { IfOk result (λ fields. map pointer_view fields.items ≡ pointer_fields (entries self.now)) }
+        ensures rise { IfOk result (λ fields. AreRising fields.items) }
+        ensures apart { IfOk result (λ fields. AreApart fields.items) }
     {
         let mut fields: Vec<Field> = Vec::new(alloc);
         let mut rest = Reader::from_place(self.bytes, 0);

@@ -3,6 +3,7 @@ use Rattle.std.specs.Prelude.{◌≡◌, ℕ, ◌+◌, ◌==◌, Bool, false, Li
 use Rattle.std.specs.List.Sorted.{IsPermutation, IsNonDecreasingBy, IsStableByKey}
 use Rattle.std.specs.Ordering.{nat_cmp}
 use Rattle.sf_bytes.specs.declared.field.Field.{Field}
+use Rattle.sf_bytes.specs.Rising.{field_place}
 use Rattle.elf_reloc.specs.declared.fault.RelocFault.{RelocFault}
 use Rattle.elf_reloc.specs.declared.fault.RelocFault.TheVariants.{Twice, Place}
 use Rattle.elf_reloc.specs.declared.fix.Fix.{Fix}
@@ -26,9 +27,6 @@ overlap_check end (f ∷ fs) = if nat_lt f.place end then Err (Twice f.index) el
 unfoldable pub first_at : {X : Type 0} → (X → ℕ) → ℕ → List X → Option X
 first_at number n [] = None
 first_at number n (x ∷ xs) = if number x == n then Some x else first_at number n xs
-
-abbrev pub field_place : Field → ℕ
-field_place g = g.place
 
 -- whether a field that was found has the width that is written
 abbrev pub has_width : Option Field → Fix → Bool

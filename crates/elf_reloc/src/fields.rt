@@ -1,9 +1,9 @@
 //! Pointer fields on which relocations lie.
 
 ghost use Rattle.std.specs.Prelude.{◌≡◌, ◌<◌, ◌^◌, IfSome};
-ghost use Rattle.std.specs.List.Sorted.{IsNonDecreasingBy};
+ghost use Rattle.sf_bytes.specs.Rising.{AreRising, field_place};
 ghost use Rattle.elf_reloc.specs.Fields as spec;
-ghost use Rattle.elf_reloc.specs.Order.{first_at, field_place, lies_on, place_check};
+ghost use Rattle.elf_reloc.specs.Order.{first_at, lies_on, place_check};
 ghost use Rattle.elf_reloc.specs.Table as table;
 
 use crate::fault::RelocFault;
@@ -24,7 +24,7 @@ pub fn fix_bits(fix: Fix) -> Option<u64>
 
 // The field at a place.
 fn field_at(fields: &[Field], place: u64) -> Option<Field>
-    requires { IsNonDecreasingBy field_place fields.now }
+    requires { AreRising fields.now }
     ensures { result ≡ first_at field_place place fields.now }
 {
     let i = fields.partition_point(|field| field.place < place);
@@ -36,7 +36,7 @@ fn field_at(fields: &[Field], place: u64) -> Option<Field>
 
 // Whether a field that is written lies on one of these.
 fn lies(fields: &[Field], fix: Fix) -> bool
-    requires { IsNonDecreasingBy field_place fields.now }
+    requires { AreRising fields.now }
     ensures { result ≡ lies_on fields.now fix }
 {
     match field_at(fields, fix.place) {
@@ -47,7 +47,7 @@ fn lies(fields: &[Field], fix: Fix) -> bool
 
 /// Each field that is written lies on one of these.
 pub fn check_places(fixes: &[Fix], fields: &[Field]) -> Result<(), RelocFault>
-    requires { IsNonDecreasingBy field_place fields.now }
+    requires { AreRising fields.now }
     ensures { result ≡ place_check fields.now fixes.now }
 {
     for fix in fixes {

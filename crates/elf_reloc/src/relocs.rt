@@ -25,7 +25,8 @@ impl Relocs {
     ghost use Rattle.elf_read.specs.Sections.{section_bytes};
     ghost use Rattle.elf_place.specs.Views.{file};
     ghost use Rattle.elf_reloc.specs.Patched.{AreInside};
-    ghost use Rattle.elf_reloc.specs.Order.{place_check, field_place};
+    ghost use Rattle.sf_bytes.specs.Rising.{AreRising};
+    ghost use Rattle.elf_reloc.specs.Order.{place_check};
     ghost use Rattle.elf_reloc.specs.Fields.{is_dropped_in};
     ghost use Rattle.elf_reloc.specs.Reading.{section_state};
     ghost use Rattle.elf_reloc.specs.Views.{Relocated, fixes_in};
@@ -51,7 +52,7 @@ impl Relocs {
     /// Whether each relocation lies on one of these pointer fields, which rise in place, at its place and
     /// with its width. `Place` names the one of the least place that doesn't.
     pub fn check(&self, fields: &[Field]) -> Result<(), RelocFault>
-        requires { IsNonDecreasingBy field_place fields.now }
+        requires { AreRising fields.now }
         ensures { result ≡ place_check fields.now (fixes_in self.now) }
     {
         check_places(&self.fixes, fields)

@@ -1,8 +1,9 @@
 -- The kept ones of functions that are apart can be written.
-use Rattle.std.proofs.Common.{◌≡◌, ℕ, zero, suc, ◌+◌, ◌^◌, ◌<◌, ◌≤◌, Bool, true, false, ◌&&◌, cond, eqb, leb, List, [], ◌∷◌, ◌++◌, length, get_or, sum_by, refl, ap, ◌∙◌, add-one, arith, inl, inr}
-use Rattle.std.specs.Prelude.{All}
+use Rattle.std.proofs.Common.{◌≡◌, ℕ, zero, suc, ◌+◌, ◌^◌, ◌<◌, ◌≤◌, Bool, true, false, ◌&&◌, cond, eqb, leb, List, [], ◌∷◌, ◌++◌, length, get_or, sum_by, Option, Some, None, refl, sym, ap, ◌∙◌, add-one, arith, inl, inr}
+use Rattle.std.specs.Prelude.{All, nat_lt}
+use Rattle.std.specs.Option.{option_map}
 use Rattle.std.specs.List.{AllByRecursion}
-use Rattle.std.proofs.lemmas.Bool.{cases_lt}
+use Rattle.std.proofs.lemmas.Bool.{cases_lt, le-leb, ltb-false, eqb-true}
 use Rattle.std.proofs.lemmas.Bool.Decides.{nat_tests}
 use Rattle.std.proofs.lemmas.List.{append-nil}
 use Rattle.std.proofs.lemmas.List.Sums.{sum_by-cons}
@@ -17,7 +18,11 @@ use Rattle.sf_asm.specs.declared.entry.Entry.{Entry}
 use Rattle.sf_asm.specs.declared.entry.Outcome.{Outcome}
 use Rattle.sf_asm.specs.declared.entry.Outcome.TheVariants.{Kept, Left}
 use Rattle.sf_asm.specs.Entry.{IsSound, IsSoundOutcome, kept_of, kept_in, omitted_of, omitted_in, spans_of}
+use Rattle.sf_asm.specs.declared.fault.GatherFault.{GatherFault}
+use Rattle.sf_asm.specs.Linking.{overlap_fault, overlap_in, overlap_with, limits_fault, functions_fault, or_later}
 use Rattle.sf_asm.specs.Order.{are_apart, rows_of, entry_rows}
+use Rattle.sf_asm.proofs.Limits.{few_functions, few_rows}
+use Rattle.sf_asm.proofs.Overlaps.{overlap_after, overlap_begins, overlap_passes, overlap_goes_on, overlap_ends}
 
 -- each function starts at the end of the one before it, or behind it
 abbrev ApartFrom : ℕ → List Func → Type 0
@@ -38,7 +43,7 @@ skip_test end start size true skipped h none = grind (arith, nat_tests)
 skip_test end start size false skipped h none = grind (arith, nat_tests)
 
 -- one function before others that are apart
-kept_from : (arch : Arch) (end : ℕ) (span : Span) (outcome : Outcome) (es : List Entry) → IsSoundOutcome arch span outcome
+kept_from : (arch : Arch) (end : ℕ) (span : Span) (outcome : Outcome) (es : List Entry) → IsSoundOutcome arch span.start span.size outcome
     → ((b : ℕ) → are_apart b es ≡ true → ApartFrom b (kept_of es))
     → are_apart end (record { span = span; outcome = outcome } ∷ es) ≡ true → ApartFrom end (kept_of (record { span = span; outcome = outcome } ∷ es))
 kept_from arch end span (Kept f) es one others h =
@@ -58,6 +63,41 @@ kept_are_apart : (arch : Arch) (end : ℕ) (es : List Entry) → AllByRecursion 
 kept_are_apart arch end [] sound h = tt
 kept_are_apart arch end (e ∷ es) sound h = kept_from arch end e.span e.outcome es sound.0 (λ b t. kept_are_apart arch b es sound.1 t) h
 
+-- ---- functions of which no neighbours overlap
+abbrev end_of : Option Span → ℕ
+end_of None = 0
+end_of (Some before) = before.start + before.size
+
+not_overlapping : (before : Option Span) (span : Span) (spans : List Span) → eqb span.size 0 ≡ false → overlap_after before (span ∷ spans) ≡ None → overlap_with before span ≡ None
+not_overlapping before span spans some h = at_fault (overlap_with before span) refl
+  where
+    at_fault : (fault : Option GatherFault) → overlap_with before span ≡ fault → fault ≡ None
+    at_fault None e = refl
+    at_fault (Some fault) e = let is = sym (overlap_ends before span spans fault some e) ∙ ap (option_map overlap_fault) h in cc
+
+ends_before : (before : Option Span) (span : Span) → overlap_with before span ≡ None → end_of before ≤ span.start
+ends_before None span e = omega arith
+ends_before (Some before) span e = at_test (nat_lt span.start (before.start + before.size)) refl e
+  where
+    at_test : (b : Bool) → nat_lt span.start (before.start + before.size) ≡ b → cond b (Some (overlap_fault (before, span))) None ≡ None → before.start + before.size ≤ span.start
+    at_test true t e = cc
+    at_test false t e = ltb-false span.start (before.start + before.size) t
+
+no_overlap_apart : (before : Option Span) (es : List Entry) → overlap_after before (spans_of es) ≡ None → are_apart (end_of before) es ≡ true
+no_overlap_apart before [] h = refl
+no_overlap_apart before (e ∷ es) h = at_size (eqb e.span.size 0) refl (λ rest. no_overlap_apart before es rest) (λ rest. no_overlap_apart (Some e.span) es rest)
+  where
+    at_size : (b : Bool) → eqb e.span.size 0 ≡ b → (overlap_after before (spans_of es) ≡ None → are_apart (end_of before) es ≡ true)
+        → (overlap_after (Some e.span) (spans_of es) ≡ None → are_apart (e.span.start + e.span.size) es ≡ true) → are_apart (end_of before) (e ∷ es) ≡ true
+    at_size true t skipped on = rw t (skipped (sym (overlap_passes before e.span (spans_of es) (eqb-true e.span.size 0 t)) ∙ h))
+    at_size false t skipped on =
+        let fine = not_overlapping before e.span (spans_of es) t h in
+        let rest = sym (overlap_goes_on before e.span (spans_of es) t fine) ∙ h in
+        rw (t, le-leb (end_of before) e.span.start (ends_before before e.span fine)) (on rest)
+
+pub not_overlapping_apart : (es : List Entry) → overlap_in (spans_of es) ≡ None → are_apart 0 es ≡ true
+not_overlapping_apart es h = no_overlap_apart None es (sym (overlap_begins (spans_of es)) ∙ h)
+
 -- by places
 neighbours : (end : ℕ) (fs : List Func) (k : ℕ) (d : Func) → ApartFrom end fs → suc k < length fs
     → (get_or fs k d).start + (get_or fs k d).size ≤ (get_or fs (suc k) d).start
@@ -66,7 +106,7 @@ neighbours end (f ∷ []) k d h lt = absurd (omega arith)
 neighbours end (f ∷ g ∷ fs) zero d h lt = h.1.0
 neighbours end (f ∷ g ∷ fs) (suc k) d h lt = neighbours (f.start + f.size) (g ∷ fs) k d h.1 (omega arith)
 
-kept_one : (arch : Arch) (span : Span) (outcome : Outcome) (es : List Entry) → IsSoundOutcome arch span outcome → AllByRecursion (IsWritable arch) (kept_of es)
+kept_one : (arch : Arch) (span : Span) (outcome : Outcome) (es : List Entry) → IsSoundOutcome arch span.start span.size outcome → AllByRecursion (IsWritable arch) (kept_of es)
     → AllByRecursion (IsWritable arch) (kept_of (record { span = span; outcome = outcome } ∷ es))
 kept_one arch span (Kept f) es one others = (one.0, others)
 kept_one arch span (Left omission) es one others = others
@@ -99,6 +139,19 @@ kept_AreWritable arch es sound apart few small =
       count = omega (arith, counts.0);
       row_count = omega (arith, counts.1);
     }
+
+-- those of which none is refused
+pub kept_of_checked : (arch : Arch) (es : List Entry) → All (IsSound arch) es → functions_fault es ≡ None → AreWritable arch (kept_of es)
+kept_of_checked arch es sound h =
+    let limits = no_first (limits_fault es) (option_map overlap_fault (overlap_in (spans_of es))) h in
+    kept_AreWritable arch es sound (not_overlapping_apart es (no_mapped (overlap_in (spans_of es)) limits.1)) (few_functions es limits.0) (few_rows es limits.0)
+  where
+    no_first : (a b : Option GatherFault) → or_later a b ≡ None → (a ≡ None) × (b ≡ None)
+    no_first None b e = (refl, e)
+    no_first (Some fault) b e = cc
+    no_mapped : (pair : Option (Span × Span)) → option_map overlap_fault pair ≡ None → pair ≡ None
+    no_mapped None e = refl
+    no_mapped (Some pair) e = cc
 
 -- one more function
 pub kept_of-kept : (es : List Entry) (e : Entry) (f : Func) → e.outcome ≡ Kept f → kept_of (es ++ e ∷ []) ≡ kept_of es ++ f ∷ []

@@ -1,5 +1,5 @@
 -- Functions that were read, kept or left out.
-use Rattle.std.specs.Prelude.{◌≡◌, List, map, Option, Some, None}
+use Rattle.std.specs.Prelude.{◌≡◌, ℕ, List, map, Option, Some, None}
 use Rattle.std.specs.List.{filter_map}
 use Rattle.sf_model.specs.declared.machine.Arch.{Arch}
 use Rattle.sf_model.specs.declared.function.Func.{Func}
@@ -10,13 +10,13 @@ use Rattle.sf_asm.specs.declared.entry.Outcome.{Outcome}
 use Rattle.sf_asm.specs.declared.entry.Outcome.TheVariants.{Kept, Left}
 use Rattle.sf_asm.specs.declared.entry.Entry.{Entry}
 
--- a kept function is one that a section can hold, and has the addresses of its span
-abbrev pub IsSoundOutcome : Arch → Span → Outcome → Type 0
-IsSoundOutcome arch span (Kept f) = IsWritable arch f × (f.start ≡ span.start) × (f.size ≡ span.size)
-IsSoundOutcome arch span (Left omission) = Unit {0}
+-- a kept function is one that a section can hold, and has this start and size
+abbrev pub IsSoundOutcome : Arch → (start size : ℕ) → Outcome → Type 0
+IsSoundOutcome arch start size (Kept f) = IsWritable arch f × (f.start ≡ start) × (f.size ≡ size)
+IsSoundOutcome arch start size (Left omission) = Unit {0}
 
 abbrev pub IsSound : Arch → Entry → Type 0
-IsSound arch entry = IsSoundOutcome arch entry.span entry.outcome
+IsSound arch entry = IsSoundOutcome arch entry.span.start entry.span.size entry.outcome
 
 -- the function, where it is kept
 abbrev pub kept_in : Outcome → Option Func

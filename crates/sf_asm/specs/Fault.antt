@@ -1,5 +1,5 @@
 -- Which faults are refusals of the inputs, with a line of their own, and which ones a call answers.
-use Rattle.std.specs.Prelude.{Bool, true, false}
+use Rattle.std.specs.Prelude.{ℕ, Bool, true, false}
 use Rattle.eh_records.specs.declared.fault.RecordFault.{RecordFault}
 use Rattle.eh_records.specs.declared.fault.RecordFault.TheVariants as record_faults
 use Rattle.cfa_machine.specs.declared.fault.MachineFault.{MachineFault}
@@ -10,6 +10,19 @@ use Rattle.sf_asm.specs.declared.fault.GatherFault.{GatherFault}
 use Rattle.sf_asm.specs.declared.fault.GatherFault.TheVariants as gather
 use Rattle.sf_asm.specs.declared.fault.LinkFault.{LinkFault}
 use Rattle.sf_asm.specs.declared.fault.LinkFault.TheVariants as link
+
+-- a fault of one section's records or instructions as the input's, where want of memory stands alone
+abbrev pub wraps_record : (section : ℕ) → RecordFault → AsmFault
+wraps_record section record_faults.NoMemory = asm.NoMemory
+wraps_record section fault = asm.Record section fault
+
+abbrev pub wraps_machine : (section : ℕ) → MachineFault → AsmFault
+wraps_machine section machine_faults.NoMemory = asm.NoMemory
+wraps_machine section fault = asm.Machine section fault
+
+abbrev pub wraps_input : (item : ℕ) → AsmFault → GatherFault
+wraps_input item asm.NoMemory = gather.NoMemory
+wraps_input item fault = gather.Input item fault
 
 -- all but want of memory
 abbrev pub is_record_refusal : RecordFault → Bool

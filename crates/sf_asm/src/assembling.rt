@@ -1,6 +1,8 @@
 //! The section of one input.
 
-ghost use Rattle.std.specs.Prelude.{◌≡◌, ◌<◌, ◌^◌, length, IfOk, IfErr, IsTrue};
+ghost use Rattle.std.specs.Prelude.{◌<◌, ◌^◌, [], ◌∷◌, length, IfOk, IfErr, IsTrue};
+ghost use Rattle.sf_asm.specs.Answers.{IsAssembled, IsFirstLinked};
+ghost use Rattle.sf_asm.specs.Functions.{object_of};
 ghost use Rattle.sf_asm.specs.Fault.{is_answered};
 
 use crate::fault::{GatherFault, LinkFault};
@@ -30,15 +32,18 @@ pub struct Linked {
 /// address, and a function too far from the section, in this order; want of memory at any time.
 pub fn assemble(alloc: Global, input: &Input<'_>, at: u64) -> Result<Linked, LinkFault>
     requires { length input.now.bytes.now < 2 ^ 32 }
+    // The section is that of the input's kept functions, and these were left out.
+    ensures assembled { IfOk result (λ linked. IsAssembled (object_of input.now) at linked.section.items linked.kept linked.omitted.items) }
+    // A fault is the first one.
+    ensures fault { IfErr result (IsFirstLinked (object_of input.now ∷ []) at) }
     ensures answered { IfErr result (λ fault. IsTrue (is_answered fault)) }
 {
-    let arch = arch_of(input);
-    let sorted = match gather_one(alloc, arch, 0, input) {
+    let sorted = match gather_one(alloc, input) {
         Ok(sorted) => sorted,
         Err(GatherFault::NoMemory) => return Err(LinkFault::NoMemory),
         Err(fault) => return Err(LinkFault::Gather(fault)),
     };
-    match write(alloc, arch, at, &sorted.kept) {
+    match write(alloc, arch_of(input), at, &sorted.kept) {
         Ok(section) => Ok(Linked {
             section,
             kept: sorted.kept.len() as u32,

@@ -75,3 +75,23 @@ impl<T: Drop> From<AllocFailed<T>> for AsmFault {
         AsmFault::NoMemory
     }
 }
+
+impl From<AllocError> for GatherFault {
+    ghost use Rattle.sf_asm.specs.declared.fault.GatherFault.TheVariants.{NoMemory};
+
+    ghost from_gives = { λ _ e. e ≡ NoMemory };
+
+    fn from(_: AllocError) -> GatherFault {
+        GatherFault::NoMemory
+    }
+}
+
+impl<T: Drop> From<AllocFailed<T>> for GatherFault {
+    ghost use Rattle.sf_asm.specs.declared.fault.GatherFault.TheVariants.{NoMemory};
+
+    ghost from_gives = { λ _ e. e ≡ NoMemory };
+
+    fn from(_: AllocFailed<T>) -> GatherFault {
+        GatherFault::NoMemory
+    }
+}

@@ -1,18 +1,27 @@
 //! The functions of all inputs, sorted out.
 
-ghost use Rattle.std.specs.Prelude.{◌≡◌, ◌<◌, ◌≤◌, ◌^◌, true, All, length, vec_len, sum_by, None, IfOk, IfErr, OnOk, IsTrue};
-ghost use Rattle.std.specs.List.Sorted.{IsPermutation};
+ghost use Rattle.std.specs.Prelude.{◌≡◌, ◌⊎◌, ◌<◌, ◌^◌, All, [], ◌∷◌, length, map, Ok, Err, None, IfOk, IfErr, IfSome, OnOk, IsTrue};
+ghost use Rattle.std.specs.Option.{option_map};
+ghost use Rattle.std.specs.List.{flat_map};
 ghost use Rattle.sf_model.specs.Function.{AreWritable};
 ghost use Rattle.sf_asm.specs.Entry.{IsSound, kept_of, omitted_of, spans_of};
-ghost use Rattle.sf_asm.specs.Order.{are_apart, entry_rows, rows_of};
-ghost use Rattle.sf_asm.specs.Fault.{is_gather_answered};
+ghost use Rattle.sf_asm.specs.declared.fault.GatherFault.TheVariants.{NoMemory};
+ghost use Rattle.sf_asm.specs.Answers.{AreGathered, IsFirstGathered, seen_as};
+ghost use Rattle.sf_asm.specs.Functions.{functions_of, machine_of, object_of, unless};
+ghost use Rattle.sf_asm.specs.Kept.{entry_of};
+ghost use Rattle.sf_asm.specs.Linking.{Gathers, InOrder, functions_fault, limits_fault, overlap_fault, overlap_in, overlap_with};
+ghost use Rattle.sf_asm.specs.Order.{rows_of};
+ghost use Rattle.sf_asm.specs.Fault.{is_gather_answered, is_input_answered, wraps_input};
 
 use crate::entry::{Entry, Outcome};
 use crate::fault::{AsmFault, GatherFault};
 use crate::input::Input;
 use crate::reading::{arch_of, read_input};
-use sf_model::{Arch, Func, Omitted, Origin, Span};
+use sf_model::{Arch, Func, Omitted, Span};
 use std::alloc::{AllocError, Global};
+
+/// The number of the first input.
+const FIRST_ITEM: u32 = 0;
 
 /// The most functions of one run, omitted ones included.
 const FUNCTION_LIMIT: usize = 1 << 21;
@@ -35,8 +44,7 @@ pub struct Gathered {
 
 /// Tries the limits: functions first, then rows.
 fn check_limits(entries: &[Entry]) -> Result<(), GatherFault>
-    ensures functions { OnOk result (length entries.now ≤ 2 ^ 21) }
-    ensures rows { OnOk result (sum_by entry_rows entries.now ≤ 2 ^ 24) }
+    ensures exact { result ≡ unless (limits_fault entries.now) }
     ensures answered { IfErr result (λ fault. IsTrue (is_gather_answered fault)) }
 {
     if entries.len() > FUNCTION_LIMIT {
@@ -63,47 +71,57 @@ fn row_count(outcome: &Outcome) -> usize
     }
 }
 
-/// Tries each function that is not empty against the one before it.
+/// The fault of a function that begins before the end of another one.
+fn overlap_of(before: Option<Span>, span: Span) -> Option<GatherFault>
+    ensures exact { result ≡ overlap_with before span }
+    ensures answered { IfSome result (λ fault. IsTrue (is_gather_answered fault)) }
+{
+    let before = before?;
+    if u128::from(span.start) < u128::from(before.start) + u128::from(before.size) {
+        return Some(GatherFault::Overlap(
+            before.start,
+            before.origin.item,
+            span.start,
+            span.origin.item,
+        ));
+    }
+    None
+}
+
+/// Tries each function that has bytes against the one before it.
 fn check_overlap(entries: &[Entry]) -> Result<(), GatherFault>
-    ensures apart { OnOk result (are_apart 0 entries.now ≡ true) }
+    ensures exact { result ≡ unless (option_map overlap_fault (overlap_in (spans_of entries.now))) }
     ensures answered { IfErr result (λ fault. IsTrue (is_gather_answered fault)) }
 {
-    let mut end = 0u128;
-    let mut before = Span {
-        start: 0,
-        size: 0,
-        origin: Origin {
-            item: 0,
-            section: 0,
-            place: 0,
-        },
-    };
+    let mut before = None;
     for entry in entries {
-        let span = entry.span;
-        if span.size != 0 {
-            if u128::from(span.start) < end {
-                return Err(GatherFault::Overlap(
-                    before.start,
-                    before.origin.item,
-                    span.start,
-                    span.origin.item,
-                ));
-            }
-            end = u128::from(span.start) + u128::from(span.size);
-            before = span;
+        if entry.span.size == 0 {
+            continue;
         }
+        if let Some(fault) = overlap_of(before, entry.span) {
+            return Err(fault);
+        }
+        before = Some(entry.span);
     }
     Ok(())
 }
 
-/// Brings functions into order by their starts. Those with one start stay in order.
-fn order(entries: &mut Vec<Entry>) -> Result<(), GatherFault>
-    ensures moved { IsPermutation entries.old.items entries.new.items }
+/// Tries the limits, and then overlaps.
+fn check(entries: &[Entry]) -> Result<(), GatherFault>
+    ensures exact { result ≡ unless (functions_fault entries.now) }
     ensures answered { IfErr result (λ fault. IsTrue (is_gather_answered fault)) }
 {
-    entries
-        .sort_by_key(|entry| entry.span.start)
-        .map_err(|_| GatherFault::NoMemory)
+    check_limits(entries)?;
+    check_overlap(entries)
+}
+
+/// Brings functions into order by their starts. Those with one start stay in order.
+fn order(entries: &mut Vec<Entry>) -> Result<(), GatherFault>
+    ensures order { OnOk result (InOrder entries.old.items entries.new.items) }
+    ensures refused { IfErr result (λ fault. fault ≡ NoMemory) }
+{
+    entries.sort_by_key(|entry| entry.span.start)?;
+    Ok(())
 }
 
 /// Functions, sorted out by what became of them, in their order.
@@ -141,29 +159,56 @@ fn sort_out(alloc: Global, entries: Vec<Entry>) -> Result<Sorted, AllocError>
     Ok(sorted)
 }
 
-/// The functions of one input, whose number is `item`.
-pub fn gather_one(
-    alloc: Global,
-    arch: Arch,
-    item: u32,
-    input: &Input<'_>,
-) -> Result<Sorted, GatherFault>
+/// A fault of the first input, where want of memory stands alone.
+fn input_fault(fault: AsmFault) -> GatherFault
+    ensures is { result ≡ wraps_input 0 fault }
+    ensures answered { IsTrue (is_input_answered fault) → IsTrue (is_gather_answered result) }
+{
+    match fault {
+        AsmFault::NoMemory => GatherFault::NoMemory,
+        _ => GatherFault::Input(FIRST_ITEM, fault),
+    }
+}
+
+/// The functions of the first input, as they stand in it.
+fn read_first(alloc: Global, input: &Input<'_>) -> Result<Vec<Entry>, GatherFault>
     requires { length input.now.bytes.now < 2 ^ 32 }
-    ensures kept { IfOk result (λ s. AreWritable arch s.kept.items) }
+    ensures reads { IfOk result (λ entries. seen_as (map entry_of) (functions_of 0 (object_of input.now ∷ [])) ≡ Ok entries.items) }
+    ensures sound { IfOk result (λ entries. All (IsSound (machine_of input.now.form)) entries.items) }
+    ensures fault { IfErr result (λ fault. (fault ≡ NoMemory) ⊎ (functions_of 0 (object_of input.now ∷ []) ≡ Err fault)) }
     ensures answered { IfErr result (λ fault. IsTrue (is_gather_answered fault)) }
 {
-    let mut entries = match read_input(alloc, arch, item, input) {
-        Ok(entries) => entries,
-        Err(AsmFault::NoMemory) => return Err(GatherFault::NoMemory),
-        Err(fault) => return Err(GatherFault::Input(item, fault)),
-    };
-    order(&mut entries)?;
-    check_limits(&entries)?;
-    check_overlap(&entries)?;
-    match sort_out(alloc, entries) {
-        Ok(sorted) => Ok(sorted),
-        Err(_) => Err(GatherFault::NoMemory),
+    match read_input(alloc, arch_of(input), FIRST_ITEM, input) {
+        Ok(entries) => Ok(entries),
+        Err(fault) => Err(input_fault(fault)),
     }
+}
+
+/// The functions of one input, in order.
+fn ordered(alloc: Global, input: &Input<'_>) -> Result<Vec<Entry>, GatherFault>
+    requires { length input.now.bytes.now < 2 ^ 32 }
+    ensures gathered { IfOk result (λ entries. Gathers (object_of input.now ∷ []) (Ok entries.items)) }
+    ensures sound { IfOk result (λ entries. All (IsSound (machine_of input.now.form)) entries.items) }
+    ensures checked { IfOk result (λ entries. functions_fault entries.items ≡ None) }
+    ensures fault { IfErr result (IsFirstGathered (object_of input.now ∷ [])) }
+    ensures answered { IfErr result (λ fault. IsTrue (is_gather_answered fault)) }
+{
+    let mut entries = read_first(alloc, input)?;
+    order(&mut entries)?;
+    check(&entries)?;
+    Ok(entries)
+}
+
+/// The functions of one input, sorted out.
+pub fn gather_one(alloc: Global, input: &Input<'_>) -> Result<Sorted, GatherFault>
+    requires { length input.now.bytes.now < 2 ^ 32 }
+    ensures gathered { IfOk result (λ s. AreGathered (object_of input.now ∷ []) s.kept.items s.omitted.items s.spans.items) }
+    ensures kept { IfOk result (λ s. AreWritable (machine_of input.now.form) s.kept.items) }
+    ensures fault { IfErr result (IsFirstGathered (object_of input.now ∷ [])) }
+    ensures answered { IfErr result (λ fault. IsTrue (is_gather_answered fault)) }
+{
+    let entries = ordered(alloc, input)?;
+    Ok(sort_out(alloc, entries)?)
 }
 
 /// Gathers the functions of the inputs, of which there is one for now. `before` is the machine of an item
@@ -181,21 +226,25 @@ pub fn gather(
     requires one { length inputs.now ≡ 1 }
     requires small { All (λ input. length input.bytes.now < 2 ^ 32) inputs.now }
     requires alone { before ≡ None }
-    ensures arch { IfOk result (λ gathered. All (λ list. AreWritable gathered.arch list.items) gathered.kept.items) }
+    // The functions are those of the inputs, by rising start.
+    ensures gathered { IfOk result (λ gathered. AreGathered (map object_of inputs.now) (flat_map (λ list. list.items) gathered.kept.items) gathered.omitted.items gathered.spans.items) }
+    // One section can hold them.
+    ensures kept { IfOk result (λ gathered. All (λ list. AreWritable gathered.arch list.items) gathered.kept.items) }
+    // It's the inputs' machine.
+    ensures arch { IfOk result (λ gathered. All (λ input. machine_of input.form ≡ gathered.arch) inputs.now) }
+    // A fault is the first one.
+    ensures fault { IfErr result (IsFirstGathered (map object_of inputs.now)) }
     ensures answered { IfErr result (λ fault. IsTrue (is_gather_answered fault)) }
 {
     let _ = before;
     let input = &inputs[0];
-    let arch = arch_of(input);
-    let sorted = gather_one(alloc, arch, 0, input)?;
+    let sorted = gather_one(alloc, input)?;
     let mut kept = Vec::new(alloc);
-    match kept.push(sorted.kept) {
-        Ok(()) => Ok(Gathered {
-            arch,
-            kept,
-            omitted: sorted.omitted,
-            spans: sorted.spans,
-        }),
-        Err(_) => Err(GatherFault::NoMemory),
-    }
+    kept.push(sorted.kept)?;
+    Ok(Gathered {
+        arch: arch_of(input),
+        kept,
+        omitted: sorted.omitted,
+        spans: sorted.spans,
+    })
 }

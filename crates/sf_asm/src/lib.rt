@@ -4,6 +4,10 @@
 //! out what SFrame Version 2 can express: the functions that are kept, each list by rising start, the
 //! functions that are left out, with their reasons, and the addresses of all. [`assemble`] writes the
 //! section of one input. An input has fewer than 2^32 bytes. Both take memory; no section is copied.
+//!
+//! [`kept_functions_recover_alike`], [`walks_are_alike`] and [`linking_comes_to_one_result`] are laws: the kept
+//! functions recover what DWARF recovers, walks over them are walks by DWARF, and what linking comes to is
+//! determined by the inputs.
 #![tactic(auto)]
 
 mod assembling;
@@ -11,6 +15,7 @@ mod entry;
 mod fault;
 mod gathering;
 mod input;
+mod laws;
 mod notices;
 mod reading;
 
@@ -18,3 +23,6 @@ pub use assembling::{Linked, assemble};
 pub use fault::{AsmFault, GatherFault, LinkFault};
 pub use gathering::{Gathered, gather};
 pub use input::{Form, Input};
+pub use laws::{
+    kept_functions_recover_alike, linking_comes_to_one_result, walks_are_alike,
+};

@@ -1,7 +1,8 @@
 //! Faults as numbers, for the line that tells them.
 
-ghost use Rattle.std.specs.Prelude.{◌≡◌, ◌∷◌, [], IsTrue, IsSome};
+ghost use Rattle.std.specs.Prelude.{◌≡◌, ◌∷◌, [], ℕ, Option, IsTrue, IsSome};
 ghost use Rattle.sf_model.specs.Notice.{HasLine, up_to};
+ghost use Rattle.sf_asm.specs.Told.{told_by, told_of_place, told_of_records, told_of_instruction, told_of_machine, told_of_input, told_of_gathering, told_of_linking};
 ghost use Rattle.sf_asm.specs.Fault.{is_record_refusal, is_machine_refusal, is_input_refusal, is_gather_refusal, is_refusal};
 
 use crate::fault::{AsmFault, GatherFault, LinkFault};
@@ -47,7 +48,8 @@ fn four(a: u64, b: u64, c: u64, d: u64) -> ArrayVec<u64, 4>
 /// The number of a fault of the records and the place that it carries.
 fn record_number(fault: RecordFault) -> (u8, u32)
     requires { IsTrue (is_record_refusal fault) }
-    ensures { IsTrue (up_to 9 result.0) }
+    ensures told { (item : Option ℕ) (section : ℕ) → told_of_records item section fault ≡ told_of_place item section result.0 result.1 }
+    ensures number { IsTrue (up_to 9 result.0) }
 {
     match fault {
         RecordFault::Short(place) => (1, place),
@@ -65,7 +67,8 @@ fn record_number(fault: RecordFault) -> (u8, u32)
 
 fn record_notice(item: Option<u32>, section: u32, fault: RecordFault) -> Notice
     requires { IsTrue (is_record_refusal fault) }
-    ensures { IsSome item → HasLine result }
+    ensures told { told_by result ≡ told_of_records item section fault }
+    ensures line { IsSome item → HasLine result }
 {
     let (number, place) = record_number(fault);
     Notice {
@@ -77,7 +80,8 @@ fn record_notice(item: Option<u32>, section: u32, fault: RecordFault) -> Notice
 }
 
 fn insn_notice(item: Option<u32>, section: u32, fault: InsnFault) -> Notice
-    ensures { IsSome item → HasLine result }
+    ensures told { told_by result ≡ told_of_instruction item section fault }
+    ensures line { IsSome item → HasLine result }
 {
     let section = u64::from(section);
     let (number, values) = match fault {
@@ -95,7 +99,8 @@ fn insn_notice(item: Option<u32>, section: u32, fault: InsnFault) -> Notice
 
 fn machine_notice(item: Option<u32>, section: u32, fault: MachineFault) -> Notice
     requires { IsTrue (is_machine_refusal fault) }
-    ensures { IsSome item → HasLine result }
+    ensures told { told_by result ≡ told_of_machine item section fault }
+    ensures line { IsSome item → HasLine result }
 {
     let (number, place) = match fault {
         MachineFault::CieInstruction(place) => (1, place),
@@ -117,7 +122,8 @@ impl AsmFault {
     /// The fault of the input of this number, as its line shows it.
     pub fn notice(&self, item: Option<u32>) -> Notice
         requires { IsTrue (is_input_refusal self.now) }
-        ensures { IsSome item → HasLine result }
+        ensures told { told_by result ≡ told_of_input item self.now }
+        ensures line { IsSome item → HasLine result }
     {
         match self {
             AsmFault::Record(section, fault) => record_notice(item, *section, *fault),
@@ -128,6 +134,7 @@ impl AsmFault {
 }
 
 fn link_notice(item: Option<u32>, number: u8, values: ArrayVec<u64, 4>) -> Notice
+    ensures item { result.item ≡ item }
     ensures number { result.number ≡ number }
     ensures group { result.group ≡ Group.Link }
     ensures values { result.values ≡ values }
@@ -144,7 +151,8 @@ impl GatherFault {
     /// The fault as its line shows it. A fault that names its own input gives that in place of `item`.
     pub fn notice(&self, item: Option<u32>) -> Notice
         requires { IsTrue (is_gather_refusal self.now) }
-        ensures { HasLine result }
+        ensures told { told_by result ≡ told_of_gathering item self.now }
+        ensures line { HasLine result }
     {
         match self {
             GatherFault::Input(number, fault) => fault.notice(Some(*number)),
@@ -162,7 +170,8 @@ impl LinkFault {
     /// The fault as its line shows it. A fault that names its own input gives that in place of `item`.
     pub fn notice(&self, item: Option<u32>) -> Notice
         requires { IsTrue (is_refusal self.now) }
-        ensures { HasLine result }
+        ensures told { told_by result ≡ told_of_linking item self.now }
+        ensures line { HasLine result }
     {
         match self {
             LinkFault::Gather(fault) => fault.notice(item),

@@ -1,5 +1,6 @@
 pub mod Answers
 pub mod Fields
+pub mod Inside
 pub mod Lebs
 pub mod Run
 pub mod Texts

@@ -1,5 +1,6 @@
 pub mod Cursor
 pub mod Field
 pub mod Leb
+pub mod Rising
 pub mod Standing
 pub mod Text

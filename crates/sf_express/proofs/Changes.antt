@@ -44,7 +44,7 @@ sign_itself false = refl
 all_true : (a b c d e : Bool) → a ≡ true → b ≡ true → c ≡ true → d ≡ true → e ≡ true → (a && b && c && d && e) ≡ true
 all_true a b c d e p q r s t = rw (p, q, r, s, t) refl
 
-content_itself : (c : Content) → same_content c c ≡ true
+pub content_itself : (c : Content) → same_content c c ≡ true
 content_itself c = all_true (same_base c.base c.base) (int_eq c.cfa c.cfa) (same_ra c.ra c.ra) (same_fp c.fp c.fp) (same_sign c.signed c.signed) (base_itself c.base) (int_itself c.cfa) (ra_itself c.ra) (fp_itself c.fp) (sign_itself c.signed)
 
 repeats_itself : (last : Option Content) (c : Content) → last ≡ Some c → repeats last c ≡ true
@@ -95,3 +95,6 @@ kept_stand_at_changes arch facts rows kept h none e = record {
   first = subst FirstAtZero e (first_at_zero arch rows (h.some (size_is_some arch facts none)) h.first);
   differ = subst (Differ None) e (differ arch None rows);
 }
+
+pub kept_differ : (arch : Arch) (rows : List DwRow) (kept : List Row) → expressed_rows arch None rows ≡ Ok kept → DifferFrom None kept
+kept_differ arch rows kept e = subst (Differ None) e (differ arch None rows)

@@ -4,3 +4,6 @@ pub mod Same
 pub mod Omitted
 pub mod Changes
 pub mod Alike
+pub mod Runs
+pub mod Means
+pub mod Found

@@ -63,7 +63,7 @@ parts_same : (base base' : Base) (cfa cfa' : ℤ) (ra ra' : Ra) (fp fp' : Option
     → made (base, cfa) ra fp signed ≡ made (base', cfa') ra' fp' signed'
 parts_same base base' cfa cfa' ra ra' fp fp' signed signed' p q r s t = rw (p, q, r, s, t) refl
 
-content_same : (a b : Content) → same_content a b ≡ true → a ≡ b
+pub content_same : (a b : Content) → same_content a b ≡ true → a ≡ b
 content_same a b e =
     let p = both (same_base a.base b.base && int_eq a.cfa b.cfa && same_ra a.ra b.ra && same_fp a.fp b.fp) (same_sign a.signed b.signed) e in
     let q = both (same_base a.base b.base && int_eq a.cfa b.cfa && same_ra a.ra b.ra) (same_fp a.fp b.fp) p.0 in
@@ -88,7 +88,7 @@ rows_past o least found (r ∷ rows) lt h =
     let above : o < r.start = omega arith in
     ap (λ (b : Bool). latest_at o (cond b (Some r) found) rows) (lt-leb r.start o above) ∙ rows_past o (r.start + 1) found rows (omega arith) h.1
 
-kept_past : (o least : ℕ) (found : Option Content) (rows : List Row) → o < least → StartsRise least rows → latest_content o found rows ≡ found
+pub kept_past : (o least : ℕ) (found : Option Content) (rows : List Row) → o < least → StartsRise least rows → latest_content o found rows ≡ found
 kept_past o least found [] lt h = refl
 kept_past o least found (r ∷ rows) lt h =
     let first : least ≤ r.start = h.0 in

@@ -97,7 +97,7 @@ abbrev pub StartsRise : ℕ → List Row → Type 0
 StartsRise least [] = Unit {0}
 StartsRise least (r ∷ rows) = (least ≤ r.start) × StartsRise (r.start + 1) rows
 
-rise_lower : (low high : ℕ) (rows : List Row) → low ≤ high → StartsRise high rows → StartsRise low rows
+pub rise_lower : (low high : ℕ) (rows : List Row) → low ≤ high → StartsRise high rows → StartsRise low rows
 rise_lower low high [] le h = tt
 rise_lower low high (r ∷ rows) le h = let first : high ≤ r.start = h.0 in (omega arith, h.1)
 

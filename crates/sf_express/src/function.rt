@@ -4,6 +4,7 @@ ghost use Rattle.std.specs.Prelude.{◌≡◌, ◌^◌, ◌<◌, ◌+◌, ◌≤
 ghost use Rattle.sf_model.specs.Function.{IsWritable, key_fits};
 ghost use Rattle.cfa_machine.specs.RowList.{AreRows};
 ghost use Rattle.sf_express.specs.Offsets.{Omits, SayTheSame, StandAtChanges};
+ghost use Rattle.sf_express.specs.Runs.{AreSaid, Saying, function_of};
 ghost use Rattle.sf_express.specs.Expressed.{repeats, same_content, column_of, reason_of, row_by, Makes, Appends, Gives, unless_repeated, expressed_rows, function_by};
 
 use crate::fault::ExpressFault;
@@ -148,7 +149,9 @@ pub fn express(
     ensures changes { IfOk result (λ f. StandAtChanges f.rows) }
     // An omission is the first reason.
     ensures omits { Omits arch facts.now rows.now result }
-    // Start, size, key and rows.
+    // It is the definition's function by what is said at each offset, or its first omission.
+    ensures means { (says : Saying) → AreSaid arch facts.now.size rows.now says → Gives (λ f. f) result (function_of arch facts.now says) }
+    // Start, size, key and rows, as one pass gives them.
     ensures exact { Gives (λ f. f) result (function_by arch facts.now rows.now) }
 {
     whole(alloc, arch, facts, rows)

@@ -3,6 +3,7 @@ pub mod BytesTold
 pub mod Recoveries
 pub mod RowNumbers
 pub mod RowsSame
+pub mod SpelledLengths
 pub mod TableSame
 pub mod TightOne
 pub mod Worked

@@ -100,11 +100,11 @@ sign_told false true e = absurd (omega (e, arith))
 sign_told true false e = absurd (omega (e, arith))
 sign_told true true e = refl
 
-base_small : (b : Base) → base_number b ≤ 1
+pub base_small : (b : Base) → base_number b ≤ 1
 base_small Fp = omega arith
 base_small Sp = omega arith
 
-sign_small : (v : Bool) → signed_number v ≤ 1
+pub sign_small : (v : Bool) → signed_number v ≤ 1
 sign_small false = omega arith
 sign_small true = omega arith
 
@@ -116,7 +116,7 @@ few_saved Link (Some n) = omega arith
 few_saved (At m) None = omega arith
 few_saved (At m) (Some n) = omega arith
 
-few_offsets : (c : Content) → length (row_offsets c) ≤ 15
+pub few_offsets : (c : Content) → length (row_offsets c) ≤ 15
 few_offsets c = let few : length (return_offset c.ra ++ option_to_list c.fp) ≤ 2 = few_saved c.ra c.fp in omega (few, arith)
 
 abbrev row_of : ℕ → Content → Row

@@ -31,7 +31,7 @@ least_same : (holds : ℕ → Bool) (z v : ℕ) → IsTrue (holds z) → IsTrue 
 least_same holds z v p q l m = least_by holds z v (nat_lt z v) (nat_lt v z) refl refl p q l m
 
 -- a width that there is holds 0
-zero_held : (w : ℕ) → w ≤ 2 → IsTrue (holds_unsigned 0 w)
+pub zero_held : (w : ℕ) → w ≤ 2 → IsTrue (holds_unsigned 0 w)
 zero_held zero k = refl
 zero_held (suc zero) k = refl
 zero_held (suc (suc zero)) k = refl

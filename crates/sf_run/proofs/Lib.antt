@@ -1,3 +1,4 @@
 pub mod Pieces
 pub mod AtSigns
 pub mod Endings
+pub mod Completeness

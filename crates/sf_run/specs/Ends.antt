@@ -1,17 +1,16 @@
 -- How a run ends: for each status what files and sinks then hold, and which line was told.
-use Rattle.std.specs.Prelude.{◌≡◌, ◌⊎◌, ◌<◌, ◌^◌, ℕ, Bool, List, length, Option, IfSome}
+use Rattle.std.specs.Prelude.{◌≡◌, ◌⊎◌, ℕ, Bool, List, Option, None, IfSome}
 use Rattle.sf_base.specs.Contents.{contents_of, Unchanged, Holds, HoldsPrefix}
 use Rattle.sf_base.specs.Faults.{Rose}
 use Rattle.sf_base.specs.Written.{Appends, AppendsPrefix}
 use Rattle.sf_model.specs.declared.notice.Notice.{Notice}
-use Rattle.sf_model.specs.Notice.{HasLine}
 use Rattle.sf_text.specs.FaultLine.{fault_text}
 use Rattle.sf_run.specs.declared.refusal.Limit.{Limit}
-use Rattle.sf_run.specs.declared.refusal.Limit.TheVariants.{File, Functions, Rows}
 use Rattle.sf_run.specs.declared.refusal.Refusal.{Refusal}
 use Rattle.sf_run.specs.declared.refusal.Refusal.TheVariants as refusal
 use Rattle.sf_run.specs.declared.status.Status.{Status}
 use Rattle.sf_run.specs.declared.status.Status.TheVariants as status
+use Rattle.sf_run.specs.First.{First, IsMade, IsRefused, IsExceeded}
 use Rattle.sf_run.specs.Words.{LinkWords}
 use Rattle.sf_run.specs.Lines.{read_line, write_file_line, write_output_line, memory_line, limit_line}
 
@@ -47,57 +46,65 @@ pub record IsTurnedAway (files files' : FilesSeen) (out out' err err' : SinkSeen
   pub says : Says err err' text
 
 -- the section stands in its file, the text was printed, and no other name changed
-pub record IsDone (link : LinkWords) (files files' : FilesSeen) (out out' err err' : SinkSeen) : Type 0 where
-  pub section : List ℕ
-  pub text : List ℕ
+pub record IsDone (link : LinkWords) (files files' : FilesSeen) (out out' err err' : SinkSeen) (section text : List ℕ) : Type 0 where
   pub file : Holds files.contents files'.contents link.out section
   pub output : Appends out.written out'.written text
   pub errors : err' ≡ err
 
 -- The section's file could not be made or written whole: it is as before, or holds a prefix of the section.
-pub record FileFails (link : LinkWords) (files files' : FilesSeen) (out out' err err' : SinkSeen) : Type 0 where
-  pub section : List ℕ
+pub record FileFails (link : LinkWords) (files files' : FilesSeen) (out out' err err' : SinkSeen) (section : List ℕ) : Type 0 where
   pub file : Unchanged files.contents files'.contents ⊎ HoldsPrefix files.contents files'.contents link.out section
   pub cause : Rose files.write_faults files'.write_faults
   pub output : out' ≡ out
   pub says : Says err err' (write_file_line link.out)
 
 -- the section stands in its file, and a prefix of the text was printed
-pub record OutputFails (link : LinkWords) (files files' : FilesSeen) (out out' err err' : SinkSeen) : Type 0 where
-  pub section : List ℕ
-  pub text : List ℕ
+pub record OutputFails (link : LinkWords) (files files' : FilesSeen) (out out' err err' : SinkSeen) (section text : List ℕ) : Type 0 where
   pub file : Holds files.contents files'.contents link.out section
   pub output : AppendsPrefix out.written out'.written text
   pub cause : Rose out.faults out'.faults
   pub says : Says err err' write_output_line
 
--- what a limit says of the files' contents, where they are told: the item is longer than 2^28 bytes
-abbrev pub IsExceeded : LinkWords → FilesSeen → Limit → Type 0
-IsExceeded link files File = IfSome files.contents (λ told. 2 ^ 28 < length (contents_of told link.input.name))
-IsExceeded link files Functions = Unit {0}
-IsExceeded link files Rows = Unit {0}
+-- a section and a text were made of the input, and this was left of them
+pub record WasMade (link : LinkWords) (files : FilesSeen) (Left : (section text : List ℕ) → Type 0) : Type 0 where
+  pub section : List ℕ
+  pub text : List ℕ
+  pub made : IsMade link files.contents section text
+  pub left : Left section text
 
 -- how a run of `link` ends with each status
 abbrev pub Ends : Status → LinkWords → FilesSeen → FilesSeen → SinkSeen → SinkSeen → SinkSeen → SinkSeen → Type 0
-Ends status.Done link files files' out out' err err' = IsDone link files files' out out' err err'
+Ends status.Done link files files' out out' err err' = WasMade link files (λ section text. IsDone link files files' out out' err err' section text)
 Ends status.No link files files' out out' err err' = ⊥
 Ends status.Usage link files files' out out' err err' = ⊥
 Ends status.Read link files files' out out' err err' =
     IsTurnedAway files files' out out' err err' (read_line link.input.name) × Rose files.read_faults files'.read_faults
 Ends status.Write link files files' out out' err err' =
-    FileFails link files files' out out' err err' ⊎ OutputFails link files files' out out' err err'
+    WasMade link files (λ section text. FileFails link files files' out out' err err' section ⊎ OutputFails link files files' out out' err err' section text)
 Ends status.Refused link files files' out out' err err' =
-    (notice : Notice) × HasLine notice × IsTurnedAway files files' out out' err err' (fault_text notice)
+    (notice : Notice) × IsRefused link files.contents notice × IsTurnedAway files files' out out' err err' (fault_text notice)
 Ends status.Memory link files files' out out' err err' = IsTurnedAway files files' out out' err err' memory_line
 Ends status.Limit link files files' out out' err err' =
-    (limit : Limit) × IsExceeded link files limit × IsTurnedAway files files' out out' err err' (limit_line limit)
+    (limit : Limit) × IsExceeded link files.contents limit × IsTurnedAway files files' out out' err err' (limit_line limit)
 
--- what a run leaves that has made a section and a text
-abbrev pub Delivers : Status → LinkWords → FilesSeen → FilesSeen → SinkSeen → SinkSeen → SinkSeen → SinkSeen → Type 0
-Delivers status.Done link files files' out out' err err' = IsDone link files files' out out' err err'
-Delivers status.Write link files files' out out' err err' =
-    FileFails link files files' out out' err err' ⊎ OutputFails link files files' out out' err err'
-Delivers answer link files files' out out' err err' = ⊥
+-- no open, read, create or write failed, of the files and of the output
+pub record IsUnfaulted (files files' : FilesSeen) (out out' : SinkSeen) : Type 0 where
+  pub reads : Rose files.read_faults files'.read_faults → ⊥
+  pub writes : Rose files.write_faults files'.write_faults → ⊥
+  pub output : Rose out.faults out'.faults → ⊥
+
+-- Where the contents are told and nothing is refused, a run in which no call failed is done, unless memory was wanting.
+abbrev pub IsComplete : Status → LinkWords → FilesSeen → FilesSeen → SinkSeen → SinkSeen → Type 0
+IsComplete answer link files files' out out' =
+    IfSome files.contents (λ told. First link.input link.at (contents_of told link.input.name) None → IsUnfaulted files files' out out'
+    → (answer ≡ status.Done) ⊎ (answer ≡ status.Memory))
+
+-- what a run leaves that has made this section and this text
+abbrev pub Delivers : Status → LinkWords → FilesSeen → FilesSeen → SinkSeen → SinkSeen → SinkSeen → SinkSeen → (section text : List ℕ) → Type 0
+Delivers status.Done link files files' out out' err err' section text = IsDone link files files' out out' err err' section text
+Delivers status.Write link files files' out out' err err' section text =
+    FileFails link files files' out out' err err' section ⊎ OutputFails link files files' out out' err err' section text
+Delivers answer link files files' out out' err err' section text = ⊥
 
 -- the status and the line of a refusal
 abbrev pub Tells : Refusal → Status → List ℕ → SinkSeen → SinkSeen → Type 0

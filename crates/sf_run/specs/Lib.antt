@@ -1,3 +1,4 @@
+pub mod First
 pub mod Words
 pub mod Parsed
 pub mod Lines

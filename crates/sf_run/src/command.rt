@@ -7,7 +7,7 @@ ghost use Rattle.sf_run.specs.Lines.{usage_line};
 ghost use Rattle.sf_run.specs.Lines as lines;
 ghost use Rattle.sf_run.specs.Parsed.{link_of};
 ghost use Rattle.sf_run.specs.Refused.{IsTold};
-ghost use Rattle.sf_run.specs.Ends.{Ends, IsTurnedAway, Tells, files_seen, sink_seen};
+ghost use Rattle.sf_run.specs.Ends.{Ends, IsComplete, IsTurnedAway, Tells, files_seen, sink_seen};
 
 use crate::deliver::deliver;
 use crate::lines::say;
@@ -76,12 +76,16 @@ pub fn run<F: Files, O: Sink, E: Sink>(
         (files_seen F.contents F.created F.read_faults F.write_faults files.new)
         (sink_seen O.written O.faults out.old) (sink_seen O.written O.faults out.new)
         (sink_seen E.written E.faults err.old) (sink_seen E.written E.faults err.new) }
+    ensures complete { (link : LinkWords) → IsLink (map string_bytes words.now) link → IsComplete result link
+        (files_seen F.contents F.created F.read_faults F.write_faults files.old)
+        (files_seen F.contents F.created F.read_faults F.write_faults files.new)
+        (sink_seen O.written O.faults out.old) (sink_seen O.written O.faults out.new) }
 {
     let Some(link) = link_words(words) else {
         say(err, "usage", "");
         return Status::Usage;
     };
-    match make(alloc, &link.input, link.at, files) {
+    match make(alloc, &link, files) {
         Ok(made) => deliver(&link, &made, files, out, err),
         Err(refusal) => tell(&refusal, link.input.name, err),
     }

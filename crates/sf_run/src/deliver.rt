@@ -37,7 +37,8 @@ pub fn deliver<F: Files, O: Sink, E: Sink>(
         (files_seen F.contents F.created F.read_faults F.write_faults files.old)
         (files_seen F.contents F.created F.read_faults F.write_faults files.new)
         (sink_seen O.written O.faults out.old) (sink_seen O.written O.faults out.new)
-        (sink_seen E.written E.faults err.old) (sink_seen E.written E.faults err.new) }
+        (sink_seen E.written E.faults err.old) (sink_seen E.written E.faults err.new)
+        made.now.section.items made.now.text.items }
 {
     if store(files, link.out, &made.section).is_err() {
         say(err, "write file ", link.out);

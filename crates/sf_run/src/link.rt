@@ -1,13 +1,15 @@
 //! What `link` makes before it writes anything.
 
-ghost use Rattle.std.specs.Prelude.{◌≡◌, ◌<◌, ◌^◌, length, IsTrue, IfErr, IfSome, IsErrOf};
-ghost use Rattle.sf_base.specs.Contents.{contents_of};
+ghost use Rattle.std.specs.Prelude.{◌≡◌, ◌<◌, ◌^◌, length, IsTrue, IfOk, IfErr, IsErrOf};
 ghost use Rattle.sf_base.specs.Faults.{Rose};
+ghost use Rattle.sf_asm.specs.Answers.{IsAssembled};
 ghost use Rattle.sf_asm.specs.Fault.{is_answered};
-ghost use Rattle.sf_run.specs.Refused.{IsTold, IsLinkRefusal, IsLoadRefusal};
+ghost use Rattle.sf_run.specs.First.{IsMade, IsMadeOf, object_in};
+ghost use Rattle.sf_run.specs.Parsed.{bare_of, link_of};
+ghost use Rattle.sf_run.specs.Refused.{IsFirstRefusal, IsLinkRefusal, IsLoadRefusal, IsRefusalOf, IsTold};
 
 use crate::refusal::{Limit, Refusal};
-use crate::words::Bare;
+use crate::words::{Bare, Link};
 use sf_asm::{Form, GatherFault, Input, LinkFault, Linked, assemble};
 use sf_base::{Files, LoadFault, NoMemory, load};
 use sf_text::report;
@@ -37,7 +39,7 @@ fn not_loaded(fault: LoadFault) -> Refusal
 /// Why inputs were not linked, as a refusal of the run.
 fn not_linked(fault: &LinkFault) -> Refusal
     requires { IsTrue (is_answered fault.now) }
-    ensures { IsLinkRefusal result }
+    ensures { IsRefusalOf fault.now result }
 {
     match fault {
         LinkFault::NoMemory => Refusal::Memory,
@@ -50,20 +52,30 @@ fn not_linked(fault: &LinkFault) -> Refusal
     }
 }
 
-/// The section and the text of one input that is loaded.
-fn made_of(alloc: Global, input: &Bare<'_>, at: u64, bytes: &[u8]) -> Result<Made, Refusal>
+/// The section of one input that is loaded.
+fn linked_of(alloc: Global, input: &Bare<'_>, at: u64, bytes: &[u8]) -> Result<Linked, Refusal>
     requires { length bytes.now < 2 ^ 32 }
-    ensures { IfErr result IsLinkRefusal }
+    ensures assembled { IfOk result (λ linked. IsAssembled (object_in (bare_of input.now) bytes.now) at linked.section.items linked.kept linked.omitted.items) }
+    ensures refused { IfErr result (IsLinkRefusal (bare_of input.now) at bytes.now) }
 {
     let input = Input {
         form: Form::Bare(input.arch),
         bytes,
         base: input.base,
     };
-    let linked = match assemble(alloc, &input, at) {
-        Ok(linked) => linked,
-        Err(fault) => return Err(not_linked(&fault)),
-    };
+    match assemble(alloc, &input, at) {
+        Ok(linked) => Ok(linked),
+        Err(fault) => Err(not_linked(&fault)),
+    }
+}
+
+/// The section and the text of one input that is loaded.
+fn made_of(alloc: Global, input: &Bare<'_>, at: u64, bytes: &[u8]) -> Result<Made, Refusal>
+    requires { length bytes.now < 2 ^ 32 }
+    ensures made { IfOk result (λ made. IsMadeOf (bare_of input.now) at bytes.now made.section.items made.text.items) }
+    ensures refused { IfErr result (IsLinkRefusal (bare_of input.now) at bytes.now) }
+{
+    let linked = linked_of(alloc, input, at, bytes)?;
     match report(alloc, linked.kept, &linked.omitted) {
         Ok(text) => Ok(Made {
             section: linked.section,
@@ -73,25 +85,24 @@ fn made_of(alloc: Global, input: &Bare<'_>, at: u64, bytes: &[u8]) -> Result<Mad
     }
 }
 
-/// Loads the one input, links it, and makes the text. Nothing is written.
-pub fn make<F: Files>(
-    alloc: Global,
-    input: &Bare<'_>,
-    at: u64,
-    files: &mut F,
-) -> Result<Made, Refusal>
-    requires { IsTrue (F.may_open files.old input.now.name.now) }
+/// Loads the input, links it, and makes the text. Nothing is written.
+pub fn make<F: Files>(alloc: Global, link: &Link<'_>, files: &mut F) -> Result<Made, Refusal>
+    requires { IsTrue (F.may_open files.old link.now.input.name.now) }
+    // What is made is made of the input.
+    ensures made { IfOk result (λ made. IsMade (link_of link.now) (F.contents files.old) made.section.items made.text.items) }
+    // A refusal is the first one.
+    ensures first { IfErr result (IsFirstRefusal (link_of link.now) (F.contents files.old)) }
     ensures told { IfErr result IsTold }
     ensures read { IsErrOf result Refusal.Read → Rose (F.read_faults files.old) (F.read_faults files.new) }
-    ensures too_long { IsErrOf result (Refusal.Limit Limit.File) → IfSome (F.contents files.old) (λ told. 2 ^ 28 < length (contents_of told input.now.name.now)) }
     ensures contents { F.contents files.new ≡ F.contents files.old }
     ensures created { F.created files.new ≡ F.created files.old }
     ensures may_create { F.may_create files.new ≡ F.may_create files.old }
     ensures write_faults { F.write_faults files.new ≡ F.write_faults files.old }
 {
+    let input = &link.input;
     let bytes = match load(alloc, files, input.name, INPUT_LIMIT) {
         Ok(bytes) => bytes,
         Err(fault) => return Err(not_loaded(fault)),
     };
-    made_of(alloc, input, at, &bytes)
+    made_of(alloc, input, link.at, &bytes)
 }

@@ -1,15 +1,8 @@
--- Width 2 is the least where the two below hold not.
-use Rattle.std.proofs.Common.{◌≡◌, ◌<◌, ℕ, zero, suc, Bool, true, false, arith, lit≤}
-use Rattle.sf_sizes.specs.Width.{IsLeastWidth}
+-- No byte and no two bytes hold a start that is greater than theirs.
+use Rattle.std.proofs.Common.{◌≡◌, ◌<◌, ℕ, zero, suc, false, arith}
+use Rattle.sf_model.specs.Width.{holds_unsigned}
 
-least-below : (holds : ℕ → Bool) → holds 0 ≡ false → holds 1 ≡ false → (s : ℕ) → s < 2 → holds s ≡ false
-least-below holds zero_not one_not zero h = zero_not
-least-below holds zero_not one_not (suc zero) h = one_not
-least-below holds zero_not one_not (suc (suc s)) h = absurd (omega arith)
-
-pub two_is_least : (holds : ℕ → Bool) → holds 0 ≡ false → holds 1 ≡ false → holds 2 ≡ true → IsLeastWidth holds 2
-two_is_least holds zero_not one_not two = record {
-  known = lit≤ tt;
-  held = two;
-  least = least-below holds zero_not one_not;
-}
+pub none_below_two : (last smaller : ℕ) → 65535 < last → smaller < 2 → holds_unsigned last smaller ≡ false
+none_below_two last zero h lt = search (arith, h)
+none_below_two last (suc zero) h lt = search (arith, h)
+none_below_two last (suc (suc smaller)) h lt = absurd (omega (lt, arith))

@@ -2,8 +2,9 @@
 //! has in all.
 //!
 //! A width is a number from 0 to 2, for 1, 2 and 4 bytes. Each width that is answered here is the least
-//! that holds what it is asked for: `specs/Width.antt` says when a width holds a number, and
-//! `specs/RowLength.antt` which offsets a row has. No call takes memory or fails.
+//! that holds what it is asked for, and a row's length is that of its bytes: `holds_unsigned`,
+//! `holds_row_offsets` and `spelled_row` of `sf_model` say which those are. No call takes memory or
+//! fails.
 #![tactic(auto)]
 
 mod row_length;

@@ -1,8 +1,9 @@
 //! The length of a row (SFrame Version 2, frame row entries).
 
-ghost use Rattle.std.specs.Prelude.{◌≡◌, ◌≤◌, IsTrue, length, option_to_list};
-ghost use Rattle.sf_sizes.specs.Width.{IsLeastWidth};
-ghost use Rattle.sf_sizes.specs.RowLength.{offsets, return_offset, holds_offsets, offset_width, row_len};
+ghost use Rattle.std.specs.Prelude.{◌≡◌, ◌≤◌, ℕ, IsTrue, length, option_to_list};
+ghost use Rattle.sf_model.specs.RowBytes.{holds_row_offsets, return_offset, row_offsets, spelled_row};
+ghost use Rattle.sf_model.specs.Width.{IsWidth, NoneLess};
+ghost use Rattle.sf_sizes.specs.RowLength.{offset_width, row_at, row_len};
 
 use crate::width::{bytes_of, fits_byte, fits_byte_if_any, fits_half, fits_half_if_any};
 use sf_model::{Content, Ra};
@@ -11,7 +12,8 @@ use sf_model::{Content, Ra};
 /// them.
 pub fn offset_size(content: &Content) -> u8
     ensures value { result ≡ offset_width content.now }
-    ensures least { IsLeastWidth (holds_offsets content.now) result }
+    ensures width { IsWidth (holds_row_offsets content.now) result }
+    ensures least { NoneLess (holds_row_offsets content.now) result }
 {
     if fit_bytes(content) {
         0
@@ -24,9 +26,11 @@ pub fn offset_size(content: &Content) -> u8
 
 /// How many bytes a row has, whose start has the width `kind`: the start, the info byte and the
 /// offsets, of which AMD64 has 1 or 2 and AArch64 has 1 to 3. They are 17 at most.
+#[tactic(auto, using(crate::proofs::Spelled::spelled_is))]
 pub fn row_bytes(kind: u8, content: &Content) -> u32
     requires { kind ≤ 2 }
     ensures value { result ≡ row_len kind content.now }
+    ensures spelled { (start : ℕ) → result ≡ length (spelled_row kind (offset_width content.now) (row_at start content.now)) }
     ensures most { result ≤ 17 }
 {
     bytes_of(kind) + 1 + u32::from(offset_count(content)) * bytes_of(offset_size(content))
@@ -35,7 +39,7 @@ pub fn row_bytes(kind: u8, content: &Content) -> u32
 /// How many offsets a row has: the canonical frame address's, and those of a saved return address and
 /// of a saved frame pointer.
 pub fn offset_count(content: &Content) -> u8
-    ensures value { result ≡ length (offsets content.now) }
+    ensures value { result ≡ length (row_offsets content.now) }
     ensures most { result ≤ 3 }
 {
     let saved = saved_offset(content.ra);
@@ -54,7 +58,7 @@ pub fn saved_offset(ra: Ra) -> Option<i32>
 
 /// Whether one byte holds each offset.
 fn fit_bytes(content: &Content) -> bool
-    ensures { result ≡ holds_offsets content.now 0 }
+    ensures { result ≡ holds_row_offsets content.now 0 }
 {
     let cfa = fits_byte(content.cfa);
     let saved = fits_byte_if_any(saved_offset(content.ra));
@@ -64,8 +68,8 @@ fn fit_bytes(content: &Content) -> bool
 
 /// Whether two bytes hold each offset; four always do.
 fn fit_halves(content: &Content) -> bool
-    ensures value { result ≡ holds_offsets content.now 1 }
-    ensures four { IsTrue (holds_offsets content.now 2) }
+    ensures value { result ≡ holds_row_offsets content.now 1 }
+    ensures four { IsTrue (holds_row_offsets content.now 2) }
 {
     let cfa = fits_half(content.cfa);
     let saved = fits_half_if_any(saved_offset(content.ra));

@@ -2,13 +2,16 @@
 
 ghost use Rattle.std.specs.Prelude.{◌≡◌, ◌≤◌, IsTrue, option_to_list};
 ghost use Rattle.std.specs.List.{list_all};
-ghost use Rattle.sf_sizes.specs.Width.{width_len, holds_unsigned, holds_signed, least_width, IsLeastWidth};
+ghost use Rattle.sf_model.specs.Width.{width_len, holds_unsigned, holds_signed, IsWidth, NoneLess};
+ghost use Rattle.sf_sizes.specs.Width.{least_width};
 
 /// The width of a function's row starts, of which `last` is the greatest: 0, 1 or 2 for 1, 2 or 4
 /// unsigned bytes, the least that holds it.
+#[tactic(auto, using(crate::proofs::Least::none_below_two))]
 pub fn row_type(last: u32) -> u8
     ensures value { result ≡ least_width (holds_unsigned last) }
-    ensures least { IsLeastWidth (holds_unsigned last) result }
+    ensures width { IsWidth (holds_unsigned last) result }
+    ensures least { NoneLess (holds_unsigned last) result }
 {
     if last <= 0xff {
         0

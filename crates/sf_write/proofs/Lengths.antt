@@ -1,54 +1,38 @@
 -- How long the parts of a section are.
 use Rattle.std.proofs.Common.{◌≡◌, ℕ, ◌+◌, ◌*◌, List, [], ◌∷◌, ◌++◌, length, refl, ap, sym, ◌∙◌, arith, length-append}
 use Rattle.std.specs.Prelude.{ℤ, sum_by}
-use Rattle.std.specs.Int.{w32, cast_unsigned}
 use Rattle.std.specs.List.{flat_map}
 use Rattle.std.proofs.lemmas.List.Concat.{flat_map-cons}
 use Rattle.std.proofs.lemmas.List.Sums.{sum_by-cons}
-use Rattle.byteorder.specs.Numbers.{length-bytes_low_first}
 use Rattle.sf_model.specs.declared.machine.Arch.{Arch}
-use Rattle.sf_model.specs.declared.content.Content.{Content}
 use Rattle.sf_model.specs.declared.rows.Row.{Row}
 use Rattle.sf_model.specs.declared.function.Func.{Func}
-use Rattle.sf_sizes.specs.Width.{width_len}
-use Rattle.sf_sizes.specs.RowLength.{offsets, offset_width, row_len}
-use Rattle.sf_write.specs.Number.{number_bytes, signed_bytes}
-use Rattle.sf_write.specs.Row.{offset_bytes, row_bytes, start_width, rows_bytes, rows_len}
+use Rattle.sf_model.specs.Table.{row_count}
+use Rattle.sf_model.proofs.SpelledLengths.{length-unsigned, length-signed, length-spelled_row}
+use Rattle.sf_sizes.specs.RowLength.{offset_width, row_len}
+use Rattle.sf_write.specs.Number.{word_bytes, signed_word_bytes}
+use Rattle.sf_write.specs.Row.{narrow_row, start_width, rows_bytes, rows_len}
 use Rattle.sf_write.specs.Reach.{start_distance}
 use Rattle.sf_write.specs.Entry.{entry_bytes, entries_bytes}
-use Rattle.sf_write.specs.Section.{preamble, header_bytes, section_bytes, section_len, row_count, row_section_len}
+use Rattle.sf_write.specs.Section.{preamble, header_bytes, section_bytes, section_len, row_section_len}
 
-pub length-number : (len n : ℕ) → length (number_bytes len n) ≡ len
-unfolding number_bytes
-length-number len n = length-bytes_low_first 0 len n
+pub length-word : (n : ℕ) → length (word_bytes n) ≡ 4
+unfolding word_bytes
+length-word n = length-unsigned 2 n
 
-pub length-signed : (len : ℕ) (z : ℤ) → length (signed_bytes len z) ≡ len
-unfolding signed_bytes
-length-signed len z = length-bytes_low_first 0 len (cast_unsigned w32 z)
+pub length-signed_word : (z : ℤ) → length (signed_word_bytes z) ≡ 4
+unfolding signed_word_bytes
+length-signed_word z = length-signed 2 z
 
-length-signed_all : (len : ℕ) (zs : List ℤ) → length (flat_map (signed_bytes len) zs) ≡ length zs * len
-length-signed_all len [] = search arith
-length-signed_all len (z ∷ zs) =
-    grind (arith, length-append {A = ℕ}, length-signed len z, length-signed_all len zs)
+pub length-row : (width : ℕ) (row : Row) → length (narrow_row width row) ≡ row_len width row.content
+length-row width row = length-spelled_row width (offset_width row.content) row
 
-length-offset_bytes : (content : Content) → length (offset_bytes content) ≡ length (offsets content) * width_len (offset_width content)
-unfolding offset_bytes
-length-offset_bytes content = length-signed_all (width_len (offset_width content)) (offsets content)
-
-row-length : (a b c d : ℕ) (xs ys : List ℕ) → length xs ≡ a → length ys ≡ b → length (xs ++ c ∷ ys) ≡ a + 1 + b
-row-length a b c d xs ys e f = grind (arith, length-append {A = ℕ})
-
-pub length-row : (width : ℕ) (row : Row) → length (row_bytes width row) ≡ row_len width row.content
-unfolding row_bytes
-length-row width row =
-    row-length _ _ _ 0 _ _ (length-number (width_len width) row.start) (length-offset_bytes row.content)
-
-length-rows_at : (width : ℕ) (rows : List Row) → length (flat_map (row_bytes width) rows) ≡ sum_by (λ (row : Row). row_len width row.content) rows
+length-rows_at : (width : ℕ) (rows : List Row) → length (flat_map (narrow_row width) rows) ≡ sum_by (λ (row : Row). row_len width row.content) rows
 length-rows_at width [] = refl
 length-rows_at width (row ∷ rows) =
-    ap length (flat_map-cons (row_bytes width) row rows)
-    ∙ (length-append (row_bytes width row) (flat_map (row_bytes width) rows)
-    ∙ (ap (λ n. n + length (flat_map (row_bytes width) rows)) (length-row width row)
+    ap length (flat_map-cons (narrow_row width) row rows)
+    ∙ (length-append (narrow_row width row) (flat_map (narrow_row width) rows)
+    ∙ (ap (λ n. n + length (flat_map (narrow_row width) rows)) (length-row width row)
     ∙ (ap (λ n. row_len width row.content + n) (length-rows_at width rows)
     ∙ sym (sum_by-cons (λ (r : Row). row_len width r.content) row rows))))
 
@@ -71,7 +55,7 @@ entry-length a b c d e p q r s t = simp (length-append, p, q, r, s, t)
 pub length-entry : (at number place : ℕ) (f : Func) → length (entry_bytes at number place f) ≡ 20
 unfolding entry_bytes
 length-entry at number place f =
-    entry-length _ _ _ _ _ (length-signed 4 (start_distance at number f.start)) (length-number 4 f.size) (length-number 4 place) (length-number 4 (length f.rows)) refl
+    entry-length _ _ _ _ _ (length-signed_word (start_distance at number f.start)) (length-word f.size) (length-word place) (length-word (length f.rows)) refl
 
 pub length-entries : (at number place : ℕ) (functions : List Func) → length (entries_bytes at number place functions) ≡ 20 * length functions
 length-entries at number place [] = refl
@@ -89,7 +73,7 @@ length-preamble arch = refl
 pub length-header : (arch : Arch) (functions rows len : ℕ) → length (header_bytes arch functions rows len) ≡ 28
 unfolding header_bytes
 length-header arch functions rows len =
-    header-length _ _ _ _ _ _ (length-preamble arch) (length-number 4 functions) (length-number 4 rows) (length-number 4 len) (length-number 4 0) (length-number 4 (20 * functions))
+    header-length _ _ _ _ _ _ (length-preamble arch) (length-word functions) (length-word rows) (length-word len) (length-word 0) (length-word (20 * functions))
 
 three-lengths : (a b c : List ℕ) (k m n : ℕ) → length a ≡ k → length b ≡ m → length c ≡ n → length (a ++ b ++ c) ≡ k + m + n
 three-lengths a b c k m n p q r = simp (length-append, p, q, r)

@@ -9,7 +9,7 @@ use Rattle.sf_model.specs.declared.rows.Row.{Row}
 use Rattle.sf_model.specs.declared.function.Func.{Func}
 use Rattle.sf_model.specs.Content.{content_fits}
 use Rattle.sf_model.specs.Function.{key_fits, shape_fits, IsWritable, AreWritable}
-use Rattle.sf_write.specs.Section.{row_count}
+use Rattle.sf_model.specs.Table.{row_count}
 use Rattle.sf_write.specs.Writable.{each_next, is_writable, are_writable}
 
 both-first : (a b : Bool) → (a && b) ≡ true → a ≡ true

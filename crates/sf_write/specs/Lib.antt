@@ -1,5 +1,6 @@
 pub mod Number
 pub mod Row
+pub mod Room
 pub mod Entry
 pub mod Reach
 pub mod Section

@@ -1,12 +1,11 @@
--- Numbers of a section: little-endian, and signed ones in two's complement.
+-- Numbers of a section's header and entries: four bytes, little-endian, and signed ones in two's complement.
 use Rattle.std.specs.Prelude.{ℕ, ℤ, List}
-use Rattle.std.specs.Int.{w32, cast_unsigned}
-use Rattle.byteorder.specs.Endian.{little_bytes}
+use Rattle.sf_model.specs.Width.{unsigned_bytes, signed_bytes}
 
--- a number from 0 in so many bytes
-unfoldable pub number_bytes : (len : ℕ) → ℕ → List ℕ
-number_bytes len n = little_bytes len n
+-- a number from 0 in four bytes
+unfoldable pub word_bytes : ℕ → List ℕ
+word_bytes n = unsigned_bytes 2 n
 
--- a number of 32 signed bits in so many bytes
-unfoldable pub signed_bytes : (len : ℕ) → ℤ → List ℕ
-signed_bytes len z = little_bytes len (cast_unsigned w32 z)
+-- a number of 32 signed bits in four bytes
+unfoldable pub signed_word_bytes : ℤ → List ℕ
+signed_word_bytes z = signed_bytes 2 z

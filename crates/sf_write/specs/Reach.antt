@@ -2,7 +2,7 @@
 -- its start field, in four signed bytes.
 use Rattle.std.specs.Prelude.{◌+◌, ◌*◌, ◌-ℤ◌, ℕ, ℤ, pos, Bool, List, [], ◌∷◌, Option, Some, None, if◌then◌else◌, ◌≡◌, ⊤}
 use Rattle.sf_model.specs.declared.function.Func.{Func}
-use Rattle.sf_sizes.specs.Width.{holds_signed}
+use Rattle.sf_model.specs.Width.{holds_signed}
 use Rattle.sf_write.specs.declared.fault.WriteFault.{WriteFault}
 use Rattle.sf_write.specs.declared.fault.WriteFault.TheVariants.{OutOfReach, NoMemory}
 

@@ -2,30 +2,21 @@
 use Rattle.std.specs.Prelude.{◌+◌, ◌*◌, ◌++◌, ℕ, List, [], ◌∷◌, length, sum_by}
 use Rattle.std.specs.List.{flat_map}
 use Rattle.sf_model.specs.declared.machine.Arch.{Arch}
-use Rattle.sf_model.specs.declared.machine.Arch.TheVariants.{Amd64, Aarch64}
 use Rattle.sf_model.specs.declared.function.Func.{Func}
-use Rattle.sf_write.specs.Number.{number_bytes}
+use Rattle.sf_model.specs.Table.{Table, row_count}
+use Rattle.sf_model.specs.Section.{abi_number, fixed_return_byte}
+use Rattle.sf_write.specs.Number.{word_bytes}
 use Rattle.sf_write.specs.Row.{rows_bytes, rows_len}
 use Rattle.sf_write.specs.Entry.{entries_bytes}
 
--- the abi and architecture: AArch64 little-endian, or AMD64
-abbrev pub abi : Arch → ℕ
-abi Amd64 = 3
-abi Aarch64 = 2
-
--- the return address's fixed offset as a byte: -8 on AMD64, none on AArch64
-abbrev pub fixed_return : Arch → ℕ
-fixed_return Amd64 = 0xf8
-fixed_return Aarch64 = 0
+-- the table that is written: these functions, sorted (0x1), with starts that count from their own fields (0x4)
+abbrev pub table_of : Arch → List Func → Table
+table_of arch functions = record { arch = arch; flags = 5; functions = functions }
 
 -- magic, version 2, the flags 0x1 (sorted) and 0x4 (starts count from their own field), the abi, no fixed frame pointer, the
 -- fixed return address, no auxiliary header
 unfoldable pub preamble : Arch → List ℕ
-preamble arch = 0xe2 ∷ 0xde ∷ 2 ∷ 5 ∷ abi arch ∷ 0 ∷ fixed_return arch ∷ 0 ∷ []
-
--- the number of rows of all functions
-abbrev pub row_count : List Func → ℕ
-row_count functions = sum_by (λ (f : Func). length f.rows) functions
+preamble arch = 0xe2 ∷ 0xde ∷ 2 ∷ 5 ∷ abi_number arch ∷ 0 ∷ fixed_return_byte arch ∷ 0 ∷ []
 
 -- the bytes of the rows of all functions
 abbrev pub row_section_len : List Func → ℕ
@@ -35,8 +26,8 @@ row_section_len functions = sum_by (λ (f : Func). rows_len f.rows) functions
 -- of the rows behind the header
 unfoldable pub header_bytes : Arch → (functions rows rows_len : ℕ) → List ℕ
 header_bytes arch functions rows rows_len =
-    preamble arch ++ number_bytes 4 functions ++ number_bytes 4 rows ++ number_bytes 4 rows_len ++ number_bytes 4 0
-    ++ number_bytes 4 (20 * functions)
+    preamble arch ++ word_bytes functions ++ word_bytes rows ++ word_bytes rows_len ++ word_bytes 0
+    ++ word_bytes (20 * functions)
 
 -- the header, the entries and the rows of all functions in one order, and nothing besides
 unfoldable pub section_bytes : Arch → (at : ℕ) → List Func → List ℕ

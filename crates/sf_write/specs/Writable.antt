@@ -10,7 +10,7 @@ use Rattle.sf_model.specs.declared.machine.Base.{Base}
 use Rattle.sf_model.specs.declared.content.Ra.{Ra}
 use Rattle.sf_model.specs.Content.{content_fits}
 use Rattle.sf_model.specs.Function.{key_fits, shape_fits}
-use Rattle.sf_write.specs.Section.{row_count}
+use Rattle.sf_model.specs.Table.{row_count}
 
 -- whether each element and the next pass
 abbrev pub each_next : {X : Type 0} → (X → X → Bool) → List X → Bool

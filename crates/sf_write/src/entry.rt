@@ -1,9 +1,14 @@
 //! Function descriptor entries (SFrame Version 2).
 
-ghost use Rattle.std.specs.Prelude.{◌≡◌, ◌≤◌, ◌^◌, ◌++◌, [], ◌∷◌, None, length, OnOk, IfErr};
+ghost use Rattle.std.specs.Prelude.{◌≡◌, ◌≤◌, ◌^◌, ◌++◌, [], ◌∷◌, None, length, IsTrue, OnOk, IfErr};
+ghost use Rattle.std.specs.List.{list_all};
+ghost use Rattle.sf_model.specs.Table.{row_count};
+ghost use Rattle.sf_model.specs.Tight.{last_start};
+ghost use Rattle.sf_model.specs.Width.{holds_unsigned, IsWidth};
 ghost use Rattle.sf_write.specs.Entry.{entry_info, entry_bytes, entries_bytes, repeat_size};
+ghost use Rattle.sf_write.specs.Row.{start_width};
 ghost use Rattle.sf_write.specs.Reach.{first_out_of_reach, Refuses};
-ghost use Rattle.sf_write.specs.Section.{row_count};
+ghost use Rattle.sf_write.specs.Room.{entry_fits};
 
 use crate::fault::WriteFault;
 use crate::number::{push_signed_word, push_word};
@@ -16,6 +21,7 @@ pub(crate) fn push_entries(bytes: &mut Vec<u8>, at: u64, funcs: &[Func]) -> Resu
     requires count { length funcs.now ≤ 2 ^ 21 }
     requires rows { row_count funcs.now ≤ 2 ^ 24 }
     ensures ok { OnOk result (bytes.new.items ≡ bytes.old.items ++ entries_bytes at 0 0 funcs.now) }
+    ensures fits { OnOk result (IsTrue (list_all entry_fits funcs.now)) }
     ensures in_reach { OnOk result (first_out_of_reach at 0 funcs.now ≡ None) }
     ensures fault { IfErr result (λ e. Refuses e (first_out_of_reach at 0 funcs.now)) }
 {
@@ -30,7 +36,7 @@ pub(crate) fn push_entries(bytes: &mut Vec<u8>, at: u64, funcs: &[Func]) -> Resu
 }
 
 /// Appends the entry with this number, whose rows begin at this place among all rows.
-#[tactic(auto, unfolding(crate::specs::Entry::entry_bytes))]
+#[tactic(auto, unfolding(crate::specs::Entry::entry_bytes, crate::specs::Room::entry_fits))]
 fn push_entry(
     bytes: &mut Vec<u8>,
     at: u64,
@@ -41,6 +47,7 @@ fn push_entry(
     requires count { number ≤ 2 ^ 21 }
     requires rows { length func.now.rows ≤ 2 ^ 24 }
     ensures ok { OnOk result (bytes.new.items ≡ bytes.old.items ++ entry_bytes at number place func.now) }
+    ensures fits { OnOk result (IsTrue (entry_fits func.now)) }
     ensures in_reach { OnOk result (first_out_of_reach at number (func.now ∷ []) ≡ None) }
     ensures fault { IfErr result (λ e. Refuses e (first_out_of_reach at number (func.now ∷ []))) }
 {
@@ -56,7 +63,8 @@ fn push_entry(
 /// The info byte of an entry.
 #[tactic(auto, unfolding(crate::specs::Entry::entry_info))]
 fn info_of(func: &Func) -> u8
-    ensures { result ≡ entry_info func.now }
+    ensures value { result ≡ entry_info func.now }
+    ensures starts { IsWidth (holds_unsigned (last_start func.now.rows)) (start_width func.now.rows) }
 {
     let shape = match func.shape {
         Shape::Plain => 0,

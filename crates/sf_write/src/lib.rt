@@ -2,8 +2,9 @@
 //!
 //! `write` lays a section out in one way: the header, the function entries, and then the rows of all
 //! functions in the same order, without sharing. Starts count from their own field (flags 0x1 and 0x4),
-//! row starts and offsets are as narrow as they can be, padding is zero. `specs/Section.antt` says
-//! which bytes these are.
+//! row starts and offsets are as narrow as they can be, padding is zero. It is the one list of bytes that
+//! is `Tight` and `Narrow`, by the definitions of `sf_model`, for the table of the functions
+//! (`table_of`); `section_bytes` of `specs/Section.antt` spells it.
 //!
 //! The caller owes functions that one section can hold, by rising start, with rows that the machine has
 //! (`AreWritable` of `sf_model`). Memory is taken once, and a start that lies too far from its field is

@@ -1,32 +1,31 @@
 //! Numbers as little-endian bytes.
 
 ghost use Rattle.std.specs.Prelude.{◌≡◌, ◌≤◌, ◌++◌, OnOk};
-ghost use Rattle.sf_sizes.specs.Width.{width_len};
-ghost use Rattle.sf_write.specs.Number.{number_bytes, signed_bytes};
+ghost use Rattle.sf_model.specs.Width.{signed_bytes, unsigned_bytes};
+ghost use Rattle.sf_write.specs.Number.{signed_word_bytes, word_bytes};
 
 use std::alloc::AllocError;
 
 /// Appends a number's four bytes.
-#[tactic(auto, unfolding(crate::specs::Number::number_bytes))]
+#[tactic(auto, unfolding(crate::specs::Number::word_bytes))]
 pub(crate) fn push_word(bytes: &mut Vec<u8>, number: u32) -> Result<(), AllocError>
-    ensures { OnOk result (bytes.new.items ≡ bytes.old.items ++ number_bytes 4 number) }
+    ensures { OnOk result (bytes.new.items ≡ bytes.old.items ++ word_bytes number) }
 {
     bytes.extend_from_slice(&number.to_le_bytes())
 }
 
 /// Appends a number's four bytes in two's complement.
-#[tactic(auto, unfolding(crate::specs::Number::signed_bytes))]
+#[tactic(auto, unfolding(crate::specs::Number::signed_word_bytes))]
 pub(crate) fn push_signed_word(bytes: &mut Vec<u8>, number: i32) -> Result<(), AllocError>
-    ensures { OnOk result (bytes.new.items ≡ bytes.old.items ++ signed_bytes 4 number) }
+    ensures { OnOk result (bytes.new.items ≡ bytes.old.items ++ signed_word_bytes number) }
 {
     bytes.extend_from_slice(&number.cast_unsigned().to_le_bytes())
 }
 
 /// Appends the low bytes of a number, as many as the width has.
-#[tactic(auto, unfolding(crate::specs::Number::number_bytes))]
 pub(crate) fn push_narrow(bytes: &mut Vec<u8>, number: u32, width: u8) -> Result<(), AllocError>
     requires { width ≤ 2 }
-    ensures { OnOk result (bytes.new.items ≡ bytes.old.items ++ number_bytes (width_len width) number) }
+    ensures { OnOk result (bytes.new.items ≡ bytes.old.items ++ unsigned_bytes width number) }
 {
     let [first, second, third, fourth] = number.to_le_bytes();
     match width {
@@ -37,14 +36,13 @@ pub(crate) fn push_narrow(bytes: &mut Vec<u8>, number: u32, width: u8) -> Result
 }
 
 /// Appends the low bytes of a number in two's complement, as many as the width has.
-#[tactic(auto, unfolding(crate::specs::Number::number_bytes, crate::specs::Number::signed_bytes))]
 pub(crate) fn push_narrow_signed(
     bytes: &mut Vec<u8>,
     number: i32,
     width: u8,
 ) -> Result<(), AllocError>
     requires { width ≤ 2 }
-    ensures { OnOk result (bytes.new.items ≡ bytes.old.items ++ signed_bytes (width_len width) number) }
+    ensures { OnOk result (bytes.new.items ≡ bytes.old.items ++ signed_bytes width number) }
 {
     push_narrow(bytes, number.cast_unsigned(), width)
 }

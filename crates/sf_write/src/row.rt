@@ -1,10 +1,13 @@
 //! A function's rows (SFrame Version 2, frame row entries).
 
-ghost use Rattle.std.specs.Prelude.{◌≡◌, ◌≤◌, ◌^◌, ◌*◌, ◌++◌, length, OnOk, option_to_list};
-ghost use Rattle.std.specs.List.{flat_map};
-ghost use Rattle.sf_sizes.specs.Width.{width_len};
-ghost use Rattle.sf_write.specs.Number.{signed_bytes};
-ghost use Rattle.sf_write.specs.Row.{row_info, offset_bytes, row_bytes as row_spelling, start_width, rows_bytes, rows_len};
+ghost use Rattle.std.specs.Prelude.{◌≡◌, ◌≤◌, ◌^◌, ◌*◌, ◌++◌, length, IsTrue, OnOk, option_to_list};
+ghost use Rattle.std.specs.List.{flat_map, list_all};
+ghost use Rattle.sf_model.specs.RowBytes.{holds_row_offsets, row_info_byte, row_offsets};
+ghost use Rattle.sf_model.specs.Tight.{last_start};
+ghost use Rattle.sf_model.specs.Width.{holds_unsigned, signed_bytes, IsWidth};
+ghost use Rattle.sf_sizes.specs.RowLength.{offset_width};
+ghost use Rattle.sf_write.specs.Room.{offsets_fit};
+ghost use Rattle.sf_write.specs.Row.{narrow_row, start_width, rows_bytes, rows_len};
 
 use crate::number::{push_narrow, push_narrow_signed};
 use sf_model::{Base, Content, Row};
@@ -12,12 +15,20 @@ use sf_sizes::{offset_count, offset_size, row_bytes, row_type, saved_offset};
 use std::alloc::AllocError;
 
 /// The width of a function's row starts: the least that holds the last one.
-#[tactic(auto, unfolding(crate::specs::Row::last_start))]
 pub(crate) fn start_width_of(rows: &[Row]) -> u8
     ensures value { result ≡ start_width rows.now }
+    ensures width { IsWidth (holds_unsigned (last_start rows.now)) result }
     ensures most { result ≤ 2 }
 {
-    row_type(rows.last().map_or(0, |row| row.start))
+    row_type(last_start_of(rows))
+}
+
+/// The start of the last row.
+#[tactic(auto, using(crate::proofs::LastStart::last_start_by))]
+fn last_start_of(rows: &[Row]) -> u32
+    ensures { result ≡ last_start rows.now }
+{
+    rows.last().map_or(0, |row| row.start)
 }
 
 /// How many bytes a function's rows have.
@@ -38,7 +49,8 @@ pub(crate) fn rows_len_of(rows: &[Row]) -> u32
 /// Appends a function's rows.
 #[tactic(auto, unfolding(crate::specs::Row::rows_bytes))]
 pub(crate) fn push_rows(bytes: &mut Vec<u8>, rows: &[Row]) -> Result<(), AllocError>
-    ensures { OnOk result (bytes.new.items ≡ bytes.old.items ++ rows_bytes rows.now) }
+    ensures ok { OnOk result (bytes.new.items ≡ bytes.old.items ++ rows_bytes rows.now) }
+    ensures fits { OnOk result (IsTrue (list_all offsets_fit rows.now)) }
 {
     let kind = start_width_of(rows);
     for row in rows {
@@ -48,10 +60,11 @@ pub(crate) fn push_rows(bytes: &mut Vec<u8>, rows: &[Row]) -> Result<(), AllocEr
 }
 
 /// Appends a row: its start in bytes of the width `kind`, its info byte and its offsets.
-#[tactic(auto, unfolding(crate::specs::Row::row_bytes))]
+#[tactic(auto, unfolding(sf_model::specs::RowBytes::spelled_row, crate::specs::Room::offsets_fit))]
 fn push_row(bytes: &mut Vec<u8>, kind: u8, row: &Row) -> Result<(), AllocError>
     requires { kind ≤ 2 }
-    ensures { OnOk result (bytes.new.items ≡ bytes.old.items ++ row_spelling kind row.now) }
+    ensures ok { OnOk result (bytes.new.items ≡ bytes.old.items ++ narrow_row kind row.now) }
+    ensures fits { OnOk result (IsTrue (offsets_fit row.now)) }
 {
     push_narrow(bytes, row.start, kind)?;
     bytes.push(info_of(&row.content))?;
@@ -59,9 +72,9 @@ fn push_row(bytes: &mut Vec<u8>, kind: u8, row: &Row) -> Result<(), AllocError>
 }
 
 /// The info byte of a row.
-#[tactic(auto, unfolding(crate::specs::Row::row_info))]
 fn info_of(content: &Content) -> u8
-    ensures { result ≡ row_info content.now }
+    ensures value { result ≡ row_info_byte (offset_width content.now) content.now }
+    ensures fits { IsTrue (holds_row_offsets content.now (offset_width content.now)) }
 {
     let base = match content.base {
         Base::Fp => 0,
@@ -72,9 +85,8 @@ fn info_of(content: &Content) -> u8
 
 /// Appends a row's offsets in their order: of the canonical frame address, the return address and the
 /// frame pointer.
-#[tactic(auto, unfolding(crate::specs::Row::offset_bytes))]
 fn push_offsets(bytes: &mut Vec<u8>, content: &Content) -> Result<(), AllocError>
-    ensures { OnOk result (bytes.new.items ≡ bytes.old.items ++ offset_bytes content.now) }
+    ensures { OnOk result (bytes.new.items ≡ bytes.old.items ++ flat_map (signed_bytes (offset_width content.now)) (row_offsets content.now)) }
 {
     let width = offset_size(content);
     push_narrow_signed(bytes, content.cfa, width)?;
@@ -85,7 +97,7 @@ fn push_offsets(bytes: &mut Vec<u8>, content: &Content) -> Result<(), AllocError
 /// Appends an offset that may be absent.
 fn push_if_any(bytes: &mut Vec<u8>, offset: Option<i32>, width: u8) -> Result<(), AllocError>
     requires { width ≤ 2 }
-    ensures { OnOk result (bytes.new.items ≡ bytes.old.items ++ flat_map (signed_bytes (width_len width)) (option_to_list offset)) }
+    ensures { OnOk result (bytes.new.items ≡ bytes.old.items ++ flat_map (signed_bytes width) (option_to_list offset)) }
 {
     match offset {
         Some(offset) => push_narrow_signed(bytes, offset, width),

@@ -51,6 +51,11 @@ fn section_of(
     Ok(write(alloc, arch, 0x3000, &functions))
 }
 
+/// The section of no function, at 0x3000.
+fn section_of_none(alloc: Global, arch: Arch) -> Result<Vec<u8>, Fail> {
+    Ok(write(alloc, arch, 0x3000, &[])?)
+}
+
 /// The section of two functions with the same rows, at 0x3000.
 fn section_of_two(alloc: Global, arch: Arch, rows: &[Row]) -> Result<Vec<u8>, Fail>
     requires { IsTrue (are_writable arch (function_of 0x1000 6 Key.A rows.now ∷ function_of 0x9000 6 Key.A rows.now ∷ [])) }
@@ -103,42 +108,96 @@ fn a_function_of_aarch64_that_signs_by_key_b(rt: HostRuntime) -> Result<(), Fail
     Ok(())
 }
 
+#[test]
+fn a_section_without_functions(rt: HostRuntime) -> Result<(), Fail> {
+    let amd64 = section_of_none(rt.alloc(), Arch::Amd64)?;
+    let expected =
+        b"\xe2\xde\x02\x05\x03\x00\xf8\x00\x00\x00\x00\x00\x00\x00\x00\x00\x00\x00\x00\x00\x00\x00\x00\x00\x00\x00\x00\x00";
+    assert_eq!(rt; amd64.as_slice(), expected.as_slice());
+    let aarch64 = section_of_none(rt.alloc(), Arch::Aarch64)?;
+    let expected =
+        b"\xe2\xde\x02\x05\x02\x00\x00\x00\x00\x00\x00\x00\x00\x00\x00\x00\x00\x00\x00\x00\x00\x00\x00\x00\x00\x00\x00\x00";
+    assert_eq!(rt; aarch64.as_slice(), expected.as_slice());
+    Ok(())
+}
+
 /// The section of a function of 512 bytes with two rows, the second of which is told.
-fn two_rows(alloc: Global, second: u32, fp: Option<i32>) -> Result<Vec<u8>, Fail>
-    requires { IsTrue (are_writable Arch.Amd64 (function_of 0x1000 512 Key.A (row_of 0 Base.Sp (pos 8) Ra.Fixed None false ∷ row_of second Base.Sp (pos 16) Ra.Fixed fp false ∷ []) ∷ [])) }
+fn two_rows(alloc: Global, second: u32) -> Result<Vec<u8>, Fail>
+    requires { IsTrue (are_writable Arch.Amd64 (function_of 0x1000 512 Key.A (row_of 0 Base.Sp (pos 8) Ra.Fixed None false ∷ row_of second Base.Sp (pos 16) Ra.Fixed None false ∷ []) ∷ [])) }
 {
     let rows = [
         row(0, Base::Sp, 8, Ra::Fixed, None, false),
-        row(second, Base::Sp, 16, Ra::Fixed, fp, false),
+        row(second, Base::Sp, 16, Ra::Fixed, None, false),
     ];
     Ok(section_of(alloc, Arch::Amd64, 0x1000, 512, Key::A, &rows)??)
 }
 
 #[test]
-fn widths_are_the_least(rt: HostRuntime) -> Result<(), Fail> {
-    let narrow = two_rows(rt.alloc(), 0xff, None)?;
-    assert!(rt;
-        narrow
-            .as_slice()
-            .ends_with(b"\x00\x00\x00\x00\x00\x03\x08\xff\x03\x10")
-    );
-    let wide = two_rows(rt.alloc(), 0x100, None)?;
-    assert!(rt;
-        wide.as_slice()
-            .ends_with(b"\x01\x00\x00\x00\x00\x00\x03\x08\x00\x01\x03\x10")
-    );
-    let byte = two_rows(rt.alloc(), 1, Some(-128))?;
-    assert!(rt; byte.as_slice().ends_with(b"\x01\x05\x10\x80"));
-    let half = two_rows(rt.alloc(), 1, Some(-129))?;
-    assert!(rt; half.as_slice().ends_with(b"\x01\x25\x10\x00\x7f\xff"));
+fn the_least_start_widths(rt: HostRuntime) -> Result<(), Fail> {
+    let byte = two_rows(rt.alloc(), 0xff)?;
+    let expected =
+        b"\xe2\xde\x02\x05\x03\x00\xf8\x00\x01\x00\x00\x00\x02\x00\x00\x00\x06\x00\x00\x00\x00\x00\x00\x00\x14\x00\x00\x00\
+\xe4\xdf\xff\xff\x00\x02\x00\x00\x00\x00\x00\x00\x02\x00\x00\x00\x00\x00\x00\x00\
+\x00\x03\x08\xff\x03\x10";
+    assert_eq!(rt; byte.as_slice(), expected.as_slice());
+    let half = two_rows(rt.alloc(), 0x100)?;
+    let expected =
+        b"\xe2\xde\x02\x05\x03\x00\xf8\x00\x01\x00\x00\x00\x02\x00\x00\x00\x08\x00\x00\x00\x00\x00\x00\x00\x14\x00\x00\x00\
+\xe4\xdf\xff\xff\x00\x02\x00\x00\x00\x00\x00\x00\x02\x00\x00\x00\x01\x00\x00\x00\
+\x00\x00\x03\x08\x00\x01\x03\x10";
+    assert_eq!(rt; half.as_slice(), expected.as_slice());
+    Ok(())
+}
+
+/// The section of a function of six bytes with one row.
+fn one_row(alloc: Global, cfa: i32, fp: Option<i32>) -> Result<Vec<u8>, Fail> {
+    let rows = [row(0, Base::Sp, cfa, Ra::Fixed, fp, false)];
+    Ok(section_of(alloc, Arch::Amd64, 0x1000, 6, Key::A, &rows)??)
+}
+
+#[test]
+fn the_least_offset_widths(rt: HostRuntime) -> Result<(), Fail> {
+    let plain = one_row(rt.alloc(), 24, None)?;
+    let expected =
+        b"\xe2\xde\x02\x05\x03\x00\xf8\x00\x01\x00\x00\x00\x01\x00\x00\x00\x03\x00\x00\x00\x00\x00\x00\x00\x14\x00\x00\x00\
+\xe4\xdf\xff\xff\x06\x00\x00\x00\x00\x00\x00\x00\x01\x00\x00\x00\x00\x00\x00\x00\
+\x00\x03\x18";
+    assert_eq!(rt; plain.as_slice(), expected.as_slice());
+    let byte = one_row(rt.alloc(), 8, Some(-128))?;
+    let expected =
+        b"\xe2\xde\x02\x05\x03\x00\xf8\x00\x01\x00\x00\x00\x01\x00\x00\x00\x04\x00\x00\x00\x00\x00\x00\x00\x14\x00\x00\x00\
+\xe4\xdf\xff\xff\x06\x00\x00\x00\x00\x00\x00\x00\x01\x00\x00\x00\x00\x00\x00\x00\
+\x00\x05\x08\x80";
+    assert_eq!(rt; byte.as_slice(), expected.as_slice());
+    let half = one_row(rt.alloc(), 8, Some(-129))?;
+    let expected =
+        b"\xe2\xde\x02\x05\x03\x00\xf8\x00\x01\x00\x00\x00\x01\x00\x00\x00\x06\x00\x00\x00\x00\x00\x00\x00\x14\x00\x00\x00\
+\xe4\xdf\xff\xff\x06\x00\x00\x00\x00\x00\x00\x00\x01\x00\x00\x00\x00\x00\x00\x00\
+\x00\x25\x08\x00\x7f\xff";
+    assert_eq!(rt; half.as_slice(), expected.as_slice());
+    let word = one_row(rt.alloc(), i32::MAX, None)?;
+    let expected =
+        b"\xe2\xde\x02\x05\x03\x00\xf8\x00\x01\x00\x00\x00\x01\x00\x00\x00\x06\x00\x00\x00\x00\x00\x00\x00\x14\x00\x00\x00\
+\xe4\xdf\xff\xff\x06\x00\x00\x00\x00\x00\x00\x00\x01\x00\x00\x00\x00\x00\x00\x00\
+\x00\x43\xff\xff\xff\x7f";
+    assert_eq!(rt; word.as_slice(), expected.as_slice());
     Ok(())
 }
 
 #[test]
-fn the_first_start_out_of_reach_is_named(rt: HostRuntime) -> Result<(), Fail> {
-    let rows = [row(0, Base::Sp, 8, Ra::Fixed, None, false)];
-    let near = section_of(rt.alloc(), Arch::Amd64, 0x8000_301b, 6, Key::A, &rows)?;
-    assert!(rt; near.is_ok());
+fn the_farthest_start_and_the_first_out_of_reach(rt: HostRuntime) -> Result<(), Fail> {
+    let rows = [
+        row(0, Base::Sp, 8, Ra::Fixed, None, false),
+        row(1, Base::Sp, 16, Ra::Fixed, Some(-16), false),
+        row(4, Base::Fp, 16, Ra::Fixed, Some(-16), false),
+        row(5, Base::Sp, 8, Ra::Fixed, Some(-16), false),
+    ];
+    let near = section_of(rt.alloc(), Arch::Amd64, 0x8000_301b, 6, Key::A, &rows)??;
+    let expected =
+        b"\xe2\xde\x02\x05\x03\x00\xf8\x00\x01\x00\x00\x00\x04\x00\x00\x00\x0f\x00\x00\x00\x00\x00\x00\x00\x14\x00\x00\x00\
+\xff\xff\xff\x7f\x06\x00\x00\x00\x00\x00\x00\x00\x04\x00\x00\x00\x00\x00\x00\x00\
+\x00\x03\x08\x01\x05\x10\xf0\x04\x04\x10\xf0\x05\x05\x08\xf0";
+    assert_eq!(rt; near.as_slice(), expected.as_slice());
     let far = section_of(rt.alloc(), Arch::Amd64, 0x8000_301c, 6, Key::A, &rows)?;
     assert!(rt; far.is_err_and(|fault| fault == WriteFault::OutOfReach(0x8000_301c)));
     Ok(())

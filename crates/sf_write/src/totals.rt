@@ -1,7 +1,8 @@
 //! How much a section holds in all.
 
 ghost use Rattle.std.specs.Prelude.{◌≡◌, ◌≤◌, ◌^◌, ◌*◌};
-ghost use Rattle.sf_write.specs.Section.{row_count, row_section_len};
+ghost use Rattle.sf_model.specs.Table.{row_count};
+ghost use Rattle.sf_write.specs.Section.{row_section_len};
 
 use crate::row::rows_len_of;
 use sf_model::Func;

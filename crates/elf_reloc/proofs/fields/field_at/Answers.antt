@@ -1,6 +1,6 @@
 use Rattle.std.proofs.Common.{◌≡◌, ◌≤◌, ltb, ltb-true, ltb-false, sym, ap, ◌∙◌, get_or, subst, ℕ, arith, rules, is_some}
 use Rattle.std.proofs.lemmas.List.Sorted.{IsPartitionPoint-from_clause, IsPartitionedBy-ltb}
-use Rattle.elf_reloc.specs.Order.{field_place}
+use Rattle.sf_bytes.specs.Rising.{field_place}
 use Rattle.sf_bytes.specs.declared.field.Field.{Field}
 use Rattle.elf_reloc.proofs.First.{found, missed, past}
 use Rattle.elf_reloc.proofs.fields.field_at.Goals as goal

@@ -1,6 +1,8 @@
 use Rattle.std.proofs.Common.{◌≡◌, drop}
-use Rattle.sf_asm.specs.Order.{are_apart}
+use Rattle.sf_asm.specs.Entry.{spans_of}
+use Rattle.sf_asm.specs.Linking.{overlap_in}
+use Rattle.sf_asm.proofs.Overlaps.{overlap_after}
 use Rattle.sf_asm.proofs.gathering.check_overlap.Given as goal
 
 abbrev pub invariant-loop-entry : goal.invariant-loop-entry
-invariant-loop-entry l = are_apart 0 l.entries ≡ are_apart l.end (drop l.entry-index l.entries)
+invariant-loop-entry l = overlap_in (spans_of l.entries) ≡ overlap_after l.before (spans_of (drop l.entry-index l.entries))

@@ -5,8 +5,6 @@ use Rattle.sf_run.proofs.deliver.deliver.Goals as goal
 pub returns-then-is_err-2 : goal.returns-then-is_err-2
 returns-then-is_err-2 g c =
     inr record {
-      section = c.args.made.now.section.items;
-      text = c.args.made.now.text.items;
       file = grind (arith, common_steps);
       output = grind (arith, common_steps);
       cause = grind (arith, common_steps);

@@ -1,5 +1,6 @@
 use Rattle.std.proofs.Common.{◌≡◌, ◌*◌, ◌≤◌, take}
-use Rattle.sf_write.specs.Section.{row_count, row_section_len}
+use Rattle.sf_model.specs.Table.{row_count}
+use Rattle.sf_write.specs.Section.{row_section_len}
 use Rattle.sf_write.proofs.totals.totals_of.Given as goal
 
 abbrev pub invariant-loop-func : goal.invariant-loop-func

@@ -1,0 +1,56 @@
+-- The limits of functions and rows.
+use Rattle.std.specs.Prelude.{nat_lt}
+use Rattle.std.proofs.Common.{◌≡◌, ℕ, ◌+◌, ◌^◌, ◌<◌, ◌≤◌, Bool, true, false, cond, List, [], ◌∷◌, ◌++◌, length, take, drop, drop-cons, suc, get_or, sum_by, Option, Some, None, Result, Ok, Err, refl, sym, ap, ◌∙◌, arith, ltb}
+use Rattle.std.proofs.lemmas.Bool.{lt-ltb, le-ltb, ltb-false}
+use Rattle.std.proofs.lemmas.List.{take_all}
+use Rattle.std.proofs.lemmas.List.Sums.{sum_by-take-drop, sum_by-cons}
+use Rattle.sf_asm.specs.declared.entry.Entry.{Entry}
+use Rattle.sf_asm.specs.declared.fault.GatherFault.{GatherFault}
+use Rattle.sf_asm.specs.declared.fault.GatherFault.TheVariants as gather
+use Rattle.sf_asm.specs.Functions.{unless}
+use Rattle.sf_asm.specs.Linking.{limits_fault}
+use Rattle.sf_asm.specs.Order.{entry_rows, rows_of}
+
+abbrev by_tests : (functions rows : Bool) → Option GatherFault
+by_tests functions rows = cond functions (Some gather.TooManyFunctions) (cond rows (Some gather.TooManyRows) None)
+
+tested : (entries : List Entry) (functions rows : Bool) → nat_lt (2 ^ 21) (length entries) ≡ functions → nat_lt (2 ^ 24) (sum_by entry_rows entries) ≡ rows → limits_fault entries ≡ by_tests functions rows
+unfolding limits_fault
+tested entries functions rows p q = rw (p, q) refl
+
+pub too_many_functions : (entries : List Entry) → 2 ^ 21 < length entries → limits_fault entries ≡ Some gather.TooManyFunctions
+too_many_functions entries many = tested entries true (nat_lt (2 ^ 24) (sum_by entry_rows entries)) (lt-ltb (2 ^ 21) (length entries) many) refl
+
+pub too_many_rows : (entries : List Entry) → length entries ≤ 2 ^ 21 → 2 ^ 24 < sum_by entry_rows entries → limits_fault entries ≡ Some gather.TooManyRows
+too_many_rows entries few many = tested entries false true (le-ltb (2 ^ 21) (length entries) few) (lt-ltb (2 ^ 24) (sum_by entry_rows entries) many)
+
+pub within_limits : (entries : List Entry) → length entries ≤ 2 ^ 21 → sum_by entry_rows entries ≤ 2 ^ 24 → limits_fault entries ≡ None
+within_limits entries few small = tested entries false false (le-ltb (2 ^ 21) (length entries) few) (le-ltb (2 ^ 24) (sum_by entry_rows entries) small)
+
+-- ---- sums of rows so far
+pub more_rows : (entries : List Entry) (i : ℕ) (entry : Entry) → i < length entries → entry ≡ get_or entries i entry → sum_by entry_rows (take i entries) + rows_of entry.outcome ≤ sum_by entry_rows entries
+more_rows entries i entry lt e =
+    let whole = sum_by-take-drop entry_rows entries i in
+    let left : drop i entries ≡ get_or entries i entry ∷ drop (suc i) entries = drop-cons entries i entry lt in
+    let sum : sum_by entry_rows (drop i entries) ≡ entry_rows (get_or entries i entry) + sum_by entry_rows (drop (suc i) entries) = ap (sum_by entry_rows) left ∙ sum_by-cons entry_rows (get_or entries i entry) (drop (suc i) entries) in
+    let one : entry_rows entry ≡ entry_rows (get_or entries i entry) = ap entry_rows e in
+    omega (arith, whole, sum, one)
+
+pub all_rows : (entries : List Entry) (i : ℕ) → length entries ≤ i → sum_by entry_rows (take i entries) ≡ sum_by entry_rows entries
+all_rows entries i le = ap (sum_by entry_rows) (take_all i entries le)
+
+-- and back
+functions_within : (entries : List Entry) (b : Bool) → nat_lt (2 ^ 21) (length entries) ≡ b → limits_fault entries ≡ None → b ≡ false
+functions_within entries false p h = refl
+functions_within entries true p h = let is = sym (tested entries true (nat_lt (2 ^ 24) (sum_by entry_rows entries)) p refl) ∙ h in cc
+
+rows_within : (entries : List Entry) (b : Bool) → nat_lt (2 ^ 24) (sum_by entry_rows entries) ≡ b → limits_fault entries ≡ None → b ≡ false
+rows_within entries false p h = refl
+rows_within entries true p h =
+    let is = sym (tested entries false true (functions_within entries (nat_lt (2 ^ 21) (length entries)) refl h) p) ∙ h in cc
+
+pub few_functions : (entries : List Entry) → limits_fault entries ≡ None → length entries ≤ 2 ^ 21
+few_functions entries h = ltb-false (2 ^ 21) (length entries) (functions_within entries (nat_lt (2 ^ 21) (length entries)) refl h)
+
+pub few_rows : (entries : List Entry) → limits_fault entries ≡ None → sum_by entry_rows entries ≤ 2 ^ 24
+few_rows entries h = ltb-false (2 ^ 24) (sum_by entry_rows entries) (rows_within entries (nat_lt (2 ^ 24) (sum_by entry_rows entries)) refl h)

@@ -1,0 +1,32 @@
+//! Laws: what the kept functions of inputs recover, and the walks over them.
+
+ghost use Rattle.std.specs.Prelude.{◌≡◌, ℕ, List, None, Result, map};
+ghost use Rattle.std.specs.Option.{option_map};
+ghost use Rattle.sf_model.specs.declared.recovery.Regs.{Regs};
+ghost use Rattle.sf_model.specs.Memory.{Region};
+ghost use Rattle.sf_model.specs.Walk.{ThreadState, recover_by_rows, section_walk};
+ghost use Rattle.sf_express.specs.Alike.{defined};
+ghost use Rattle.sf_asm.specs.declared.entry.Entry.{Entry};
+ghost use Rattle.sf_asm.specs.declared.fault.LinkFault.{LinkFault};
+ghost use Rattle.sf_asm.specs.Entry.{kept_of, spans_of};
+ghost use Rattle.sf_asm.specs.Faithful.{dwarf_walk, recovered_at};
+ghost use Rattle.sf_asm.specs.Functions.{Function, Object};
+ghost use Rattle.sf_asm.specs.Kept.{entry_of};
+ghost use Rattle.sf_asm.specs.Linking.{InOrder, Links, overlap_in};
+
+/// Where no two functions overlap, the kept ones by rising start recover at each address what DWARF's rules
+/// (DWARF 5, section 6.4.1) recover there in the kept function that has the address, and nothing where none
+/// has it, for all registers and memory.
+pub fn kept_functions_recover_alike()
+    ensures { (functions : List Function) (ordered : List Entry) → InOrder (map entry_of functions) ordered → overlap_in (spans_of ordered) ≡ None → (address : ℕ) (regs : Regs) (memory : List Region) → option_map defined (recover_by_rows (kept_of ordered) memory address regs) ≡ recovered_at functions memory address regs }
+{}
+
+/// And so the walk of each thread over them is the walk by DWARF, with any memory and to any depth.
+pub fn walks_are_alike()
+    ensures { (functions : List Function) (ordered : List Entry) → InOrder (map entry_of functions) ordered → overlap_in (spans_of ordered) ≡ None → (thread : ThreadState) (memory : List Region) (depth : ℕ) → section_walk (kept_of ordered) thread memory depth ≡ dwarf_walk functions thread memory depth }
+{}
+
+/// Linking inputs comes to one result: the functions in order, or the first fault.
+pub fn linking_comes_to_one_result()
+    ensures { (objects : List Object) (at : ℕ) (one other : Result (List Entry) LinkFault) → Links objects at one → Links objects at other → one ≡ other }
+{}

@@ -1,6 +1,0 @@
-use Rattle.std.proofs.Common.{rules}
-use Rattle.sf_sizes.proofs.Least.{two_is_least}
-use Rattle.sf_sizes.proofs.width.row_type.Goals as goal
-
-pub returns-else-last-le65535-clause-least : goal.returns-else-last-le65535-clause-least
-returns-else-last-le65535-clause-least c = two_is_least _ (search rules) (search rules) (search rules)
