@@ -1,0 +1,6 @@
+pub mod Rows
+pub mod Numbered
+pub mod Searched
+pub mod Halving
+pub mod Checked
+pub mod FoundRows

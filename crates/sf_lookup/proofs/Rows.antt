@@ -1,0 +1,110 @@
+-- The latest of rising rows that begins by an offset.
+use Rattle.std.specs.Prelude.{nat_le, ◌&&◌, if◌then◌else◌}
+use Rattle.std.specs.List.{filter, find, AllAdjacentBelow}
+use Rattle.std.proofs.Common.{◌≡◌, ℕ, zero, suc, ◌+◌, ◌<◌, ◌≤◌, Bool, true, false, cond, List, [], ◌∷◌, length, Option, Some, None, get_or, refl, sym, ap, subst, ◌∙◌, arith}
+use Rattle.std.proofs.lemmas.Bool.{lt-leb, le-leb, leb-true, leb-false}
+use Rattle.sf_model.specs.declared.rows.Row.{Row}
+use Rattle.sf_model.specs.Function.{RowsRise}
+use Rattle.sf_model.specs.Lookup.{begins_by, begins_last, row_at}
+
+-- the latest row, or the one found before; it ends at the first row that begins behind the offset
+abbrev pub latest : (offset : ℕ) → Option Row → List Row → Option Row
+latest offset found [] = found
+latest offset found (r ∷ rows) = if nat_le r.start offset then latest offset (Some r) rows else found
+
+-- each start is above the one before, and the first at least this
+abbrev Rise : (least : ℕ) → List Row → Type 0
+Rise least [] = Unit {0}
+Rise least (r ∷ rows) = (least ≤ r.start) × Rise (r.start + 1) rows
+
+-- the same of all but the first
+later_rise : (r : Row) (rows : List Row) → RowsRise (r ∷ rows) → RowsRise rows
+later_rise r rows h k d lt =
+    let same : suc k + 1 ≡ suc (k + 1) = omega arith in
+    subst (λ j. (get_or rows k d).start < (get_or (r ∷ rows) j d).start) same (h (suc k) d (omega (lt, arith)))
+
+rises_on : (r : Row) (rows : List Row) → RowsRise (r ∷ rows) → Rise (r.start + 1) rows
+rises_on r [] h = tt
+rises_on r (s ∷ rows) h =
+    let first : r.start < s.start = h 0 r (omega arith) in
+    (omega (first, arith), rises_on s rows (later_rise r (s ∷ rows) h))
+
+rises : (rows : List Row) → RowsRise rows → Rise 0 rows
+rises [] h = tt
+rises (r ∷ rows) h = (omega arith, rises_on r rows h)
+
+rise_lower : (least more : ℕ) (rows : List Row) → least ≤ more → Rise more rows → Rise least rows
+rise_lower least more [] le h = tt
+rise_lower least more (r ∷ rows) le h = (omega (le, h.0, arith), h.1)
+
+-- rows that all begin behind the offset
+none_begun : (offset least : ℕ) (rows : List Row) → offset < least → Rise least rows → filter (begins_by offset) rows ≡ []
+none_begun offset least [] lt h = refl
+none_begun offset least (r ∷ rows) lt h =
+    let behind : offset < r.start = omega (lt, h.0, arith) in
+    let later : filter (begins_by offset) rows ≡ [] = none_begun offset (r.start + 1) rows (omega (behind, arith)) h.1 in
+    rw (lt-leb r.start offset behind, later) refl
+
+-- the last row of a list, or the one found before
+abbrev last_or : Option Row → List Row → Option Row
+last_or found [] = found
+last_or found (r ∷ rows) = last_or (Some r) rows
+
+latest_is : (offset least : ℕ) (found : Option Row) (rows : List Row) → Rise least rows → latest offset found rows ≡ last_or found (filter (begins_by offset) rows)
+latest_is offset least found [] h = refl
+latest_is offset least found (r ∷ rows) h = by_test (nat_le r.start offset) refl (latest_is offset (r.start + 1) (Some r) rows h.1) (none_begun offset (r.start + 1) rows)
+  where
+    by_test : (b : Bool) → nat_le r.start offset ≡ b → latest offset (Some r) rows ≡ last_or (Some r) (filter (begins_by offset) rows)
+        → (offset < r.start + 1 → Rise (r.start + 1) rows → filter (begins_by offset) rows ≡ [])
+        → latest offset found (r ∷ rows) ≡ last_or found (filter (begins_by offset) (r ∷ rows))
+    by_test true e begun none = rw e begun
+    by_test false e begun none =
+        let behind : offset < r.start = leb-false r.start offset e in
+        let nothing = none (omega (behind, arith)) h.1 in
+        rw (e, nothing) refl
+
+-- of rising rows the last is the one with the greatest start
+rise_filter : (p : Row → Bool) (least : ℕ) (rows : List Row) → Rise least rows → Rise least (filter p rows)
+rise_filter p least [] h = tt
+rise_filter p least (r ∷ rows) h = by_test (p r) (rise_filter p (r.start + 1) rows h.1)
+  where
+    by_test : (b : Bool) → Rise (r.start + 1) (filter p rows) → Rise least (cond b (r ∷ filter p rows) (filter p rows))
+    by_test true later = (h.0, later)
+    by_test false later = rise_lower least (r.start + 1) (filter p rows) (omega (arith, h.0)) later
+
+one_earlier : (r x : Row) (others : List Row) → r.start < x.start → begins_last (r ∷ others) x ≡ begins_last others x
+one_earlier r x others lt =
+    let below : r.start ≤ x.start = omega (arith, lt) in
+    ap (λ (b : Bool). b && begins_last others x) (le-leb r.start x.start below)
+
+without_earlier : (r : Row) (least : ℕ) (others rows : List Row) → r.start < least → Rise least rows → find (begins_last (r ∷ others)) rows ≡ find (begins_last others) rows
+without_earlier r least others [] lt h = refl
+without_earlier r least others (x ∷ rows) lt h =
+    let first : r.start < x.start = omega (arith, lt, h.0) in
+    ap (λ (b : Bool). cond b (Some x) (find (begins_last (r ∷ others)) rows)) (one_earlier r x others first)
+    ∙ ap (λ (y : Option Row). cond (begins_last others x) (Some x) y) (without_earlier r (x.start + 1) others rows (omega (arith, first)) h.1)
+
+itself : (r : Row) → nat_le r.start r.start ≡ true
+itself r = le-leb r.start r.start (omega arith)
+
+not_last : (r s : Row) (rows : List Row) → r.start < s.start → begins_last (r ∷ s ∷ rows) r ≡ false
+not_last r s rows lt = rw (itself r, lt-leb s.start r.start lt) refl
+
+last_is : (least : ℕ) (rows : List Row) → Rise least rows → find (begins_last rows) rows ≡ last_or None rows
+last_is least [] h = refl
+last_is least (r ∷ []) h = rw (itself r) refl
+last_is least (r ∷ s ∷ rows) h =
+    ap (λ (b : Bool). cond b (Some r) (find (begins_last (r ∷ s ∷ rows)) (s ∷ rows))) (not_last r s rows (omega (arith, h.1.0)))
+    ∙ without_earlier r (r.start + 1) (s ∷ rows) (s ∷ rows) (omega arith) h.1
+    ∙ last_is (r.start + 1) (s ∷ rows) h.1
+
+-- the latest of a function's rows is the one that holds
+pub latest_holds : (offset : ℕ) (rows : List Row) → RowsRise rows → latest offset None rows ≡ row_at offset rows
+unfolding row_at
+latest_holds offset rows h =
+    let rise = rises rows h in
+    latest_is offset 0 None rows rise ∙ sym (last_is 0 (filter (begins_by offset) rows) (rise_filter (begins_by offset) 0 rows rise))
+
+-- a row that begins behind the offset ends the search
+pub latest_stops : (offset : ℕ) (found : Option Row) (r : Row) (rows : List Row) → offset < r.start → latest offset found (r ∷ rows) ≡ found
+latest_stops offset found r rows lt = rw (lt-leb r.start offset lt) refl

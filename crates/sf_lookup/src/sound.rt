@@ -1,0 +1,30 @@
+//! What was checked of the functions of a section.
+
+ghost use Rattle.std.specs.Prelude.{◌<◌, All, IsTrue, length};
+ghost use Rattle.sf_model.specs.declared.rows.Row.{Row as row};
+ghost use Rattle.sf_model.specs.Content.{content_fits};
+ghost use Rattle.sf_model.specs.Function.{RowsRise, shape_fits};
+ghost use Rattle.sf_model.specs.Section.{is_sorted};
+ghost use Rattle.sf_decode.specs.View.{table_of, function_of};
+ghost use Rattle.sf_lookup.specs.Starts.{Apart};
+
+use sf_decode::{View, functions_are_numbered, view_is_a_section};
+
+/// A function's rows rise, its repeat size isn't 0, and its contents are those of the machine.
+pub fn function_is_sound(view: &View<'_>, i: u32)
+    requires { i < length (table_of view.now).functions }
+    ensures rise { RowsRise (function_of view.now i).rows }
+    ensures shape { IsTrue (shape_fits (function_of view.now i).shape) }
+    ensures fits { All (λ (r : row). IsTrue (content_fits (table_of view.now).arch r.content)) (function_of view.now i).rows }
+{
+    view_is_a_section(view);
+    functions_are_numbered(view);
+}
+
+/// Where the functions are sorted, each ends where the next starts, or before.
+pub fn functions_stand_apart(view: &View<'_>)
+    requires { IsTrue (is_sorted (table_of view.now).flags) }
+    ensures { Apart (table_of view.now).functions }
+{
+    view_is_a_section(view);
+}
