@@ -55,14 +55,14 @@ pub record IsSectionWord (word : List ℕ) (section : SectionWords) : Type 0 whe
 pub record IsDump (words : List (List ℕ)) (section : SectionWords) : Type 0 where
   pub section_word : List ℕ
   pub words_are : words ≡ codes "dump" ∷ section_word ∷ []
-  pub section : IsSectionWord section_word section
+  pub named : IsSectionWord section_word section
 
 -- the words ask for the row of this section at this address
 pub record IsLookup (words : List (List ℕ)) (section : SectionWords) (pc : ℕ) : Type 0 where
   pub section_word : List ℕ
   pub address_word : List ℕ
   pub words_are : words ≡ codes "lookup" ∷ section_word ∷ address_word ∷ []
-  pub section : IsSectionWord section_word section
+  pub named : IsSectionWord section_word section
   pub address : SpellsHexadecimal address_word pc
 
 -- what a command line asks for
