@@ -100,6 +100,7 @@ shows_status section contents query wanted text h = of_query query wanted h.show
     of_found : (found : Option FoundRow) (wanted : Status) → wanted ≡ found_status found → (wanted ≡ status.Done) ⊎ (wanted ≡ status.No)
     of_found None wanted e = inr e
     of_found (Some row) wanted e = inl e
+
     of_query : (query : Query) (wanted : Status) → Shows query h.table wanted text → (wanted ≡ status.Done) ⊎ (wanted ≡ status.No)
     of_query asked.Whole wanted s = inl s.0
     of_query (asked.RowAt pc) wanted s = of_found (found_at h.table.functions pc) wanted s.0

@@ -2,16 +2,18 @@
 
 mod linked;
 mod refused;
+mod shown;
 
 use crate::{Status, run};
 use linked::LINKED;
 use refused::REFUSED;
 use sf_base::{MemFiles, MemSink};
+use shown::SHOWN;
 use std::alloc::{AllocError, Global};
 use std::process::Abort;
 use std::test::Fail;
 
-/// A run of `link` over one file: what it leaves.
+/// A run over one file: what it leaves.
 struct Case {
     shows: &'static str,
     words: &'static str,
@@ -95,6 +97,14 @@ fn links_print_and_write_what_is_expected(rt: HostRuntime) -> Result<(), Fail> {
 #[test]
 fn refused_runs_leave_their_lines(rt: HostRuntime) -> Result<(), Fail> {
     for case in &REFUSED {
+        expect_case(&rt, rt.alloc(), case)?;
+    }
+    Ok(())
+}
+
+#[test]
+fn sections_are_shown(rt: HostRuntime) -> Result<(), Fail> {
+    for case in &SHOWN {
         expect_case(&rt, rt.alloc(), case)?;
     }
     Ok(())
