@@ -1,10 +1,9 @@
 -- Halving the numbers that may be the last start.
-use Rattle.std.specs.Prelude.{slice_index, ◌==◌, if◌then◌else◌}
-use Rattle.std.specs.List.Sorted.{IsNonDecreasingBy}
-use Rattle.std.proofs.Common.{◌≡◌, ℕ, zero, suc, ◌+◌, ◌-◌, ◌*◌, ◌/◌, ◌^◌, ◌<◌, ◌≤◌, List, length, Option, Some, None, refl, sym, ap, subst, ◌∙◌, arith}
+use Rattle.std.specs.Prelude.{slice_index}
+use Rattle.std.proofs.Common.{◌≡◌, ℕ, suc, ◌+◌, ◌-◌, ◌*◌, ◌/◌, ◌^◌, ◌<◌, ◌≤◌, List, length, ap, subst, ◌∙◌, arith}
 use Rattle.std.proofs.Math.Nat.{pow-suc, mul_assoc, mul-le-mul_left, le-mul_of_pos_right}
 use Rattle.std.proofs.lemmas.List.Sorted.{IsNonDecreasingBy-from_all_adjacent}
-use Rattle.sf_lookup.specs.Starts.{NeverFall, IsLastStart}
+use Rattle.sf_lookup.specs.Starts.{NeverFall}
 
 -- Each address before `low` is reached, and none from `high` on; so many steps were taken, and so many are left at most.
 pub record Halving (starts : List ℕ) (pc low high before now : ℕ) : Type 0 where

@@ -1,8 +1,8 @@
 -- The latest of rising rows that begins by an offset.
 use Rattle.std.specs.Prelude.{nat_le, ◌&&◌, if◌then◌else◌}
-use Rattle.std.specs.List.{filter, find, AllAdjacentBelow}
-use Rattle.std.proofs.Common.{◌≡◌, ℕ, zero, suc, ◌+◌, ◌<◌, ◌≤◌, Bool, true, false, cond, List, [], ◌∷◌, length, Option, Some, None, get_or, refl, sym, ap, subst, ◌∙◌, arith}
-use Rattle.std.proofs.lemmas.Bool.{lt-leb, le-leb, leb-true, leb-false}
+use Rattle.std.specs.List.{filter, find}
+use Rattle.std.proofs.Common.{◌≡◌, ℕ, suc, ◌+◌, ◌<◌, ◌≤◌, Bool, true, false, cond, List, [], ◌∷◌, Option, Some, None, get_or, refl, sym, ap, subst, ◌∙◌, arith}
+use Rattle.std.proofs.lemmas.Bool.{lt-leb, le-leb, leb-false}
 use Rattle.sf_model.specs.declared.rows.Row.{Row}
 use Rattle.sf_model.specs.Function.{RowsRise}
 use Rattle.sf_model.specs.Lookup.{begins_by, begins_last, row_at}

@@ -1,8 +1,9 @@
 -- What the last start at or below an address says of functions that stand apart.
-use Rattle.std.specs.Prelude.{nat_le, nat_lt, ◌&&◌, map, slice_index}
-use Rattle.std.specs.List.{find, AllAdjacentBelow}
-use Rattle.std.specs.List.Sorted.{IsNonDecreasingBy}
-use Rattle.std.proofs.Common.{◌≡◌, ℕ, zero, suc, ◌+◌, ◌<◌, ◌≤◌, Bool, true, false, cond, List, [], ◌∷◌, length, get_or, Option, Some, None, refl, sym, ap, subst, ◌∙◌, arith, ◌⊎◌, inl, inr}
+use Rattle.std.specs.Prelude.{nat_le, ◌&&◌, slice_index}
+use Rattle.std.specs.List.{find}
+use Rattle.std.specs.Bool.{then_some}
+use Rattle.std.specs.Option.{option_map}
+use Rattle.std.proofs.Common.{◌≡◌, ℕ, ◌+◌, ◌<◌, ◌≤◌, Bool, true, false, List, [], length, get_or, Some, None, refl, sym, ap, subst, ◌∙◌, arith, ◌⊎◌, inl, inr}
 use Rattle.std.proofs.lemmas.Bool.{lt-leb, le-ltb, cases_lt}
 use Rattle.std.proofs.lemmas.List.{get_or-map, length-map}
 use Rattle.std.proofs.lemmas.List.Sorted.{IsNonDecreasingBy-from_all_adjacent}
@@ -19,7 +20,7 @@ start_is functions i d lt = get_or-map (λ (f : Func). f.start) functions i d 0 
 pub starts_length : (functions : List Func) → length (starts_of functions) ≡ length functions
 starts_length functions = length-map functions (λ (f : Func). f.start)
 
--- a start that never falls
+-- no later start is below
 start_rises : (functions : List Func) → Apart functions → (i j : ℕ) (d : Func) → i ≤ j → j < length functions → (get_or functions i d).start ≤ (get_or functions j d).start
 start_rises functions apart = IsNonDecreasingBy-from_all_adjacent (λ (f : Func). f.start) functions (λ k d lt. let one = apart k d lt in omega (one, arith))
 
@@ -58,7 +59,7 @@ none_reached functions pc h = none_passes (contains pc) functions (λ k d lt.
     let behind = h k (omega (lt, starts_length functions, arith)) in
     starts_behind pc (get_or functions k d) (omega (start, behind, arith)))
 
-pub last_contains : (functions : List Func) (pc i : ℕ) (f : Func) → Apart functions → IsLastStart (starts_of functions) pc (Some i) → get_or functions i f ≡ f → contains pc f ≡ true
+last_contains : (functions : List Func) (pc i : ℕ) (f : Func) → Apart functions → IsLastStart (starts_of functions) pc (Some i) → get_or functions i f ≡ f → contains pc f ≡ true
     → find (contains pc) functions ≡ Some f
 last_contains functions pc i f apart h at t =
     let within : i < length functions = omega (h.0, starts_length functions, arith) in
@@ -67,7 +68,7 @@ last_contains functions pc i f apart h at t =
     let start = start_is functions i e within in
     ends_by pc (get_or functions k e) (omega (ends, start, h.1, arith))) (ap (contains pc) at ∙ t) ∙ ap Some at
 
-pub last_contains_not : (functions : List Func) (pc i : ℕ) (f : Func) → Apart functions → IsLastStart (starts_of functions) pc (Some i) → ((d : Func) → get_or functions i d ≡ f) → contains pc f ≡ false
+last_contains_not : (functions : List Func) (pc i : ℕ) (f : Func) → Apart functions → IsLastStart (starts_of functions) pc (Some i) → ((d : Func) → get_or functions i d ≡ f) → contains pc f ≡ false
     → find (contains pc) functions ≡ None
 last_contains_not functions pc i f apart h numbered t = none_passes (contains pc) functions one_fails
   where
@@ -89,6 +90,12 @@ last_contains_not functions pc i f apart h numbered t = none_passes (contains pc
     one_fails : (k : ℕ) (d : Func) → k < length functions → contains pc (get_or functions k d) ≡ false
     one_fails k d lt = by_order k d lt (cases_lt k i)
 
--- how many of the functions start by the address is not above their number
+-- the last that starts by the address is one of the functions
 pub last_within : (functions : List Func) (pc i : ℕ) → IsLastStart (starts_of functions) pc (Some i) → i < length functions
 last_within functions pc i h = omega (h.0, starts_length functions, arith)
+
+-- the last function that starts by the address is the first that contains it, or none does
+pub last_decides : (functions : List Func) (pc i : ℕ) (function_of : ℕ → Func) (b : Bool) → Apart functions → IsLastStart (starts_of functions) pc (Some i)
+    → ((d : Func) → get_or functions i d ≡ function_of i) → contains pc (function_of i) ≡ b → option_map function_of (then_some b i) ≡ find (contains pc) functions
+last_decides functions pc i function_of true apart h numbered t = sym (last_contains functions pc i (function_of i) apart h (numbered (function_of i)) t)
+last_decides functions pc i function_of false apart h numbered t = sym (last_contains_not functions pc i (function_of i) apart h numbered t)

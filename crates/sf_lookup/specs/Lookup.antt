@@ -1,6 +1,4 @@
 -- GNU SFrame specification, Version 2: what a look-up answers.
-use Rattle.std.specs.Prelude.{Option}
-use Rattle.std.specs.Option.{option_map}
 use Rattle.sf_model.specs.Lookup.{FoundRow}
 use Rattle.sf_decode.specs.View.{head_of}
 use Rattle.sf_lookup.specs.declared.lookup.Found.{Found}

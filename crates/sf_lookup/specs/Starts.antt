@@ -1,4 +1,5 @@
--- Start addresses in a row, and the last of them that an address has reached.
+-- GNU SFrame specification, Version 2, function descriptor entries: their starts in order, and the last one that an address has
+-- reached.
 use Rattle.std.specs.Prelude.{◌+◌, ◌<◌, ◌≤◌, ℕ, List, length, map, slice_index, Option, Some, None}
 use Rattle.std.specs.List.{AllAdjacentBelow}
 use Rattle.sf_model.specs.declared.function.Func.{Func}

@@ -1,6 +1,18 @@
-//! Look-up in SFrame sections: the function and the row that hold at an address, and what they recover.
+//! Look-up in SFrame Version 2 sections.
+//!
+//! [`find`] answers the function and the row that hold at an address: `found_at` of `sf_model`, over the
+//! functions of the view's table. [`recover_at`] answers what that row recovers of the caller's frame, by the
+//! present registers and a memory: `recover_by_rows` of `sf_model`. Both answer None exactly where no row
+//! holds. [`last_start`] answers the greatest number whose address is not above this one, over any
+//! [`Starts`]; it learns an address by a counted read alone, and of n addresses it reads at most k, where
+//! 2^k <= 2n + 1. [`Steps`] is the count, as contracts see it; it takes no bytes.
+//!
+//! The caller owes `last_start` that no address is below the one before it ([`starts_never_fall`] says so of a
+//! sorted section), and nothing to the others. Nothing takes memory. In a sorted section `find` halves the
+//! functions, and else it goes over them; the rows of the function are then read up to the one that holds.
 #![tactic(auto)]
 
+mod function;
 mod lookup;
 mod recover;
 mod row;
@@ -12,5 +24,9 @@ mod steps;
 pub use lookup::{Found, find};
 pub use recover::recover_at;
 pub use search::last_start;
+pub use sound::starts_never_fall;
 pub use starts::Starts;
 pub use steps::Steps;
+
+#[cfg(test)]
+mod tests;

@@ -6,7 +6,7 @@ ghost use Rattle.sf_model.specs.Content.{content_fits};
 ghost use Rattle.sf_model.specs.Function.{RowsRise, shape_fits};
 ghost use Rattle.sf_model.specs.Section.{is_sorted};
 ghost use Rattle.sf_decode.specs.View.{table_of, function_of};
-ghost use Rattle.sf_lookup.specs.Starts.{Apart};
+ghost use Rattle.sf_lookup.specs.Starts.{Apart, NeverFall, starts_of};
 
 use sf_decode::{View, functions_are_numbered, view_is_a_section};
 
@@ -21,10 +21,19 @@ pub fn function_is_sound(view: &View<'_>, i: u32)
     functions_are_numbered(view);
 }
 
-/// Where the functions are sorted, each ends where the next starts, or before.
+/// Where the functions are sorted, each ends where the next one starts, or before.
 pub fn functions_stand_apart(view: &View<'_>)
     requires { IsTrue (is_sorted (table_of view.now).flags) }
     ensures { Apart (table_of view.now).functions }
 {
     view_is_a_section(view);
+}
+
+/// Where the functions are sorted, no start is below the one before it: what `last_start` asks of a view.
+#[tactic(auto, using(crate::proofs::Searched::never_fall))]
+pub fn starts_never_fall(view: &View<'_>)
+    requires { IsTrue (is_sorted (table_of view.now).flags) }
+    ensures { NeverFall (starts_of (table_of view.now).functions) }
+{
+    functions_stand_apart(view);
 }

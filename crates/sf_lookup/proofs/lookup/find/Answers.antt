@@ -1,39 +1,33 @@
-use Rattle.std.proofs.Common.{◌≡◌, ◌≤◌, ap, sym, ◌∙◌, None, Some, Option, arith}
-use Rattle.sf_model.specs.declared.rows.Row.{Row}
+use Rattle.std.proofs.Common.{ap, ◌∙◌, None, Some, arith}
 use Rattle.sf_model.specs.declared.function.FuncHead.{FuncHead}
 use Rattle.sf_decode.specs.View.{table_of, function_of, rows_left}
 use Rattle.sf_lookup.proofs.FoundRows.{found_in, nothing_found, row_asked, row_fits, starts_by}
 use Rattle.sf_lookup.proofs.lookup.find.Goals as goal
 
--- src/lookup.rt:120:13
 pub returns-in_err-i-clause-found : goal.returns-in_err-i-clause-found
 returns-in_err-i-clause-found c = c.from_residual.ensures ∙ nothing_found (table_of c.args.view.now).functions c.args.pc c.in_err-i.ensures.first
 
--- src/lookup.rt:123:64
 pub overflow_sub-pc : goal.overflow_sub-pc
 overflow_sub-pc c =
     let same = ap (λ (h : FuncHead). h.start) c.func-func.ensures in
     let by = starts_by (table_of c.args.view.now).functions c.args.pc (function_of c.args.view.now c.in_ok-i.i) c.in_ok-i.ensures.first in
     omega (same, by, arith)
 
--- src/lookup.rt:123:15
 pub returns-in_err-row-clause-found : goal.returns-in_err-row-clause-found
 returns-in_err-row-clause-found c =
     let f = function_of c.args.view.now c.in_ok-i.i in
     c.from_residual-in_err-row.ensures
     ∙ found_in (table_of c.args.view.now).functions c.args.pc f None c.in_ok-i.ensures.first
-    (row_asked c.args.pc f c.func-func.result (rows_left c.rows.result) c.offset_in_block.result None c.func-func.ensures c.rows.ensures c.offset_in_block.ensures c.in_err-row.ensures)
+    (row_asked c.args.pc f c.func-func.result (rows_left c.rows.result) c.offset_in_block-offset.result None c.func-func.ensures c.rows.ensures c.offset_in_block-offset.ensures c.in_err-row.ensures)
 
--- src/lookup.rt:116:1
 pub returns-clause-found : goal.returns-clause-found
 returns-clause-found c =
     let f = function_of c.args.view.now c.in_ok-i.i in
     ap (λ (head : FuncHead). Some (record { func = head; row = c.in_ok-row.row })) c.func-func.ensures
     ∙ found_in (table_of c.args.view.now).functions c.args.pc f (Some c.in_ok-row.row) c.in_ok-i.ensures.first
-    (row_asked c.args.pc f c.func-func.result (rows_left c.rows.result) c.offset_in_block.result (Some c.in_ok-row.row) c.func-func.ensures c.rows.ensures c.offset_in_block.ensures c.in_ok-row.ensures)
+    (row_asked c.args.pc f c.func-func.result (rows_left c.rows.result) c.offset_in_block-offset.result (Some c.in_ok-row.row) c.func-func.ensures c.rows.ensures c.offset_in_block-offset.ensures c.in_ok-row.ensures)
 
--- src/lookup.rt:116:1
 pub returns-clause-fits : goal.returns-clause-fits
 returns-clause-fits c =
-    row_fits (table_of c.args.view.now).arch (function_of c.args.view.now c.in_ok-i.i).rows (rows_left c.rows.result) c.offset_in_block.result c.in_ok-row.row c.function_is_sound.ensures.fits c.rows.ensures
+    row_fits (table_of c.args.view.now).arch (function_of c.args.view.now c.in_ok-i.i).rows (rows_left c.rows.result) c.offset_in_block-offset.result c.in_ok-row.row c.function_is_sound.ensures.fits c.rows.ensures
     c.in_ok-row.ensures

@@ -7,14 +7,11 @@ sound c =
     let f = function_of c.args.view.now c.args.i in
     sound_numbered (section_bytes c.args.view.now) (section_address c.args.view.now) (table_of c.args.view.now) c.args.i f c.view_is_a_section.ensures c.requires (c.functions_are_numbered.ensures c.args.i f c.requires)
 
--- src/sound.rt:14:1
 pub returns-clause-rise : goal.returns-clause-rise
 returns-clause-rise c = (sound c).rise
 
--- src/sound.rt:14:1
 pub returns-clause-shape : goal.returns-clause-shape
 returns-clause-shape c = (sound c).shape
 
--- src/sound.rt:14:1
 pub returns-clause-fits : goal.returns-clause-fits
 returns-clause-fits c = (sound c).fits

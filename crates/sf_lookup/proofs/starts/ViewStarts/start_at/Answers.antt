@@ -1,10 +1,9 @@
-use Rattle.std.proofs.Common.{◌≡◌, ◌<◌, length, ◌∙◌, sym, ap, arith}
+use Rattle.std.proofs.Common.{◌<◌, length, ◌∙◌, sym, ap, arith}
 use Rattle.sf_model.specs.declared.function.Func.{Func}
 use Rattle.sf_decode.specs.View.{table_of, function_of}
 use Rattle.sf_lookup.proofs.Searched.{start_is, starts_length}
 use Rattle.sf_lookup.proofs.starts.ViewStarts.start_at.Goals as goal
 
--- src/starts.rt:35:5
 pub returns-clause-value : goal.returns-clause-value
 returns-clause-value g c =
     let functions = (table_of c.args.self.now).functions in
