@@ -1,6 +1,6 @@
 -- What is shown of a section, and the first refusal of its bytes.
 use Rattle.std.specs.Prelude.{nat_lt, IfSome, IfOk, IfErr, ◌⊎◌}
-use Rattle.std.proofs.Common.{◌≡◌, ℕ, ◌<◌, ◌≤◌, ◌^◌, Bool, true, false, cond, List, length, Option, Some, None, Result, Ok, Err, refl, sym, ap, subst, ◌∙◌, inl, inr}
+use Rattle.std.proofs.Common.{◌≡◌, ℕ, ◌<◌, ◌≤◌, ◌^◌, Bool, true, false, cond, List, length, Option, Some, None, Result, Ok, Err, refl, sym, subst, ◌∙◌, inl, inr}
 use Rattle.std.proofs.lemmas.Bool.{lt-ltb, le-ltb}
 use Rattle.sf_base.specs.Contents.{contents_of}
 use Rattle.sf_base.specs.Faults.{Rose}
@@ -23,10 +23,10 @@ use Rattle.sf_run.specs.declared.status.Status.TheVariants as status
 use Rattle.sf_run.specs.First.{Contents, IsInput}
 use Rattle.sf_run.specs.Lines.{read_line, memory_line, limit_line}
 use Rattle.sf_run.specs.Refused.{IsLoadRefusal}
-use Rattle.sf_run.specs.Sections.{SectionRefusing, TooLong, Decoding, refusing_of, section_first, Shows, IsShownOf, IsShown, IsSectionFirst, IsSectionExceeded, IsBytesRefusal, IsShowRefusal, IsSectionRefusal, found_status}
+use Rattle.sf_run.specs.Sections.{TooLong, Decoding, refusing_of, section_first, Shows, IsShownOf, IsShown, IsSectionFirst, IsSectionExceeded, IsShowRefusal, IsSectionRefusal, found_status}
 use Rattle.sf_run.specs.Words.{SectionWords}
 use Rattle.sf_run.specs.Ends.{FilesSeen, SinkSeen, Says, IsTurnedAway, IsUnfaulted, Tells}
-use Rattle.sf_run.specs.Showing.{AreUntouched, IsPrinted, PrintFails, ShowEnds, ShowIsComplete, Prints}
+use Rattle.sf_run.specs.Showing.{AreUntouched, ShowEnds, ShowIsComplete, Prints}
 
 -- ---- the first refusal
 by_tests : (at : ℕ) (bytes : List ℕ) (long : Bool) (check : Result (Unit {0}) DecodeFault) → nat_lt (2 ^ 29) (length bytes) ≡ long → section_check bytes at ≡ check

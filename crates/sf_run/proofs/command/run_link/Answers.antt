@@ -1,4 +1,4 @@
-use Rattle.std.proofs.Common.{◌≡◌, Err, ap, ◌∙◌}
+use Rattle.std.proofs.Common.{Err, ap, ◌∙◌}
 use Rattle.sf_run.specs.Parsed.{link_of}
 use Rattle.sf_run.specs.Ends.{files_seen, sink_seen}
 use Rattle.sf_run.proofs.Endings.{ends_from_delivers, ends_from_tells}

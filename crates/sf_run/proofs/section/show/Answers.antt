@@ -1,4 +1,4 @@
-use Rattle.std.proofs.Common.{◌≡◌, Err, ap, subst, length, ◌≤◌, ◌^◌, ◌∙◌, arith}
+use Rattle.std.proofs.Common.{Err, ap, length, ◌≤◌, ◌^◌, ◌∙◌, arith}
 use Rattle.sf_run.specs.Parsed.{section_of}
 use Rattle.sf_run.proofs.ShownSections.{shown_from, refused_from, not_loaded_is}
 use Rattle.sf_run.proofs.section.show.Goals as goal

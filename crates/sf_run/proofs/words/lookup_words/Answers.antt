@@ -1,4 +1,4 @@
-use Rattle.std.proofs.Common.{◌≡◌, List, ℕ, refl, sym, subst}
+use Rattle.std.proofs.Common.{◌≡◌, List, ℕ, subst}
 use Rattle.sf_base.specs.Word.{SpellsHexadecimal}
 use Rattle.sf_run.specs.Words.{IsSectionWord}
 use Rattle.sf_run.proofs.words.lookup_words.Goals as goal
