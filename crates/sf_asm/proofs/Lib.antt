@@ -8,3 +8,4 @@ pub mod Walking
 pub mod FaithfulSections
 pub mod OneOrder
 pub mod Worked
+pub mod Accepting

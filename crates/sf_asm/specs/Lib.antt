@@ -7,3 +7,4 @@ pub mod Linking
 pub mod Faithful
 pub mod Answers
 pub mod Told
+pub mod Accepted

@@ -1,6 +1,6 @@
 //! Laws: what the kept functions of inputs recover, and the walks over them.
 
-ghost use Rattle.std.specs.Prelude.{◌≡◌, ℕ, List, None, Result, map};
+ghost use Rattle.std.specs.Prelude.{◌≡◌, ℕ, List, None, Result, Ok, map};
 ghost use Rattle.std.specs.Option.{option_map};
 ghost use Rattle.sf_model.specs.declared.recovery.Regs.{Regs};
 ghost use Rattle.sf_model.specs.Memory.{Region};
@@ -8,6 +8,7 @@ ghost use Rattle.sf_model.specs.Walk.{ThreadState, recover_by_rows, section_walk
 ghost use Rattle.sf_express.specs.Alike.{defined};
 ghost use Rattle.sf_asm.specs.declared.entry.Entry.{Entry};
 ghost use Rattle.sf_asm.specs.declared.fault.LinkFault.{LinkFault};
+ghost use Rattle.sf_asm.specs.Accepted.{IsAccepted};
 ghost use Rattle.sf_asm.specs.Entry.{kept_of, spans_of};
 ghost use Rattle.sf_asm.specs.Faithful.{dwarf_walk, recovered_at};
 ghost use Rattle.sf_asm.specs.Functions.{Function, Object};
@@ -29,4 +30,10 @@ pub fn walks_are_alike()
 /// Linking inputs comes to one result: the functions in order, or the first fault.
 pub fn linking_comes_to_one_result()
     ensures { (objects : List Object) (at : ℕ) (one other : Result (List Entry) LinkFault) → Links objects at one → Links objects at other → one ≡ other }
+{}
+
+/// Inputs can be linked exactly where linking them comes to functions in order.
+pub fn accepted_inputs_are_linked()
+    ensures links { (objects : List Object) (at : ℕ) (h : IsAccepted objects at) → Links objects at (Ok h.ordered) }
+    ensures only { (objects : List Object) (at : ℕ) (ordered : List Entry) → Links objects at (Ok ordered) → IsAccepted objects at }
 {}

@@ -5,9 +5,10 @@
 //! functions that are left out, with their reasons, and the addresses of all. [`assemble`] writes the
 //! section of one input. An input has fewer than 2^32 bytes. Both take memory; no section is copied.
 //!
-//! [`kept_functions_recover_alike`], [`walks_are_alike`] and [`linking_comes_to_one_result`] are laws: the kept
-//! functions recover what DWARF recovers, walks over them are walks by DWARF, and what linking comes to is
-//! determined by the inputs.
+//! [`kept_functions_recover_alike`], [`walks_are_alike`], [`linking_comes_to_one_result`] and
+//! [`accepted_inputs_are_linked`] are laws: the kept functions recover what DWARF recovers, walks over them are
+//! walks by DWARF, what linking comes to is determined by the inputs, and it is a section exactly where they
+//! can be linked.
 #![tactic(auto)]
 
 mod assembling;
