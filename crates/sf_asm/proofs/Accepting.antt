@@ -47,6 +47,7 @@ none_before address end (e ∷ es) h lt =
     not_here : (b : Bool) → has_address address e.span ≡ b → (b ≡ true → ⊥) → one_if b ≡ 0
     not_here true t h = absurd (h refl)
     not_here false t h = refl
+
     at_size : (b : Bool) → eqb e.span.size 0 ≡ b → cond b (are_apart end es) (leb end e.span.start && are_apart (e.span.start + e.span.size) es) ≡ true
         → (are_apart end es ≡ true → how_many_at address es ≡ 0) → (are_apart (e.span.start + e.span.size) es ≡ true → address < e.span.start + e.span.size → how_many_at address es ≡ 0)
         → one_at address e + how_many_at address es ≡ 0
@@ -54,14 +55,14 @@ none_before address end (e ∷ es) h lt =
         let none : e.span.size ≡ 0 = eqb-true e.span.size 0 t in
         let rest = skipped h in
         let here = not_here (has_address address e.span) refl (λ s. let two = both (nat_le e.span.start address) (nat_lt address (e.span.start + e.span.size)) s in
-            let low = leb-true e.span.start address two.0 in let high = ltb-true address (e.span.start + e.span.size) two.1 in omega (arith, low, high, none)) in
+        let low = leb-true e.span.start address two.0 in let high = ltb-true address (e.span.start + e.span.size) two.1 in omega (arith, low, high, none)) in
         omega (arith, here, rest)
     at_size false t h skipped behind =
         let two = both (leb end e.span.start) (are_apart (e.span.start + e.span.size) es) h in
         let low = leb-true end e.span.start two.0 in
         let rest = behind two.1 (omega (arith, low, lt)) in
         let here = not_here (has_address address e.span) refl (λ s. let tests = both (nat_le e.span.start address) (nat_lt address (e.span.start + e.span.size)) s in
-            let from = leb-true e.span.start address tests.0 in omega (arith, from, low, lt)) in
+        let from = leb-true e.span.start address tests.0 in omega (arith, from, low, lt)) in
         omega (arith, here, rest)
 
 one_at_most : (address end : ℕ) (es : List Entry) → are_apart end es ≡ true → how_many_at address es ≤ 1
@@ -73,6 +74,7 @@ one_at_most address end (e ∷ es) h =
     at_here : (b : Bool) → has_address address e.span ≡ b → how_many_at address es ≤ 1 → (b ≡ true → how_many_at address es ≡ 0) → one_if b + how_many_at address es ≤ 1
     at_here true t most none = let z = none refl in omega (arith, z)
     at_here false t most none = omega (arith, most)
+
     at_size : (b : Bool) → eqb e.span.size 0 ≡ b → cond b (are_apart end es) (leb end e.span.start && are_apart (e.span.start + e.span.size) es) ≡ true
         → (are_apart end es ≡ true → how_many_at address es ≤ 1) → (are_apart (e.span.start + e.span.size) es ≡ true → how_many_at address es ≤ 1)
         → (are_apart (e.span.start + e.span.size) es ≡ true → address < e.span.start + e.span.size → how_many_at address es ≡ 0)
@@ -80,7 +82,7 @@ one_at_most address end (e ∷ es) h =
     at_size true t h skipped most none =
         let empty : e.span.size ≡ 0 = eqb-true e.span.size 0 t in
         at_here (has_address address e.span) refl (skipped h) (λ s. let two = both (nat_le e.span.start address) (nat_lt address (e.span.start + e.span.size)) s in
-            let low = leb-true e.span.start address two.0 in let high = ltb-true address (e.span.start + e.span.size) two.1 in absurd (omega (arith, low, high, empty)))
+        let low = leb-true e.span.start address two.0 in let high = ltb-true address (e.span.start + e.span.size) two.1 in absurd (omega (arith, low, high, empty)))
     at_size false t h skipped most none =
         let rest = (both (leb end e.span.start) (are_apart (e.span.start + e.span.size) es) h).1 in
         at_here (has_address address e.span) refl (most rest) (λ s. none rest (ltb-true address (e.span.start + e.span.size) (both (nat_le e.span.start address) (nat_lt address (e.span.start + e.span.size)) s).1))
@@ -110,7 +112,6 @@ shares_start : (before span : Span) → before.start ≤ span.start → overlap 
 shares_start before span le t =
     let less = ltb-true span.start (before.start + before.size) t in
     rw (le-leb before.start span.start le, lt-ltb span.start (before.start + before.size) less) refl
-
 
 -- more functions have the address than before
 more_with : (address : ℕ) (before : Option Span) (e : Entry) (es : List Entry) → how_many_at address (e ∷ es) ≤ counted_with address before (e ∷ es)
@@ -155,8 +156,10 @@ shared before (e ∷ es) pair rise h =
   where
     on : IsShared before es → IsShared before (e ∷ es)
     on s = record { address = s.address; twice = (let more = more_behind s.address before e es in omega (arith, s.twice, more)) }
+
     from : IsShared (Some e.span) es → IsShared before (e ∷ es)
     from s = record { address = s.address; twice = (let more = more_with s.address before e es in let c = count_cons s.address e es in omega (arith, s.twice, more, c)) }
+
     at_overlap : (b : Option Span) → before ≡ b → eqb e.span.size 0 ≡ false → (fault : Option GatherFault) → overlap_with b e.span ≡ fault → (overlap_after (Some e.span) (spans_of es) ≡ Some pair → IsShared (Some e.span) es) → IsShared before (e ∷ es)
     at_overlap b is some None none later = from (later (sym (overlap_goes_on b e.span (spans_of es) some none) ∙ ap (λ (x : Option Span). overlap_after x (spans_of (e ∷ es))) (sym is) ∙ h))
     at_overlap None is some (Some fault) there later = cc
@@ -165,6 +168,7 @@ shared before (e ∷ es) pair rise h =
         let over = overlaps b e.span fault there in
         let two = two_here e.span.start b e es (shares_start b e.span le over) (has_first e.span (some_size e.span.size some)) in
         record { address = e.span.start; twice = subst (λ (x : Option Span). 2 ≤ counted_with e.span.start x (e ∷ es)) (sym is) two }
+
     at_size : (b : Bool) → eqb e.span.size 0 ≡ b → (overlap_after before (spans_of es) ≡ Some pair → IsShared before es) → (overlap_after (Some e.span) (spans_of es) ≡ Some pair → IsShared (Some e.span) es) → IsShared before (e ∷ es)
     at_size true t skipped later = on (skipped (sym (overlap_passes before e.span (spans_of es) (eqb-true e.span.size 0 t)) ∙ h))
     at_size false t skipped later = at_overlap before refl t (overlap_with before e.span) refl later
