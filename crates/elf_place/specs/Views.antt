@@ -19,8 +19,27 @@ dropped p = p.dropped.items
 abbrev pub eh_frames : Placed → List ℕ
 eh_frames p = p.eh_frames.items
 
+-- how far the addresses are moved
+abbrev pub shift_in : Placed → ℕ
+shift_in p = p.shift
+
 abbrev pub address_in : Placed → ℕ → Option ℕ
 address_in p i = slice_index_or p.addresses.items i None
 
 abbrev pub is_dropped_in : Placed → ℕ → Bool
 is_dropped_in p i = slice_index_or p.dropped.items i false
+
+-- a file with its sections' addresses and what is dropped, seen without where its bytes lie in memory
+pub record Placing : Type 0 where
+  pub file : List ℕ
+  pub addresses : List (Option ℕ)
+  pub dropped : List Bool
+
+abbrev pub placing : Placed → Placing
+placing p = record { file = file p; addresses = addresses p; dropped = dropped p }
+
+abbrev pub address_at : Placing → ℕ → Option ℕ
+address_at p i = slice_index_or p.addresses i None
+
+abbrev pub is_dropped_at : Placing → ℕ → Bool
+is_dropped_at p i = slice_index_or p.dropped i false

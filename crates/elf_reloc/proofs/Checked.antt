@@ -7,8 +7,7 @@ use Rattle.std.proofs.Math.Nat.{mod-lt}
 use Rattle.std.specs.Option.{option_map}
 use Rattle.std.proofs.lemmas.List.Elements.{All-nil, All-cons, All-head, All-tail, All-contains}
 use Rattle.byteorder.specs.Endian.{little_number}
-use Rattle.elf_place.specs.declared.placed.Placed.{Placed}
-use Rattle.elf_place.specs.Views.{file}
+use Rattle.elf_place.specs.Views.{Placing}
 use Rattle.elf_read.specs.Sections.{section_bytes}
 use Rattle.sf_bytes.specs.Field.{is_field_width}
 use Rattle.sf_bytes.specs.declared.field.Field.{Field}
@@ -204,10 +203,10 @@ hold fixes section fields apart inside small clear raw checked = λ i d within.
     holds_by fixes section fields i d (first_at place_of (get_or fields i d).place fixes) apart inside small clear raw (each_lies fields fixes checked) within refl
 
 -- the same of a section's relocations
-pub reads_hold : (p : Placed) (section : ℕ) (fixes : List Fix) (fields : List Field) → Reads (section_state p section) fixes → AreApart fields → AreRaw (section_bytes (file p) section) fields → place_check fields fixes ≡ Ok tt
-    → All (λ g. Holds fixes (section_bytes (file p) section) g (bits_in fixes g.place g.width g.raw)) fields
+pub reads_hold : (p : Placing) (section : ℕ) (fixes : List Fix) (fields : List Field) → Reads (section_state p section) fixes → AreApart fields → AreRaw (section_bytes p.file section) fields → place_check fields fixes ≡ Ok tt
+    → All (λ g. Holds fixes (section_bytes p.file section) g (bits_in fixes g.place g.width g.raw)) fields
 reads_hold p section fixes fields reads clear raw checked =
-    hold fixes (section_bytes (file p) section) fields reads.apart
+    hold fixes (section_bytes p.file section) fields reads.apart
     (reads_inside p section reads.state fixes reads.read reads.order.moved)
     (reads_small p section reads.state fixes reads.read reads.order.moved)
     clear raw checked
@@ -218,20 +217,20 @@ known_fits f (Some v) bits small is h =
     let e : low_bits f.range v ≡ bits = cc h in
     subst (λ (k : ℕ). k < 256 ^ width_of f.range) e (bits_fit f v small is)
 
-pub reads_written : (p : Placed) (section : ℕ) (fixes : List Fix) (place : ℕ) (f : Fix) (bits : ℕ) → Reads (section_state p section) fixes → first_at place_of place fixes ≡ Some f → fix_bits f ≡ Some bits
-    → little_number (width_of f.range) (drop place (patched fixes (section_bytes (file p) section))) ≡ bits
+pub reads_written : (p : Placing) (section : ℕ) (fixes : List Fix) (place : ℕ) (f : Fix) (bits : ℕ) → Reads (section_state p section) fixes → first_at place_of place fixes ≡ Some f → fix_bits f ≡ Some bits
+    → little_number (width_of f.range) (drop place (patched fixes (section_bytes p.file section))) ≡ bits
 reads_written p section fixes place f bits reads found known =
     let at = found_at place_of place fixes f f found in
     let small = reads_small p section reads.state fixes reads.read reads.order.moved in
-    holds fixes (section_bytes (file p) section) 0 place f bits reads.apart
+    holds fixes (section_bytes p.file section) 0 place f bits reads.apart
     (reads_inside p section reads.state fixes reads.read reads.order.moved)
     found known
     (known_fits f f.value bits (All-contains IsSmall fixes f small (at.0, at.1, at.2)) refl known)
 
-pub reads_free : (p : Placed) (section : ℕ) (fixes : List Fix) (place width : ℕ) → Reads (section_state p section) fixes → IsFree place width fixes
-    → little_number width (drop place (patched fixes (section_bytes (file p) section))) ≡ little_number width (drop place (section_bytes (file p) section))
+pub reads_free : (p : Placing) (section : ℕ) (fixes : List Fix) (place width : ℕ) → Reads (section_state p section) fixes → IsFree place width fixes
+    → little_number width (drop place (patched fixes (section_bytes p.file section))) ≡ little_number width (drop place (section_bytes p.file section))
 reads_free p section fixes place width reads free =
-    holds_still fixes (section_bytes (file p) section) place width (reads_inside p section reads.state fixes reads.read reads.order.moved) free
+    holds_still fixes (section_bytes p.file section) place width (reads_inside p section reads.state fixes reads.read reads.order.moved) free
 
 -- whether a field is dropped, by what was found at its place
 drops_by : (fixes : List Fix) (fields : List Field) (i : ℕ) (d : Field) (o : Option Fix) → overlap_check 0 fixes ≡ Ok tt → AreApart fields → All (λ f. lies_on fields f ≡ true) fixes → i < length fields → first_at place_of (get_or fields i d).place fixes ≡ o
@@ -255,12 +254,12 @@ drops_by fixes fields i d (Some f) apart clear lie within found =
           is ∙ ap (λ (x : Fix). x.dropped) e ∙ u.gone,
     )
 
-pub reads_drop : (p : Placed) (section : ℕ) (fixes : List Fix) (fields : List Field) → Reads (section_state p section) fixes → AreApart fields → place_check fields fixes ≡ Ok tt
+pub reads_drop : (p : Placing) (section : ℕ) (fixes : List Fix) (fields : List Field) → Reads (section_state p section) fixes → AreApart fields → place_check fields fixes ≡ Ok tt
     → All (λ g. (is_dropped_in fixes g.place g.width ≡ true) ↔ IsDropped fixes g) fields
 reads_drop p section fixes fields reads clear checked = λ i d within.
     drops_by fixes fields i d (first_at place_of (get_or fields i d).place fixes) reads.apart clear (each_lies fields fixes checked) within refl
 
-pub reads_unknown : (p : Placed) (section : ℕ) (fixes : List Fix) (g : Field) → Reads (section_state p section) fixes → IsDropped fixes g → IsUnresolved fixes g
+pub reads_unknown : (p : Placing) (section : ℕ) (fixes : List Fix) (g : Field) → Reads (section_state p section) fixes → IsDropped fixes g → IsUnresolved fixes g
 reads_unknown p section fixes g reads u =
     let hidden = reads_hidden p section reads.state fixes reads.read reads.order.moved in
     record { fix = u.fix; among = u.among; at = u.at; unknown = All-contains (λ (f : Fix). f.dropped ≡ true → f.value ≡ None) fixes u.fix hidden u.among u.gone }

@@ -8,8 +8,7 @@ use Rattle.std.proofs.lemmas.List.Sorted.{All-permutation}
 use Rattle.elf_read.specs.Checking.{each_below}
 use Rattle.elf_read.specs.Header.{is_rel}
 use Rattle.elf_read.specs.Sections.{section_bytes, section_count, entry_count}
-use Rattle.elf_place.specs.declared.placed.Placed.{Placed}
-use Rattle.elf_place.specs.Views.{file}
+use Rattle.elf_place.specs.Views.{Placing}
 use Rattle.elf_reloc.specs.declared.fault.RelocFault.{RelocFault}
 use Rattle.elf_reloc.specs.declared.fault.RelocFault.TheVariants as faults
 use Rattle.elf_reloc.specs.declared.fix.Fix.{Fix}
@@ -105,7 +104,7 @@ applied_inside (Some Nothing) len address place index addend target f h = absurd
 applied_inside (Some (Absolute form)) len address place index addend target f h = inside_is len place index form (λ s. absolute s addend) target f (absolute_small addend) h
 applied_inside (Some (Relative form)) len address place index addend target f h = inside_is len place index form (λ s. relative s addend ((address + place) % 2 ^ 64)) target f (relative_small addend ((address + place) % 2 ^ 64)) h
 
-entry_inside : (p : Placed) (section index i k : ℕ) (f : Fix) → entry_fix p section index i k ≡ Ok (Some f) → IsInside (length (section_bytes (file p) section)) f
+entry_inside : (p : Placing) (section index i k : ℕ) (f : Fix) → entry_fix p section index i k ≡ Ok (Some f) → IsInside (length (section_bytes p.file section)) f
 unfolding entry_fix
 entry_inside p section index i k f h = applied_inside _ _ _ _ _ _ _ f h
 
@@ -113,13 +112,13 @@ with_fix_inside : (len : ℕ) (fixes : List Fix) (o : Option Fix) → All (IsIns
 with_fix_inside len fixes None all one = all
 with_fix_inside len fixes (Some f) all one = All-push (IsInside len) fixes f all (one f refl)
 
-entry_keeps : (p : Placed) (section i k : ℕ) (s t : State) → All (IsInside (length (section_bytes (file p) section))) s.fixes → after_entry p section i k s ≡ Ok t → All (IsInside (length (section_bytes (file p) section))) t.fixes
+entry_keeps : (p : Placing) (section i k : ℕ) (s t : State) → All (IsInside (length (section_bytes p.file section))) s.fixes → after_entry p section i k s ≡ Ok t → All (IsInside (length (section_bytes p.file section))) t.fixes
 unfolding after_entry
 entry_keeps p section i k s t all h =
     let q = bound (entry_fix p section s.index i k) (λ f. Ok (record { fixes = with_fix s.fixes f; index = spec.next_index s.index })) t h in
     let e : with_fix s.fixes q.0 ≡ t.fixes = ap (λ (r : State). r.fixes) (ok_is _ _ q.2) in
-    subst (λ (fs : List Fix). All (IsInside (length (section_bytes (file p) section))) fs) e
-    (with_fix_inside (length (section_bytes (file p) section)) s.fixes q.0 all (λ f found. entry_inside p section s.index i k f (q.1 ∙ ap (λ (o : Option Fix). Ok o) found)))
+    subst (λ (fs : List Fix). All (IsInside (length (section_bytes p.file section))) fs) e
+    (with_fix_inside (length (section_bytes p.file section)) s.fixes q.0 all (λ f found. entry_inside p section s.index i k f (q.1 ∙ ap (λ (o : Option Fix). Ok o) found)))
 
 steps_keep : (P : State → Type 0) (step : ℕ → State → Result State RelocFault) → ((i : ℕ) (s t : State) → P s → step i s ≡ Ok t → P t) → (n : ℕ) (s t : State) → P s → steps_below n step s ≡ Ok t → P t
 unfolding steps_below
@@ -128,32 +127,32 @@ steps_keep P step each (suc n) s t h e =
     let q = bound (steps_below n step s) (step n) t e in
     each n q.0 t (steps_keep P step each n s q.0 h q.1) q.2
 
-section_cases : (p : Placed) (section i : ℕ) (s t : State) (b : Bool) → All (IsInside (length (section_bytes (file p) section))) s.fixes
-    → (if b then steps_below (entry_count (file p) i) (after_entry p section i) s else Ok s) ≡ Ok t → All (IsInside (length (section_bytes (file p) section))) t.fixes
+section_cases : (p : Placing) (section i : ℕ) (s t : State) (b : Bool) → All (IsInside (length (section_bytes p.file section))) s.fixes
+    → (if b then steps_below (entry_count p.file i) (after_entry p section i) s else Ok s) ≡ Ok t → All (IsInside (length (section_bytes p.file section))) t.fixes
 section_cases p section i s t true all h =
-    steps_keep (λ r. All (IsInside (length (section_bytes (file p) section))) r.fixes) (after_entry p section i) (λ k u v. entry_keeps p section i k u v) (entry_count (file p) i) s t all h
-section_cases p section i s t false all h = subst (λ (r : State). All (IsInside (length (section_bytes (file p) section))) r.fixes) (ok_is s t h) all
+    steps_keep (λ r. All (IsInside (length (section_bytes p.file section))) r.fixes) (after_entry p section i) (λ k u v. entry_keeps p section i k u v) (entry_count p.file i) s t all h
+section_cases p section i s t false all h = subst (λ (r : State). All (IsInside (length (section_bytes p.file section))) r.fixes) (ok_is s t h) all
 
-section_keeps : (p : Placed) (section i : ℕ) (s t : State) → All (IsInside (length (section_bytes (file p) section))) s.fixes → after_section p section i s ≡ Ok t → All (IsInside (length (section_bytes (file p) section))) t.fixes
+section_keeps : (p : Placing) (section i : ℕ) (s t : State) → All (IsInside (length (section_bytes p.file section))) s.fixes → after_section p section i s ≡ Ok t → All (IsInside (length (section_bytes p.file section))) t.fixes
 unfolding after_section
-section_keeps p section i s t all h = section_cases p section i s t (spec.is_rela_of (file p) section i) all h
+section_keeps p section i s t all h = section_cases p section i s t (spec.is_rela_of p.file section i) all h
 
 all_none : (len : ℕ) → All (IsInside len) start.fixes
 all_none len = All-nil (IsInside len)
 
-object_inside : (p : Placed) (section : ℕ) (t : State) → object_state p section ≡ Ok t → All (IsInside (length (section_bytes (file p) section))) t.fixes
+object_inside : (p : Placing) (section : ℕ) (t : State) → object_state p section ≡ Ok t → All (IsInside (length (section_bytes p.file section))) t.fixes
 unfolding object_state
 object_inside p section t h =
-    let q = bound (each_below (section_count (file p)) (spec.rel_check (file p) section)) (λ _. steps_below (section_count (file p)) (after_section p section) start) t h in
-    steps_keep (λ r. All (IsInside (length (section_bytes (file p) section))) r.fixes) (after_section p section) (λ k u v. section_keeps p section k u v) (section_count (file p)) start t (all_none (length (section_bytes (file p) section))) q.2
+    let q = bound (each_below (section_count p.file) (spec.rel_check p.file section)) (λ _. steps_below (section_count p.file) (after_section p section) start) t h in
+    steps_keep (λ r. All (IsInside (length (section_bytes p.file section))) r.fixes) (after_section p section) (λ k u v. section_keeps p section k u v) (section_count p.file) start t (all_none (length (section_bytes p.file section))) q.2
 
-state_cases : (p : Placed) (section : ℕ) (t : State) (b : Bool) → (if b then object_state p section else Ok start) ≡ Ok t → All (IsInside (length (section_bytes (file p) section))) t.fixes
+state_cases : (p : Placing) (section : ℕ) (t : State) (b : Bool) → (if b then object_state p section else Ok start) ≡ Ok t → All (IsInside (length (section_bytes p.file section))) t.fixes
 state_cases p section t true h = object_inside p section t h
-state_cases p section t false h = subst (λ (r : State). All (IsInside (length (section_bytes (file p) section))) r.fixes) (ok_is start t h) (all_none (length (section_bytes (file p) section)))
+state_cases p section t false h = subst (λ (r : State). All (IsInside (length (section_bytes p.file section))) r.fixes) (ok_is start t h) (all_none (length (section_bytes p.file section)))
 
-pub read_inside : (p : Placed) (section : ℕ) (t : State) → section_state p section ≡ Ok t → All (IsInside (length (section_bytes (file p) section))) t.fixes
+pub read_inside : (p : Placing) (section : ℕ) (t : State) → section_state p section ≡ Ok t → All (IsInside (length (section_bytes p.file section))) t.fixes
 unfolding section_state
-read_inside p section t h = state_cases p section t (is_rel (file p)) h
+read_inside p section t h = state_cases p section t (is_rel p.file) h
 
 pub from_all : (len : ℕ) (fs : List Fix) → All (IsInside len) fs → AreInside len fs
 from_all len [] all = tt
@@ -163,13 +162,13 @@ pub moved_inside : (len : ℕ) (fs gs : List Fix) → IsPermutation fs gs → Al
 moved_inside len fs gs moved all = from_all len gs (All-permutation (IsInside len) fs gs moved all)
 
 -- the same of what was read and brought into order
-pub reads_inside : (p : Placed) (section : ℕ) (t : State) (fixes : List Fix) → section_state p section ≡ Ok t → IsPermutation t.fixes fixes → AreInside (length (section_bytes (file p) section)) fixes
-reads_inside p section t fixes read moved = moved_inside (length (section_bytes (file p) section)) t.fixes fixes moved (read_inside p section t read)
+pub reads_inside : (p : Placing) (section : ℕ) (t : State) (fixes : List Fix) → section_state p section ≡ Ok t → IsPermutation t.fixes fixes → AreInside (length (section_bytes p.file section)) fixes
+reads_inside p section t fixes read moved = moved_inside (length (section_bytes p.file section)) t.fixes fixes moved (read_inside p section t read)
 
-pub reads_small : (p : Placed) (section : ℕ) (t : State) (fixes : List Fix) → section_state p section ≡ Ok t → IsPermutation t.fixes fixes → All IsSmall fixes
+pub reads_small : (p : Placing) (section : ℕ) (t : State) (fixes : List Fix) → section_state p section ≡ Ok t → IsPermutation t.fixes fixes → All IsSmall fixes
 reads_small p section t fixes read moved = λ k d within.
-    (All-permutation (IsInside (length (section_bytes (file p) section))) t.fixes fixes moved (read_inside p section t read) k d within).1
+    (All-permutation (IsInside (length (section_bytes p.file section))) t.fixes fixes moved (read_inside p section t read) k d within).1
 
-pub reads_hidden : (p : Placed) (section : ℕ) (t : State) (fixes : List Fix) → section_state p section ≡ Ok t → IsPermutation t.fixes fixes → All IsHidden fixes
+pub reads_hidden : (p : Placing) (section : ℕ) (t : State) (fixes : List Fix) → section_state p section ≡ Ok t → IsPermutation t.fixes fixes → All IsHidden fixes
 reads_hidden p section t fixes read moved = λ k d within.
-    (All-permutation (IsInside (length (section_bytes (file p) section))) t.fixes fixes moved (read_inside p section t read) k d within).2
+    (All-permutation (IsInside (length (section_bytes p.file section))) t.fixes fixes moved (read_inside p section t read) k d within).2

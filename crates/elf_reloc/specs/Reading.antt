@@ -7,8 +7,7 @@ use Rattle.elf_read.specs.Checking.{each_below}
 use Rattle.elf_read.specs.Header.{is_rel, arch_of}
 use Rattle.elf_read.specs.Sections.{sh_type, sh_link, sh_info, section_count, section_bytes, rela_symbol, entry_count}
 use Rattle.elf_read.specs.Views.{rela_offset, rela_type, rela_addend}
-use Rattle.elf_place.specs.declared.placed.Placed.{Placed}
-use Rattle.elf_place.specs.Views.{file, address_in}
+use Rattle.elf_place.specs.Views.{Placing, address_at}
 use Rattle.elf_reloc.specs.declared.fault.RelocFault.{RelocFault}
 use Rattle.elf_reloc.specs.declared.fault.RelocFault.TheVariants.{UnknownType, Range, RelSection, OutOfSection, NoMemory}
 use Rattle.elf_reloc.specs.declared.fix.Fix.{Fix}
@@ -55,15 +54,15 @@ applied (Some (Relative form)) len address place index addend target =
     inside len place index form (aimed place index form (λ s. relative s addend ((address + place) % 2 ^ 64)) target)
 
 -- the address of a section that has one
-unfoldable pub section_address : Placed → ℕ → ℕ
-section_address p section = unwrap_or (address_in p section) 0
+unfoldable pub section_address : Placing → ℕ → ℕ
+section_address p section = unwrap_or (address_at p section) 0
 
 -- what entry k of relocation section i does, which has this number among all
-unfoldable pub entry_fix : Placed → (section index i k : ℕ) → Result (Option Fix) RelocFault
+unfoldable pub entry_fix : Placing → (section index i k : ℕ) → Result (Option Fix) RelocFault
 entry_fix p section index i k =
-    applied (effect_of (arch_of (file p)) (rela_type (file p) i k)) (length (section_bytes (file p) section)) (section_address p section)
-    (rela_offset (file p) i k) index (cast_unsigned w64 (rela_addend (file p) i k))
-    (target_of p (sh_link (file p) i) (rela_symbol (file p) i k))
+    applied (effect_of (arch_of p.file) (rela_type p.file i k)) (length (section_bytes p.file section)) (section_address p section)
+    (rela_offset p.file i k) index (cast_unsigned w64 (rela_addend p.file i k))
+    (target_of p (sh_link p.file i) (rela_symbol p.file i k))
 
 -- what was read so far: the fields that are written, and how many relocations there were
 pub record State : Type 0 where
@@ -78,7 +77,7 @@ abbrev pub with_fix : List Fix → Option Fix → List Fix
 with_fix fixes None = fixes
 with_fix fixes (Some f) = fixes ++ f ∷ []
 
-unfoldable pub after_entry : Placed → (section i k : ℕ) → State → Result State RelocFault
+unfoldable pub after_entry : Placing → (section i k : ℕ) → State → Result State RelocFault
 after_entry p section i k state =
     entry_fix p section state.index i k >>= λ f. Ok (record { fixes = with_fix state.fixes f; index = next_index state.index })
 
@@ -91,9 +90,9 @@ steps_below (suc n) step state = steps_below n step state >>= step n
 unfoldable pub is_rela_of : List ℕ → ℕ → ℕ → Bool
 is_rela_of file section i = (sh_type file i == 4) && (sh_info file i == section)
 
-unfoldable pub after_section : Placed → (section i : ℕ) → State → Result State RelocFault
+unfoldable pub after_section : Placing → (section i : ℕ) → State → Result State RelocFault
 after_section p section i state =
-    if is_rela_of (file p) section i then steps_below (entry_count (file p) i) (after_entry p section i) state else Ok state
+    if is_rela_of p.file section i then steps_below (entry_count p.file i) (after_entry p section i) state else Ok state
 
 abbrev pub start : State
 start = record { fixes = []; index = 0 }
@@ -103,14 +102,14 @@ unfoldable pub rel_check : List ℕ → (section i : ℕ) → Result (Unit {0}) 
 rel_check file section i = if (sh_type file i == 9) && (sh_info file i == section) then Err (RelSection i) else Ok tt
 
 -- the relocations of an object's section; the section may have none without addends
-unfoldable pub object_state : Placed → ℕ → Result State RelocFault
+unfoldable pub object_state : Placing → ℕ → Result State RelocFault
 object_state p section =
-    each_below (section_count (file p)) (rel_check (file p) section)
-    >>= λ _. steps_below (section_count (file p)) (after_section p section) start
+    each_below (section_count p.file) (rel_check p.file section)
+    >>= λ _. steps_below (section_count p.file) (after_section p section) start
 
 -- what a section's relocations write, in their order; only an object's are applied
-unfoldable pub section_state : Placed → ℕ → Result State RelocFault
-section_state p section = if is_rel (file p) then object_state p section else Ok start
+unfoldable pub section_state : Placing → ℕ → Result State RelocFault
+section_state p section = if is_rel p.file then object_state p section else Ok start
 
 -- a fault is what was asked; that memory ran out says nothing of it
 abbrev pub Fails : {X : Type 0} → RelocFault → Result X RelocFault → Type 0

@@ -2,6 +2,7 @@
 
 ghost use Rattle.std.specs.Prelude.{◌≡◌, None};
 ghost use Rattle.std.specs.Int.{w64, cast_unsigned};
+ghost use Rattle.elf_place.specs.Views.{placing};
 ghost use Rattle.elf_reloc.specs.Reading as spec;
 ghost use Rattle.elf_reloc.specs.Table as table;
 
@@ -96,7 +97,7 @@ fn inside(
 // The address of a section that has one.
 #[tactic(auto, unfolding(crate::specs::Reading::section_address))]
 fn section_address(placed: &Placed<'_>, section: u32) -> u64
-    ensures { result ≡ spec.section_address placed.now section }
+    ensures { result ≡ spec.section_address (placing placed.now) section }
 {
     placed.address(section).unwrap_or(0)
 }
@@ -110,7 +111,7 @@ pub fn entry_fix(
     i: u32,
     k: u32,
 ) -> Result<Option<Fix>, RelocFault>
-    ensures { result ≡ spec.entry_fix placed.now section index i k }
+    ensures { result ≡ spec.entry_fix (placing placed.now) section index i k }
 {
     let elf = placed.elf();
     let rela = elf.rela(i, k);

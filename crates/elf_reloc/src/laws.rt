@@ -3,8 +3,7 @@
 ghost use Rattle.std.specs.Prelude.{◌≡◌, ◌↔◌, ℕ, true, List, drop, Some, Ok};
 ghost use Rattle.std.specs.List.{All};
 ghost use Rattle.byteorder.specs.Endian.{little_number};
-ghost use Rattle.elf_place.specs.Views.{file};
-ghost use Rattle.elf_place.specs.declared.placed.Placed.{Placed as placing};
+ghost use Rattle.elf_place.specs.Views.{Placing as placing};
 ghost use Rattle.elf_read.specs.Sections.{section_bytes};
 ghost use Rattle.sf_bytes.specs.declared.field.Field.{Field as pointer};
 ghost use Rattle.elf_reloc.specs.declared.fix.Fix.{Fix as written};
@@ -20,13 +19,13 @@ ghost use Rattle.elf_reloc.specs.Views.{Reads};
 pub fn fields_hold_what_is_patched()
     // A field of a list on which all relocations lie: its bits are the number in the copy, and none exactly
     // where a relocation lies on it whose value is not known.
-    ensures checked { (p : placing) (section : ℕ) (fixes : List written) (fields : List pointer) → Reads (section_state p section) fixes → AreApart fields → AreRaw (section_bytes (file p) section) fields → place_check fields fixes ≡ Ok tt → All (λ g. Holds fixes (section_bytes (file p) section) g (bits_in fixes g.place g.width g.raw)) fields }
+    ensures checked { (p : placing) (section : ℕ) (fixes : List written) (fields : List pointer) → Reads (section_state p section) fixes → AreApart fields → AreRaw (section_bytes p.file section) fields → place_check fields fixes ≡ Ok tt → All (λ g. Holds fixes (section_bytes p.file section) g (bits_in fixes g.place g.width g.raw)) fields }
     // Such a field is dropped exactly where a relocation lies on it whose symbol lies in a dropped section.
     ensures dropped { (p : placing) (section : ℕ) (fixes : List written) (fields : List pointer) → Reads (section_state p section) fixes → AreApart fields → place_check fields fixes ≡ Ok tt → All (λ g. (is_dropped_in fixes g.place g.width ≡ true) ↔ IsDropped fixes g) fields }
     // A dropped field is unresolved as well.
     ensures unknown { (p : placing) (section : ℕ) (fixes : List written) (g : pointer) → Reads (section_state p section) fixes → IsDropped fixes g → IsUnresolved fixes g }
     // A field on which a relocation lies holds its bits.
-    ensures written { (p : placing) (section : ℕ) (fixes : List written) (place : ℕ) (f : written) (bits : ℕ) → Reads (section_state p section) fixes → first_at place_of place fixes ≡ Some f → fix_bits f ≡ Some bits → little_number (width_of f.range) (drop place (patched fixes (section_bytes (file p) section))) ≡ bits }
+    ensures written { (p : placing) (section : ℕ) (fixes : List written) (place : ℕ) (f : written) (bits : ℕ) → Reads (section_state p section) fixes → first_at place_of place fixes ≡ Some f → fix_bits f ≡ Some bits → little_number (width_of f.range) (drop place (patched fixes (section_bytes p.file section))) ≡ bits }
     // A field that no relocation covers holds its raw number.
-    ensures free { (p : placing) (section : ℕ) (fixes : List written) (place width : ℕ) → Reads (section_state p section) fixes → IsFree place width fixes → little_number width (drop place (patched fixes (section_bytes (file p) section))) ≡ little_number width (drop place (section_bytes (file p) section)) }
+    ensures free { (p : placing) (section : ℕ) (fixes : List written) (place width : ℕ) → Reads (section_state p section) fixes → IsFree place width fixes → little_number width (drop place (patched fixes (section_bytes p.file section))) ≡ little_number width (drop place (section_bytes p.file section)) }
 {}

@@ -4,7 +4,7 @@ ghost use Rattle.std.specs.Prelude.{◌≡◌, ◌<◌, ◌^◌};
 ghost use Rattle.elf_read.specs.Checking.{each_below};
 ghost use Rattle.elf_read.specs.Header.{is_rel};
 ghost use Rattle.elf_read.specs.Sections as fields;
-ghost use Rattle.elf_place.specs.Views.{file};
+ghost use Rattle.elf_place.specs.Views.{file, placing};
 ghost use Rattle.elf_reloc.specs.Reading as spec;
 ghost use Rattle.elf_reloc.specs.Reading.{steps_below, state_of};
 
@@ -38,7 +38,7 @@ fn read_entry(
     k: u32,
     read: &mut Read,
 ) -> Result<(), RelocFault>
-    ensures { spec.Steps result read.new (spec.after_entry placed.now section i k (state_of read.old)) }
+    ensures { spec.Steps result read.new (spec.after_entry (placing placed.now) section i k (state_of read.old)) }
 {
     if let Some(fix) = entry_fix(placed, section, read.next, i, k)? {
         read.fixes.push(fix)?;
@@ -55,7 +55,7 @@ fn read_entries(
     count: u32,
     read: &mut Read,
 ) -> Result<(), RelocFault>
-    ensures { spec.Steps result read.new (steps_below count (spec.after_entry placed.now section i) (state_of read.old)) }
+    ensures { spec.Steps result read.new (steps_below count (spec.after_entry (placing placed.now) section i) (state_of read.old)) }
 {
     for k in 0..count {
         read_entry(placed, section, i, k, read)?;
@@ -88,7 +88,7 @@ fn read_section(
     i: u32,
     read: &mut Read,
 ) -> Result<(), RelocFault>
-    ensures { spec.Steps result read.new (spec.after_section placed.now section i (state_of read.old)) }
+    ensures { spec.Steps result read.new (spec.after_section (placing placed.now) section i (state_of read.old)) }
 {
     if !is_rela_of(placed, section, i) {
         return Ok(());
@@ -103,7 +103,7 @@ fn read_sections(
     count: u32,
     read: &mut Read,
 ) -> Result<(), RelocFault>
-    ensures { spec.Steps result read.new (steps_below count (spec.after_section placed.now section) (state_of read.old)) }
+    ensures { spec.Steps result read.new (steps_below count (spec.after_section (placing placed.now) section) (state_of read.old)) }
 {
     for i in 0..count {
         read_section(placed, section, i, read)?;
@@ -145,7 +145,7 @@ fn is_object(placed: &Placed<'_>) -> bool
 #[tactic(auto, unfolding(crate::specs::Reading::object_state))]
 fn read_object(placed: &Placed<'_>, section: u32, read: &mut Read) -> Result<(), RelocFault>
     requires { state_of read.old ≡ spec.start }
-    ensures { spec.Steps result read.new (spec.object_state placed.now section) }
+    ensures { spec.Steps result read.new (spec.object_state (placing placed.now) section) }
 {
     let count = placed.elf().sections();
     check_rels(placed, section, count)?;
@@ -159,7 +159,7 @@ pub fn read_relocations(
     placed: &Placed<'_>,
     section: u32,
 ) -> Result<Read, RelocFault>
-    ensures { spec.Gives result (spec.section_state placed.now section) }
+    ensures { spec.Gives result (spec.section_state (placing placed.now) section) }
 {
     let mut read = Read {
         fixes: Vec::new(alloc),

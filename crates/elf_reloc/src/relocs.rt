@@ -23,7 +23,7 @@ pub struct Relocs {
 impl Relocs {
     ghost use Rattle.std.specs.Prelude.{◌≡◌, length, IfOk};
     ghost use Rattle.elf_read.specs.Sections.{section_bytes};
-    ghost use Rattle.elf_place.specs.Views.{file};
+    ghost use Rattle.elf_place.specs.Views.{file, placing};
     ghost use Rattle.elf_reloc.specs.Patched.{AreInside};
     ghost use Rattle.sf_bytes.specs.Rising.{AreRising};
     ghost use Rattle.elf_reloc.specs.Order.{place_check};
@@ -38,7 +38,7 @@ impl Relocs {
     /// fields that overlap.
     pub fn new(alloc: Global, placed: &Placed<'_>, section: u32) -> Result<Relocs, RelocFault>
         // What it answers is what the relocations give, and each fault is the first.
-        ensures exact { Relocated result (section_state placed.now section) }
+        ensures exact { Relocated result (section_state (placing placed.now) section) }
         // What is written lies in the section.
         ensures inside { IfOk result (λ r. AreInside (length (section_bytes (file placed.now) section)) (fixes_in r)) }
     {

@@ -1,6 +1,7 @@
 //! What a symbol stands for.
 
 ghost use Rattle.std.specs.Prelude.{◌≡◌};
+ghost use Rattle.elf_place.specs.Views.{placing};
 ghost use Rattle.elf_reloc.specs.Target as spec;
 
 use elf_place::Placed;
@@ -26,7 +27,7 @@ pub enum Target {
 // A value in a section of the file.
 #[tactic(auto, unfolding(crate::specs::Target::section_target))]
 fn section_target(placed: &Placed<'_>, section: u32, value: u64) -> Target
-    ensures { result ≡ spec.section_target placed.now section value }
+    ensures { result ≡ spec.section_target (placing placed.now) section value }
 {
     if placed.dropped(section) {
         return Target::Dropped;
@@ -40,7 +41,7 @@ fn section_target(placed: &Placed<'_>, section: u32, value: u64) -> Target
 // A value in the section of this index.
 #[tactic(auto, unfolding(crate::specs::Target::index_target))]
 fn index_target(placed: &Placed<'_>, index: u16, value: u64) -> Target
-    ensures { result ≡ spec.index_target placed.now index value }
+    ensures { result ≡ spec.index_target (placing placed.now) index value }
 {
     if index == SHN_ABS {
         return Target::Address(value);
@@ -54,7 +55,7 @@ fn index_target(placed: &Placed<'_>, index: u16, value: u64) -> Target
 /// What a symbol stands for.
 #[tactic(auto, unfolding(crate::specs::Target::target_of))]
 pub fn target_of(placed: &Placed<'_>, table: u32, k: u32) -> Target
-    ensures { result ≡ spec.target_of placed.now table k }
+    ensures { result ≡ spec.target_of (placing placed.now) table k }
 {
     if k == 0 {
         return Target::Unresolved;

@@ -65,11 +65,11 @@ reached at ordered checked near =
     ap (λ (fault : Option GatherFault). or_later (option_map link.Gather fault) (option_map link.OutOfReach (first_out_of_reach at 0 (kept_of ordered)))) checked ∙ ap (option_map link.OutOfReach) near
 
 pub assembled : (object : Object) (at : ℕ) (section : List ℕ) (kept : ℕ) (functions : List Func) (omitted : List Omitted) (spans : List Span) → AreGathered (object ∷ []) functions omitted spans
-    → Section section at (table_of (machine_of object.form) functions) → Tight section at (table_of (machine_of object.form) functions) → Narrow section (table_of (machine_of object.form) functions)
+    → Section section at (table_of (machine_of object) functions) → Tight section at (table_of (machine_of object) functions) → Narrow section (table_of (machine_of object) functions)
     → first_out_of_reach at 0 functions ≡ None → kept ≡ length functions → IsAssembled object at section kept omitted
 assembled object at section kept functions omitted spans h is tight narrow near count =
     let read = are_read (object ∷ []) h.ordered h.is in
-    let arch = machine_of object.form in
+    let arch = machine_of object in
     record {
       functions = read.functions;
       are = read.are;

@@ -1,6 +1,11 @@
 pub mod Kept
 pub mod Overlaps
 pub mod ReadFunctions
+pub mod SortedFixes
+pub mod Relocating
+pub mod Signatures
+pub mod Files
+pub mod Gone
 pub mod Limits
 pub mod Finding
 pub mod Agreeing

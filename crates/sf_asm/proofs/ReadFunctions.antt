@@ -1,7 +1,8 @@
 -- What was read is what the definitions of functions come to.
 use Rattle.std.specs.Prelude.{◌⊎◌}
-use Rattle.std.proofs.Common.{◌≡◌, ℕ, List, [], ◌∷◌, ◌++◌, map, Option, Some, None, Result, Ok, Err, refl, sym, ap, ◌∙◌, append_assoc, inl, inr}
-use Rattle.std.proofs.lemmas.List.{append-nil}
+use Rattle.std.proofs.Math.Seq.{drop-cons}
+use Rattle.std.proofs.Common.{◌≡◌, ℕ, suc, ◌<◌, length, drop, get_or, Bool, true, false, cond, List, [], ◌∷◌, ◌++◌, map, Option, Some, None, Result, Ok, Err, refl, sym, ap, ◌∙◌, append_assoc, inl, inr}
+use Rattle.std.proofs.lemmas.List.{append-nil, map-append}
 use Rattle.sf_model.specs.declared.machine.Arch.{Arch}
 use Rattle.cfa_insn.specs.Listing.{listing}
 use Rattle.cfa_machine.specs.declared.row.DwRow.{DwRow}
@@ -11,7 +12,9 @@ use Rattle.cfa_machine.specs.FullRow.{columns_of}
 use Rattle.cfa_machine.specs.declared.columns.Columns.{Columns}
 use Rattle.eh_records.specs.declared.fault.RecordFault.{RecordFault}
 use Rattle.eh_records.specs.Fde.{FdeView}
-use Rattle.eh_records.specs.Section.{EntryView, entries_of, frames}
+use Rattle.eh_records.specs.Section.{EntryView, entries_of, frames, pointer_fields}
+use Rattle.elf_reloc.specs.declared.fault.RelocFault.{RelocFault}
+use Rattle.elf_reloc.specs.declared.fix.Fix.{Fix}
 use Rattle.sf_express.specs.Parts.{content_of}
 use Rattle.sf_express.specs.Offsets.{said}
 use Rattle.sf_express.specs.Runs.{AreSaid, function_of}
@@ -20,9 +23,10 @@ use Rattle.sf_asm.specs.declared.entry.Outcome.{Outcome}
 use Rattle.sf_asm.specs.declared.fault.AsmFault.{AsmFault}
 use Rattle.sf_asm.specs.declared.fault.AsmFault.TheVariants as asm
 use Rattle.sf_asm.specs.declared.fault.GatherFault.TheVariants as gather
-use Rattle.sf_asm.specs.Answers.{seen_as}
+use Rattle.sf_asm.specs.Answers.{after_read, seen_as}
 use Rattle.sf_asm.specs.Fault.{wraps_input}
-use Rattle.sf_asm.specs.Functions.{◌>>=◌, Function, CallFrames, Object, named, unless, span_in, fault_in, function_at, function_in, functions_in, section_functions, machine_of, bare_section, object_functions, functions_of}
+use Rattle.sf_asm.specs.Functions.{◌>>=◌, Function, CallFrames, Object, named, unless, span_in, fault_in, function_at, function_in, functions_in, section_functions, sections_functions, object_functions, functions_of, functions_after}
+use Rattle.sf_asm.specs.Relocated.{Values, on_pointers, overlaid, pointer_check}
 use Rattle.sf_asm.specs.Kept.{full_row, says_of, facts_of, outcome_by, entry_of}
 
 -- ---- one function
@@ -36,35 +40,41 @@ are_said f rows h = λ o lt.
     let there = h o lt in
     ap (said f.arch) there.is ∙ ap Some (content_anywhere f.arch there.start o (columns_of f.arch (full_row f o)))
 
-pub reads_function : (arch : Arch) (item : ℕ) (section : CallFrames) (f : FdeView) (span : ℕ × ℕ) (outcome : Outcome) → Ok span ≡ named (asm.Record section.number) (span_in section f) → fault_in arch f ≡ None
+pub reads_function : (arch : Arch) (item : ℕ) (section : CallFrames) (values : Values) (f : FdeView) (span : ℕ × ℕ) (outcome : Outcome) → Ok span ≡ named (asm.Record section.number) (span_in section values f) → fault_in arch f ≡ None
     → outcome ≡ outcome_by (function_of arch (facts_of (function_at arch item section f span)) (says_of (function_at arch item section f span)))
-    → seen_as entry_of (function_in arch item section f) ≡ Ok (record { span = record { start = span.0; size = span.1; origin = record { item = item; section = section.number; place = f.place } }; outcome = outcome })
+    → seen_as entry_of (function_in arch item section values f) ≡ Ok (record { span = record { start = span.0; size = span.1; origin = record { item = item; section = section.number; place = f.place } }; outcome = outcome })
 unfolding function_in
-reads_function arch item section f span outcome p q r =
+reads_function arch item section values f span outcome p q r =
     ap (λ (s : Result (ℕ × ℕ) AsmFault). seen_as entry_of (s >>= λ span. (named (asm.Machine section.number) (unless (fault_in arch f)) >>= λ _. Ok (function_at arch item section f span)))) (sym p)
     ∙ ap (λ (x : Option _). seen_as entry_of (named (asm.Machine section.number) (unless x) >>= λ _. Ok (function_at arch item section f span))) q
     ∙ ap (λ (o : Outcome). Ok (record { span = record { start = span.0; size = span.1; origin = record { item = item; section = section.number; place = f.place } }; outcome = o })) (sym r)
 
-pub span_refused : (arch : Arch) (item : ℕ) (section : CallFrames) (f : FdeView) (fault : AsmFault) → Err fault ≡ named (asm.Record section.number) (span_in section f) → function_in arch item section f ≡ Err fault
+pub span_refused : (arch : Arch) (item : ℕ) (section : CallFrames) (values : Values) (f : FdeView) (fault : AsmFault) → Err fault ≡ named (asm.Record section.number) (span_in section values f) → function_in arch item section values f ≡ Err fault
 unfolding function_in
-span_refused arch item section f fault p = ap (λ (s : Result (ℕ × ℕ) AsmFault). s >>= λ span. (named (asm.Machine section.number) (unless (fault_in arch f)) >>= λ _. Ok (function_at arch item section f span))) (sym p)
+span_refused arch item section values f fault p = ap (λ (s : Result (ℕ × ℕ) AsmFault). s >>= λ span. (named (asm.Machine section.number) (unless (fault_in arch f)) >>= λ _. Ok (function_at arch item section f span))) (sym p)
 
-pub run_refused : (arch : Arch) (item : ℕ) (section : CallFrames) (f : FdeView) (span : ℕ × ℕ) (fault : AsmFault) → Ok span ≡ named (asm.Record section.number) (span_in section f) → named (asm.Machine section.number) (unless (fault_in arch f)) ≡ Err fault
-    → function_in arch item section f ≡ Err fault
+pub run_refused : (arch : Arch) (item : ℕ) (section : CallFrames) (values : Values) (f : FdeView) (span : ℕ × ℕ) (fault : AsmFault) → Ok span ≡ named (asm.Record section.number) (span_in section values f) → named (asm.Machine section.number) (unless (fault_in arch f)) ≡ Err fault
+    → function_in arch item section values f ≡ Err fault
 unfolding function_in
-run_refused arch item section f span fault p q =
+run_refused arch item section values f span fault p q =
     ap (λ (s : Result (ℕ × ℕ) AsmFault). s >>= λ span. (named (asm.Machine section.number) (unless (fault_in arch f)) >>= λ _. Ok (function_at arch item section f span))) (sym p)
     ∙ ap (λ (u : Result (Unit {0}) AsmFault). u >>= λ _. Ok (function_at arch item section f span)) q
 
 -- ---- all functions of a section
--- functions that were read before the others
-abbrev pub after_read : List Entry → Result (List Entry) AsmFault → Result (List Entry) AsmFault
-after_read before (Ok entries) = Ok (before ++ entries)
-after_read before (Err fault) = Err fault
-
 -- what frame description entries come to
-abbrev pub read_of : Arch → (item : ℕ) → CallFrames → List FdeView → Result (List Entry) AsmFault
-read_of arch item section fs = seen_as (map entry_of) (functions_in arch item section fs)
+abbrev pub read_of : Arch → (item : ℕ) → CallFrames → Values → List FdeView → Result (List Entry) AsmFault
+read_of arch item section values fs = seen_as (map entry_of) (functions_in arch item section values fs)
+
+-- an entry that describes a function, and one that doesn't
+kept_on : (arch : Arch) (item : ℕ) (section : CallFrames) (values : Values) (f : FdeView) (fs : List FdeView) → values.dropped f.begin ≡ false
+    → functions_in arch item section values (f ∷ fs) ≡ (function_in arch item section values f >>= λ g. functions_in arch item section values fs >>= λ gs. Ok (g ∷ gs))
+kept_on arch item section values f fs e =
+    ap (λ (b : Bool). cond b (functions_in arch item section values fs) (function_in arch item section values f >>= λ g. functions_in arch item section values fs >>= λ gs. Ok (g ∷ gs))) e
+
+passed_on : (arch : Arch) (item : ℕ) (section : CallFrames) (values : Values) (f : FdeView) (fs : List FdeView) → values.dropped f.begin ≡ true
+    → functions_in arch item section values (f ∷ fs) ≡ functions_in arch item section values fs
+passed_on arch item section values f fs e =
+    ap (λ (b : Bool). cond b (functions_in arch item section values fs) (function_in arch item section values f >>= λ g. functions_in arch item section values fs >>= λ gs. Ok (g ∷ gs))) e
 
 one_more : (before : List Entry) (entry : Entry) (one : Result Function AsmFault) (others : Result (List Function) AsmFault) → seen_as entry_of one ≡ Ok entry
     → after_read before (seen_as (map entry_of) (one >>= λ g. (others >>= λ gs. Ok (g ∷ gs)))) ≡ after_read (before ++ entry ∷ []) (seen_as (map entry_of) others)
@@ -74,48 +84,123 @@ one_more before entry (Ok g) (Ok gs) e =
 one_more before entry (Ok g) (Err fault) e = refl
 one_more before entry (Err fault) others e = cc
 
-pub goes_on : (arch : Arch) (item : ℕ) (section : CallFrames) (before : List Entry) (entry : Entry) (f : FdeView) (left after : List FdeView) (all : Result (List Entry) AsmFault) → left ≡ f ∷ after → seen_as entry_of (function_in arch item section f) ≡ Ok entry
-    → after_read before (read_of arch item section left) ≡ all → after_read (before ++ entry ∷ []) (read_of arch item section after) ≡ all
-goes_on arch item section before entry f left after all p q h =
-    sym (one_more before entry (function_in arch item section f) (functions_in arch item section after) q)
-    ∙ ap (λ (fs : List FdeView). after_read before (read_of arch item section fs)) (sym p) ∙ h
+pub goes_on : (arch : Arch) (item : ℕ) (section : CallFrames) (values : Values) (before : List Entry) (entry : Entry) (f : FdeView) (left after : List FdeView) (all : Result (List Entry) AsmFault) → left ≡ f ∷ after → values.dropped f.begin ≡ false
+    → seen_as entry_of (function_in arch item section values f) ≡ Ok entry → after_read before (read_of arch item section values left) ≡ all → after_read (before ++ entry ∷ []) (read_of arch item section values after) ≡ all
+goes_on arch item section values before entry f left after all p kept q h =
+    sym (one_more before entry (function_in arch item section values f) (functions_in arch item section values after) q)
+    ∙ ap (λ (gs : Result (List Function) AsmFault). after_read before (seen_as (map entry_of) gs)) (sym (kept_on arch item section values f after kept))
+    ∙ ap (λ (fs : List FdeView). after_read before (read_of arch item section values fs)) (sym p) ∙ h
 
-pub is_done : (arch : Arch) (item : ℕ) (section : CallFrames) (before : List Entry) (left : List FdeView) (all : Result (List Entry) AsmFault) → left ≡ [] → after_read before (read_of arch item section left) ≡ all → all ≡ Ok before
-is_done arch item section before left all p h = sym h ∙ ap (λ (fs : List FdeView). after_read before (read_of arch item section fs)) p ∙ ap Ok (append-nil before)
+pub passes_on : (arch : Arch) (item : ℕ) (section : CallFrames) (values : Values) (before : List Entry) (f : FdeView) (left after : List FdeView) (all : Result (List Entry) AsmFault) → left ≡ f ∷ after → values.dropped f.begin ≡ true
+    → after_read before (read_of arch item section values left) ≡ all → after_read before (read_of arch item section values after) ≡ all
+passes_on arch item section values before f left after all p dropped h =
+    ap (λ (gs : Result (List Function) AsmFault). after_read before (seen_as (map entry_of) gs)) (sym (passed_on arch item section values f after dropped))
+    ∙ ap (λ (fs : List FdeView). after_read before (read_of arch item section values fs)) (sym p) ∙ h
 
-refused_unseen : (given : Result (List Function) AsmFault) (fault : AsmFault) → seen_as (map entry_of) given ≡ Err fault → given ≡ Err fault
-refused_unseen (Ok fs) fault e = cc
-refused_unseen (Err other) fault e = ap Err (let is : other ≡ fault = cc in is)
+pub is_done : (arch : Arch) (item : ℕ) (section : CallFrames) (values : Values) (before : List Entry) (left : List FdeView) (all : Result (List Entry) AsmFault) → left ≡ [] → after_read before (read_of arch item section values left) ≡ all → all ≡ Ok before
+is_done arch item section values before left all p h = sym h ∙ ap (λ (fs : List FdeView). after_read before (read_of arch item section values fs)) p ∙ ap Ok (append-nil before)
 
-pub ends : (arch : Arch) (item : ℕ) (section : CallFrames) (before : List Entry) (f : FdeView) (left after : List FdeView) (fault : AsmFault) (given : Result (List Function) AsmFault) → left ≡ f ∷ after → function_in arch item section f ≡ Err fault
-    → after_read before (read_of arch item section left) ≡ seen_as (map entry_of) given → given ≡ Err fault
-ends arch item section before f left after fault given p q h =
-    refused_unseen given fault
-    (sym h ∙ ap (λ (xs : List FdeView). after_read before (read_of arch item section xs)) p
-    ∙ ap (λ (one : Result Function AsmFault). after_read before (seen_as (map entry_of) (one >>= λ g. (functions_in arch item section after >>= λ gs. Ok (g ∷ gs))))) q)
+pub refused_unseen : (before : List Entry) (given : Result (List Function) AsmFault) (fault : AsmFault) → after_read before (seen_as (map entry_of) given) ≡ Err fault → given ≡ Err fault
+refused_unseen before (Ok fs) fault e = cc
+refused_unseen before (Err other) fault e = ap Err (let is : other ≡ fault = cc in is)
 
--- ---- the input
-alone : (given : Result (List Function) AsmFault) → after_read [] (seen_as (map entry_of) given) ≡ seen_as (map entry_of) (given >>= λ fs. Ok (fs ++ []))
-alone (Ok fs) = ap (λ (xs : List Function). Ok (map entry_of xs)) (sym (append-nil fs))
-alone (Err fault) = refl
+pub ends : (arch : Arch) (item : ℕ) (section : CallFrames) (values : Values) (first before : List Entry) (f : FdeView) (left after : List FdeView) (fault : AsmFault) (given : Result (List Function) AsmFault) → left ≡ f ∷ after → values.dropped f.begin ≡ false
+    → function_in arch item section values f ≡ Err fault → after_read before (read_of arch item section values left) ≡ after_read first (seen_as (map entry_of) given) → given ≡ Err fault
+ends arch item section values first before f left after fault given p kept q h =
+    refused_unseen first given fault
+    (sym h ∙ ap (λ (xs : List FdeView). after_read before (read_of arch item section values xs)) p
+    ∙ ap (λ (gs : Result (List Function) AsmFault). after_read before (seen_as (map entry_of) gs)) (kept_on arch item section values f after kept)
+    ∙ ap (λ (one : Result Function AsmFault). after_read before (seen_as (map entry_of) (one >>= λ g. (functions_in arch item section values after >>= λ gs. Ok (g ∷ gs))))) q)
 
--- once its records are read
-pub reads_begin : (item : ℕ) (object : Object) (es : List EntryView) (left : List FdeView) → entries_of (machine_of object.form) object.bytes ≡ Ok es → left ≡ frames es
-    → after_read [] (read_of (machine_of object.form) item (bare_section object.bytes object.base) left) ≡ seen_as (map entry_of) (object_functions item object)
+-- ---- a section
+-- by its records and its relocations
+abbrev by_parts : Arch → (item : ℕ) → CallFrames → Result (List EntryView) RecordFault → Result (List Fix) RelocFault → Result (List Function) AsmFault
+by_parts arch item section records relocations =
+    named (asm.Record section.number) records
+    >>= λ es. (named (asm.Reloc section.number) (relocations >>= on_pointers (pointer_fields es)) >>= λ fixes. functions_in arch item section (overlaid fixes) (frames es))
+
+abbrev by_check : Arch → (item : ℕ) → CallFrames → List EntryView → List Fix → Result (Unit {0}) RelocFault → Result (List Function) AsmFault
+by_check arch item section es fixes check = named (asm.Reloc section.number) (check >>= λ _. Ok fixes) >>= λ fixes. functions_in arch item section (overlaid fixes) (frames es)
+
+pub section_is : (arch : Arch) (item : ℕ) (section : CallFrames) (es : List EntryView) (fixes : List Fix) → entries_of arch section.bytes ≡ Ok es → section.relocations ≡ Ok fixes → pointer_check (pointer_fields es) fixes ≡ Ok tt
+    → section_functions arch item section ≡ functions_in arch item section (overlaid fixes) (frames es)
 unfolding section_functions
-reads_begin item object es left p q =
-    ap (λ (fs : List FdeView). after_read [] (read_of (machine_of object.form) item (bare_section object.bytes object.base) fs)) q
-    ∙ alone (functions_in (machine_of object.form) item (bare_section object.bytes object.base) (frames es))
-    ∙ sym (ap (λ (x : Result (List EntryView) RecordFault). seen_as (map entry_of) ((named (asm.Record 0) x >>= λ es. functions_in (machine_of object.form) item (bare_section object.bytes object.base) (frames es)) >>= λ fs. Ok (fs ++ []))) p)
+section_is arch item section es fixes p q r =
+    ap (λ (x : Result (List EntryView) RecordFault). by_parts arch item section x section.relocations) p
+    ∙ ap (λ (x : Result (List Fix) RelocFault). by_parts arch item section (Ok es) x) q
+    ∙ ap (λ (x : Result (Unit {0}) RelocFault). by_check arch item section es fixes x) r
 
-named_refused : (item : ℕ) (object : Object) (given : Result (List EntryView) RecordFault) (fault : AsmFault) → named (asm.Record 0) given ≡ Err fault
-    → ((named (asm.Record 0) given >>= λ es. functions_in (machine_of object.form) item (bare_section object.bytes object.base) (frames es)) >>= λ fs. Ok (fs ++ [])) ≡ Err fault
-named_refused item object (Ok es) fault p = cc
-named_refused item object (Err e) fault p = ap Err (let is : asm.Record 0 e ≡ fault = cc in is)
+records_fault : (arch : Arch) (item : ℕ) (section : CallFrames) (given : Result (List EntryView) RecordFault) (fault : AsmFault) → named (asm.Record section.number) given ≡ Err fault → by_parts arch item section given section.relocations ≡ Err fault
+records_fault arch item section (Ok es) fault p = cc
+records_fault arch item section (Err e) fault p = ap Err (let is : asm.Record section.number e ≡ fault = cc in is)
 
-pub records_refused : (item : ℕ) (object : Object) (fault : AsmFault) → named (asm.Record 0) (entries_of (machine_of object.form) object.bytes) ≡ Err fault → object_functions item object ≡ Err fault
+pub records_refused : (arch : Arch) (item : ℕ) (section : CallFrames) (fault : AsmFault) → named (asm.Record section.number) (entries_of arch section.bytes) ≡ Err fault → section_functions arch item section ≡ Err fault
 unfolding section_functions
-records_refused item object fault p = named_refused item object (entries_of (machine_of object.form) object.bytes) fault p
+records_refused arch item section fault p = records_fault arch item section (entries_of arch section.bytes) fault p
+
+relocations_fault : (arch : Arch) (item : ℕ) (section : CallFrames) (es : List EntryView) (given : Result (List Fix) RelocFault) (fault : AsmFault) → named (asm.Reloc section.number) given ≡ Err fault → by_parts arch item section (Ok es) given ≡ Err fault
+relocations_fault arch item section es (Ok fixes) fault p = cc
+relocations_fault arch item section es (Err e) fault p = ap Err (let is : asm.Reloc section.number e ≡ fault = cc in is)
+
+pub relocations_refused : (arch : Arch) (item : ℕ) (section : CallFrames) (es : List EntryView) (fault : AsmFault) → entries_of arch section.bytes ≡ Ok es → named (asm.Reloc section.number) section.relocations ≡ Err fault → section_functions arch item section ≡ Err fault
+unfolding section_functions
+relocations_refused arch item section es fault p q =
+    ap (λ (x : Result (List EntryView) RecordFault). by_parts arch item section x section.relocations) p
+    ∙ relocations_fault arch item section es section.relocations fault q
+
+pointers_fault : (arch : Arch) (item : ℕ) (section : CallFrames) (es : List EntryView) (fixes : List Fix) (given : Result (Unit {0}) RelocFault) (fault : AsmFault) → named (asm.Reloc section.number) given ≡ Err fault → by_check arch item section es fixes given ≡ Err fault
+pointers_fault arch item section es fixes (Ok x) fault p = cc
+pointers_fault arch item section es fixes (Err e) fault p = ap Err (let is : asm.Reloc section.number e ≡ fault = cc in is)
+
+pub pointers_refused : (arch : Arch) (item : ℕ) (section : CallFrames) (es : List EntryView) (fixes : List Fix) (fault : AsmFault) → entries_of arch section.bytes ≡ Ok es → section.relocations ≡ Ok fixes
+    → named (asm.Reloc section.number) (pointer_check (pointer_fields es) fixes) ≡ Err fault → section_functions arch item section ≡ Err fault
+unfolding section_functions
+pointers_refused arch item section es fixes fault p q r =
+    ap (λ (x : Result (List EntryView) RecordFault). by_parts arch item section x section.relocations) p
+    ∙ ap (λ (x : Result (List Fix) RelocFault). by_parts arch item section (Ok es) x) q
+    ∙ pointers_fault arch item section es fixes (pointer_check (pointer_fields es) fixes) fault r
+
+-- ---- several sections
+both_read : (before after : List Entry) (one others : Result (List Function) AsmFault) → after_read before (seen_as (map entry_of) one) ≡ Ok after
+    → after_read before (seen_as (map entry_of) (one >>= λ fs. others >>= λ gs. Ok (fs ++ gs))) ≡ after_read after (seen_as (map entry_of) others)
+both_read before after (Ok fs) (Ok gs) e =
+    let is : before ++ map entry_of fs ≡ after = cc in
+    ap Ok (ap (λ (xs : List Entry). before ++ xs) (map-append entry_of fs gs) ∙ sym (append_assoc before (map entry_of fs) (map entry_of gs)) ∙ ap (λ (xs : List Entry). xs ++ map entry_of gs) is)
+both_read before after (Ok fs) (Err fault) e = refl
+both_read before after (Err fault) others e = cc
+
+pub section_read : (arch : Arch) (item : ℕ) (s : CallFrames) (ss : List CallFrames) (before after : List Entry) → after_read before (seen_as (map entry_of) (section_functions arch item s)) ≡ Ok after
+    → after_read before (seen_as (map entry_of) (sections_functions arch item (s ∷ ss))) ≡ after_read after (seen_as (map entry_of) (sections_functions arch item ss))
+section_read arch item s ss before after e = both_read before after (section_functions arch item s) (sections_functions arch item ss) e
+
+pub section_refused : (arch : Arch) (item : ℕ) (s : CallFrames) (ss : List CallFrames) (fault : AsmFault) → section_functions arch item s ≡ Err fault → sections_functions arch item (s ∷ ss) ≡ Err fault
+section_refused arch item s ss fault e = ap (λ (one : Result (List Function) AsmFault). one >>= λ fs. sections_functions arch item ss >>= λ gs. Ok (fs ++ gs)) e
+
+pub from_none : (given : Result (List Entry) AsmFault) → after_read [] given ≡ given
+from_none (Ok entries) = refl
+from_none (Err fault) = refl
+
+-- of one section
+pub alone : (arch : Arch) (item : ℕ) (s : CallFrames) (after : List Entry) → after_read [] (seen_as (map entry_of) (section_functions arch item s)) ≡ Ok after → seen_as (map entry_of) (sections_functions arch item (s ∷ [])) ≡ Ok after
+alone arch item s after e =
+    sym (from_none (seen_as (map entry_of) (sections_functions arch item (s ∷ [])))) ∙ section_read arch item s [] [] after e ∙ ap Ok (append-nil after)
+
+-- the sections from a number on
+pub sections_more : (arch : Arch) (item : ℕ) (section : ℕ → CallFrames) (numbers : List ℕ) (k d : ℕ) (before after : List Entry) → k < length numbers
+    → after_read before (seen_as (map entry_of) (section_functions arch item (section (get_or numbers k d)))) ≡ Ok after
+    → after_read before (seen_as (map entry_of) (sections_functions arch item (map section (drop k numbers)))) ≡ after_read after (seen_as (map entry_of) (sections_functions arch item (map section (drop (suc k) numbers))))
+sections_more arch item section numbers k d before after within e =
+    ap (λ (xs : List ℕ). after_read before (seen_as (map entry_of) (sections_functions arch item (map section xs)))) (drop-cons numbers k d within)
+    ∙ section_read arch item (section (get_or numbers k d)) (map section (drop (suc k) numbers)) before after e
+
+pub sections_end : (arch : Arch) (item : ℕ) (section : ℕ → CallFrames) (numbers : List ℕ) (k d : ℕ) (before : List Entry) (fault : AsmFault) (given : Result (List Function) AsmFault) → k < length numbers
+    → section_functions arch item (section (get_or numbers k d)) ≡ Err fault
+    → after_read before (seen_as (map entry_of) (sections_functions arch item (map section (drop k numbers)))) ≡ seen_as (map entry_of) given → given ≡ Err fault
+sections_end arch item section numbers k d before fault given within e h =
+    refused_unseen [] given fault
+    (from_none (seen_as (map entry_of) given) ∙ sym h
+    ∙ ap (λ (xs : List ℕ). after_read before (seen_as (map entry_of) (sections_functions arch item (map section xs)))) (drop-cons numbers k d within)
+    ∙ ap (λ (r : Result (List Function) AsmFault). after_read before (seen_as (map entry_of) r)) (section_refused arch item (section (get_or numbers k d)) (map section (drop (suc k) numbers)) fault e))
 
 -- ---- the first input
 alone_first : (given : Result (List Function) AsmFault) (entries : List Entry) → seen_as (map entry_of) given ≡ Ok entries
@@ -123,17 +208,23 @@ alone_first : (given : Result (List Function) AsmFault) (entries : List Entry) �
 alone_first (Ok fs) entries e = ap (λ (xs : List Function). Ok (map entry_of xs)) (append-nil fs) ∙ ap Ok (let is : map entry_of fs ≡ entries = cc in is)
 alone_first (Err fault) entries e = cc
 
-pub first_reads : (object : Object) (entries : List Entry) → seen_as (map entry_of) (object_functions 0 object) ≡ Ok entries → seen_as (map entry_of) (functions_of 0 (object ∷ [])) ≡ Ok entries
-unfolding functions_of
-first_reads object entries e = alone_first (object_functions 0 object) entries e
+pub first_reads : (object : Object) (entries : List Entry) → seen_as (map entry_of) (object_functions 0 [] object) ≡ Ok entries → seen_as (map entry_of) (functions_of 0 (object ∷ [])) ≡ Ok entries
+unfolding functions_after
+first_reads object entries e = alone_first (object_functions 0 [] object) entries e
 
-pub first_refused : (object : Object) (fault : AsmFault) → object_functions 0 object ≡ Err fault → functions_of 0 (object ∷ []) ≡ Err (gather.Input 0 fault)
-unfolding functions_of
+pub first_refused : (object : Object) (fault : AsmFault) → object_functions 0 [] object ≡ Err fault → functions_of 0 (object ∷ []) ≡ Err (gather.Input 0 fault)
+unfolding functions_after
 first_refused object fault e = ap (λ (given : Result (List Function) AsmFault). named (gather.Input 0) given >>= λ fs. Ok (fs ++ [])) e
 
-pub first_wrapped : (object : Object) (fault : AsmFault) → (fault ≡ asm.NoMemory) ⊎ (object_functions 0 object ≡ Err fault) → (wraps_input 0 fault ≡ gather.NoMemory) ⊎ (functions_of 0 (object ∷ []) ≡ Err (wraps_input 0 fault))
+wrapped : (object : Object) (fault : AsmFault) → wraps_input 0 fault ≡ gather.Input 0 fault → (fault ≡ asm.NoMemory → ⊥) → (fault ≡ asm.NoMemory) ⊎ (object_functions 0 [] object ≡ Err fault)
+    → (wraps_input 0 fault ≡ gather.NoMemory) ⊎ (functions_of 0 (object ∷ []) ≡ Err (wraps_input 0 fault))
+wrapped object fault is other (inl e) = absurd (other e)
+wrapped object fault is other (inr e) = inr (first_refused object fault e ∙ ap Err (sym is))
+
+pub first_wrapped : (object : Object) (fault : AsmFault) → (fault ≡ asm.NoMemory) ⊎ (object_functions 0 [] object ≡ Err fault) → (wraps_input 0 fault ≡ gather.NoMemory) ⊎ (functions_of 0 (object ∷ []) ≡ Err (wraps_input 0 fault))
 first_wrapped object asm.NoMemory h = inl refl
-first_wrapped object (asm.Record section fault) (inl e) = cc
-first_wrapped object (asm.Record section fault) (inr e) = inr (first_refused object (asm.Record section fault) e)
-first_wrapped object (asm.Machine section fault) (inl e) = cc
-first_wrapped object (asm.Machine section fault) (inr e) = inr (first_refused object (asm.Machine section fault) e)
+first_wrapped object (asm.Elf fault) h = wrapped object (asm.Elf fault) refl (λ e. cc) h
+first_wrapped object (asm.Place fault) h = wrapped object (asm.Place fault) refl (λ e. cc) h
+first_wrapped object (asm.Reloc section fault) h = wrapped object (asm.Reloc section fault) refl (λ e. cc) h
+first_wrapped object (asm.Record section fault) h = wrapped object (asm.Record section fault) refl (λ e. cc) h
+first_wrapped object (asm.Machine section fault) h = wrapped object (asm.Machine section fault) refl (λ e. cc) h

@@ -1,11 +1,12 @@
 -- What calls answer, by the definitions of what inputs come to.
-use Rattle.std.specs.Prelude.{◌≡◌, ◌⊎◌, ℕ, List, [], ◌∷◌, map, length, Option, None, Result, Ok, Err}
+use Rattle.std.specs.Prelude.{◌≡◌, ◌⊎◌, ℕ, List, [], ◌∷◌, ◌++◌, map, length, Option, None, Result, Ok, Err}
 use Rattle.sf_model.specs.declared.function.Func.{Func}
 use Rattle.sf_model.specs.declared.omission.Omitted.{Omitted}
 use Rattle.sf_model.specs.declared.omission.Span.{Span}
 use Rattle.cfa_machine.specs.declared.fault.MachineFault.{MachineFault}
 use Rattle.eh_records.specs.declared.fault.RecordFault.{RecordFault}
 use Rattle.eh_records.specs.Section.{EntryView}
+use Rattle.elf_reloc.specs.declared.fault.RelocFault.{RelocFault}
 use Rattle.sf_model.specs.Tight.{Narrow, Tight}
 use Rattle.sf_write.specs.Section.{table_of}
 use Rattle.sf_asm.specs.declared.entry.Entry.{Entry}
@@ -31,13 +32,27 @@ abbrev pub ReadsOne : Result Entry AsmFault → Result Function AsmFault → Typ
 ReadsOne (Ok entry) given = seen_as entry_of given ≡ Ok entry
 ReadsOne (Err fault) given = (fault ≡ asm.NoMemory) ⊎ (given ≡ Err fault)
 
--- the fault of an instruction that can't be run was answered, or memory was wanting
-abbrev pub IsRunFault : AsmFault → Option MachineFault → Type 0
-IsRunFault fault first = (fault ≡ asm.NoMemory) ⊎ (named (asm.Machine 0) (unless first) ≡ Err fault)
+-- the fault of the first instruction of a section's function that can't be run was answered, or memory was wanting
+abbrev pub IsRunFault : (section : ℕ) → AsmFault → Option MachineFault → Type 0
+IsRunFault section fault first = (fault ≡ asm.NoMemory) ⊎ (named (asm.Machine section) (unless first) ≡ Err fault)
 
--- the fault of the records was answered, or memory was wanting
-abbrev pub IsRecordsFault : AsmFault → Result (List EntryView) RecordFault → Type 0
-IsRecordsFault fault given = (fault ≡ asm.NoMemory) ⊎ (named (asm.Record 0) given ≡ Err fault)
+-- the fault of a section's records was answered, or memory was wanting
+abbrev pub IsRecordsFault : (section : ℕ) → AsmFault → Result (List EntryView) RecordFault → Type 0
+IsRecordsFault section fault given = (fault ≡ asm.NoMemory) ⊎ (named (asm.Record section) given ≡ Err fault)
+
+-- the fault of a section's relocations was answered, or memory was wanting
+abbrev pub IsRelocFault : {X : Type 0} → (section : ℕ) → AsmFault → Result X RelocFault → Type 0
+IsRelocFault section fault given = (fault ≡ asm.NoMemory) ⊎ (named (asm.Reloc section) given ≡ Err fault)
+
+-- functions that were read before the others
+abbrev pub after_read : List Entry → Result (List Entry) AsmFault → Result (List Entry) AsmFault
+after_read before (Ok entries) = Ok (before ++ entries)
+after_read before (Err fault) = Err fault
+
+-- what was read of all functions stands behind what was read before; or the first fault was answered, or memory was wanting
+abbrev pub ReadsMore : {X : Type 0} → Result X AsmFault → (before after : List Entry) → Result (List Function) AsmFault → Type 0
+ReadsMore (Ok x) before after given = after_read before (seen_as (map entry_of) given) ≡ Ok after
+ReadsMore (Err fault) before after given = (fault ≡ asm.NoMemory) ⊎ (given ≡ Err fault)
 
 -- the same of all functions of an input
 abbrev pub ReadsAll : {V : Type 0} → (V → List Entry) → Result V AsmFault → Result (List Function) AsmFault → Type 0
@@ -64,9 +79,9 @@ pub record IsAssembled (object : Object) (at : ℕ) (section : List ℕ) (kept :
   pub ordered : List Entry
   pub in_order : InOrder (map entry_of functions) ordered
   pub accepted : link_fault at ordered ≡ None
-  pub faithful : Faithful section at (machine_of object.form) functions
-  pub tight : Tight section at (table_of (machine_of object.form) (kept_of ordered))
-  pub narrow : Narrow section (table_of (machine_of object.form) (kept_of ordered))
+  pub faithful : Faithful section at (machine_of object) functions
+  pub tight : Tight section at (table_of (machine_of object) (kept_of ordered))
+  pub narrow : Narrow section (table_of (machine_of object) (kept_of ordered))
   pub kept_is : kept ≡ length (kept_of ordered)
   pub omitted_are : omitted ≡ omitted_of ordered
 

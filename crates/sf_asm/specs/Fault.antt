@@ -1,5 +1,9 @@
 -- Which faults are refusals of the inputs, with a line of their own, and which ones a call answers.
 use Rattle.std.specs.Prelude.{ℕ, Bool, true, false}
+use Rattle.elf_place.specs.declared.fault.PlaceFault.{PlaceFault}
+use Rattle.elf_place.specs.declared.fault.PlaceFault.TheVariants as place_faults
+use Rattle.elf_reloc.specs.declared.fault.RelocFault.{RelocFault}
+use Rattle.elf_reloc.specs.declared.fault.RelocFault.TheVariants as reloc_faults
 use Rattle.eh_records.specs.declared.fault.RecordFault.{RecordFault}
 use Rattle.eh_records.specs.declared.fault.RecordFault.TheVariants as record_faults
 use Rattle.cfa_machine.specs.declared.fault.MachineFault.{MachineFault}
@@ -11,7 +15,15 @@ use Rattle.sf_asm.specs.declared.fault.GatherFault.TheVariants as gather
 use Rattle.sf_asm.specs.declared.fault.LinkFault.{LinkFault}
 use Rattle.sf_asm.specs.declared.fault.LinkFault.TheVariants as link
 
--- a fault of one section's records or instructions as the input's, where want of memory stands alone
+-- a fault of placing, or of one section's relocations, records or instructions as the input's, where want of memory stands alone
+abbrev pub wraps_place : PlaceFault → AsmFault
+wraps_place place_faults.NoMemory = asm.NoMemory
+wraps_place fault = asm.Place fault
+
+abbrev pub wraps_reloc : (section : ℕ) → RelocFault → AsmFault
+wraps_reloc section reloc_faults.NoMemory = asm.NoMemory
+wraps_reloc section fault = asm.Reloc section fault
+
 abbrev pub wraps_record : (section : ℕ) → RecordFault → AsmFault
 wraps_record section record_faults.NoMemory = asm.NoMemory
 wraps_record section fault = asm.Record section fault
@@ -25,6 +37,14 @@ wraps_input item asm.NoMemory = gather.NoMemory
 wraps_input item fault = gather.Input item fault
 
 -- all but want of memory
+abbrev pub is_place_refusal : PlaceFault → Bool
+is_place_refusal place_faults.NoMemory = false
+is_place_refusal fault = true
+
+abbrev pub is_reloc_refusal : RelocFault → Bool
+is_reloc_refusal reloc_faults.NoMemory = false
+is_reloc_refusal fault = true
+
 abbrev pub is_record_refusal : RecordFault → Bool
 is_record_refusal record_faults.NoMemory = false
 is_record_refusal fault = true
@@ -35,12 +55,18 @@ is_machine_refusal fault = true
 
 -- a refusal of one input
 abbrev pub is_input_refusal : AsmFault → Bool
+is_input_refusal (asm.Elf fault) = true
+is_input_refusal (asm.Place fault) = is_place_refusal fault
+is_input_refusal (asm.Reloc section fault) = is_reloc_refusal fault
 is_input_refusal (asm.Record section fault) = is_record_refusal fault
 is_input_refusal (asm.Machine section fault) = is_machine_refusal fault
 is_input_refusal asm.NoMemory = false
 
 -- a refusal, or want of memory on its own
 abbrev pub is_input_answered : AsmFault → Bool
+is_input_answered (asm.Elf fault) = true
+is_input_answered (asm.Place fault) = is_place_refusal fault
+is_input_answered (asm.Reloc section fault) = is_reloc_refusal fault
 is_input_answered (asm.Record section fault) = is_record_refusal fault
 is_input_answered (asm.Machine section fault) = is_machine_refusal fault
 is_input_answered asm.NoMemory = true

@@ -1,10 +1,17 @@
 pub mod Entry
 pub mod Fault
 pub mod Order
+pub mod Steps
+pub mod Groups
+pub mod Relocated
+pub mod Sections
 pub mod Functions
 pub mod Kept
 pub mod Linking
 pub mod Faithful
 pub mod Answers
 pub mod Told
+pub mod Views
+pub mod Seen
+pub mod Placing
 pub mod Accepted

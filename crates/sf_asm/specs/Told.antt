@@ -7,6 +7,12 @@ use Rattle.cfa_insn.specs.declared.fault.InsnFault.{InsnFault}
 use Rattle.cfa_insn.specs.declared.fault.InsnFault.TheVariants as insn
 use Rattle.cfa_machine.specs.declared.fault.MachineFault.{MachineFault}
 use Rattle.cfa_machine.specs.declared.fault.MachineFault.TheVariants as machine
+use Rattle.elf_read.specs.declared.fault.ElfFault.{ElfFault}
+use Rattle.elf_read.specs.declared.fault.ElfFault.TheVariants as elf
+use Rattle.elf_place.specs.declared.fault.PlaceFault.{PlaceFault}
+use Rattle.elf_place.specs.declared.fault.PlaceFault.TheVariants as place_faults
+use Rattle.elf_reloc.specs.declared.fault.RelocFault.{RelocFault}
+use Rattle.elf_reloc.specs.declared.fault.RelocFault.TheVariants as reloc
 use Rattle.eh_records.specs.declared.fault.RecordFault.{RecordFault}
 use Rattle.eh_records.specs.declared.fault.RecordFault.TheVariants as record_faults
 use Rattle.sf_asm.specs.declared.fault.AsmFault.{AsmFault}
@@ -28,6 +34,47 @@ told_by notice = record { item = notice.item; group = notice.group; number = not
 -- want of memory has no line
 abbrev pub untold : Option ℕ → Told
 untold item = record { item = item; group = group.Link; number = 0; values = [] }
+
+-- of an ELF file: the place
+abbrev pub told_of_file : Option ℕ → (number place : ℕ) → Told
+told_of_file item number place = record { item = item; group = group.Elf; number = number; values = place ∷ [] }
+
+abbrev pub told_of_elf : Option ℕ → ElfFault → Told
+told_of_elf item (elf.Short place) = told_of_file item 1 place
+told_of_elf item (elf.NotElf place) = told_of_file item 2 place
+told_of_elf item (elf.Class place) = told_of_file item 3 place
+told_of_elf item (elf.Order place) = told_of_file item 4 place
+told_of_elf item (elf.Version place) = told_of_file item 5 place
+told_of_elf item (elf.Machine place) = told_of_file item 6 place
+told_of_elf item (elf.Kind place) = told_of_file item 7 place
+told_of_elf item (elf.EntrySize place) = told_of_file item 8 place
+told_of_elf item (elf.Strings place) = told_of_file item 9 place
+told_of_elf item (elf.OutOfFile place) = told_of_file item 10 place
+told_of_elf item (elf.Compressed place) = told_of_file item 11 place
+told_of_elf item (elf.SymbolIndex place) = told_of_file item 12 place
+
+-- of placing: the section
+abbrev pub told_of_section : Option ℕ → (number section : ℕ) → Told
+told_of_section item number section = record { item = item; group = group.Place; number = number; values = section ∷ [] }
+
+abbrev pub told_of_placing : Option ℕ → PlaceFault → Told
+told_of_placing item (place_faults.Align section) = told_of_section item 1 section
+told_of_placing item (place_faults.AddressOverflow section) = told_of_section item 2 section
+told_of_placing item (place_faults.NoBits section) = told_of_section item 3 section
+told_of_placing item place_faults.NoMemory = untold item
+
+-- of relocations: the call frame section, and the relocation's number, or the section that has relocations without addends
+abbrev pub told_of_relocation : Option ℕ → (section number what : ℕ) → Told
+told_of_relocation item section number what = record { item = item; group = group.Reloc; number = number; values = section ∷ what ∷ [] }
+
+abbrev pub told_of_relocating : Option ℕ → (section : ℕ) → RelocFault → Told
+told_of_relocating item section (reloc.UnknownType index) = told_of_relocation item section 1 index
+told_of_relocating item section (reloc.Range index) = told_of_relocation item section 2 index
+told_of_relocating item section (reloc.Place index) = told_of_relocation item section 3 index
+told_of_relocating item section (reloc.Twice index) = told_of_relocation item section 4 index
+told_of_relocating item section (reloc.RelSection other) = told_of_relocation item section 5 other
+told_of_relocating item section (reloc.OutOfSection index) = told_of_relocation item section 6 index
+told_of_relocating item section reloc.NoMemory = untold item
 
 -- of records: the section and the place
 abbrev pub told_of_place : Option ℕ → (section number place : ℕ) → Told
@@ -65,6 +112,9 @@ told_of_machine item section machine.NoMemory = untold item
 
 -- of an input
 abbrev pub told_of_input : Option ℕ → AsmFault → Told
+told_of_input item (asm.Elf fault) = told_of_elf item fault
+told_of_input item (asm.Place fault) = told_of_placing item fault
+told_of_input item (asm.Reloc section fault) = told_of_relocating item section fault
 told_of_input item (asm.Record section fault) = told_of_records item section fault
 told_of_input item (asm.Machine section fault) = told_of_machine item section fault
 told_of_input item asm.NoMemory = untold item

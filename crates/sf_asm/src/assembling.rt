@@ -8,7 +8,6 @@ ghost use Rattle.sf_asm.specs.Fault.{is_answered};
 use crate::fault::{GatherFault, LinkFault};
 use crate::gathering::gather_one;
 use crate::input::Input;
-use crate::reading::arch_of;
 use sf_model::Omitted;
 use sf_write::{WriteFault, write};
 use std::alloc::Global;
@@ -43,7 +42,7 @@ pub fn assemble(alloc: Global, input: &Input<'_>, at: u64) -> Result<Linked, Lin
         Err(GatherFault::NoMemory) => return Err(LinkFault::NoMemory),
         Err(fault) => return Err(LinkFault::Gather(fault)),
     };
-    match write(alloc, arch_of(input), at, &sorted.kept) {
+    match write(alloc, sorted.arch, at, &sorted.kept) {
         Ok(section) => Ok(Linked {
             section,
             kept: sorted.kept.len() as u32,

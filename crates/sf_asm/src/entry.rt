@@ -1,6 +1,6 @@
 //! A function that was read, kept or left out.
 
-use sf_model::{Func, Omission, Span};
+use sf_model::{Arch, Func, Omission, Span};
 
 /// What became of a function.
 #[derive(Drop)]
@@ -16,4 +16,13 @@ pub enum Outcome {
 pub struct Entry {
     pub span: Span,
     pub outcome: Outcome,
+}
+
+/// The functions that were read of an input.
+#[derive(Drop)]
+pub struct Read {
+    /// The input's machine.
+    pub arch: Arch,
+    /// Its functions, in the order of its sections and records.
+    pub entries: Vec<Entry>,
 }

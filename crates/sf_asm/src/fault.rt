@@ -4,6 +4,9 @@ ghost use Rattle.std.specs.Prelude.{◌≡◌};
 
 use cfa_machine::MachineFault;
 use eh_records::RecordFault;
+use elf_place::PlaceFault;
+use elf_read::ElfFault;
+use elf_reloc::RelocFault;
 use std::alloc::{AllocError, AllocFailed};
 use thiserror::Error;
 
@@ -11,6 +14,15 @@ use thiserror::Error;
 /// one. Want of memory is `NoMemory`, and never stands inside another variant.
 #[derive(Debug, Drop, Error)]
 pub enum AsmFault {
+    /// An ELF file can't be read, or is a core.
+    #[error("{0:?}")]
+    Elf(ElfFault),
+    /// A section of it can't be placed.
+    #[error("{0:?}")]
+    Place(PlaceFault),
+    /// A relocation of a call frame section can't be applied.
+    #[error("section {0}: {1:?}")]
+    Reloc(u32, RelocFault),
     /// A record can't be read, or its function has no start or end.
     #[error("section {0}: {1:?}")]
     Record(u32, RecordFault),

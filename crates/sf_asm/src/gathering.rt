@@ -13,10 +13,10 @@ ghost use Rattle.sf_asm.specs.Linking.{Gathers, InOrder, functions_fault, limits
 ghost use Rattle.sf_asm.specs.Order.{rows_of};
 ghost use Rattle.sf_asm.specs.Fault.{is_gather_answered, is_input_answered, wraps_input};
 
-use crate::entry::{Entry, Outcome};
+use crate::entry::{Entry, Outcome, Read};
 use crate::fault::{AsmFault, GatherFault};
 use crate::input::Input;
-use crate::reading::{arch_of, read_input};
+use crate::reading::read_input;
 use sf_model::{Arch, Func, Omitted, Span};
 use std::alloc::{AllocError, Global};
 
@@ -127,18 +127,21 @@ fn order(entries: &mut Vec<Entry>) -> Result<(), GatherFault>
 /// Functions, sorted out by what became of them, in their order.
 #[derive(Drop)]
 pub struct Sorted {
+    pub arch: Arch,
     pub kept: Vec<Func>,
     pub omitted: Vec<Omitted>,
     pub spans: Vec<Span>,
 }
 
 /// Sorts out functions.
-fn sort_out(alloc: Global, entries: Vec<Entry>) -> Result<Sorted, AllocError>
+fn sort_out(alloc: Global, arch: Arch, entries: Vec<Entry>) -> Result<Sorted, AllocError>
+    ensures arch { IfOk result (λ s. s.arch ≡ arch) }
     ensures kept { IfOk result (λ s. s.kept.items ≡ kept_of entries.items) }
     ensures omitted { IfOk result (λ s. s.omitted.items ≡ omitted_of entries.items) }
     ensures spans { IfOk result (λ s. s.spans.items ≡ spans_of entries.items) }
 {
     let mut sorted = Sorted {
+        arch,
         kept: Vec::new(alloc),
         omitted: Vec::new(alloc),
         spans: Vec::new(alloc),
@@ -171,44 +174,47 @@ fn input_fault(fault: AsmFault) -> GatherFault
 }
 
 /// The functions of the first input, as they stand in it.
-fn read_first(alloc: Global, input: &Input<'_>) -> Result<Vec<Entry>, GatherFault>
+fn read_first(alloc: Global, input: &Input<'_>) -> Result<Read, GatherFault>
     requires { length input.now.bytes.now < 2 ^ 32 }
-    ensures reads { IfOk result (λ entries. seen_as (map entry_of) (functions_of 0 (object_of input.now ∷ [])) ≡ Ok entries.items) }
-    ensures sound { IfOk result (λ entries. All (IsSound (machine_of input.now.form)) entries.items) }
+    ensures reads { IfOk result (λ read. seen_as (map entry_of) (functions_of 0 (object_of input.now ∷ [])) ≡ Ok read.entries.items) }
+    ensures arch { IfOk result (λ read. read.arch ≡ machine_of (object_of input.now)) }
+    ensures sound { IfOk result (λ read. All (IsSound read.arch) read.entries.items) }
     ensures fault { IfErr result (λ fault. (fault ≡ NoMemory) ⊎ (functions_of 0 (object_of input.now ∷ []) ≡ Err fault)) }
     ensures answered { IfErr result (λ fault. IsTrue (is_gather_answered fault)) }
 {
-    match read_input(alloc, arch_of(input), FIRST_ITEM, input) {
-        Ok(entries) => Ok(entries),
+    match read_input(alloc, FIRST_ITEM, input) {
+        Ok(read) => Ok(read),
         Err(fault) => Err(input_fault(fault)),
     }
 }
 
 /// The functions of one input, in order.
-fn ordered(alloc: Global, input: &Input<'_>) -> Result<Vec<Entry>, GatherFault>
+fn ordered(alloc: Global, input: &Input<'_>) -> Result<Read, GatherFault>
     requires { length input.now.bytes.now < 2 ^ 32 }
-    ensures gathered { IfOk result (λ entries. Gathers (object_of input.now ∷ []) (Ok entries.items)) }
-    ensures sound { IfOk result (λ entries. All (IsSound (machine_of input.now.form)) entries.items) }
-    ensures checked { IfOk result (λ entries. functions_fault entries.items ≡ None) }
+    ensures gathered { IfOk result (λ read. Gathers (object_of input.now ∷ []) (Ok read.entries.items)) }
+    ensures arch { IfOk result (λ read. read.arch ≡ machine_of (object_of input.now)) }
+    ensures sound { IfOk result (λ read. All (IsSound read.arch) read.entries.items) }
+    ensures checked { IfOk result (λ read. functions_fault read.entries.items ≡ None) }
     ensures fault { IfErr result (IsFirstGathered (object_of input.now ∷ [])) }
     ensures answered { IfErr result (λ fault. IsTrue (is_gather_answered fault)) }
 {
-    let mut entries = read_first(alloc, input)?;
-    order(&mut entries)?;
-    check(&entries)?;
-    Ok(entries)
+    let mut read = read_first(alloc, input)?;
+    order(&mut read.entries)?;
+    check(&read.entries)?;
+    Ok(read)
 }
 
 /// The functions of one input, sorted out.
 pub fn gather_one(alloc: Global, input: &Input<'_>) -> Result<Sorted, GatherFault>
     requires { length input.now.bytes.now < 2 ^ 32 }
     ensures gathered { IfOk result (λ s. AreGathered (object_of input.now ∷ []) s.kept.items s.omitted.items s.spans.items) }
-    ensures kept { IfOk result (λ s. AreWritable (machine_of input.now.form) s.kept.items) }
+    ensures arch { IfOk result (λ s. s.arch ≡ machine_of (object_of input.now)) }
+    ensures kept { IfOk result (λ s. AreWritable s.arch s.kept.items) }
     ensures fault { IfErr result (IsFirstGathered (object_of input.now ∷ [])) }
     ensures answered { IfErr result (λ fault. IsTrue (is_gather_answered fault)) }
 {
-    let entries = ordered(alloc, input)?;
-    Ok(sort_out(alloc, entries)?)
+    let read = ordered(alloc, input)?;
+    Ok(sort_out(alloc, read.arch, read.entries)?)
 }
 
 /// Gathers the functions of the inputs, of which there is one for now. `before` is the machine of an item
@@ -231,7 +237,7 @@ pub fn gather(
     // One section can hold them.
     ensures kept { IfOk result (λ gathered. All (λ list. AreWritable gathered.arch list.items) gathered.kept.items) }
     // It's the inputs' machine.
-    ensures arch { IfOk result (λ gathered. All (λ input. machine_of input.form ≡ gathered.arch) inputs.now) }
+    ensures arch { IfOk result (λ gathered. All (λ input. machine_of (object_of input) ≡ gathered.arch) inputs.now) }
     // A fault is the first one.
     ensures fault { IfErr result (IsFirstGathered (map object_of inputs.now)) }
     ensures answered { IfErr result (λ fault. IsTrue (is_gather_answered fault)) }
@@ -242,7 +248,7 @@ pub fn gather(
     let mut kept = Vec::new(alloc);
     kept.push(sorted.kept)?;
     Ok(Gathered {
-        arch: arch_of(input),
+        arch: sorted.arch,
         kept,
         omitted: sorted.omitted,
         spans: sorted.spans,

@@ -12,13 +12,18 @@
 #![tactic(auto)]
 
 mod assembling;
+mod elf;
 mod entry;
 mod fault;
+mod frames;
 mod gathering;
+mod groups;
 mod input;
 mod laws;
 mod notices;
+mod overlay;
 mod reading;
+mod section;
 
 pub use assembling::{Linked, assemble};
 pub use fault::{AsmFault, GatherFault, LinkFault};

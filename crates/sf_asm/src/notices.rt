@@ -2,14 +2,17 @@
 
 ghost use Rattle.std.specs.Prelude.{◌≡◌, ◌∷◌, [], ℕ, Option, IsTrue, IsSome};
 ghost use Rattle.sf_model.specs.Notice.{HasLine, up_to};
-ghost use Rattle.sf_asm.specs.Told.{told_by, told_of_place, told_of_records, told_of_instruction, told_of_machine, told_of_input, told_of_gathering, told_of_linking};
-ghost use Rattle.sf_asm.specs.Fault.{is_record_refusal, is_machine_refusal, is_input_refusal, is_gather_refusal, is_refusal};
+ghost use Rattle.sf_asm.specs.Told.{told_by, told_of_file, told_of_elf, told_of_section, told_of_placing, told_of_relocation, told_of_relocating, told_of_place, told_of_records, told_of_instruction, told_of_machine, told_of_input, told_of_gathering, told_of_linking};
+ghost use Rattle.sf_asm.specs.Fault.{is_place_refusal, is_reloc_refusal, is_record_refusal, is_machine_refusal, is_input_refusal, is_gather_refusal, is_refusal};
 
 use crate::fault::{AsmFault, GatherFault, LinkFault};
 use arrayvec::ArrayVec;
 use cfa_insn::InsnFault;
 use cfa_machine::MachineFault;
 use eh_records::RecordFault;
+use elf_place::PlaceFault;
+use elf_read::ElfFault;
+use elf_reloc::RelocFault;
 use sf_model::{Group, Notice};
 
 /// Values of a notice, of which there are one to four.
@@ -43,6 +46,99 @@ fn four(a: u64, b: u64, c: u64, d: u64) -> ArrayVec<u64, 4>
     let mut values = three(a, b, c);
     values.push(d);
     values
+}
+
+/// The number of a fault of an ELF file and the place that it carries.
+fn elf_number(fault: ElfFault) -> (u8, u64)
+    ensures told { (item : Option ℕ) → told_of_elf item fault ≡ told_of_file item result.0 result.1 }
+    ensures number { IsTrue (up_to 12 result.0) }
+{
+    match fault {
+        ElfFault::Short(place) => (1, place),
+        ElfFault::NotElf(place) => (2, place),
+        ElfFault::Class(place) => (3, place),
+        ElfFault::Order(place) => (4, place),
+        ElfFault::Version(place) => (5, place),
+        ElfFault::Machine(place) => (6, place),
+        ElfFault::Kind(place) => (7, place),
+        ElfFault::EntrySize(place) => (8, place),
+        ElfFault::Strings(place) => (9, place),
+        ElfFault::OutOfFile(place) => (10, place),
+        ElfFault::Compressed(place) => (11, place),
+        ElfFault::SymbolIndex(place) => (12, place),
+    }
+}
+
+fn elf_notice(item: Option<u32>, fault: ElfFault) -> Notice
+    ensures told { told_by result ≡ told_of_elf item fault }
+    ensures line { IsSome item → HasLine result }
+{
+    let (number, place) = elf_number(fault);
+    Notice {
+        item,
+        group: Group::Elf,
+        number,
+        values: one(place),
+    }
+}
+
+/// The number of a fault of placing and the section that it carries.
+fn place_number(fault: PlaceFault) -> (u8, u32)
+    requires { IsTrue (is_place_refusal fault) }
+    ensures told { (item : Option ℕ) → told_of_placing item fault ≡ told_of_section item result.0 result.1 }
+    ensures number { IsTrue (up_to 3 result.0) }
+{
+    match fault {
+        PlaceFault::Align(section) => (1, section),
+        PlaceFault::AddressOverflow(section) => (2, section),
+        PlaceFault::NoBits(section) => (3, section),
+        PlaceFault::NoMemory => unreachable!(),
+    }
+}
+
+fn place_notice(item: Option<u32>, fault: PlaceFault) -> Notice
+    requires { IsTrue (is_place_refusal fault) }
+    ensures told { told_by result ≡ told_of_placing item fault }
+    ensures line { IsSome item → HasLine result }
+{
+    let (number, section) = place_number(fault);
+    Notice {
+        item,
+        group: Group::Place,
+        number,
+        values: one(u64::from(section)),
+    }
+}
+
+/// The number of a fault of the relocations and the number that it carries.
+fn reloc_number(fault: RelocFault) -> (u8, u32)
+    requires { IsTrue (is_reloc_refusal fault) }
+    ensures told { (item : Option ℕ) (section : ℕ) → told_of_relocating item section fault ≡ told_of_relocation item section result.0 result.1 }
+    ensures number { IsTrue (up_to 6 result.0) }
+{
+    match fault {
+        RelocFault::UnknownType(index) => (1, index),
+        RelocFault::Range(index) => (2, index),
+        RelocFault::Place(index) => (3, index),
+        RelocFault::Twice(index) => (4, index),
+        RelocFault::RelSection(other) => (5, other),
+        RelocFault::OutOfSection(index) => (6, index),
+        RelocFault::NoMemory => unreachable!(),
+    }
+}
+
+fn reloc_notice(item: Option<u32>, section: u32, fault: RelocFault) -> Notice
+    requires { IsTrue (is_reloc_refusal fault) }
+    ensures told { told_by result ≡ told_of_relocating item section fault }
+    ensures line { IsSome item → HasLine result }
+{
+    let (number, what) = reloc_number(fault);
+    Notice {
+        item,
+        group: Group::Reloc,
+        number,
+        values: two(u64::from(section), u64::from(what)),
+    }
 }
 
 /// The number of a fault of the records and the place that it carries.
@@ -126,6 +222,9 @@ impl AsmFault {
         ensures line { IsSome item → HasLine result }
     {
         match self {
+            AsmFault::Elf(fault) => elf_notice(item, *fault),
+            AsmFault::Place(fault) => place_notice(item, *fault),
+            AsmFault::Reloc(section, fault) => reloc_notice(item, *section, *fault),
             AsmFault::Record(section, fault) => record_notice(item, *section, *fault),
             AsmFault::Machine(section, fault) => machine_notice(item, *section, *fault),
             AsmFault::NoMemory => unreachable!(),

@@ -12,10 +12,10 @@ use Rattle.sf_run.specs.declared.refusal.Limit.TheVariants.{File, Functions, Row
 use Rattle.sf_run.specs.declared.status.Status.{Status}
 use Rattle.sf_run.specs.declared.status.Status.TheVariants as status
 use Rattle.sf_run.specs.First.{Contents, First, IsFirst, IsExceeded, object_in}
-use Rattle.sf_run.specs.Words.{BareInput, LinkWords}
+use Rattle.sf_run.specs.Words.{InputWords, LinkWords}
 use Rattle.sf_run.specs.Ends.{FilesSeen, SinkSeen, Ends, IsComplete, IsUnfaulted}
 
-no_fault_first : (input : BareInput) (at : ℕ) (bytes : List ℕ) (fault : LinkFault) → First input at bytes None → Links (object_in input bytes ∷ []) at (Err fault) → ⊥
+no_fault_first : (input : InputWords) (at : ℕ) (bytes : List ℕ) (fault : LinkFault) → First input at bytes None → Links (object_in input bytes ∷ []) at (Err fault) → ⊥
 no_fault_first input at bytes fault none first =
     let same = one_result (object_in input bytes ∷ []) at (Ok none.1.0) (Err fault) none.1.1 first in
     cc

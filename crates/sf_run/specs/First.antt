@@ -8,7 +8,6 @@ use Rattle.sf_asm.specs.declared.entry.Entry.{Entry}
 use Rattle.sf_asm.specs.declared.fault.GatherFault.TheVariants.{TooManyFunctions, TooManyRows}
 use Rattle.sf_asm.specs.declared.fault.LinkFault.{LinkFault}
 use Rattle.sf_asm.specs.declared.fault.LinkFault.TheVariants.{Gather}
-use Rattle.sf_asm.specs.declared.input.Form.TheVariants.{Bare}
 use Rattle.sf_asm.specs.Answers.{IsAssembled}
 use Rattle.sf_asm.specs.Functions.{Object}
 use Rattle.sf_asm.specs.Linking.{Links}
@@ -16,7 +15,7 @@ use Rattle.sf_asm.specs.Told.{told_by, told_of_linking}
 use Rattle.sf_text.specs.Report.{report_text}
 use Rattle.sf_run.specs.declared.refusal.Limit.{Limit}
 use Rattle.sf_run.specs.declared.refusal.Limit.TheVariants.{File, Functions, Rows}
-use Rattle.sf_run.specs.Words.{BareInput, LinkWords}
+use Rattle.sf_run.specs.Words.{InputWords, LinkWords}
 
 -- the contents of all names, where they are told
 abbrev pub Contents : Type 0
@@ -27,8 +26,8 @@ abbrev pub IsInput : Contents → (name bytes : List ℕ) → Type 0
 IsInput contents name bytes = IfSome contents (λ told. bytes ≡ contents_of told name)
 
 -- the input that the words name, with these bytes
-abbrev pub object_in : BareInput → (bytes : List ℕ) → Object
-object_in input bytes = record { form = Bare input.arch; bytes = bytes; base = input.base }
+abbrev pub object_in : InputWords → (bytes : List ℕ) → Object
+object_in input bytes = record { form = input.form; bytes = bytes; base = input.base }
 
 -- why a run is refused: the input is longer than the limit, or its functions can't be linked
 pub data Refusing : Type 0 where
@@ -36,14 +35,14 @@ pub data Refusing : Type 0 where
   Linking : LinkFault → Refusing
 
 -- the first refusal over these bytes of the input, or none: the limit of 2^28 bytes comes first, and then what linking comes to
-abbrev pub First : BareInput → (at : ℕ) → (bytes : List ℕ) → Option Refusing → Type 0
+abbrev pub First : InputWords → (at : ℕ) → (bytes : List ℕ) → Option Refusing → Type 0
 First input at bytes (Some TooLong) = 2 ^ 28 < length bytes
 First input at bytes (Some (Linking fault)) = (length bytes ≤ 2 ^ 28) × Links (object_in input bytes ∷ []) at (Err fault)
 First input at bytes None = (length bytes ≤ 2 ^ 28) × ((ordered : List Entry) × Links (object_in input bytes ∷ []) at (Ok ordered))
 
 -- There is no refusal. The section is the faithful one of the input, without gaps and with the least widths, and the text is the
 -- report of what it holds and of what was left out.
-pub record IsMadeOf (input : BareInput) (at : ℕ) (bytes section text : List ℕ) : Type 0 where
+pub record IsMadeOf (input : InputWords) (at : ℕ) (bytes section text : List ℕ) : Type 0 where
   pub kept : ℕ
   pub omitted : List Omitted
   pub assembled : IsAssembled (object_in input bytes) at section kept omitted

@@ -13,7 +13,7 @@ use Rattle.sf_run.specs.declared.refusal.Limit.TheVariants.{File, Functions, Row
 use Rattle.sf_run.specs.declared.refusal.Refusal.{Refusal}
 use Rattle.sf_run.specs.declared.refusal.Refusal.TheVariants as refusal
 use Rattle.sf_run.specs.First.{Contents, IsRefused, IsExceeded, object_in}
-use Rattle.sf_run.specs.Words.{BareInput, LinkWords}
+use Rattle.sf_run.specs.Words.{InputWords, LinkWords}
 
 -- the notice shows this fault, which has a line
 pub record Shows (fault : LinkFault) (notice : Notice) : Type 0 where
@@ -30,13 +30,13 @@ IsRefusalOf fault (refusal.Limit Rows) = fault ≡ Gather TooManyRows
 IsRefusalOf fault (refusal.Input notice) = Shows fault notice
 
 -- the refusal of an input with these bytes, for a section at this address, is its first
-pub record IsFirstOf (input : BareInput) (at : ℕ) (bytes : List ℕ) (refused : Refusal) : Type 0 where
+pub record IsFirstOf (input : InputWords) (at : ℕ) (bytes : List ℕ) (refused : Refusal) : Type 0 where
   pub fault : LinkFault
   pub first : Links (object_in input bytes ∷ []) at (Err fault)
   pub is : IsRefusalOf fault refused
 
 -- or else memory was wanting
-abbrev pub IsLinkRefusal : BareInput → (at : ℕ) → (bytes : List ℕ) → Refusal → Type 0
+abbrev pub IsLinkRefusal : InputWords → (at : ℕ) → (bytes : List ℕ) → Refusal → Type 0
 IsLinkRefusal input at bytes refusal.Memory = Unit {0}
 IsLinkRefusal input at bytes refused = IsFirstOf input at bytes refused
 

@@ -3,6 +3,8 @@ use Rattle.std.specs.Prelude.{◌≡◌, ℕ, ◌<◌, List, [], ◌∷◌, ◌+
 use Rattle.sf_base.specs.Word.{SpellsHexadecimal}
 use Rattle.sf_model.specs.declared.machine.Arch.{Arch}
 use Rattle.sf_model.specs.declared.machine.Arch.TheVariants.{Amd64, Aarch64}
+use Rattle.sf_asm.specs.declared.input.Form.{Form}
+use Rattle.sf_asm.specs.declared.input.Form.TheVariants.{Elf, Bare}
 
 -- NAME@ADDRESS: a name, an `@`, and an address as `0x` and 1 to 16 lower-case digits of base 16
 pub record IsPlaced (word name : List ℕ) (address : ℕ) : Type 0 where
@@ -15,22 +17,30 @@ abbrev pub prefix_of : Arch → List ℕ
 prefix_of Amd64 = codes "eh-amd64:"
 prefix_of Aarch64 = codes "eh-aarch64:"
 
--- a bare call frame section: the machine, the file's name and the address of its first byte
-pub record BareInput : Type 0 where
-  pub arch : Arch
+-- how the name of an input is spelled: a bare section's behind what its machine begins with, and an ELF file's as it is, where it begins
+-- with neither
+abbrev pub Spells : Form → (text name : List ℕ) → Type 0
+Spells (Bare arch) text name = text ≡ prefix_of arch ++ name
+Spells Elf text name = (text ≡ name) × ((arch : Arch) (rest : List ℕ) → text ≡ prefix_of arch ++ rest → ⊥)
+
+-- an input: what its bytes are, the file's name and the load address
+pub record InputWords : Type 0 where
+  pub form : Form
   pub name : List ℕ
   pub base : ℕ
 
--- the word names this bare section, and the name is not empty
-pub record IsBareInput (word : List ℕ) (input : BareInput) : Type 0 where
-  pub placed : IsPlaced word (prefix_of input.arch ++ input.name) input.base
+-- the word names this input, and the name is not empty
+pub record IsInputWord (word : List ℕ) (input : InputWords) : Type 0 where
+  pub text : List ℕ
+  pub placed : IsPlaced word text input.base
+  pub spelled : Spells input.form text input.name
   pub named : 0 < length input.name
 
 -- what is asked of `link`: the section's file and address, and what is linked
 pub record LinkWords : Type 0 where
   pub out : List ℕ
   pub at : ℕ
-  pub input : BareInput
+  pub input : InputWords
 
 -- the words ask for this link
 pub record IsLink (words : List (List ℕ)) (link : LinkWords) : Type 0 where
@@ -39,7 +49,7 @@ pub record IsLink (words : List (List ℕ)) (link : LinkWords) : Type 0 where
   pub words_are : words ≡ codes "link" ∷ out_word ∷ input_word ∷ []
   pub out : IsPlaced out_word link.out link.at
   pub out_named : 0 < length link.out
-  pub input : IsBareInput input_word link.input
+  pub input : IsInputWord input_word link.input
 
 -- a section in a file: the file's name and the section's address
 pub record SectionWords : Type 0 where

@@ -5,12 +5,12 @@ ghost use Rattle.sf_base.specs.Faults.{Rose};
 ghost use Rattle.sf_asm.specs.Answers.{IsAssembled};
 ghost use Rattle.sf_asm.specs.Fault.{is_answered};
 ghost use Rattle.sf_run.specs.First.{IsMade, IsMadeOf, object_in};
-ghost use Rattle.sf_run.specs.Parsed.{bare_of, link_of};
+ghost use Rattle.sf_run.specs.Parsed.{input_of, link_of};
 ghost use Rattle.sf_run.specs.Refused.{IsFirstRefusal, IsLinkRefusal, IsRefusalOf, IsTold};
 
 use crate::refusal::{Limit, Refusal, not_loaded};
-use crate::words::{Bare, Link};
-use sf_asm::{Form, GatherFault, Input, LinkFault, Linked, assemble};
+use crate::words::{InputFile, Link};
+use sf_asm::{GatherFault, Input, LinkFault, Linked, assemble};
 use sf_base::{Files, NoMemory, load};
 use sf_text::report;
 use std::alloc::Global;
@@ -42,13 +42,13 @@ fn not_linked(fault: &LinkFault) -> Refusal
 }
 
 /// The section of one input that is loaded.
-fn linked_of(alloc: Global, input: &Bare<'_>, at: u64, bytes: &[u8]) -> Result<Linked, Refusal>
+fn linked_of(alloc: Global, input: &InputFile<'_>, at: u64, bytes: &[u8]) -> Result<Linked, Refusal>
     requires { length bytes.now < 2 ^ 32 }
-    ensures assembled { IfOk result (λ linked. IsAssembled (object_in (bare_of input.now) bytes.now) at linked.section.items linked.kept linked.omitted.items) }
-    ensures refused { IfErr result (IsLinkRefusal (bare_of input.now) at bytes.now) }
+    ensures assembled { IfOk result (λ linked. IsAssembled (object_in (input_of input.now) bytes.now) at linked.section.items linked.kept linked.omitted.items) }
+    ensures refused { IfErr result (IsLinkRefusal (input_of input.now) at bytes.now) }
 {
     let input = Input {
-        form: Form::Bare(input.arch),
+        form: input.form,
         bytes,
         base: input.base,
     };
@@ -59,10 +59,10 @@ fn linked_of(alloc: Global, input: &Bare<'_>, at: u64, bytes: &[u8]) -> Result<L
 }
 
 /// The section and the text of one input that is loaded.
-fn made_of(alloc: Global, input: &Bare<'_>, at: u64, bytes: &[u8]) -> Result<Made, Refusal>
+fn made_of(alloc: Global, input: &InputFile<'_>, at: u64, bytes: &[u8]) -> Result<Made, Refusal>
     requires { length bytes.now < 2 ^ 32 }
-    ensures made { IfOk result (λ made. IsMadeOf (bare_of input.now) at bytes.now made.section.items made.text.items) }
-    ensures refused { IfErr result (IsLinkRefusal (bare_of input.now) at bytes.now) }
+    ensures made { IfOk result (λ made. IsMadeOf (input_of input.now) at bytes.now made.section.items made.text.items) }
+    ensures refused { IfErr result (IsLinkRefusal (input_of input.now) at bytes.now) }
 {
     let linked = linked_of(alloc, input, at, bytes)?;
     match report(alloc, linked.kept, &linked.omitted) {

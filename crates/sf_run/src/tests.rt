@@ -1,10 +1,12 @@
 //! Whole runs over files and sinks in memory: what is written, printed and told.
 
+mod files;
 mod linked;
 mod refused;
 mod shown;
 
 use crate::{Status, run};
+use files::FILES;
 use linked::LINKED;
 use refused::REFUSED;
 use sf_base::{MemFiles, MemSink};
@@ -97,6 +99,14 @@ fn links_print_and_write_what_is_expected(rt: HostRuntime) -> Result<(), Fail> {
 #[test]
 fn refused_runs_leave_their_lines(rt: HostRuntime) -> Result<(), Fail> {
     for case in &REFUSED {
+        expect_case(&rt, rt.alloc(), case)?;
+    }
+    Ok(())
+}
+
+#[test]
+fn files_are_linked(rt: HostRuntime) -> Result<(), Fail> {
+    for case in &FILES {
         expect_case(&rt, rt.alloc(), case)?;
     }
     Ok(())

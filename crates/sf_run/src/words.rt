@@ -3,9 +3,11 @@
 ghost use Rattle.std.specs.Prelude.{◌≡◌, ℕ, ◌++◌, [], ◌∷◌, List, map, IfSome, IsSome, IsSomeAnd};
 ghost use Rattle.std.specs.String.{string_bytes};
 ghost use Rattle.sf_model.specs.declared.machine.Arch.{Arch as machine};
-ghost use Rattle.sf_run.specs.Words.{IsPlaced, IsBareInput, IsLink, IsSectionWord, IsDump, IsLookup, IsCommand, BareInput, LinkWords, SectionWords, CommandWords, prefix_of};
-ghost use Rattle.sf_run.specs.Parsed.{bare_of, link_of, section_of, command_of};
+ghost use Rattle.sf_asm.specs.declared.input.Form.{Form as input_form};
+ghost use Rattle.sf_run.specs.Words.{IsPlaced, IsInputWord, IsLink, IsSectionWord, IsDump, IsLookup, IsCommand, InputWords, LinkWords, SectionWords, CommandWords, Spells, prefix_of};
+ghost use Rattle.sf_run.specs.Parsed.{input_of, link_of, section_of, command_of};
 
+use sf_asm::Form;
 use sf_base::hex_word;
 use sf_model::Arch;
 
@@ -16,10 +18,10 @@ struct Placed<'a> {
     address: u64,
 }
 
-/// A bare call frame section of this machine, whose first byte lies at `base`.
+/// A file to be linked, at its load address.
 #[derive(Clone, Copy)]
-pub struct Bare<'a> {
-    pub arch: Arch,
+pub struct InputFile<'a> {
+    pub form: Form,
     pub name: &'a str,
     pub base: u64,
 }
@@ -29,7 +31,7 @@ pub struct Bare<'a> {
 pub struct Link<'a> {
     pub out: &'a str,
     pub at: u64,
-    pub input: Bare<'a>,
+    pub input: InputFile<'a>,
 }
 
 /// A section in a file, and the address at which it lies.
@@ -70,17 +72,28 @@ fn machine_of(name: &str) -> Option<(Arch, &str)>
     Some((Arch::Aarch64, rest))
 }
 
-fn bare_input(word: &str) -> Option<Bare<'_>>
-    ensures found { IfSome result (λ b. IsBareInput word.now (bare_of b)) }
-    ensures only { (input : BareInput) → IsBareInput word.now input → IsSomeAnd result (λ b. bare_of b ≡ input) }
+/// What a file is by how its name is spelled, and the name.
+fn form_of(text: &str) -> (Form, &str)
+    ensures spelled { Spells result.0 text.now result.1.now }
+    ensures only { (form : input_form) (name : List ℕ) → Spells form text.now name → (result.0 ≡ form) × (result.1.now ≡ name) }
+{
+    match machine_of(text) {
+        Some((arch, name)) => (Form::Bare(arch), name),
+        None => (Form::Elf, text),
+    }
+}
+
+fn input_file(word: &str) -> Option<InputFile<'_>>
+    ensures found { IfSome result (λ i. IsInputWord word.now (input_of i)) }
+    ensures only { (input : InputWords) → IsInputWord word.now input → IsSomeAnd result (λ i. input_of i ≡ input) }
 {
     let placed = name_and_address(word)?;
-    let (arch, name) = machine_of(placed.name)?;
+    let (form, name) = form_of(placed.name);
     if name.is_empty() {
         return None;
     }
-    Some(Bare {
-        arch,
+    Some(InputFile {
+        form,
         name,
         base: placed.address,
     })
@@ -138,7 +151,7 @@ fn link_words(words: &[String]) -> Option<Link<'_>>
     Some(Link {
         out: out.name,
         at: out.address,
-        input: bare_input(input)?,
+        input: input_file(input)?,
     })
 }
 

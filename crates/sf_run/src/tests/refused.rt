@@ -151,13 +151,13 @@ pub const REFUSED: [Case; 19] = [
         section: None,
     },
     Case {
-        shows: "an input of another form",
+        shows: "a missing ELF file",
         words: "link o@0x3000 e1@0x2000",
         file: "",
         bytes: "",
-        status: Status::Usage,
+        status: Status::Read,
         text: "",
-        line: "usage\n",
+        line: "read e1\n",
         section: None,
     },
     Case {

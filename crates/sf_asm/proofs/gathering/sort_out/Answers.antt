@@ -9,6 +9,7 @@ pub loop-entry-preserved-in-Continue-branch-2 : goal.loop-entry-preserved-in-Con
 loop-entry-preserved-in-Continue-branch-2 c =
     let so_far = c.loop-entry.invariant in
     record {
+      arch = so_far.arch;
       kept =
           c.in_ok-push-in-Kept.ensures.items ∙ ap (λ (fs : List Func). fs ++ c.in-Kept.func ∷ []) so_far.kept
           ∙ sym (kept_of-kept c.loop-entry.yielded c.in-Some.entry c.in-Kept.func c.in-Kept.is);
@@ -22,6 +23,7 @@ pub loop-entry-preserved : goal.loop-entry-preserved
 loop-entry-preserved c =
     let so_far = c.loop-entry.invariant in
     record {
+      arch = so_far.arch;
       kept = so_far.kept ∙ sym (kept_of-left c.loop-entry.yielded c.in-Some.entry c.in-Left.omission c.in-Left.is);
       omitted =
           c.in_ok-push-in-Left.ensures.items

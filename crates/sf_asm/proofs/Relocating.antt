@@ -1,0 +1,117 @@
+-- What was read of a section's relocations is what is defined.
+use Rattle.std.specs.Prelude.{◌⊎◌, ◌==◌, OnOk, IfOk, IfErr}
+use Rattle.std.proofs.Common.{◌≡◌, ℕ, Bool, true, false, cond, List, [], ◌∷◌, map, Option, Some, None, Result, Ok, Err, refl, sym, ap, ◌∙◌, inl, inr}
+use Rattle.std.specs.Option.{option_map}
+use Rattle.sf_bytes.specs.declared.field.Field.{Field}
+use Rattle.sf_bytes.specs.Rising.{field_place}
+use Rattle.eh_records.specs.Step.{PointerField, pointer_view}
+use Rattle.elf_place.specs.Views.{Placing}
+use Rattle.elf_reloc.specs.declared.fault.RelocFault.{RelocFault}
+use Rattle.elf_reloc.specs.declared.fault.RelocFault.TheVariants as faults
+use Rattle.elf_reloc.specs.declared.fix.Fix.{Fix}
+use Rattle.elf_reloc.specs.declared.relocs.Relocs.{Relocs}
+use Rattle.elf_reloc.specs.Fields.{bits_in, is_dropped_in}
+use Rattle.elf_reloc.specs.Order.{first_at, has_width, lies_on, place_check, overlap_check}
+use Rattle.elf_reloc.specs.Reading.{State, section_state}
+use Rattle.elf_reloc.specs.Table.{width_of}
+use Rattle.elf_reloc.specs.Views.{Reads, Overlaps, Refuses, Relocated, fixes_in}
+use Rattle.sf_asm.specs.Steps.{◌>>=◌}
+use Rattle.sf_asm.specs.Relocated.{by_place, without_overlap, relocations_of, pointer_place, has_width_of, is_pointer, pointer_check}
+use Rattle.sf_asm.proofs.SortedFixes.{is_by_place}
+
+-- ---- reading
+abbrev from_state : Result State RelocFault → Result (List Fix) RelocFault
+from_state given = given >>= λ state. without_overlap (by_place state.fixes)
+
+abbrev from_check : List Fix → Result (Unit {0}) RelocFault → Result (List Fix) RelocFault
+from_check fixes check = check >>= λ _. Ok fixes
+
+read_from : (given : Result State RelocFault) (sorted : List Fix) → Reads given sorted → from_state given ≡ Ok sorted
+read_from given sorted r =
+    ap from_state r.read
+    ∙ ap without_overlap (is_by_place r.state.fixes sorted r.order)
+    ∙ ap (from_check sorted) r.apart
+
+overlap_from : (given : Result State RelocFault) (e : RelocFault) → Overlaps given e → from_state given ≡ Err e
+overlap_from given e r =
+    ap from_state r.read
+    ∙ ap without_overlap (is_by_place r.state.fixes r.sorted r.order)
+    ∙ ap (from_check r.sorted) r.refused
+
+refused_from : (given : Result State RelocFault) (e : RelocFault) → (given ≡ Err e) ⊎ Overlaps given e → (e ≡ faults.NoMemory) ⊎ (from_state given ≡ Err e)
+refused_from given e (inl read) = inr (ap from_state read)
+refused_from given e (inr overlap) = inr (overlap_from given e overlap)
+
+refuses_from : (given : Result State RelocFault) (e : RelocFault) → Refuses e given → (e ≡ faults.NoMemory) ⊎ (from_state given ≡ Err e)
+refuses_from given faults.NoMemory h = inl refl
+refuses_from given (faults.UnknownType index) h = refused_from given (faults.UnknownType index) h
+refuses_from given (faults.Range index) h = refused_from given (faults.Range index) h
+refuses_from given (faults.Place index) h = refused_from given (faults.Place index) h
+refuses_from given (faults.Twice index) h = refused_from given (faults.Twice index) h
+refuses_from given (faults.RelSection section) h = refused_from given (faults.RelSection section) h
+refuses_from given (faults.OutOfSection index) h = refused_from given (faults.OutOfSection index) h
+
+pub relocations_read : (p : Placing) (section : ℕ) (sorted : List Fix) → Reads (section_state p section) sorted → relocations_of p section ≡ Ok sorted
+unfolding relocations_of
+relocations_read p section sorted r = read_from (section_state p section) sorted r
+
+pub relocations_refused : (p : Placing) (section : ℕ) (e : RelocFault) → Refuses e (section_state p section) → (e ≡ faults.NoMemory) ⊎ (relocations_of p section ≡ Err e)
+unfolding relocations_of
+relocations_refused p section e r = refuses_from (section_state p section) e r
+
+-- ---- pointer fields
+at_test : (b : Bool) (g : Field) (rest : Option Field) (other : Option PointerField) → other ≡ option_map pointer_view rest → cond b (Some (pointer_view g)) other ≡ option_map pointer_view (cond b (Some g) rest)
+at_test true g rest other e = refl
+at_test false g rest other e = e
+
+first_viewed : (place : ℕ) (fields : List Field) → first_at pointer_place place (map pointer_view fields) ≡ option_map pointer_view (first_at field_place place fields)
+unfolding first_at
+first_viewed place [] = refl
+first_viewed place (g ∷ gs) = at_test (g.place == place) g (first_at field_place place gs) _ (first_viewed place gs)
+
+width_viewed : (f : Fix) (o : Option Field) → has_width_of f (option_map pointer_view o) ≡ has_width o f
+width_viewed f None = refl
+width_viewed f (Some g) = refl
+
+pointer_viewed : (fields : List Field) (f : Fix) → is_pointer (map pointer_view fields) f ≡ lies_on fields f
+pointer_viewed fields f = ap (has_width_of f) (first_viewed f.place fields) ∙ width_viewed f (first_at field_place f.place fields)
+
+check_viewed : (fields : List Field) (fixes : List Fix) → pointer_check (map pointer_view fields) fixes ≡ place_check fields fixes
+unfolding pointer_check place_check
+check_viewed fields [] = refl
+check_viewed fields (f ∷ fs) =
+    ap (λ (b : Bool). cond b (pointer_check (map pointer_view fields) fs) (Err (faults.Place f.index))) (pointer_viewed fields f)
+    ∙ ap (λ (r : Result (Unit {0}) RelocFault). cond (lies_on fields f) r (Err (faults.Place f.index))) (check_viewed fields fs)
+
+pub checked : (pointers : List PointerField) (fields : List Field) (fixes : List Fix) (r : Result (Unit {0}) RelocFault) → map pointer_view fields ≡ pointers → r ≡ place_check fields fixes → pointer_check pointers fixes ≡ r
+checked pointers fields fixes r p q = ap (λ (gs : List PointerField). pointer_check gs fixes) (sym p) ∙ check_viewed fields fixes ∙ sym q
+
+pub none_checked : (pointers : List PointerField) → pointer_check pointers [] ≡ Ok tt
+unfolding pointer_check
+none_checked pointers = refl
+
+pub on_ok : (x r : Result (Unit {0}) RelocFault) → x ≡ r → OnOk r (x ≡ Ok tt)
+on_ok x (Ok u) e = e
+on_ok x (Err fault) e = tt
+
+pub on_err : (x r : Result (Unit {0}) RelocFault) → x ≡ r → IfErr r (λ fault. (fault ≡ faults.NoMemory) ⊎ (x ≡ Err fault))
+on_err x (Ok u) e = tt
+on_err x (Err fault) e = inr e
+
+-- ---- where nothing is written
+pub unchanged_bits : (place width raw : ℕ) → bits_in [] place width raw ≡ Some raw
+unfolding first_at
+unchanged_bits place width raw = refl
+
+pub nothing_dropped : (place width : ℕ) → is_dropped_in [] place width ≡ false
+unfolding first_at
+nothing_dropped place width = refl
+
+-- ---- what a call answered
+pub relocated_read : (p : Placing) (section : ℕ) (r : Result Relocs RelocFault) → Relocated r (section_state p section) → IfOk r (λ relocs. relocations_of p section ≡ Ok (fixes_in relocs))
+relocated_read p section (Ok relocs) h = relocations_read p section (fixes_in relocs) h
+relocated_read p section (Err fault) h = tt
+
+pub relocated_refused : (p : Placing) (section : ℕ) (r : Result Relocs RelocFault) → Relocated r (section_state p section) → IfErr r (λ fault. (fault ≡ faults.NoMemory) ⊎ (relocations_of p section ≡ Err fault))
+relocated_refused p section (Ok relocs) h = tt
+relocated_refused p section (Err fault) h = relocations_refused p section fault h

@@ -1,0 +1,17 @@
+use Rattle.std.proofs.Common.{◌∷◌, [], inl, inr}
+use Rattle.std.proofs.lemmas.Result.{err_from_is_err_and}
+use Rattle.sf_asm.specs.Functions.{bare_section}
+use Rattle.sf_asm.proofs.ReadFunctions.{alone, section_refused}
+use Rattle.sf_asm.proofs.reading.read_bare.Goals as goal
+
+pub returns-in_err-read_section-clause-exact : goal.returns-in_err-read_section-clause-exact
+returns-in_err-read_section-clause-exact c =
+    let p = err_from_is_err_and c.from_residual.result c.from_residual.ensures.1 in
+    rw (p.1, p.2) (elim c.in_err-read_section.ensures.exact [
+      | inl wanting ↦ inl wanting
+      | inr refused ↦ inr (section_refused c.args.arch c.args.item (bare_section c.args.input.now.bytes.now c.args.input.now.base) [] c.in_err-read_section.field-0.0 refused)
+    ])
+
+pub returns-clause-exact : goal.returns-clause-exact
+returns-clause-exact c =
+    alone c.args.arch c.args.item (bare_section c.args.input.now.bytes.now c.args.input.now.base) c.read_section.new.entries.items (rw c.new-entries.ensures.items at c.in_ok-read_section.ensures.exact)

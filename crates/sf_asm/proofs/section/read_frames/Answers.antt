@@ -1,0 +1,50 @@
+use Rattle.std.proofs.Common.{◌≡◌, List, [], ◌∷◌, ap, sym, subst, ◌∙◌, inl, inr}
+use Rattle.std.specs.List.{All}
+use Rattle.std.proofs.lemmas.Result.{err_from_is_err_and}
+use Rattle.std.proofs.lemmas.List.Elements.{All-append, All-from_recursion, All-tail}
+use Rattle.std.specs.Prelude.{IsTrue}
+use Rattle.sf_model.specs.Function.{key_fits}
+use Rattle.sf_model.specs.declared.machine.Arch.{Arch}
+use Rattle.eh_records.specs.Fde.{FdeView, fde_view}
+use Rattle.eh_records.specs.Section.{frames}
+use Rattle.eh_records.specs.View.{entries, frames_left}
+use Rattle.sf_asm.specs.declared.entry.Entry.{Entry}
+use Rattle.sf_asm.specs.Answers.{after_read}
+use Rattle.sf_asm.specs.Entry.{IsSound}
+use Rattle.sf_asm.specs.Relocated.{overlaid}
+use Rattle.sf_asm.specs.Views.{seen_section, written_by}
+use Rattle.sf_asm.proofs.ReadFunctions.{read_of, goes_on, passes_on, is_done, ends}
+use Rattle.sf_asm.proofs.section.read_frames.Goals as goal
+
+pub loop-fde-init : goal.loop-fde-init
+loop-fde-init c =
+    let left : frames_left c.into_iter-fde-iterator.result ≡ frames (entries c.args.records.now) = ap frames_left c.into_iter-fde-iterator.ensures.into_iter_gives ∙ c.fdes-fde-items.ensures.gives in
+    let keys : All (λ (f : FdeView). IsTrue (key_fits c.args.section.now.arch f.cie.key)) (frames (entries c.args.records.now)) =
+    subst (λ (arch : Arch). All (λ (f : FdeView). IsTrue (key_fits arch f.cie.key)) (frames (entries c.args.records.now))) c.requires.machine c.fdes-fde-items.ensures.keys in
+    record {
+      sound = c.requires.sound;
+      keys = subst (λ (fs : List FdeView). All (λ (f : FdeView). IsTrue (key_fits c.args.section.now.arch f.cie.key)) fs) (sym left) keys;
+      reads = λ relocations. ap (λ (fs : List FdeView). after_read c.args.entries.now.items (read_of c.args.section.now.arch c.args.section.now.item (seen_section c.args.section.now relocations) (overlaid (written_by c.args.overlay.now)) fs)) left;
+    }
+
+pub loop-fde-preserved-then-dropped : goal.loop-fde-preserved-then-dropped
+loop-fde-preserved-then-dropped c =
+    let left : frames_left c.loop-fde.fde-iterator ≡ fde_view c.in-Some.fde ∷ frames_left c.next.new.self = c.in-Some.ensures.steps in
+    let keys : All (λ (f : FdeView). IsTrue (key_fits c.args.section.now.arch f.cie.key)) (fde_view c.in-Some.fde ∷ frames_left c.next.new.self) = rw left at c.loop-fde.invariant.keys in
+    record {
+      sound = c.loop-fde.invariant.sound;
+      keys = All-tail (λ (f : FdeView). IsTrue (key_fits c.args.section.now.arch f.cie.key)) (fde_view c.in-Some.fde) (frames_left c.next.new.self) keys;
+      reads = λ relocations. passes_on c.args.section.now.arch c.args.section.now.item (seen_section c.args.section.now relocations) (overlaid (written_by c.args.overlay.now)) c.loop-fde.entries.items (fde_view c.in-Some.fde) (frames_left c.loop-fde.fde-iterator) (frames_left c.next.new.self) _ left (sym c.dropped.ensures ∙ c.if-dropped.true) (c.loop-fde.invariant.reads relocations);
+    }
+
+pub loop-fde-preserved : goal.loop-fde-preserved
+loop-fde-preserved c =
+    let left : frames_left c.loop-fde.fde-iterator ≡ fde_view c.in-Some.fde ∷ frames_left c.next.new.self = c.in-Some.ensures.steps in
+    let keys : All (λ (f : FdeView). IsTrue (key_fits c.args.section.now.arch f.cie.key)) (fde_view c.in-Some.fde ∷ frames_left c.next.new.self) = rw left at c.loop-fde.invariant.keys in
+    record {
+      sound = subst (All (IsSound c.args.section.now.arch)) (sym c.in_ok-push.ensures.items) (All-append (IsSound c.args.section.now.arch) c.loop-fde.entries.items (c.in_ok-read_function.field-0 ∷ []) c.loop-fde.invariant.sound (All-from_recursion (IsSound c.args.section.now.arch) (c.in_ok-read_function.field-0 ∷ []) (c.in_ok-read_function.ensures.sound, tt)));
+      keys = All-tail (λ (f : FdeView). IsTrue (key_fits c.args.section.now.arch f.cie.key)) (fde_view c.in-Some.fde) (frames_left c.next.new.self) keys;
+      reads = λ relocations.
+          ap (λ (before : List Entry). after_read before (read_of c.args.section.now.arch c.args.section.now.item (seen_section c.args.section.now relocations) (overlaid (written_by c.args.overlay.now)) (frames_left c.next.new.self))) c.in_ok-push.ensures.items
+          ∙ goes_on c.args.section.now.arch c.args.section.now.item (seen_section c.args.section.now relocations) (overlaid (written_by c.args.overlay.now)) c.loop-fde.entries.items c.in_ok-read_function.field-0 (fde_view c.in-Some.fde) (frames_left c.loop-fde.fde-iterator) (frames_left c.next.new.self) _ left (sym c.dropped.ensures ∙ c.if-dropped.false) (c.in_ok-read_function.ensures.exact relocations) (c.loop-fde.invariant.reads relocations);
+    }

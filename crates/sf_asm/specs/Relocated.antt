@@ -1,0 +1,64 @@
+-- What the relocations of a call frame section write (ELF64 gABI, "Relocation"), the first fault of theirs, and what the section's
+-- pointer fields hold then.
+use Rattle.std.specs.Prelude.{ℕ, Bool, false, ◌==◌, nat_le, List, [], ◌∷◌, Option, Some, None, Result, Ok, Err, if◌then◌else◌}
+use Rattle.eh_records.specs.Step.{PointerField}
+use Rattle.elf_place.specs.Views.{Placing}
+use Rattle.elf_reloc.specs.declared.fault.RelocFault.{RelocFault}
+use Rattle.elf_reloc.specs.declared.fault.RelocFault.TheVariants.{Place}
+use Rattle.elf_reloc.specs.declared.fix.Fix.{Fix}
+use Rattle.elf_reloc.specs.Fields.{bits_in, is_dropped_in}
+use Rattle.elf_reloc.specs.Order.{first_at, overlap_check}
+use Rattle.elf_reloc.specs.Reading.{section_state}
+use Rattle.elf_reloc.specs.Table.{width_of}
+use Rattle.sf_asm.specs.Steps.{◌>>=◌}
+
+-- ---- what is written, by rising place
+-- a field before those that stand at its place or behind
+abbrev pub placed_among : Fix → List Fix → List Fix
+placed_among f [] = f ∷ []
+placed_among f (g ∷ gs) = if nat_le f.place g.place then f ∷ g ∷ gs else g ∷ placed_among f gs
+
+-- those at one place stay in their order
+abbrev pub by_place : List Fix → List Fix
+by_place [] = []
+by_place (f ∷ fs) = placed_among f (by_place fs)
+
+-- no two of them overlap
+abbrev pub without_overlap : List Fix → Result (List Fix) RelocFault
+without_overlap fixes = overlap_check 0 fixes >>= λ _. Ok fixes
+
+-- of a section of a placed file
+unfoldable pub relocations_of : Placing → (section : ℕ) → Result (List Fix) RelocFault
+relocations_of p section = section_state p section >>= λ state. without_overlap (by_place state.fixes)
+
+-- ---- pointer fields
+abbrev pub pointer_place : PointerField → ℕ
+pointer_place g = g.place
+
+abbrev pub has_width_of : Fix → Option PointerField → Bool
+has_width_of f None = false
+has_width_of f (Some g) = g.width == width_of f.range
+
+-- what is written is a pointer field, at its place and of its width
+abbrev pub is_pointer : List PointerField → Fix → Bool
+is_pointer fields f = has_width_of f (first_at pointer_place f.place fields)
+
+-- the first by place that isn't
+unfoldable pub pointer_check : List PointerField → List Fix → Result (Unit {0}) RelocFault
+pointer_check fields [] = Ok tt
+pointer_check fields (f ∷ fs) = if is_pointer fields f then pointer_check fields fs else Err (Place f.index)
+
+abbrev pub on_pointers : List PointerField → List Fix → Result (List Fix) RelocFault
+on_pointers fields fixes = pointer_check fields fixes >>= λ _. Ok fixes
+
+-- what the pointer fields of a section hold, where that is known, and which of them name a dropped section
+pub record Values : Type 0 where
+  pub bits : PointerField → Option ℕ
+  pub dropped : PointerField → Bool
+
+-- where this is written
+abbrev pub overlaid : List Fix → Values
+overlaid fixes = record {
+  bits = λ g. bits_in fixes g.place g.width g.raw;
+  dropped = λ g. is_dropped_in fixes g.place g.width;
+}

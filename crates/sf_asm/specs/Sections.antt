@@ -1,0 +1,110 @@
+-- The call frame sections of inputs as they are placed and relocated, or the first fault (ELF64 gABI; LSB Core, "The .eh_frame section").
+use Rattle.std.specs.Prelude.{ℕ, ◌+◌, ◌-◌, ◌%◌, ◌^◌, Bool, List, [], ◌∷◌, map, Result, Ok, Err}
+use Rattle.sf_model.specs.declared.machine.Arch.{Arch}
+use Rattle.elf_read.specs.declared.fault.ElfFault.TheVariants as faults
+use Rattle.elf_read.specs.declared.kind.Kind.{Kind}
+use Rattle.elf_read.specs.declared.kind.Kind.TheVariants as kinds
+use Rattle.elf_read.specs.Header.{arch_of, kind_of}
+use Rattle.elf_read.specs.Parsing.{file_check}
+use Rattle.elf_read.specs.Sections.{section_bytes, section_count}
+use Rattle.elf_place.specs.Dropped.{dropped_sections, values_below}
+use Rattle.elf_place.specs.Place.{address_of, eh_frames_below, place_check, shift_of}
+use Rattle.elf_place.specs.Views.{Placing}
+use Rattle.elf_reloc.specs.declared.fault.RelocFault.{RelocFault}
+use Rattle.elf_reloc.specs.declared.fix.Fix.{Fix}
+use Rattle.elf_reloc.specs.Reading.{section_address}
+use Rattle.sf_asm.specs.declared.fault.AsmFault.{AsmFault}
+use Rattle.sf_asm.specs.declared.fault.AsmFault.TheVariants as asm
+use Rattle.sf_asm.specs.declared.input.Form.{Form}
+use Rattle.sf_asm.specs.declared.input.Form.TheVariants.{Elf, Bare}
+use Rattle.sf_asm.specs.declared.input.Input.{Input}
+use Rattle.sf_asm.specs.Groups.{gone_groups, seen_after}
+use Rattle.sf_asm.specs.Relocated.{relocations_of}
+use Rattle.sf_asm.specs.Steps.{◌>>=◌, named}
+
+-- an input, seen without where its bytes lie in memory
+pub record Object : Type 0 where
+  pub form : Form
+  pub bytes : List ℕ
+  pub base : ℕ
+
+abbrev pub object_of : Input → Object
+object_of input = record { form = input.form; bytes = input.bytes.now; base = input.base }
+
+abbrev pub machine_by : Form → List ℕ → Arch
+machine_by Elf file = arch_of file
+machine_by (Bare arch) bytes = arch
+
+abbrev pub machine_of : Object → Arch
+machine_of object = machine_by object.form object.bytes
+
+-- a call frame section as it is placed and relocated
+pub record CallFrames : Type 0 where
+  -- its number in its file, 0 for a bare one
+  pub number : ℕ
+  pub bytes : List ℕ
+  -- its address minus the shift of its file, and the shift
+  pub address : ℕ
+  pub shift : ℕ
+  -- what its relocations write, by rising place, or the first fault of theirs
+  pub relocations : Result (List Fix) RelocFault
+
+-- a bare section lies at its base, and its fields are as they stand
+abbrev pub bare_section : (bytes : List ℕ) → (base : ℕ) → CallFrames
+bare_section bytes base = record { number = 0; bytes = bytes; address = base; shift = 0; relocations = Ok [] }
+
+-- ---- ELF files, where these signatures of groups were seen before
+-- for each section whether it is dropped with its group
+abbrev pub dropped_after : (seen : List (List ℕ)) → (file : List ℕ) → List Bool
+dropped_after seen file = dropped_sections file (gone_groups seen file)
+
+-- all sections at their addresses
+abbrev pub placing_of : (seen : List (List ℕ)) → (file : List ℕ) → (base : ℕ) → Placing
+placing_of seen file base = record {
+  file = file;
+  addresses = values_below (section_count file) (address_of file (dropped_after seen file) base);
+  dropped = dropped_after seen file;
+}
+
+-- a section of a placed file
+abbrev pub placed_section : Placing → (shift section : ℕ) → CallFrames
+placed_section p shift section = record {
+  number = section;
+  bytes = section_bytes p.file section;
+  address = (section_address p section + (2 ^ 64 - shift)) % 2 ^ 64;
+  shift = shift;
+  relocations = relocations_of p section;
+}
+
+-- a core file, whose kind stands at place 16, is none that is linked
+abbrev pub linked_kind : Kind → Result (Unit {0}) AsmFault
+linked_kind kinds.Core = Err (asm.Elf (faults.Kind 16))
+linked_kind kind = Ok tt
+
+-- what is checked of a file before it is placed
+unfoldable pub linked_check : (file : List ℕ) → Result (Unit {0}) AsmFault
+linked_check file = named asm.Elf (file_check file) >>= λ _. linked_kind (kind_of file)
+
+-- the sections with call frame information that are not dropped, in order
+abbrev pub elf_sections : (seen : List (List ℕ)) → (file : List ℕ) → (base : ℕ) → Result (List CallFrames) AsmFault
+elf_sections seen file base = do
+  _ ← linked_check file
+  _ ← named asm.Place (place_check file (dropped_after seen file) base)
+  Ok (map (placed_section (placing_of seen file base) (shift_of file base)) (eh_frames_below file (dropped_after seen file) (section_count file)))
+
+-- ---- inputs
+abbrev pub sections_by : Form → (seen : List (List ℕ)) → (bytes : List ℕ) → (base : ℕ) → Result (List CallFrames) AsmFault
+sections_by Elf seen file base = elf_sections seen file base
+sections_by (Bare arch) seen bytes base = Ok (bare_section bytes base ∷ [])
+
+-- the call frame sections of an input, in order
+abbrev pub sections_of : (seen : List (List ℕ)) → Object → Result (List CallFrames) AsmFault
+sections_of seen object = sections_by object.form seen object.bytes object.base
+
+abbrev pub seen_by : Form → (seen : List (List ℕ)) → (bytes : List ℕ) → List (List ℕ)
+seen_by Elf seen file = seen_after seen file
+seen_by (Bare arch) seen bytes = seen
+
+-- the signatures of groups that were seen once an input is read
+abbrev pub seen_behind : (seen : List (List ℕ)) → Object → List (List ℕ)
+seen_behind seen object = seen_by object.form seen object.bytes

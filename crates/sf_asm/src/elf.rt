@@ -1,0 +1,131 @@
+//! The functions of an ELF file, in the order of its sections and records.
+
+ghost use Rattle.std.specs.Prelude.{◌≡◌, ◌<◌, ◌^◌, ◌+◌, ◌-◌, ◌%◌, ◌⊎◌, All, [], Ok, Err, length, map, IfOk, IfErr, OnOk, IsTrue};
+ghost use Rattle.elf_read.specs.Header as head;
+ghost use Rattle.elf_read.specs.Sections.{section_bytes};
+ghost use Rattle.elf_read.specs.Views.{file};
+ghost use Rattle.elf_place.specs.Place.{place_check};
+ghost use Rattle.elf_place.specs.Views as placed_views;
+ghost use Rattle.elf_reloc.specs.Reading.{section_address};
+ghost use Rattle.sf_asm.specs.Answers.{ReadsAll};
+ghost use Rattle.sf_asm.specs.declared.fault.AsmFault.TheVariants as asm;
+ghost use Rattle.sf_asm.specs.declared.input.Form.TheVariants as Form;
+ghost use Rattle.sf_asm.specs.Entry.{IsSound};
+ghost use Rattle.sf_asm.specs.Fault.{is_input_answered, wraps_place};
+ghost use Rattle.sf_asm.specs.Functions.{named, object_functions, sections_functions};
+ghost use Rattle.sf_asm.specs.Placing.{IsPlacing};
+ghost use Rattle.sf_asm.specs.Sections.{dropped_after, linked_check, placed_section};
+
+use crate::entry::{Entry, Read};
+use crate::fault::AsmFault;
+use crate::frames::Frames;
+use crate::groups::Seen;
+use crate::section::read_section;
+use elf_place::{PlaceFault, Placed};
+use elf_read::{Elf, ElfFault, Kind};
+use sf_model::Arch;
+use std::alloc::Global;
+
+/// Where the type of a file stands.
+const TYPE_PLACE: u64 = 16;
+
+/// Reads a file that is no core.
+#[tactic(auto, unfolding(crate::specs::Sections::linked_check))]
+fn parse(bytes: &[u8]) -> Result<Elf<'_>, AsmFault>
+    requires { length bytes.now < 2 ^ 32 }
+    ensures file { IfOk result (λ elf. file elf ≡ bytes.now) }
+    ensures read { OnOk result (linked_check bytes.now ≡ Ok tt) }
+    ensures fault { IfErr result (λ fault. linked_check bytes.now ≡ Err fault) }
+    ensures answered { IfErr result (λ fault. IsTrue (is_input_answered fault)) }
+{
+    match Elf::parse(bytes) {
+        Ok(elf) => match elf.kind() {
+            Kind::Core => Err(AsmFault::Elf(ElfFault::Kind(TYPE_PLACE))),
+            Kind::Rel | Kind::Exec | Kind::Dyn => Ok(elf),
+        },
+        Err(fault) => Err(AsmFault::Elf(fault)),
+    }
+}
+
+/// A fault of placing, where want of memory stands alone.
+fn place_fault(fault: PlaceFault) -> AsmFault
+    ensures is { result ≡ wraps_place fault }
+    ensures answered { IsTrue (is_input_answered result) }
+{
+    match fault {
+        PlaceFault::NoMemory => AsmFault::NoMemory,
+        _ => AsmFault::Place(fault),
+    }
+}
+
+/// Places the sections of a file, where no file was read before.
+fn place<'a>(alloc: Global, elf: &Elf<'a>, base: u64) -> Result<Placed<'a>, AsmFault>
+    ensures placed { IfOk result (IsPlacing [] (file elf.now) base) }
+    ensures read { OnOk result (place_check (file elf.now) (dropped_after [] (file elf.now)) base ≡ Ok tt) }
+    ensures fault { IfErr result (λ fault. (fault ≡ asm.NoMemory) ⊎ (named asm.Place (place_check (file elf.now) (dropped_after [] (file elf.now)) base) ≡ Err fault)) }
+    ensures answered { IfErr result (λ fault. IsTrue (is_input_answered fault)) }
+{
+    let mut seen = Seen::new(alloc);
+    let gone = seen.gone_groups(alloc, elf)?;
+    match Placed::new(alloc, elf, base, &gone) {
+        Ok(placed) => Ok(placed),
+        Err(fault) => Err(place_fault(fault)),
+    }
+}
+
+/// A call frame section of a placed file.
+#[tactic(auto, unfolding(elf_reloc::specs::Reading::section_address))]
+fn frames_at<'a>(arch: Arch, item: u32, placed: &Placed<'a>, number: u32) -> Frames<'a>
+    ensures arch { result.arch ≡ arch }
+    ensures item { result.item ≡ item }
+    ensures number { result.number ≡ number }
+    ensures bytes { result.bytes.now ≡ section_bytes (placed_views.file placed.now) number }
+    ensures address { result.address ≡ (section_address (placed_views.placing placed.now) number + (2 ^ 64 - placed_views.shift_in placed.now)) % 2 ^ 64 }
+    ensures shift { result.shift ≡ placed_views.shift_in placed.now }
+{
+    let shift = placed.shift();
+    let address = placed.address(number).unwrap_or(0);
+    Frames {
+        arch,
+        item,
+        number,
+        bytes: placed.elf().bytes(number),
+        address: address.wrapping_sub(shift),
+        shift,
+    }
+}
+
+/// The functions of all call frame sections of a placed file.
+fn read_sections(
+    alloc: Global,
+    arch: Arch,
+    item: u32,
+    placed: &Placed<'_>,
+) -> Result<Vec<Entry>, AsmFault>
+    ensures exact { ReadsAll (λ entries. entries.items) result (sections_functions arch item (map (placed_section (placed_views.placing placed.now) (placed_views.shift_in placed.now)) (placed_views.eh_frames placed.now))) }
+    ensures sound { IfOk result (λ entries. All (IsSound arch) entries.items) }
+    ensures answered { IfErr result (λ fault. IsTrue (is_input_answered fault)) }
+{
+    let mut entries = Vec::new(alloc);
+    let numbers = placed.eh_frames();
+    for number in numbers {
+        let section = frames_at(arch, item, placed, *number);
+        read_section(alloc, &section, Some(placed), &mut entries)?;
+    }
+    Ok(entries)
+}
+
+/// The functions of a file that is loaded at `base`, in the order of its sections and records.
+pub fn read_elf(alloc: Global, item: u32, bytes: &[u8], base: u64) -> Result<Read, AsmFault>
+    requires { length bytes.now < 2 ^ 32 }
+    ensures exact { ReadsAll (λ read. read.entries.items) result (object_functions item [] (record { form = Form.Elf; bytes = bytes.now; base = base })) }
+    ensures arch { IfOk result (λ read. read.arch ≡ head.arch_of bytes.now) }
+    ensures sound { IfOk result (λ read. All (IsSound read.arch) read.entries.items) }
+    ensures answered { IfErr result (λ fault. IsTrue (is_input_answered fault)) }
+{
+    let elf = parse(bytes)?;
+    let placed = place(alloc, &elf, base)?;
+    let arch = elf.arch();
+    let entries = read_sections(alloc, arch, item, &placed)?;
+    Ok(Read { arch, entries })
+}

@@ -1,0 +1,245 @@
+//! The functions of one call frame section, in the order of its records.
+
+ghost use Rattle.std.specs.Prelude.{◌≡◌, ◌≤◌, ◌+◌, ◌^◌, List, All, Result, Ok, None, IfOk, IfErr, OnOk, IsTrue};
+ghost use Rattle.std.specs.Option.{option_map};
+ghost use Rattle.sf_bytes.specs.Cursor.{cursor};
+ghost use Rattle.sf_model.specs.Function.{key_fits};
+ghost use Rattle.cfa_insn.specs.Listing.{listing};
+ghost use Rattle.cfa_machine.specs.At.{SayAll};
+ghost use Rattle.cfa_machine.specs.RowList.{AreRows};
+ghost use Rattle.eh_records.specs.Fde.{fde_view};
+ghost use Rattle.eh_records.specs.Section.{entries_of, frames, pointer_fields};
+ghost use Rattle.eh_records.specs.View.{arch_of as machine_of_records, entries as entries_of_records};
+ghost use Rattle.elf_place.specs.Views.{placing};
+ghost use Rattle.elf_reloc.specs.declared.fault.RelocFault.{RelocFault as reloc_fault};
+ghost use Rattle.elf_reloc.specs.declared.fix.Fix.{Fix};
+ghost use Rattle.sf_express.specs.Runs.{AreSaid, Saying, function_of};
+ghost use Rattle.sf_asm.specs.Answers.{IsRecordsFault, IsRelocFault, IsRunFault, ReadsMore, ReadsOne};
+ghost use Rattle.sf_asm.specs.Entry.{IsSound, IsSoundOutcome};
+ghost use Rattle.sf_asm.specs.Fault.{is_input_answered, wraps_record, wraps_reloc, wraps_machine};
+ghost use Rattle.sf_asm.specs.declared.fault.AsmFault.TheVariants.{NoMemory, Record};
+ghost use Rattle.sf_asm.specs.Functions.{fault_in, function_in, functions_in, named, section_functions, span_in};
+ghost use Rattle.sf_asm.specs.Kept.{outcome_by};
+ghost use Rattle.sf_asm.specs.Relocated.{on_pointers, overlaid, pointer_check};
+ghost use Rattle.sf_asm.specs.Views.{relocations_by, seen_section, written_by};
+
+use crate::entry::{Entry, Outcome};
+use crate::fault::AsmFault;
+use crate::frames::Frames;
+use crate::overlay::Overlay;
+use cfa_machine::{DwRow, MachineFault, rows};
+use eh_records::{Fde, RecordFault, Records};
+use elf_place::Placed;
+use elf_reloc::RelocFault;
+use sf_express::{ExpressFault, express};
+use sf_model::{Arch, FdeFacts, Origin, Span};
+use std::alloc::Global;
+
+/// A fault of a section's records, where want of memory stands alone.
+fn record_fault(section: u32, fault: RecordFault) -> AsmFault
+    ensures is { result ≡ wraps_record section fault }
+    ensures answered { IsTrue (is_input_answered result) }
+{
+    match fault {
+        RecordFault::NoMemory => AsmFault::NoMemory,
+        _ => AsmFault::Record(section, fault),
+    }
+}
+
+/// A fault of its relocations, where want of memory stands alone.
+fn reloc_fault(section: u32, fault: RelocFault) -> AsmFault
+    ensures is { result ≡ wraps_reloc section fault }
+    ensures answered { IsTrue (is_input_answered result) }
+{
+    match fault {
+        RelocFault::NoMemory => AsmFault::NoMemory,
+        _ => AsmFault::Reloc(section, fault),
+    }
+}
+
+/// A fault of its instructions, where want of memory stands alone.
+fn machine_fault(section: u32, fault: MachineFault) -> AsmFault
+    ensures is { result ≡ wraps_machine section fault }
+    ensures answered { IsTrue (is_input_answered result) }
+{
+    match fault {
+        MachineFault::NoMemory => AsmFault::NoMemory,
+        _ => AsmFault::Machine(section, fault),
+    }
+}
+
+/// The records of a section.
+fn records_of<'a>(alloc: Global, section: &Frames<'a>) -> Result<Records<'a>, AsmFault>
+    ensures whole { IfOk result (λ records. entries_of section.now.arch section.now.bytes.now ≡ Ok (entries_of_records records)) }
+    ensures machine { IfOk result (λ records. machine_of_records records ≡ section.now.arch) }
+    ensures fault { IfErr result (λ fault. IsRecordsFault section.now.number fault (entries_of section.now.arch section.now.bytes.now)) }
+    ensures answered { IfErr result (λ fault. IsTrue (is_input_answered fault)) }
+{
+    match Records::parse(alloc, section.bytes, section.arch) {
+        Ok(records) => Ok(records),
+        Err(fault) => Err(record_fault(section.number, fault)),
+    }
+}
+
+/// What its relocations write.
+fn overlay_of(alloc: Global, placed: Option<&Placed<'_>>, section: u32) -> Result<Overlay, AsmFault>
+    ensures read { IfOk result (λ overlay. relocations_by (option_map (λ p. placing p.now) placed.entry) section ≡ Ok (written_by overlay)) }
+    ensures fault { IfErr result (λ fault. IsRelocFault section fault (relocations_by (option_map (λ p. placing p.now) placed.entry) section)) }
+    ensures answered { IfErr result (λ fault. IsTrue (is_input_answered fault)) }
+{
+    match Overlay::new(alloc, placed, section) {
+        Ok(overlay) => Ok(overlay),
+        Err(fault) => Err(reloc_fault(section, fault)),
+    }
+}
+
+/// Whether each of them lies on a pointer field of the records.
+fn check_overlay(
+    alloc: Global,
+    section: u32,
+    overlay: &Overlay,
+    records: &Records<'_>,
+) -> Result<(), AsmFault>
+    ensures lie { OnOk result (pointer_check (pointer_fields (entries_of_records records.now)) (written_by overlay.now) ≡ Ok tt) }
+    ensures fault { IfErr result (λ fault. IsRelocFault section fault (pointer_check (pointer_fields (entries_of_records records.now)) (written_by overlay.now))) }
+    ensures answered { IfErr result (λ fault. IsTrue (is_input_answered fault)) }
+{
+    match overlay.check(alloc, records) {
+        Ok(()) => Ok(()),
+        Err(fault) => Err(reloc_fault(section, fault)),
+    }
+}
+
+/// The start and size of a function.
+fn span_of(section: &Frames<'_>, overlay: &Overlay, fde: &Fde<'_>) -> Result<(u64, u64), AsmFault>
+    ensures exact { (relocations : Result (List Fix) reloc_fault) → result ≡ named (Record section.now.number) (span_in (seen_section section.now relocations) (overlaid (written_by overlay.now)) (fde_view fde.now)) }
+    ensures end { IfOk result (λ s. s.0 + s.1 ≤ 2 ^ 64) }
+    ensures answered { IfErr result (λ fault. IsTrue (is_input_answered fault)) }
+{
+    match fde.span(section.address, section.shift, overlay) {
+        Ok(span) => Ok(span),
+        Err(fault) => Err(record_fault(section.number, fault)),
+    }
+}
+
+/// The rows of a function, each of whose instructions was run.
+fn rows_of(
+    alloc: Global,
+    section: &Frames<'_>,
+    fde: &Fde<'_>,
+    size: u64,
+) -> Result<Vec<DwRow>, AsmFault>
+    ensures rows { IfOk result (λ v. AreRows section.now.arch size v.items) }
+    ensures at { IfOk result (λ v. SayAll section.now.arch fde.now.cie.code fde.now.cie.factor size (listing (cursor fde.now.cie.insns)) (listing (cursor fde.now.insns)) v.items) }
+    ensures runs { OnOk result (fault_in section.now.arch (fde_view fde.now) ≡ None) }
+    ensures fault { IfErr result (λ fault. IsRunFault section.now.number fault (fault_in section.now.arch (fde_view fde.now))) }
+    ensures answered { IfErr result (λ fault. IsTrue (is_input_answered fault)) }
+{
+    let arch = section.arch;
+    let cie = fde.cie;
+    match rows(
+        alloc, arch, cie.code, cie.factor, cie.insns, fde.insns, size,
+    ) {
+        Ok(rows) => Ok(rows),
+        Err(fault) => Err(machine_fault(section.number, fault)),
+    }
+}
+
+/// What becomes of a function with these rows.
+fn outcome_of(
+    alloc: Global,
+    arch: Arch,
+    facts: &FdeFacts,
+    rows: &[DwRow],
+) -> Result<Outcome, AsmFault>
+    requires rows { AreRows arch facts.now.size rows.now }
+    requires end { facts.now.start + facts.now.size ≤ 2 ^ 64 }
+    requires key { IsTrue (key_fits arch facts.now.key) }
+    ensures means { IfOk result (λ outcome. (says : Saying) → AreSaid arch facts.now.size rows.now says → outcome ≡ outcome_by (function_of arch facts.now says)) }
+    ensures sound { IfOk result (IsSoundOutcome arch facts.now.start facts.now.size) }
+    ensures fault { IfErr result (λ fault. fault ≡ NoMemory) }
+{
+    match express(alloc, arch, facts, rows) {
+        Ok(func) => Ok(Outcome::Kept(func)),
+        Err(ExpressFault::Omit(omission)) => Ok(Outcome::Left(omission)),
+        Err(ExpressFault::NoMemory) => Err(AsmFault::NoMemory),
+    }
+}
+
+/// The function of one frame description entry.
+fn read_function(
+    alloc: Global,
+    section: &Frames<'_>,
+    overlay: &Overlay,
+    fde: &Fde<'_>,
+) -> Result<Entry, AsmFault>
+    requires { IsTrue (key_fits section.now.arch fde.now.cie.key) }
+    ensures exact { (relocations : Result (List Fix) reloc_fault) → ReadsOne result (function_in section.now.arch section.now.item (seen_section section.now relocations) (overlaid (written_by overlay.now)) (fde_view fde.now)) }
+    ensures sound { IfOk result (IsSound section.now.arch) }
+    ensures answered { IfErr result (λ fault. IsTrue (is_input_answered fault)) }
+{
+    let (start, size) = span_of(section, overlay, fde)?;
+    let rows = rows_of(alloc, section, fde, size)?;
+    let facts = FdeFacts {
+        start,
+        size,
+        column: fde.cie.column,
+        signal: fde.cie.signal,
+        key: fde.cie.key,
+    };
+    let outcome = outcome_of(alloc, section.arch, &facts, &rows)?;
+    let origin = Origin {
+        item: section.item,
+        section: section.number,
+        place: fde.place,
+    };
+    Ok(Entry {
+        span: Span {
+            start,
+            size,
+            origin,
+        },
+        outcome,
+    })
+}
+
+/// The functions of the records, behind those that were read before.
+fn read_frames(
+    alloc: Global,
+    section: &Frames<'_>,
+    overlay: &Overlay,
+    records: &Records<'_>,
+    entries: &mut Vec<Entry>,
+) -> Result<(), AsmFault>
+    requires machine { machine_of_records records.now ≡ section.now.arch }
+    requires sound { All (IsSound section.now.arch) entries.old.items }
+    ensures exact { (relocations : Result (List Fix) reloc_fault) → ReadsMore result entries.old.items entries.new.items (functions_in section.now.arch section.now.item (seen_section section.now relocations) (overlaid (written_by overlay.now)) (frames (entries_of_records records.now))) }
+    ensures sound { OnOk result (All (IsSound section.now.arch) entries.new.items) }
+    ensures answered { IfErr result (λ fault. IsTrue (is_input_answered fault)) }
+{
+    for fde in records.fdes() {
+        if overlay.dropped(fde.begin) {
+            continue;
+        }
+        entries.push(read_function(alloc, section, overlay, &fde)?)?;
+    }
+    Ok(())
+}
+
+/// The functions of a section of a file, or of none, behind those that were read before.
+pub fn read_section(
+    alloc: Global,
+    section: &Frames<'_>,
+    placed: Option<&Placed<'_>>,
+    entries: &mut Vec<Entry>,
+) -> Result<(), AsmFault>
+    requires sound { All (IsSound section.now.arch) entries.old.items }
+    ensures exact { ReadsMore result entries.old.items entries.new.items (section_functions section.now.arch section.now.item (seen_section section.now (relocations_by (option_map (λ p. placing p.now) placed.entry) section.now.number))) }
+    ensures sound { OnOk result (All (IsSound section.now.arch) entries.new.items) }
+    ensures answered { IfErr result (λ fault. IsTrue (is_input_answered fault)) }
+{
+    let records = records_of(alloc, section)?;
+    let overlay = overlay_of(alloc, placed, section.number)?;
+    check_overlay(alloc, section.number, &overlay, &records)?;
+    read_frames(alloc, section, &overlay, &records, entries)
+}
