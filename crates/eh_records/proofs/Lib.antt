@@ -10,6 +10,7 @@ pub mod LetterViews
 pub mod Lie
 pub mod Moves
 pub mod Onward
+pub mod Parts
 pub mod Rising
 pub mod SaidLoop
 pub mod Stands

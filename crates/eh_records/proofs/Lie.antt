@@ -1,14 +1,13 @@
--- The pointer fields of a record lie in it, one behind the other.
-use Rattle.std.proofs.Common.{◌≡◌, ℕ, ◌+◌, ◌≤◌, Bool, true, false, cond, List, [], ◌∷◌, Option, Some, None, Result, Ok, Err, refl, subst, arith}
+-- The pointer fields of a record lie in it, one behind the other, with their numbers.
+use Rattle.std.proofs.Common.{◌≡◌, ℕ, ◌+◌, ◌-◌, ◌≤◌, Bool, true, false, cond, List, [], ◌∷◌, Option, Some, None, Result, Ok, Err, refl, subst, arith}
 use Rattle.std.specs.Prelude.{◌==◌, ◌||◌}
 use Rattle.sf_bytes.specs.Cursor.{Cursor}
-use Rattle.sf_bytes.proofs.Inside.{Inside, end_of, inside-inside}
+use Rattle.sf_bytes.proofs.Inside.{end_of}
 use Rattle.sf_model.specs.declared.machine.Arch.{Arch}
 use Rattle.sf_model.specs.declared.machine.Key.TheVariants.{B}
 use Rattle.eh_pointer.specs.declared.fault.PointerFault.{PointerFault}
 use Rattle.eh_pointer.specs.Pointer.{pointer_width, usable_width}
 use Rattle.eh_pointer.specs.Skipping.{pointer_passed}
-use Rattle.eh_pointer.proofs.Behind.{pointer_inside}
 use Rattle.eh_records.specs.declared.fault.RecordFault.{RecordFault}
 use Rattle.eh_records.specs.declared.fault.RecordFault.TheVariants.{Augmentation, CieVersion}
 use Rattle.eh_records.specs.Augmentation.{Said, Form, said_plain, letters_in, letters_at, data_at, form_of, form_at, personality_field, personality_in, personality_at, letter_at, said_by}
@@ -17,13 +16,27 @@ use Rattle.eh_records.specs.Cut.{Piece, named_place}
 use Rattle.eh_records.specs.Fde.{FdeView, read_there, lsda_of_width, lsda_in, lsda_at, entry_of, cie_at_place, fde_of}
 use Rattle.eh_records.specs.Section.{EntryView, Common, Frame, optional, entry_fields, entry_here}
 use Rattle.eh_records.specs.Step.{Step, ◌>>=◌, PointerField, number_field, uleb_field, sleb_field, text_field, pointer_field}
-use Rattle.eh_records.proofs.Between.{Between, LieIn, lower, higher, lie_wider, none_lies}
+use Rattle.eh_records.proofs.Between.{LieIn, lower, higher, lie_wider, none_lies}
 use Rattle.eh_records.proofs.Moves.{through, ok_same}
 use Rattle.eh_records.proofs.Onward.{Pointed, number_on, uleb_on, sleb_on, text_on, data_on, pointer_on}
+use Rattle.eh_records.proofs.Parts.{IsPart, number_there, part-part, pointer_part}
 
--- a pointer field that was read lies there
+-- a pointer field that was read lies there, and so do those that lie behind it
+pointer_raw : (at : Cursor) (x : PointerField × Cursor) → Pointed at x → x.0.raw ≡ number_there at x.0.place x.0.width
+pointer_raw at x p =
+    let none : x.0.place - at.place ≡ 0 = omega (arith, p.place) in
+    rw none p.raw
+
+then_lie : (at : Cursor) (x : PointerField × Cursor) (fs : List PointerField) → Pointed at x → LieIn x.1 fs → LieIn at (x.0 ∷ fs)
+then_lie at x fs p h =
+    let behind : x.0.place + x.0.width ≤ x.1.place = omega (arith, p.next) in
+    record {
+      between = (omega (arith, p.place), lower (x.0.place + x.0.width) x.1.place (end_of at) fs behind (higher x.1.place (end_of x.1) (end_of at) fs p.on.inside.to h.between));
+      raw = (pointer_raw at x p, (lie_wider x.1 at fs p.on h).raw);
+    }
+
 pointer_lies : (at : Cursor) (x : PointerField × Cursor) → Pointed at x → LieIn at (optional (Some x.0))
-pointer_lies at x p = (omega (arith, p.place), omega (arith, p.next, p.on.to))
+pointer_lies at x p = then_lie at x [] p (none_lies x.1)
 
 -- ---- frame description entries
 
@@ -58,52 +71,48 @@ frame_lies shared p f e =
     let v = through (lsda_at shared u.first.1) _ f u.rest in
     let begin = pointer_on shared.width p.body t.first t.read in
     let range = pointer_on shared.width t.first.1 u.first u.read in
-    let lsda : LieIn u.first.1 (optional v.first.0) = lsda_lies shared u.first.1 v.first v.read in
-    let within : end_of u.first.1 ≤ end_of p.body = omega (arith, begin.on.to, range.on.to) in
-    let behind : u.first.0.place + u.first.0.width ≤ u.first.1.place = omega (arith, range.next) in
-    let last : Between (u.first.0.place + u.first.0.width) (end_of p.body) (optional v.first.0) =
-    lower _ u.first.1.place (end_of p.body) (optional v.first.0) behind (higher u.first.1.place (end_of u.first.1) (end_of p.body) (optional v.first.0) within lsda) in
-    let all : LieIn p.body (t.first.0 ∷ u.first.0 ∷ optional v.first.0) = (omega (arith, begin.place), (omega (arith, begin.next, range.place), last)) in
+    let lsda = lsda_lies shared u.first.1 v.first v.read in
+    let all = then_lie p.body t.first (u.first.0 ∷ optional v.first.0) begin (then_lie t.first.1 u.first (optional v.first.0) range lsda) in
     subst (λ (g : FdeView). LieIn p.body (g.begin ∷ g.range ∷ optional g.lsda)) (ok_same _ f v.rest) all
 
 -- ---- common information entries
 
 -- what is left lies in a cursor's bytes, and so does the personality pointer
 abbrev SaidIn : Cursor → Said × Cursor → Type 0
-SaidIn outer x = Inside x.1 outer × LieIn outer (optional x.0.personality)
+SaidIn outer x = IsPart x.1 outer × LieIn outer (optional x.0.personality)
 
 abbrev FieldIn : Cursor → Option PointerField × Cursor → Type 0
-FieldIn outer x = Inside x.1 outer × LieIn outer (optional x.0)
+FieldIn outer x = IsPart x.1 outer × LieIn outer (optional x.0)
 
-form_in : (place encoding : ℕ) (o : Option ℕ) (at after : Cursor) (x : Form × Cursor) → Inside after at → form_of place encoding o after ≡ Ok x → Inside x.1 at
-form_in place encoding (Some width) at after x i e = subst (λ (y : Form × Cursor). Inside y.1 at) (ok_same _ x e) i
+form_in : (place encoding : ℕ) (o : Option ℕ) (at after : Cursor) (x : Form × Cursor) → IsPart after at → form_of place encoding o after ≡ Ok x → IsPart x.1 at
+form_in place encoding (Some width) at after x i e = subst (λ (y : Form × Cursor). IsPart y.1 at) (ok_same _ x e) i
 form_in place encoding None at after x i e = absurd cc
 
-form_on : (at : Cursor) (x : Form × Cursor) → form_at at ≡ Ok x → Inside x.1 at
+form_on : (at : Cursor) (x : Form × Cursor) → form_at at ≡ Ok x → IsPart x.1 at
 unfolding form_at
 form_on at x e =
     let t = through (number_field 1 at) _ x e in
     form_in at.place t.first.0 (usable_width t.first.0) at t.first.1 x (number_on 1 at t.first t.read) t.rest
 
-field_lies : (o : Option ℕ) (at after : Cursor) (x : Option PointerField × Cursor) → Inside after at → personality_field o at after ≡ Ok x → FieldIn at x
+field_lies : (o : Option ℕ) (at after : Cursor) (x : Option PointerField × Cursor) → IsPart after at → personality_field o at after ≡ Ok x → FieldIn at x
 field_lies None at after x i e = subst (FieldIn at) (ok_same _ x e) (i, none_lies at)
 field_lies (Some width) at after x i e =
     let t = through (pointer_field width at) _ x e in
     let p = pointer_on width at t.first t.read in
     subst (FieldIn at) (ok_same _ x t.rest) (p.on, pointer_lies at t.first p)
 
-passed_lies : (place encoding : ℕ) (at : Cursor) (r : Result Cursor PointerFault) (x : Option PointerField × Cursor) → ((c : Cursor) → r ≡ Ok c → Inside c at) → personality_in place encoding at r ≡ Ok x → FieldIn at x
+passed_lies : (place encoding : ℕ) (at : Cursor) (r : Result Cursor PointerFault) (x : Option PointerField × Cursor) → ((c : Cursor) → r ≡ Ok c → IsPart c at) → personality_in place encoding at r ≡ Ok x → FieldIn at x
 passed_lies place encoding at (Ok after) x h e = field_lies (pointer_width encoding) at after x (h after refl) e
 passed_lies place encoding at (Err f) x h e = absurd cc
 
-wider : (inner outer : Cursor) (x : Option PointerField × Cursor) → Inside inner outer → FieldIn inner x → FieldIn outer x
-wider inner outer x i h = (inside-inside x.1 inner outer h.0 i, lie_wider inner outer (optional x.0) i h.1)
+wider : (inner outer : Cursor) (x : Option PointerField × Cursor) → IsPart inner outer → FieldIn inner x → FieldIn outer x
+wider inner outer x i h = (part-part x.1 inner outer h.0 i, lie_wider inner outer (optional x.0) i h.1)
 
-personality_if : (place : ℕ) (at : Cursor) (encoding : ℕ × Cursor) (x : Option PointerField × Cursor) (omitted : Bool) → Inside encoding.1 at
+personality_if : (place : ℕ) (at : Cursor) (encoding : ℕ × Cursor) (x : Option PointerField × Cursor) (omitted : Bool) → IsPart encoding.1 at
     → cond omitted (Ok (None, encoding.1)) (personality_in place encoding.0 encoding.1 (pointer_passed encoding.0 encoding.1)) ≡ Ok x → FieldIn at x
 personality_if place at encoding x true i e = subst (FieldIn at) (ok_same _ x e) (i, none_lies at)
 personality_if place at encoding x false i e =
-    wider encoding.1 at x i (passed_lies place encoding.0 encoding.1 (pointer_passed encoding.0 encoding.1) x (pointer_inside encoding.0 encoding.1) e)
+    wider encoding.1 at x i (passed_lies place encoding.0 encoding.1 (pointer_passed encoding.0 encoding.1) x (pointer_part encoding.0 encoding.1) e)
 
 personality_lies : (at : Cursor) (x : Option PointerField × Cursor) → personality_at at ≡ Ok x → FieldIn at x
 unfolding personality_at
@@ -111,7 +120,7 @@ personality_lies at x e =
     let t = through (number_field 1 at) _ x e in
     personality_if at.place at t.first x (t.first.0 == 255) (number_on 1 at t.first t.read) t.rest
 
-letter_if : (outer at : Cursor) (said : Said) (x : Said × Cursor) (r p l s : Bool) → Inside at outer → LieIn outer (optional said.personality)
+letter_if : (outer at : Cursor) (said : Said) (x : Said × Cursor) (r p l s : Bool) → IsPart at outer → LieIn outer (optional said.personality)
     → cond {A = Step Said} r (form_at at >>= λ f. Ok (record said { pointers = f.0 }, f.1))
     (cond p (personality_at at >>= λ f. Ok (record said { personality = f.0 }, f.1))
     (cond l (number_field 1 at >>= λ e. Ok (record said { lsda = Some e.0 }, e.1))
@@ -119,21 +128,21 @@ letter_if : (outer at : Cursor) (said : Said) (x : Said × Cursor) (r p l s : Bo
     → SaidIn outer x
 letter_if outer at said x true p l s i h e =
     let t = through (form_at at) _ x e in
-    subst (SaidIn outer) (ok_same _ x t.rest) (inside-inside t.first.1 at outer (form_on at t.first t.read) i, h)
+    subst (SaidIn outer) (ok_same _ x t.rest) (part-part t.first.1 at outer (form_on at t.first t.read) i, h)
 letter_if outer at said x false true l s i h e =
     let t = through (personality_at at) _ x e in
     subst (SaidIn outer) (ok_same _ x t.rest) (wider at outer t.first i (personality_lies at t.first t.read))
 letter_if outer at said x false false true s i h e =
     let t = through (number_field 1 at) _ x e in
-    subst (SaidIn outer) (ok_same _ x t.rest) (inside-inside t.first.1 at outer (number_on 1 at t.first t.read) i, h)
+    subst (SaidIn outer) (ok_same _ x t.rest) (part-part t.first.1 at outer (number_on 1 at t.first t.read) i, h)
 letter_if outer at said x false false false true i h e = subst (SaidIn outer) (ok_same _ x e) (i, h)
 letter_if outer at said x false false false false i h e = subst (SaidIn outer) (ok_same _ x e) (i, h)
 
-letter_lies : (b : ℕ) (outer at : Cursor) (said : Said) (x : Said × Cursor) → Inside at outer → LieIn outer (optional said.personality) → letter_at b said at ≡ Ok x → SaidIn outer x
+letter_lies : (b : ℕ) (outer at : Cursor) (said : Said) (x : Said × Cursor) → IsPart at outer → LieIn outer (optional said.personality) → letter_at b said at ≡ Ok x → SaidIn outer x
 unfolding letter_at
 letter_lies b outer at said x i h e = letter_if outer at said x (b == 82) (b == 80) (b == 76) (b == 83) i h e
 
-letters_lie : (letters : List ℕ) (outer at : Cursor) (said s : Said) → Inside at outer → LieIn outer (optional said.personality) → said_by letters said at ≡ Ok s → LieIn outer (optional s.personality)
+letters_lie : (letters : List ℕ) (outer at : Cursor) (said s : Said) → IsPart at outer → LieIn outer (optional said.personality) → said_by letters said at ≡ Ok s → LieIn outer (optional s.personality)
 unfolding said_by
 letters_lie [] outer at said s i h e = subst (λ (y : Said). LieIn outer (optional y.personality)) (ok_same said s e) h
 letters_lie (b ∷ bs) outer at said s i h e =
@@ -150,37 +159,37 @@ unfolding said_at
 said_lies None at x e = subst (λ (y : Said × Cursor). LieIn at (optional y.0.personality)) (ok_same _ x e) (none_lies at)
 said_lies (Some letters) at x e =
     let t = through (data_at at) _ x e in
-    let i : Inside t.first.0 at = (data_on at t.first t.read).0 in
+    let i : IsPart t.first.0 at = (data_on at t.first t.read).0 in
     passed_said at t.first.1 (said_by letters said_plain t.first.0) x (λ s r. letters_lie letters at t.first.0 said_plain s i (none_lies at) r) t.rest
 
-column_if : (at : Cursor) (x : ℕ × Cursor) (b : Bool) → cond b (number_field 1 at) (uleb_field at) ≡ Ok x → Inside x.1 at
+column_if : (at : Cursor) (x : ℕ × Cursor) (b : Bool) → cond b (number_field 1 at) (uleb_field at) ≡ Ok x → IsPart x.1 at
 column_if at x true e = number_on 1 at x e
 column_if at x false e = uleb_on at x e
 
-column_on : (version : ℕ) (at : Cursor) (x : ℕ × Cursor) → column_at version at ≡ Ok x → Inside x.1 at
+column_on : (version : ℕ) (at : Cursor) (x : ℕ × Cursor) → column_at version at ≡ Ok x → IsPart x.1 at
 unfolding column_at
 column_on version at x e = column_if at x (version == 1) e
 
-numbers_on : (version : ℕ) (at : Cursor) (x : Numbers × Cursor) → numbers_at version at ≡ Ok x → Inside x.1 at
+numbers_on : (version : ℕ) (at : Cursor) (x : Numbers × Cursor) → numbers_at version at ≡ Ok x → IsPart x.1 at
 unfolding numbers_at
 numbers_on version at x e =
     let t = through (uleb_field at) _ x e in
     let u = through (sleb_field t.first.1) _ x t.rest in
     let v = through (column_at version u.first.1) _ x u.rest in
-    let two = inside-inside u.first.1 t.first.1 at (sleb_on t.first.1 u.first u.read) (uleb_on at t.first t.read) in
-    let three = inside-inside v.first.1 u.first.1 at (column_on version u.first.1 v.first v.read) two in
-    subst (λ (y : Numbers × Cursor). Inside y.1 at) (ok_same _ x v.rest) three
+    let two = part-part u.first.1 t.first.1 at (sleb_on t.first.1 u.first u.read) (uleb_on at t.first t.read) in
+    let three = part-part v.first.1 u.first.1 at (column_on version u.first.1 v.first v.read) two in
+    subst (λ (y : Numbers × Cursor). IsPart y.1 at) (ok_same _ x v.rest) three
 
-letters_if : (arch : Arch) (place : ℕ) (bs : List ℕ) (at after : Cursor) (x : Option (List ℕ) × Cursor) (known : Bool) → Inside after at
-    → cond {A = Step (Option (List ℕ))} known (Ok (Some bs, after)) (Err (Augmentation place)) ≡ Ok x → Inside x.1 at
-letters_if arch place bs at after x true i e = subst (λ (y : Option (List ℕ) × Cursor). Inside y.1 at) (ok_same _ x e) i
+letters_if : (arch : Arch) (place : ℕ) (bs : List ℕ) (at after : Cursor) (x : Option (List ℕ) × Cursor) (known : Bool) → IsPart after at
+    → cond {A = Step (Option (List ℕ))} known (Ok (Some bs, after)) (Err (Augmentation place)) ≡ Ok x → IsPart x.1 at
+letters_if arch place bs at after x true i e = subst (λ (y : Option (List ℕ) × Cursor). IsPart y.1 at) (ok_same _ x e) i
 letters_if arch place bs at after x false i e = absurd cc
 
-letters_of : (arch : Arch) (place : ℕ) (text : List ℕ) (at after : Cursor) (x : Option (List ℕ) × Cursor) → Inside after at → letters_in arch place text after ≡ Ok x → Inside x.1 at
-letters_of arch place [] at after x i e = subst (λ (y : Option (List ℕ) × Cursor). Inside y.1 at) (ok_same _ x e) i
+letters_of : (arch : Arch) (place : ℕ) (text : List ℕ) (at after : Cursor) (x : Option (List ℕ) × Cursor) → IsPart after at → letters_in arch place text after ≡ Ok x → IsPart x.1 at
+letters_of arch place [] at after x i e = subst (λ (y : Option (List ℕ) × Cursor). IsPart y.1 at) (ok_same _ x e) i
 letters_of arch place (b ∷ bs) at after x i e = letters_if arch place bs at after x _ i e
 
-letters_on : (arch : Arch) (at : Cursor) (x : Option (List ℕ) × Cursor) → letters_at arch at ≡ Ok x → Inside x.1 at
+letters_on : (arch : Arch) (at : Cursor) (x : Option (List ℕ) × Cursor) → letters_at arch at ≡ Ok x → IsPart x.1 at
 unfolding letters_at
 letters_on arch at x e =
     let t = through (text_field at) _ x e in
@@ -192,11 +201,11 @@ fields_lie arch place version at shared e =
     let t = through (letters_at arch at) _ shared e in
     let u = through (numbers_at version t.first.1) _ shared t.rest in
     let v = through (said_at t.first.0 u.first.1) _ shared u.rest in
-    let i = inside-inside u.first.1 t.first.1 at (numbers_on version t.first.1 u.first u.read) (letters_on arch at t.first t.read) in
+    let i = part-part u.first.1 t.first.1 at (numbers_on version t.first.1 u.first u.read) (letters_on arch at t.first t.read) in
     let lies = lie_wider u.first.1 at (optional v.first.0.personality) i (said_lies t.first.0 u.first.1 v.first v.read) in
     subst (λ (s : SharedView). LieIn at (optional s.cie.personality)) (ok_same _ shared v.rest) lies
 
-version_lies : (arch : Arch) (p : Piece) (version : ℕ × Cursor) (shared : SharedView) (b : Bool) → Inside version.1 p.body
+version_lies : (arch : Arch) (p : Piece) (version : ℕ × Cursor) (shared : SharedView) (b : Bool) → IsPart version.1 p.body
     → cond b (cie_fields arch p.place version.0 version.1) (Err (CieVersion p.body.place)) ≡ Ok shared → LieIn p.body (optional shared.cie.personality)
 version_lies arch p version shared true i e = lie_wider version.1 p.body (optional shared.cie.personality) i (fields_lie arch p.place version.0 version.1 shared e)
 version_lies arch p version shared false i e = absurd cc

@@ -1,18 +1,23 @@
--- The pointer fields of a section's entries stand one behind the other.
+-- The pointer fields of a section's entries stand one behind the other, with the numbers that stand there.
 use Rattle.std.specs.Prelude.{is_ok}
-use Rattle.std.proofs.Common.{◌≡◌, ℕ, ◌+◌, ◌-◌, ◌≤◌, true, List, [], ◌∷◌, ◌++◌, append-nil, length, take, drop, sym, ap, subst, ◌∙◌, arith, length-drop}
+use Rattle.std.proofs.Common.{◌≡◌, ℕ, ◌+◌, ◌-◌, ◌≤◌, true, List, [], ◌∷◌, ◌++◌, append-nil, length, take, drop, Ok, refl, sym, ap, subst, ◌∙◌, arith, length-drop}
 use Rattle.std.proofs.lemmas.List.{length-take-le}
-use Rattle.sf_bytes.specs.Cursor.{Cursor}
+use Rattle.std.proofs.lemmas.List.Elements.{All-nil, All-cons}
+use Rattle.byteorder.specs.Endian.{little_number}
+use Rattle.sf_bytes.specs.Cursor.{Cursor, past}
+use Rattle.sf_bytes.proofs.Fields.{past-passes}
 use Rattle.sf_bytes.proofs.Inside.{end_of}
 use Rattle.sf_model.specs.declared.machine.Arch.{Arch}
 use Rattle.eh_records.specs.Cut.{Piece}
 use Rattle.eh_records.specs.Cutting.{Stands, AreCut, AreRead, start}
+use Rattle.eh_records.specs.Raw.{HoldsRaw, HoldRaw, StandApart}
 use Rattle.eh_records.specs.Section.{EntryView, cuts_of, with_place, entry_fields, pointer_fields, entries_of, entries_before}
 use Rattle.eh_records.specs.Step.{PointerField}
-use Rattle.eh_records.proofs.Between.{Between, LieIn, lower, both_between}
+use Rattle.eh_records.proofs.Between.{Between, LieIn, AreRawIn, lower, not_above, both_between, both_raw, lie_wider, none_lies, stand_apart}
 use Rattle.eh_records.proofs.Entries.{read_entries}
 use Rattle.eh_records.proofs.Faults.{here, read_again}
 use Rattle.eh_records.proofs.Lie.{entry_lies}
+use Rattle.eh_records.proofs.Parts.{IsPart, part-part, rest-part, run-part}
 
 -- a record's fields end where the next record begins
 body_lies : (at : Cursor) (p : Piece) (after : Cursor) (fs : List PointerField) → Stands at p after → LieIn p.body fs → Between at.place after.place fs
@@ -25,7 +30,32 @@ body_lies at p after fs s h =
     let body : length p.body.left ≡ s.len - 4 = ap (λ (q : Piece). length q.body.left) s.piece ∙ left in
     let behind : after.place ≡ at.place + (4 + s.len) = ap (λ (c : Cursor). c.place) s.behind in
     let same : end_of p.body ≡ after.place = omega (arith, from, body, behind, s.enough) in
-    lower at.place p.body.place after.place fs (omega (arith, from)) (subst (λ (n : ℕ). Between p.body.place n fs) same h)
+    lower at.place p.body.place after.place fs (omega (arith, from)) (subst (λ (n : ℕ). Between p.body.place n fs) same h.between)
+
+after_part : (at : Cursor) (p : Piece) (after : Cursor) → Stands at p after → IsPart after at
+after_part at p after s =
+    subst (λ (c : Cursor). IsPart c at) (sym s.behind) (rest-part (take (4 + s.len) at.left) at (past (4 + s.len) at) (past-passes (4 + s.len) at s.within))
+
+-- the bytes behind the length, and those behind the word behind that
+abbrev behind_length : ℕ → Cursor → Cursor
+behind_length len at = record { place = at.place + 4; left = take len (drop 4 at.left) }
+
+body_is : (at : Cursor) (p : Piece) (after : Cursor) (s : Stands at p after) → past 4 (behind_length s.len at) ≡ p.body
+body_is at p after s =
+    let place : at.place + 4 + 4 ≡ at.place + 8 = omega arith in
+    let body : p.body ≡ record { place = at.place + 8; left = drop 4 (take s.len (drop 4 at.left)) } = ap (λ (q : Piece). q.body) s.piece in
+    rw (body, place) refl
+
+body_part : (at : Cursor) (p : Piece) (after : Cursor) → Stands at p after → IsPart p.body at
+body_part at p after s =
+    let inner = behind_length s.len at in
+    let rest : length (drop 4 at.left) ≡ length at.left - 4 = length-drop 4 at.left in
+    let some : s.len ≤ length (drop 4 at.left) = omega (arith, s.within, rest) in
+    let taken : length (take s.len (drop 4 at.left)) ≡ s.len = length-take-le s.len (drop 4 at.left) some in
+    let one = rest-part (take 4 at.left) at (past 4 at) (past-passes 4 at (omega (arith, s.within))) in
+    let two = run-part (take s.len (drop 4 at.left)) inner (past 4 at) (past s.len (past 4 at)) (past-passes s.len (past 4 at) some) refl refl in
+    let three = rest-part (take 4 inner.left) inner (past 4 inner) (past-passes 4 inner (omega (arith, s.enough, taken))) in
+    subst (λ (c : Cursor). IsPart c at) (body_is at p after s) (part-part (past 4 inner) inner at three (part-part inner (past 4 at) at two one))
 
 after_inside : (at : Cursor) (p : Piece) (after : Cursor) → Stands at p after → end_of after ≡ end_of at
 after_inside at p after s =
@@ -33,24 +63,50 @@ after_inside at p after s =
     let left : length after.left ≡ length at.left - (4 + s.len) = ap (λ (c : Cursor). length c.left) s.behind ∙ length-drop (4 + s.len) at.left in
     omega (arith, behind, left, s.within)
 
+-- the fields of a record and of those behind it
+then_lie : (at : Cursor) (p : Piece) (after : Cursor) (fs gs : List PointerField) → Stands at p after → LieIn p.body fs → LieIn after gs → LieIn at (fs ++ gs)
+then_lie at p after fs gs s h k = record {
+  between = both_between at.place after.place (end_of at) fs gs (body_lies at p after fs s h) (subst (λ (n : ℕ). Between after.place n gs) (after_inside at p after s) k.between);
+  raw = both_raw at fs gs (lie_wider p.body at fs (body_part at p after s) h).raw (lie_wider after at gs (after_part at p after s) k).raw;
+}
+
 all_lie : (arch : Arch) (section cies : List ℕ) (ps : List Piece) (es : List EntryView) (at : Cursor) → AreCut ps at → AreRead arch section cies ps es → LieIn at (pointer_fields es)
-all_lie arch section cies [] [] at cut read = omega arith
+all_lie arch section cies [] [] at cut read = none_lies at
 all_lie arch section cies [] (e ∷ es) at cut read = absurd read
 all_lie arch section cies (p ∷ ps) [] at cut read = absurd read
 all_lie arch section cies (p ∷ ps) (e ∷ es) at (after, stands, rest) read =
-    let first = body_lies at p after (entry_fields e) stands (entry_lies arch section p e (here arch section cies p e read.0)) in
-    let others = all_lie arch section (with_place cies p) ps es after rest read.1 in
-    let all : Between after.place (end_of at) (pointer_fields es) = subst (λ (n : ℕ). Between after.place n (pointer_fields es)) (after_inside at p after stands) others in
-    both_between at.place after.place (end_of at) (entry_fields e) (pointer_fields es) first all
+    then_lie at p after (entry_fields e) (pointer_fields es) stands
+    (entry_lies arch section p e (here arch section cies p e read.0))
+    (all_lie arch section (with_place cies p) ps es after rest read.1)
 
-fields_lie : (arch : Arch) (section : List ℕ) → is_ok (entries_of arch section) ≡ true → LieIn (start section) (pointer_fields (entries_before arch section (cuts_of section)))
-fields_lie arch section whole =
-    let e = read_entries arch section (entries_before arch section (cuts_of section)) (read_again arch section whole) in
-    all_lie arch section [] e.0 (entries_before arch section (cuts_of section)) (start section) e.1 e.2
+fields_lie : (arch : Arch) (section : List ℕ) (es : List EntryView) → entries_of arch section ≡ Ok es → LieIn (start section) (pointer_fields es)
+fields_lie arch section es whole =
+    let e = read_entries arch section es whole in
+    all_lie arch section [] e.0 es (start section) e.1 e.2
 
 -- once no entry is left, what was listed are all fields, so they lie in the section
 pub listed_lie : (arch : Arch) (section : List ℕ) (fs : List PointerField) (left : List EntryView) → is_ok (entries_of arch section) ≡ true
     → fs ++ pointer_fields left ≡ pointer_fields (entries_before arch section (cuts_of section)) → left ≡ [] → LieIn (start section) fs
 listed_lie arch section fs left whole h none =
     let all : fs ≡ pointer_fields (entries_before arch section (cuts_of section)) = sym (append-nil fs) ∙ ap (λ (es : List EntryView). fs ++ pointer_fields es) (sym none) ∙ h in
-    rw all (fields_lie arch section whole)
+    rw all (fields_lie arch section (entries_before arch section (cuts_of section)) (read_again arch section whole))
+
+-- ---- the fields of a whole section
+raw_from : (section : List ℕ) (low : ℕ) (fs : List PointerField) → Between low (end_of (start section)) fs → AreRawIn (start section) fs → HoldRaw section fs
+raw_from section low [] h raw = All-nil (HoldsRaw section)
+raw_from section low (f ∷ fs) h raw =
+    let to : f.place + f.width ≤ end_of (start section) = not_above (f.place + f.width) (end_of (start section)) fs h.1 in
+    let place : f.place - 0 ≡ f.place = omega arith in
+    let number : f.raw ≡ little_number f.width (drop f.place section) = raw.0 ∙ ap (λ (n : ℕ). little_number f.width (drop n section)) place in
+    All-cons (HoldsRaw section) f fs (record { within = omega (arith, to); raw = number }) (raw_from section (f.place + f.width) fs h.1 raw.1)
+
+pub lie_raw : (section : List ℕ) (fs : List PointerField) → LieIn (start section) fs → HoldRaw section fs
+lie_raw section fs h = raw_from section 0 fs h.between h.raw
+
+pub fields_raw : (arch : Arch) (section : List ℕ) (es : List EntryView) → entries_of arch section ≡ Ok es → HoldRaw section (pointer_fields es)
+fields_raw arch section es whole = lie_raw section (pointer_fields es) (fields_lie arch section es whole)
+
+pub fields_apart : (arch : Arch) (section : List ℕ) (es : List EntryView) → entries_of arch section ≡ Ok es → StandApart (pointer_fields es)
+fields_apart arch section es whole =
+    let h = fields_lie arch section es whole in
+    stand_apart 0 (end_of (start section)) (pointer_fields es) h.between

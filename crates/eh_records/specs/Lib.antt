@@ -6,6 +6,7 @@ pub mod Entry
 pub mod Fde
 pub mod Iter
 pub mod Places
+pub mod Raw
 pub mod Section
 pub mod Span
 pub mod Step

@@ -27,6 +27,10 @@ IsParsed arch section (Err e) = (e ≡ NoMemory) ⊎ (entries_of arch section �
 abbrev pub arch_of : Records → Arch
 arch_of r = r.arch
 
+-- the section's bytes
+abbrev pub bytes_of : Records → List ℕ
+bytes_of r = r.bytes.now
+
 abbrev pub KeysFit : Records → Type 0
 KeysFit r = All (λ (f : FdeView). IsTrue (key_fits r.arch f.cie.key)) (frames (entries r))
 

@@ -3,7 +3,8 @@
 ghost use Rattle.std.specs.Prelude.{◌≡◌, List, Ok};
 ghost use Rattle.eh_records.specs.Cut.{Piece};
 ghost use Rattle.eh_records.specs.Cutting.{AreCut, AreEntries, start};
-ghost use Rattle.eh_records.specs.Section.{EntryView, entries_of};
+ghost use Rattle.eh_records.specs.Raw.{HoldRaw, StandApart};
+ghost use Rattle.eh_records.specs.Section.{EntryView, entries_of, pointer_fields};
 
 use sf_model::Arch;
 
@@ -13,4 +14,11 @@ pub fn entries_law(section: &[u8], arch: Arch)
     ensures found { (es : List EntryView) → AreEntries arch section.now es → entries_of arch section.now ≡ Ok es }
     ensures only { (es : List EntryView) → entries_of arch section.now ≡ Ok es → AreEntries arch section.now es }
     ensures one { (ps : List Piece) → (qs : List Piece) → AreCut ps (start section.now) → AreCut qs (start section.now) → ps ≡ qs }
+{}
+
+/// Says, by its contract alone, that each pointer field of a section's entries lies in the section and holds
+/// the number that stands there, and that no two of them overlap. It does nothing.
+pub fn pointer_fields_stand(section: &[u8], arch: Arch)
+    ensures raw { (es : List EntryView) → entries_of arch section.now ≡ Ok es → HoldRaw section.now (pointer_fields es) }
+    ensures apart { (es : List EntryView) → entries_of arch section.now ≡ Ok es → StandApart (pointer_fields es) }
 {}

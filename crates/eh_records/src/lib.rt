@@ -32,7 +32,7 @@ pub use cie::Cie;
 pub use fault::RecordFault;
 pub use fde::Fde;
 pub use iter::FdeIter;
-pub use laws::entries_law;
+pub use laws::{entries_law, pointer_fields_stand};
 pub use records::Records;
 
 #[cfg(test)]

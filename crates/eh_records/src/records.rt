@@ -53,9 +53,10 @@ fn push_fields(fields: &mut Vec<Field>, entry: &Entry<'_>) -> Result<(), NoMemor
 impl<'a> Records<'a> {
     ghost use Rattle.std.specs.Prelude.{IfOk, map};
     ghost use Rattle.sf_bytes.specs.Rising.{AreRising, AreApart};
+    ghost use Rattle.eh_records.specs.Raw.{HoldRaw};
     ghost use Rattle.eh_records.specs.Section.{frames, pointer_fields};
     ghost use Rattle.eh_records.specs.Step.{pointer_view};
-    ghost use Rattle.eh_records.specs.View.{IsParsed, IsWhole, KeysFit, arch_of, entries, frames_left};
+    ghost use Rattle.eh_records.specs.View.{IsParsed, IsWhole, KeysFit, arch_of, bytes_of, entries, frames_left};
 
     /// Cuts a section into records, and checks each. The fault is the first from the left.
     ///
@@ -64,6 +65,7 @@ impl<'a> Records<'a> {
         requires { length bytes.now < 2 ^ 32 }
         ensures exact { IsParsed arch bytes.now result }
         ensures machine { IfOk result (λ records. arch_of records ≡ arch) }
+        ensures bytes { IfOk result (λ records. bytes_of records ≡ bytes.now) }
     {
         let mut places: Vec<u32> = Vec::new(alloc);
         let mut rest = Reader::from_place(bytes, 0);
@@ -89,6 +91,7 @@ impl<'a> Records<'a> {
         ensures exact { IfOk result (λ fields. map pointer_view fields.items ≡ pointer_fields (entries self.now)) }
         ensures rise { IfOk result (λ fields. AreRising fields.items) }
         ensures apart { IfOk result (λ fields. AreApart fields.items) }
+        ensures raw { IfOk result (λ fields. HoldRaw (bytes_of self.now) (map pointer_view fields.items)) }
     {
         let mut fields: Vec<Field> = Vec::new(alloc);
         let mut rest = Reader::from_place(self.bytes, 0);
