@@ -3,6 +3,7 @@ pub mod Overlaps
 pub mod ReadFunctions
 pub mod SortedFixes
 pub mod Relocating
+pub mod Patching
 pub mod Signatures
 pub mod Files
 pub mod Gone

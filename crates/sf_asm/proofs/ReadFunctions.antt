@@ -26,7 +26,7 @@ use Rattle.sf_asm.specs.declared.fault.GatherFault.TheVariants as gather
 use Rattle.sf_asm.specs.Answers.{after_read, seen_as}
 use Rattle.sf_asm.specs.Fault.{wraps_input}
 use Rattle.sf_asm.specs.Functions.{◌>>=◌, Function, CallFrames, Object, named, unless, span_in, fault_in, function_at, function_in, functions_in, section_functions, sections_functions, object_functions, functions_of, functions_after}
-use Rattle.sf_asm.specs.Relocated.{Values, on_pointers, overlaid, pointer_check}
+use Rattle.sf_asm.specs.Relocated.{Values, on_pointers, patched_values, pointer_check}
 use Rattle.sf_asm.specs.Kept.{full_row, says_of, facts_of, outcome_by, entry_of}
 
 -- ---- one function
@@ -117,13 +117,13 @@ ends arch item section values first before f left after fault given p kept q h =
 abbrev by_parts : Arch → (item : ℕ) → CallFrames → Result (List EntryView) RecordFault → Result (List Fix) RelocFault → Result (List Function) AsmFault
 by_parts arch item section records relocations =
     named (asm.Record section.number) records
-    >>= λ es. (named (asm.Reloc section.number) (relocations >>= on_pointers (pointer_fields es)) >>= λ fixes. functions_in arch item section (overlaid fixes) (frames es))
+    >>= λ es. (named (asm.Reloc section.number) (relocations >>= on_pointers (pointer_fields es)) >>= λ fixes. functions_in arch item section (patched_values fixes section.bytes) (frames es))
 
 abbrev by_check : Arch → (item : ℕ) → CallFrames → List EntryView → List Fix → Result (Unit {0}) RelocFault → Result (List Function) AsmFault
-by_check arch item section es fixes check = named (asm.Reloc section.number) (check >>= λ _. Ok fixes) >>= λ fixes. functions_in arch item section (overlaid fixes) (frames es)
+by_check arch item section es fixes check = named (asm.Reloc section.number) (check >>= λ _. Ok fixes) >>= λ fixes. functions_in arch item section (patched_values fixes section.bytes) (frames es)
 
 pub section_is : (arch : Arch) (item : ℕ) (section : CallFrames) (es : List EntryView) (fixes : List Fix) → entries_of arch section.bytes ≡ Ok es → section.relocations ≡ Ok fixes → pointer_check (pointer_fields es) fixes ≡ Ok tt
-    → section_functions arch item section ≡ functions_in arch item section (overlaid fixes) (frames es)
+    → section_functions arch item section ≡ functions_in arch item section (patched_values fixes section.bytes) (frames es)
 unfolding section_functions
 section_is arch item section es fixes p q r =
     ap (λ (x : Result (List EntryView) RecordFault). by_parts arch item section x section.relocations) p

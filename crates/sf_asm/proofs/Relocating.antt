@@ -3,7 +3,7 @@ use Rattle.std.specs.Prelude.{◌⊎◌, ◌==◌, OnOk, IfOk, IfErr}
 use Rattle.std.proofs.Common.{◌≡◌, ℕ, Bool, true, false, cond, List, [], ◌∷◌, map, Option, Some, None, Result, Ok, Err, refl, sym, ap, ◌∙◌, inl, inr}
 use Rattle.std.specs.Option.{option_map}
 use Rattle.sf_bytes.specs.declared.field.Field.{Field}
-use Rattle.sf_bytes.specs.Rising.{field_place}
+use Rattle.sf_bytes.specs.Rising.{AreApart, field_place}
 use Rattle.eh_records.specs.Step.{PointerField, pointer_view}
 use Rattle.elf_place.specs.Views.{Placing}
 use Rattle.elf_reloc.specs.declared.fault.RelocFault.{RelocFault}
@@ -17,6 +17,7 @@ use Rattle.elf_reloc.specs.Table.{width_of}
 use Rattle.elf_reloc.specs.Views.{Reads, Overlaps, Refuses, Relocated, fixes_in}
 use Rattle.sf_asm.specs.Steps.{◌>>=◌}
 use Rattle.sf_asm.specs.Relocated.{by_place, without_overlap, relocations_of, pointer_place, has_width_of, is_pointer, pointer_check}
+use Rattle.sf_asm.specs.Views.{AreChecked}
 use Rattle.sf_asm.proofs.SortedFixes.{is_by_place}
 
 -- ---- reading
@@ -86,6 +87,12 @@ check_viewed fields (f ∷ fs) =
 pub checked : (pointers : List PointerField) (fields : List Field) (fixes : List Fix) (r : Result (Unit {0}) RelocFault) → map pointer_view fields ≡ pointers → r ≡ place_check fields fixes → pointer_check pointers fixes ≡ r
 checked pointers fields fixes r p q = ap (λ (gs : List PointerField). pointer_check gs fixes) (sym p) ∙ check_viewed fields fixes ∙ sym q
 
+-- what a call answered on the fields that it listed
+pub lies_on_fields : (pointers : List PointerField) (fields : List Field) (fixes : List Fix) (r : Result (Unit {0}) RelocFault) → map pointer_view fields ≡ pointers → AreApart fields → r ≡ place_check fields fixes
+    → OnOk r (AreChecked pointers fixes)
+lies_on_fields pointers fields fixes (Ok u) viewed apart e = inr (record { fields = fields; viewed = viewed; apart = apart; lie = sym e })
+lies_on_fields pointers fields fixes (Err fault) viewed apart e = tt
+
 pub none_checked : (pointers : List PointerField) → pointer_check pointers [] ≡ Ok tt
 unfolding pointer_check
 none_checked pointers = refl
@@ -111,6 +118,10 @@ nothing_dropped place width = refl
 pub relocated_read : (p : Placing) (section : ℕ) (r : Result Relocs RelocFault) → Relocated r (section_state p section) → IfOk r (λ relocs. relocations_of p section ≡ Ok (fixes_in relocs))
 relocated_read p section (Ok relocs) h = relocations_read p section (fixes_in relocs) h
 relocated_read p section (Err fault) h = tt
+
+pub relocated_from : (p : Placing) (section : ℕ) (r : Result Relocs RelocFault) → Relocated r (section_state p section) → IfOk r (λ relocs. Reads (section_state p section) (fixes_in relocs))
+relocated_from p section (Ok relocs) h = h
+relocated_from p section (Err fault) h = tt
 
 pub relocated_refused : (p : Placing) (section : ℕ) (r : Result Relocs RelocFault) → Relocated r (section_state p section) → IfErr r (λ fault. (fault ≡ faults.NoMemory) ⊎ (relocations_of p section ≡ Err fault))
 relocated_refused p section (Ok relocs) h = tt

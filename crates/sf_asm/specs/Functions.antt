@@ -16,7 +16,7 @@ use Rattle.sf_asm.specs.declared.fault.AsmFault.{AsmFault}
 use Rattle.sf_asm.specs.declared.fault.AsmFault.TheVariants.{Reloc, Record, Machine}
 use Rattle.sf_asm.specs.declared.fault.GatherFault.{GatherFault}
 use Rattle.sf_asm.specs.declared.fault.GatherFault.TheVariants.{Input as RefusedInput}
-use Rattle.sf_asm.specs.Relocated.{Values, on_pointers, overlaid}
+use Rattle.sf_asm.specs.Relocated.{Values, on_pointers, patched_values}
 pub use Rattle.sf_asm.specs.Sections.{Object, CallFrames, object_of, machine_of, bare_section, sections_of, seen_behind}
 pub use Rattle.sf_asm.specs.Steps.{◌>>=◌, named, unless}
 
@@ -83,7 +83,7 @@ unfoldable pub section_functions : Arch → (item : ℕ) → CallFrames → Resu
 section_functions arch item section = do
   entries ← named (Record section.number) (entries_of arch section.bytes)
   fixes ← named (Reloc section.number) (section.relocations >>= on_pointers (pointer_fields entries))
-  functions_in arch item section (overlaid fixes) (frames entries)
+  functions_in arch item section (patched_values fixes section.bytes) (frames entries)
 
 abbrev pub sections_functions : Arch → (item : ℕ) → List CallFrames → Result (List Function) AsmFault
 sections_functions arch item [] = Ok []

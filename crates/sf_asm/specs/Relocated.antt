@@ -1,13 +1,15 @@
 -- What the relocations of a call frame section write (ELF64 gABI, "Relocation"), the first fault of theirs, and what the section's
 -- pointer fields hold then.
-use Rattle.std.specs.Prelude.{ℕ, Bool, false, ◌==◌, nat_le, List, [], ◌∷◌, Option, Some, None, Result, Ok, Err, if◌then◌else◌}
+use Rattle.std.specs.Prelude.{ℕ, Bool, false, ◌==◌, ◌&&◌, nat_le, List, [], ◌∷◌, drop, Option, Some, None, is_none, Result, Ok, Err, if◌then◌else◌}
+use Rattle.std.specs.List.{list_any}
+use Rattle.byteorder.specs.Endian.{little_number}
 use Rattle.eh_records.specs.Step.{PointerField}
 use Rattle.elf_place.specs.Views.{Placing}
 use Rattle.elf_reloc.specs.declared.fault.RelocFault.{RelocFault}
 use Rattle.elf_reloc.specs.declared.fault.RelocFault.TheVariants.{Place}
 use Rattle.elf_reloc.specs.declared.fix.Fix.{Fix}
-use Rattle.elf_reloc.specs.Fields.{bits_in, is_dropped_in}
 use Rattle.elf_reloc.specs.Order.{first_at, overlap_check}
+use Rattle.elf_reloc.specs.Patched.{patched}
 use Rattle.elf_reloc.specs.Reading.{section_state}
 use Rattle.elf_reloc.specs.Table.{width_of}
 use Rattle.sf_asm.specs.Steps.{◌>>=◌}
@@ -56,9 +58,18 @@ pub record Values : Type 0 where
   pub bits : PointerField → Option ℕ
   pub dropped : PointerField → Bool
 
--- where this is written
-abbrev pub overlaid : List Fix → Values
-overlaid fixes = record {
-  bits = λ g. bits_in fixes g.place g.width g.raw;
-  dropped = λ g. is_dropped_in fixes g.place g.width;
+-- a relocation at this place has no value yet
+abbrev pub is_unresolved_at : List Fix → (place : ℕ) → Bool
+is_unresolved_at fixes place = list_any (λ f. (f.place == place) && is_none f.value) fixes
+
+-- a relocation at this place names a section that is dropped
+abbrev pub names_dropped_at : List Fix → (place : ℕ) → Bool
+names_dropped_at fixes place = list_any (λ f. (f.place == place) && f.dropped) fixes
+
+-- the numbers of a copy of the section in which the low bits of each known value stand in the place of its field; a field on
+-- which a relocation without a value lies holds none
+abbrev pub patched_values : List Fix → (section : List ℕ) → Values
+patched_values fixes section = record {
+  bits = λ g. if is_unresolved_at fixes g.place then None else Some (little_number g.width (drop g.place (patched fixes section)));
+  dropped = λ g. names_dropped_at fixes g.place;
 }

@@ -5,11 +5,12 @@ ghost use Rattle.std.specs.Option.{option_map};
 ghost use Rattle.elf_place.specs.Views.{placing};
 ghost use Rattle.elf_reloc.specs.declared.fault.RelocFault.TheVariants.{NoMemory};
 ghost use Rattle.elf_reloc.specs.Fields.{bits_in, is_dropped_in};
+ghost use Rattle.elf_reloc.specs.Reading.{section_state};
 ghost use Rattle.eh_records.specs.Section.{pointer_fields};
 ghost use Rattle.eh_records.specs.View.{entries};
-ghost use Rattle.elf_reloc.specs.Views.{fixes_in};
+ghost use Rattle.elf_reloc.specs.Views.{Reads, fixes_in};
 ghost use Rattle.sf_asm.specs.Relocated.{pointer_check, relocations_of};
-ghost use Rattle.sf_asm.specs.Views.{relocations_by, written_by};
+ghost use Rattle.sf_asm.specs.Views.{AreChecked, IsReadFrom, relocations_by, written_by};
 
 use eh_records::Records;
 use elf_place::Placed;
@@ -29,6 +30,7 @@ pub enum Overlay {
 // Reads the relocations of a section.
 fn read_relocs(alloc: Global, placed: &Placed<'_>, section: u32) -> Result<Relocs, RelocFault>
     ensures read { IfOk result (λ relocs. relocations_of (placing placed.now) section ≡ Ok (fixes_in relocs)) }
+    ensures from { IfOk result (λ relocs. Reads (section_state (placing placed.now) section) (fixes_in relocs)) }
     ensures fault { IfErr result (λ fault. (fault ≡ NoMemory) ⊎ (relocations_of (placing placed.now) section ≡ Err fault)) }
 {
     Relocs::new(alloc, placed, section)
@@ -37,6 +39,7 @@ fn read_relocs(alloc: Global, placed: &Placed<'_>, section: u32) -> Result<Reloc
 // Whether each of these relocations lies on a pointer field of the records.
 fn check_fields(alloc: Global, relocs: &Relocs, records: &Records<'_>) -> Result<(), RelocFault>
     ensures lie { OnOk result (pointer_check (pointer_fields (entries records.now)) (fixes_in relocs.now) ≡ Ok tt) }
+    ensures checked { OnOk result (AreChecked (pointer_fields (entries records.now)) (fixes_in relocs.now)) }
     ensures fault { IfErr result (λ fault. (fault ≡ NoMemory) ⊎ (pointer_check (pointer_fields (entries records.now)) (fixes_in relocs.now) ≡ Err fault)) }
 {
     match records.fields(alloc) {
@@ -53,6 +56,7 @@ impl Overlay {
         section: u32,
     ) -> Result<Overlay, RelocFault>
         ensures read { IfOk result (λ overlay. relocations_by (option_map (λ p. placing p.now) placed.entry) section ≡ Ok (written_by overlay)) }
+        ensures from { IfOk result (λ overlay. IsReadFrom (option_map (λ p. placing p.now) placed.entry) section (written_by overlay)) }
         ensures fault { IfErr result (λ fault. (fault ≡ NoMemory) ⊎ (relocations_by (option_map (λ p. placing p.now) placed.entry) section ≡ Err fault)) }
     {
         match placed {
@@ -68,6 +72,7 @@ impl Overlay {
     #[tactic(auto, using(crate::proofs::Relocating::none_checked))]
     pub fn check(&self, alloc: Global, records: &Records<'_>) -> Result<(), RelocFault>
         ensures lie { OnOk result (pointer_check (pointer_fields (entries records.now)) (written_by self.now) ≡ Ok tt) }
+        ensures checked { OnOk result (AreChecked (pointer_fields (entries records.now)) (written_by self.now)) }
         ensures fault { IfErr result (λ fault. (fault ≡ NoMemory) ⊎ (pointer_check (pointer_fields (entries records.now)) (written_by self.now) ≡ Err fault)) }
     {
         match self {

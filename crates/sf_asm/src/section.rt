@@ -20,8 +20,8 @@ ghost use Rattle.sf_asm.specs.Fault.{is_input_answered, wraps_record, wraps_relo
 ghost use Rattle.sf_asm.specs.declared.fault.AsmFault.TheVariants.{NoMemory, Record};
 ghost use Rattle.sf_asm.specs.Functions.{fault_in, function_in, functions_in, named, section_functions, span_in};
 ghost use Rattle.sf_asm.specs.Kept.{outcome_by};
-ghost use Rattle.sf_asm.specs.Relocated.{on_pointers, overlaid, pointer_check};
-ghost use Rattle.sf_asm.specs.Views.{relocations_by, seen_section, written_by};
+ghost use Rattle.sf_asm.specs.Relocated.{on_pointers, pointer_check};
+ghost use Rattle.sf_asm.specs.Views.{AreChecked, IsReadFrom, overlaid, relocations_by, seen_section, written_by};
 
 use crate::entry::{Entry, Outcome};
 use crate::fault::AsmFault;
@@ -84,6 +84,7 @@ fn records_of<'a>(alloc: Global, section: &Frames<'a>) -> Result<Records<'a>, As
 /// What its relocations write.
 fn overlay_of(alloc: Global, placed: Option<&Placed<'_>>, section: u32) -> Result<Overlay, AsmFault>
     ensures read { IfOk result (λ overlay. relocations_by (option_map (λ p. placing p.now) placed.entry) section ≡ Ok (written_by overlay)) }
+    ensures from { IfOk result (λ overlay. IsReadFrom (option_map (λ p. placing p.now) placed.entry) section (written_by overlay)) }
     ensures fault { IfErr result (λ fault. IsRelocFault section fault (relocations_by (option_map (λ p. placing p.now) placed.entry) section)) }
     ensures answered { IfErr result (λ fault. IsTrue (is_input_answered fault)) }
 {
@@ -101,6 +102,7 @@ fn check_overlay(
     records: &Records<'_>,
 ) -> Result<(), AsmFault>
     ensures lie { OnOk result (pointer_check (pointer_fields (entries_of_records records.now)) (written_by overlay.now) ≡ Ok tt) }
+    ensures checked { OnOk result (AreChecked (pointer_fields (entries_of_records records.now)) (written_by overlay.now)) }
     ensures fault { IfErr result (λ fault. IsRelocFault section fault (pointer_check (pointer_fields (entries_of_records records.now)) (written_by overlay.now))) }
     ensures answered { IfErr result (λ fault. IsTrue (is_input_answered fault)) }
 {

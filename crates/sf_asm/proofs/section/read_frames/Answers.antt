@@ -11,8 +11,7 @@ use Rattle.eh_records.specs.View.{entries, frames_left}
 use Rattle.sf_asm.specs.declared.entry.Entry.{Entry}
 use Rattle.sf_asm.specs.Answers.{after_read}
 use Rattle.sf_asm.specs.Entry.{IsSound}
-use Rattle.sf_asm.specs.Relocated.{overlaid}
-use Rattle.sf_asm.specs.Views.{seen_section, written_by}
+use Rattle.sf_asm.specs.Views.{overlaid, seen_section, written_by}
 use Rattle.sf_asm.proofs.ReadFunctions.{read_of, goes_on, passes_on, is_done, ends}
 use Rattle.sf_asm.proofs.section.read_frames.Goals as goal
 

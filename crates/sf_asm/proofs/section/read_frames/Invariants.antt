@@ -10,8 +10,7 @@ use Rattle.sf_asm.specs.Answers.{after_read, seen_as}
 use Rattle.sf_asm.specs.Entry.{IsSound}
 use Rattle.sf_asm.specs.Functions.{functions_in}
 use Rattle.sf_asm.specs.Kept.{entry_of}
-use Rattle.sf_asm.specs.Relocated.{overlaid}
-use Rattle.sf_asm.specs.Views.{seen_section, written_by}
+use Rattle.sf_asm.specs.Views.{overlaid, seen_section, written_by}
 use Rattle.sf_asm.proofs.ReadFunctions.{read_of}
 use Rattle.sf_asm.proofs.section.read_frames.Given as goal
 

@@ -3,8 +3,7 @@ use Rattle.std.proofs.lemmas.Result.{err_from_is_err_and}
 use Rattle.eh_records.specs.Fde.{fde_view}
 use Rattle.sf_asm.specs.Functions.{function_at}
 use Rattle.sf_asm.specs.Kept.{says_of}
-use Rattle.sf_asm.specs.Relocated.{overlaid}
-use Rattle.sf_asm.specs.Views.{seen_section, written_by}
+use Rattle.sf_asm.specs.Views.{overlaid, seen_section, written_by}
 use Rattle.sf_asm.proofs.ReadFunctions.{are_said, reads_function, span_refused, run_refused}
 use Rattle.sf_asm.proofs.section.read_function.Goals as goal
 

@@ -6,7 +6,8 @@ use Rattle.eh_records.specs.View.{entries}
 use Rattle.elf_place.specs.declared.placed.Placed.{Placed}
 use Rattle.elf_place.specs.Views.{placing}
 use Rattle.sf_asm.specs.Views.{relocations_by, seen_section, written_by}
-use Rattle.sf_asm.proofs.ReadFunctions.{section_is, records_refused, relocations_refused, pointers_refused}
+use Rattle.sf_asm.proofs.Patching.{section_over}
+use Rattle.sf_asm.proofs.ReadFunctions.{records_refused, relocations_refused, pointers_refused}
 use Rattle.sf_asm.proofs.section.read_section.Goals as goal
 
 pub returns-in_err-records-clause-exact : goal.returns-in_err-records-clause-exact
@@ -39,5 +40,6 @@ returns-in_err-check_overlay-clause-exact c =
 pub returns-clause-exact : goal.returns-clause-exact
 returns-clause-exact c =
     let given = relocations_by (option_map (λ (p : Bor Placed). placing p.now) c.args.placed) c.args.section.now.number in
-    rw (section_is c.args.section.now.arch c.args.section.now.item (seen_section c.args.section.now given) (entries c.in_ok-records.records) (written_by c.in_ok-overlay.overlay) c.in_ok-records.ensures.whole c.in_ok-overlay.ensures.read c.in_ok-check_overlay.ensures.lie)
+    rw (section_over c.args.section.now.arch c.args.section.now.item (seen_section c.args.section.now given) (entries c.in_ok-records.records) (option_map (λ (p : Bor Placed). placing p.now) c.args.placed) c.args.section.now.number (written_by c.in_ok-overlay.overlay)
+        c.in_ok-records.ensures.whole c.in_ok-overlay.ensures.read c.in_ok-overlay.ensures.from c.in_ok-check_overlay.ensures.lie c.in_ok-check_overlay.ensures.checked)
     (c.read_frames.ensures.exact given)
