@@ -11,9 +11,8 @@ use Rattle.elf_reloc.specs.declared.fault.RelocFault.TheVariants as faults
 use Rattle.elf_reloc.specs.declared.fix.Fix.{Fix}
 use Rattle.elf_reloc.specs.declared.relocs.Relocs.{Relocs}
 use Rattle.elf_reloc.specs.Fields.{bits_in, is_dropped_in}
-use Rattle.elf_reloc.specs.Order.{first_at, has_width, lies_on, place_check, overlap_check}
+use Rattle.elf_reloc.specs.Order.{first_at, has_width, lies_on, place_check}
 use Rattle.elf_reloc.specs.Reading.{State, section_state}
-use Rattle.elf_reloc.specs.Table.{width_of}
 use Rattle.elf_reloc.specs.Views.{Reads, Overlaps, Refuses, Relocated, fixes_in}
 use Rattle.sf_asm.specs.Steps.{◌>>=◌}
 use Rattle.sf_asm.specs.Relocated.{by_place, without_overlap, relocations_of, pointer_place, has_width_of, is_pointer, pointer_check}

@@ -1,6 +1,6 @@
 -- The functions that call frame sections describe, in the order of inputs, sections and records (LSB Core, "The .eh_frame section";
 -- DWARF 5, section 6.4), or the first fault.
-use Rattle.std.specs.Prelude.{ℕ, ◌+◌, ℤ, Bool, List, [], ◌∷◌, ◌++◌, Option, Result, Ok, Err, if◌then◌else◌}
+use Rattle.std.specs.Prelude.{ℕ, ◌+◌, ℤ, Bool, List, [], ◌∷◌, ◌++◌, Option, Result, Ok, if◌then◌else◌}
 use Rattle.sf_bytes.specs.Cursor.{Cursor}
 use Rattle.sf_model.specs.declared.machine.Arch.{Arch}
 use Rattle.sf_model.specs.declared.machine.Key.{Key}

@@ -1,11 +1,9 @@
 -- What is seen of a section that is read.
 use Rattle.std.specs.Prelude.{◌≡◌, ◌⊎◌, ℕ, List, [], map, Option, Some, None, Result, Ok}
-use Rattle.std.specs.Option.{option_map}
 use Rattle.sf_bytes.specs.declared.field.Field.{Field}
 use Rattle.sf_bytes.specs.Rising.{AreApart}
 use Rattle.eh_records.specs.Step.{PointerField, pointer_view}
-use Rattle.elf_place.specs.declared.placed.Placed.{Placed}
-use Rattle.elf_place.specs.Views.{Placing, placing}
+use Rattle.elf_place.specs.Views.{Placing}
 use Rattle.elf_reloc.specs.declared.fault.RelocFault.{RelocFault}
 use Rattle.elf_reloc.specs.declared.fix.Fix.{Fix}
 use Rattle.elf_reloc.specs.Fields.{bits_in, is_dropped_in}

@@ -1,6 +1,5 @@
-use Rattle.std.proofs.Common.{◌≡◌, List, [], ◌∷◌, ap, sym, subst, ◌∙◌, inl, inr}
+use Rattle.std.proofs.Common.{◌≡◌, List, [], ◌∷◌, ap, sym, subst, ◌∙◌}
 use Rattle.std.specs.List.{All}
-use Rattle.std.proofs.lemmas.Result.{err_from_is_err_and}
 use Rattle.std.proofs.lemmas.List.Elements.{All-append, All-from_recursion, All-tail}
 use Rattle.std.specs.Prelude.{IsTrue}
 use Rattle.sf_model.specs.Function.{key_fits}
@@ -12,7 +11,7 @@ use Rattle.sf_asm.specs.declared.entry.Entry.{Entry}
 use Rattle.sf_asm.specs.Answers.{after_read}
 use Rattle.sf_asm.specs.Entry.{IsSound}
 use Rattle.sf_asm.specs.Views.{overlaid, seen_section, written_by}
-use Rattle.sf_asm.proofs.ReadFunctions.{read_of, goes_on, passes_on, is_done, ends}
+use Rattle.sf_asm.proofs.ReadFunctions.{read_of, goes_on, passes_on}
 use Rattle.sf_asm.proofs.section.read_frames.Goals as goal
 
 pub loop-fde-init : goal.loop-fde-init
