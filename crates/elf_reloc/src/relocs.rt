@@ -21,7 +21,7 @@ pub struct Relocs {
 }
 
 impl Relocs {
-    ghost use Rattle.std.specs.Prelude.{◌≡◌, length, IfOk};
+    ghost use Rattle.std.specs.Prelude.{◌≡◌, ◌==◌, length, IfOk};
     ghost use Rattle.elf_read.specs.Sections.{section_bytes};
     ghost use Rattle.elf_place.specs.Views.{file, placing};
     ghost use Rattle.elf_reloc.specs.Patched.{AreInside};
@@ -47,6 +47,13 @@ impl Relocs {
         bring_into_order(&mut fixes)?;
         check_overlap(&fixes)?;
         Ok(Relocs { fixes })
+    }
+
+    /// Whether nothing is written.
+    pub fn is_empty(&self) -> bool
+        ensures { result ≡ (length (fixes_in self.now) == 0) }
+    {
+        self.fixes.is_empty()
     }
 
     /// Whether each relocation lies on one of these pointer fields, which rise in place, at its place and

@@ -1,6 +1,7 @@
 -- What was read of a section's relocations is what is defined.
 use Rattle.std.specs.Prelude.{◌⊎◌, ◌==◌, OnOk, IfOk, IfErr}
-use Rattle.std.proofs.Common.{◌≡◌, ℕ, Bool, true, false, cond, List, [], ◌∷◌, map, Option, Some, None, Result, Ok, Err, refl, sym, ap, ◌∙◌, inl, inr}
+use Rattle.std.proofs.Common.{◌≡◌, ℕ, Bool, true, false, cond, List, [], ◌∷◌, length, map, Option, Some, None, Result, Ok, Err, refl, sym, ap, ◌∙◌, inl, inr, arith}
+use Rattle.std.proofs.lemmas.Bool.Decides.{nat_tests}
 use Rattle.std.specs.Option.{option_map}
 use Rattle.sf_bytes.specs.declared.field.Field.{Field}
 use Rattle.sf_bytes.specs.Rising.{AreApart, field_place}
@@ -91,6 +92,10 @@ pub lies_on_fields : (pointers : List PointerField) (fields : List Field) (fixes
     → OnOk r (AreChecked pointers fixes)
 lies_on_fields pointers fields fixes (Ok u) viewed apart e = inr (record { fields = fields; viewed = viewed; apart = apart; lie = sym e })
 lies_on_fields pointers fields fixes (Err fault) viewed apart e = tt
+
+pub nothing_listed : (fixes : List Fix) → (length fixes == 0) ≡ true → fixes ≡ []
+nothing_listed [] t = refl
+nothing_listed (f ∷ fs) t = absurd (grind (arith, nat_tests))
 
 pub none_checked : (pointers : List PointerField) → pointer_check pointers [] ≡ Ok tt
 unfolding pointer_check

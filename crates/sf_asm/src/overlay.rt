@@ -36,12 +36,16 @@ fn read_relocs(alloc: Global, placed: &Placed<'_>, section: u32) -> Result<Reloc
     Relocs::new(alloc, placed, section)
 }
 
-// Whether each of these relocations lies on a pointer field of the records.
+// Whether each of these relocations lies on a pointer field of the records. The fields are listed only
+// where there are any.
 fn check_fields(alloc: Global, relocs: &Relocs, records: &Records<'_>) -> Result<(), RelocFault>
     ensures lie { OnOk result (pointer_check (pointer_fields (entries records.now)) (fixes_in relocs.now) ≡ Ok tt) }
     ensures checked { OnOk result (AreChecked (pointer_fields (entries records.now)) (fixes_in relocs.now)) }
     ensures fault { IfErr result (λ fault. (fault ≡ NoMemory) ⊎ (pointer_check (pointer_fields (entries records.now)) (fixes_in relocs.now) ≡ Err fault)) }
 {
+    if relocs.is_empty() {
+        return Ok(());
+    }
     match records.fields(alloc) {
         Ok(fields) => relocs.check(&fields),
         Err(_) => Err(RelocFault::NoMemory),
