@@ -19,6 +19,7 @@ mod frames;
 mod gathering;
 mod groups;
 mod input;
+mod inputs;
 mod laws;
 mod notices;
 mod overlay;

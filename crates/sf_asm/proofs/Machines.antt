@@ -1,0 +1,112 @@
+-- The machines of all items are one, or the least that differs is found.
+use Rattle.std.specs.Prelude.{nat_lt, not, position}
+use Rattle.std.specs.List.{AllByRecursion, position_or_len}
+use Rattle.std.specs.Option.{option_map}
+use Rattle.std.proofs.Common.{◌≡◌, ℕ, suc, ◌+◌, ◌<◌, ◌≤◌, Bool, true, false, cond, All, List, [], ◌∷◌, length, get_or, map, Option, Some, None, refl, sym, ap, subst, ◌∙◌, arith}
+use Rattle.std.proofs.lemmas.Bool.{lt-ltb, le-ltb, ltb-true, ltb-false}
+use Rattle.std.proofs.lemmas.List.Elements.{recursion_from_All, All-from_recursion}
+use Rattle.std.proofs.lemmas.List.Sums.{prefix_len_passes}
+use Rattle.sf_model.specs.declared.machine.Arch.{Arch}
+use Rattle.sf_model.specs.declared.machine.Arch.TheVariants.{Amd64, Aarch64}
+use Rattle.sf_asm.specs.declared.fault.GatherFault.TheVariants.{MixedArch}
+use Rattle.sf_asm.specs.Inputs.{differing, is_same, mixed_among, with_before}
+
+-- ---- two machines
+pub same_is : (one other : Arch) → is_same one other ≡ true → other ≡ one
+same_is Amd64 Amd64 e = refl
+same_is Amd64 Aarch64 e = cc
+same_is Aarch64 Amd64 e = cc
+same_is Aarch64 Aarch64 e = refl
+
+pub same_self : (arch : Arch) → is_same arch arch ≡ true
+same_self Amd64 = refl
+same_self Aarch64 = refl
+
+not_differing : (b : Bool) → not b ≡ false → b ≡ true
+not_differing true e = refl
+not_differing false e = cc
+
+-- ---- places
+one_more : (place count : ℕ) → cond (nat_lt (1 + place) (suc count)) (Some (1 + place)) None ≡ option_map suc (cond (nat_lt place count) (Some place) None)
+one_more place count = at_test (nat_lt place count) refl
+  where
+    at_test : (b : Bool) → nat_lt place count ≡ b → cond (nat_lt (1 + place) (suc count)) (Some (1 + place)) None ≡ option_map suc (cond (nat_lt place count) (Some place) None)
+    at_test true t = let lt = ltb-true place count t in rw (t, lt-ltb (1 + place) (suc count) (omega (arith, lt))) refl
+    at_test false t = let le = ltb-false place count t in rw (t, le-ltb (1 + place) (suc count) (omega (arith, le))) refl
+
+-- the first is none
+pub passed_over : {X : Type 0} (p : X → Bool) (x : X) (xs : List X) → p x ≡ false → position p (x ∷ xs) ≡ option_map suc (position p xs)
+passed_over p x xs e = rw e (one_more (position_or_len p xs) (length xs))
+
+pub position_below : {X : Type 0} (p : X → Bool) (xs : List X) (i : ℕ) → position p xs ≡ Some i → i < length xs
+position_below p xs i e = at_test (nat_lt (position_or_len p xs) (length xs)) refl e
+  where
+    at_test : (b : Bool) → nat_lt (position_or_len p xs) (length xs) ≡ b → cond b (Some (position_or_len p xs)) None ≡ Some i → i < length xs
+    at_test true t e = let is : position_or_len p xs ≡ i = cc in let lt = ltb-true (position_or_len p xs) (length xs) t in omega (arith, lt, is)
+    at_test false t e = cc
+
+pub no_place : {X : Type 0} (p : X → Bool) (xs : List X) → AllByRecursion (λ x. p x ≡ false) xs → position p xs ≡ None
+no_place p [] h = refl
+no_place p (x ∷ xs) h = passed_over p x xs h.0 ∙ ap (option_map suc) (no_place p xs h.1)
+
+no_suc : (place : Option ℕ) → option_map suc place ≡ None → place ≡ None
+no_suc None e = refl
+no_suc (Some n) e = cc
+
+pub none_pass : {X : Type 0} (p : X → Bool) (xs : List X) → position p xs ≡ None → AllByRecursion (λ x. p x ≡ false) xs
+none_pass p [] e = tt
+none_pass p (x ∷ xs) e = at_test (p x) refl e (none_pass p xs)
+  where
+    at_test : (b : Bool) → p x ≡ b → position p (x ∷ xs) ≡ None → (position p xs ≡ None → AllByRecursion (λ x. p x ≡ false) xs) → (p x ≡ false) × AllByRecursion (λ x. p x ≡ false) xs
+    at_test false t e others = (t, others (no_suc (position p xs) (sym (passed_over p x xs t) ∙ e)))
+    at_test true t e others = let found : Some 0 ≡ None = rw t at e in cc
+
+-- ---- all machines
+-- behind an item, and alone
+pub differing_behind : (arch : Arch) (machines : List Arch) → differing (arch ∷ machines) ≡ option_map suc (position (λ machine. not (is_same arch machine)) machines)
+differing_behind arch machines = passed_over (λ machine. not (is_same arch machine)) arch machines (ap not (same_self arch))
+
+pub differing_alone : (arch : Arch) (machines : List Arch) → 0 < length machines → arch ≡ get_or machines 0 arch → differing machines ≡ position (λ machine. not (is_same arch machine)) machines
+differing_alone arch [] some e = absurd (omega (arith, some))
+differing_alone arch (first ∷ others) some e = ap (λ (a : Arch). position (λ machine. not (is_same a machine)) (first ∷ others)) (sym e)
+
+are_same : (arch : Arch) (machines : List Arch) → AllByRecursion (λ machine. not (is_same arch machine) ≡ false) machines → AllByRecursion (λ machine. machine ≡ arch) machines
+are_same arch [] h = tt
+are_same arch (machine ∷ machines) h = (same_is arch machine (not_differing (is_same arch machine) h.0), are_same arch machines h.1)
+
+pub none_differs : (arch : Arch) (machines : List Arch) → position (λ machine. not (is_same arch machine)) machines ≡ None → All (λ machine. machine ≡ arch) machines
+none_differs arch machines e = All-from_recursion (λ machine. machine ≡ arch) machines (are_same arch machines (none_pass (λ machine. not (is_same arch machine)) machines e))
+
+pub none_differs_behind : (arch : Arch) (machines : List Arch) → position (λ machine. not (is_same arch machine)) machines ≡ None → All (λ machine. machine ≡ arch) (arch ∷ machines)
+none_differs_behind arch machines e = All-from_recursion (λ machine. machine ≡ arch) (arch ∷ machines) (refl, are_same arch machines (none_pass (λ machine. not (is_same arch machine)) machines e))
+
+-- ---- one machine, where none differs
+pub record IsOne (machines : List Arch) : Type 0 where
+  pub arch : Arch
+  pub all : All (λ machine. machine ≡ arch) machines
+
+unmixed : (place : Option ℕ) → option_map (MixedArch 0) place ≡ None → place ≡ None
+unmixed None e = refl
+unmixed (Some place) e = cc
+
+pub is_one : (machines : List Arch) → mixed_among machines ≡ None → IsOne machines
+is_one [] e = record { arch = Amd64; all = All-from_recursion (λ machine. machine ≡ Amd64) [] tt }
+is_one (first ∷ others) e = record { arch = first; all = none_differs first (first ∷ others) (unmixed (position (λ machine. not (is_same first machine)) (first ∷ others)) e) }
+
+all_differ_not : (arch first : Arch) (machines : List Arch) → first ≡ arch → AllByRecursion (λ machine. machine ≡ arch) machines → AllByRecursion (λ machine. not (is_same first machine) ≡ false) machines
+all_differ_not arch first [] e h = tt
+all_differ_not arch first (machine ∷ machines) e h =
+    (ap not (ap (is_same first) (h.0 ∙ sym e) ∙ same_self first), all_differ_not arch first machines e h.1)
+
+not_mixed : (arch : Arch) (machines : List Arch) → AllByRecursion (λ machine. machine ≡ arch) machines → mixed_among machines ≡ None
+not_mixed arch [] h = refl
+not_mixed arch (first ∷ others) h =
+    ap (option_map (MixedArch 0)) (no_place (λ machine. not (is_same first machine)) (first ∷ others) (all_differ_not arch first (first ∷ others) h.0 h))
+
+pub one_is_unmixed : (arch : Arch) (machines : List Arch) → All (λ machine. machine ≡ arch) machines → mixed_among machines ≡ None
+one_is_unmixed arch machines h = not_mixed arch machines (recursion_from_All (λ machine. machine ≡ arch) machines h)
+
+-- of the inputs alone
+pub inputs_have : (before : Option Arch) (arch : Arch) (machines : List Arch) → All (λ machine. machine ≡ arch) (with_before before machines) → All (λ machine. machine ≡ arch) machines
+inputs_have None arch machines h = h
+inputs_have (Some first) arch machines h = All-from_recursion (λ machine. machine ≡ arch) machines (recursion_from_All (λ machine. machine ≡ arch) (first ∷ machines) h).1
