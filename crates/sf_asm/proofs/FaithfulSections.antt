@@ -7,7 +7,9 @@ use Rattle.sf_model.specs.declared.omission.Omitted.{Omitted}
 use Rattle.sf_model.specs.declared.omission.Span.{Span}
 use Rattle.sf_model.specs.Section.{Section}
 use Rattle.sf_model.specs.Tight.{Narrow, Tight}
-use Rattle.sf_write.specs.Reach.{first_out_of_reach}
+use Rattle.sf_write.specs.declared.fault.WriteFault.{WriteFault}
+use Rattle.sf_write.specs.declared.fault.WriteFault.TheVariants.{OutOfReach}
+use Rattle.sf_write.specs.Reach.{Refuses, first_out_of_reach}
 use Rattle.sf_write.specs.Section.{table_of}
 use Rattle.sf_asm.specs.declared.entry.Entry.{Entry}
 use Rattle.sf_asm.specs.declared.fault.GatherFault.{GatherFault}
@@ -89,6 +91,9 @@ out_of_reach at (Ok functions) ordered start far (other, order, is) =
           ∙ ap (λ (first : Option ℕ). unless_fault (option_map link.OutOfReach first) other) there),
     )
 out_of_reach at (Err fault) ordered start far is = cc
+
+pub reach_refused : (fault : WriteFault) (start : ℕ) (far : Option ℕ) → fault ≡ OutOfReach start → Refuses fault far → far ≡ Some start
+reach_refused fault start far is h = subst (λ (f : WriteFault). Refuses f far) is h
 
 pub not_reached : (before : Option Arch) (objects : List Object) (at : ℕ) (functions : List Func) (ordered : List Entry) (start : ℕ) → Gathers before objects (Ok ordered) → functions ≡ kept_of ordered → first_out_of_reach at 0 functions ≡ Some start
     → Links before objects at (Err (link.OutOfReach start))

@@ -35,7 +35,7 @@ tried before objects entries ordered fault reads one order checked =
 
 refused_from : (given : Result (List Function) GatherFault) (fault : GatherFault) → given ≡ Err fault → GathersFrom given (Err fault)
 refused_from (Ok functions) fault e = cc
-refused_from (Err other) fault e = sym e
+refused_from (Err other) fault e = let is : other ≡ fault = cc in ap Err (sym is)
 
 pub input_refused : (before : Option Arch) (objects : List Object) (fault : GatherFault) → functions_of (first_item before) objects ≡ Err fault → Gathers before objects (Err fault)
 input_refused before objects fault e =

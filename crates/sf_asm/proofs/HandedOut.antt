@@ -20,7 +20,7 @@ use Rattle.sf_asm.specs.Entry.{kept_by_item, kept_in, kept_of, of_item}
 use Rattle.sf_asm.proofs.Items.{IsWithin}
 use Rattle.sf_asm.proofs.Kept.{kept_of-kept, kept_of-left}
 
-abbrev is_of : (item : ℕ) → Entry → Bool
+abbrev pub is_of : (item : ℕ) → Entry → Bool
 is_of item e = eqb e.span.origin.item item
 
 of_one : (item : ℕ) (e : Entry) (b : Bool) → is_of item e ≡ b → of_item item (e ∷ []) ≡ cond b (e ∷ []) []
@@ -87,7 +87,7 @@ one_kept first lists es e f i old new h kept is within at push = λ k d lt. at_p
 pub all_handed_out : (first : ℕ) (lists : List (Vec Func Global)) (es : List Entry) → AreHandedOut first lists es → map (λ (list : Vec Func Global). list.items) lists ≡ kept_by_item first (length lists) es
 all_handed_out first [] es h = refl
 all_handed_out first (list ∷ lists) es h =
-    ap (λ (fs : List Func). fs ∷ map (λ (list : Vec Func Global). list.items) lists) (h 0 list (omega arith))
+    ap (λ (fs : List Func). fs ∷ map (λ (list : Vec Func Global). list.items) lists) (subst (λ (n : ℕ). list.items ≡ kept_of (of_item n es)) (omega arith) (h 0 list (omega arith)))
     ∙ ap (λ (fss : List (List Func)). kept_of (of_item first es) ∷ fss)
     (all_handed_out (first + 1) lists es (λ k d lt. subst (λ (n : ℕ). (get_or lists k d).items ≡ kept_of (of_item n es)) (omega arith) (h (suc k) d (omega (arith, lt)))))
 
@@ -113,6 +113,10 @@ all_of_it item (e ∷ es) h =
 
 pub one_list : (item : ℕ) (es : List Entry) → All (IsWithin item (item + 1)) es → kept_by_item item 1 es ≡ kept_of es ∷ []
 one_list item es h = ap (λ (xs : List Entry). kept_of xs ∷ []) (all_of_it item es (recursion_from_All (IsWithin item (item + 1)) es h))
+
+pub only_list : (lists : List (Vec Func Global)) (list : Vec Func Global) (fs : List Func) → map (λ (list : Vec Func Global). list.items) lists ≡ fs ∷ [] → list ≡ get_or lists 0 list → list.items ≡ fs
+only_list [] list fs e at = cc
+only_list (first ∷ lists) list fs e at = let is : first.items ≡ fs = cc in ap (λ (v : Vec Func Global). v.items) at ∙ is
 
 -- ---- all lists together
 -- the functions of one input and the others
@@ -155,19 +159,19 @@ lists_of_others from (suc count) first es lt =
     ap (λ (xs : List Entry). kept_of xs ∷ kept_by_item (from + 1) count (filter (is_other first) es)) (of_others from first es lt)
     ∙ ap (λ (fss : List (List Func)). kept_of (of_item from es) ∷ fss) (lists_of_others (from + 1) count first es (omega (arith, lt)))
 
+above : (first item : ℕ) → first ≤ item → (item ≡ first → ⊥) → first + 1 ≤ item
+above first item le not_first = elim (cases_lt first item) [
+  | inl lt ↦ omega (arith, lt)
+  | inr not_above ↦ absurd (not_first (omega (arith, le, not_above)))
+]
+
 others_within : (first to : ℕ) (es : List Entry) → AllByRecursion (IsWithin first to) es → AllByRecursion (IsWithin (first + 1) to) (filter (is_other first) es)
 others_within first to [] h = tt
 others_within first to (e ∷ es) h = at_test (is_of first e) refl (others_within first to es h.1)
   where
     at_test : (b : Bool) → is_of first e ≡ b → AllByRecursion (IsWithin (first + 1) to) (filter (is_other first) es) → AllByRecursion (IsWithin (first + 1) to) (filter (is_other first) (e ∷ es))
     at_test true t rest = rw t rest
-    at_test false t rest = let not_first : e.span.origin.item ≡ first → ⊥ = eqb-false e.span.origin.item first t in rw t ((above e.span.origin.item h.0.0 not_first, h.0.1), rest)
-
-    above : (item : ℕ) → first ≤ item → (item ≡ first → ⊥) → first + 1 ≤ item
-    above item le not_first = elim (cases_lt first item) [
-      | inl lt ↦ omega (arith, lt)
-      | inr not_above ↦ absurd (not_first (omega (arith, le, not_above)))
-    ]
+    at_test false t rest = let not_first : e.span.origin.item ≡ first → ⊥ = eqb-false e.span.origin.item first t in rw t ((above first e.span.origin.item h.0.0 not_first, h.0.1), rest)
 
 none_there : (first : ℕ) (es : List Entry) → AllByRecursion (IsWithin first (first + 0)) es → kept_of es ≡ []
 none_there first [] h = refl

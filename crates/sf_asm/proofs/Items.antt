@@ -5,14 +5,16 @@ use Rattle.std.proofs.lemmas.List.Elements.{All-from_recursion}
 use Rattle.std.proofs.lemmas.List.Sorted.{All-permutation}
 use Rattle.sf_model.specs.declared.machine.Arch.{Arch}
 use Rattle.eh_records.specs.Fde.{FdeView}
+use Rattle.eh_records.specs.Section.{entries_of, frames, pointer_fields}
 use Rattle.sf_asm.specs.declared.entry.Entry.{Entry}
 use Rattle.sf_asm.specs.declared.fault.AsmFault.{AsmFault}
+use Rattle.sf_asm.specs.declared.fault.AsmFault.TheVariants as asm
 use Rattle.sf_asm.specs.declared.fault.GatherFault.{GatherFault}
 use Rattle.sf_asm.specs.declared.fault.GatherFault.TheVariants as gather
-use Rattle.sf_asm.specs.Functions.{◌>>=◌, CallFrames, Function, Object, function_in, functions_in, functions_after, machine_of, named, object_functions, section_functions, sections_functions, sections_of, seen_behind}
+use Rattle.sf_asm.specs.Functions.{◌>>=◌, CallFrames, Function, Object, fault_in, function_at, function_in, functions_in, functions_after, machine_of, named, object_functions, section_functions, sections_functions, sections_of, seen_behind, span_in, unless}
 use Rattle.sf_asm.specs.Kept.{entry_of}
 use Rattle.sf_asm.specs.Linking.{InOrder}
-use Rattle.sf_asm.specs.Relocated.{Values}
+use Rattle.sf_asm.specs.Relocated.{Values, on_pointers, overlaid}
 use Rattle.sf_asm.proofs.ReadInputs.{functions_after-cons, functions_after-nil}
 
 -- the value behind a step
@@ -33,48 +35,48 @@ both_of : (item : ℕ) (fs gs : List Function) → AreOf item fs → AreOf item 
 both_of item [] gs h k = k
 both_of item (f ∷ fs) gs h k = (h.0, both_of item fs gs h.1 k)
 
+abbrev item_in : (other : ℕ) → Result Function AsmFault → ℕ
+item_in other (Ok f) = f.origin.item
+item_in other (Err fault) = other
+
+abbrev list_in : {F : Type 0} → Result (List Function) F → List Function
+list_in (Ok fs) = fs
+list_in (Err fault) = []
+
 function_of_item : (arch : Arch) (item : ℕ) (section : CallFrames) (values : Values) (f : FdeView) (g : Function) → function_in arch item section values f ≡ Ok g → g.origin.item ≡ item
 unfolding function_in
 function_of_item arch item section values f g e =
-    let spanned = behind _ _ g e in
-    let run = behind _ _ g spanned.next_is in
-    ap (λ (r : Result Function AsmFault). item_in r) (sym run.next_is)
-  where
-    item_in : Result Function AsmFault → ℕ
-    item_in (Ok x) = x.origin.item
-    item_in (Err fault) = item
+    let spanned = behind (named (asm.Record section.number) (span_in section values f)) (λ span. named (asm.Machine section.number) (unless (fault_in arch f)) >>= λ _. Ok (function_at arch item section f span)) g e in
+    let run = behind (named (asm.Machine section.number) (unless (fault_in arch f))) (λ _. Ok (function_at arch item section f spanned.value)) g spanned.next_is in
+    sym (ap (item_in item) run.next_is)
 
 functions_of_item : (arch : Arch) (item : ℕ) (section : CallFrames) (values : Values) (views : List FdeView) (fs : List Function) → functions_in arch item section values views ≡ Ok fs → AreOf item fs
-functions_of_item arch item section values [] fs e = let is : [] ≡ fs = cc in subst (AreOf item) is tt
+functions_of_item arch item section values [] fs e = subst (AreOf item) (ap list_in e) tt
 functions_of_item arch item section values (f ∷ views) fs e = at_dropped (values.dropped f.begin) e (functions_of_item arch item section values views)
   where
-    one_more : (g : Function) (gs : List Function) → g.origin.item ≡ item → AreOf item gs → Ok (g ∷ gs) ≡ Ok fs → AreOf item fs
-    one_more g gs one others e = let is : g ∷ gs ≡ fs = cc in subst (AreOf item) is (one, others)
-
     at_dropped : (b : Bool) → cond b (functions_in arch item section values views) (function_in arch item section values f >>= λ g. functions_in arch item section values views >>= λ gs. Ok (g ∷ gs)) ≡ Ok fs
         → ((gs : List Function) → functions_in arch item section values views ≡ Ok gs → AreOf item gs) → AreOf item fs
     at_dropped true e others = others fs e
     at_dropped false e others =
-        let first = behind _ _ fs e in
-        let rest = behind _ _ fs first.next_is in
-        one_more first.value rest.value (function_of_item arch item section values f first.value first.first_is) (others rest.value rest.first_is) rest.next_is
+        let first = behind (function_in arch item section values f) (λ g. functions_in arch item section values views >>= λ gs. Ok (g ∷ gs)) fs e in
+        let rest = behind (functions_in arch item section values views) (λ gs. Ok (first.value ∷ gs)) fs first.next_is in
+        subst (AreOf item) (ap list_in rest.next_is) (function_of_item arch item section values f first.value first.first_is, others rest.value rest.first_is)
 
 section_of_item : (arch : Arch) (item : ℕ) (section : CallFrames) (fs : List Function) → section_functions arch item section ≡ Ok fs → AreOf item fs
 unfolding section_functions
 section_of_item arch item section fs e =
-    let records = behind _ _ fs e in
-    let relocated = behind _ _ fs records.next_is in
-    functions_of_item arch item section _ _ fs relocated.next_is
-
-appended : (item : ℕ) (fs gs all : List Function) → AreOf item fs → AreOf item gs → Ok (fs ++ gs) ≡ Ok all → AreOf item all
-appended item fs gs all h k e = let is : fs ++ gs ≡ all = cc in subst (AreOf item) is (both_of item fs gs h k)
+    let records = behind (named (asm.Record section.number) (entries_of arch section.bytes))
+    (λ es. named (asm.Reloc section.number) (section.relocations >>= on_pointers (pointer_fields es)) >>= λ fixes. functions_in arch item section (overlaid fixes) (frames es)) fs e in
+    let relocated = behind (named (asm.Reloc section.number) (section.relocations >>= on_pointers (pointer_fields records.value))) (λ fixes. functions_in arch item section (overlaid fixes) (frames records.value)) fs records.next_is in
+    functions_of_item arch item section (overlaid relocated.value) (frames records.value) fs relocated.next_is
 
 sections_of_item : (arch : Arch) (item : ℕ) (sections : List CallFrames) (fs : List Function) → sections_functions arch item sections ≡ Ok fs → AreOf item fs
-sections_of_item arch item [] fs e = let is : [] ≡ fs = cc in subst (AreOf item) is tt
+sections_of_item arch item [] fs e = subst (AreOf item) (ap list_in e) tt
 sections_of_item arch item (s ∷ sections) fs e =
-    let first = behind _ _ fs e in
-    let rest = behind _ _ fs first.next_is in
-    appended item first.value rest.value fs (section_of_item arch item s first.value first.first_is) (sections_of_item arch item sections rest.value rest.first_is) rest.next_is
+    let first = behind (section_functions arch item s) (λ gs. sections_functions arch item sections >>= λ hs. Ok (gs ++ hs)) fs e in
+    let rest = behind (sections_functions arch item sections) (λ hs. Ok (first.value ++ hs)) fs first.next_is in
+    subst (AreOf item) (ap list_in rest.next_is)
+    (both_of item first.value rest.value (section_of_item arch item s first.value first.first_is) (sections_of_item arch item sections rest.value rest.first_is))
 
 object_of_item : (item : ℕ) (seen : List (List ℕ)) (object : Object) (fs : List Function) → object_functions item seen object ≡ Ok fs → AreOf item fs
 object_of_item item seen object fs e =
@@ -102,17 +104,15 @@ both_within from to [] gs h k = k
 both_within from to (f ∷ fs) gs h k = (h.0, both_within from to fs gs h.1 k)
 
 all_within : (seen : List (List ℕ)) (item : ℕ) (objects : List Object) (fs : List Function) → functions_after seen item objects ≡ Ok fs → AreWithin item (item + length objects) fs
-all_within seen item [] fs e = let is : [] ≡ fs = (let same : Ok [] ≡ Ok fs = sym (functions_after-nil seen item) ∙ e in cc) in subst (AreWithin item (item + 0)) is tt
+all_within seen item [] fs e = subst (AreWithin item (item + 0)) (ap list_in (sym (functions_after-nil seen item) ∙ e)) tt
 all_within seen item (object ∷ objects) fs e =
-    let first = behind _ _ fs (sym (functions_after-cons seen item object objects) ∙ e) in
-    let rest = behind _ _ fs first.next_is in
+    let first = behind (named (gather.Input item) (object_functions item seen object)) (λ gs. functions_after (seen_behind seen object) (item + 1) objects >>= λ hs. Ok (gs ++ hs)) fs (sym (functions_after-cons seen item object objects) ∙ e) in
+    let rest = behind (functions_after (seen_behind seen object) (item + 1) objects) (λ hs. Ok (first.value ++ hs)) fs first.next_is in
     let here = of_within item first.value (object_of_item item seen object first.value (unnamed item (object_functions item seen object) first.value first.first_is)) in
     let there = all_within (seen_behind seen object) (item + 1) objects rest.value rest.first_is in
-    joined first.value rest.value (wider item (item + 1) item (item + length (object ∷ objects)) first.value (omega arith) (omega arith) here)
-    (wider (item + 1) (item + 1 + length objects) item (item + length (object ∷ objects)) rest.value (omega arith) (omega arith) there) rest.next_is
-  where
-    joined : (gs hs : List Function) → AreWithin item (item + length (object ∷ objects)) gs → AreWithin item (item + length (object ∷ objects)) hs → Ok (gs ++ hs) ≡ Ok fs → AreWithin item (item + length (object ∷ objects)) fs
-    joined gs hs h k e = let is : gs ++ hs ≡ fs = cc in subst (AreWithin item (item + length (object ∷ objects))) is (both_within item (item + length (object ∷ objects)) gs hs h k)
+    subst (AreWithin item (item + length (object ∷ objects))) (ap list_in rest.next_is)
+    (both_within item (item + length (object ∷ objects)) first.value rest.value (wider item (item + 1) item (item + length (object ∷ objects)) first.value (omega arith) (omega arith) here)
+    (wider (item + 1) (item + 1 + length objects) item (item + length (object ∷ objects)) rest.value (omega arith) (omega arith) there))
 
 -- the same of what becomes of them, in any order
 abbrev pub IsWithin : (from to : ℕ) → Entry → Type 0

@@ -2,7 +2,7 @@
 use Rattle.std.specs.Prelude.{nat_lt, not, position}
 use Rattle.std.specs.List.{AllByRecursion, position_or_len}
 use Rattle.std.specs.Option.{option_map}
-use Rattle.std.proofs.Common.{◌≡◌, ℕ, suc, ◌+◌, ◌<◌, ◌≤◌, Bool, true, false, cond, All, List, [], ◌∷◌, length, get_or, map, Option, Some, None, refl, sym, ap, subst, ◌∙◌, arith}
+use Rattle.std.proofs.Common.{◌≡◌, ℕ, suc, ◌+◌, ◌<◌, ◌≤◌, Bool, true, false, cond, All, List, [], ◌∷◌, ◌++◌, length, get_or, map, Option, Some, None, refl, sym, ap, subst, ◌∙◌, arith}
 use Rattle.std.proofs.lemmas.Bool.{lt-ltb, le-ltb, ltb-true, ltb-false}
 use Rattle.std.proofs.lemmas.List.Elements.{recursion_from_All, All-from_recursion}
 use Rattle.std.proofs.lemmas.List.Sums.{prefix_len_passes}
@@ -31,7 +31,7 @@ one_more : (place count : ℕ) → cond (nat_lt (1 + place) (suc count)) (Some (
 one_more place count = at_test (nat_lt place count) refl
   where
     at_test : (b : Bool) → nat_lt place count ≡ b → cond (nat_lt (1 + place) (suc count)) (Some (1 + place)) None ≡ option_map suc (cond (nat_lt place count) (Some place) None)
-    at_test true t = let lt = ltb-true place count t in rw (t, lt-ltb (1 + place) (suc count) (omega (arith, lt))) refl
+    at_test true t = let lt = ltb-true place count t in rw (t, lt-ltb (1 + place) (suc count) (omega (arith, lt))) (ap Some (omega arith))
     at_test false t = let le = ltb-false place count t in rw (t, le-ltb (1 + place) (suc count) (omega (arith, le))) refl
 
 -- the first is none
@@ -59,16 +59,16 @@ none_pass p (x ∷ xs) e = at_test (p x) refl e (none_pass p xs)
   where
     at_test : (b : Bool) → p x ≡ b → position p (x ∷ xs) ≡ None → (position p xs ≡ None → AllByRecursion (λ x. p x ≡ false) xs) → (p x ≡ false) × AllByRecursion (λ x. p x ≡ false) xs
     at_test false t e others = (t, others (no_suc (position p xs) (sym (passed_over p x xs t) ∙ e)))
-    at_test true t e others = let found : Some 0 ≡ None = rw t at e in cc
+    at_test true t e others = let found = rw (t, lt-ltb 0 (suc (length xs)) (omega arith)) at e in cc
 
 -- ---- all machines
 -- behind an item, and alone
 pub differing_behind : (arch : Arch) (machines : List Arch) → differing (arch ∷ machines) ≡ option_map suc (position (λ machine. not (is_same arch machine)) machines)
 differing_behind arch machines = passed_over (λ machine. not (is_same arch machine)) arch machines (ap not (same_self arch))
 
-pub differing_alone : (arch : Arch) (machines : List Arch) → 0 < length machines → arch ≡ get_or machines 0 arch → differing machines ≡ position (λ machine. not (is_same arch machine)) machines
-differing_alone arch [] some e = absurd (omega (arith, some))
-differing_alone arch (first ∷ others) some e = ap (λ (a : Arch). position (λ machine. not (is_same a machine)) (first ∷ others)) (sym e)
+pub differing_alone : (arch d : Arch) (machines : List Arch) → 0 < length machines → arch ≡ get_or machines 0 d → differing machines ≡ position (λ machine. not (is_same arch machine)) machines
+differing_alone arch d [] some e = absurd (omega (arith, some))
+differing_alone arch d (first ∷ others) some e = ap (λ (a : Arch). position (λ machine. not (is_same a machine)) (first ∷ others)) (sym e)
 
 are_same : (arch : Arch) (machines : List Arch) → AllByRecursion (λ machine. not (is_same arch machine) ≡ false) machines → AllByRecursion (λ machine. machine ≡ arch) machines
 are_same arch [] h = tt
@@ -110,3 +110,44 @@ one_is_unmixed arch machines h = not_mixed arch machines (recursion_from_All (λ
 pub inputs_have : (before : Option Arch) (arch : Arch) (machines : List Arch) → All (λ machine. machine ≡ arch) (with_before before machines) → All (λ machine. machine ≡ arch) machines
 inputs_have None arch machines h = h
 inputs_have (Some first) arch machines h = All-from_recursion (λ machine. machine ≡ arch) machines (recursion_from_All (λ machine. machine ≡ arch) (first ∷ machines) h).1
+
+-- ---- the test of all machines, whose first is numbered
+abbrev first_after : (first : ℕ × Arch) → List Arch → Option ℕ
+first_after first machines = position (λ (machine : Arch). not (is_same first.1 machine)) machines
+
+-- what is tried, behind an item of this machine
+abbrev Refuses : (before : Option Arch) → (machines : List Arch) → (number : ℕ) → Type 0
+Refuses before machines number = mixed_among (with_before before machines) ≡ Some (MixedArch 0 number)
+
+pub refused_behind : (before : Option Arch) (arch : Arch) (first : ℕ × Arch) (machines : List Arch) (index : ℕ) → before ≡ Some arch → first ≡ (1, arch) → first_after first machines ≡ Some index → Refuses before machines (first.0 + index)
+refused_behind before arch first machines index is at e =
+    subst (λ (x : ℕ × Arch). first_after x machines ≡ Some index → Refuses before machines (x.0 + index)) (sym at)
+    (λ found. subst (λ (b : Option Arch). Refuses b machines (1 + index)) (sym is)
+    (ap (option_map (MixedArch 0)) (differing_behind arch machines ∙ ap (option_map suc) found) ∙ ap (λ (n : ℕ). Some (MixedArch 0 n)) (omega arith))) e
+
+pub refused_alone : (before : Option Arch) (d : Arch) (first : ℕ × Arch) (machines : List Arch) (index : ℕ) → before ≡ None → first ≡ (0, get_or machines 0 d) → 0 < length machines → first_after first machines ≡ Some index → Refuses before machines (first.0 + index)
+refused_alone before d first machines index is at some e =
+    subst (λ (x : ℕ × Arch). first_after x machines ≡ Some index → Refuses before machines (x.0 + index)) (sym at)
+    (λ found. subst (λ (b : Option Arch). Refuses b machines (0 + index)) (sym is)
+    (ap (option_map (MixedArch 0)) (differing_alone (get_or machines 0 d) d machines some refl ∙ found) ∙ ap (λ (n : ℕ). Some (MixedArch 0 n)) (omega arith))) e
+
+-- all have the first one
+pub have_first_behind : (before : Option Arch) (arch : Arch) (first : ℕ × Arch) (machines : List Arch) → before ≡ Some arch → first ≡ (1, arch) → first_after first machines ≡ None → All (λ machine. machine ≡ first.1) (with_before before machines)
+have_first_behind before arch first machines is at e =
+    subst (λ (x : ℕ × Arch). first_after x machines ≡ None → All (λ machine. machine ≡ x.1) (with_before before machines)) (sym at)
+    (λ none. subst (λ (b : Option Arch). All (λ machine. machine ≡ arch) (with_before b machines)) (sym is) (none_differs_behind arch machines none)) e
+
+pub have_first_alone : (before : Option Arch) (first : ℕ × Arch) (machines : List Arch) → before ≡ None → first_after first machines ≡ None → All (λ machine. machine ≡ first.1) (with_before before machines)
+have_first_alone before first machines is e =
+    subst (λ (b : Option Arch). All (λ machine. machine ≡ first.1) (with_before b machines)) (sym is) (none_differs first.1 machines e)
+
+-- one more input
+have_more : (arch : Arch) (machines : List Arch) (machine : Arch) → AllByRecursion (λ m. m ≡ arch) (machines ++ machine ∷ []) → AllByRecursion (λ m. m ≡ arch) machines × (machine ≡ arch)
+have_more arch [] machine h = (tt, h.0)
+have_more arch (m ∷ machines) machine h = let rest = have_more arch machines machine h.1 in ((h.0, rest.0), rest.1)
+
+pub earlier_have : (arch : Arch) (machines : List Arch) (machine : Arch) → All (λ m. m ≡ arch) (machines ++ machine ∷ []) → All (λ m. m ≡ arch) machines
+earlier_have arch machines machine h = All-from_recursion (λ m. m ≡ arch) machines (have_more arch machines machine (recursion_from_All (λ m. m ≡ arch) (machines ++ machine ∷ []) h)).0
+
+pub last_has : (arch : Arch) (machines : List Arch) (machine : Arch) → All (λ m. m ≡ arch) (machines ++ machine ∷ []) → machine ≡ arch
+last_has arch machines machine h = (have_more arch machines machine (recursion_from_All (λ m. m ≡ arch) (machines ++ machine ∷ []) h)).1

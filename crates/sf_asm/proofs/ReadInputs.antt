@@ -1,16 +1,18 @@
 -- The functions of inputs, one behind the other.
 use Rattle.std.specs.Prelude.{◌⊎◌}
-use Rattle.std.proofs.Common.{◌≡◌, ℕ, ◌+◌, List, [], ◌∷◌, ◌++◌, map, Result, Ok, Err, refl, sym, ap, ◌∙◌, append_assoc, inl, inr}
-use Rattle.std.proofs.lemmas.List.{append-nil, map-append}
+use Rattle.std.proofs.Common.{◌≡◌, ℕ, ◌+◌, ◌<◌, ◌≤◌, List, [], ◌∷◌, ◌++◌, length, get_or, take, drop, map, Result, Ok, Err, refl, sym, ap, subst, ◌∙◌, append_assoc, add-one, arith, inl, inr}
+use Rattle.std.proofs.Math.Seq.{drop-cons}
+use Rattle.std.proofs.lemmas.List.{append-nil, drop_all, map-append, take_more}
 use Rattle.sf_asm.specs.declared.entry.Entry.{Entry}
 use Rattle.sf_asm.specs.declared.fault.AsmFault.{AsmFault}
 use Rattle.sf_asm.specs.declared.fault.AsmFault.TheVariants as asm
 use Rattle.sf_asm.specs.declared.fault.GatherFault.{GatherFault}
 use Rattle.sf_asm.specs.declared.fault.GatherFault.TheVariants as gather
 use Rattle.sf_asm.specs.declared.groups.Seen.{Seen}
+use Rattle.sf_asm.specs.declared.input.Input.{Input}
 use Rattle.sf_asm.specs.Answers.{after_read, seen_as}
 use Rattle.sf_asm.specs.Fault.{wraps_input}
-use Rattle.sf_asm.specs.Functions.{◌>>=◌, Function, Object, functions_after, functions_of, named, object_functions, seen_behind}
+use Rattle.sf_asm.specs.Functions.{◌>>=◌, Function, Object, functions_after, functions_of, machine_of, named, object_functions, object_of, seen_behind}
 use Rattle.sf_asm.specs.Kept.{entry_of}
 use Rattle.sf_asm.specs.Seen.{HasSeen}
 use Rattle.sf_asm.proofs.ReadFunctions.{from_none, refused_unseen}
@@ -85,3 +87,35 @@ stops set entries item object left given fault h refused =
 pub ends : (set : Seen) (entries : List Entry) (item : ℕ) (given : Result (List Function) GatherFault) → IsReadUpTo set entries item [] given → seen_as (map entry_of) given ≡ Ok entries
 ends set entries item given h =
     sym h.reads ∙ ap (λ (r : Result (List Function) GatherFault). after_read entries (seen_as (map entry_of) r)) (functions_after-nil h.seen item) ∙ ap Ok (append-nil entries)
+
+-- ---- the inputs from a place on
+left_is : (inputs : List Input) (k : ℕ) (d : Input) → k < length inputs → map object_of (drop k inputs) ≡ object_of (get_or inputs k d) ∷ map object_of (drop (k + 1) inputs)
+left_is inputs k d lt = ap (map object_of) (drop-cons inputs k d lt) ∙ ap (λ (n : ℕ). object_of (get_or inputs k d) ∷ map object_of (drop n inputs)) (sym (add-one k))
+
+pub goes_on_at : (set set' : Seen) (entries more : List Entry) (first k : ℕ) (inputs : List Input) (d : Input) (given : Result (List Function) GatherFault) → k < length inputs → IsReadUpTo set entries (first + k) (map object_of (drop k inputs)) given
+    → ((signatures : List (List ℕ)) → HasSeen set signatures → seen_as (map entry_of) (object_functions (first + k) signatures (object_of (get_or inputs k d))) ≡ Ok more)
+    → ((signatures : List (List ℕ)) → HasSeen set signatures → HasSeen set' (seen_behind signatures (object_of (get_or inputs k d)))) → IsReadUpTo set' (entries ++ more) (first + (k + 1)) (map object_of (drop (k + 1) inputs)) given
+goes_on_at set set' entries more first k inputs d given lt h reads sees =
+    subst (λ (item : ℕ). IsReadUpTo set' (entries ++ more) item (map object_of (drop (k + 1) inputs)) given) (omega arith)
+    (goes_on set set' entries more (first + k) (object_of (get_or inputs k d)) (map object_of (drop (k + 1) inputs)) given
+    (subst (λ (left : List Object). IsReadUpTo set entries (first + k) left given) (left_is inputs k d lt) h) reads sees)
+
+pub stops_at : (set : Seen) (entries : List Entry) (first k : ℕ) (inputs : List Input) (d : Input) (given : Result (List Function) GatherFault) (fault : GatherFault) → k < length inputs → IsReadUpTo set entries (first + k) (map object_of (drop k inputs)) given
+    → ((signatures : List (List ℕ)) → HasSeen set signatures → (fault ≡ gather.NoMemory) ⊎ (named (gather.Input (first + k)) (object_functions (first + k) signatures (object_of (get_or inputs k d))) ≡ Err fault))
+    → (fault ≡ gather.NoMemory) ⊎ (given ≡ Err fault)
+stops_at set entries first k inputs d given fault lt h refused =
+    stops set entries (first + k) (object_of (get_or inputs k d)) (map object_of (drop (k + 1) inputs)) given fault
+    (subst (λ (left : List Object). IsReadUpTo set entries (first + k) left given) (left_is inputs k d lt) h) refused
+
+pub ends_at : (set : Seen) (entries : List Entry) (item k : ℕ) (inputs : List Input) (given : Result (List Function) GatherFault) → length inputs ≤ k → IsReadUpTo set entries item (map object_of (drop k inputs)) given
+    → seen_as (map entry_of) given ≡ Ok entries
+ends_at set entries item k inputs given le h =
+    ends set entries item given (subst (λ (left : List Object). IsReadUpTo set entries item left given) (ap (map object_of) (drop_all k inputs le)) h)
+
+-- the machines up to a place
+pub machines_more : (inputs : List Input) (k : ℕ) (d : Input) → k < length inputs
+    → map machine_of (map object_of (take k inputs)) ++ machine_of (object_of (get_or inputs k d)) ∷ [] ≡ map machine_of (map object_of (take (k + 1) inputs))
+machines_more inputs k d lt =
+    sym (ap (λ (xs : List Input). map machine_of (map object_of xs)) (take_more inputs k d lt)
+    ∙ ap (map machine_of) (map-append object_of (take k inputs) (get_or inputs k d ∷ []))
+    ∙ map-append machine_of (map object_of (take k inputs)) (object_of (get_or inputs k d) ∷ []))
