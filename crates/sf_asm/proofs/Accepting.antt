@@ -1,10 +1,9 @@
 -- Inputs can be linked exactly where linking them comes to functions in order.
-use Rattle.std.specs.Prelude.{nat_le, nat_lt, not}
+use Rattle.std.specs.Prelude.{nat_le, nat_lt}
 use Rattle.std.specs.Option.{option_map}
-use Rattle.std.specs.List.{filter, find}
 use Rattle.std.specs.List.Sorted.{IsNonDecreasingBy}
-use Rattle.std.proofs.Common.{◌≡◌, ℕ, zero, suc, ◌+◌, ◌^◌, ◌<◌, ◌≤◌, Bool, true, false, cond, ◌&&◌, eqb, leb, ltb, List, [], ◌∷◌, length, map, get_or, sum_by, Option, Some, None, Result, Ok, Err, refl, sym, ap, subst, ◌∙◌, arith, inl, inr}
-use Rattle.std.proofs.lemmas.Bool.{leb-true, ltb-true, ltb-false, le-leb, lt-ltb, lt-leb, le-ltb, eqb-true}
+use Rattle.std.proofs.Common.{◌≡◌, ℕ, suc, ◌+◌, ◌^◌, ◌<◌, ◌≤◌, Bool, true, false, cond, ◌&&◌, eqb, leb, List, [], ◌∷◌, length, map, sum_by, Option, Some, None, Result, Ok, Err, refl, sym, ap, subst, ◌∙◌, arith}
+use Rattle.std.proofs.lemmas.Bool.{leb-true, ltb-true, le-leb, lt-ltb, eqb-true}
 use Rattle.std.proofs.lemmas.Bool.Decides.{nat_tests}
 use Rattle.std.proofs.lemmas.List.{length-map}
 use Rattle.std.proofs.lemmas.List.Sums.{sum_by-cons}
@@ -21,13 +20,13 @@ use Rattle.sf_asm.specs.Entry.{kept_of, spans_of}
 use Rattle.sf_asm.specs.Functions.{Function, Object, functions_of}
 use Rattle.sf_asm.specs.Inputs.{all_functions, first_item, machines_of, mixed_fault}
 use Rattle.sf_asm.specs.Kept.{entry_of}
-use Rattle.sf_asm.specs.Linking.{start_of, InOrder, has_bytes, overlap, overlap_fault, overlap_in, overlap_with, limits_fault, functions_fault, link_fault, or_later, unless_fault, Links, LinksFrom}
+use Rattle.sf_asm.specs.Linking.{start_of, InOrder, overlap, overlap_fault, overlap_in, overlap_with, limits_fault, functions_fault, link_fault, or_later, unless_fault, Links, LinksFrom}
 use Rattle.sf_asm.specs.Order.{are_apart, entry_rows}
 use Rattle.sf_asm.proofs.GatheredInputs.{by_parts, parts_of}
 use Rattle.sf_asm.proofs.Kept.{not_overlapping_apart}
 use Rattle.sf_asm.proofs.Limits.{within_limits, few_functions, few_rows}
 use Rattle.sf_asm.proofs.Machines.{is_one, one_is_unmixed}
-use Rattle.sf_asm.proofs.Overlaps.{overlap_after, overlap_begins, overlap_passes, overlap_goes_on, overlap_ends}
+use Rattle.sf_asm.proofs.Overlaps.{overlap_after, overlap_begins, overlap_passes, overlap_goes_on}
 
 both : (a b : Bool) → (a && b) ≡ true → (a ≡ true) × (b ≡ true)
 both true b e = (refl, e)

@@ -1,6 +1,6 @@
 -- The sections of a file that was placed.
 use Rattle.std.specs.Prelude.{◌⊎◌}
-use Rattle.std.proofs.Common.{◌≡◌, ℕ, ◌+◌, ◌-◌, ◌%◌, ◌^◌, Bool, List, [], ◌∷◌, map, Option, Result, Ok, Err, refl, sym, ap, subst, ◌∙◌, inl, inr}
+use Rattle.std.proofs.Common.{◌≡◌, ℕ, ◌+◌, ◌-◌, ◌%◌, ◌^◌, Bool, List, map, Option, Result, Ok, Err, refl, sym, ap, ◌∙◌, inl, inr}
 use Rattle.elf_read.specs.Header.{arch_of}
 use Rattle.elf_read.specs.Sections.{section_bytes, section_count}
 use Rattle.elf_place.specs.declared.fault.PlaceFault.{PlaceFault}

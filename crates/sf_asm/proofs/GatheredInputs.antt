@@ -1,5 +1,5 @@
 -- What gathering inputs comes to, from what was read of them and tried.
-use Rattle.std.proofs.Common.{◌≡◌, ℕ, ◌+◌, All, List, length, map, Option, Some, None, Result, Ok, Err, refl, sym, ap, subst, ◌∙◌}
+use Rattle.std.proofs.Common.{◌≡◌, ◌+◌, All, List, length, map, Option, Some, None, Result, Ok, Err, refl, sym, ap, subst}
 use Rattle.sf_model.specs.declared.machine.Arch.{Arch}
 use Rattle.sf_asm.specs.declared.entry.Entry.{Entry}
 use Rattle.sf_asm.specs.declared.fault.GatherFault.{GatherFault}

@@ -1,6 +1,6 @@
 -- The inputs that functions are of.
 use Rattle.std.specs.List.{AllByRecursion}
-use Rattle.std.proofs.Common.{◌≡◌, ℕ, ◌+◌, ◌<◌, ◌≤◌, Bool, true, false, cond, All, List, [], ◌∷◌, ◌++◌, length, map, Option, Result, Ok, Err, refl, sym, ap, subst, ◌∙◌, arith}
+use Rattle.std.proofs.Common.{◌≡◌, ℕ, ◌+◌, ◌<◌, ◌≤◌, Bool, true, false, cond, All, List, [], ◌∷◌, ◌++◌, length, map, Result, Ok, Err, refl, sym, ap, subst, ◌∙◌, arith}
 use Rattle.std.proofs.lemmas.List.Elements.{All-from_recursion}
 use Rattle.std.proofs.lemmas.List.Sorted.{All-permutation}
 use Rattle.sf_model.specs.declared.machine.Arch.{Arch}
@@ -9,7 +9,6 @@ use Rattle.eh_records.specs.Section.{entries_of, frames, pointer_fields}
 use Rattle.sf_asm.specs.declared.entry.Entry.{Entry}
 use Rattle.sf_asm.specs.declared.fault.AsmFault.{AsmFault}
 use Rattle.sf_asm.specs.declared.fault.AsmFault.TheVariants as asm
-use Rattle.sf_asm.specs.declared.fault.GatherFault.{GatherFault}
 use Rattle.sf_asm.specs.declared.fault.GatherFault.TheVariants as gather
 use Rattle.sf_asm.specs.Functions.{◌>>=◌, CallFrames, Function, Object, fault_in, function_at, function_in, functions_in, functions_after, machine_of, named, object_functions, section_functions, sections_functions, sections_of, seen_behind, span_in, unless}
 use Rattle.sf_asm.specs.Kept.{entry_of}

@@ -81,7 +81,7 @@ stops set entries item object left given fault h refused =
       | inr e ↦
           let first = functions_after-cons h.seen item object left ∙ first_fault item (object_functions item h.seen object) (functions_after (seen_behind h.seen object) (item + 1) left) fault e in
           inr (refused_unseen [] given fault
-              (from_none (seen_as (map entry_of) given) ∙ sym h.reads ∙ ap (λ (r : Result (List Function) GatherFault). after_read entries (seen_as (map entry_of) r)) first))
+          (from_none (seen_as (map entry_of) given) ∙ sym h.reads ∙ ap (λ (r : Result (List Function) GatherFault). after_read entries (seen_as (map entry_of) r)) first))
     ]
 
 pub ends : (set : Seen) (entries : List Entry) (item : ℕ) (given : Result (List Function) GatherFault) → IsReadUpTo set entries item [] given → seen_as (map entry_of) given ≡ Ok entries

@@ -121,11 +121,7 @@ fn order(entries: &mut Vec<Entry>) -> Result<(), GatherFault>
 }
 
 /// The functions of all inputs, in order.
-fn ordered(
-    alloc: Global,
-    inputs: &[Input<'_>],
-    before: Option<Arch>,
-) -> Result<Read, GatherFault>
+fn ordered(alloc: Global, inputs: &[Input<'_>], before: Option<Arch>) -> Result<Read, GatherFault>
     requires some { (0 < length inputs.now) × (length inputs.now ≤ 512) }
     requires small { All (λ input. length input.bytes.now < 2 ^ 32) inputs.now }
     ensures gathered { IfOk result (λ read. Gathers before (map object_of inputs.now) (Ok read.entries.items)) }
