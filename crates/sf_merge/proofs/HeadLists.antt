@@ -1,16 +1,17 @@
 -- Lists in order by their heads: what comes first, and what is left.
-use Rattle.std.specs.BinaryHeap.{IsHeap, IsUpperBound}
+use Rattle.std.specs.BinaryHeap.{heap_items, heap_len, HeapUnchanged, IsHeap, IsUpperBound, KeepsHeap, PopsGreatest}
+use Rattle.std.specs.declared.collections.binary_heap.BinaryHeap.{BinaryHeap}
 use Rattle.std.specs.Cmp.{IsTotalOrder, IsStrictWeakOrder, nat_cmp_total, on_total, then_total}
 use Rattle.std.specs.List.{AllByRecursion}
 use Rattle.std.specs.List.Sorted.{IsPermutation, IsSorted}
 use Rattle.std.specs.Ordering.{is_lt}
 use Rattle.std.specs.Vec.Iter.{into_iter_items}
-use Rattle.std.proofs.Common.{◌≡◌, ℕ, ◌+◌, ◌-◌, ◌<◌, false, List, [], ◌∷◌, ◌++◌, length, get_or, All, refl, sym, ap, subst, ◌∙◌, append_assoc, arith}
+use Rattle.std.proofs.Common.{Option, Some, None, Result, Ok, Err, MatchOption, IfSome, IfNone, OnOk, OnErr, length-append, ◌≡◌, ℕ, suc, ◌+◌, ◌-◌, ◌<◌, false, List, [], ◌∷◌, ◌++◌, length, get_or, All, refl, sym, ap, subst, ◌∙◌, append_assoc, arith}
 use Rattle.std.proofs.Math.Seq.{get_or-append_seam}
 use Rattle.std.proofs.lemmas.List.{length_push}
 use Rattle.std.proofs.lemmas.List.Elements.{All-nil, All-cons, All-head, All-tail, All-append, All-weaker, All-from_get_or, All-from_recursion}
 use Rattle.std.proofs.lemmas.List.Kept.{IsSortedBy-push}
-use Rattle.std.proofs.lemmas.List.Sorted.{ranks_by, sorted_far, All-permutation, IsPermutation-trans, IsPermutation-sym, IsPermutation-append_right, IsPermutation-cons}
+use Rattle.std.proofs.lemmas.List.Sorted.{ranks_by, sorted_far, All-permutation, length_permutation, IsPermutation-trans, IsPermutation-sym, IsPermutation-append_right, IsPermutation-cons}
 use Rattle.sf_merge.specs.declared.located.Located.{Located}
 use Rattle.sf_merge.specs.declared.located.Rank.{Rank}
 use Rattle.sf_merge.specs.declared.head.Head.{Head}
@@ -32,7 +33,9 @@ first_least x xs up = All-from_get_or (λ y. before y x ≡ false) (x ∷ xs) x 
 
 -- the rest of it is in order
 pub rest_sorted : (x : Located) (xs : List Located) → IsSorted compared (x ∷ xs) → IsSorted compared xs
-rest_sorted x xs up = λ k d le lt. subst (λ n. before (get_or (x ∷ xs) n d) (get_or (x ∷ xs) (k + 1) d) ≡ false) (omega arith) (up (k + 1) d (omega arith) (omega (lt, arith)))
+rest_sorted x xs up = λ k d le lt.
+    let place : suc k + 1 ≡ suc (k + 1) = omega arith in
+    subst (λ n. before (get_or (x ∷ xs) n d) (get_or xs k d) ≡ false) place (up (suc k) d (omega arith) (omega (lt, arith)))
 
 -- one more behind the last
 pub push_behind : (xs : List Located) (x z : Located) → IsSorted compared (xs ++ x ∷ []) → before z x ≡ false → IsSorted compared ((xs ++ x ∷ []) ++ z ∷ [])
@@ -77,6 +80,29 @@ more_sorted head list old new each is up moved =
 pub more_held : (head : Head) (list : List Located) (old new : List Head) → list_of head ≡ list → IsPermutation (head ∷ old) new → IsPermutation (list ++ held_by old) (held_by new)
 more_held head list old new is moved = subst (λ l. IsPermutation (l ++ held_by old) (held_by new)) is (flat_map_permuted list_of (head ∷ old) new moved)
 
+-- ---- the heap of heads, after a pop and after a push
+no_heads : (heads : List Head) → length heads ≡ 0 → held_by heads ≡ []
+no_heads [] e = refl
+no_heads (h ∷ hs) e = absurd (omega (e, arith))
+
+module _ {Z : Type 0} (old new : BinaryHeap Head Z) (heap : IsHeap later (heap_items old)) (each : EachSorted (heap_items old)) where
+  pub after_pop : (r : Option Head) → IfSome r (λ head. PopsGreatest later (heap_items old) head (heap_items new)) → IfSome r (λ head. IsPermutation (heap_items old) (head ∷ heap_items new))
+      → IfNone r (HeapUnchanged old new) → IsHeap later (heap_items new) × EachSorted (heap_items new)
+  after_pop None greatest moved same = (subst (IsHeap later) (sym same.0) heap, subst EachSorted (sym same.0) each)
+  after_pop (Some head) greatest moved same = ((greatest heap).0, left_sorted head (heap_items old) (heap_items new) each moved)
+
+  pub popped : (r : Option Head) → IfSome r (λ head. PopsGreatest later (heap_items old) head (heap_items new)) → IfSome r (λ head. IsPermutation (heap_items old) (head ∷ heap_items new))
+      → IfNone r (heap_len old ≡ 0) → heap_len old ≡ length (heap_items old)
+      → MatchOption r (held_by (heap_items old) ≡ []) (λ head. IsLeast head (held_by (heap_items old)) (held_by (heap_items new)))
+  popped None greatest moved none len = no_heads (heap_items old) (sym len ∙ none)
+  popped (Some head) greatest moved none len = taken_least head (heap_items old) (heap_items new) each moved (greatest heap).1
+
+  pub after_push : {T E : Type 0} (r : Result T E) (head : Head) (list : List Located) → list_of head ≡ list → IsSorted compared list
+      → OnOk r (IsPermutation (head ∷ heap_items old) (heap_items new)) → OnOk r (KeepsHeap later (heap_items old) (heap_items new)) → OnErr r (HeapUnchanged old new)
+      → IsHeap later (heap_items new) × EachSorted (heap_items new)
+  after_push (Ok x) head list is up moved keeps same = (keeps heap, more_sorted head list (heap_items old) (heap_items new) each is up moved)
+  after_push (Err x) head list is up moved keeps same = (subst (IsHeap later) (sym same.0) heap, subst EachSorted (sym same.0) each)
+
 -- ---- the functions that were taken, and those that are left
 pub record Merging (all merged left : List Located) : Type 0 where
   pub moved : IsPermutation all (merged ++ left)
@@ -97,3 +123,9 @@ one_more all merged left after head next h least added =
   where
     at_seam : (merged : List Located) (x : Located) (rest next : List Located) → IsPermutation rest next → IsPermutation (merged ++ x ∷ rest) ((merged ++ x ∷ []) ++ next)
     at_seam merged x rest next h = rw append_assoc (IsPermutation-append_right merged (x ∷ rest) (x ∷ next) (IsPermutation-cons x rest next h))
+
+pub fewer_left : (all left next : List Located) (head : Head) → IsLeast head all left → IsPermutation (into_iter_items head.rest ++ left) next → length next < length all
+fewer_left all left next head h added =
+    let before_it = length_permutation all (list_of head ++ left) h.taken in
+    let behind_it = length_permutation (into_iter_items head.rest ++ left) next added in
+    omega (before_it, behind_it, arith)

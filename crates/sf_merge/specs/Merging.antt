@@ -75,16 +75,27 @@ abbrev pub or_later : Option MergeFault → Option MergeFault → Option MergeFa
 or_later (Some fault) later = Some fault
 or_later None later = later
 
--- of sections, whose functions that hold an address stand in order
-abbrev pub merge_fault : (at : ℕ) → List Table → (ordered : List Located) → Option MergeFault
-merge_fault at tables ordered =
-    or_later (mixed_fault tables) (or_later (limits_fault tables) (or_later (overlap_fault ordered) (reach_fault at (written ordered))))
+-- of sections: their machines, and then the limits
+abbrev pub sections_fault : List Table → Option MergeFault
+sections_fault tables = or_later (mixed_fault tables) (limits_fault tables)
 
-abbrev pub unless_fault : Option MergeFault → List Func → Result (List Func) MergeFault
-unless_fault None functions = Ok functions
-unless_fault (Some fault) functions = Err fault
+-- of their functions that hold an address, in order: overlaps, and then the reach
+abbrev pub functions_fault : (at : ℕ) → List Located → Option MergeFault
+functions_fault at ordered = or_later (overlap_fault ordered) (reach_fault at (written ordered))
 
--- merging these sections into one at this address comes to these functions, or to the first fault
+abbrev pub unless_fault : {X : Type 0} → Option MergeFault → X → Result X MergeFault
+unless_fault None x = Ok x
+unless_fault (Some fault) x = Err fault
+
+abbrev pub unless : Option MergeFault → Result (Unit {0}) MergeFault
+unless fault = unless_fault fault tt
+
+-- ---- what merging comes to: the functions that are written, or the first fault
+abbrev pub MergesUnless : Option MergeFault → List Table → (at : ℕ) → Result (List Func) MergeFault → Type 0
+MergesUnless (Some fault) tables at result = result ≡ Err fault
+MergesUnless None tables at result =
+    (ordered : List Located) × InOrder (sized tables) ordered × (result ≡ unless_fault (functions_fault at ordered) (written ordered))
+
+-- merging these sections into one at this address comes to this
 abbrev pub Merges : List Table → (at : ℕ) → Result (List Func) MergeFault → Type 0
-Merges tables at result =
-    (ordered : List Located) × InOrder (sized tables) ordered × (result ≡ unless_fault (merge_fault at tables ordered) (written ordered))
+Merges tables at result = MergesUnless (sections_fault tables) tables at result
