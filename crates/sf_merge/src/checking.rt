@@ -25,7 +25,8 @@ fn same_arch(one: Arch, other: Arch) -> bool
 
 /// The machine of all sections.
 pub fn check_machines(views: &[View<'_>]) -> Result<Arch, MergeFault>
-    requires { 0 < length views.now }
+    requires some { 0 < length views.now }
+    requires few { length views.now ≤ 512 }
     ensures one { IfOk result (λ arch. All (λ (table : table_fact). table.arch ≡ arch) (map table_of views.now)) }
     ensures none { OnOk result (mixed_fault (map table_of views.now) ≡ None) }
     ensures fault { IfErr result (λ fault. mixed_fault (map table_of views.now) ≡ Some fault) }

@@ -1,6 +1,7 @@
 //! Sections made into one.
 
 ghost use Rattle.std.specs.Prelude.{◌≡◌, ◌<◌, ◌≤◌, map, length, IfOk, IfErr};
+ghost use Rattle.sf_model.specs.Union.{is_of_use};
 ghost use Rattle.sf_decode.specs.View.{table_of};
 ghost use Rattle.sf_merge.specs.Answers.{IsMerged, IsFirstFault};
 ghost use Rattle.sf_merge.specs.Merging.{written};
@@ -15,15 +16,22 @@ use sf_model::Func;
 use sf_write::write;
 use std::alloc::Global;
 
+/// Whether a function holds an address and has a row.
+fn is_of_use(func: &Func) -> bool
+    ensures { result ≡ is_of_use func.now }
+{
+    func.size != 0 && !func.rows.as_slice().is_empty()
+}
+
 /// The functions that hold an address and have a row.
+#[tactic(auto, using(crate::proofs::Written::written_kept, crate::proofs::Written::written_left))]
 fn written(alloc: Global, ordered: Vec<Located>) -> Result<Vec<Func>, NoMemory>
     ensures { IfOk result (λ functions. functions.items ≡ written ordered.items) }
 {
     let mut functions = Vec::new(alloc);
     for located in ordered {
-        let func = located.func;
-        if func.size != 0 && !func.rows.as_slice().is_empty() {
-            functions.push(func)?;
+        if is_of_use(&located.func) {
+            functions.push(located.func)?;
         }
     }
     Ok(functions)

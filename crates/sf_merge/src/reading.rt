@@ -1,6 +1,6 @@
 //! The functions of sections, read and in order.
 
-ghost use Rattle.std.specs.Prelude.{◌≡◌, ◌<◌, ◌≤◌, ◌^◌, ◌&&◌, nat_lt, length, map, IsTrue, IfOk, OnOk, All};
+ghost use Rattle.std.specs.Prelude.{◌≡◌, ◌<◌, ◌≤◌, ◌^◌, length, map, IfOk, OnOk, All};
 ghost use Rattle.std.specs.List.{filter};
 ghost use Rattle.std.specs.List.Sorted.{IsPermutation, IsSorted};
 ghost use Rattle.sf_decode.specs.View.{table_of, function_of};
@@ -48,14 +48,7 @@ fn functions(alloc: Global, item: u32, view: &View<'_>) -> Result<Vec<Located>, 
     Ok(functions)
 }
 
-/// Whether functions stand in order.
-fn are_in_order(functions: &[Located]) -> bool
-    ensures { IsTrue result → IsSorted compared functions.now }
-{
-    functions.is_sorted_by_key(|function| function.rank())
-}
-
-/// The functions of a section that have bytes, in order.
+/// The functions of a section that have bytes, in order. Where they stand in order, sorting costs one pass.
 fn in_order(alloc: Global, item: u32, view: &View<'_>) -> Result<Vec<Located>, NoMemory>
     ensures moved { IfOk result (λ v. IsPermutation (filter has_bytes (located item (table_of view.now))) v.items) }
     ensures sorted { IfOk result (λ v. IsSorted compared v.items) }
@@ -63,9 +56,7 @@ fn in_order(alloc: Global, item: u32, view: &View<'_>) -> Result<Vec<Located>, N
 {
     view_is_a_section(view);
     let mut functions = functions(alloc, item, view)?;
-    if !are_in_order(&functions) {
-        functions.sort_by_key(|function| function.rank())?;
-    }
+    functions.sort_by_key(|function| function.rank())?;
     Ok(functions)
 }
 
