@@ -5,7 +5,7 @@ use Rattle.sf_merge.proofs.Checks.{overlap_stops, overlap_goes_on, one_alone, at
 use Rattle.sf_merge.proofs.checking.check_overlap.Goals as goal
 
 pub returns-in_default : goal.returns-in_default
-returns-in_default c = sym (ap unless (nothing_to_share c.args.ordered.now ?))
+returns-in_default c = sym (ap unless (nothing_to_share c.args.ordered.now c.in_default.ensures.cases))
 
 pub returns-then-shares_address : goal.returns-then-shares_address
 returns-then-shares_address c =
