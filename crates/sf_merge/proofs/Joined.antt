@@ -40,8 +40,8 @@ pub part_added : {V : Type 0} (items : V → List Func) (parts : List V) (part :
     → IsPermutation (list ++ old) new → IsPermutation (map unplaced (flat_map items (parts ++ part ∷ []))) new
 part_added items parts part list old new is so_far added =
     let split : map unplaced (flat_map items (parts ++ part ∷ [])) ≡ map unplaced (flat_map items parts) ++ list =
-      ap (map unplaced) (flat_map-append items parts (part ∷ []) ∙ ap (λ fs. flat_map items parts ++ fs) (append-nil (items part)))
-      ∙ map-append unplaced (flat_map items parts) (items part) ∙ ap (λ ls. map unplaced (flat_map items parts) ++ ls) (sym is) in
+    ap (map unplaced) (flat_map-append items parts (part ∷ []) ∙ ap (λ fs. flat_map items parts ++ fs) (append-nil (items part)))
+    ∙ map-append unplaced (flat_map items parts) (items part) ∙ ap (λ ls. map unplaced (flat_map items parts) ++ ls) (sym is) in
     subst (λ ls. IsPermutation ls new) (sym split)
     (IsPermutation-trans _ _ _ (IsPermutation-append_comm (map unplaced (flat_map items parts)) list) (IsPermutation-trans _ _ _ (IsPermutation-append_right list (map unplaced (flat_map items parts)) old so_far) added))
 

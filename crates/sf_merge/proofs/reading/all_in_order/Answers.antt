@@ -21,7 +21,7 @@ loop-view-preserved c =
     let own = filter has_bytes (located item (table_of view)) in
     let rest = sized_from (item + 1) (map table_of (drop (i + 1) views)) in
     let before : IsPermutation all (held c.loop-view.heads ++ (own ++ rest)) =
-      subst (λ (ls : List Located). IsPermutation all (held c.loop-view.heads ++ ls)) (section_left item views i view c.loop-view-test.true c.view-item.is) c.loop-view.invariant.all in
+    subst (λ (ls : List Located). IsPermutation all (held c.loop-view.heads ++ ls)) (section_left item views i view c.loop-view-test.true c.view-item.is) c.loop-view.invariant.all in
     let added = subst (λ (ls : List Located). IsPermutation (ls ++ held c.loop-view.heads) (held c.add.new.self)) c.into_iter.ensures.rest c.in_ok-add.ensures in
     record {
       item = omega (c.loop-view.invariant.item, arith);

@@ -7,7 +7,7 @@ pub invariant_of-self : goal.invariant_of-self
 invariant_of-self c =
     let heads = c.args.self.now in
     let after = after_push heads.queue c.push.new.self heads.ordered heads.rising c.push.result c.in-Some.head (into_iter_items c.args.list) c.in-Some.ensures c.requires
-      c.push.ensures.permutation c.push.ensures.heap_order c.push.ensures.unchanged in
+    c.push.ensures.permutation c.push.ensures.heap_order c.push.ensures.unchanged in
     record { ordered = after.0; rising = after.1 }
 
 pub returns-in_ok-push : goal.returns-in_ok-push
