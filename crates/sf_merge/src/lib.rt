@@ -29,3 +29,6 @@ pub use fault::MergeFault;
 pub use joining::join;
 pub use laws::{merged_sections_answer_alike, merging_comes_to_one_result};
 pub use merging::merge;
+
+#[cfg(test)]
+mod tests;
