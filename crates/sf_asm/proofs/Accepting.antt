@@ -1,14 +1,14 @@
 -- Inputs can be linked exactly where linking them comes to functions in order.
-use Rattle.std.specs.Prelude.{nat_le, nat_lt, not}
+use Rattle.std.specs.Prelude.{nat_le, nat_lt}
 use Rattle.std.specs.Option.{option_map}
-use Rattle.std.specs.List.{filter, find}
 use Rattle.std.specs.List.Sorted.{IsNonDecreasingBy}
-use Rattle.std.proofs.Common.{◌≡◌, ℕ, zero, suc, ◌+◌, ◌^◌, ◌<◌, ◌≤◌, Bool, true, false, cond, ◌&&◌, eqb, leb, ltb, List, [], ◌∷◌, length, map, get_or, sum_by, Option, Some, None, Result, Ok, Err, refl, sym, ap, subst, ◌∙◌, arith, inl, inr}
-use Rattle.std.proofs.lemmas.Bool.{leb-true, ltb-true, ltb-false, le-leb, lt-ltb, lt-leb, le-ltb, eqb-true}
+use Rattle.std.proofs.Common.{◌≡◌, ℕ, suc, ◌+◌, ◌^◌, ◌<◌, ◌≤◌, Bool, true, false, cond, ◌&&◌, eqb, leb, List, [], ◌∷◌, length, map, sum_by, Option, Some, None, Result, Ok, Err, refl, sym, ap, subst, ◌∙◌, arith}
+use Rattle.std.proofs.lemmas.Bool.{leb-true, ltb-true, le-leb, lt-ltb, eqb-true}
 use Rattle.std.proofs.lemmas.Bool.Decides.{nat_tests}
 use Rattle.std.proofs.lemmas.List.{length-map}
 use Rattle.std.proofs.lemmas.List.Sums.{sum_by-cons}
 use Rattle.std.proofs.lemmas.List.Sorted.{sum_by-IsPermutation, length_permutation}
+use Rattle.sf_model.specs.declared.machine.Arch.{Arch}
 use Rattle.sf_model.specs.declared.omission.Span.{Span}
 use Rattle.sf_write.specs.Reach.{first_out_of_reach}
 use Rattle.sf_asm.specs.declared.entry.Entry.{Entry}
@@ -18,12 +18,15 @@ use Rattle.sf_asm.specs.declared.fault.LinkFault.TheVariants as link
 use Rattle.sf_asm.specs.Accepted.{has_address, how_many_at, IsAccepted}
 use Rattle.sf_asm.specs.Entry.{kept_of, spans_of}
 use Rattle.sf_asm.specs.Functions.{Function, Object, functions_of}
+use Rattle.sf_asm.specs.Inputs.{all_functions, first_item, machines_of, mixed_fault}
 use Rattle.sf_asm.specs.Kept.{entry_of}
-use Rattle.sf_asm.specs.Linking.{start_of, InOrder, has_bytes, overlap, overlap_fault, overlap_in, overlap_with, limits_fault, functions_fault, link_fault, or_later, unless_fault, Links, LinksFrom}
+use Rattle.sf_asm.specs.Linking.{start_of, InOrder, overlap, overlap_fault, overlap_in, overlap_with, limits_fault, functions_fault, link_fault, or_later, unless_fault, Links, LinksFrom}
 use Rattle.sf_asm.specs.Order.{are_apart, entry_rows}
+use Rattle.sf_asm.proofs.GatheredInputs.{by_parts, parts_of}
 use Rattle.sf_asm.proofs.Kept.{not_overlapping_apart}
 use Rattle.sf_asm.proofs.Limits.{within_limits, few_functions, few_rows}
-use Rattle.sf_asm.proofs.Overlaps.{overlap_after, overlap_begins, overlap_passes, overlap_goes_on, overlap_ends}
+use Rattle.sf_asm.proofs.Machines.{is_one, one_is_unmixed}
+use Rattle.sf_asm.proofs.Overlaps.{overlap_after, overlap_begins, overlap_passes, overlap_goes_on}
 
 both : (a b : Bool) → (a && b) ≡ true → (a ≡ true) × (b ≡ true)
 both true b e = (refl, e)
@@ -209,8 +212,10 @@ ok_is : (fault : Option LinkFault) (ordered other : List Entry) → Ok ordered �
 ok_is None ordered other e = let is : ordered ≡ other = cc in (refl, sym is)
 ok_is (Some fault) ordered other e = cc
 
-accepted_with : (objects : List Object) (at : ℕ) (functions : List Function) (ordered : List Entry) → functions_of 0 objects ≡ Ok functions → InOrder (map entry_of functions) ordered → link_fault at ordered ≡ None → IsAccepted objects at
-accepted_with objects at functions ordered are order fine =
+accepted_with : (before : Option Arch) (objects : List Object) (at : ℕ) (functions : List Function) (ordered : List Entry) → functions_of (first_item before) objects ≡ Ok functions → mixed_fault before objects ≡ None → InOrder (map entry_of functions) ordered
+    → link_fault at ordered ≡ None → IsAccepted before objects at
+accepted_with before objects at functions ordered are unmixed order fine =
+    let one = is_one (machines_of before objects) unmixed in
     let two = none_of (option_map link.Gather (functions_fault ordered)) (option_map link.OutOfReach (first_out_of_reach at 0 (kept_of ordered))) fine in
     let checks = none_of (limits_fault ordered) (option_map overlap_fault (overlap_in (spans_of ordered))) (no_mapped link.Gather (functions_fault ordered) two.0) in
     let count = length_permutation (map entry_of functions) ordered order.moved in
@@ -221,6 +226,8 @@ accepted_with objects at functions ordered are order fine =
     record {
       functions = functions;
       are = are;
+      arch = one.arch;
+      machine = one.all;
       few = (let mapped = length-map functions entry_of in omega (arith, count, few, mapped));
       few_rows = omega (arith, same, rows);
       apart = λ address. (let most = one_at_most address 0 ordered apart in let moved = sum_by-IsPermutation (one_at address) (map entry_of functions) ordered order.moved in omega (arith, most, moved));
@@ -229,14 +236,15 @@ accepted_with objects at functions ordered are order fine =
       near = no_mapped link.OutOfReach (first_out_of_reach at 0 (kept_of ordered)) two.1;
     }
 
-accepted_from : (objects : List Object) (at : ℕ) (given : Result (List Function) GatherFault) (ordered : List Entry) → functions_of 0 objects ≡ given → LinksFrom at given (Ok ordered) → IsAccepted objects at
-accepted_from objects at (Ok functions) ordered e (other, order, is) =
+accepted_from : (before : Option Arch) (objects : List Object) (at : ℕ) (given : Result (List Function) GatherFault) (ordered : List Entry) → all_functions before objects ≡ given → LinksFrom at given (Ok ordered) → IsAccepted before objects at
+accepted_from before objects at (Ok functions) ordered e (other, order, is) =
+    let parts = parts_of (functions_of (first_item before) objects) (mixed_fault before objects) functions e in
     let two = ok_is (link_fault at other) ordered other is in
-    accepted_with objects at functions other e order two.0
-accepted_from objects at (Err fault) ordered e is = cc
+    accepted_with before objects at functions other parts.are parts.one order two.0
+accepted_from before objects at (Err fault) ordered e is = cc
 
-pub links_accepted : (objects : List Object) (at : ℕ) (ordered : List Entry) → Links objects at (Ok ordered) → IsAccepted objects at
-links_accepted objects at ordered h = accepted_from objects at (functions_of 0 objects) ordered refl h
+pub links_accepted : (before : Option Arch) (objects : List Object) (at : ℕ) (ordered : List Entry) → Links before objects at (Ok ordered) → IsAccepted before objects at
+links_accepted before objects at ordered h = accepted_from before objects at (all_functions before objects) ordered refl h
 
 fine_in_order : (at : ℕ) (functions : List Function) (ordered : List Entry) → InOrder (map entry_of functions) ordered → length functions ≤ 2 ^ 21 → sum_by entry_rows (map entry_of functions) ≤ 2 ^ 24
     → ((address : ℕ) → how_many_at address (map entry_of functions) ≤ 1) → first_out_of_reach at 0 (kept_of ordered) ≡ None → link_fault at ordered ≡ None
@@ -250,8 +258,10 @@ fine_in_order at functions ordered order few rows apart near =
     ∙ ap (λ (x : Option (Span × Span)). or_later (option_map link.Gather (option_map overlap_fault x)) (option_map link.OutOfReach (first_out_of_reach at 0 (kept_of ordered)))) alone
     ∙ ap (option_map link.OutOfReach) near
 
-pub accepted_links : (objects : List Object) (at : ℕ) (h : IsAccepted objects at) → Links objects at (Ok h.ordered)
-accepted_links objects at h =
+pub accepted_links : (before : Option Arch) (objects : List Object) (at : ℕ) (h : IsAccepted before objects at) → Links before objects at (Ok h.ordered)
+accepted_links before objects at h =
     let fine = fine_in_order at h.functions h.ordered h.in_order h.few h.few_rows h.apart h.near in
-    subst (λ (given : Result (List Function) GatherFault). LinksFrom at given (Ok h.ordered)) (sym h.are)
+    let read : all_functions before objects ≡ Ok h.functions = ap (λ (given : Result (List Function) GatherFault). by_parts given (mixed_fault before objects)) h.are
+    ∙ ap (λ (mixed : Option GatherFault). by_parts (Ok h.functions) mixed) (one_is_unmixed h.arch (machines_of before objects) h.machine) in
+    subst (λ (given : Result (List Function) GatherFault). LinksFrom at given (Ok h.ordered)) (sym read)
     (h.ordered, h.in_order, sym (ap (λ (x : Option LinkFault). unless_fault x h.ordered) fine))

@@ -1,46 +1,29 @@
 -- The section of gathered functions is faithful.
 use Rattle.std.specs.Option.{option_map}
-use Rattle.std.proofs.Common.{◌≡◌, ℕ, List, [], ◌∷◌, length, map, Option, Some, None, Result, Ok, Err, refl, sym, ap, subst, ◌∙◌}
+use Rattle.std.proofs.Common.{◌≡◌, ℕ, List, length, map, Option, Some, None, Result, Ok, Err, refl, sym, ap, subst, ◌∙◌}
 use Rattle.sf_model.specs.declared.machine.Arch.{Arch}
 use Rattle.sf_model.specs.declared.function.Func.{Func}
 use Rattle.sf_model.specs.declared.omission.Omitted.{Omitted}
 use Rattle.sf_model.specs.declared.omission.Span.{Span}
 use Rattle.sf_model.specs.Section.{Section}
 use Rattle.sf_model.specs.Tight.{Narrow, Tight}
-use Rattle.sf_write.specs.Reach.{first_out_of_reach}
+use Rattle.sf_write.specs.declared.fault.WriteFault.{WriteFault}
+use Rattle.sf_write.specs.declared.fault.WriteFault.TheVariants.{OutOfReach}
+use Rattle.sf_write.specs.Reach.{Refuses, first_out_of_reach}
 use Rattle.sf_write.specs.Section.{table_of}
 use Rattle.sf_asm.specs.declared.entry.Entry.{Entry}
 use Rattle.sf_asm.specs.declared.fault.GatherFault.{GatherFault}
 use Rattle.sf_asm.specs.declared.fault.LinkFault.TheVariants as link
-use Rattle.sf_asm.specs.Answers.{AreGathered, IsAssembled}
-use Rattle.sf_asm.specs.Entry.{kept_of, spans_of}
+use Rattle.sf_asm.specs.Answers.{IsLinked}
+use Rattle.sf_asm.specs.Entry.{kept_of, omitted_of, spans_of}
 use Rattle.sf_asm.specs.Faithful.{Faithful}
-use Rattle.sf_asm.specs.Functions.{Function, Object, functions_of, machine_of}
+use Rattle.sf_asm.specs.Functions.{Function, Object}
+use Rattle.sf_asm.specs.Inputs.{HaveMachine, all_functions}
 use Rattle.sf_asm.specs.Kept.{entry_of}
 use Rattle.sf_asm.specs.Linking.{InOrder, overlap_fault, overlap_in, limits_fault, functions_fault, link_fault, or_later, unless_fault, Gathers, GathersFrom, Links, LinksFrom}
 use Rattle.sf_asm.proofs.Agreeing.{recovers_by_dwarf}
+use Rattle.sf_asm.proofs.GatheredInputs.{are_read, checked_is}
 use Rattle.sf_asm.proofs.Walking.{walks_by_dwarf}
-
--- what inputs come to of which none is refused
-pub record AreRead (objects : List Object) (ordered : List Entry) : Type 0 where
-  pub functions : List Function
-  pub are : functions_of 0 objects ≡ Ok functions
-  pub in_order : InOrder (map entry_of functions) ordered
-  pub checked : functions_fault ordered ≡ None
-
-checked_is : (fault : Option GatherFault) (ordered other : List Entry) → Ok ordered ≡ unless_fault fault other → (fault ≡ None) × (other ≡ ordered)
-checked_is None ordered other e = let is : ordered ≡ other = cc in (refl, sym is)
-checked_is (Some fault) ordered other e = cc
-
-ordered_is : (objects : List Object) (given : Result (List Function) GatherFault) (ordered : List Entry) → functions_of 0 objects ≡ given
-    → GathersFrom given (Ok ordered) → AreRead objects ordered
-ordered_is objects (Ok functions) ordered e (other, order, is) =
-    let two = checked_is (functions_fault other) ordered other is in
-    record { functions = functions; are = e; in_order = subst (InOrder (map entry_of functions)) two.1 order; checked = subst (λ (es : List Entry). functions_fault es ≡ None) two.1 two.0 }
-ordered_is objects (Err fault) ordered e is = cc
-
-pub are_read : (objects : List Object) (ordered : List Entry) → Gathers objects (Ok ordered) → AreRead objects ordered
-are_read objects ordered h = ordered_is objects (functions_of 0 objects) ordered refl h
 
 -- no overlap among them
 apart_from : (limits : Option GatherFault) (pair : Option (Span × Span)) → or_later limits (option_map overlap_fault pair) ≡ None → pair ≡ None
@@ -64,23 +47,24 @@ reached : (at : ℕ) (ordered : List Entry) → functions_fault ordered ≡ None
 reached at ordered checked near =
     ap (λ (fault : Option GatherFault). or_later (option_map link.Gather fault) (option_map link.OutOfReach (first_out_of_reach at 0 (kept_of ordered)))) checked ∙ ap (option_map link.OutOfReach) near
 
-pub assembled : (object : Object) (at : ℕ) (section : List ℕ) (kept : ℕ) (functions : List Func) (omitted : List Omitted) (spans : List Span) → AreGathered (object ∷ []) functions omitted spans
-    → Section section at (table_of (machine_of object) functions) → Tight section at (table_of (machine_of object) functions) → Narrow section (table_of (machine_of object) functions)
-    → first_out_of_reach at 0 functions ≡ None → kept ≡ length functions → IsAssembled object at section kept omitted
-assembled object at section kept functions omitted spans h is tight narrow near count =
-    let read = are_read (object ∷ []) h.ordered h.is in
-    let arch = machine_of object in
+pub linked : (before : Option Arch) (objects : List Object) (at : ℕ) (section : List ℕ) (kept : ℕ) (arch : Arch) (functions : List Func) (omitted : List Omitted) (ordered : List Entry) → Gathers before objects (Ok ordered) → HaveMachine before objects arch
+    → functions ≡ kept_of ordered → omitted ≡ omitted_of ordered → Section section at (table_of arch functions) → Tight section at (table_of arch functions) → Narrow section (table_of arch functions)
+    → first_out_of_reach at 0 functions ≡ None → kept ≡ length functions → IsLinked before objects at section kept omitted
+linked before objects at section kept arch functions omitted ordered h machine kept_are omitted_are is tight narrow near count =
+    let read = are_read before objects ordered h in
     record {
       functions = read.functions;
       are = read.are;
-      ordered = h.ordered;
+      arch = arch;
+      machine = machine;
+      ordered = ordered;
       in_order = read.in_order;
-      accepted = reached at h.ordered read.checked (subst (λ (fs : List Func). first_out_of_reach at 0 fs ≡ None) h.kept_are near);
-      faithful = faithful section at arch read.functions h.ordered read.in_order read.checked (subst (λ (fs : List Func). Section section at (table_of arch fs)) h.kept_are is);
-      tight = subst (λ (fs : List Func). Tight section at (table_of arch fs)) h.kept_are tight;
-      narrow = subst (λ (fs : List Func). Narrow section (table_of arch fs)) h.kept_are narrow;
-      kept_is = count ∙ ap length h.kept_are;
-      omitted_are = h.omitted_are;
+      accepted = reached at ordered read.checked (subst (λ (fs : List Func). first_out_of_reach at 0 fs ≡ None) kept_are near);
+      faithful = faithful section at arch read.functions ordered read.in_order read.checked (subst (λ (fs : List Func). Section section at (table_of arch fs)) kept_are is);
+      tight = subst (λ (fs : List Func). Tight section at (table_of arch fs)) kept_are tight;
+      narrow = subst (λ (fs : List Func). Narrow section (table_of arch fs)) kept_are narrow;
+      kept_is = count ∙ ap length kept_are;
+      omitted_are = omitted_are;
     }
 
 -- ---- faults
@@ -94,8 +78,8 @@ gathered_refused objects at (Ok functions) fault (ordered, order, is) = (ordered
         sym (ap (λ (first : Option GatherFault). unless_fault (or_later (option_map link.Gather first) (option_map link.OutOfReach (first_out_of_reach at 0 (kept_of ordered)))) ordered) e ∙ ap (λ (x : GatherFault). Err (link.Gather x)) (sym same))
 gathered_refused objects at (Err other) fault is = ap (λ (x : GatherFault). Err (link.Gather x)) (let same : fault ≡ other = cc in same)
 
-pub not_gathered : (objects : List Object) (at : ℕ) (fault : GatherFault) → Gathers objects (Err fault) → Links objects at (Err (link.Gather fault))
-not_gathered objects at fault h = gathered_refused objects at (functions_of 0 objects) fault h
+pub not_gathered : (before : Option Arch) (objects : List Object) (at : ℕ) (fault : GatherFault) → Gathers before objects (Err fault) → Links before objects at (Err (link.Gather fault))
+not_gathered before objects at fault h = gathered_refused objects at (all_functions before objects) fault h
 
 out_of_reach : (at : ℕ) (given : Result (List Function) GatherFault) (ordered : List Entry) (start : ℕ) → first_out_of_reach at 0 (kept_of ordered) ≡ Some start → GathersFrom given (Ok ordered) → LinksFrom at given (Err (link.OutOfReach start))
 out_of_reach at (Ok functions) ordered start far (other, order, is) =
@@ -108,6 +92,10 @@ out_of_reach at (Ok functions) ordered start far (other, order, is) =
     )
 out_of_reach at (Err fault) ordered start far is = cc
 
-pub not_reached : (objects : List Object) (at : ℕ) (functions : List Func) (omitted : List Omitted) (spans : List Span) (start : ℕ) → AreGathered objects functions omitted spans → first_out_of_reach at 0 functions ≡ Some start
-    → Links objects at (Err (link.OutOfReach start))
-not_reached objects at functions omitted spans start h far = out_of_reach at (functions_of 0 objects) h.ordered start (subst (λ (fs : List Func). first_out_of_reach at 0 fs ≡ Some start) h.kept_are far) h.is
+pub reach_refused : (fault : WriteFault) (start : ℕ) (far : Option ℕ) → fault ≡ OutOfReach start → Refuses fault far → far ≡ Some start
+reach_refused fault start far is h = subst (λ (f : WriteFault). Refuses f far) is h
+
+pub not_reached : (before : Option Arch) (objects : List Object) (at : ℕ) (functions : List Func) (ordered : List Entry) (start : ℕ) → Gathers before objects (Ok ordered) → functions ≡ kept_of ordered → first_out_of_reach at 0 functions ≡ Some start
+    → Links before objects at (Err (link.OutOfReach start))
+not_reached before objects at functions ordered start h kept_are far =
+    out_of_reach at (all_functions before objects) ordered start (subst (λ (fs : List Func). first_out_of_reach at 0 fs ≡ Some start) kept_are far) h

@@ -1,6 +1,6 @@
 -- The sections of a file that was placed.
 use Rattle.std.specs.Prelude.{◌⊎◌}
-use Rattle.std.proofs.Common.{◌≡◌, ℕ, ◌+◌, ◌-◌, ◌%◌, ◌^◌, Bool, List, [], ◌∷◌, map, Option, Result, Ok, Err, refl, sym, ap, subst, ◌∙◌, inl, inr}
+use Rattle.std.proofs.Common.{◌≡◌, ℕ, ◌+◌, ◌-◌, ◌%◌, ◌^◌, Bool, List, map, Option, Result, Ok, Err, refl, sym, ap, ◌∙◌, inl, inr}
 use Rattle.elf_read.specs.Header.{arch_of}
 use Rattle.elf_read.specs.Sections.{section_bytes, section_count}
 use Rattle.elf_place.specs.declared.fault.PlaceFault.{PlaceFault}
@@ -62,31 +62,31 @@ placed_is p shift number address bytes given e f g =
     ∙ ap (λ (x : Result (List Fix) RelocFault). frames_by number (section_bytes p.file number) ((section_address p number + (2 ^ 64 - shift)) % 2 ^ 64) shift x) g
 
 -- ---- a file
-abbrev by_checks : (item : ℕ) → (file : List ℕ) → (base : ℕ) → Result (Unit {0}) AsmFault → Result (Unit {0}) PlaceFault → Result (List Function) AsmFault
-by_checks item file base linked placed =
-    (linked >>= λ _. named asm.Place placed >>= λ _. Ok (map (placed_section (placing_of [] file base) (shift_of file base)) (eh_frames_below file (dropped_after [] file) (section_count file))))
+abbrev by_checks : (item : ℕ) → (seen : List (List ℕ)) → (file : List ℕ) → (base : ℕ) → Result (Unit {0}) AsmFault → Result (Unit {0}) PlaceFault → Result (List Function) AsmFault
+by_checks item seen file base linked placed =
+    (linked >>= λ _. named asm.Place placed >>= λ _. Ok (map (placed_section (placing_of seen file base) (shift_of file base)) (eh_frames_below file (dropped_after seen file) (section_count file))))
     >>= sections_functions (arch_of file) item
 
-abbrev pub file_functions : (item : ℕ) → (file : List ℕ) → (base : ℕ) → Result (List Function) AsmFault
-file_functions item file base = object_functions item [] (record { form = Elf; bytes = file; base = base })
+abbrev pub file_functions : (item : ℕ) → (seen : List (List ℕ)) → (file : List ℕ) → (base : ℕ) → Result (List Function) AsmFault
+file_functions item seen file base = object_functions item seen (record { form = Elf; bytes = file; base = base })
 
-pub file_refused : (item : ℕ) (file : List ℕ) (base : ℕ) (fault : AsmFault) → linked_check file ≡ Err fault → file_functions item file base ≡ Err fault
-file_refused item file base fault e = ap (λ (x : Result (Unit {0}) AsmFault). by_checks item file base x (place_check file (dropped_after [] file) base)) e
+pub file_refused : (item : ℕ) (seen : List (List ℕ)) (file : List ℕ) (base : ℕ) (fault : AsmFault) → linked_check file ≡ Err fault → file_functions item seen file base ≡ Err fault
+file_refused item seen file base fault e = ap (λ (x : Result (Unit {0}) AsmFault). by_checks item seen file base x (place_check file (dropped_after seen file) base)) e
 
-unplaced : (item : ℕ) (file : List ℕ) (base : ℕ) (fault : AsmFault) (check : Result (Unit {0}) PlaceFault) → named asm.Place check ≡ Err fault → by_checks item file base (Ok tt) check ≡ Err fault
-unplaced item file base fault (Ok x) e = cc
-unplaced item file base fault (Err x) e = ap Err (let is : asm.Place x ≡ fault = cc in is)
+unplaced : (item : ℕ) (seen : List (List ℕ)) (file : List ℕ) (base : ℕ) (fault : AsmFault) (check : Result (Unit {0}) PlaceFault) → named asm.Place check ≡ Err fault → by_checks item seen file base (Ok tt) check ≡ Err fault
+unplaced item seen file base fault (Ok x) e = cc
+unplaced item seen file base fault (Err x) e = ap Err (let is : asm.Place x ≡ fault = cc in is)
 
-pub file_unplaced : (item : ℕ) (file : List ℕ) (base : ℕ) (fault : AsmFault) → linked_check file ≡ Ok tt → named asm.Place (place_check file (dropped_after [] file) base) ≡ Err fault → file_functions item file base ≡ Err fault
-file_unplaced item file base fault e f =
-    ap (λ (x : Result (Unit {0}) AsmFault). by_checks item file base x (place_check file (dropped_after [] file) base)) e
-    ∙ unplaced item file base fault (place_check file (dropped_after [] file) base) f
+pub file_unplaced : (item : ℕ) (seen : List (List ℕ)) (file : List ℕ) (base : ℕ) (fault : AsmFault) → linked_check file ≡ Ok tt → named asm.Place (place_check file (dropped_after seen file) base) ≡ Err fault → file_functions item seen file base ≡ Err fault
+file_unplaced item seen file base fault e f =
+    ap (λ (x : Result (Unit {0}) AsmFault). by_checks item seen file base x (place_check file (dropped_after seen file) base)) e
+    ∙ unplaced item seen file base fault (place_check file (dropped_after seen file) base) f
 
-pub file_is : (item : ℕ) (file : List ℕ) (base : ℕ) (p : Placed) → linked_check file ≡ Ok tt → place_check file (dropped_after [] file) base ≡ Ok tt → IsPlacing [] file base p
-    → file_functions item file base ≡ sections_functions (arch_of file) item (map (placed_section (view.placing p) (view.shift_in p)) (view.eh_frames p))
-file_is item file base p e f placed =
-    ap (λ (x : Result (Unit {0}) AsmFault). by_checks item file base x (place_check file (dropped_after [] file) base)) e
-    ∙ ap (λ (x : Result (Unit {0}) PlaceFault). by_checks item file base (Ok tt) x) f
-    ∙ ap (λ (x : view.Placing). sections_functions (arch_of file) item (map (placed_section x (shift_of file base)) (eh_frames_below file (dropped_after [] file) (section_count file)))) (sym placed.placing)
-    ∙ ap (λ (x : ℕ). sections_functions (arch_of file) item (map (placed_section (view.placing p) x) (eh_frames_below file (dropped_after [] file) (section_count file)))) (sym placed.shift)
+pub file_is : (item : ℕ) (seen : List (List ℕ)) (file : List ℕ) (base : ℕ) (p : Placed) → linked_check file ≡ Ok tt → place_check file (dropped_after seen file) base ≡ Ok tt → IsPlacing seen file base p
+    → file_functions item seen file base ≡ sections_functions (arch_of file) item (map (placed_section (view.placing p) (view.shift_in p)) (view.eh_frames p))
+file_is item seen file base p e f placed =
+    ap (λ (x : Result (Unit {0}) AsmFault). by_checks item seen file base x (place_check file (dropped_after seen file) base)) e
+    ∙ ap (λ (x : Result (Unit {0}) PlaceFault). by_checks item seen file base (Ok tt) x) f
+    ∙ ap (λ (x : view.Placing). sections_functions (arch_of file) item (map (placed_section x (shift_of file base)) (eh_frames_below file (dropped_after seen file) (section_count file)))) (sym placed.placing)
+    ∙ ap (λ (x : ℕ). sections_functions (arch_of file) item (map (placed_section (view.placing p) x) (eh_frames_below file (dropped_after seen file) (section_count file)))) (sym placed.shift)
     ∙ ap (λ (x : List ℕ). sections_functions (arch_of file) item (map (placed_section (view.placing p) (view.shift_in p)) x)) (sym placed.sections)

@@ -1,5 +1,5 @@
 -- The groups that are gone, one section after the other.
-use Rattle.std.proofs.Common.{◌≡◌, ℕ, zero, suc, ◌+◌, Bool, true, false, cond, List, [], ◌∷◌, ◌++◌, refl, sym, ap, ◌∙◌, add-one}
+use Rattle.std.proofs.Common.{◌≡◌, ℕ, ◌+◌, Bool, true, false, cond, List, [], ◌∷◌, ◌++◌, refl, sym, ap, ◌∙◌, add-one}
 use Rattle.sf_asm.specs.Groups.{gone_below, is_repeated, seen_below, signature_of, with_signature}
 
 pub none_gone : (seen : List (List ℕ)) (file : List ℕ) → gone_below seen file 0 ≡ []

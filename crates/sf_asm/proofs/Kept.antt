@@ -1,13 +1,14 @@
 -- The kept ones of functions that are apart can be written.
 use Rattle.std.proofs.Common.{◌≡◌, ℕ, zero, suc, ◌+◌, ◌^◌, ◌<◌, ◌≤◌, Bool, true, false, ◌&&◌, cond, eqb, leb, List, [], ◌∷◌, ◌++◌, length, get_or, sum_by, Option, Some, None, refl, sym, ap, ◌∙◌, add-one, arith, inl, inr}
-use Rattle.std.specs.Prelude.{All, nat_lt}
+use Rattle.std.specs.Prelude.{All, nat_lt, not}
 use Rattle.std.specs.Option.{option_map}
-use Rattle.std.specs.List.{AllByRecursion}
-use Rattle.std.proofs.lemmas.Bool.{cases_lt, le-leb, ltb-false, eqb-true}
+use Rattle.std.specs.List.{AllByRecursion, filter}
+use Rattle.std.proofs.lemmas.Bool.{cases_lt, le-leb, leb-true, ltb-false, eqb-true}
 use Rattle.std.proofs.lemmas.Bool.Decides.{nat_tests}
 use Rattle.std.proofs.lemmas.List.{append-nil}
 use Rattle.std.proofs.lemmas.List.Sums.{sum_by-cons}
-use Rattle.std.proofs.lemmas.List.Elements.{recursion_from_All, All-from_recursion, filter_map-append}
+use Rattle.std.proofs.lemmas.List.Elements.{recursion_from_All, All-filter, All-from_recursion, filter_map-append}
+use Rattle.std.proofs.lemmas.List.Filters.{length-filter_both, sum_by-filter_both}
 use Rattle.sf_model.specs.declared.machine.Arch.{Arch}
 use Rattle.sf_model.specs.declared.function.Func.{Func}
 use Rattle.sf_model.specs.declared.omission.Omission.{Omission}
@@ -141,18 +142,70 @@ kept_AreWritable arch es sound apart few small =
     }
 
 -- those of which none is refused
+none_first : (a b : Option GatherFault) → or_later a b ≡ None → (a ≡ None) × (b ≡ None)
+none_first None b e = (refl, e)
+none_first (Some fault) b e = cc
+
+none_mapped : (pair : Option (Span × Span)) → option_map overlap_fault pair ≡ None → pair ≡ None
+none_mapped None e = refl
+none_mapped (Some pair) e = cc
+
+both_tests : (a b : Bool) → (a && b) ≡ true → (a ≡ true) × (b ≡ true)
+both_tests true b e = (refl, e)
+both_tests false b e = cc
+
 pub kept_of_checked : (arch : Arch) (es : List Entry) → All (IsSound arch) es → functions_fault es ≡ None → AreWritable arch (kept_of es)
 kept_of_checked arch es sound h =
-    let limits = no_first (limits_fault es) (option_map overlap_fault (overlap_in (spans_of es))) h in
-    kept_AreWritable arch es sound (not_overlapping_apart es (no_mapped (overlap_in (spans_of es)) limits.1)) (few_functions es limits.0) (few_rows es limits.0)
-  where
-    no_first : (a b : Option GatherFault) → or_later a b ≡ None → (a ≡ None) × (b ≡ None)
-    no_first None b e = (refl, e)
-    no_first (Some fault) b e = cc
+    let limits = none_first (limits_fault es) (option_map overlap_fault (overlap_in (spans_of es))) h in
+    kept_AreWritable arch es sound (not_overlapping_apart es (none_mapped (overlap_in (spans_of es)) limits.1)) (few_functions es limits.0) (few_rows es limits.0)
 
-    no_mapped : (pair : Option (Span × Span)) → option_map overlap_fault pair ≡ None → pair ≡ None
-    no_mapped None e = refl
-    no_mapped (Some pair) e = cc
+-- ---- some of them
+apart_earlier : (a b : ℕ) (es : List Entry) → a ≤ b → are_apart b es ≡ true → are_apart a es ≡ true
+apart_earlier a b [] le h = refl
+apart_earlier a b (e ∷ es) le h = at_size (eqb e.span.size 0) refl h (λ rest. apart_earlier a b es le rest)
+  where
+    at_size : (empty : Bool) → eqb e.span.size 0 ≡ empty → cond empty (are_apart b es) (leb b e.span.start && are_apart (e.span.start + e.span.size) es) ≡ true → (are_apart b es ≡ true → are_apart a es ≡ true)
+        → cond (eqb e.span.size 0) (are_apart a es) (leb a e.span.start && are_apart (e.span.start + e.span.size) es) ≡ true
+    at_size true t h skipped = rw t (skipped h)
+    at_size false t h skipped =
+        let two = both_tests (leb b e.span.start) (are_apart (e.span.start + e.span.size) es) h in
+        let low = leb-true b e.span.start two.0 in
+        rw (t, le-leb a e.span.start (omega (arith, low, le))) two.1
+
+apart_some : (p : Entry → Bool) (end : ℕ) (es : List Entry) → are_apart end es ≡ true → are_apart end (filter p es) ≡ true
+apart_some p end [] h = refl
+apart_some p end (e ∷ es) h = at_size (eqb e.span.size 0) refl h (λ rest. apart_some p end es rest) (λ rest. apart_some p (e.span.start + e.span.size) es rest)
+  where
+    at_size : (empty : Bool) → eqb e.span.size 0 ≡ empty → cond empty (are_apart end es) (leb end e.span.start && are_apart (e.span.start + e.span.size) es) ≡ true
+        → (are_apart end es ≡ true → are_apart end (filter p es) ≡ true) → (are_apart (e.span.start + e.span.size) es ≡ true → are_apart (e.span.start + e.span.size) (filter p es) ≡ true)
+        → are_apart end (filter p (e ∷ es)) ≡ true
+    at_size true t h skipped on = at_test (p e) refl (skipped h)
+      where
+        at_test : (b : Bool) → p e ≡ b → are_apart end (filter p es) ≡ true → are_apart end (cond (p e) (e ∷ filter p es) (filter p es)) ≡ true
+        at_test true s rest = rw (s, t) rest
+        at_test false s rest = rw s rest
+    at_size false t h skipped on = at_test (p e) refl (both_tests (leb end e.span.start) (are_apart (e.span.start + e.span.size) es) h)
+      where
+        at_test : (b : Bool) → p e ≡ b → (leb end e.span.start ≡ true) × (are_apart (e.span.start + e.span.size) es ≡ true) → are_apart end (cond (p e) (e ∷ filter p es) (filter p es)) ≡ true
+        at_test true s two = rw (s, t, two.0) (on two.1)
+        at_test false s two =
+            let low = leb-true end e.span.start two.0 in
+            rw s (apart_earlier end (e.span.start + e.span.size) (filter p es) (omega (arith, low)) (on two.1))
+
+fewer : (p : Entry → Bool) (es : List Entry) → (length (filter p es) ≤ length es) × (sum_by entry_rows (filter p es) ≤ sum_by entry_rows es)
+fewer p es =
+    let lengths = length-filter_both p (λ e. not (p e)) (λ e. refl) es in
+    let rows = sum_by-filter_both p (λ e. not (p e)) (λ e. refl) entry_rows es in
+    (omega (arith, lengths), omega (arith, rows))
+
+pub some_kept_of_checked : (p : Entry → Bool) (arch : Arch) (es : List Entry) → All (IsSound arch) es → functions_fault es ≡ None → AreWritable arch (kept_of (filter p es))
+some_kept_of_checked p arch es sound h =
+    let limits = none_first (limits_fault es) (option_map overlap_fault (overlap_in (spans_of es))) h in
+    let less = fewer p es in
+    let few = few_functions es limits.0 in
+    let rows = few_rows es limits.0 in
+    kept_AreWritable arch (filter p es) (All-filter p (IsSound arch) es sound)
+    (apart_some p 0 es (not_overlapping_apart es (none_mapped (overlap_in (spans_of es)) limits.1))) (omega (arith, less.0, few)) (omega (arith, less.1, rows))
 
 -- one more function
 pub kept_of-kept : (es : List Entry) (e : Entry) (f : Func) → e.outcome ≡ Kept f → kept_of (es ++ e ∷ []) ≡ kept_of es ++ f ∷ []

@@ -1,6 +1,11 @@
 pub mod Kept
 pub mod Overlaps
 pub mod ReadFunctions
+pub mod ReadInputs
+pub mod Machines
+pub mod Items
+pub mod HandedOut
+pub mod GatheredInputs
 pub mod SortedFixes
 pub mod Relocating
 pub mod Patching

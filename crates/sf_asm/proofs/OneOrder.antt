@@ -4,12 +4,14 @@ use Rattle.std.specs.List.{filter}
 use Rattle.std.specs.List.Sorted.{IsNonDecreasingBy, ties}
 use Rattle.std.specs.Ordering.{nat_cmp, is_lt}
 use Rattle.std.specs.declared.cmp.Ordering.TheVariants.{Less, Equal, Greater}
-use Rattle.std.proofs.Common.{◌≡◌, ℕ, suc, ◌<◌, ◌≤◌, Bool, true, false, cond, eqb, List, [], ◌∷◌, length, get_or, map, Result, Ok, Err, refl, sym, ap, ◌∙◌, arith, inl, inr}
+use Rattle.std.proofs.Common.{◌≡◌, ℕ, suc, ◌<◌, ◌≤◌, Bool, true, false, cond, eqb, List, [], ◌∷◌, length, get_or, map, Option, Result, Ok, Err, refl, sym, ap, ◌∙◌, arith, inl, inr}
 use Rattle.std.proofs.lemmas.Bool.{cases_lt, lt-ltb, le-ltb}
+use Rattle.sf_model.specs.declared.machine.Arch.{Arch}
 use Rattle.sf_asm.specs.declared.entry.Entry.{Entry}
 use Rattle.sf_asm.specs.declared.fault.GatherFault.{GatherFault}
 use Rattle.sf_asm.specs.declared.fault.LinkFault.{LinkFault}
-use Rattle.sf_asm.specs.Functions.{Function, Object, functions_of}
+use Rattle.sf_asm.specs.Functions.{Function, Object}
+use Rattle.sf_asm.specs.Inputs.{all_functions}
 use Rattle.sf_asm.specs.Kept.{entry_of}
 use Rattle.sf_asm.specs.Linking.{start_of, InOrder, link_fault, unless_fault, Links, LinksFrom}
 
@@ -106,5 +108,5 @@ result_from at (Ok functions) r r' (es, order, e) (fs, order', e') =
     e ∙ ap (λ (xs : List Entry). unless_fault (link_fault at xs) xs) same ∙ sym e'
 result_from at (Err fault) r r' e e' = e ∙ sym e'
 
-pub one_result : (objects : List Object) (at : ℕ) (r r' : Result (List Entry) LinkFault) → Links objects at r → Links objects at r' → r ≡ r'
-one_result objects at r r' h h' = result_from at (functions_of 0 objects) r r' h h'
+pub one_result : (before : Option Arch) (objects : List Object) (at : ℕ) (r r' : Result (List Entry) LinkFault) → Links before objects at r → Links before objects at r' → r ≡ r'
+one_result before objects at r r' h h' = result_from at (all_functions before objects) r r' h h'

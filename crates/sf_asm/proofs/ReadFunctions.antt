@@ -22,10 +22,8 @@ use Rattle.sf_asm.specs.declared.entry.Entry.{Entry}
 use Rattle.sf_asm.specs.declared.entry.Outcome.{Outcome}
 use Rattle.sf_asm.specs.declared.fault.AsmFault.{AsmFault}
 use Rattle.sf_asm.specs.declared.fault.AsmFault.TheVariants as asm
-use Rattle.sf_asm.specs.declared.fault.GatherFault.TheVariants as gather
 use Rattle.sf_asm.specs.Answers.{after_read, seen_as}
-use Rattle.sf_asm.specs.Fault.{wraps_input}
-use Rattle.sf_asm.specs.Functions.{◌>>=◌, Function, CallFrames, Object, named, unless, span_in, fault_in, function_at, function_in, functions_in, section_functions, sections_functions, object_functions, functions_of, functions_after}
+use Rattle.sf_asm.specs.Functions.{◌>>=◌, Function, CallFrames, named, unless, span_in, fault_in, function_at, function_in, functions_in, section_functions, sections_functions}
 use Rattle.sf_asm.specs.Relocated.{Values, on_pointers, patched_values, pointer_check}
 use Rattle.sf_asm.specs.Kept.{full_row, says_of, facts_of, outcome_by, entry_of}
 
@@ -100,7 +98,7 @@ passes_on arch item section values before f left after all p dropped h =
 pub is_done : (arch : Arch) (item : ℕ) (section : CallFrames) (values : Values) (before : List Entry) (left : List FdeView) (all : Result (List Entry) AsmFault) → left ≡ [] → after_read before (read_of arch item section values left) ≡ all → all ≡ Ok before
 is_done arch item section values before left all p h = sym h ∙ ap (λ (fs : List FdeView). after_read before (read_of arch item section values fs)) p ∙ ap Ok (append-nil before)
 
-pub refused_unseen : (before : List Entry) (given : Result (List Function) AsmFault) (fault : AsmFault) → after_read before (seen_as (map entry_of) given) ≡ Err fault → given ≡ Err fault
+pub refused_unseen : {F : Type 0} (before : List Entry) (given : Result (List Function) F) (fault : F) → after_read before (seen_as (map entry_of) given) ≡ Err fault → given ≡ Err fault
 refused_unseen before (Ok fs) fault e = cc
 refused_unseen before (Err other) fault e = ap Err (let is : other ≡ fault = cc in is)
 
@@ -176,7 +174,7 @@ section_read arch item s ss before after e = both_read before after (section_fun
 pub section_refused : (arch : Arch) (item : ℕ) (s : CallFrames) (ss : List CallFrames) (fault : AsmFault) → section_functions arch item s ≡ Err fault → sections_functions arch item (s ∷ ss) ≡ Err fault
 section_refused arch item s ss fault e = ap (λ (one : Result (List Function) AsmFault). one >>= λ fs. sections_functions arch item ss >>= λ gs. Ok (fs ++ gs)) e
 
-pub from_none : (given : Result (List Entry) AsmFault) → after_read [] given ≡ given
+pub from_none : {F : Type 0} (given : Result (List Entry) F) → after_read [] given ≡ given
 from_none (Ok entries) = refl
 from_none (Err fault) = refl
 
@@ -201,30 +199,3 @@ sections_end arch item section numbers k d before fault given within e h =
     (from_none (seen_as (map entry_of) given) ∙ sym h
     ∙ ap (λ (xs : List ℕ). after_read before (seen_as (map entry_of) (sections_functions arch item (map section xs)))) (drop-cons numbers k d within)
     ∙ ap (λ (r : Result (List Function) AsmFault). after_read before (seen_as (map entry_of) r)) (section_refused arch item (section (get_or numbers k d)) (map section (drop (suc k) numbers)) fault e))
-
--- ---- the first input
-alone_first : (given : Result (List Function) AsmFault) (entries : List Entry) → seen_as (map entry_of) given ≡ Ok entries
-    → seen_as (map entry_of) (named (gather.Input 0) given >>= λ fs. Ok (fs ++ [])) ≡ Ok entries
-alone_first (Ok fs) entries e = ap (λ (xs : List Function). Ok (map entry_of xs)) (append-nil fs) ∙ ap Ok (let is : map entry_of fs ≡ entries = cc in is)
-alone_first (Err fault) entries e = cc
-
-pub first_reads : (object : Object) (entries : List Entry) → seen_as (map entry_of) (object_functions 0 [] object) ≡ Ok entries → seen_as (map entry_of) (functions_of 0 (object ∷ [])) ≡ Ok entries
-unfolding functions_after
-first_reads object entries e = alone_first (object_functions 0 [] object) entries e
-
-pub first_refused : (object : Object) (fault : AsmFault) → object_functions 0 [] object ≡ Err fault → functions_of 0 (object ∷ []) ≡ Err (gather.Input 0 fault)
-unfolding functions_after
-first_refused object fault e = ap (λ (given : Result (List Function) AsmFault). named (gather.Input 0) given >>= λ fs. Ok (fs ++ [])) e
-
-wrapped : (object : Object) (fault : AsmFault) → wraps_input 0 fault ≡ gather.Input 0 fault → (fault ≡ asm.NoMemory → ⊥) → (fault ≡ asm.NoMemory) ⊎ (object_functions 0 [] object ≡ Err fault)
-    → (wraps_input 0 fault ≡ gather.NoMemory) ⊎ (functions_of 0 (object ∷ []) ≡ Err (wraps_input 0 fault))
-wrapped object fault is other (inl e) = absurd (other e)
-wrapped object fault is other (inr e) = inr (first_refused object fault e ∙ ap Err (sym is))
-
-pub first_wrapped : (object : Object) (fault : AsmFault) → (fault ≡ asm.NoMemory) ⊎ (object_functions 0 [] object ≡ Err fault) → (wraps_input 0 fault ≡ gather.NoMemory) ⊎ (functions_of 0 (object ∷ []) ≡ Err (wraps_input 0 fault))
-first_wrapped object asm.NoMemory h = inl refl
-first_wrapped object (asm.Elf fault) h = wrapped object (asm.Elf fault) refl (λ e. cc) h
-first_wrapped object (asm.Place fault) h = wrapped object (asm.Place fault) refl (λ e. cc) h
-first_wrapped object (asm.Reloc section fault) h = wrapped object (asm.Reloc section fault) refl (λ e. cc) h
-first_wrapped object (asm.Record section fault) h = wrapped object (asm.Record section fault) refl (λ e. cc) h
-first_wrapped object (asm.Machine section fault) h = wrapped object (asm.Machine section fault) refl (λ e. cc) h

@@ -1,11 +1,13 @@
--- Which inputs can be linked: all their functions can be read and run, they are within the limits, no address lies in two of them, and
--- each kept one is near enough to the section.
-use Rattle.std.specs.Prelude.{◌≡◌, ◌≤◌, ◌+◌, ◌^◌, ◌&&◌, ℕ, Bool, nat_le, nat_lt, List, map, length, sum_by, None, Ok, if◌then◌else◌}
+-- Which inputs can be linked: all their functions can be read and run, they are of one machine and within the limits, no address lies in
+-- two of them, and each kept one is near enough to the section.
+use Rattle.std.specs.Prelude.{◌≡◌, ◌≤◌, ◌+◌, ◌^◌, ◌&&◌, ℕ, Bool, nat_le, nat_lt, List, map, length, sum_by, Option, None, Ok, if◌then◌else◌}
+use Rattle.sf_model.specs.declared.machine.Arch.{Arch}
 use Rattle.sf_model.specs.declared.omission.Span.{Span}
 use Rattle.sf_write.specs.Reach.{first_out_of_reach}
 use Rattle.sf_asm.specs.declared.entry.Entry.{Entry}
 use Rattle.sf_asm.specs.Entry.{kept_of}
 use Rattle.sf_asm.specs.Functions.{Function, Object, functions_of}
+use Rattle.sf_asm.specs.Inputs.{HaveMachine, first_item}
 use Rattle.sf_asm.specs.Kept.{entry_of}
 use Rattle.sf_asm.specs.Linking.{InOrder}
 use Rattle.sf_asm.specs.Order.{entry_rows}
@@ -18,11 +20,14 @@ has_address address span = nat_le span.start address && nat_lt address (span.sta
 abbrev pub how_many_at : (address : ℕ) → List Entry → ℕ
 how_many_at address entries = sum_by (λ (e : Entry). if has_address address e.span then 1 else 0) entries
 
--- inputs that can be linked for a section at this address
-pub record IsAccepted (objects : List Object) (at : ℕ) : Type 0 where
+-- inputs, behind an item of this machine or of none, that can be linked for a section at this address
+pub record IsAccepted (before : Option Arch) (objects : List Object) (at : ℕ) : Type 0 where
   pub functions : List Function
   -- none is malformed
-  pub are : functions_of 0 objects ≡ Ok functions
+  pub are : functions_of (first_item before) objects ≡ Ok functions
+  -- all items have one machine
+  pub arch : Arch
+  pub machine : HaveMachine before objects arch
   -- functions, omitted ones included, and rows of kept ones
   pub few : length functions ≤ 2 ^ 21
   pub few_rows : sum_by entry_rows (map entry_of functions) ≤ 2 ^ 24

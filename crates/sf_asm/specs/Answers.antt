@@ -1,5 +1,6 @@
 -- What calls answer, by the definitions of what inputs come to.
 use Rattle.std.specs.Prelude.{◌≡◌, ◌⊎◌, ℕ, List, [], ◌∷◌, ◌++◌, map, length, Option, None, Result, Ok, Err}
+use Rattle.sf_model.specs.declared.machine.Arch.{Arch}
 use Rattle.sf_model.specs.declared.function.Func.{Func}
 use Rattle.sf_model.specs.declared.omission.Omitted.{Omitted}
 use Rattle.sf_model.specs.declared.omission.Span.{Span}
@@ -7,6 +8,7 @@ use Rattle.cfa_machine.specs.declared.fault.MachineFault.{MachineFault}
 use Rattle.eh_records.specs.declared.fault.RecordFault.{RecordFault}
 use Rattle.eh_records.specs.Section.{EntryView}
 use Rattle.elf_reloc.specs.declared.fault.RelocFault.{RelocFault}
+use Rattle.sf_model.specs.Function.{AreWritable}
 use Rattle.sf_model.specs.Tight.{Narrow, Tight}
 use Rattle.sf_write.specs.Section.{table_of}
 use Rattle.sf_asm.specs.declared.entry.Entry.{Entry}
@@ -16,9 +18,10 @@ use Rattle.sf_asm.specs.declared.fault.GatherFault.{GatherFault}
 use Rattle.sf_asm.specs.declared.fault.GatherFault.TheVariants as gather
 use Rattle.sf_asm.specs.declared.fault.LinkFault.{LinkFault}
 use Rattle.sf_asm.specs.declared.fault.LinkFault.TheVariants as link
-use Rattle.sf_asm.specs.Entry.{kept_of, omitted_of, spans_of}
+use Rattle.sf_asm.specs.Entry.{kept_by_item, kept_of, omitted_of, spans_of}
 use Rattle.sf_asm.specs.Faithful.{Faithful}
-use Rattle.sf_asm.specs.Functions.{Function, Object, functions_of, machine_of, named, unless}
+use Rattle.sf_asm.specs.Functions.{Function, Object, functions_of, named, unless}
+use Rattle.sf_asm.specs.Inputs.{HaveMachine, first_item}
 use Rattle.sf_asm.specs.Kept.{entry_of}
 use Rattle.sf_asm.specs.Linking.{Gathers, InOrder, Links, link_fault}
 
@@ -45,7 +48,7 @@ abbrev pub IsRelocFault : {X : Type 0} → (section : ℕ) → AsmFault → Resu
 IsRelocFault section fault given = (fault ≡ asm.NoMemory) ⊎ (named (asm.Reloc section) given ≡ Err fault)
 
 -- functions that were read before the others
-abbrev pub after_read : List Entry → Result (List Entry) AsmFault → Result (List Entry) AsmFault
+abbrev pub after_read : {F : Type 0} → List Entry → Result (List Entry) F → Result (List Entry) F
 after_read before (Ok entries) = Ok (before ++ entries)
 after_read before (Err fault) = Err fault
 
@@ -59,32 +62,42 @@ abbrev pub ReadsAll : {V : Type 0} → (V → List Entry) → Result V AsmFault 
 ReadsAll items (Ok entries) given = seen_as (map entry_of) given ≡ Ok (items entries)
 ReadsAll items (Err fault) given = (fault ≡ asm.NoMemory) ⊎ (given ≡ Err fault)
 
--- the functions of all inputs, sorted out in their order
-pub record AreGathered (objects : List Object) (kept : List Func) (omitted : List Omitted) (spans : List Span) : Type 0 where
+-- the functions of all inputs, behind an item of this machine or of none, sorted out in their order
+pub record AreGathered (before : Option Arch) (objects : List Object) (arch : Arch) (kept : List (List Func)) (omitted : List Omitted) (spans : List Span) : Type 0 where
   pub ordered : List Entry
-  pub is : Gathers objects (Ok ordered)
-  pub kept_are : kept ≡ kept_of ordered
+  pub is : Gathers before objects (Ok ordered)
+  -- a list for each input
+  pub kept_are : kept ≡ kept_by_item (first_item before) (length objects) ordered
+  -- one section can hold all of them
+  pub together : AreWritable arch (kept_of ordered)
   pub omitted_are : omitted ≡ omitted_of ordered
   pub spans_are : spans ≡ spans_of ordered
 
 -- a fault of gathering is the first one, or memory was wanting
-abbrev pub IsFirstGathered : List Object → GatherFault → Type 0
-IsFirstGathered objects fault = (fault ≡ gather.NoMemory) ⊎ Gathers objects (Err fault)
+abbrev pub IsFirstGathered : (before : Option Arch) → List Object → GatherFault → Type 0
+IsFirstGathered before objects fault = (fault ≡ gather.NoMemory) ⊎ Gathers before objects (Err fault)
 
--- These bytes are the section of an input: its functions are read and none is refused, the bytes are a faithful section of them,
--- without gaps and with the least widths, and so many functions are kept, and these are left out.
-pub record IsAssembled (object : Object) (at : ℕ) (section : List ℕ) (kept : ℕ) (omitted : List Omitted) : Type 0 where
+-- These bytes are the section of inputs behind an item of this machine or of none: their functions are read and none is refused, all
+-- items have one machine, the bytes are a faithful section of the functions, without gaps and with the least widths, and so many
+-- functions are kept, and these are left out.
+pub record IsLinked (before : Option Arch) (objects : List Object) (at : ℕ) (section : List ℕ) (kept : ℕ) (omitted : List Omitted) : Type 0 where
   pub functions : List Function
-  pub are : functions_of 0 (object ∷ []) ≡ Ok functions
+  pub are : functions_of (first_item before) objects ≡ Ok functions
+  pub arch : Arch
+  pub machine : HaveMachine before objects arch
   pub ordered : List Entry
   pub in_order : InOrder (map entry_of functions) ordered
   pub accepted : link_fault at ordered ≡ None
-  pub faithful : Faithful section at (machine_of object) functions
-  pub tight : Tight section at (table_of (machine_of object) (kept_of ordered))
-  pub narrow : Narrow section (table_of (machine_of object) (kept_of ordered))
+  pub faithful : Faithful section at arch functions
+  pub tight : Tight section at (table_of arch (kept_of ordered))
+  pub narrow : Narrow section (table_of arch (kept_of ordered))
   pub kept_is : kept ≡ length (kept_of ordered)
   pub omitted_are : omitted ≡ omitted_of ordered
 
+-- the section of one input
+abbrev pub IsAssembled : Object → (at : ℕ) → (section : List ℕ) → (kept : ℕ) → (omitted : List Omitted) → Type 0
+IsAssembled object at section kept omitted = IsLinked None (object ∷ []) at section kept omitted
+
 -- a fault of linking is the first one, or memory was wanting
-abbrev pub IsFirstLinked : List Object → (at : ℕ) → LinkFault → Type 0
-IsFirstLinked objects at fault = (fault ≡ link.NoMemory) ⊎ Links objects at (Err fault)
+abbrev pub IsFirstLinked : (before : Option Arch) → List Object → (at : ℕ) → LinkFault → Type 0
+IsFirstLinked before objects at fault = (fault ≡ link.NoMemory) ⊎ Links before objects at (Err fault)

@@ -1,6 +1,6 @@
 -- Functions that were read, kept or left out.
-use Rattle.std.specs.Prelude.{◌≡◌, ℕ, List, map, Option, Some, None}
-use Rattle.std.specs.List.{filter_map}
+use Rattle.std.specs.Prelude.{◌≡◌, ◌==◌, ℕ, List, map, Option, Some, None}
+use Rattle.std.specs.List.{filter, filter_map, range_with_len}
 use Rattle.sf_model.specs.declared.machine.Arch.{Arch}
 use Rattle.sf_model.specs.declared.function.Func.{Func}
 use Rattle.sf_model.specs.declared.omission.Omitted.{Omitted}
@@ -39,3 +39,12 @@ omitted_of entries = filter_map (λ (e : Entry). omitted_in e.span e.outcome) en
 -- the addresses of all, in order
 abbrev pub spans_of : List Entry → List Span
 spans_of entries = map (λ (e : Entry). e.span) entries
+
+-- ---- by items
+-- the functions of one item, in order
+abbrev pub of_item : (item : ℕ) → List Entry → List Entry
+of_item item entries = filter (λ (e : Entry). e.span.origin.item == item) entries
+
+-- the kept functions of so many items, a list for each, in order
+abbrev pub kept_by_item : (first count : ℕ) → List Entry → List (List Func)
+kept_by_item first count entries = map (λ (item : ℕ). kept_of (of_item item entries)) (range_with_len first count)

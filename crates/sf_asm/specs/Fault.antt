@@ -73,6 +73,7 @@ is_input_answered asm.NoMemory = true
 
 abbrev pub is_gather_refusal : GatherFault → Bool
 is_gather_refusal (gather.Input item fault) = is_input_refusal fault
+is_gather_refusal (gather.MixedArch item other) = true
 is_gather_refusal gather.TooManyFunctions = false
 is_gather_refusal gather.TooManyRows = false
 is_gather_refusal (gather.Overlap start item other other_item) = true
@@ -80,6 +81,7 @@ is_gather_refusal gather.NoMemory = false
 
 abbrev pub is_gather_answered : GatherFault → Bool
 is_gather_answered (gather.Input item fault) = is_input_refusal fault
+is_gather_answered (gather.MixedArch item other) = true
 is_gather_answered gather.TooManyFunctions = true
 is_gather_answered gather.TooManyRows = true
 is_gather_answered (gather.Overlap start item other other_item) = true
@@ -94,6 +96,7 @@ is_refusal link.NoMemory = false
 -- what the outermost call answers: a refusal, a limit, or want of memory on its own
 abbrev pub is_wrapped_answered : GatherFault → Bool
 is_wrapped_answered (gather.Input item fault) = is_input_refusal fault
+is_wrapped_answered (gather.MixedArch item other) = true
 is_wrapped_answered gather.TooManyFunctions = true
 is_wrapped_answered gather.TooManyRows = true
 is_wrapped_answered (gather.Overlap start item other other_item) = true

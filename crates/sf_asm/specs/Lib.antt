@@ -7,6 +7,7 @@ pub mod Relocated
 pub mod Sections
 pub mod Functions
 pub mod Kept
+pub mod Inputs
 pub mod Linking
 pub mod Faithful
 pub mod Answers

@@ -4,6 +4,7 @@ use Rattle.std.specs.Option.{option_map}
 use Rattle.std.specs.List.{filter, find, zip}
 use Rattle.std.specs.List.Sorted.{IsPermutation, IsNonDecreasingBy, IsStableByKey}
 use Rattle.std.specs.Ordering.{nat_cmp}
+use Rattle.sf_model.specs.declared.machine.Arch.{Arch}
 use Rattle.sf_model.specs.declared.omission.Span.{Span}
 use Rattle.sf_write.specs.Reach.{first_out_of_reach}
 use Rattle.sf_asm.specs.declared.entry.Entry.{Entry}
@@ -12,7 +13,8 @@ use Rattle.sf_asm.specs.declared.fault.GatherFault.TheVariants as gather
 use Rattle.sf_asm.specs.declared.fault.LinkFault.{LinkFault}
 use Rattle.sf_asm.specs.declared.fault.LinkFault.TheVariants.{Gather, OutOfReach}
 use Rattle.sf_asm.specs.Entry.{kept_of, spans_of}
-use Rattle.sf_asm.specs.Functions.{Function, Object, functions_of}
+use Rattle.sf_asm.specs.Functions.{Function, Object}
+use Rattle.sf_asm.specs.Inputs.{all_functions}
 use Rattle.sf_asm.specs.Kept.{entry_of}
 use Rattle.sf_asm.specs.Order.{entry_rows}
 
@@ -77,16 +79,16 @@ abbrev pub Ordered : Result (List Function) GatherFault → (List Entry → Type
 Ordered (Ok functions) Then Fails = (ordered : List Entry) × InOrder (map entry_of functions) ordered × Then ordered
 Ordered (Err fault) Then Fails = Fails fault
 
--- gathering inputs, numbered from 0 on, comes to this
+-- gathering inputs, behind an item of this machine or of none, comes to this
 abbrev pub GathersFrom : Result (List Function) GatherFault → Result (List Entry) GatherFault → Type 0
 GathersFrom given result = Ordered given (λ ordered. result ≡ unless_fault (functions_fault ordered) ordered) (λ fault. result ≡ Err fault)
 
-abbrev pub Gathers : List Object → Result (List Entry) GatherFault → Type 0
-Gathers objects result = GathersFrom (functions_of 0 objects) result
+abbrev pub Gathers : (before : Option Arch) → List Object → Result (List Entry) GatherFault → Type 0
+Gathers before objects result = GathersFrom (all_functions before objects) result
 
 -- linking them for this address comes to this
 abbrev pub LinksFrom : (at : ℕ) → Result (List Function) GatherFault → Result (List Entry) LinkFault → Type 0
 LinksFrom at given result = Ordered given (λ ordered. result ≡ unless_fault (link_fault at ordered) ordered) (λ fault. result ≡ Err (Gather fault))
 
-abbrev pub Links : List Object → (at : ℕ) → Result (List Entry) LinkFault → Type 0
-Links objects at result = LinksFrom at (functions_of 0 objects) result
+abbrev pub Links : (before : Option Arch) → List Object → (at : ℕ) → Result (List Entry) LinkFault → Type 0
+Links before objects at result = LinksFrom at (all_functions before objects) result

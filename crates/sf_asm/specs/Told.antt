@@ -119,9 +119,10 @@ told_of_input item (asm.Record section fault) = told_of_records item section fau
 told_of_input item (asm.Machine section fault) = told_of_machine item section fault
 told_of_input item asm.NoMemory = untold item
 
--- of inputs: a fault of one has its number; an overlap has the start and the input of both functions
+-- of inputs: a fault of one has its number; two machines have the numbers of their items; an overlap has the start and the input of both functions
 abbrev pub told_of_gathering : Option ℕ → GatherFault → Told
 told_of_gathering item (gather.Input number fault) = told_of_input (Some number) fault
+told_of_gathering item (gather.MixedArch first second) = record { item = item; group = group.Link; number = 1; values = first ∷ second ∷ [] }
 told_of_gathering item (gather.Overlap start first other second) = record { item = item; group = group.Link; number = 2; values = start ∷ first ∷ other ∷ second ∷ [] }
 told_of_gathering item gather.TooManyFunctions = untold item
 told_of_gathering item gather.TooManyRows = untold item

@@ -1,12 +1,12 @@
 //! The section of one input.
 
-ghost use Rattle.std.specs.Prelude.{◌<◌, ◌^◌, [], ◌∷◌, length, IfOk, IfErr, IsTrue};
+ghost use Rattle.std.specs.Prelude.{◌<◌, ◌^◌, [], ◌∷◌, length, None, IfOk, IfErr, IsTrue};
 ghost use Rattle.sf_asm.specs.Answers.{IsAssembled, IsFirstLinked};
 ghost use Rattle.sf_asm.specs.Functions.{object_of};
 ghost use Rattle.sf_asm.specs.Fault.{is_answered};
 
 use crate::fault::{GatherFault, LinkFault};
-use crate::gathering::gather_one;
+use crate::gathering::gather;
 use crate::input::Input;
 use sf_model::Omitted;
 use sf_write::{WriteFault, write};
@@ -34,19 +34,20 @@ pub fn assemble(alloc: Global, input: &Input<'_>, at: u64) -> Result<Linked, Lin
     // The section is that of the input's kept functions, and these were left out.
     ensures assembled { IfOk result (λ linked. IsAssembled (object_of input.now) at linked.section.items linked.kept linked.omitted.items) }
     // A fault is the first one.
-    ensures fault { IfErr result (IsFirstLinked (object_of input.now ∷ []) at) }
+    ensures fault { IfErr result (IsFirstLinked None (object_of input.now ∷ []) at) }
     ensures answered { IfErr result (λ fault. IsTrue (is_answered fault)) }
 {
-    let sorted = match gather_one(alloc, input) {
-        Ok(sorted) => sorted,
+    let gathered = match gather(alloc, &[*input], None) {
+        Ok(gathered) => gathered,
         Err(GatherFault::NoMemory) => return Err(LinkFault::NoMemory),
         Err(fault) => return Err(LinkFault::Gather(fault)),
     };
-    match write(alloc, sorted.arch, at, &sorted.kept) {
+    let kept = &gathered.kept[0];
+    match write(alloc, gathered.arch, at, kept) {
         Ok(section) => Ok(Linked {
             section,
-            kept: sorted.kept.len() as u32,
-            omitted: sorted.omitted,
+            kept: kept.len() as u32,
+            omitted: gathered.omitted,
         }),
         Err(WriteFault::OutOfReach(start)) => Err(LinkFault::OutOfReach(start)),
         Err(WriteFault::NoMemory) => Err(LinkFault::NoMemory),

@@ -1,6 +1,6 @@
 //! The functions of an ELF file, in the order of its sections and records.
 
-ghost use Rattle.std.specs.Prelude.{◌≡◌, ◌<◌, ◌^◌, ◌+◌, ◌-◌, ◌%◌, ◌⊎◌, All, [], Ok, Err, length, map, IfOk, IfErr, OnOk, IsTrue};
+ghost use Rattle.std.specs.Prelude.{◌≡◌, ◌<◌, ◌^◌, ◌+◌, ◌-◌, ◌%◌, ◌⊎◌, ℕ, List, All, Ok, Err, length, map, IfOk, IfErr, OnOk, IsTrue};
 ghost use Rattle.elf_read.specs.Header as head;
 ghost use Rattle.elf_read.specs.Sections.{section_bytes};
 ghost use Rattle.elf_read.specs.Views.{file};
@@ -13,8 +13,10 @@ ghost use Rattle.sf_asm.specs.declared.input.Form.TheVariants as Form;
 ghost use Rattle.sf_asm.specs.Entry.{IsSound};
 ghost use Rattle.sf_asm.specs.Fault.{is_input_answered, wraps_place};
 ghost use Rattle.sf_asm.specs.Functions.{named, object_functions, sections_functions};
+ghost use Rattle.sf_asm.specs.Groups.{seen_after};
 ghost use Rattle.sf_asm.specs.Placing.{IsPlacing};
 ghost use Rattle.sf_asm.specs.Sections.{dropped_after, linked_check, placed_section};
+ghost use Rattle.sf_asm.specs.Seen.{HasSeen};
 
 use crate::entry::{Entry, Read};
 use crate::fault::AsmFault;
@@ -58,14 +60,19 @@ fn place_fault(fault: PlaceFault) -> AsmFault
     }
 }
 
-/// Places the sections of a file, where no file was read before.
-fn place<'a>(alloc: Global, elf: &Elf<'a>, base: u64) -> Result<Placed<'a>, AsmFault>
-    ensures placed { IfOk result (IsPlacing [] (file elf.now) base) }
-    ensures read { OnOk result (place_check (file elf.now) (dropped_after [] (file elf.now)) base ≡ Ok tt) }
-    ensures fault { IfErr result (λ fault. (fault ≡ asm.NoMemory) ⊎ (named asm.Place (place_check (file elf.now) (dropped_after [] (file elf.now)) base) ≡ Err fault)) }
+/// Places the sections of a file. The signatures of its groups are seen from now on.
+fn place<'a>(
+    alloc: Global,
+    elf: &Elf<'a>,
+    base: u64,
+    seen: &mut Seen<'a>,
+) -> Result<Placed<'a>, AsmFault>
+    ensures placed { IfOk result (λ placed. (signatures : List (List ℕ)) → HasSeen seen.old signatures → IsPlacing signatures (file elf.now) base placed) }
+    ensures read { OnOk result ((signatures : List (List ℕ)) → HasSeen seen.old signatures → place_check (file elf.now) (dropped_after signatures (file elf.now)) base ≡ Ok tt) }
+    ensures seen { OnOk result ((signatures : List (List ℕ)) → HasSeen seen.old signatures → HasSeen seen.new (seen_after signatures (file elf.now))) }
+    ensures fault { IfErr result (λ fault. (signatures : List (List ℕ)) → HasSeen seen.old signatures → (fault ≡ asm.NoMemory) ⊎ (named asm.Place (place_check (file elf.now) (dropped_after signatures (file elf.now)) base) ≡ Err fault)) }
     ensures answered { IfErr result (λ fault. IsTrue (is_input_answered fault)) }
 {
-    let mut seen = Seen::new(alloc);
     let gone = seen.gone_groups(alloc, elf)?;
     match Placed::new(alloc, elf, base, &gone) {
         Ok(placed) => Ok(placed),
@@ -115,16 +122,24 @@ fn read_sections(
     Ok(entries)
 }
 
-/// The functions of a file that is loaded at `base`, in the order of its sections and records.
-pub fn read_elf(alloc: Global, item: u32, bytes: &[u8], base: u64) -> Result<Read, AsmFault>
+/// The functions of a file that is loaded at `base`, in the order of its sections and records. The
+/// signatures of its groups are seen from now on.
+pub fn read_elf<'a>(
+    alloc: Global,
+    item: u32,
+    bytes: &'a [u8],
+    base: u64,
+    seen: &mut Seen<'a>,
+) -> Result<Read, AsmFault>
     requires { length bytes.now < 2 ^ 32 }
-    ensures exact { ReadsAll (λ read. read.entries.items) result (object_functions item [] (record { form = Form.Elf; bytes = bytes.now; base = base })) }
+    ensures exact { (signatures : List (List ℕ)) → HasSeen seen.old signatures → ReadsAll (λ read. read.entries.items) result (object_functions item signatures (record { form = Form.Elf; bytes = bytes.now; base = base })) }
+    ensures seen { OnOk result ((signatures : List (List ℕ)) → HasSeen seen.old signatures → HasSeen seen.new (seen_after signatures bytes.now)) }
     ensures arch { IfOk result (λ read. read.arch ≡ head.arch_of bytes.now) }
     ensures sound { IfOk result (λ read. All (IsSound read.arch) read.entries.items) }
     ensures answered { IfErr result (λ fault. IsTrue (is_input_answered fault)) }
 {
     let elf = parse(bytes)?;
-    let placed = place(alloc, &elf, base)?;
+    let placed = place(alloc, &elf, base, seen)?;
     let arch = elf.arch();
     let entries = read_sections(alloc, arch, item, &placed)?;
     Ok(Read { arch, entries })

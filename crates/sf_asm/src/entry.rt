@@ -26,3 +26,12 @@ pub struct Read {
     /// Its functions, in the order of its sections and records.
     pub entries: Vec<Entry>,
 }
+
+/// The functions that were read of all inputs.
+#[derive(Drop)]
+pub struct AllRead {
+    /// The machine of each input.
+    pub machines: Vec<Arch>,
+    /// The functions, in the order of the inputs, sections and records.
+    pub entries: Vec<Entry>,
+}

@@ -40,6 +40,9 @@ pub enum GatherFault {
     /// The input of this number is refused.
     #[error("input {0}: {1}")]
     Input(u32, AsmFault),
+    /// The machines of these two items differ: item 0, and the least that differs from it.
+    #[error("items {0} and {1} are of different machines")]
+    MixedArch(u32, u32),
     /// There are more than 2^21 functions, omitted ones included.
     #[error("too many functions")]
     TooManyFunctions,

@@ -1,27 +1,23 @@
 //! The functions of all inputs, sorted out.
 
-ghost use Rattle.std.specs.Prelude.{◌≡◌, ◌⊎◌, ◌<◌, ◌^◌, All, [], ◌∷◌, length, map, Ok, Err, None, IfOk, IfErr, IfSome, OnOk, IsTrue};
+ghost use Rattle.std.specs.Prelude.{◌≡◌, ◌≤◌, ◌<◌, ◌+◌, ◌^◌, All, [], length, map, Ok, None, IfOk, IfErr, IfSome, OnOk, IsTrue};
 ghost use Rattle.std.specs.Option.{option_map};
-ghost use Rattle.std.specs.List.{flat_map};
 ghost use Rattle.sf_model.specs.Function.{AreWritable};
-ghost use Rattle.sf_asm.specs.Entry.{IsSound, kept_of, omitted_of, spans_of};
+ghost use Rattle.sf_asm.specs.Entry.{IsSound, kept_by_item, omitted_of, spans_of};
 ghost use Rattle.sf_asm.specs.declared.fault.GatherFault.TheVariants.{NoMemory};
-ghost use Rattle.sf_asm.specs.Answers.{AreGathered, IsFirstGathered, seen_as};
-ghost use Rattle.sf_asm.specs.Functions.{functions_of, machine_of, object_of, unless};
-ghost use Rattle.sf_asm.specs.Kept.{entry_of};
+ghost use Rattle.sf_asm.specs.Answers.{AreGathered, IsFirstGathered};
+ghost use Rattle.sf_asm.specs.Functions.{object_of, unless};
+ghost use Rattle.sf_asm.specs.Inputs.{HaveMachine, first_item as item_of_first};
 ghost use Rattle.sf_asm.specs.Linking.{Gathers, InOrder, functions_fault, limits_fault, overlap_fault, overlap_in, overlap_with};
 ghost use Rattle.sf_asm.specs.Order.{rows_of};
-ghost use Rattle.sf_asm.specs.Fault.{is_gather_answered, is_input_answered, wraps_input};
+ghost use Rattle.sf_asm.specs.Fault.{is_gather_answered};
 
 use crate::entry::{Entry, Outcome, Read};
-use crate::fault::{AsmFault, GatherFault};
+use crate::fault::GatherFault;
 use crate::input::Input;
-use crate::reading::read_input;
+use crate::inputs::{one_machine, read_all};
 use sf_model::{Arch, Func, Omitted, Span};
 use std::alloc::{AllocError, Global};
-
-/// The number of the first input.
-const FIRST_ITEM: u32 = 0;
 
 /// The most functions of one run, omitted ones included.
 const FUNCTION_LIMIT: usize = 1 << 21;
@@ -124,34 +120,77 @@ fn order(entries: &mut Vec<Entry>) -> Result<(), GatherFault>
     Ok(())
 }
 
-/// Functions, sorted out by what became of them, in their order.
-#[derive(Drop)]
-pub struct Sorted {
-    pub arch: Arch,
-    pub kept: Vec<Func>,
-    pub omitted: Vec<Omitted>,
-    pub spans: Vec<Span>,
+/// The functions of all inputs, in order.
+fn ordered(alloc: Global, inputs: &[Input<'_>], before: Option<Arch>) -> Result<Read, GatherFault>
+    requires some { (0 < length inputs.now) × (length inputs.now ≤ 512) }
+    requires small { All (λ input. length input.bytes.now < 2 ^ 32) inputs.now }
+    ensures gathered { IfOk result (λ read. Gathers before (map object_of inputs.now) (Ok read.entries.items)) }
+    ensures machine { IfOk result (λ read. HaveMachine before (map object_of inputs.now) read.arch) }
+    ensures sound { IfOk result (λ read. All (IsSound read.arch) read.entries.items) }
+    ensures checked { IfOk result (λ read. functions_fault read.entries.items ≡ None) }
+    ensures fault { IfErr result (IsFirstGathered before (map object_of inputs.now)) }
+    ensures answered { IfErr result (λ fault. IsTrue (is_gather_answered fault)) }
+{
+    let mut all = read_all(alloc, first_item(before), inputs)?;
+    let arch = one_machine(before, &all.machines)?;
+    order(&mut all.entries)?;
+    check(&all.entries)?;
+    Ok(Read {
+        arch,
+        entries: all.entries,
+    })
 }
 
-/// Sorts out functions.
-fn sort_out(alloc: Global, arch: Arch, entries: Vec<Entry>) -> Result<Sorted, AllocError>
-    ensures arch { IfOk result (λ s. s.arch ≡ arch) }
-    ensures kept { IfOk result (λ s. s.kept.items ≡ kept_of entries.items) }
-    ensures omitted { IfOk result (λ s. s.omitted.items ≡ omitted_of entries.items) }
-    ensures spans { IfOk result (λ s. s.spans.items ≡ spans_of entries.items) }
+/// The number of the first input.
+fn first_item(before: Option<Arch>) -> u32
+    ensures { result ≡ item_of_first before }
 {
-    let mut sorted = Sorted {
+    match before {
+        Some(_) => 1,
+        None => 0,
+    }
+}
+
+/// So many empty lists.
+fn empty_lists(alloc: Global, count: usize) -> Result<Vec<Vec<Func>>, AllocError>
+    ensures count { IfOk result (λ lists. length lists.items ≡ count) }
+    ensures empty { IfOk result (λ lists. All (λ list. list.items ≡ []) lists.items) }
+{
+    let mut lists = Vec::new(alloc);
+    for _ in 0..count {
+        lists.push(Vec::new(alloc))?;
+    }
+    Ok(lists)
+}
+
+/// Sorts out functions, of so many inputs that are numbered from `first` on.
+fn sort_out(
+    alloc: Global,
+    arch: Arch,
+    first: u32,
+    count: usize,
+    entries: Vec<Entry>,
+) -> Result<Gathered, AllocError>
+    requires { All (λ entry. (first ≤ entry.span.origin.item) × (entry.span.origin.item < first + count)) entries.items }
+    ensures arch { IfOk result (λ g. g.arch ≡ arch) }
+    ensures kept { IfOk result (λ g. map (λ list. list.items) g.kept.items ≡ kept_by_item first count entries.items) }
+    ensures omitted { IfOk result (λ g. g.omitted.items ≡ omitted_of entries.items) }
+    ensures spans { IfOk result (λ g. g.spans.items ≡ spans_of entries.items) }
+{
+    let mut gathered = Gathered {
         arch,
-        kept: Vec::new(alloc),
+        kept: empty_lists(alloc, count)?,
         omitted: Vec::new(alloc),
         spans: Vec::new(alloc),
     };
     for entry in entries {
         let Entry { span, outcome } = entry;
-        sorted.spans.push(span)?;
+        gathered.spans.push(span)?;
         match outcome {
-            Outcome::Kept(func) => sorted.kept.push(func)?,
-            Outcome::Left(omission) => sorted.omitted.push(Omitted {
+            Outcome::Kept(func) => {
+                gathered.kept[(span.origin.item - first) as usize].push(func)?
+            }
+            Outcome::Left(omission) => gathered.omitted.push(Omitted {
                 start: span.start,
                 size: span.size,
                 origin: span.origin,
@@ -159,98 +198,35 @@ fn sort_out(alloc: Global, arch: Arch, entries: Vec<Entry>) -> Result<Sorted, Al
             })?,
         }
     }
-    Ok(sorted)
+    Ok(gathered)
 }
 
-/// A fault of the first input, where want of memory stands alone.
-fn input_fault(fault: AsmFault) -> GatherFault
-    ensures is { result ≡ wraps_input 0 fault }
-    ensures answered { IsTrue (is_input_answered fault) → IsTrue (is_gather_answered result) }
-{
-    match fault {
-        AsmFault::NoMemory => GatherFault::NoMemory,
-        _ => GatherFault::Input(FIRST_ITEM, fault),
-    }
-}
-
-/// The functions of the first input, as they stand in it.
-fn read_first(alloc: Global, input: &Input<'_>) -> Result<Read, GatherFault>
-    requires { length input.now.bytes.now < 2 ^ 32 }
-    ensures reads { IfOk result (λ read. seen_as (map entry_of) (functions_of 0 (object_of input.now ∷ [])) ≡ Ok read.entries.items) }
-    ensures arch { IfOk result (λ read. read.arch ≡ machine_of (object_of input.now)) }
-    ensures sound { IfOk result (λ read. All (IsSound read.arch) read.entries.items) }
-    ensures fault { IfErr result (λ fault. (fault ≡ NoMemory) ⊎ (functions_of 0 (object_of input.now ∷ []) ≡ Err fault)) }
-    ensures answered { IfErr result (λ fault. IsTrue (is_gather_answered fault)) }
-{
-    match read_input(alloc, FIRST_ITEM, input) {
-        Ok(read) => Ok(read),
-        Err(fault) => Err(input_fault(fault)),
-    }
-}
-
-/// The functions of one input, in order.
-fn ordered(alloc: Global, input: &Input<'_>) -> Result<Read, GatherFault>
-    requires { length input.now.bytes.now < 2 ^ 32 }
-    ensures gathered { IfOk result (λ read. Gathers (object_of input.now ∷ []) (Ok read.entries.items)) }
-    ensures arch { IfOk result (λ read. read.arch ≡ machine_of (object_of input.now)) }
-    ensures sound { IfOk result (λ read. All (IsSound read.arch) read.entries.items) }
-    ensures checked { IfOk result (λ read. functions_fault read.entries.items ≡ None) }
-    ensures fault { IfErr result (IsFirstGathered (object_of input.now ∷ [])) }
-    ensures answered { IfErr result (λ fault. IsTrue (is_gather_answered fault)) }
-{
-    let mut read = read_first(alloc, input)?;
-    order(&mut read.entries)?;
-    check(&read.entries)?;
-    Ok(read)
-}
-
-/// The functions of one input, sorted out.
-pub fn gather_one(alloc: Global, input: &Input<'_>) -> Result<Sorted, GatherFault>
-    requires { length input.now.bytes.now < 2 ^ 32 }
-    ensures gathered { IfOk result (λ s. AreGathered (object_of input.now ∷ []) s.kept.items s.omitted.items s.spans.items) }
-    ensures arch { IfOk result (λ s. s.arch ≡ machine_of (object_of input.now)) }
-    ensures kept { IfOk result (λ s. AreWritable s.arch s.kept.items) }
-    ensures fault { IfErr result (IsFirstGathered (object_of input.now ∷ [])) }
-    ensures answered { IfErr result (λ fault. IsTrue (is_gather_answered fault)) }
-{
-    let read = ordered(alloc, input)?;
-    Ok(sort_out(alloc, read.arch, read.entries)?)
-}
-
-/// Gathers the functions of the inputs, of which there is one for now. `before` is the machine of an item
-/// that comes before them; there is none for now.
+/// Gathers the functions of 1 to 512 inputs, each of fewer than 2^32 bytes. `before` is the machine of an
+/// item that stands before them; the inputs are numbered from 1 on then, and else from 0 on. Of several
+/// COMDAT groups with one signature, over all inputs, the first stays (ELF64 gABI, "Section Groups").
 ///
 /// # Errors
 ///
-/// The first fault of the input, then the limits of functions and rows, and two functions that share an
-/// address, in this order; want of memory at any time.
+/// The first fault of the first faulty input; then two machines, the limits of functions and rows, and two
+/// functions that share an address, in this order; want of memory at any time.
 pub fn gather(
     alloc: Global,
     inputs: &[Input<'_>],
     before: Option<Arch>,
 ) -> Result<Gathered, GatherFault>
-    requires one { length inputs.now ≡ 1 }
+    requires some { (0 < length inputs.now) × (length inputs.now ≤ 512) }
     requires small { All (λ input. length input.bytes.now < 2 ^ 32) inputs.now }
-    requires alone { before ≡ None }
-    // The functions are those of the inputs, by rising start.
-    ensures gathered { IfOk result (λ gathered. AreGathered (map object_of inputs.now) (flat_map (λ list. list.items) gathered.kept.items) gathered.omitted.items gathered.spans.items) }
-    // One section can hold them.
-    ensures kept { IfOk result (λ gathered. All (λ list. AreWritable gathered.arch list.items) gathered.kept.items) }
-    // It's the inputs' machine.
-    ensures arch { IfOk result (λ gathered. All (λ input. machine_of (object_of input) ≡ gathered.arch) inputs.now) }
+    // The functions are those of the inputs, sorted out by rising start.
+    ensures gathered { IfOk result (λ g. AreGathered before (map object_of inputs.now) g.arch (map (λ list. list.items) g.kept.items) g.omitted.items g.spans.items) }
+    // One section can hold those of each input.
+    ensures kept { IfOk result (λ g. All (λ list. AreWritable g.arch list.items) g.kept.items) }
+    // It's the machine of all items.
+    ensures machine { IfOk result (λ g. HaveMachine before (map object_of inputs.now) g.arch) }
     // A fault is the first one.
-    ensures fault { IfErr result (IsFirstGathered (map object_of inputs.now)) }
+    ensures fault { IfErr result (IsFirstGathered before (map object_of inputs.now)) }
     ensures answered { IfErr result (λ fault. IsTrue (is_gather_answered fault)) }
 {
-    let _ = before;
-    let input = &inputs[0];
-    let sorted = gather_one(alloc, input)?;
-    let mut kept = Vec::new(alloc);
-    kept.push(sorted.kept)?;
-    Ok(Gathered {
-        arch: sorted.arch,
-        kept,
-        omitted: sorted.omitted,
-        spans: sorted.spans,
-    })
+    let read = ordered(alloc, inputs, before)?;
+    let first = first_item(before);
+    Ok(sort_out(alloc, read.arch, first, inputs.len(), read.entries)?)
 }

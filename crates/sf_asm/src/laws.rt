@@ -1,7 +1,8 @@
 //! Laws: what the kept functions of inputs recover, and the walks over them.
 
-ghost use Rattle.std.specs.Prelude.{◌≡◌, ℕ, List, None, Result, Ok, map};
+ghost use Rattle.std.specs.Prelude.{◌≡◌, ℕ, List, Option, None, Result, Ok, map};
 ghost use Rattle.std.specs.Option.{option_map};
+ghost use Rattle.sf_model.specs.declared.machine.Arch.{Arch};
 ghost use Rattle.sf_model.specs.declared.recovery.Regs.{Regs};
 ghost use Rattle.sf_model.specs.Memory.{Region};
 ghost use Rattle.sf_model.specs.Walk.{ThreadState, recover_by_rows, section_walk};
@@ -29,11 +30,11 @@ pub fn walks_are_alike()
 
 /// Linking inputs comes to one result: the functions in order, or the first fault.
 pub fn linking_comes_to_one_result()
-    ensures { (objects : List Object) (at : ℕ) (one other : Result (List Entry) LinkFault) → Links objects at one → Links objects at other → one ≡ other }
+    ensures { (before : Option Arch) (objects : List Object) (at : ℕ) (one other : Result (List Entry) LinkFault) → Links before objects at one → Links before objects at other → one ≡ other }
 {}
 
 /// Inputs can be linked exactly where linking them comes to functions in order.
 pub fn accepted_inputs_are_linked()
-    ensures links { (objects : List Object) (at : ℕ) (h : IsAccepted objects at) → Links objects at (Ok h.ordered) }
-    ensures only { (objects : List Object) (at : ℕ) (ordered : List Entry) → Links objects at (Ok ordered) → IsAccepted objects at }
+    ensures links { (before : Option Arch) (objects : List Object) (at : ℕ) (h : IsAccepted before objects at) → Links before objects at (Ok h.ordered) }
+    ensures only { (before : Option Arch) (objects : List Object) (at : ℕ) (ordered : List Entry) → Links before objects at (Ok ordered) → IsAccepted before objects at }
 {}

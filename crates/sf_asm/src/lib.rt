@@ -1,9 +1,9 @@
 //! From call frame sections to SFrame functions, and to a section of one input.
 //!
-//! [`gather`] reads an input's records, runs the instructions of each frame description entry and sorts
-//! out what SFrame Version 2 can express: the functions that are kept, each list by rising start, the
-//! functions that are left out, with their reasons, and the addresses of all. [`assemble`] writes the
-//! section of one input. An input has fewer than 2^32 bytes. Both take memory; no section is copied.
+//! [`gather`] reads the records of 1 to 512 inputs, runs the instructions of each frame description entry and
+//! sorts out what SFrame Version 2 can express: the functions that are kept, a list for each input by rising
+//! start, the functions that are left out, with their reasons, and the addresses of all. [`assemble`] writes
+//! the section of one input. An input has fewer than 2^32 bytes. Both take memory; no section is copied.
 //!
 //! [`kept_functions_recover_alike`], [`walks_are_alike`], [`linking_comes_to_one_result`] and
 //! [`accepted_inputs_are_linked`] are laws: the kept functions recover what DWARF recovers, walks over them are
@@ -19,6 +19,7 @@ mod frames;
 mod gathering;
 mod groups;
 mod input;
+mod inputs;
 mod laws;
 mod notices;
 mod overlay;
@@ -29,4 +30,7 @@ pub use assembling::{Linked, assemble};
 pub use fault::{AsmFault, GatherFault, LinkFault};
 pub use gathering::{Gathered, gather};
 pub use input::{Form, Input};
-pub use laws::{kept_functions_recover_alike, linking_comes_to_one_result, walks_are_alike};
+pub use laws::{
+    accepted_inputs_are_linked, kept_functions_recover_alike, linking_comes_to_one_result,
+    walks_are_alike,
+};

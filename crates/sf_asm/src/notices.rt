@@ -255,6 +255,9 @@ impl GatherFault {
     {
         match self {
             GatherFault::Input(number, fault) => fault.notice(Some(*number)),
+            GatherFault::MixedArch(first, second) => {
+                link_notice(item, 1, two(u64::from(*first), u64::from(*second)))
+            }
             GatherFault::Overlap(start, first, other, second) => link_notice(
                 item,
                 2,

@@ -1,15 +1,17 @@
 //! The functions of one input, in the order of its sections and records.
 
-ghost use Rattle.std.specs.Prelude.{◌≡◌, ◌<◌, ◌^◌, All, [], ◌∷◌, length, IfOk, IfErr, IsTrue};
+ghost use Rattle.std.specs.Prelude.{◌≡◌, ◌<◌, ◌^◌, ℕ, List, All, [], ◌∷◌, length, IfOk, IfErr, OnOk, IsTrue};
 ghost use Rattle.sf_asm.specs.Answers.{ReadsAll};
 ghost use Rattle.sf_asm.specs.Entry.{IsSound};
 ghost use Rattle.sf_asm.specs.Fault.{is_input_answered};
-ghost use Rattle.sf_asm.specs.Functions.{bare_section, machine_of, object_functions, object_of, sections_functions};
+ghost use Rattle.sf_asm.specs.Functions.{bare_section, machine_of, object_functions, object_of, sections_functions, seen_behind};
+ghost use Rattle.sf_asm.specs.Seen.{HasSeen};
 
 use crate::elf::read_elf;
 use crate::entry::{Entry, Read};
 use crate::fault::AsmFault;
 use crate::frames::Frames;
+use crate::groups::Seen;
 use crate::input::{Form, Input};
 use crate::section::read_section;
 use sf_model::Arch;
@@ -43,16 +45,23 @@ fn read_bare(
     Ok(entries)
 }
 
-/// The functions of an input, in the order of its sections and records.
-pub fn read_input(alloc: Global, item: u32, input: &Input<'_>) -> Result<Read, AsmFault>
+/// The functions of an input, in the order of its sections and records. The signatures of its groups are
+/// seen from now on.
+pub fn read_input<'a>(
+    alloc: Global,
+    item: u32,
+    input: &Input<'a>,
+    seen: &mut Seen<'a>,
+) -> Result<Read, AsmFault>
     requires { length input.now.bytes.now < 2 ^ 32 }
-    ensures exact { ReadsAll (λ read. read.entries.items) result (object_functions item [] (object_of input.now)) }
+    ensures exact { (signatures : List (List ℕ)) → HasSeen seen.old signatures → ReadsAll (λ read. read.entries.items) result (object_functions item signatures (object_of input.now)) }
+    ensures seen { OnOk result ((signatures : List (List ℕ)) → HasSeen seen.old signatures → HasSeen seen.new (seen_behind signatures (object_of input.now))) }
     ensures arch { IfOk result (λ read. read.arch ≡ machine_of (object_of input.now)) }
     ensures sound { IfOk result (λ read. All (IsSound read.arch) read.entries.items) }
     ensures answered { IfErr result (λ fault. IsTrue (is_input_answered fault)) }
 {
     match input.form {
-        Form::Elf => read_elf(alloc, item, input.bytes, input.base),
+        Form::Elf => read_elf(alloc, item, input.bytes, input.base, seen),
         Form::Bare(arch) => {
             let entries = read_bare(alloc, arch, item, input)?;
             Ok(Read { arch, entries })

@@ -15,14 +15,14 @@ use Rattle.sf_run.specs.First.{Contents, First, IsFirst, IsExceeded, object_in}
 use Rattle.sf_run.specs.Words.{InputWords, LinkWords}
 use Rattle.sf_run.specs.Ends.{FilesSeen, SinkSeen, Ends, IsComplete, IsUnfaulted}
 
-no_fault_first : (input : InputWords) (at : ℕ) (bytes : List ℕ) (fault : LinkFault) → First input at bytes None → Links (object_in input bytes ∷ []) at (Err fault) → ⊥
+no_fault_first : (input : InputWords) (at : ℕ) (bytes : List ℕ) (fault : LinkFault) → First input at bytes None → Links None (object_in input bytes ∷ []) at (Err fault) → ⊥
 no_fault_first input at bytes fault none first =
-    let same = one_result (object_in input bytes ∷ []) at (Ok none.1.0) (Err fault) none.1.1 first in
+    let same = one_result None (object_in input bytes ∷ []) at (Ok none.1.0) (Err fault) none.1.1 first in
     cc
 
 not_first : (link : LinkWords) (told : _) (fault : LinkFault) → First link.input link.at (contents_of told link.input.name) None → IsFirst link (Some told) fault → ⊥
 not_first link told fault none h =
-    let first = subst (λ (bytes : List ℕ). Links (object_in link.input bytes ∷ []) link.at (Err fault)) h.input h.first.1 in
+    let first = subst (λ (bytes : List ℕ). Links None (object_in link.input bytes ∷ []) link.at (Err fault)) h.input h.first.1 in
     no_fault_first link.input link.at (contents_of told link.input.name) fault none first
 
 not_exceeded : (link : LinkWords) (told : _) (limit : Limit) → First link.input link.at (contents_of told link.input.name) None → IsExceeded link (Some told) limit → ⊥

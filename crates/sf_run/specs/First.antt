@@ -37,8 +37,8 @@ pub data Refusing : Type 0 where
 -- the first refusal over these bytes of the input, or none: the limit of 2^28 bytes comes first, and then what linking comes to
 abbrev pub First : InputWords → (at : ℕ) → (bytes : List ℕ) → Option Refusing → Type 0
 First input at bytes (Some TooLong) = 2 ^ 28 < length bytes
-First input at bytes (Some (Linking fault)) = (length bytes ≤ 2 ^ 28) × Links (object_in input bytes ∷ []) at (Err fault)
-First input at bytes None = (length bytes ≤ 2 ^ 28) × ((ordered : List Entry) × Links (object_in input bytes ∷ []) at (Ok ordered))
+First input at bytes (Some (Linking fault)) = (length bytes ≤ 2 ^ 28) × Links None (object_in input bytes ∷ []) at (Err fault)
+First input at bytes None = (length bytes ≤ 2 ^ 28) × ((ordered : List Entry) × Links None (object_in input bytes ∷ []) at (Ok ordered))
 
 -- There is no refusal. The section is the faithful one of the input, without gaps and with the least widths, and the text is the
 -- report of what it holds and of what was left out.

@@ -32,7 +32,7 @@ IsRefusalOf fault (refusal.Input notice) = Shows fault notice
 -- the refusal of an input with these bytes, for a section at this address, is its first
 pub record IsFirstOf (input : InputWords) (at : ℕ) (bytes : List ℕ) (refused : Refusal) : Type 0 where
   pub fault : LinkFault
-  pub first : Links (object_in input bytes ∷ []) at (Err fault)
+  pub first : Links None (object_in input bytes ∷ []) at (Err fault)
   pub is : IsRefusalOf fault refused
 
 -- or else memory was wanting

@@ -36,6 +36,7 @@ fn not_linked(fault: &LinkFault) -> Refusal
         LinkFault::Gather(GatherFault::TooManyFunctions) => Refusal::Limit(Limit::Functions),
         LinkFault::Gather(GatherFault::TooManyRows) => Refusal::Limit(Limit::Rows),
         LinkFault::Gather(GatherFault::Input(_, _)) => Refusal::Input(fault.notice(None)),
+        LinkFault::Gather(GatherFault::MixedArch(_, _)) => Refusal::Input(fault.notice(None)),
         LinkFault::Gather(GatherFault::Overlap(_, _, _, _)) => Refusal::Input(fault.notice(None)),
         LinkFault::OutOfReach(_) => Refusal::Input(fault.notice(None)),
     }

@@ -1,5 +1,5 @@
 use Rattle.std.proofs.Common.{◌≡◌, All, drop, map}
-use Rattle.elf_place.specs.Views.{eh_frames, placing, shift_in}
+use Rattle.elf_place.specs.Views.{placing, shift_in}
 use Rattle.sf_asm.specs.Answers.{after_read, seen_as}
 use Rattle.sf_asm.specs.Entry.{IsSound}
 use Rattle.sf_asm.specs.Functions.{sections_functions}

@@ -1,11 +1,13 @@
-use Rattle.std.proofs.Common.{◌≡◌}
-use Rattle.sf_asm.specs.Entry.{kept_of, omitted_of, spans_of}
+use Rattle.std.proofs.Common.{◌≡◌, length}
+use Rattle.sf_asm.specs.Entry.{omitted_of, spans_of}
+use Rattle.sf_asm.proofs.HandedOut.{AreHandedOut}
 use Rattle.sf_asm.proofs.gathering.sort_out.Given as goal
 
 abbrev pub invariant-loop-entry : goal.invariant-loop-entry
 invariant-loop-entry l = record {
-  arch : l.sorted.arch ≡ l.fn.arch;
-  kept : l.sorted.kept.items ≡ kept_of l.yielded;
-  omitted : l.sorted.omitted.items ≡ omitted_of l.yielded;
-  spans : l.sorted.spans.items ≡ spans_of l.yielded;
+  arch : l.gathered.arch ≡ l.fn.arch;
+  count : length l.gathered.kept.items ≡ l.fn.count;
+  kept : AreHandedOut l.fn.first l.gathered.kept.items l.yielded;
+  omitted : l.gathered.omitted.items ≡ omitted_of l.yielded;
+  spans : l.gathered.spans.items ≡ spans_of l.yielded;
 }

@@ -1,4 +1,4 @@
-use Rattle.std.proofs.Common.{◌∷◌, [], inl, inr}
+use Rattle.std.proofs.Common.{[], inl, inr}
 use Rattle.std.proofs.lemmas.Result.{err_from_is_err_and}
 use Rattle.sf_asm.specs.Functions.{bare_section}
 use Rattle.sf_asm.proofs.ReadFunctions.{alone, section_refused}

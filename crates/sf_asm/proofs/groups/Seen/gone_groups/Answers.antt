@@ -1,5 +1,5 @@
 use Rattle.sf_asm.proofs.Gone.{none_gone, none_seen, one_gone, one_seen, one_stays}
-use Rattle.std.proofs.Common.{List, ℕ, Vec, Global, ap, sym, subst, ◌∙◌}
+use Rattle.std.proofs.Common.{ℕ, Vec, Global, ap, sym, subst, ◌∙◌}
 use Rattle.sf_asm.specs.Groups.{seen_below}
 use Rattle.elf_read.specs.Views.{file}
 use Rattle.sf_asm.specs.Seen.{HasSeen}

@@ -1,0 +1,110 @@
+//! All inputs, one behind the other: their functions, and their one machine.
+
+ghost use Rattle.std.specs.Prelude.{◌≡◌, ◌⊎◌, ◌≤◌, ◌<◌, ◌^◌, ℕ, List, All, length, map, not, Ok, Err, IfOk, IfErr, OnOk, IsTrue, position};
+ghost use Rattle.sf_model.specs.declared.machine.Arch.{Arch as machine};
+ghost use Rattle.sf_asm.specs.Answers.{seen_as};
+ghost use Rattle.sf_asm.specs.Entry.{IsSound};
+ghost use Rattle.sf_asm.specs.declared.fault.GatherFault.TheVariants.{Input as RefusedInput, NoMemory};
+ghost use Rattle.sf_asm.specs.Fault.{is_gather_answered, is_input_answered, wraps_input};
+ghost use Rattle.sf_asm.specs.Functions.{functions_of, machine_of, named, object_functions, object_of, seen_behind, unless};
+ghost use Rattle.sf_asm.specs.Inputs.{is_same, mixed_among, with_before};
+ghost use Rattle.sf_asm.specs.Kept.{entry_of};
+ghost use Rattle.sf_asm.specs.Seen.{HasSeen};
+
+use crate::entry::{AllRead, Read};
+use crate::fault::{AsmFault, GatherFault};
+use crate::groups::Seen;
+use crate::input::Input;
+use crate::reading::read_input;
+use sf_model::Arch;
+use std::alloc::Global;
+
+/// A fault of an input, where want of memory stands alone.
+fn input_fault(item: u32, fault: AsmFault) -> GatherFault
+    ensures is { result ≡ wraps_input item fault }
+    ensures answered { IsTrue (is_input_answered fault) → IsTrue (is_gather_answered result) }
+{
+    match fault {
+        AsmFault::NoMemory => GatherFault::NoMemory,
+        _ => GatherFault::Input(item, fault),
+    }
+}
+
+/// The functions of one input, as they stand in it.
+fn read_item<'a>(
+    alloc: Global,
+    item: u32,
+    input: &Input<'a>,
+    seen: &mut Seen<'a>,
+) -> Result<Read, GatherFault>
+    requires { length input.now.bytes.now < 2 ^ 32 }
+    ensures reads { IfOk result (λ read. (signatures : List (List ℕ)) → HasSeen seen.old signatures → seen_as (map entry_of) (object_functions item signatures (object_of input.now)) ≡ Ok read.entries.items) }
+    ensures seen { OnOk result ((signatures : List (List ℕ)) → HasSeen seen.old signatures → HasSeen seen.new (seen_behind signatures (object_of input.now))) }
+    ensures arch { IfOk result (λ read. read.arch ≡ machine_of (object_of input.now)) }
+    ensures sound { IfOk result (λ read. All (IsSound read.arch) read.entries.items) }
+    ensures fault { IfErr result (λ fault. (signatures : List (List ℕ)) → HasSeen seen.old signatures → (fault ≡ NoMemory) ⊎ (named (RefusedInput item) (object_functions item signatures (object_of input.now)) ≡ Err fault)) }
+    ensures answered { IfErr result (λ fault. IsTrue (is_gather_answered fault)) }
+{
+    match read_input(alloc, item, input, seen) {
+        Ok(read) => Ok(read),
+        Err(fault) => Err(input_fault(item, fault)),
+    }
+}
+
+/// The functions of all inputs, as they stand in them, and the machine of each. The inputs are numbered
+/// from `first` on.
+pub fn read_all(alloc: Global, first: u32, inputs: &[Input<'_>]) -> Result<AllRead, GatherFault>
+    requires few { (first ≤ 1) × (length inputs.now ≤ 512) }
+    requires small { All (λ input. length input.bytes.now < 2 ^ 32) inputs.now }
+    ensures reads { IfOk result (λ read. seen_as (map entry_of) (functions_of first (map object_of inputs.now)) ≡ Ok read.entries.items) }
+    ensures machines { IfOk result (λ read. read.machines.items ≡ map machine_of (map object_of inputs.now)) }
+    ensures sound { IfOk result (λ read. (arch : machine) → All (λ machine. machine ≡ arch) read.machines.items → All (IsSound arch) read.entries.items) }
+    ensures fault { IfErr result (λ fault. (fault ≡ NoMemory) ⊎ (functions_of first (map object_of inputs.now) ≡ Err fault)) }
+    ensures answered { IfErr result (λ fault. IsTrue (is_gather_answered fault)) }
+{
+    let mut seen = Seen::new(alloc);
+    let mut all = AllRead {
+        machines: Vec::new(alloc),
+        entries: Vec::new(alloc),
+    };
+    for (index, input) in inputs.iter().enumerate() {
+        let mut read = read_item(alloc, first + index as u32, input, &mut seen)?;
+        all.machines.push(read.arch)?;
+        all.entries.append(&mut read.entries)?;
+    }
+    Ok(all)
+}
+
+/// Whether two machines differ.
+fn differ(one: Arch, other: Arch) -> bool
+    ensures { result ≡ not (is_same one other) }
+{
+    match (one, other) {
+        (Arch::Amd64, Arch::Amd64) | (Arch::Aarch64, Arch::Aarch64) => false,
+        _ => true,
+    }
+}
+
+/// The place of the first machine that differs from this one.
+fn first_differing(arch: Arch, machines: &[Arch]) -> Option<usize>
+    ensures { result ≡ position (λ machine. not (is_same arch machine)) machines.now }
+{
+    machines.iter().position(|machine| differ(arch, *machine))
+}
+
+/// The one machine of the inputs and of an item before them, if there is one.
+pub fn one_machine(before: Option<Arch>, machines: &[Arch]) -> Result<Arch, GatherFault>
+    requires { (0 < length machines.now) × (length machines.now ≤ 512) }
+    ensures one { IfOk result (λ arch. All (λ machine. machine ≡ arch) (with_before before machines.now)) }
+    ensures exact { seen_as (λ arch. tt) result ≡ unless (mixed_among (with_before before machines.now)) }
+    ensures answered { IfErr result (λ fault. IsTrue (is_gather_answered fault)) }
+{
+    let (first, arch) = match before {
+        Some(arch) => (1, arch),
+        None => (0, machines[0]),
+    };
+    match first_differing(arch, machines) {
+        Some(index) => Err(GatherFault::MixedArch(0, first + index as u32)),
+        None => Ok(arch),
+    }
+}

@@ -1,0 +1,56 @@
+//! The section of several inputs.
+
+ghost use Rattle.std.specs.Prelude.{◌≤◌, ◌<◌, ◌^◌, All, length, map, IfOk, IfErr, IsTrue};
+ghost use Rattle.sf_asm.specs.Answers.{IsFirstLinked, IsLinked};
+ghost use Rattle.sf_asm.specs.Fault.{is_answered};
+ghost use Rattle.sf_asm.specs.Functions.{object_of};
+
+use sf_asm::{GatherFault, Input, LinkFault, Linked, gather};
+use sf_base::NoMemory;
+use sf_merge::join;
+use sf_model::Arch;
+use sf_write::{WriteFault, write};
+use std::alloc::Global;
+
+/// Makes the SFrame section of 1 to 512 inputs, for the address `at`. `before` is the machine of an item
+/// that stands before them; the inputs are numbered from 1 on then, and else from 0 on. Of several COMDAT
+/// groups with one signature, over all inputs, the first stays (ELF64 gABI, "Section Groups").
+///
+/// # Errors
+///
+/// The first fault of the first faulty input; then two machines, the limits of functions and rows, two
+/// functions that share an address, and a function too far from the section, in this order; want of memory
+/// at any time.
+pub fn link(
+    alloc: Global,
+    inputs: &[Input<'_>],
+    at: u64,
+    before: Option<Arch>,
+) -> Result<Linked, LinkFault>
+    requires some { (0 < length inputs.now) × (length inputs.now ≤ 512) }
+    requires small { All (λ input. length input.bytes.now < 2 ^ 32) inputs.now }
+    // The section is that of the inputs' kept functions, and these were left out.
+    ensures linked { IfOk result (λ linked. IsLinked before (map object_of inputs.now) at linked.section.items linked.kept linked.omitted.items) }
+    // A fault is the first one.
+    ensures fault { IfErr result (IsFirstLinked before (map object_of inputs.now) at) }
+    ensures answered { IfErr result (λ fault. IsTrue (is_answered fault)) }
+{
+    let gathered = match gather(alloc, inputs, before) {
+        Ok(gathered) => gathered,
+        Err(GatherFault::NoMemory) => return Err(LinkFault::NoMemory),
+        Err(fault) => return Err(LinkFault::Gather(fault)),
+    };
+    let kept = match join(alloc, gathered.kept) {
+        Ok(kept) => kept,
+        Err(NoMemory) => return Err(LinkFault::NoMemory),
+    };
+    match write(alloc, gathered.arch, at, &kept) {
+        Ok(section) => Ok(Linked {
+            section,
+            kept: kept.len() as u32,
+            omitted: gathered.omitted,
+        }),
+        Err(WriteFault::OutOfReach(start)) => Err(LinkFault::OutOfReach(start)),
+        Err(WriteFault::NoMemory) => Err(LinkFault::NoMemory),
+    }
+}

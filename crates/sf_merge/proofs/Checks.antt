@@ -1,0 +1,120 @@
+-- The checks of sections, one after the other.
+use Rattle.std.specs.Prelude.{nat_lt}
+use Rattle.std.specs.List.{enumerate_from, find}
+use Rattle.std.specs.Option.{option_map}
+use Rattle.std.proofs.Common.{◌≡◌, ℕ, ◌+◌, ◌^◌, ◌<◌, ◌≤◌, Bool, true, false, cond, List, [], ◌∷◌, ◌++◌, All, length, map, take, drop, get_or, sum_by, Option, Some, None, refl, sym, ap, subst, ◌∙◌, arith}
+use Rattle.std.proofs.lemmas.Bool.{lt-ltb, le-ltb, ltb-false}
+use Rattle.std.proofs.lemmas.List.{map-append, drop_more, take_more, take_all, drop_all}
+use Rattle.std.proofs.lemmas.List.Elements.{All-more, All-map}
+use Rattle.std.proofs.lemmas.List.Sums.{sum_by_push}
+use Rattle.sf_model.specs.declared.machine.Arch.{Arch}
+use Rattle.sf_model.specs.declared.machine.Arch.TheVariants.{Amd64, Aarch64}
+use Rattle.sf_model.specs.Table.{Table, row_count}
+use Rattle.sf_decode.specs.declared.view.View.{View}
+use Rattle.sf_decode.specs.View.{table_of}
+use Rattle.sf_merge.specs.declared.fault.MergeFault.{MergeFault}
+use Rattle.sf_merge.specs.declared.fault.MergeFault.TheVariants as merge
+use Rattle.sf_merge.specs.declared.located.Located.{Located}
+use Rattle.sf_merge.specs.Merging.{same_arch, is_other, mixed_with_first, mixed_fault, functions_in_all, rows_in_all, limits_fault, overlap, neighbours, overlap_fault, shared_by}
+
+-- what a part of the sections shows, from a number on
+pub tables_more : (views : List View) (i : ℕ) (v : View) → i < length views → v ≡ get_or views i v → map table_of (drop i views) ≡ table_of v ∷ map table_of (drop (i + 1) views)
+tables_more views i v lt is = ap (map table_of) (drop_more views i v lt) ∙ ap (λ w. table_of w ∷ map table_of (drop (i + 1) views)) (sym is)
+
+-- and up to it
+pub tables_so_far : (views : List View) (i : ℕ) (v : View) → i < length views → v ≡ get_or views i v → map table_of (take (i + 1) views) ≡ map table_of (take i views) ++ table_of v ∷ []
+tables_so_far views i v lt is =
+    ap (map table_of) (take_more views i v lt) ∙ map-append table_of (take i views) (get_or views i v ∷ []) ∙ ap (λ w. map table_of (take i views) ++ table_of w ∷ []) (sym is)
+
+-- ---- machines
+abbrev pub mixed_from : Arch → (item : ℕ) → List Table → Option MergeFault
+mixed_from arch item tables = option_map mixed_with_first (find (is_other arch) (enumerate_from item tables))
+
+pub mixed_begins : (views : List View) (d : View) → 0 < length views → mixed_fault (map table_of views) ≡ mixed_from (table_of (get_or views 0 d)).arch 0 (map table_of views)
+mixed_begins [] d lt = absurd (omega (lt, arith))
+mixed_begins (v ∷ views) d lt = refl
+
+pub mixed_stops : (arch : Arch) (item : ℕ) (table : Table) (tables : List Table) → same_arch arch table.arch ≡ false → mixed_from arch item (table ∷ tables) ≡ Some (merge.MixedArch 0 item)
+mixed_stops arch item table tables e = rw e refl
+
+pub mixed_goes_on : (arch : Arch) (item : ℕ) (table : Table) (tables : List Table) → same_arch arch table.arch ≡ true → mixed_from arch item (table ∷ tables) ≡ mixed_from arch (item + 1) tables
+mixed_goes_on arch item table tables e = rw e refl
+
+pub one_machine : (a b : Arch) → same_arch a b ≡ true → b ≡ a
+one_machine Amd64 Amd64 e = refl
+one_machine Amd64 Aarch64 e = cc
+one_machine Aarch64 Amd64 e = cc
+one_machine Aarch64 Aarch64 e = refl
+
+-- ---- limits
+abbrev by_tests : (functions rows : Bool) → Option MergeFault
+by_tests functions rows = cond functions (Some merge.TooManyFunctions) (cond rows (Some merge.TooManyRows) None)
+
+tested : (tables : List Table) (functions rows : Bool) → nat_lt (2 ^ 21) (functions_in_all tables) ≡ functions → nat_lt (2 ^ 24) (rows_in_all tables) ≡ rows → limits_fault tables ≡ by_tests functions rows
+tested tables functions rows p q = rw (p, q) refl
+
+pub too_many_functions : (tables : List Table) → 2 ^ 21 < functions_in_all tables → limits_fault tables ≡ Some merge.TooManyFunctions
+too_many_functions tables many = tested tables true (nat_lt (2 ^ 24) (rows_in_all tables)) (lt-ltb (2 ^ 21) (functions_in_all tables) many) refl
+
+pub too_many_rows : (tables : List Table) → functions_in_all tables ≤ 2 ^ 21 → 2 ^ 24 < rows_in_all tables → limits_fault tables ≡ Some merge.TooManyRows
+too_many_rows tables few many = tested tables false true (le-ltb (2 ^ 21) (functions_in_all tables) few) (lt-ltb (2 ^ 24) (rows_in_all tables) many)
+
+pub within_limits : (tables : List Table) → functions_in_all tables ≤ 2 ^ 21 → rows_in_all tables ≤ 2 ^ 24 → limits_fault tables ≡ None
+within_limits tables few small = tested tables false false (le-ltb (2 ^ 21) (functions_in_all tables) few) (le-ltb (2 ^ 24) (rows_in_all tables) small)
+
+functions_within : (tables : List Table) (b : Bool) → nat_lt (2 ^ 21) (functions_in_all tables) ≡ b → limits_fault tables ≡ None → b ≡ false
+functions_within tables false p h = refl
+functions_within tables true p h = let is = sym (tested tables true (nat_lt (2 ^ 24) (rows_in_all tables)) p refl) ∙ h in cc
+
+rows_within : (tables : List Table) (b : Bool) → nat_lt (2 ^ 24) (rows_in_all tables) ≡ b → limits_fault tables ≡ None → b ≡ false
+rows_within tables false p h = refl
+rows_within tables true p h = let is = sym (tested tables false true (functions_within tables (nat_lt (2 ^ 21) (functions_in_all tables)) refl h) p) ∙ h in cc
+
+pub few_functions : (tables : List Table) → limits_fault tables ≡ None → functions_in_all tables ≤ 2 ^ 21
+few_functions tables h = ltb-false (2 ^ 21) (functions_in_all tables) (functions_within tables (nat_lt (2 ^ 21) (functions_in_all tables)) refl h)
+
+pub few_rows : (tables : List Table) → limits_fault tables ≡ None → rows_in_all tables ≤ 2 ^ 24
+few_rows tables h = ltb-false (2 ^ 24) (rows_in_all tables) (rows_within tables (nat_lt (2 ^ 24) (rows_in_all tables)) refl h)
+
+-- the sums so far
+pub functions_more : (views : List View) (i : ℕ) (v : View) → i < length views → v ≡ get_or views i v
+    → functions_in_all (map table_of (take (i + 1) views)) ≡ functions_in_all (map table_of (take i views)) + length (table_of v).functions
+functions_more views i v lt is =
+    ap functions_in_all (tables_so_far views i v lt is) ∙ sum_by_push (λ (table : Table). length table.functions) (map table_of (take i views)) (table_of v)
+
+pub rows_more : (views : List View) (i : ℕ) (v : View) → i < length views → v ≡ get_or views i v
+    → rows_in_all (map table_of (take (i + 1) views)) ≡ rows_in_all (map table_of (take i views)) + row_count (table_of v).functions
+rows_more views i v lt is =
+    ap rows_in_all (tables_so_far views i v lt is) ∙ sum_by_push (λ (table : Table). row_count table.functions) (map table_of (take i views)) (table_of v)
+
+pub tables_all : (views : List View) (i : ℕ) → length views ≤ i → map table_of (take i views) ≡ map table_of views
+tables_all views i le = ap (map table_of) (take_all i views le)
+
+pub no_tables_left : (views : List View) (i : ℕ) → length views ≤ i → map table_of (drop i views) ≡ []
+no_tables_left views i le = ap (map table_of) (drop_all i views le)
+
+-- ---- overlaps
+pub overlap_stops : (before l : Located) (later : List Located) → overlap (before, l) ≡ true → overlap_fault (before ∷ l ∷ later) ≡ Some (shared_by (before, l))
+unfolding overlap_fault
+overlap_stops before l later e = rw e refl
+
+pub overlap_goes_on : (before l : Located) (later : List Located) → overlap (before, l) ≡ false → overlap_fault (before ∷ l ∷ later) ≡ overlap_fault (l ∷ later)
+unfolding overlap_fault
+overlap_goes_on before l later e = rw e refl
+
+pub one_alone : (l : Located) → overlap_fault (l ∷ []) ≡ None
+unfolding overlap_fault
+one_alone l = refl
+
+pub none_at_all : overlap_fault [] ≡ None
+unfolding overlap_fault
+none_at_all = refl
+
+-- the function at a place of those that are left
+pub at_place : (before l : Located) (later : List Located) (i : ℕ) → i < length later → l ≡ get_or later i l → overlap_fault (before ∷ drop i later) ≡ overlap_fault (before ∷ l ∷ drop (i + 1) later)
+at_place before l later i lt is =
+    ap (λ ls. overlap_fault (before ∷ ls)) (drop_more later i l lt ∙ ap (λ (x : Located). x ∷ drop (i + 1) later) (sym is))
+
+pub nothing_to_share : (ls : List Located) → length ls ≡ 0 → overlap_fault ls ≡ None
+nothing_to_share [] e = none_at_all
+nothing_to_share (l ∷ ls) e = absurd (omega (e, arith))

@@ -1,0 +1,12 @@
+pub mod Permutations
+pub mod HeadLists
+pub mod Written
+pub mod Checks
+pub mod Read
+pub mod Apart
+pub mod United
+pub mod Sound
+pub mod Merged
+pub mod Joined
+pub mod OneOrder
+pub mod Lookups

@@ -1,0 +1,80 @@
+-- The functions of sections as they are read, one after the other.
+use Rattle.std.specs.Prelude.{nat_lt}
+use Rattle.std.specs.List.{enumerate_from, filter, flat_map}
+use Rattle.std.specs.List.Sorted.{IsPermutation, IsSorted}
+use Rattle.std.proofs.Common.{◌≡◌, ℕ, ◌+◌, ◌<◌, ◌≤◌, Bool, true, false, cond, List, [], ◌∷◌, ◌++◌, length, map, drop, get_or, Result, Ok, Err, IfOk, OnOk, refl, sym, ap, subst, ◌∙◌, append_assoc, arith}
+use Rattle.std.proofs.lemmas.Bool.{lt-ltb, le-ltb}
+use Rattle.std.proofs.lemmas.List.{append-nil, drop_more, drop_all}
+use Rattle.std.proofs.lemmas.List.Elements.{filter-append}
+use Rattle.std.proofs.lemmas.List.Sorted.{IsPermutation-trans, IsPermutation-append_left, IsPermutation-append_comm}
+use Rattle.sf_model.specs.declared.function.Func.{Func}
+use Rattle.sf_model.specs.declared.function.FuncHead.{FuncHead}
+use Rattle.sf_model.specs.declared.rows.Row.{Row}
+use Rattle.sf_model.specs.Table.{Table}
+use Rattle.sf_decode.specs.declared.view.View.{View}
+use Rattle.sf_decode.specs.View.{table_of, head_of}
+use Rattle.sf_merge.specs.declared.located.Located.{Located}
+use Rattle.sf_merge.specs.Located.{at_entry, located, has_bytes, compared, InOrder}
+use Rattle.sf_merge.proofs.Checks.{tables_more, no_tables_left}
+
+-- ---- a function
+abbrev with_rows : FuncHead → List Row → Func
+with_rows head rows = record { start = head.start; size = head.size; shape = head.shape; key = head.key; rows = rows }
+
+pub function_is : (f : Func) (head : FuncHead) (rows : List Row) → head ≡ head_of f → rows ≡ f.rows → with_rows head rows ≡ f
+function_is f head rows h r = ap (λ (x : FuncHead). with_rows x rows) h ∙ ap (λ (rs : List Row). with_rows (head_of f) rs) r
+
+-- ---- a section: the functions from an entry on
+abbrev pub left_in : (item number : ℕ) → List Func → List Located
+left_in item number functions = filter has_bytes (map (at_entry item) (enumerate_from number functions))
+
+left_more : (item number : ℕ) (functions : List Func) (f : Func) → number < length functions → get_or functions number f ≡ f
+    → left_in item number (drop number functions) ≡ cond (nat_lt 0 f.size) (at_entry item (number, f) ∷ left_in item (number + 1) (drop (number + 1) functions)) (left_in item (number + 1) (drop (number + 1) functions))
+left_more item number functions f lt is =
+    ap (left_in item number) (drop_more functions number f lt) ∙ ap (λ (g : Func). left_in item number (g ∷ drop (number + 1) functions)) is
+
+pub left_kept : (all so_far : List Located) (item number : ℕ) (functions : List Func) (f : Func) → number < length functions → get_or functions number f ≡ f → 0 < f.size
+    → all ≡ so_far ++ left_in item number (drop number functions) → all ≡ (so_far ++ at_entry item (number, f) ∷ []) ++ left_in item (number + 1) (drop (number + 1) functions)
+left_kept all so_far item number functions f lt is some e =
+    e ∙ ap (λ ls. so_far ++ ls) (left_more item number functions f lt is)
+    ∙ ap (λ (b : Bool). so_far ++ cond b (at_entry item (number, f) ∷ left_in item (number + 1) (drop (number + 1) functions)) (left_in item (number + 1) (drop (number + 1) functions))) (lt-ltb 0 f.size some)
+    ∙ sym (append_assoc so_far (at_entry item (number, f) ∷ []) (left_in item (number + 1) (drop (number + 1) functions)))
+
+pub left_passed : (all so_far : List Located) (item number : ℕ) (functions : List Func) (f : Func) → number < length functions → get_or functions number f ≡ f → f.size ≡ 0
+    → all ≡ so_far ++ left_in item number (drop number functions) → all ≡ so_far ++ left_in item (number + 1) (drop (number + 1) functions)
+left_passed all so_far item number functions f lt is none e =
+    e ∙ ap (λ ls. so_far ++ ls) (left_more item number functions f lt is)
+    ∙ ap (λ (b : Bool). so_far ++ cond b (at_entry item (number, f) ∷ left_in item (number + 1) (drop (number + 1) functions)) (left_in item (number + 1) (drop (number + 1) functions))) (le-ltb 0 f.size (omega (none, arith)))
+
+pub left_none : (all so_far : List Located) (item number : ℕ) (functions : List Func) → length functions ≤ number → all ≡ so_far ++ left_in item number (drop number functions) → so_far ≡ all
+left_none all so_far item number functions le e =
+    sym (e ∙ ap (λ fs. so_far ++ left_in item number fs) (drop_all number functions le) ∙ append-nil so_far)
+
+-- ---- all sections: the functions from a section on
+abbrev pub sized_from : (item : ℕ) → List Table → List Located
+sized_from item tables = filter has_bytes (flat_map (λ (section : ℕ × Table). located section.0 section.1) (enumerate_from item tables))
+
+pub section_left : (item : ℕ) (views : List View) (i : ℕ) (v : View) → i < length views → v ≡ get_or views i v
+    → sized_from item (map table_of (drop i views)) ≡ filter has_bytes (located item (table_of v)) ++ sized_from (item + 1) (map table_of (drop (i + 1) views))
+section_left item views i v lt is =
+    ap (sized_from item) (tables_more views i v lt is)
+    ∙ filter-append has_bytes (located item (table_of v)) (flat_map (λ (section : ℕ × Table). located section.0 section.1) (enumerate_from (item + 1) (map table_of (drop (i + 1) views))))
+
+pub section_added : (all own list old new rest : List Located) → IsPermutation all (old ++ (own ++ rest)) → IsPermutation own list → IsPermutation (list ++ old) new → IsPermutation all (new ++ rest)
+section_added all own list old new rest h moved added =
+    let front = IsPermutation-trans (old ++ own) (own ++ old) new (IsPermutation-append_comm old own) (IsPermutation-trans (own ++ old) (list ++ old) new (IsPermutation-append_left old own list moved) added) in
+    IsPermutation-trans all (old ++ (own ++ rest)) (new ++ rest) h (subst (λ ls. IsPermutation ls (new ++ rest)) (append_assoc old own rest) (IsPermutation-append_left rest (old ++ own) new front))
+
+pub none_left : (all held : List Located) (item : ℕ) (views : List View) (i : ℕ) → length views ≤ i → IsPermutation all (held ++ sized_from item (map table_of (drop i views))) → IsPermutation all held
+none_left all held item views i le h =
+    subst (IsPermutation all) (ap (λ ts. held ++ sized_from item ts) (no_tables_left views i le) ∙ append-nil held) h
+
+-- ---- by the result of a call
+pub in_order_by : {V E : Type 0} (items : V → List Located) (r : Result V E) (all held : List Located) → IsPermutation all held → IfOk r (λ v. IsPermutation held (items v)) → IfOk r (λ v. IsSorted compared (items v))
+    → IfOk r (λ v. InOrder all (items v))
+in_order_by items (Ok v) all held h taken sorted = record { moved = IsPermutation-trans all held (items v) h taken; rising = sorted }
+in_order_by items (Err e) all held h taken sorted = tt
+
+pub on_ok : {V E : Type 0} (P : Type 0) (r : Result V E) → P → OnOk r P
+on_ok P (Ok v) p = p
+on_ok P (Err e) p = tt

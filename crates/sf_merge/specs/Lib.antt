@@ -1,0 +1,9 @@
+pub mod Located
+pub mod Merging
+pub mod Heads
+pub mod Held
+pub mod Joining
+pub mod Views
+pub mod Answers
+pub mod Fault
+pub mod Told

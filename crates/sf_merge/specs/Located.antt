@@ -1,0 +1,46 @@
+-- GNU SFrame specification, Version 2, function descriptor entries: the functions of several sections, in the order of their
+-- addresses.
+use Rattle.std.specs.Prelude.{ℕ, Bool, nat_lt, List, map}
+use Rattle.std.specs.List.{enumerate_from, filter, flat_map}
+use Rattle.std.specs.List.Sorted.{IsPermutation, IsSorted}
+use Rattle.std.specs.Ordering.{nat_cmp, ordering_then}
+use Rattle.std.specs.declared.cmp.Ordering.{Ordering}
+use Rattle.sf_model.specs.declared.function.Func.{Func}
+use Rattle.sf_model.specs.Table.{Table}
+use Rattle.sf_merge.specs.declared.located.Located.{Located}
+use Rattle.sf_merge.specs.declared.located.Rank.{Rank}
+
+-- a function by its section and its entry, both numbered from 0
+abbrev pub at_entry : (item : ℕ) → ℕ × Func → Located
+at_entry item entry = record { func = entry.1; item = item; number = entry.0 }
+
+-- the functions of a section
+abbrev pub located : (item : ℕ) → Table → List Located
+located item table = map (at_entry item) (enumerate_from 0 table.functions)
+
+-- those of all sections
+abbrev pub all_located : List Table → List Located
+all_located tables = flat_map (λ (section : ℕ × Table). located section.0 section.1) (enumerate_from 0 tables)
+
+-- the function holds an address
+abbrev pub has_bytes : Located → Bool
+has_bytes l = nat_lt 0 l.func.size
+
+-- the functions that hold an address
+abbrev pub sized : List Table → List Located
+sized tables = filter has_bytes (all_located tables)
+
+-- by start, then by section, then by entry
+abbrev pub compared_ranks : Rank → Rank → Ordering
+compared_ranks a b = ordering_then (nat_cmp a.start b.start) (ordering_then (nat_cmp a.item b.item) (nat_cmp a.number b.number))
+
+abbrev pub rank_of : Located → Rank
+rank_of l = record { start = l.func.start; item = l.item; number = l.number }
+
+abbrev pub compared : Located → Located → Ordering
+compared a b = compared_ranks (rank_of a) (rank_of b)
+
+-- the same functions in this order
+pub record InOrder (all ordered : List Located) : Type 0 where
+  pub moved : IsPermutation all ordered
+  pub rising : IsSorted compared ordered

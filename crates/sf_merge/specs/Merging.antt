@@ -1,0 +1,101 @@
+-- Sections merged as a linker does it (GNU SFrame specification, Version 2): the functions that are written, and why there may be
+-- none. The faults are tried in the order in which they stand here.
+use Rattle.std.specs.Prelude.{◌≡◌, ◌+◌, ◌^◌, ℕ, Bool, true, false, not, nat_lt, List, [], ◌∷◌, map, length, drop, sum_by, Option, Some, None, Result, Ok, Err, if◌then◌else◌}
+use Rattle.std.specs.Option.{option_map}
+use Rattle.std.specs.List.{enumerate_from, filter, find, zip}
+use Rattle.sf_model.specs.declared.machine.Arch.{Arch}
+use Rattle.sf_model.specs.declared.machine.Arch.TheVariants.{Amd64, Aarch64}
+use Rattle.sf_model.specs.declared.function.Func.{Func}
+use Rattle.sf_model.specs.Table.{Table, row_count}
+use Rattle.sf_model.specs.Union.{is_of_use}
+use Rattle.sf_write.specs.Reach.{first_out_of_reach}
+use Rattle.sf_merge.specs.declared.located.Located.{Located}
+use Rattle.sf_merge.specs.declared.fault.MergeFault.{MergeFault}
+use Rattle.sf_merge.specs.declared.fault.MergeFault.TheVariants.{MixedArch, TooManyFunctions, TooManyRows, Overlap, OutOfReach}
+use Rattle.sf_merge.specs.Located.{sized, InOrder}
+
+-- ---- machines
+abbrev pub same_arch : Arch → Arch → Bool
+same_arch Amd64 Amd64 = true
+same_arch Aarch64 Aarch64 = true
+same_arch a b = false
+
+-- the section's machine is another one
+abbrev pub is_other : Arch → ℕ × Table → Bool
+is_other arch section = not (same_arch arch section.1.arch)
+
+abbrev pub mixed_with_first : ℕ × Table → MergeFault
+mixed_with_first section = MixedArch 0 section.0
+
+-- the first section whose machine isn't that of section 0
+abbrev pub mixed_fault : List Table → Option MergeFault
+mixed_fault [] = None
+mixed_fault (first ∷ later) = option_map mixed_with_first (find (is_other first.arch) (enumerate_from 0 (first ∷ later)))
+
+-- ---- limits
+abbrev pub functions_in_all : List Table → ℕ
+functions_in_all tables = sum_by (λ (table : Table). length table.functions) tables
+
+abbrev pub rows_in_all : List Table → ℕ
+rows_in_all tables = sum_by (λ (table : Table). row_count table.functions) tables
+
+-- more than 2^21 functions, or more than 2^24 rows, in all sections together
+abbrev pub limits_fault : List Table → Option MergeFault
+limits_fault tables =
+    if nat_lt (2 ^ 21) (functions_in_all tables) then Some TooManyFunctions else
+    if nat_lt (2 ^ 24) (rows_in_all tables) then Some TooManyRows else None
+
+-- ---- overlaps
+-- each but the last, with the one behind it
+abbrev pub neighbours : List Located → List (Located × Located)
+neighbours ordered = zip ordered (drop 1 ordered)
+
+-- the second begins before the end of the first
+abbrev pub overlap : Located × Located → Bool
+overlap pair = nat_lt pair.1.func.start (pair.0.func.start + pair.0.func.size)
+
+abbrev pub shared_by : Located × Located → MergeFault
+shared_by pair = Overlap pair.0.func.start pair.0.item pair.1.func.start pair.1.item
+
+-- the first two neighbours that share an address
+unfoldable pub overlap_fault : List Located → Option MergeFault
+overlap_fault ordered = option_map shared_by (find overlap (neighbours ordered))
+
+-- ---- reach
+-- the functions that are written: those that hold an address and have a row
+abbrev pub written : List Located → List Func
+written ordered = filter is_of_use (map (λ (l : Located). l.func) ordered)
+
+-- the first of them that lies too far from its start field, in a section at this address
+abbrev pub reach_fault : (at : ℕ) → List Func → Option MergeFault
+reach_fault at functions = option_map OutOfReach (first_out_of_reach at 0 functions)
+
+-- ---- the first fault
+abbrev pub or_later : Option MergeFault → Option MergeFault → Option MergeFault
+or_later (Some fault) later = Some fault
+or_later None later = later
+
+-- of sections: their machines, and then the limits
+abbrev pub sections_fault : List Table → Option MergeFault
+sections_fault tables = or_later (mixed_fault tables) (limits_fault tables)
+
+-- of their functions that hold an address, in order: overlaps, and then the reach
+abbrev pub functions_fault : (at : ℕ) → List Located → Option MergeFault
+functions_fault at ordered = or_later (overlap_fault ordered) (reach_fault at (written ordered))
+
+abbrev pub unless_fault : {X : Type 0} → Option MergeFault → X → Result X MergeFault
+unless_fault None x = Ok x
+unless_fault (Some fault) x = Err fault
+
+abbrev pub unless : Option MergeFault → Result (Unit {0}) MergeFault
+unless fault = unless_fault fault tt
+
+-- ---- what merging comes to: the functions that are written, or the first fault
+abbrev pub MergesUnless : Option MergeFault → List Table → (at : ℕ) → Result (List Func) MergeFault → Type 0
+MergesUnless (Some fault) tables at result = result ≡ Err fault
+MergesUnless None tables at result =
+    (ordered : List Located) × InOrder (sized tables) ordered × (result ≡ unless_fault (functions_fault at ordered) (written ordered))
+
+-- merging these sections into one at this address comes to this
+abbrev pub Merges : List Table → (at : ℕ) → Result (List Func) MergeFault → Type 0
+Merges tables at result = MergesUnless (sections_fault tables) tables at result

@@ -1,0 +1,28 @@
+-- What the line of a fault shows: its number in the group of faults of linking, and its values.
+use Rattle.std.specs.Prelude.{ℕ, List, [], ◌∷◌, Option}
+use Rattle.sf_model.specs.declared.notice.Group.{Group}
+use Rattle.sf_model.specs.declared.notice.Group.TheVariants as group
+use Rattle.sf_model.specs.declared.notice.Notice.{Notice}
+use Rattle.sf_merge.specs.declared.fault.MergeFault.{MergeFault}
+use Rattle.sf_merge.specs.declared.fault.MergeFault.TheVariants as merge
+
+pub record Told : Type 0 where
+  pub item : Option ℕ
+  pub group : Group
+  pub number : ℕ
+  pub values : List ℕ
+
+abbrev pub told_by : Notice → Told
+told_by notice = record { item = notice.item; group = notice.group; number = notice.number; values = notice.values.items }
+
+abbrev pub told_of_link : Option ℕ → (number : ℕ) → List ℕ → Told
+told_of_link item number values = record { item = item; group = group.Link; number = number; values = values }
+
+-- two sections of different machines, two functions with their sections, a start; the limits and want of memory have no line
+abbrev pub told_of_merging : Option ℕ → MergeFault → Told
+told_of_merging item (merge.MixedArch first other) = told_of_link item 1 (first ∷ other ∷ [])
+told_of_merging item (merge.Overlap start first other second) = told_of_link item 2 (start ∷ first ∷ other ∷ second ∷ [])
+told_of_merging item (merge.OutOfReach start) = told_of_link item 3 (start ∷ [])
+told_of_merging item merge.TooManyFunctions = told_of_link item 0 []
+told_of_merging item merge.TooManyRows = told_of_link item 0 []
+told_of_merging item merge.NoMemory = told_of_link item 0 []

@@ -1,0 +1,92 @@
+//! The checks of sections that are to be merged.
+
+ghost use Rattle.std.specs.Prelude.{◌≡◌, ◌<◌, ◌≤◌, ◌+◌, ◌^◌, Some, None, map, length, All, IfOk, OnOk, IfErr};
+ghost use Rattle.sf_model.specs.Table.{Table as table_fact};
+ghost use Rattle.sf_decode.specs.View.{table_of};
+ghost use Rattle.sf_merge.specs.Merging.{same_arch, mixed_fault, limits_fault, overlap, overlap_fault, unless};
+
+use crate::fault::MergeFault;
+use crate::located::Located;
+use sf_decode::View;
+use sf_model::Arch;
+
+/// The most functions of all sections together.
+const FUNCTION_LIMIT: u64 = 1 << 21;
+
+/// The most rows of all sections together.
+const ROW_LIMIT: u64 = 1 << 24;
+
+/// Whether two machines are one.
+fn same_arch(one: Arch, other: Arch) -> bool
+    ensures { result ≡ same_arch one other }
+{
+    one == other
+}
+
+/// The machine of all sections.
+pub fn check_machines(views: &[View<'_>]) -> Result<Arch, MergeFault>
+    requires some { 0 < length views.now }
+    requires few { length views.now ≤ 512 }
+    ensures one { IfOk result (λ arch. All (λ (table : table_fact). table.arch ≡ arch) (map table_of views.now)) }
+    ensures none { OnOk result (mixed_fault (map table_of views.now) ≡ None) }
+    ensures fault { IfErr result (λ fault. mixed_fault (map table_of views.now) ≡ Some fault) }
+{
+    let arch = views[0].arch();
+    let mut item = 0;
+    for view in views {
+        if !same_arch(arch, view.arch()) {
+            return Err(MergeFault::MixedArch(0, item));
+        }
+        item += 1;
+    }
+    Ok(arch)
+}
+
+/// Tries the limits: functions first, then rows.
+pub fn check_limits(views: &[View<'_>]) -> Result<(), MergeFault>
+    requires { length views.now ≤ 512 }
+    ensures { result ≡ unless (limits_fault (map table_of views.now)) }
+{
+    let mut functions = 0;
+    let mut rows = 0;
+    for view in views {
+        functions += u64::from(view.len());
+        rows += u64::from(view.row_count());
+    }
+    if functions > FUNCTION_LIMIT {
+        return Err(MergeFault::TooManyFunctions);
+    }
+    if rows > ROW_LIMIT {
+        return Err(MergeFault::TooManyRows);
+    }
+    Ok(())
+}
+
+/// Whether the second function begins before the end of the first.
+fn shares_address(before: &Located, function: &Located) -> bool
+    ensures { result ≡ overlap (before.now, function.now) }
+{
+    u128::from(function.func.start) < u128::from(before.func.start) + u128::from(before.func.size)
+}
+
+/// Tries each function against the one before it.
+pub fn check_overlap(ordered: &[Located]) -> Result<(), MergeFault>
+    ensures { result ≡ unless (overlap_fault ordered.now) }
+{
+    let Some((first, later)) = ordered.split_first() else {
+        return Ok(());
+    };
+    let mut before = first;
+    for function in later {
+        if shares_address(before, function) {
+            return Err(MergeFault::Overlap(
+                before.func.start,
+                before.item,
+                function.func.start,
+                function.item,
+            ));
+        }
+        before = function;
+    }
+    Ok(())
+}

@@ -1,0 +1,23 @@
+//! Laws: what merging comes to, and what is looked up in the section that is made.
+
+ghost use Rattle.std.specs.Prelude.{◌≡◌, ℕ, All, List, Some, None, Result};
+ghost use Rattle.std.specs.List.{Contains};
+ghost use Rattle.sf_model.specs.declared.machine.Arch.{Arch};
+ghost use Rattle.sf_model.specs.declared.function.Func.{Func};
+ghost use Rattle.sf_model.specs.Lookup.{FoundRow, found_at};
+ghost use Rattle.sf_model.specs.Table.{Table};
+ghost use Rattle.sf_model.specs.Union.{IsUnion};
+ghost use Rattle.sf_merge.specs.declared.fault.MergeFault.{MergeFault};
+ghost use Rattle.sf_merge.specs.Merging.{Merges};
+
+/// Merging sections comes to one result: the functions that are written, or the first fault.
+pub fn merging_comes_to_one_result()
+    ensures { (tables : List Table) (at : ℕ) (one other : Result (List Func) MergeFault) → Merges tables at one → Merges tables at other → one ≡ other }
+{}
+
+/// What the union of tables has at an address is what the one table has that has a row there; where none
+/// has one, the union has none.
+pub fn merged_sections_answer_alike()
+    ensures answered { (arch : Arch) (tables : List Table) (functions : List Func) → IsUnion arch tables functions → (pc : ℕ) (table : Table) (found : FoundRow) → Contains tables table → found_at table.functions pc ≡ Some found → found_at functions pc ≡ Some found }
+    ensures unanswered { (arch : Arch) (tables : List Table) (functions : List Func) → IsUnion arch tables functions → (pc : ℕ) → All (λ (table : Table). found_at table.functions pc ≡ None) tables → found_at functions pc ≡ None }
+{}

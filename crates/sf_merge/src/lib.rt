@@ -1,0 +1,34 @@
+//! Several SFrame Version 2 sections made into one, as a linker does.
+//!
+//! [`merge`] takes sections that were checked, at their addresses, and writes one section for another
+//! address: each function that holds an address and has a row is taken over row for row, by rising start.
+//! What merging comes to is one definition (`Merges` of `specs/Merging.antt`): these functions, or the first
+//! fault. The answer is the `Tight` and `Narrow` section, by the definitions of `sf_model`, of the tables'
+//! union (`IsUnion`). [`join`] makes lists of functions into one list by rising start.
+//!
+//! [`merging_comes_to_one_result`] and [`merged_sections_answer_alike`] are laws: so the answer is Ok exactly
+//! where the definition has no fault, and a look-up in the union finds what the one section had.
+//!
+//! The caller owes `merge` from 1 to 512 sections, and `join` lists that rise, of functions with bytes that
+//! share no address. Both take memory. Each section's functions are brought into order once, and then the
+//! heads of the lists are taken by least start: n functions of k sections cost about n log k steps.
+#![tactic(auto)]
+
+mod checking;
+mod fault;
+mod head;
+mod heads;
+mod joining;
+mod laws;
+mod located;
+mod merging;
+mod notices;
+mod reading;
+
+pub use fault::MergeFault;
+pub use joining::join;
+pub use laws::{merged_sections_answer_alike, merging_comes_to_one_result};
+pub use merging::merge;
+
+#[cfg(test)]
+mod tests;

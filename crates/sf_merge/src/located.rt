@@ -1,0 +1,38 @@
+//! Functions of several sections, each with its section and its entry.
+
+ghost use Rattle.std.specs.Prelude.{◌≡◌};
+ghost use Rattle.sf_merge.specs.Located.{rank_of};
+
+use sf_model::Func;
+
+/// The place of a function in the order of all: by start, then by section, then by entry.
+#[derive(Clone, Copy, Debug, PartialEq, Eq, PartialOrd, Ord)]
+pub struct Rank {
+    pub start: u64,
+    pub item: u32,
+    pub number: u32,
+}
+
+/// A function of one of several sections.
+#[derive(Debug, Drop)]
+pub struct Located {
+    /// The function.
+    pub func: Func,
+    /// The number of its section, from 0.
+    pub item: u32,
+    /// The number of its entry in the section, from 0.
+    pub number: u32,
+}
+
+impl Located {
+    /// Its place in the order of all functions.
+    pub fn rank(&self) -> Rank
+        ensures { result ≡ rank_of self.now }
+    {
+        Rank {
+            start: self.func.start,
+            item: self.item,
+            number: self.number,
+        }
+    }
+}

@@ -1,0 +1,65 @@
+//! Faults as numbers, for the line that tells them.
+
+ghost use Rattle.std.specs.Prelude.{◌≡◌, ◌∷◌, [], IsTrue};
+ghost use Rattle.sf_model.specs.Notice.{HasLine};
+ghost use Rattle.sf_merge.specs.Fault.{is_refusal};
+ghost use Rattle.sf_merge.specs.Told.{told_by, told_of_merging};
+
+use crate::fault::MergeFault;
+use arrayvec::ArrayVec;
+use sf_model::{Group, Notice};
+
+/// The values of two sections of different machines.
+fn two(first: u32, second: u32) -> ArrayVec<u64, 4>
+    ensures { result.items ≡ first ∷ second ∷ [] }
+{
+    let mut values = ArrayVec::new();
+    values.push(u64::from(first));
+    values.push(u64::from(second));
+    values
+}
+
+/// The values of two functions that share an address.
+fn four(start: u64, first: u32, other: u64, second: u32) -> ArrayVec<u64, 4>
+    ensures { result.items ≡ start ∷ first ∷ other ∷ second ∷ [] }
+{
+    let mut values = ArrayVec::new();
+    values.push(start);
+    values.push(u64::from(first));
+    values.push(other);
+    values.push(u64::from(second));
+    values
+}
+
+/// The value of a function that is out of reach.
+fn one(start: u64) -> ArrayVec<u64, 4>
+    ensures { result.items ≡ start ∷ [] }
+{
+    let mut values = ArrayVec::new();
+    values.push(start);
+    values
+}
+
+impl MergeFault {
+    /// The fault as its line shows it. The caller owes that it is no limit and no want of memory.
+    pub fn notice(&self, item: Option<u32>) -> Notice
+        requires { IsTrue (is_refusal self.now) }
+        ensures told { told_by result ≡ told_of_merging item self.now }
+        ensures line { HasLine result }
+    {
+        let (number, values) = match self {
+            MergeFault::MixedArch(first, second) => (1, two(*first, *second)),
+            MergeFault::Overlap(start, first, other, second) => {
+                (2, four(*start, *first, *other, *second))
+            }
+            MergeFault::OutOfReach(start) => (3, one(*start)),
+            _ => unreachable!(),
+        };
+        Notice {
+            item,
+            group: Group::Link,
+            number,
+            values,
+        }
+    }
+}
