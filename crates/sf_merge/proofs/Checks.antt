@@ -2,10 +2,9 @@
 use Rattle.std.specs.Prelude.{nat_lt}
 use Rattle.std.specs.List.{enumerate_from, find}
 use Rattle.std.specs.Option.{option_map}
-use Rattle.std.proofs.Common.{◌≡◌, ℕ, ◌+◌, ◌^◌, ◌<◌, ◌≤◌, Bool, true, false, cond, List, [], ◌∷◌, ◌++◌, All, length, map, take, drop, get_or, sum_by, Option, Some, None, refl, sym, ap, subst, ◌∙◌, arith}
+use Rattle.std.proofs.Common.{◌≡◌, ℕ, ◌+◌, ◌^◌, ◌<◌, ◌≤◌, Bool, true, false, cond, List, [], ◌∷◌, ◌++◌, length, map, take, drop, get_or, Option, Some, None, refl, sym, ap, ◌∙◌, arith}
 use Rattle.std.proofs.lemmas.Bool.{lt-ltb, le-ltb, ltb-false}
 use Rattle.std.proofs.lemmas.List.{map-append, drop_more, take_more, take_all, drop_all}
-use Rattle.std.proofs.lemmas.List.Elements.{All-more, All-map}
 use Rattle.std.proofs.lemmas.List.Sums.{sum_by_push}
 use Rattle.sf_model.specs.declared.machine.Arch.{Arch}
 use Rattle.sf_model.specs.declared.machine.Arch.TheVariants.{Amd64, Aarch64}
@@ -15,7 +14,7 @@ use Rattle.sf_decode.specs.View.{table_of}
 use Rattle.sf_merge.specs.declared.fault.MergeFault.{MergeFault}
 use Rattle.sf_merge.specs.declared.fault.MergeFault.TheVariants as merge
 use Rattle.sf_merge.specs.declared.located.Located.{Located}
-use Rattle.sf_merge.specs.Merging.{same_arch, is_other, mixed_with_first, mixed_fault, functions_in_all, rows_in_all, limits_fault, overlap, neighbours, overlap_fault, shared_by}
+use Rattle.sf_merge.specs.Merging.{same_arch, is_other, mixed_with_first, mixed_fault, functions_in_all, rows_in_all, limits_fault, overlap, overlap_fault, shared_by}
 
 -- what a part of the sections shows, from a number on
 pub tables_more : (views : List View) (i : ℕ) (v : View) → i < length views → v ≡ get_or views i v → map table_of (drop i views) ≡ table_of v ∷ map table_of (drop (i + 1) views)

@@ -1,9 +1,8 @@
 -- What is written is what merging comes to.
 use Rattle.std.specs.Prelude.{not}
-use Rattle.std.specs.List.{filter, flat_map}
+use Rattle.std.specs.List.{filter}
 use Rattle.std.specs.Option.{option_map}
-use Rattle.std.specs.List.Sorted.{IsPermutation}
-use Rattle.std.proofs.Common.{◌≡◌, ℕ, ◌+◌, ◌^◌, ◌<◌, ◌≤◌, Bool, true, List, [], ◌∷◌, All, length, map, sum_by, Option, Some, None, Result, Ok, Err, refl, sym, ap, subst, ◌∙◌, arith}
+use Rattle.std.proofs.Common.{◌≡◌, ℕ, ◌≤◌, Bool, true, List, [], ◌∷◌, All, length, Option, Some, None, Ok, refl, sym, ap, subst, ◌∙◌, arith}
 use Rattle.std.proofs.lemmas.List.Concat.{length-flat_map}
 use Rattle.std.proofs.lemmas.List.Elements.{All-filter, filter_passes}
 use Rattle.std.proofs.lemmas.List.Filters.{length-filter_both, sum_by-filter_both}
@@ -22,7 +21,7 @@ use Rattle.sf_merge.specs.declared.fault.MergeFault.TheVariants as merge
 use Rattle.sf_merge.specs.declared.located.Located.{Located}
 use Rattle.sf_merge.specs.Answers.{IsMerged}
 use Rattle.sf_merge.specs.Located.{sized, InOrder}
-use Rattle.sf_merge.specs.Merging.{functions_in_all, rows_in_all, mixed_fault, limits_fault, sections_fault, overlap_fault, reach_fault, functions_fault, or_later, unless, unless_fault, written, Merges, MergesUnless}
+use Rattle.sf_merge.specs.Merging.{rows_in_all, mixed_fault, limits_fault, overlap_fault, reach_fault, or_later, unless, unless_fault, written, Merges, MergesUnless}
 use Rattle.sf_merge.proofs.Apart.{EndsBy, adjacent, useful, written_apart}
 use Rattle.sf_merge.proofs.Checks.{few_functions, few_rows}
 use Rattle.sf_merge.proofs.Sound.{IsSound}

@@ -3,7 +3,6 @@ use Rattle.std.specs.List.{filter}
 use Rattle.std.proofs.Common.{◌≡◌, Bool, true, false, cond, List, [], ◌∷◌, ◌++◌, map, ap, ◌∙◌}
 use Rattle.std.proofs.lemmas.List.{map-append, append-nil}
 use Rattle.std.proofs.lemmas.List.Elements.{filter-append}
-use Rattle.sf_model.specs.declared.function.Func.{Func}
 use Rattle.sf_model.specs.Union.{is_of_use}
 use Rattle.sf_merge.specs.declared.located.Located.{Located}
 use Rattle.sf_merge.specs.Merging.{written}

@@ -334,18 +334,15 @@ fn lists_are_joined_by_rising_start(rt: HostRuntime) -> Result<(), Fail> {
 fn faults_have_lines(rt: HostRuntime) {
     let mixed = MergeFault::MixedArch(0, 2).notice(None);
     assert_eq!(rt; mixed.group, Group::Link);
-    assert_eq!(rt;
-        (mixed.number, mixed.values.as_slice()),
-        (1, [0, 2].as_slice())
-    );
+    assert_eq!(rt; mixed.number, 1);
+    assert_eq!(rt; mixed.values.as_slice(), [0, 2].as_slice());
     let overlap = MergeFault::Overlap(0x1000, 0, 0x1005, 1).notice(None);
+    assert_eq!(rt; overlap.number, 2);
     assert_eq!(rt;
-        (overlap.number, overlap.values.as_slice()),
-        (2, [0x1000, 0, 0x1005, 1].as_slice())
+        overlap.values.as_slice(),
+        [0x1000, 0, 0x1005, 1].as_slice()
     );
     let far = MergeFault::OutOfReach(0x8000_301c).notice(None);
-    assert_eq!(rt;
-        (far.number, far.values.as_slice()),
-        (3, [0x8000_301c].as_slice())
-    );
+    assert_eq!(rt; far.number, 3);
+    assert_eq!(rt; far.values.as_slice(), [0x8000_301c].as_slice());
 }

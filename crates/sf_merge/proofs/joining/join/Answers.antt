@@ -1,4 +1,4 @@
-use Rattle.std.proofs.Common.{◌≡◌, ◌<◌, All, List, ◌++◌, length, map, sym, subst, ap, ◌∙◌, rules}
+use Rattle.std.proofs.Common.{◌≡◌, List, length, map, sym, subst, ◌∙◌}
 use Rattle.std.specs.List.{flat_map, AllAdjacentBelow}
 use Rattle.std.specs.List.Sorted.{IsPermutation, IsSorted}
 use Rattle.std.proofs.lemmas.List.{map-id}

@@ -1,4 +1,4 @@
-use Rattle.std.proofs.Common.{◌≡◌, ◌+◌, All, List, ◌++◌, map, drop, subst, sym, arith}
+use Rattle.std.proofs.Common.{◌+◌, All, List, ◌++◌, map, drop, subst, arith}
 use Rattle.std.specs.List.{filter}
 use Rattle.std.specs.List.Sorted.{IsPermutation}
 use Rattle.std.proofs.lemmas.List.{take_all}
