@@ -13,7 +13,7 @@ use Rattle.sf_asm.specs.declared.fault.GatherFault.TheVariants as gather
 use Rattle.sf_asm.specs.Functions.{◌>>=◌, CallFrames, Function, Object, fault_in, function_at, function_in, functions_in, functions_after, machine_of, named, object_functions, section_functions, sections_functions, sections_of, seen_behind, span_in, unless}
 use Rattle.sf_asm.specs.Kept.{entry_of}
 use Rattle.sf_asm.specs.Linking.{InOrder}
-use Rattle.sf_asm.specs.Relocated.{Values, on_pointers, overlaid}
+use Rattle.sf_asm.specs.Relocated.{Values, on_pointers, patched_values}
 use Rattle.sf_asm.proofs.ReadInputs.{functions_after-cons, functions_after-nil}
 
 -- the value behind a step
@@ -65,9 +65,9 @@ section_of_item : (arch : Arch) (item : ℕ) (section : CallFrames) (fs : List F
 unfolding section_functions
 section_of_item arch item section fs e =
     let records = behind (named (asm.Record section.number) (entries_of arch section.bytes))
-    (λ es. named (asm.Reloc section.number) (section.relocations >>= on_pointers (pointer_fields es)) >>= λ fixes. functions_in arch item section (overlaid fixes) (frames es)) fs e in
-    let relocated = behind (named (asm.Reloc section.number) (section.relocations >>= on_pointers (pointer_fields records.value))) (λ fixes. functions_in arch item section (overlaid fixes) (frames records.value)) fs records.next_is in
-    functions_of_item arch item section (overlaid relocated.value) (frames records.value) fs relocated.next_is
+    (λ es. named (asm.Reloc section.number) (section.relocations >>= on_pointers (pointer_fields es)) >>= λ fixes. functions_in arch item section (patched_values fixes section.bytes) (frames es)) fs e in
+    let relocated = behind (named (asm.Reloc section.number) (section.relocations >>= on_pointers (pointer_fields records.value))) (λ fixes. functions_in arch item section (patched_values fixes section.bytes) (frames records.value)) fs records.next_is in
+    functions_of_item arch item section (patched_values relocated.value section.bytes) (frames records.value) fs relocated.next_is
 
 sections_of_item : (arch : Arch) (item : ℕ) (sections : List CallFrames) (fs : List Function) → sections_functions arch item sections ≡ Ok fs → AreOf item fs
 sections_of_item arch item [] fs e = subst (AreOf item) (ap list_in e) tt
