@@ -42,7 +42,7 @@ back f g (inr (inr (inr behind))) = inr (inr (inl behind))
 
 rising_from : (least : ℕ) (fs : List Func) → ((f : Func) (rest : List Func) → fs ≡ f ∷ rest → least ≤ f.start) → RisesStrictly fs → RisingFrom least fs
 rising_from least [] first h = tt
-rising_from least (f ∷ fs) first h = (first f fs refl, rising_from (suc f.start) fs (λ g rest is. next g rest is) (λ k d lt. h (suc k) d (omega (arith, lt))))
+rising_from least (f ∷ fs) first h = (first f fs refl, rising_from (suc f.start) fs (λ g rest is. next g rest is) (λ k d lt. (let same : suc k + 1 ≡ suc (k + 1) = omega arith in subst (λ (n : ℕ). (get_or fs k d).start < (get_or (f ∷ fs) n d).start) same (h (suc k) d (omega (arith, lt))))))
   where
     next : (g : Func) (rest : List Func) → fs ≡ g ∷ rest → suc f.start ≤ g.start
     next g rest is =

@@ -45,10 +45,10 @@ record StoodAt {X : Type 0} (xs ys : List X) (a b i : ℕ) (d : X) : Type 0 wher
 stood_at : {X : Type 0} (xs : List X) (a b i : ℕ) (d : X) → a < length xs → b < length xs → i < length xs → StoodAt xs (swap xs a b) a b i d
 stood_at xs a b i d first second below = at_place (swapped_from_swap xs (swap xs a b) a b d first second refl) (somewhere i a b)
   where
-    at_place : (get_or (swap xs a b) a d ≡ get_or xs b d) × ((get_or (swap xs a b) b d ≡ get_or xs a d) × ((m : ℕ) → (m ≡ a → ⊥) → (m ≡ b → ⊥) → get_or (swap xs a b) m d ≡ get_or xs m d)) → IsSomewhere i a b → StoodAt xs (swap xs a b) a b i d
+    at_place : (get_or (swap xs a b) a d ≡ get_or xs b d) × (get_or (swap xs a b) b d ≡ get_or xs a d) × ((m : ℕ) → (m ≡ a → ⊥) → (m ≡ b → ⊥) → get_or (swap xs a b) m d ≡ get_or xs m d) → IsSomewhere i a b → StoodAt xs (swap xs a b) a b i d
     at_place h (inl is) = record { place = b; below = second; is = subst (λ (k : ℕ). get_or (swap xs a b) k d ≡ get_or xs b d) (sym is) h.0; moved = inl (is, refl) }
-    at_place h (inr (inl is)) = record { place = a; below = first; is = subst (λ (k : ℕ). get_or (swap xs a b) k d ≡ get_or xs a d) (sym is) h.1.0; moved = inr (inl (is, refl)) }
-    at_place h (inr (inr no)) = record { place = i; below = below; is = h.1.1 i no.0 no.1; moved = inr (inr (refl, no)) }
+    at_place h (inr (inl is)) = record { place = a; below = first; is = subst (λ (k : ℕ). get_or (swap xs a b) k d ≡ get_or xs a d) (sym is) h.1; moved = inr (inl (is, refl)) }
+    at_place h (inr (inr neither)) = record { place = i; below = below; is = h.2 i neither.0 neither.1; moved = inr (inr (refl, neither)) }
 
 apart_before : (a b i j p q : ℕ) → (i ≡ j → ⊥) → ((i ≡ a) × (p ≡ b)) ⊎ (((i ≡ b) × (p ≡ a)) ⊎ ((p ≡ i) × ((i ≡ a → ⊥) × (i ≡ b → ⊥))))
     → ((j ≡ a) × (q ≡ b)) ⊎ (((j ≡ b) × (q ≡ a)) ⊎ ((q ≡ j) × ((j ≡ a → ⊥) × (j ≡ b → ⊥)))) → p ≡ q → ⊥
