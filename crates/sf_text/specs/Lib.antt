@@ -1,6 +1,7 @@
 pub mod Number
 pub mod Names
 pub mod Report
+pub mod Merged
 pub mod Content
 pub mod Dump
 pub mod Found

@@ -1,0 +1,34 @@
+//! The line of an item that is too long.
+
+ghost use Rattle.std.specs.Prelude.{◌≡◌, OnOk, OnErr};
+ghost use Rattle.sf_base.specs.Written.{Appends, AppendsPrefix};
+ghost use Rattle.sf_base.specs.Faults.{Cause};
+ghost use Rattle.sf_text.specs.Merged.{file_limit_text};
+
+use crate::line::{Line, push_decimal, push_text};
+use sf_base::{Failed, Sink, put_all};
+
+/// Appends the line `limit file ITEM` to the sink. Takes no memory.
+///
+/// # Errors
+///
+/// `Failed` where a write of the sink failed. A prefix of the line was appended then.
+pub fn file_limit_line<S: Sink>(sink: &mut S, item: u32) -> Result<(), Failed>
+    ensures all { OnOk result (Appends (S.written sink.old) (S.written sink.new) (file_limit_text item)) }
+    ensures prefix { OnErr result (AppendsPrefix (S.written sink.old) (S.written sink.new) (file_limit_text item)) }
+    ensures cause { Cause (S.faults sink.old) (S.faults sink.new) result }
+{
+    put_all(sink, line_of(item).as_slice())
+}
+
+/// The line.
+#[tactic(auto, unfolding(crate::specs::Merged::file_limit_text))]
+fn line_of(item: u32) -> Line
+    ensures { result.items ≡ file_limit_text item }
+{
+    let mut line = Line::new();
+    push_text(&mut line, b"limit file ");
+    push_decimal(&mut line, u64::from(item));
+    push_text(&mut line, b"\n");
+    line
+}
