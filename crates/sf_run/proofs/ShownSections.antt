@@ -12,7 +12,7 @@ use Rattle.sf_decode.specs.declared.fault.DecodeFault.TheVariants.{TooManyFuncti
 use Rattle.sf_decode.specs.Decoding.{section_check}
 use Rattle.sf_text.specs.FaultLine.{fault_text}
 use Rattle.sf_run.specs.declared.refusal.Limit.{Limit}
-use Rattle.sf_run.specs.declared.refusal.Limit.TheVariants.{File, Functions, Rows}
+use Rattle.sf_run.specs.declared.refusal.Limit.TheVariants.{Inputs, File, Total, Functions, Rows}
 use Rattle.sf_run.specs.declared.refusal.Refusal.{Refusal}
 use Rattle.sf_run.specs.declared.refusal.Refusal.TheVariants as refusal
 use Rattle.sf_run.specs.declared.section.Query.{Query}
@@ -20,10 +20,9 @@ use Rattle.sf_run.specs.declared.section.Query.TheVariants as asked
 use Rattle.sf_run.specs.declared.section.Shown.{Shown}
 use Rattle.sf_run.specs.declared.status.Status.{Status}
 use Rattle.sf_run.specs.declared.status.Status.TheVariants as status
-use Rattle.sf_run.specs.First.{Contents, IsInput}
+use Rattle.sf_run.specs.Loading.{Contents, IsRead, IsReadOf, IsLoadRefusal}
 use Rattle.sf_run.specs.Lines.{read_line, memory_line, limit_line}
-use Rattle.sf_run.specs.Refused.{IsLoadRefusal}
-use Rattle.sf_run.specs.Sections.{TooLong, Decoding, refusing_of, section_first, Shows, IsShownOf, IsShown, IsSectionFirst, IsSectionExceeded, IsShowRefusal, IsSectionRefusal, found_status}
+use Rattle.sf_run.specs.Sections.{IsInput, TooLong, Decoding, refusing_of, section_first, Shows, IsShownOf, IsShown, IsSectionFirst, IsSectionExceeded, IsShowRefusal, IsSectionRefusal, found_status}
 use Rattle.sf_run.specs.Words.{SectionWords}
 use Rattle.sf_run.specs.Ends.{FilesSeen, SinkSeen, Says, IsTurnedAway, IsUnfaulted, Tells}
 use Rattle.sf_run.specs.Showing.{AreUntouched, ShowEnds, ShowIsComplete, Prints}
@@ -54,9 +53,11 @@ first_of : (section : SectionWords) (contents : Contents) (bytes : List ℕ) →
 first_of section contents bytes input short fault check = record { bytes = bytes; input = input; first = fault_first section.at bytes fault short check }
 
 refusal_from : (section : SectionWords) (contents : Contents) (bytes : List ℕ) → IsInput contents section.name bytes → length bytes ≤ 2 ^ 29 → (refused : Refusal) → IsShowRefusal section.at bytes refused → IsSectionRefusal section contents refused
-refusal_from section contents bytes input short refusal.Read h = tt
+refusal_from section contents bytes input short (refusal.Read name) h = absurd h.is
 refusal_from section contents bytes input short refusal.Memory h = tt
-refusal_from section contents bytes input short (refusal.Limit File) h = absurd h.is
+refusal_from section contents bytes input short (refusal.Limit Inputs) h = absurd h.is
+refusal_from section contents bytes input short (refusal.Limit (File item)) h = absurd h.is
+refusal_from section contents bytes input short (refusal.Limit Total) h = absurd h.is
 refusal_from section contents bytes input short (refusal.Limit Functions) h =
     (h.is.0, subst (IsSectionFirst section contents) h.is.1 (first_of section contents bytes input short h.fault h.first))
 refusal_from section contents bytes input short (refusal.Limit Rows) h =
@@ -70,13 +71,19 @@ refused_from section contents bytes (Ok shown) input short h = tt
 refused_from section contents bytes (Err refused) input short h = refusal_from section contents bytes input short refused h
 
 -- ---- a section that isn't loaded
-too_long : (section : SectionWords) (contents : Contents) → IfSome contents (λ told. 2 ^ 29 < length (contents_of told section.name)) → IsSectionExceeded section contents File
-too_long section None h = tt
-too_long section (Some told) h = long_first section.at (contents_of told section.name) h
+too_long : (section : SectionWords) (contents : Contents) → IfSome contents (λ told. 2 ^ 29 < length (contents_of told section.name)) → IsSectionExceeded section contents (File 0)
+too_long section None h = (refl, tt)
+too_long section (Some told) h = (refl, long_first section.at (contents_of told section.name) h)
 
-pub not_loaded_is : (section : SectionWords) (contents : Contents) (fault : LoadFault) (refused : Refusal) → IsLoadRefusal fault refused
+pub not_loaded_is : (section : SectionWords) (contents : Contents) (fault : LoadFault) (refused : Refusal) → IsLoadRefusal fault 0 section.name refused
     → ((limit : ℕ) → fault ≡ load.TooLong limit → IfSome contents (λ told. 2 ^ 29 < length (contents_of told section.name))) → IsSectionRefusal section contents refused
-not_loaded_is section contents load.Read refused is long = subst (IsSectionRefusal section contents) (sym is) tt
+not_loaded_is section contents load.Read refused is long = read refused is
+  where
+    read : (refused : Refusal) → IsReadOf section.name refused → IsSectionRefusal section contents refused
+    read (refusal.Read name) e = e
+    read refusal.Memory e = tt
+    read (refusal.Limit limit) e = absurd e
+    read (refusal.Input notice) e = absurd e
 not_loaded_is section contents (load.TooLong limit) refused is long = subst (IsSectionRefusal section contents) (sym is) (too_long section contents (long limit refl))
 not_loaded_is section contents load.NoMemory refused is long = subst (IsSectionRefusal section contents) (sym is) tt
 
@@ -114,10 +121,11 @@ turned : (files files' : FilesSeen) (out err err' : SinkSeen) (text : List ℕ) 
 turned files files' out err err' text same says = record { contents = same.contents; created = same.created; write_faults = same.write_faults; output = refl; says = says }
 
 pub ends_from_refusal : (refused : Refusal) (answer : Status) (section : SectionWords) (query : Query) (files files' : FilesSeen) (out err err' : SinkSeen) → AreUntouched files files'
-    → (refused ≡ refusal.Read → Rose files.read_faults files'.read_faults) → IsSectionRefusal section files.contents refused → Tells refused answer section.name err err'
+    → (IsRead refused → Rose files.read_faults files'.read_faults) → IsSectionRefusal section files.contents refused → Tells refused answer err err'
     → ShowEnds answer section query files files' out out err err'
-ends_from_refusal refusal.Read answer section query files files' out err err' same read first t =
-    subst (λ (s : Status). ShowEnds s section query files files' out out err err') (sym t.0) (turned files files' out err err' (read_line section.name) same t.1, read refl)
+ends_from_refusal (refusal.Read name) answer section query files files' out err err' same read first t =
+    subst (λ (s : Status). ShowEnds s section query files files' out out err err') (sym t.0)
+    (turned files files' out err err' (read_line section.name) same (subst (λ (n : List ℕ). Says err err' (read_line n)) first t.1), read tt)
 ends_from_refusal refusal.Memory answer section query files files' out err err' same read first t =
     subst (λ (s : Status). ShowEnds s section query files files' out out err err') (sym t.0) (turned files files' out err err' memory_line same t.1)
 ends_from_refusal (refusal.Limit limit) answer section query files files' out err err' same read first t =
@@ -133,7 +141,9 @@ not_first section told fault none h =
     cc
 
 not_exceeded : (section : SectionWords) (told : _) (limit : Limit) → section_first section.at (contents_of told section.name) ≡ None → IsSectionExceeded section (Some told) limit → ⊥
-not_exceeded section told File none h = let both = sym none ∙ h in cc
+not_exceeded section told Inputs none h = h
+not_exceeded section told (File item) none h = let both = sym none ∙ h.1 in cc
+not_exceeded section told Total none h = h
 not_exceeded section told Functions none h = not_first section told (TooManyFunctions h.0) none h.1
 not_exceeded section told Rows none h = not_first section told (TooManyRows h.0) none h.1
 

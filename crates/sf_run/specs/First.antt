@@ -1,6 +1,6 @@
--- The first refusal of a run of `link` over the bytes of its input, and what is made where there is none.
-use Rattle.std.specs.Prelude.{◌≡◌, ◌<◌, ◌≤◌, ◌^◌, ℕ, List, [], ◌∷◌, length, Option, Some, None, Ok, Err, IfSome}
-use Rattle.sf_base.specs.Contents.{contents_of}
+-- The first refusal of a run of `link` over the bytes of its inputs, and what is made where there is none.
+use Rattle.std.specs.Prelude.{◌≡◌, ◌^◌, ℕ, List, map, Option, Some, None, Ok, Err}
+use Rattle.std.specs.List.{zip}
 use Rattle.sf_model.specs.declared.notice.Notice.{Notice}
 use Rattle.sf_model.specs.declared.omission.Omitted.{Omitted}
 use Rattle.sf_model.specs.Notice.{HasLine}
@@ -8,67 +8,71 @@ use Rattle.sf_asm.specs.declared.entry.Entry.{Entry}
 use Rattle.sf_asm.specs.declared.fault.GatherFault.TheVariants.{TooManyFunctions, TooManyRows}
 use Rattle.sf_asm.specs.declared.fault.LinkFault.{LinkFault}
 use Rattle.sf_asm.specs.declared.fault.LinkFault.TheVariants.{Gather}
-use Rattle.sf_asm.specs.Answers.{IsAssembled}
+use Rattle.sf_asm.specs.Answers.{IsLinked}
 use Rattle.sf_asm.specs.Functions.{Object}
 use Rattle.sf_asm.specs.Linking.{Links}
 use Rattle.sf_asm.specs.Told.{told_by, told_of_linking}
 use Rattle.sf_text.specs.Report.{report_text}
 use Rattle.sf_run.specs.declared.refusal.Limit.{Limit}
-use Rattle.sf_run.specs.declared.refusal.Limit.TheVariants.{File, Functions, Rows}
-use Rattle.sf_run.specs.Words.{InputWords, LinkWords}
+use Rattle.sf_run.specs.declared.refusal.Limit.TheVariants.{Inputs, File, Total, Functions, Rows}
+use Rattle.sf_run.specs.Loading.{Contents, AreLoaded, IsTooMuch, loading_limit}
+use Rattle.sf_run.specs.Words.{InputWords, LinkWords, input_names}
 
--- the contents of all names, where they are told
-abbrev pub Contents : Type 0
-Contents = Option (List (List ℕ × List ℕ))
+-- the most bytes of one input
+abbrev pub input_limit : ℕ
+input_limit = 2 ^ 28
 
--- these bytes are those of the input's name, where the contents are told
-abbrev pub IsInput : Contents → (name bytes : List ℕ) → Type 0
-IsInput contents name bytes = IfSome contents (λ told. bytes ≡ contents_of told name)
+-- the inputs that the words name, with these bytes
+abbrev pub object_in : InputWords × List ℕ → Object
+object_in input = record { form = input.0.form; bytes = input.1; base = input.0.base }
 
--- the input that the words name, with these bytes
-abbrev pub object_in : InputWords → (bytes : List ℕ) → Object
-object_in input bytes = record { form = input.form; bytes = bytes; base = input.base }
+abbrev pub objects_in : List InputWords → (items : List (List ℕ)) → List Object
+objects_in inputs items = map object_in (zip inputs items)
 
--- why a run is refused: the input is longer than the limit, or its functions can't be linked
+-- why a run is refused: a limit of loading, or the functions of the inputs can't be linked
 pub data Refusing : Type 0 where
-  TooLong : Refusing
+  Loading : Limit → Refusing
   Linking : LinkFault → Refusing
 
--- the first refusal over these bytes of the input, or none: the limit of 2^28 bytes comes first, and then what linking comes to
-abbrev pub First : InputWords → (at : ℕ) → (bytes : List ℕ) → Option Refusing → Type 0
-First input at bytes (Some TooLong) = 2 ^ 28 < length bytes
-First input at bytes (Some (Linking fault)) = (length bytes ≤ 2 ^ 28) × Links None (object_in input bytes ∷ []) at (Err fault)
-First input at bytes None = (length bytes ≤ 2 ^ 28) × ((ordered : List Entry) × Links None (object_in input bytes ∷ []) at (Ok ordered))
+-- the first refusal over these bytes of the inputs, or none: the limits of loading come first, and then what linking comes to
+abbrev pub First : LinkWords → (items : List (List ℕ)) → Option Refusing → Type 0
+First link items (Some (Loading limit)) = loading_limit input_limit items ≡ Some limit
+First link items (Some (Linking fault)) = (loading_limit input_limit items ≡ None) × Links None (objects_in link.inputs items) link.out.at (Err fault)
+First link items None = (loading_limit input_limit items ≡ None) × ((ordered : List Entry) × Links None (objects_in link.inputs items) link.out.at (Ok ordered))
 
--- There is no refusal. The section is the faithful one of the input, without gaps and with the least widths, and the text is the
--- report of what it holds and of what was left out.
-pub record IsMadeOf (input : InputWords) (at : ℕ) (bytes section text : List ℕ) : Type 0 where
+-- The section is the faithful one of these bytes of the inputs, without gaps and with the least widths, and the text is the report of what
+-- it holds and of what was left out.
+pub record IsMadeOf (link : LinkWords) (items : List (List ℕ)) (section text : List ℕ) : Type 0 where
   pub kept : ℕ
   pub omitted : List Omitted
-  pub assembled : IsAssembled (object_in input bytes) at section kept omitted
+  pub linked : IsLinked None (objects_in link.inputs items) link.out.at section kept omitted
   pub text_is : text ≡ report_text kept omitted
 
+-- there is no refusal, and this is made of the inputs
 pub record IsMade (link : LinkWords) (contents : Contents) (section text : List ℕ) : Type 0 where
-  pub bytes : List ℕ
-  pub input : IsInput contents link.input.name bytes
-  pub short : length bytes ≤ 2 ^ 28
-  pub made : IsMadeOf link.input link.at bytes section text
+  pub items : List (List ℕ)
+  pub loaded : AreLoaded input_limit contents (input_names link.inputs) items
+  pub made : IsMadeOf link items section text
 
 -- The first refusal is this fault of linking.
 pub record IsFirst (link : LinkWords) (contents : Contents) (fault : LinkFault) : Type 0 where
-  pub bytes : List ℕ
-  pub input : IsInput contents link.input.name bytes
-  pub first : First link.input link.at bytes (Some (Linking fault))
+  pub items : List (List ℕ)
+  pub loaded : AreLoaded input_limit contents (input_names link.inputs) items
+  pub first : Links None (objects_in link.inputs items) link.out.at (Err fault)
+
+-- the notice shows this fault, which has a line
+pub record Shows (fault : LinkFault) (notice : Notice) : Type 0 where
+  pub line : HasLine notice
+  pub shows : told_by notice ≡ told_of_linking None fault
 
 -- It is a fault with a line, and this notice shows it.
 pub record IsRefused (link : LinkWords) (contents : Contents) (notice : Notice) : Type 0 where
   pub fault : LinkFault
   pub first : IsFirst link contents fault
-  pub line : HasLine notice
-  pub shows : told_by notice ≡ told_of_linking None fault
+  pub shown : Shows fault notice
 
--- the first refusal is a limit: of the input's bytes, of functions, or of rows
+-- the first refusal is a limit: of loading, of functions, or of rows
 abbrev pub IsExceeded : LinkWords → Contents → Limit → Type 0
-IsExceeded link contents File = IfSome contents (λ told. First link.input link.at (contents_of told link.input.name) (Some TooLong))
 IsExceeded link contents Functions = IsFirst link contents (Gather TooManyFunctions)
 IsExceeded link contents Rows = IsFirst link contents (Gather TooManyRows)
+IsExceeded link contents limit = IsTooMuch input_limit contents (input_names link.inputs) limit

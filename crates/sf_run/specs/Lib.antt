@@ -1,9 +1,11 @@
-pub mod First
 pub mod Words
 pub mod Parsed
 pub mod Lines
+pub mod Loading
+pub mod First
+pub mod Refused
 pub mod Ends
 pub mod Status
-pub mod Refused
 pub mod Sections
+pub mod Merging
 pub mod Showing

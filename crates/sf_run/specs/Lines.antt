@@ -1,7 +1,8 @@
 -- The lines on the error sink.
 use Rattle.std.specs.Prelude.{ℕ, List, [], ◌∷◌, ◌++◌, codes}
+use Rattle.sf_text.specs.Merged.{file_limit_text}
 use Rattle.sf_run.specs.declared.refusal.Limit.{Limit}
-use Rattle.sf_run.specs.declared.refusal.Limit.TheVariants.{File, Functions, Rows}
+use Rattle.sf_run.specs.declared.refusal.Limit.TheVariants.{Inputs, File, Total, Functions, Rows}
 
 -- a text and a line feed
 abbrev pub line : List ℕ → List ℕ
@@ -27,11 +28,10 @@ write_output_line = line (codes "write output")
 abbrev pub memory_line : List ℕ
 memory_line = line (codes "memory")
 
--- what is exceeded: the bytes of the one item, the functions, or the rows
-abbrev pub limit_name : Limit → List ℕ
-limit_name File = codes "file 0"
-limit_name Functions = codes "functions"
-limit_name Rows = codes "rows"
-
+-- what is exceeded: the number of items, the bytes of this one, the bytes of all, the functions, or the rows
 abbrev pub limit_line : Limit → List ℕ
-limit_line limit = line (codes "limit " ++ limit_name limit)
+limit_line Inputs = line (codes "limit inputs")
+limit_line (File item) = file_limit_text item
+limit_line Total = line (codes "limit total")
+limit_line Functions = line (codes "limit functions")
+limit_line Rows = line (codes "limit rows")

@@ -19,15 +19,19 @@ use Rattle.sf_asm.specs.Told.{Told, told_by}
 use Rattle.sf_text.specs.Dump.{dump_text}
 use Rattle.sf_text.specs.Found.{found_text}
 use Rattle.sf_run.specs.declared.refusal.Limit.{Limit}
-use Rattle.sf_run.specs.declared.refusal.Limit.TheVariants.{File, Functions, Rows}
+use Rattle.sf_run.specs.declared.refusal.Limit.TheVariants.{Inputs, File, Total, Functions, Rows}
 use Rattle.sf_run.specs.declared.refusal.Refusal.{Refusal}
 use Rattle.sf_run.specs.declared.refusal.Refusal.TheVariants as refusal
 use Rattle.sf_run.specs.declared.section.Query.{Query}
 use Rattle.sf_run.specs.declared.section.Query.TheVariants.{Whole, RowAt}
 use Rattle.sf_run.specs.declared.status.Status.{Status}
 use Rattle.sf_run.specs.declared.status.Status.TheVariants as status
-use Rattle.sf_run.specs.First.{Contents, IsInput}
+use Rattle.sf_run.specs.Loading.{Contents}
 use Rattle.sf_run.specs.Words.{SectionWords}
+
+-- these bytes are those of this name, where the contents are told
+abbrev pub IsInput : Contents → (name bytes : List ℕ) → Type 0
+IsInput contents name bytes = IfSome contents (λ told. bytes ≡ contents_of told name)
 
 -- why a section is refused: it is longer than the limit, or it is no section
 pub data SectionRefusing : Type 0 where
@@ -80,41 +84,41 @@ pub record IsSectionFirst (section : SectionWords) (contents : Contents) (fault 
   pub input : IsInput contents section.name bytes
   pub first : section_first section.at bytes ≡ Some (Decoding fault)
 
--- what the line of a section's fault shows: item 0, the fault's number and its place
-abbrev pub told_of_section : DecodeFault → Told
-told_of_section fault = record { item = Some 0; group = group.Section; number = (number_and_place fault).0; values = (number_and_place fault).1 ∷ [] }
+-- what the line of a section's fault shows: the item, the fault's number and its place
+abbrev pub told_of_section : (item : ℕ) → DecodeFault → Told
+told_of_section item fault = record { item = Some item; group = group.Section; number = (number_and_place fault).0; values = (number_and_place fault).1 ∷ [] }
 
 -- the notice shows this fault, which has a line
-pub record ShowsFault (fault : DecodeFault) (notice : Notice) : Type 0 where
+pub record ShowsFault (item : ℕ) (fault : DecodeFault) (notice : Notice) : Type 0 where
   pub line : HasLine notice
-  pub shows : told_by notice ≡ told_of_section fault
+  pub shows : told_by notice ≡ told_of_section item fault
 
 -- it is a fault with a line, and this notice shows it
 pub record IsSectionRefused (section : SectionWords) (contents : Contents) (notice : Notice) : Type 0 where
   pub fault : DecodeFault
   pub first : IsSectionFirst section contents fault
-  pub shown : ShowsFault fault notice
+  pub shown : ShowsFault 0 fault notice
 
--- the first refusal is a limit: of the section's bytes, of its functions, or of its rows
+-- the first refusal is a limit: of the bytes of the one item, of its functions, or of its rows
 abbrev pub IsSectionExceeded : SectionWords → Contents → Limit → Type 0
-IsSectionExceeded section contents File = IfSome contents (λ told. section_first section.at (contents_of told section.name) ≡ Some TooLong)
+IsSectionExceeded section contents Inputs = ⊥
+IsSectionExceeded section contents (File item) = (item ≡ 0) × IfSome contents (λ told. section_first section.at (contents_of told section.name) ≡ Some TooLong)
+IsSectionExceeded section contents Total = ⊥
 IsSectionExceeded section contents Functions = (place : ℕ) × IsSectionFirst section contents (TooManyFunctions place)
 IsSectionExceeded section contents Rows = (place : ℕ) × IsSectionFirst section contents (TooManyRows place)
 
 -- the refusal that a fault of decoding makes
-abbrev pub IsDecodeRefusal : DecodeFault → Refusal → Type 0
-IsDecodeRefusal fault refusal.Read = ⊥
-IsDecodeRefusal fault refusal.Memory = ⊥
-IsDecodeRefusal fault (refusal.Limit File) = ⊥
-IsDecodeRefusal fault (refusal.Limit Functions) = (place : ℕ) × (fault ≡ TooManyFunctions place)
-IsDecodeRefusal fault (refusal.Limit Rows) = (place : ℕ) × (fault ≡ TooManyRows place)
-IsDecodeRefusal fault (refusal.Input notice) = ShowsFault fault notice
+abbrev pub IsDecodeRefusal : (item : ℕ) → DecodeFault → Refusal → Type 0
+IsDecodeRefusal item fault (refusal.Limit Functions) = (place : ℕ) × (fault ≡ TooManyFunctions place)
+IsDecodeRefusal item fault (refusal.Limit Rows) = (place : ℕ) × (fault ≡ TooManyRows place)
+IsDecodeRefusal item fault (refusal.Input notice) = ShowsFault item fault notice
+IsDecodeRefusal item fault refused = ⊥
 
 -- the refusal of these bytes is their first fault
 pub record IsBytesRefusal (at : ℕ) (bytes : List ℕ) (refused : Refusal) : Type 0 where
   pub fault : DecodeFault
   pub first : section_check bytes at ≡ Err fault
-  pub is : IsDecodeRefusal fault refused
+  pub is : IsDecodeRefusal 0 fault refused
 
 -- or memory was wanting
 abbrev pub IsShowRefusal : (at : ℕ) → (bytes : List ℕ) → Refusal → Type 0
@@ -123,7 +127,7 @@ IsShowRefusal at bytes refused = IsBytesRefusal at bytes refused
 
 -- the refusal of a run that reads a section is its first one
 abbrev pub IsSectionRefusal : SectionWords → Contents → Refusal → Type 0
-IsSectionRefusal section contents refusal.Read = Unit {0}
+IsSectionRefusal section contents (refusal.Read name) = name.now ≡ section.name
 IsSectionRefusal section contents refusal.Memory = Unit {0}
 IsSectionRefusal section contents (refusal.Limit limit) = IsSectionExceeded section contents limit
 IsSectionRefusal section contents (refusal.Input notice) = IsSectionRefused section contents notice

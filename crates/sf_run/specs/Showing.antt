@@ -10,10 +10,12 @@ use Rattle.sf_run.specs.declared.section.Query.{Query}
 use Rattle.sf_run.specs.declared.section.Query.TheVariants.{Whole, RowAt}
 use Rattle.sf_run.specs.declared.status.Status.{Status}
 use Rattle.sf_run.specs.declared.status.Status.TheVariants as status
-use Rattle.sf_run.specs.Ends.{FilesSeen, SinkSeen, Says, IsTurnedAway, IsUnfaulted, IsComplete, Ends}
+use Rattle.sf_run.specs.Ends.{FilesSeen, SinkSeen, Says, IsTurnedAway, IsUnfaulted, IsComplete, Ends, MakingEnds}
 use Rattle.sf_run.specs.Lines.{read_line, write_output_line, memory_line, limit_line}
+use Rattle.sf_run.specs.Loading.{bytes_told}
+use Rattle.sf_run.specs.Merging.{MergeFirst, IsMergeMade, IsMergeRefused, IsMergeExceeded}
 use Rattle.sf_run.specs.Sections.{section_first, IsShown, IsSectionRefused, IsSectionExceeded}
-use Rattle.sf_run.specs.Words.{SectionWords, CommandWords, Link, Dump, Lookup}
+use Rattle.sf_run.specs.Words.{SectionWords, MergeWords, CommandWords, Link, Merge, Dump, Lookup, section_names}
 
 -- files hold the same as before, none is created, and no create or write failed
 pub record AreUntouched (files files' : FilesSeen) : Type 0 where
@@ -57,15 +59,29 @@ ShowIsComplete answer section files files' out out' =
     IfSome files.contents (λ told. section_first section.at (contents_of told section.name) ≡ None → IsUnfaulted files files' out out'
     → (answer ≡ status.Done) ⊎ (answer ≡ status.No) ⊎ (answer ≡ status.Memory))
 
+-- how a run of `merge` ends with each status
+abbrev pub MergeEnds : Status → MergeWords → FilesSeen → FilesSeen → SinkSeen → SinkSeen → SinkSeen → SinkSeen → Type 0
+MergeEnds answer merge files files' out out' err err' =
+    MakingEnds answer merge.out.name (section_names merge.sections) (IsMergeMade merge files.contents) (IsMergeRefused merge files.contents) (IsMergeExceeded merge files.contents)
+    files files' out out' err err'
+
+-- Where the contents are told and nothing is refused, a run in which no call failed is done, unless memory was wanting.
+abbrev pub MergeIsComplete : Status → MergeWords → FilesSeen → FilesSeen → SinkSeen → SinkSeen → Type 0
+MergeIsComplete answer merge files files' out out' =
+    IfSome files.contents (λ told. MergeFirst merge (bytes_told told (section_names merge.sections)) None → IsUnfaulted files files' out out'
+    → (answer ≡ status.Done) ⊎ (answer ≡ status.Memory))
+
 -- how a run of each command ends
 abbrev pub CommandEnds : Status → CommandWords → FilesSeen → FilesSeen → SinkSeen → SinkSeen → SinkSeen → SinkSeen → Type 0
 CommandEnds answer (Link link) files files' out out' err err' = Ends answer link files files' out out' err err'
+CommandEnds answer (Merge merge) files files' out out' err err' = MergeEnds answer merge files files' out out' err err'
 CommandEnds answer (Dump section) files files' out out' err err' = ShowEnds answer section Whole files files' out out' err err'
 CommandEnds answer (Lookup section pc) files files' out out' err err' = ShowEnds answer section (RowAt pc) files files' out out' err err'
 
 -- and is complete
 abbrev pub CommandIsComplete : Status → CommandWords → FilesSeen → FilesSeen → SinkSeen → SinkSeen → Type 0
 CommandIsComplete answer (Link link) files files' out out' = IsComplete answer link files files' out out'
+CommandIsComplete answer (Merge merge) files files' out out' = MergeIsComplete answer merge files files' out out'
 CommandIsComplete answer (Dump section) files files' out out' = ShowIsComplete answer section files files' out out'
 CommandIsComplete answer (Lookup section pc) files files' out out' = ShowIsComplete answer section files files' out out'
 

@@ -1,5 +1,7 @@
--- The words of a command line: `link OUT@AT IN@BASE`, `dump FILE@AT` and `lookup FILE@AT PC`.
-use Rattle.std.specs.Prelude.{◌≡◌, ℕ, ◌<◌, List, [], ◌∷◌, ◌++◌, length, codes}
+-- The words of a command line: `link OUT@AT IN@BASE ..`, `merge OUT@AT FILE@AT ..`, `dump FILE@AT` and `lookup FILE@AT PC`, where the
+-- dots stand for any number of further words of the kind.
+use Rattle.std.specs.Prelude.{◌≡◌, ℕ, ◌<◌, List, [], ◌∷◌, ◌++◌, map, length, codes, Option, Some, None}
+use Rattle.std.specs.List.{AllZip}
 use Rattle.sf_base.specs.Word.{SpellsHexadecimal}
 use Rattle.sf_model.specs.declared.machine.Arch.{Arch}
 use Rattle.sf_model.specs.declared.machine.Arch.TheVariants.{Amd64, Aarch64}
@@ -36,21 +38,6 @@ pub record IsInputWord (word : List ℕ) (input : InputWords) : Type 0 where
   pub spelled : Spells input.form text input.name
   pub named : 0 < length input.name
 
--- what is asked of `link`: the section's file and address, and what is linked
-pub record LinkWords : Type 0 where
-  pub out : List ℕ
-  pub at : ℕ
-  pub input : InputWords
-
--- the words ask for this link
-pub record IsLink (words : List (List ℕ)) (link : LinkWords) : Type 0 where
-  pub out_word : List ℕ
-  pub input_word : List ℕ
-  pub words_are : words ≡ codes "link" ∷ out_word ∷ input_word ∷ []
-  pub out : IsPlaced out_word link.out link.at
-  pub out_named : 0 < length link.out
-  pub input : IsInputWord input_word link.input
-
 -- a section in a file: the file's name and the section's address
 pub record SectionWords : Type 0 where
   pub name : List ℕ
@@ -60,6 +47,34 @@ pub record SectionWords : Type 0 where
 pub record IsSectionWord (word : List ℕ) (section : SectionWords) : Type 0 where
   pub placed : IsPlaced word section.name section.at
   pub named : 0 < length section.name
+
+-- what is asked of `link`: the section's file and address, and what is linked
+pub record LinkWords : Type 0 where
+  pub out : SectionWords
+  pub inputs : List InputWords
+
+-- the words ask for this link
+pub record IsLink (words : List (List ℕ)) (link : LinkWords) : Type 0 where
+  pub out_word : List ℕ
+  pub input_words : List (List ℕ)
+  pub words_are : words ≡ codes "link" ∷ out_word ∷ input_words
+  pub out : IsSectionWord out_word link.out
+  pub some : 0 < length input_words
+  pub inputs : AllZip IsInputWord input_words link.inputs
+
+-- what is asked of `merge`: the merged section's file and address, and the sections
+pub record MergeWords : Type 0 where
+  pub out : SectionWords
+  pub sections : List SectionWords
+
+-- the words ask for this merge
+pub record IsMerge (words : List (List ℕ)) (merge : MergeWords) : Type 0 where
+  pub out_word : List ℕ
+  pub section_words : List (List ℕ)
+  pub words_are : words ≡ codes "merge" ∷ out_word ∷ section_words
+  pub out : IsSectionWord out_word merge.out
+  pub some : 0 < length section_words
+  pub sections : AllZip IsSectionWord section_words merge.sections
 
 -- the words ask for what this section says
 pub record IsDump (words : List (List ℕ)) (section : SectionWords) : Type 0 where
@@ -78,20 +93,37 @@ pub record IsLookup (words : List (List ℕ)) (section : SectionWords) (pc : ℕ
 -- what a command line asks for
 pub data CommandWords : Type 0 where
   Link : LinkWords → CommandWords
+  Merge : MergeWords → CommandWords
   Dump : SectionWords → CommandWords
   Lookup : SectionWords → (pc : ℕ) → CommandWords
 
 -- the words ask for this
 abbrev pub IsCommand : List (List ℕ) → CommandWords → Type 0
 IsCommand words (Link link) = IsLink words link
+IsCommand words (Merge merge) = IsMerge words merge
 IsCommand words (Dump section) = IsDump words section
 IsCommand words (Lookup section pc) = IsLookup words section pc
 
--- the name of the one item that a command reads
-abbrev pub item_name : CommandWords → List ℕ
-item_name (Link link) = link.input.name
-item_name (Dump section) = section.name
-item_name (Lookup section pc) = section.name
+-- the names of the inputs, and of the sections
+abbrev pub input_names : List InputWords → List (List ℕ)
+input_names inputs = map (λ (input : InputWords). input.name) inputs
+
+abbrev pub section_names : List SectionWords → List (List ℕ)
+section_names sections = map (λ (section : SectionWords). section.name) sections
+
+-- the names of the items that a command reads, in order
+abbrev pub item_names : CommandWords → List (List ℕ)
+item_names (Link link) = input_names link.inputs
+item_names (Merge merge) = section_names merge.sections
+item_names (Dump section) = section.name ∷ []
+item_names (Lookup section pc) = section.name ∷ []
+
+-- the name of the file that a command makes
+abbrev pub out_name : CommandWords → Option (List ℕ)
+out_name (Link link) = Some link.out.name
+out_name (Merge merge) = Some merge.out.name
+out_name (Dump section) = None
+out_name (Lookup section pc) = None
 
 -- the words have none of the forms
 abbrev pub HasNoForm : List (List ℕ) → Type 0

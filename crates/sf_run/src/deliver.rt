@@ -3,13 +3,11 @@
 ghost use Rattle.std.specs.Prelude.{◌≡◌, ◌⊎◌, IsTrue, OnOk, OnErr};
 ghost use Rattle.sf_base.specs.Contents.{Unchanged, Holds, HoldsPrefix};
 ghost use Rattle.sf_base.specs.Faults.{Cause};
-ghost use Rattle.sf_run.specs.Parsed.{link_of};
 ghost use Rattle.sf_run.specs.Ends.{Delivers, files_seen, sink_seen};
 
 use crate::lines::say;
 use crate::link::Made;
 use crate::status::Status;
-use crate::words::Link;
 use sf_base::{Failed, Files, Sink, put_all, put_file};
 
 /// Makes the file and writes the bytes.
@@ -26,22 +24,22 @@ fn store<F: Files>(files: &mut F, name: &str, bytes: &[u8]) -> Result<(), Failed
 
 /// Writes the section to its file and then the text to the output. Where one fails, a line says which.
 pub fn deliver<F: Files, O: Sink, E: Sink>(
-    link: &Link<'_>,
+    name: &str,
     made: &Made,
     files: &mut F,
     out: &mut O,
     err: &mut E,
 ) -> Status
-    requires { IsTrue (F.may_create files.old link.now.out.now) }
-    ensures { Delivers result (link_of link.now)
+    requires { IsTrue (F.may_create files.old name.now) }
+    ensures { Delivers result name.now
         (files_seen F.contents F.created F.read_faults F.write_faults files.old)
         (files_seen F.contents F.created F.read_faults F.write_faults files.new)
         (sink_seen O.written O.faults out.old) (sink_seen O.written O.faults out.new)
         (sink_seen E.written E.faults err.old) (sink_seen E.written E.faults err.new)
         made.now.section.items made.now.text.items }
 {
-    if store(files, link.out, &made.section).is_err() {
-        say(err, "write file ", link.out);
+    if store(files, name, &made.section).is_err() {
+        say(err, "write file ", name);
         return Status::Write;
     }
     if put_all(out, &made.text).is_err() {

@@ -5,6 +5,8 @@ mod command;
 mod deliver;
 mod lines;
 mod link;
+mod loading;
+mod merge;
 mod print;
 mod refusal;
 mod section;

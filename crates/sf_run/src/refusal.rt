@@ -1,15 +1,20 @@
 //! Why a run makes nothing.
 
-ghost use Rattle.sf_run.specs.Refused.{IsLoadRefusal};
+ghost use Rattle.std.specs.Prelude.{◌≡◌};
 
-use sf_base::LoadFault;
+use sf_base::NoMemory;
 use sf_model::Notice;
+use std::alloc::{AllocError, AllocFailed};
 
-/// A limit that an input exceeds.
+/// A limit that is exceeded.
 #[derive(Clone, Copy, Debug, PartialEq, Eq)]
 pub enum Limit {
-    /// The bytes of the one item.
-    File,
+    /// The number of items.
+    Inputs,
+    /// The bytes of the item of this number.
+    File(u32),
+    /// The bytes of all items.
+    Total,
     /// The functions of a run, omitted ones too.
     Functions,
     /// The rows of a run.
@@ -18,24 +23,43 @@ pub enum Limit {
 
 /// Why nothing was made.
 #[derive(Drop)]
-pub enum Refusal {
-    /// The item could not be read.
-    Read,
+pub enum Refusal<'a> {
+    /// The item of this name could not be read.
+    Read(&'a str),
     /// Memory ran out.
     Memory,
     /// A limit is exceeded.
     Limit(Limit),
-    /// The input is refused.
+    /// An input is refused.
     Input(Notice),
 }
 
-/// Why an item was not loaded, as a refusal of the run.
-pub fn not_loaded(fault: LoadFault) -> Refusal
-    ensures { IsLoadRefusal fault result }
-{
-    match fault {
-        LoadFault::Read => Refusal::Read,
-        LoadFault::TooLong(_) => Refusal::Limit(Limit::File),
-        LoadFault::NoMemory => Refusal::Memory,
+impl<'a> From<NoMemory> for Refusal<'a> {
+    ghost use Rattle.sf_run.specs.declared.refusal.Refusal.TheVariants.{Memory};
+
+    ghost from_gives = { λ _ refused. refused ≡ Memory };
+
+    fn from(_: NoMemory) -> Refusal<'a> {
+        Refusal::Memory
+    }
+}
+
+impl<'a> From<AllocError> for Refusal<'a> {
+    ghost use Rattle.sf_run.specs.declared.refusal.Refusal.TheVariants.{Memory};
+
+    ghost from_gives = { λ _ refused. refused ≡ Memory };
+
+    fn from(_: AllocError) -> Refusal<'a> {
+        Refusal::Memory
+    }
+}
+
+impl<'a, T: Drop> From<AllocFailed<T>> for Refusal<'a> {
+    ghost use Rattle.sf_run.specs.declared.refusal.Refusal.TheVariants.{Memory};
+
+    ghost from_gives = { λ _ refused. refused ≡ Memory };
+
+    fn from(_: AllocFailed<T>) -> Refusal<'a> {
+        Refusal::Memory
     }
 }

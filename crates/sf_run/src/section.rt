@@ -1,17 +1,17 @@
 //! What a section says, read before anything is written.
 
-ghost use Rattle.std.specs.Prelude.{◌≡◌, ◌≤◌, ◌^◌, length, Ok, IsTrue, IfOk, IfErr, IfSome, IsErrOf, OnOk};
+ghost use Rattle.std.specs.Prelude.{◌≡◌, ◌≤◌, ◌^◌, length, Ok, IsTrue, IfOk, IfErr, IfSome, OnOk, [], ◌∷◌};
 ghost use Rattle.sf_base.specs.Contents.{contents_of};
 ghost use Rattle.sf_base.specs.Faults.{Rose};
 ghost use Rattle.sf_model.specs.Section.{Section};
 ghost use Rattle.sf_decode.specs.Decoding.{section_check};
 ghost use Rattle.sf_decode.specs.View.{table_of};
-ghost use Rattle.sf_run.specs.First.{IsInput};
 ghost use Rattle.sf_run.specs.Parsed.{section_of};
-ghost use Rattle.sf_run.specs.Refused.{IsTold};
-ghost use Rattle.sf_run.specs.Sections.{IsBytesRefusal, IsDecodeRefusal, IsSectionRefusal, IsShowRefusal, IsShown, IsShownOf, Shows};
+ghost use Rattle.sf_run.specs.Loading.{IsRead, IsTold};
+ghost use Rattle.sf_run.specs.Sections.{IsBytesRefusal, IsDecodeRefusal, IsInput, IsSectionRefusal, IsShowRefusal, IsShown, IsShownOf, Shows};
 
-use crate::refusal::{Limit, Refusal, not_loaded};
+use crate::loading::not_loaded;
+use crate::refusal::{Limit, Refusal};
 use crate::status::Status;
 use crate::words::SectionFile;
 use sf_base::{Files, NoMemory, load};
@@ -21,7 +21,7 @@ use sf_text::{dump, found};
 use std::alloc::Global;
 
 /// The most bytes of one section.
-const SECTION_LIMIT: u64 = 1 << 29;
+pub const SECTION_LIMIT: u64 = 1 << 29;
 
 /// What is asked of a section.
 #[derive(Clone, Copy)]
@@ -40,25 +40,25 @@ pub struct Shown {
 }
 
 /// Why a section was not read, as a refusal of the run.
-fn not_decoded(fault: DecodeFault) -> Refusal
-    ensures { IsDecodeRefusal fault result }
+pub fn not_decoded<'a>(fault: DecodeFault, item: u32) -> Refusal<'a>
+    ensures { IsDecodeRefusal item fault result }
 {
     match fault {
         DecodeFault::TooManyFunctions(_) => Refusal::Limit(Limit::Functions),
         DecodeFault::TooManyRows(_) => Refusal::Limit(Limit::Rows),
-        _ => Refusal::Input(fault.notice(Some(0))),
+        _ => Refusal::Input(fault.notice(Some(item))),
     }
 }
 
 /// The section of these bytes.
-fn view_of(bytes: &[u8], at: u64) -> Result<View<'_>, Refusal>
+fn view_of<'a, 'b>(bytes: &'b [u8], at: u64) -> Result<View<'b>, Refusal<'a>>
     ensures table { IfOk result (λ view. Section bytes.now at (table_of view)) }
     ensures checked { OnOk result (section_check bytes.now at ≡ Ok tt) }
     ensures refused { IfErr result (IsBytesRefusal at bytes.now) }
 {
     match View::parse(bytes, at) {
         Ok(view) => Ok(view),
-        Err(fault) => Err(not_decoded(fault)),
+        Err(fault) => Err(not_decoded(fault, 0)),
     }
 }
 
@@ -92,7 +92,7 @@ fn answer_row(alloc: Global, view: &View<'_>, pc: u64) -> Result<Shown, NoMemory
 }
 
 /// What is asked of the section of these bytes.
-fn shown_of(alloc: Global, bytes: &[u8], at: u64, query: Query) -> Result<Shown, Refusal>
+fn shown_of<'a>(alloc: Global, bytes: &[u8], at: u64, query: Query) -> Result<Shown, Refusal<'a>>
     ensures shown { IfOk result (λ shown. IsShownOf at bytes.now query shown.status shown.text.items) }
     ensures refused { IfErr result (IsShowRefusal at bytes.now) }
 {
@@ -104,26 +104,26 @@ fn shown_of(alloc: Global, bytes: &[u8], at: u64, query: Query) -> Result<Shown,
 }
 
 /// Loads the section and makes the text of what is asked. Nothing is written.
-pub fn show<F: Files>(
+pub fn show<'a, F: Files>(
     alloc: Global,
-    section: &SectionFile<'_>,
+    section: &SectionFile<'a>,
     query: Query,
     files: &mut F,
-) -> Result<Shown, Refusal>
+) -> Result<Shown, Refusal<'a>>
     requires { IsTrue (F.may_open files.old section.now.name.now) }
     // What is shown is what the section says.
     ensures shown { IfOk result (λ shown. IsShown (section_of section.now) (F.contents files.old) query shown.status shown.text.items) }
     // A refusal is the first one.
     ensures first { IfErr result (IsSectionRefusal (section_of section.now) (F.contents files.old)) }
-    ensures told { IfErr result IsTold }
-    ensures read { IsErrOf result Refusal.Read → Rose (F.read_faults files.old) (F.read_faults files.new) }
+    ensures told { IfErr result (IsTold (section.now.name.now ∷ [])) }
+    ensures read { IfErr result (λ refused. IsRead refused → Rose (F.read_faults files.old) (F.read_faults files.new)) }
     ensures contents { F.contents files.new ≡ F.contents files.old }
     ensures created { F.created files.new ≡ F.created files.old }
     ensures write_faults { F.write_faults files.new ≡ F.write_faults files.old }
 {
     let bytes = match load(alloc, files, section.name, SECTION_LIMIT) {
         Ok(bytes) => bytes,
-        Err(fault) => return Err(not_loaded(fault)),
+        Err(fault) => return Err(not_loaded(fault, 0, section.name)),
     };
     shown_of(alloc, &bytes, section.at, query)
 }

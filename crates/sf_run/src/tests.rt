@@ -6,7 +6,7 @@ mod refused;
 mod shown;
 
 use crate::{Status, run};
-use files::FILES;
+use files::{FILES, expect_files};
 use linked::LINKED;
 use refused::REFUSED;
 use sf_base::{MemFiles, MemSink};
@@ -16,6 +16,7 @@ use std::process::Abort;
 use std::test::Fail;
 
 /// A run over one file: what it leaves.
+#[derive(Drop)]
 struct Case {
     shows: &'static str,
     words: &'static str,
@@ -71,11 +72,11 @@ fn expect_section(
     Ok(())
 }
 
-/// Runs one case, with no fault.
-fn expect_case(rt: &impl Abort, alloc: Global, case: &Case) -> Result<(), Fail> {
+/// Runs one case over a file of these bytes, with no fault.
+fn expect_run(rt: &impl Abort, alloc: Global, case: &Case, bytes: Vec<u8>) -> Result<(), Fail> {
     let mut files = MemFiles::new(alloc, 1 << 20, Vec::new(alloc));
     if !case.file.is_empty() {
-        let put = files.put(case.file, bytes_of(alloc, case.bytes)?);
+        let put = files.put(case.file, bytes);
         assert!(rt; put.is_ok());
     }
     let mut out = MemSink::new(alloc, 1 << 20, Vec::new(alloc));
@@ -86,6 +87,11 @@ fn expect_case(rt: &impl Abort, alloc: Global, case: &Case) -> Result<(), Fail> 
     assert_eq!(rt; out.bytes(), case.text.as_bytes(), "{}", case.shows);
     assert_eq!(rt; status, case.status, "{}", case.shows);
     expect_section(rt, alloc, &files, case.section, case.shows)
+}
+
+/// Runs one case, with no fault.
+fn expect_case(rt: &impl Abort, alloc: Global, case: &Case) -> Result<(), Fail> {
+    expect_run(rt, alloc, case, bytes_of(alloc, case.bytes)?)
 }
 
 #[test]
@@ -106,8 +112,8 @@ fn refused_runs_leave_their_lines(rt: HostRuntime) -> Result<(), Fail> {
 
 #[test]
 fn files_are_linked(rt: HostRuntime) -> Result<(), Fail> {
-    for case in &FILES {
-        expect_case(&rt, rt.alloc(), case)?;
+    for cases in FILES {
+        expect_files(&rt, rt.alloc(), cases)?;
     }
     Ok(())
 }

@@ -1,15 +1,17 @@
 //! The words of a command line.
 
-ghost use Rattle.std.specs.Prelude.{◌≡◌, ℕ, ◌++◌, [], ◌∷◌, List, map, IfSome, IsSome, IsSomeAnd};
+ghost use Rattle.std.specs.Prelude.{◌≡◌, ℕ, ◌++◌, [], ◌∷◌, List, map, IfOk, IfSome, IsSome, IsSomeAnd, IsTrue, All, ◌<◌, length};
+ghost use Rattle.std.specs.List.{AllZip};
 ghost use Rattle.std.specs.String.{string_bytes};
 ghost use Rattle.sf_model.specs.declared.machine.Arch.{Arch as machine};
 ghost use Rattle.sf_asm.specs.declared.input.Form.{Form as input_form};
-ghost use Rattle.sf_run.specs.Words.{IsPlaced, IsInputWord, IsLink, IsSectionWord, IsDump, IsLookup, IsCommand, InputWords, LinkWords, SectionWords, CommandWords, Spells, prefix_of};
-ghost use Rattle.sf_run.specs.Parsed.{input_of, link_of, section_of, command_of};
+ghost use Rattle.sf_run.specs.Words.{IsPlaced, IsInputWord, IsLink, IsMerge, IsSectionWord, IsDump, IsLookup, IsCommand, InputWords, LinkWords, MergeWords, SectionWords, CommandWords, Spells, prefix_of};
+ghost use Rattle.sf_run.specs.Parsed.{input_of, section_of, Asks, AsksLink, AsksMerge, NamesSome};
 
 use sf_asm::Form;
-use sf_base::hex_word;
+use sf_base::{NoMemory, hex_word};
 use sf_model::Arch;
+use std::alloc::Global;
 
 /// A name and the address behind its last `@`.
 #[derive(Clone, Copy)]
@@ -26,14 +28,6 @@ pub struct InputFile<'a> {
     pub base: u64,
 }
 
-/// What `link OUT@AT IN@BASE` asks for.
-#[derive(Clone, Copy)]
-pub struct Link<'a> {
-    pub out: &'a str,
-    pub at: u64,
-    pub input: InputFile<'a>,
-}
-
 /// A section in a file, and the address at which it lies.
 #[derive(Clone, Copy)]
 pub struct SectionFile<'a> {
@@ -41,11 +35,43 @@ pub struct SectionFile<'a> {
     pub at: u64,
 }
 
+/// The words of `link OUT@AT IN@BASE ..`.
+#[derive(Clone, Copy)]
+pub struct LinkCommand<'a> {
+    pub out: SectionFile<'a>,
+    /// The words that name the inputs.
+    pub inputs: &'a [String],
+}
+
+/// The words of `merge OUT@AT FILE@AT ..`.
+#[derive(Clone, Copy)]
+pub struct MergeCommand<'a> {
+    pub out: SectionFile<'a>,
+    /// The words that name the sections.
+    pub sections: &'a [String],
+}
+
+/// What is linked, and the section that is made of it.
+#[derive(Clone, Copy)]
+pub struct Link<'a, 'b> {
+    pub out: SectionFile<'a>,
+    pub inputs: &'b [InputFile<'a>],
+}
+
+/// What is merged, and the section that is made of it.
+#[derive(Clone, Copy)]
+pub struct Merge<'a, 'b> {
+    pub out: SectionFile<'a>,
+    pub sections: &'b [SectionFile<'a>],
+}
+
 /// What a command line asks for.
 #[derive(Clone, Copy)]
 pub enum Command<'a> {
-    /// `link OUT@AT IN@BASE`
-    Link(Link<'a>),
+    /// `link OUT@AT IN@BASE ..`
+    Link(LinkCommand<'a>),
+    /// `merge OUT@AT FILE@AT ..`
+    Merge(MergeCommand<'a>),
     /// `dump FILE@AT`
     Dump(SectionFile<'a>),
     /// `lookup FILE@AT PC`
@@ -135,24 +161,106 @@ fn three_words(words: &[String]) -> Option<(&str, &str, &str)>
     }
 }
 
-/// What the words ask for, where they have the form `link OUT@AT IN@BASE`.
-fn link_words(words: &[String]) -> Option<Link<'_>>
-    ensures found { IfSome result (λ l. IsLink (map string_bytes words.now) (link_of l)) }
-    ensures only { (link : LinkWords) → IsLink (map string_bytes words.now) link → IsSomeAnd result (λ l. link_of l ≡ link) }
+/// The first two words and the others, where there is a third one.
+fn out_and_items(words: &[String]) -> Option<(&str, &str, &[String])>
+    ensures found { IfSome result (λ t. (map string_bytes words.now ≡ t.0.now ∷ t.1.now ∷ map string_bytes t.2.now) × (0 < length t.2.now)) }
+    ensures only { (a b : List ℕ) (rest : List (List ℕ)) → map string_bytes words.now ≡ a ∷ b ∷ rest → 0 < length rest → IsSome result }
 {
-    let (command, out, input) = three_words(words)?;
+    match words {
+        [_, _] => None,
+        [first, second, rest @ ..] => Some((first.as_str(), second.as_str(), rest)),
+        _ => None,
+    }
+}
+
+/// Whether each word names an input.
+fn are_inputs(words: &[String]) -> bool
+    ensures all { IsTrue result → All (λ word. (input : InputWords) × IsInputWord (string_bytes word) input) words.now }
+    ensures only { (inputs : List InputWords) → AllZip IsInputWord (map string_bytes words.now) inputs → IsTrue result }
+{
+    for word in words {
+        if input_file(word).is_none() {
+            return false;
+        }
+    }
+    true
+}
+
+/// Whether each word names a section.
+fn are_sections(words: &[String]) -> bool
+    ensures all { IsTrue result → All (λ word. (section : SectionWords) × IsSectionWord (string_bytes word) section) words.now }
+    ensures only { (sections : List SectionWords) → AllZip IsSectionWord (map string_bytes words.now) sections → IsTrue result }
+{
+    for word in words {
+        if section_file(word).is_none() {
+            return false;
+        }
+    }
+    true
+}
+
+/// The inputs that the words name, in order.
+pub fn inputs_of<'a>(alloc: Global, words: &'a [String]) -> Result<Vec<InputFile<'a>>, NoMemory>
+    ensures { (inputs : List InputWords) → AllZip IsInputWord (map string_bytes words.now) inputs → IfOk result (λ files. map input_of files.items ≡ inputs) }
+{
+    let mut files = Vec::new(alloc);
+    for word in words {
+        let Some(file) = input_file(word) else {
+            continue;
+        };
+        files.push(file)?;
+    }
+    Ok(files)
+}
+
+/// The sections that the words name, in order.
+pub fn sections_of<'a>(alloc: Global, words: &'a [String]) -> Result<Vec<SectionFile<'a>>, NoMemory>
+    ensures { (sections : List SectionWords) → AllZip IsSectionWord (map string_bytes words.now) sections → IfOk result (λ files. map section_of files.items ≡ sections) }
+{
+    let mut files = Vec::new(alloc);
+    for word in words {
+        let Some(file) = section_file(word) else {
+            continue;
+        };
+        files.push(file)?;
+    }
+    Ok(files)
+}
+
+/// The parts of the words, where they have the form `link OUT@AT IN@BASE ..`.
+fn link_words(words: &[String]) -> Option<LinkCommand<'_>>
+    ensures found { IfSome result (λ c. (link : LinkWords) → AsksLink c link → IsLink (map string_bytes words.now) link) }
+    ensures named { IfSome result (λ c. (link : LinkWords) × AsksLink c link) }
+    ensures some { IfSome result (λ c. 0 < length c.inputs.now) }
+    ensures only { (link : LinkWords) → IsLink (map string_bytes words.now) link → IsSomeAnd result (λ c. AsksLink c link) }
+{
+    let (command, out, inputs) = out_and_items(words)?;
     if command != "link" {
         return None;
     }
-    let out = name_and_address(out)?;
-    if out.name.is_empty() {
+    let out = section_file(out)?;
+    if !are_inputs(inputs) {
         return None;
     }
-    Some(Link {
-        out: out.name,
-        at: out.address,
-        input: input_file(input)?,
-    })
+    Some(LinkCommand { out, inputs })
+}
+
+/// The parts of the words, where they have the form `merge OUT@AT FILE@AT ..`.
+fn merge_words(words: &[String]) -> Option<MergeCommand<'_>>
+    ensures found { IfSome result (λ c. (merge : MergeWords) → AsksMerge c merge → IsMerge (map string_bytes words.now) merge) }
+    ensures named { IfSome result (λ c. (merge : MergeWords) × AsksMerge c merge) }
+    ensures some { IfSome result (λ c. 0 < length c.sections.now) }
+    ensures only { (merge : MergeWords) → IsMerge (map string_bytes words.now) merge → IsSomeAnd result (λ c. AsksMerge c merge) }
+{
+    let (command, out, sections) = out_and_items(words)?;
+    if command != "merge" {
+        return None;
+    }
+    let out = section_file(out)?;
+    if !are_sections(sections) {
+        return None;
+    }
+    Some(MergeCommand { out, sections })
 }
 
 /// The section, where the words have the form `dump FILE@AT`.
@@ -181,11 +289,16 @@ fn lookup_words(words: &[String]) -> Option<(SectionFile<'_>, u64)>
 
 /// What the words ask for, where they have one of the forms.
 pub fn command_words(words: &[String]) -> Option<Command<'_>>
-    ensures found { IfSome result (λ c. IsCommand (map string_bytes words.now) (command_of c)) }
-    ensures only { (command : CommandWords) → IsCommand (map string_bytes words.now) command → IsSomeAnd result (λ c. command_of c ≡ command) }
+    ensures found { IfSome result (λ c. (command : CommandWords) → Asks c command → IsCommand (map string_bytes words.now) command) }
+    ensures named { IfSome result (λ c. (command : CommandWords) × Asks c command) }
+    ensures some { IfSome result NamesSome }
+    ensures only { (command : CommandWords) → IsCommand (map string_bytes words.now) command → IsSomeAnd result (λ c. Asks c command) }
 {
     if let Some(link) = link_words(words) {
         return Some(Command::Link(link));
+    }
+    if let Some(merge) = merge_words(words) {
+        return Some(Command::Merge(merge));
     }
     if let Some(section) = dump_words(words) {
         return Some(Command::Dump(section));

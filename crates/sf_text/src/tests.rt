@@ -199,3 +199,23 @@ kept 3 omitted 4\n";
     assert_eq!(rt; text.as_slice(), expected.as_slice());
     Ok(())
 }
+
+#[test]
+fn a_merge_has_a_line_with_both_counts(rt: HostRuntime) -> Result<(), Fail> {
+    let text = merged(rt.alloc(), 1, 16777216)?;
+    assert_eq!(rt;
+        text.as_slice(),
+        b"merged 1 functions 16777216 rows\n".as_slice()
+    );
+    Ok(())
+}
+
+#[test]
+fn an_item_that_is_too_long_has_a_line(rt: HostRuntime) -> Result<(), Fail> {
+    for (item, line) in [(0u32, "limit file 0\n"), (511, "limit file 511\n")] {
+        let mut sink = MemSink::new(rt.alloc(), 5, Vec::new(rt.alloc()));
+        file_limit_line(&mut sink, item)?;
+        assert_eq!(rt; sink.bytes(), line.as_bytes());
+    }
+    Ok(())
+}

@@ -1,4 +1,4 @@
-use Rattle.std.proofs.Common.{Err, ap, ◌∙◌}
+use Rattle.std.proofs.Common.{ap}
 use Rattle.sf_run.specs.Parsed.{section_of}
 use Rattle.sf_run.specs.Ends.{files_seen, sink_seen}
 use Rattle.sf_run.proofs.ShownSections.{ends_from_print, ends_from_refusal}
@@ -18,4 +18,4 @@ returns-in-Err g c =
     let out = sink_seen g.O.Sink.written g.O.Sink.faults c.args.out.now in
     ends_from_refusal c.in-Err.refusal c.tell.result (section_of c.args.section.now) c.args.query before after out _ _
     record { contents = c.show.ensures.contents; created = c.show.ensures.created; write_faults = c.show.ensures.write_faults }
-    (λ e. c.show.ensures.read (c.in-Err.is ∙ ap Err e)) c.in-Err.ensures.first c.tell.ensures
+    c.in-Err.ensures.read c.in-Err.ensures.first c.tell.ensures

@@ -1,33 +1,25 @@
-use Rattle.std.proofs.Common.{◌≡◌, List, ℕ, arith, ap, length, refl, sym, subst}
-use Rattle.std.proofs.lemmas.Bool.{eqb-true}
-use Rattle.sf_run.specs.Words.{IsPlaced, IsInputWord}
+use Rattle.std.proofs.Common.{rules, ◌≡◌, ℕ, List, ◌∷◌, ◌<◌, map, length, refl, ap, sym, subst, ◌∙◌, arith}
+use Rattle.std.proofs.lemmas.List.{length-map}
+use Rattle.std.specs.Prelude.{codes}
+use Rattle.std.specs.String.{string_bytes}
+use Rattle.sf_run.specs.Parsed.{section_of}
+use Rattle.sf_run.specs.Words.{IsInputWord, IsSectionWord, SectionWords}
+use Rattle.sf_run.proofs.NamedWords.{all_named}
 use Rattle.sf_run.proofs.words.link_words.Goals as goal
 
-pub returns-in_err-out-clause-only : goal.returns-in_err-out-clause-only
-returns-in_err-out-clause-only c link h =
-    let words = c.in_ok-command.ensures.found in
-    let out : h.out_word ≡ c.in_ok-command.out.now = cc (words, h.words_are) in
-    absurd (c.in_err-out.ensures.only link.out link.at (subst (λ (w : List ℕ). IsPlaced w link.out link.at) out h.out))
+pub returns-clause-found : goal.returns-clause-found
+returns-clause-found c link asks =
+    let command : c.in_ok-command.command.now ≡ codes "link" = search rules in
+    record {
+      out_word = c.in_ok-command.out.now;
+      input_words = map string_bytes c.in_ok-command.inputs.now;
+      words_are = c.in_ok-command.ensures.found.0 ∙ ap (λ (w : List ℕ). w ∷ c.in_ok-command.out.now ∷ map string_bytes c.in_ok-command.inputs.now) command;
+      out = subst (IsSectionWord c.in_ok-command.out.now) asks.out c.in_ok-out.ensures.found;
+      some = subst (λ (n : ℕ). 0 < n) (sym (length-map c.in_ok-command.inputs.now string_bytes)) c.in_ok-command.ensures.found.1;
+      inputs = asks.inputs;
+    }
 
-pub returns-then-is_empty-clause-only : goal.returns-then-is_empty-clause-only
-returns-then-is_empty-clause-only c link h =
-    let words = c.in_ok-command.ensures.found in
-    let out : h.out_word ≡ c.in_ok-command.out.now = cc (words, h.words_are) in
-    let given = c.in_ok-out.ensures.only link.out link.at (subst (λ (w : List ℕ). IsPlaced w link.out link.at) out h.out) in
-    let none : length c.in_ok-out.out.name.now ≡ 0 = eqb-true (length c.in_ok-out.out.name.now) 0 (sym c.if-is_empty.ensures) in
-    omega (arith, ap length given.0)
-
-pub returns-clause-only : goal.returns-clause-only
-returns-clause-only c link h =
-    let words = c.in_ok-command.ensures.found in
-    let out : h.out_word ≡ c.in_ok-command.out.now = cc (words, h.words_are) in
-    let input : h.input_word ≡ c.in_ok-command.input.now = cc (words, h.words_are) in
-    let given = c.in_ok-out.ensures.only link.out link.at (subst (λ (w : List ℕ). IsPlaced w link.out link.at) out h.out) in
-    let bare = c.in_ok-input_file.ensures.only link.input (subst (λ (w : List ℕ). IsInputWord w link.input) input h.input) in
-    rw (given.0, given.1, bare) refl
-
-pub returns-in_err-input_file-clause-only : goal.returns-in_err-input_file-clause-only
-returns-in_err-input_file-clause-only c link h =
-    let words = c.in_ok-command.ensures.found in
-    let input : h.input_word ≡ c.in_ok-command.input.now = cc (words, h.words_are) in
-    absurd (c.in_err-input_file.ensures.only link.input (subst (λ (w : List ℕ). IsInputWord w link.input) input h.input))
+pub returns-clause-named : goal.returns-clause-named
+returns-clause-named c =
+    let named = all_named string_bytes IsInputWord c.in_ok-command.inputs.now (c.if-not-are_inputs.ensures.all refl) in
+    (record { out = section_of c.in_ok-out.out; inputs = named.0 }, record { out = refl; inputs = named.1 })

@@ -1,0 +1,30 @@
+use Rattle.std.proofs.Common.{◌≡◌, subst, refl}
+use Rattle.std.specs.String.{string_bytes}
+use Rattle.sf_run.specs.Parsed.{section_of}
+use Rattle.sf_run.specs.Words.{SectionWords, IsDump, IsLookup, CommandWords, Link, Merge, Dump, Lookup}
+use Rattle.sf_run.proofs.AskedFor.{link_asked, merge_asked, dump_asked, lookup_asked}
+use Rattle.sf_run.proofs.words.command_words.Goals as goal
+
+pub returns-in-Some-clause-found : goal.returns-in-Some-clause-found
+returns-in-Some-clause-found c = link_asked _ _ c.in-Some.ensures.found
+
+pub returns-in-Some-clause-named : goal.returns-in-Some-clause-named
+returns-in-Some-clause-named c = (Link c.in-Some.ensures.named.0, c.in-Some.ensures.named.1)
+
+pub returns-in-Some-merge_words-clause-found : goal.returns-in-Some-merge_words-clause-found
+returns-in-Some-merge_words-clause-found c = merge_asked _ _ c.in-Some-merge_words.ensures.found
+
+pub returns-in-Some-merge_words-clause-named : goal.returns-in-Some-merge_words-clause-named
+returns-in-Some-merge_words-clause-named c = (Merge c.in-Some-merge_words.ensures.named.0, c.in-Some-merge_words.ensures.named.1)
+
+pub returns-in-Some-dump_words-clause-found : goal.returns-in-Some-dump_words-clause-found
+returns-in-Some-dump_words-clause-found c = dump_asked _ c.in-Some-dump_words.section c.in-Some-dump_words.ensures.found
+
+pub returns-in-Some-dump_words-clause-named : goal.returns-in-Some-dump_words-clause-named
+returns-in-Some-dump_words-clause-named c = (Dump (section_of c.in-Some-dump_words.section), refl)
+
+pub returns-clause-found : goal.returns-clause-found
+returns-clause-found c = lookup_asked _ c.in_ok-section.section c.in_ok-section.pc c.in_ok-section.ensures.found
+
+pub returns-clause-named : goal.returns-clause-named
+returns-clause-named c = (Lookup (section_of c.in_ok-section.section) c.in_ok-section.pc, (refl, refl))
