@@ -77,4 +77,4 @@ each_rises arch lists h = λ k d lt. rises arch (get_or lists k d).items (h k d 
 pub joined_are : (arch : Arch) (ordered : List Func) (lists : List (Vec Func Global)) (joined : List Func) → AreLists arch ordered lists → IsPermutation (flat_map (λ (list : Vec Func Global). list.items) lists) joined → RisesStrictly joined → joined ≡ ordered
 joined_are arch ordered lists joined h same rising =
     sym (one_list ordered joined (rising_from 0 ordered (λ f rest is. omega arith) (rises arch ordered h.writable)) (rising_from 0 joined (λ f rest is. omega arith) rising)
-        (IsPermutation-trans ordered (flat_map (λ (list : Vec Func Global). list.items) lists) joined h.same same))
+    (IsPermutation-trans ordered (flat_map (λ (list : Vec Func Global). list.items) lists) joined h.same same))

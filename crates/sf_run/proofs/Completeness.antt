@@ -98,7 +98,7 @@ no_other_first merge items (Decoding item fault) none h = let both = sym none.1.
 no_other_first merge items (Merging fault) none h =
     let tables = one_list (zip merge.sections items) h.0 none.0 h.1.are none.1.are in
     let first = subst (λ (ts : List Table). Merges ts merge.out.at (Err fault)) tables h.2 in
-    let same = one_merge none.0 merge.out.at (Ok none.2) (Err fault) none.3 first in
+    let same = one_merge none.0 merge.out.at (Ok none.2.0) (Err fault) none.2.1 first in
     cc
 
 not_merge_first : (merge : MergeWords) (told : List (List ℕ × List ℕ)) (why : MergeRefusing) → MergeFirst merge (bytes_told told (section_names merge.sections)) None → IsMergeFirst merge (Some told) why → ⊥

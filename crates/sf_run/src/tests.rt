@@ -2,13 +2,21 @@
 
 mod files;
 mod linked;
+mod lists;
+mod many;
+mod merged;
 mod refused;
+mod several;
 mod shown;
 
 use crate::{Status, run};
-use files::{FILES, expect_files};
+use files::{expect_files, parts};
 use linked::LINKED;
+use lists::LISTS;
+use many::{MANY, expect_many};
+use merged::MERGED_SECTIONS;
 use refused::REFUSED;
+use several::expect_list;
 use sf_base::{MemFiles, MemSink};
 use shown::SHOWN;
 use std::alloc::{AllocError, Global};
@@ -112,7 +120,7 @@ fn refused_runs_leave_their_lines(rt: HostRuntime) -> Result<(), Fail> {
 
 #[test]
 fn files_are_linked(rt: HostRuntime) -> Result<(), Fail> {
-    for cases in FILES {
+    for cases in parts() {
         expect_files(&rt, rt.alloc(), cases)?;
     }
     Ok(())
@@ -122,6 +130,30 @@ fn files_are_linked(rt: HostRuntime) -> Result<(), Fail> {
 fn sections_are_shown(rt: HostRuntime) -> Result<(), Fail> {
     for case in &SHOWN {
         expect_case(&rt, rt.alloc(), case)?;
+    }
+    Ok(())
+}
+
+#[test]
+fn lists_of_inputs_are_linked(rt: HostRuntime) -> Result<(), Fail> {
+    for case in &LISTS {
+        expect_list(&rt, rt.alloc(), case)?;
+    }
+    Ok(())
+}
+
+#[test]
+fn sections_are_merged(rt: HostRuntime) -> Result<(), Fail> {
+    for case in &MERGED_SECTIONS {
+        expect_list(&rt, rt.alloc(), case)?;
+    }
+    Ok(())
+}
+
+#[test]
+fn the_number_of_items_is_limited(rt: HostRuntime) -> Result<(), Fail> {
+    for case in &MANY {
+        expect_many(&rt, rt.alloc(), case)?;
     }
     Ok(())
 }

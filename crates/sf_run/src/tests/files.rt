@@ -1,6 +1,8 @@
 //! Runs that link one ELF file: a base file with some of its bytes changed.
 
-mod bases;
+pub mod bases;
+mod dropped;
+mod group_tables;
 mod groups;
 mod header;
 mod placing;
@@ -12,17 +14,10 @@ mod used;
 
 use super::{Case, bytes_of, expect_run};
 use crate::Status;
-use groups::GROUPS;
-use header::HEADER;
-use placing::PLACING;
-use ranges::RANGES;
-use relocations::RELOCATIONS;
-use sections::SECTIONS;
+use bases::Base;
 use std::alloc::Global;
 use std::process::Abort;
 use std::test::Fail;
-use symbols::SYMBOLS;
-use used::USED;
 
 /// Bytes in hexadecimal that stand at a place, and behind the end of the file where they pass it.
 pub struct Change(pub usize, pub &'static str);
@@ -39,21 +34,26 @@ pub enum End {
 pub struct FileCase {
     shows: &'static str,
     words: &'static str,
-    base: &'static str,
+    base: Base,
     changes: &'static [Change],
     end: End,
 }
 
-pub const FILES: [&[FileCase]; 8] = [
-    &HEADER,
-    &SECTIONS,
-    &USED,
-    &PLACING,
-    &GROUPS,
-    &SYMBOLS,
-    &RELOCATIONS,
-    &RANGES,
-];
+/// The parts of the table.
+pub fn parts() -> [&'static [FileCase]; 10] {
+    [
+        header::cases(),
+        sections::cases(),
+        used::cases(),
+        group_tables::cases(),
+        placing::cases(),
+        groups::cases(),
+        dropped::cases(),
+        symbols::cases(),
+        relocations::cases(),
+        ranges::cases(),
+    ]
+}
 
 /// Makes one change.
 fn change_bytes(bytes: &mut Vec<u8>, change: &Change) -> Result<(), Fail> {
@@ -69,10 +69,10 @@ fn change_bytes(bytes: &mut Vec<u8>, change: &Change) -> Result<(), Fail> {
     Ok(())
 }
 
-/// The bytes of a case's file.
-fn file_of(alloc: Global, case: &FileCase) -> Result<Vec<u8>, Fail> {
-    let mut bytes = bytes_of(alloc, case.base)?;
-    for change in case.changes {
+/// The bytes of a base with changes.
+pub fn changed(alloc: Global, base: &str, changes: &[Change]) -> Result<Vec<u8>, Fail> {
+    let mut bytes = bytes_of(alloc, base)?;
+    for change in changes {
         change_bytes(&mut bytes, change)?;
     }
     Ok(bytes)
@@ -88,7 +88,7 @@ fn case_of(case: &FileCase) -> Case {
         shows: case.shows,
         words: case.words,
         file: "e",
-        bytes: case.base,
+        bytes: "",
         status,
         text,
         line,
@@ -99,7 +99,8 @@ fn case_of(case: &FileCase) -> Case {
 /// Runs the cases of one part.
 pub fn expect_files(rt: &impl Abort, alloc: Global, cases: &[FileCase]) -> Result<(), Fail> {
     for case in cases {
-        expect_run(rt, alloc, &case_of(case), file_of(alloc, case)?)?;
+        let bytes = changed(alloc, case.base.text(), case.changes)?;
+        expect_run(rt, alloc, &case_of(case), bytes)?;
     }
     Ok(())
 }

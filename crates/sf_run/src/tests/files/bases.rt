@@ -1,10 +1,69 @@
-//! Files that rows change, and the sections that they are linked to.
+//! Files that cases change, and the sections that they are linked to.
 
-/// A compiler's object for AMD64. Sections, with headers at 0x1e0 + 64 * number: 1 `.text` of 27 bytes, 2 `.gcc_except_table`,
-/// 3 `.eh_frame`, 4 `.rela.eh_frame`, 5 `.symtab`, 6 `.strtab`, 7 `.shstrtab`. The call frame information stands at 0x70: one common
-/// entry, and at 0x90 one function. The relocations stand at 0xb8, 24 bytes each: the personality against symbol 1, the start
-/// against symbol 2, the language-specific data against symbol 3. The symbols stand at 0x100, 24 bytes each; 1 and 4 are undefined.
-pub const OBJECT: &str = "7f 45 4c 46 02 01 01 00 00 00 00 00 00 00 00 00 01 00 3e 00 01 00 00 00 \
+/// A file that cases change.
+#[derive(Clone, Copy)]
+pub enum Base {
+    /// No bytes.
+    Empty,
+    /// A compiler's object for AMD64. Sections, with headers at 0x1e0 + 64 * number: 1 `.text` of 27 bytes,
+    /// 2 `.gcc_except_table`, 3 `.eh_frame`, 4 `.rela.eh_frame`, 5 `.symtab`, 6 `.strtab`, 7 `.shstrtab`.
+    /// The call frame information stands at 0x70: one common entry, and at 0x90 one function. The
+    /// relocations stand at 0xb8, 24 bytes each: the personality against symbol 1, the start against symbol
+    /// 2, the language-specific data against symbol 3. The symbols stand at 0x100, 24 bytes each; 1 and 4
+    /// are undefined.
+    Object,
+    /// An executable for AMD64. Sections, with headers at 0xc0 + 64 * number: 1 `.text` at 0x401000, 2
+    /// `.eh_frame` at 0x402000 with absolute pointers of eight bytes, 3 `.rela.eh_frame`, which is
+    /// malformed, 4 `.bss`, 5 `.shstrtab`. The function's start stands at 0x7c.
+    Executable,
+    /// A shared object for AMD64. Sections, with headers at 0x98 + 64 * number: 1 `.eh_frame` at 0x2000,
+    /// whose bytes stand at 0x40, 2 `.shstrtab`, whose bytes stand at 0x80.
+    Shared,
+    /// An object for AArch64. Sections, with headers at 0x130 + 64 * number: 1 `.text`, 2 `.eh_frame`, 3
+    /// `.rela.eh_frame`, 4 `.symtab`, 5 `.strtab`, 6 `.shstrtab`. The call frame information stands at
+    /// 0x60, the function's start at 0x80, its relocation at 0xa0.
+    Aarch64,
+    /// The compiler's object with a COMDAT group before the other sections. Sections, with headers at 0x218
+    /// + 64 * number: 1 `.group`, 2 `.text`, 3 `.gcc_except_table`, 4 `.eh_frame`, 5 `.rela.eh_frame`, 6
+    /// `.symtab`, 7 `.strtab`, 8 `.shstrtab`. The group's words stand at 0x40: the flags, then the members
+    /// 2 and 3. Its signature is the name of symbol 5.
+    Group,
+    /// An object for AMD64 with two COMDAT groups of one signature. Sections, with headers at 0x210 + 64 *
+    /// number: 1 and 2 `.group`, 3 and 4 `.text.f`, 5 `.note.f`, which is not loaded, 6 `.text`, 7
+    /// `.eh_frame`, 8 `.rela.eh_frame`, 9 `.symtab`, 10 `.strtab`. The first group's words stand at 0x40,
+    /// with the member 3; the second's at 0x48, with the members 4 and 5. The call frame information stands
+    /// at 0x88, with functions of 16 bytes in the sections 3, 4 and 6, whose starts are at 0x20, 0x34 and
+    /// 0x48 of it. Their relocations stand at 0xe0, against the symbols 1, 2 and 3, and one behind them
+    /// that does nothing. The symbols stand at 0x140: 1 to 4 are those of the sections 3, 4, 6 and 5, and 5
+    /// is the signature `f`.
+    Copies,
+    /// An object for AMD64 with two sections of call frame information. Sections, with headers at 0x148 +
+    /// 64 * number: 1 `.eh_frame`, 2 `.rela.eh_frame`, 3 `.text`, 4 `.eh_frame`, 5 `.rela.eh_frame`, 6
+    /// `.symtab`, 7 `.strtab`. The call frame information stands at 0x40 and at 0xa8, with one function of
+    /// 16 bytes each, the second before the first; the relocations stand at 0x70 and at 0xd8.
+    Several,
+    /// A core file for AMD64 with one program header, at 0x40.
+    Core,
+}
+
+impl Base {
+    /// Its bytes in hexadecimal.
+    pub fn text(self) -> &'static str {
+        match self {
+            Base::Empty => "",
+            Base::Object => OBJECT,
+            Base::Executable => EXECUTABLE,
+            Base::Shared => SHARED,
+            Base::Aarch64 => AARCH64,
+            Base::Group => GROUP,
+            Base::Copies => COPIES,
+            Base::Several => SEVERAL,
+            Base::Core => CORE,
+        }
+    }
+}
+
+const OBJECT: &str = "7f 45 4c 46 02 01 01 00 00 00 00 00 00 00 00 00 01 00 3e 00 01 00 00 00 \
      00 00 00 00 00 00 00 00 00 00 00 00 00 00 00 00 e0 01 00 00 00 00 00 00 \
      00 00 00 00 40 00 00 00 00 00 40 00 08 00 07 00 00 00 00 00 00 00 00 00 \
      00 00 00 00 00 00 00 00 00 00 00 00 00 00 00 00 00 00 00 00 00 00 00 00 \
@@ -47,11 +106,7 @@ pub const OBJECT: &str = "7f 45 4c 46 02 01 01 00 00 00 00 00 00 00 00 00 01 00 
      4c 00 00 00 00 00 00 00 00 00 00 00 00 00 00 00 01 00 00 00 00 00 00 00 \
      00 00 00 00 00 00 00 00";
 
-/// An executable for AMD64. Sections, with headers at 0xc0 + 64 * number: 1 `.text` at 0x401000, 2 `.eh_frame` at 0x402000 with
-/// absolute pointers of eight bytes, 3 `.rela.eh_frame`, which is malformed, 4 `.bss`, 5 `.shstrtab`. The function's start stands
-/// at 0x7c.
-pub const EXECUTABLE: &str =
-    "7f 45 4c 46 02 01 01 00 00 00 00 00 00 00 00 00 02 00 3e 00 01 00 00 00 \
+const EXECUTABLE: &str = "7f 45 4c 46 02 01 01 00 00 00 00 00 00 00 00 00 02 00 3e 00 01 00 00 00 \
      00 00 00 00 00 00 00 00 00 00 00 00 00 00 00 00 c0 00 00 00 00 00 00 00 \
      00 00 00 00 40 00 00 00 00 00 40 00 06 00 05 00 90 90 90 90 90 90 90 90 \
      90 90 90 90 90 90 90 90 90 90 90 90 90 90 90 90 90 90 90 90 90 90 90 90 \
@@ -76,9 +131,7 @@ pub const EXECUTABLE: &str =
      00 00 00 00 00 00 00 00 98 00 00 00 00 00 00 00 25 00 00 00 00 00 00 00 \
      00 00 00 00 00 00 00 00 01 00 00 00 00 00 00 00 00 00 00 00 00 00 00 00";
 
-/// A shared object for AMD64. Sections, with headers at 0x98 + 64 * number: 1 `.eh_frame` at 0x2000, whose bytes stand at 0x40,
-/// 2 `.shstrtab`, whose bytes stand at 0x80.
-pub const SHARED: &str = "7f 45 4c 46 02 01 01 00 00 00 00 00 00 00 00 00 03 00 3e 00 01 00 00 00 \
+const SHARED: &str = "7f 45 4c 46 02 01 01 00 00 00 00 00 00 00 00 00 03 00 3e 00 01 00 00 00 \
      00 00 00 00 00 00 00 00 00 00 00 00 00 00 00 00 98 00 00 00 00 00 00 00 \
      00 00 00 00 40 00 00 00 00 00 40 00 03 00 02 00 14 00 00 00 00 00 00 00 \
      01 7a 52 00 01 78 10 01 1b 0c 07 08 90 01 00 00 1c 00 00 00 1c 00 00 00 \
@@ -94,9 +147,7 @@ pub const SHARED: &str = "7f 45 4c 46 02 01 01 00 00 00 00 00 00 00 00 00 03 00 
      15 00 00 00 00 00 00 00 00 00 00 00 00 00 00 00 01 00 00 00 00 00 00 00 \
      00 00 00 00 00 00 00 00";
 
-/// An object for AArch64. Sections, with headers at 0x130 + 64 * number: 1 `.text`, 2 `.eh_frame`, 3 `.rela.eh_frame`, 4 `.symtab`,
-/// 5 `.strtab`, 6 `.shstrtab`. The call frame information stands at 0x60, the function's start at 0x80, its relocation at 0xa0.
-pub const AARCH64: &str = "7f 45 4c 46 02 01 01 00 00 00 00 00 00 00 00 00 01 00 b7 00 01 00 00 00 \
+const AARCH64: &str = "7f 45 4c 46 02 01 01 00 00 00 00 00 00 00 00 00 01 00 b7 00 01 00 00 00 \
      00 00 00 00 00 00 00 00 00 00 00 00 00 00 00 00 30 01 00 00 00 00 00 00 \
      00 00 00 00 40 00 00 00 00 00 40 00 07 00 06 00 00 00 00 00 00 00 00 00 \
      00 00 00 00 00 00 00 00 00 00 00 00 00 00 00 00 00 00 00 00 00 00 00 00 \
@@ -129,9 +180,6 @@ pub const AARCH64: &str = "7f 45 4c 46 02 01 01 00 00 00 00 00 00 00 00 00 01 00
      3a 00 00 00 00 00 00 00 00 00 00 00 00 00 00 00 01 00 00 00 00 00 00 00 \
      00 00 00 00 00 00 00 00";
 
-/// The compiler's object with a COMDAT group before the other sections. Sections, with headers at 0x218 + 64 * number: 1 `.group`,
-/// 2 `.text`, 3 `.gcc_except_table`, 4 `.eh_frame`, 5 `.rela.eh_frame`, 6 `.symtab`, 7 `.strtab`, 8 `.shstrtab`. The group's words
-/// stand at 0x40: the flags, then the members 2 and 3. Its signature is the name of symbol 5.
 pub const GROUP: &str = "7f 45 4c 46 02 01 01 00 00 00 00 00 00 00 00 00 01 00 3e 00 01 00 00 00 \
      00 00 00 00 00 00 00 00 00 00 00 00 00 00 00 00 18 02 00 00 00 00 00 00 \
      00 00 00 00 40 00 00 00 00 00 40 00 09 00 08 00 01 00 00 00 02 00 00 00 \
@@ -180,13 +228,7 @@ pub const GROUP: &str = "7f 45 4c 46 02 01 01 00 00 00 00 00 00 00 00 00 01 00 3
      53 00 00 00 00 00 00 00 00 00 00 00 00 00 00 00 01 00 00 00 00 00 00 00 \
      00 00 00 00 00 00 00 00";
 
-/// An object for AMD64 with two COMDAT groups of one signature. Sections, with headers at 0x210 + 64 * number: 1 and 2 `.group`,
-/// 3 and 4 `.text.f`, 5 `.note.f`, which is not loaded, 6 `.text`, 7 `.eh_frame`, 8 `.rela.eh_frame`, 9 `.symtab`, 10 `.strtab`. The
-/// first group's words stand at 0x40, with the member 3; the second's at 0x48, with the members 4 and 5. The call frame information
-/// stands at 0x88, with functions of 16 bytes in the sections 3, 4 and 6, whose starts are at 0x20, 0x34 and 0x48 of it. Their
-/// relocations stand at 0xe0, against the symbols 1, 2 and 3, and one behind them that does nothing. The symbols stand at 0x140:
-/// 1 to 4 are those of the sections 3, 4, 6 and 5, and 5 is the signature `f`.
-pub const COPIES: &str = "7f 45 4c 46 02 01 01 00 00 00 00 00 00 00 00 00 01 00 3e 00 01 00 00 00 \
+const COPIES: &str = "7f 45 4c 46 02 01 01 00 00 00 00 00 00 00 00 00 01 00 3e 00 01 00 00 00 \
      00 00 00 00 00 00 00 00 00 00 00 00 00 00 00 00 10 02 00 00 00 00 00 00 \
      00 00 00 00 40 00 00 00 00 00 40 00 0b 00 0a 00 01 00 00 00 03 00 00 00 \
      01 00 00 00 04 00 00 00 05 00 00 00 90 90 90 90 90 90 90 90 90 90 90 90 \
@@ -239,10 +281,7 @@ pub const COPIES: &str = "7f 45 4c 46 02 01 01 00 00 00 00 00 00 00 00 00 01 00 
      3f 00 00 00 00 00 00 00 00 00 00 00 00 00 00 00 01 00 00 00 00 00 00 00 \
      00 00 00 00 00 00 00 00";
 
-/// An object for AMD64 with two sections of call frame information. Sections, with headers at 0x148 + 64 * number: 1 `.eh_frame`,
-/// 2 `.rela.eh_frame`, 3 `.text`, 4 `.eh_frame`, 5 `.rela.eh_frame`, 6 `.symtab`, 7 `.strtab`. The call frame information stands at
-/// 0x40 and at 0xa8, with one function of 16 bytes each, the second before the first; the relocations stand at 0x70 and at 0xd8.
-pub const SEVERAL: &str = "7f 45 4c 46 02 01 01 00 00 00 00 00 00 00 00 00 01 00 3e 00 01 00 00 00 \
+const SEVERAL: &str = "7f 45 4c 46 02 01 01 00 00 00 00 00 00 00 00 00 01 00 3e 00 01 00 00 00 \
      00 00 00 00 00 00 00 00 00 00 00 00 00 00 00 00 48 01 00 00 00 00 00 00 \
      00 00 00 00 40 00 00 00 00 00 40 00 08 00 07 00 14 00 00 00 00 00 00 00 \
      01 7a 52 00 01 78 10 01 1b 0c 07 08 90 01 00 00 10 00 00 00 1c 00 00 00 \
@@ -278,8 +317,7 @@ pub const SEVERAL: &str = "7f 45 4c 46 02 01 01 00 00 00 00 00 00 00 00 00 01 00
      00 00 00 00 00 00 00 00 20 01 00 00 00 00 00 00 26 00 00 00 00 00 00 00 \
      00 00 00 00 00 00 00 00 01 00 00 00 00 00 00 00 00 00 00 00 00 00 00 00";
 
-/// A core file for AMD64 with one program header, at 0x40.
-pub const CORE: &str = "7f 45 4c 46 02 01 01 00 00 00 00 00 00 00 00 00 04 00 3e 00 01 00 00 00 \
+const CORE: &str = "7f 45 4c 46 02 01 01 00 00 00 00 00 00 00 00 00 04 00 3e 00 01 00 00 00 \
      00 00 00 00 00 00 00 00 40 00 00 00 00 00 00 00 00 00 00 00 00 00 00 00 \
      00 00 00 00 40 00 38 00 01 00 00 00 00 00 00 00 01 00 00 00 04 00 00 00 \
      40 00 00 00 00 00 00 00 00 70 00 00 00 00 00 00 00 00 00 00 00 00 00 00 \
@@ -290,51 +328,51 @@ pub const NO_FUNCTIONS: &str =
     "e2 de 02 05 03 00 f8 00 00 00 00 00 00 00 00 00 00 00 00 00 00 00 00 00 \
      00 00 00 00";
 
-/// The section of [`OBJECT`] at 0x400000 for 0x500000.
+/// The section of `Base::Object` at 0x400000 for 0x500000.
 pub const OBJECT_SECTION: &str =
     "e2 de 02 05 03 00 f8 00 01 00 00 00 04 00 00 00 0f 00 00 00 00 00 00 00 \
      14 00 00 00 e4 ff ef ff 1b 00 00 00 00 00 00 00 04 00 00 00 00 00 00 00 \
      00 03 08 01 05 10 f0 04 04 10 f0 1a 05 08 f0";
 
-/// The section of [`EXECUTABLE`] at 0x0 for 0x500000.
+/// The section of `Base::Executable` at 0x0 for 0x500000.
 pub const EXECUTABLE_SECTION: &str =
     "e2 de 02 05 03 00 f8 00 01 00 00 00 02 00 00 00 06 00 00 00 00 00 00 00 \
      14 00 00 00 e4 0f f0 ff 20 00 00 00 00 00 00 00 02 00 00 00 00 00 00 00 \
      00 03 08 01 03 10";
 
-/// The section of [`SHARED`] at 0x400000 for 0x403000.
+/// The section of `Base::Shared` at 0x400000 for 0x403000.
 pub const SHARED_SECTION: &str =
     "e2 de 02 05 03 00 f8 00 01 00 00 00 04 00 00 00 0f 00 00 00 00 00 00 00 \
      14 00 00 00 e4 df ff ff 06 00 00 00 00 00 00 00 04 00 00 00 00 00 00 00 \
      00 03 08 01 05 10 f0 04 04 10 f0 05 05 08 f0";
 
-/// The section of [`AARCH64`] at 0x10000 for 0x12000.
+/// The section of `Base::Aarch64` at 0x10000 for 0x12000.
 pub const AARCH64_SECTION: &str =
     "e2 de 02 05 02 00 00 00 01 00 00 00 05 00 00 00 11 00 00 00 00 00 00 00 \
      14 00 00 00 e4 df ff ff 1c 00 00 00 00 00 00 00 05 00 00 00 20 00 00 00 \
      00 03 00 04 83 00 08 87 20 e8 e0 14 83 00 18 03 00";
 
-/// The section of [`GROUP`] at 0x400000 for 0x600000.
+/// The section of `Base::Group` at 0x400000 for 0x600000.
 pub const GROUP_SECTION: &str =
     "e2 de 02 05 03 00 f8 00 01 00 00 00 04 00 00 00 0f 00 00 00 00 00 00 00 \
      14 00 00 00 e4 ff df ff 1b 00 00 00 00 00 00 00 04 00 00 00 00 00 00 00 \
      00 03 08 01 05 10 f0 04 04 10 f0 1a 05 08 f0";
 
-/// The section of [`COPIES`] at 0x1000 for 0x2000.
+/// The section of `Base::Copies` at 0x1000 for 0x2000.
 pub const COPIES_SECTION: &str =
     "e2 de 02 05 03 00 f8 00 02 00 00 00 04 00 00 00 0c 00 00 00 00 00 00 00 \
      28 00 00 00 e4 ef ff ff 10 00 00 00 00 00 00 00 02 00 00 00 00 00 00 00 \
      e0 ef ff ff 10 00 00 00 06 00 00 00 02 00 00 00 00 00 00 00 00 03 08 01 \
      03 10 00 03 08 01 03 10";
 
-/// The section of [`SEVERAL`] at 0x1000 for 0x2000.
+/// The section of `Base::Several` at 0x1000 for 0x2000.
 pub const SEVERAL_SECTION: &str =
     "e2 de 02 05 03 00 f8 00 02 00 00 00 04 00 00 00 0c 00 00 00 00 00 00 00 \
      28 00 00 00 14 f0 ff ff 10 00 00 00 00 00 00 00 02 00 00 00 00 00 00 00 \
      10 f0 ff ff 10 00 00 00 06 00 00 00 02 00 00 00 00 00 00 00 00 03 08 01 \
      03 10 00 03 08 01 03 10";
 
-/// The section of [`COPIES`] at 0x1000 for 0x2000, where neither group is dropped.
+/// The section of `Base::Copies` at 0x1000 for 0x2000, where neither group is dropped.
 pub const COPIES_KEPT_SECTION: &str =
     "e2 de 02 05 03 00 f8 00 03 00 00 00 06 00 00 00 12 00 00 00 00 00 00 00 \
      3c 00 00 00 e4 ef ff ff 10 00 00 00 00 00 00 00 02 00 00 00 00 00 00 00 \
@@ -342,7 +380,7 @@ pub const COPIES_KEPT_SECTION: &str =
      10 00 00 00 0c 00 00 00 02 00 00 00 00 00 00 00 00 03 08 01 03 10 00 03 \
      08 01 03 10 00 03 08 01 03 10";
 
-/// The section of [`OBJECT`] at 0x400000 for 0x500000, where no relocation writes the start.
+/// The section of `Base::Object` at 0x400000 for 0x500000, where no relocation writes the start.
 pub const OBJECT_UNMOVED_SECTION: &str =
     "e2 de 02 05 03 00 f8 00 01 00 00 00 04 00 00 00 0f 00 00 00 00 00 00 00 \
      14 00 00 00 3c 00 f0 ff 1b 00 00 00 00 00 00 00 04 00 00 00 00 00 00 00 \

@@ -1,6 +1,6 @@
 //! The types of both machines, and which values fit.
 
-use super::bases::{AARCH64, OBJECT, OBJECT_SECTION};
+use super::bases::{Base, OBJECT_SECTION};
 use super::{Change, End, FileCase};
 
 /// The fields and instructions of a function of 27 bytes, with pointers of eight bytes and language-specific data of four.
@@ -12,11 +12,16 @@ const WIDE_FUNCTION: &str =
     "00 00 00 00 00 00 00 00 1c 00 00 00 00 00 00 00 00 41 0e 20 9d 04 9e 03 \
      00 00 00 00";
 
-pub const RANGES: [FileCase; 30] = [
+/// The cases of this part.
+pub fn cases() -> &'static [FileCase] {
+    &CASES
+}
+
+static CASES: [FileCase; 30] = [
     FileCase {
         shows: "AMD64 type 1: eight absolute bytes",
         words: "link o@0x500000 e@0x400000",
-        base: OBJECT,
+        base: Base::Object,
         changes: &[
             Change(0x88, "00"),
             Change(0x98, WIDE_ENTRY),
@@ -33,7 +38,7 @@ pub const RANGES: [FileCase; 30] = [
     FileCase {
         shows: "AMD64 type 24: eight relative bytes",
         words: "link o@0x500000 e@0x400000",
-        base: OBJECT,
+        base: Base::Object,
         changes: &[
             Change(0x88, "1c"),
             Change(0x98, WIDE_ENTRY),
@@ -50,7 +55,7 @@ pub const RANGES: [FileCase; 30] = [
     FileCase {
         shows: "AMD64 type 24: a value of eight bytes",
         words: "link o@0x8000000000500000 e@0x400000",
-        base: OBJECT,
+        base: Base::Object,
         changes: &[
             Change(0x88, "1c"),
             Change(0x98, WIDE_ENTRY),
@@ -68,7 +73,7 @@ pub const RANGES: [FileCase; 30] = [
     FileCase {
         shows: "four bytes on a field of eight",
         words: "link o@0x500000 e@0x400000",
-        base: OBJECT,
+        base: Base::Object,
         changes: &[
             Change(0x88, "1c"),
             Change(0x98, WIDE_ENTRY),
@@ -79,91 +84,91 @@ pub const RANGES: [FileCase; 30] = [
     FileCase {
         shows: "AMD64 type 2: the greatest value",
         words: "link o@0x500000 e@0x400000",
-        base: OBJECT,
+        base: Base::Object,
         changes: &[Change(0xf0, "02"), Change(0xf8, "45 00 00 80 00 00 00 00")],
         end: End::Linked("kept 1 omitted 0\n", OBJECT_SECTION),
     },
     FileCase {
         shows: "AMD64 type 2: one above the greatest value",
         words: "link o@0x500000 e@0x400000",
-        base: OBJECT,
+        base: Base::Object,
         changes: &[Change(0xf0, "02"), Change(0xf8, "46 00 00 80 00 00 00 00")],
         end: End::Refused("refused 0 reloc Range 0x3 0x2\n"),
     },
     FileCase {
         shows: "AMD64 type 2: the least value",
         words: "link o@0x500000 e@0x400000",
-        base: OBJECT,
+        base: Base::Object,
         changes: &[Change(0xf0, "02"), Change(0xf8, "46 00 00 80 ff ff ff ff")],
         end: End::Linked("kept 1 omitted 0\n", OBJECT_SECTION),
     },
     FileCase {
         shows: "AMD64 type 2: one below the least value",
         words: "link o@0x500000 e@0x400000",
-        base: OBJECT,
+        base: Base::Object,
         changes: &[Change(0xf0, "02"), Change(0xf8, "45 00 00 80 ff ff ff ff")],
         end: End::Refused("refused 0 reloc Range 0x3 0x2\n"),
     },
     FileCase {
         shows: "AMD64 type 10: the greatest value",
         words: "link o@0x500000 e@0x400000",
-        base: OBJECT,
+        base: Base::Object,
         changes: &[Change(0xf0, "0a"), Change(0xf8, "e4 ff bf ff 00 00 00 00")],
         end: End::Linked("kept 1 omitted 0\n", OBJECT_SECTION),
     },
     FileCase {
         shows: "AMD64 type 10: one above the greatest value",
         words: "link o@0x500000 e@0x400000",
-        base: OBJECT,
+        base: Base::Object,
         changes: &[Change(0xf0, "0a"), Change(0xf8, "e5 ff bf ff 00 00 00 00")],
         end: End::Refused("refused 0 reloc Range 0x3 0x2\n"),
     },
     FileCase {
         shows: "AMD64 type 10: the least value",
         words: "link o@0x500000 e@0x400000",
-        base: OBJECT,
+        base: Base::Object,
         changes: &[Change(0xf0, "0a"), Change(0xf8, "e5 ff bf ff ff ff ff ff")],
         end: End::Linked("kept 1 omitted 0\n", OBJECT_SECTION),
     },
     FileCase {
         shows: "AMD64 type 10: one below the least value",
         words: "link o@0x500000 e@0x400000",
-        base: OBJECT,
+        base: Base::Object,
         changes: &[Change(0xf0, "0a"), Change(0xf8, "e4 ff bf ff ff ff ff ff")],
         end: End::Refused("refused 0 reloc Range 0x3 0x2\n"),
     },
     FileCase {
         shows: "AMD64 type 11: the greatest value",
         words: "link o@0x500000 e@0x400000",
-        base: OBJECT,
+        base: Base::Object,
         changes: &[Change(0xf0, "0b"), Change(0xf8, "e4 ff bf 7f 00 00 00 00")],
         end: End::Linked("kept 1 omitted 0\n", OBJECT_SECTION),
     },
     FileCase {
         shows: "AMD64 type 11: one above the greatest value",
         words: "link o@0x500000 e@0x400000",
-        base: OBJECT,
+        base: Base::Object,
         changes: &[Change(0xf0, "0b"), Change(0xf8, "e5 ff bf 7f 00 00 00 00")],
         end: End::Refused("refused 0 reloc Range 0x3 0x2\n"),
     },
     FileCase {
         shows: "AMD64 type 11: the least value",
         words: "link o@0x500000 e@0x400000",
-        base: OBJECT,
+        base: Base::Object,
         changes: &[Change(0xf0, "0b"), Change(0xf8, "e5 ff bf 7f ff ff ff ff")],
         end: End::Linked("kept 1 omitted 0\n", OBJECT_SECTION),
     },
     FileCase {
         shows: "AMD64 type 11: one below the least value",
         words: "link o@0x500000 e@0x400000",
-        base: OBJECT,
+        base: Base::Object,
         changes: &[Change(0xf0, "0b"), Change(0xf8, "e4 ff bf 7f ff ff ff ff")],
         end: End::Refused("refused 0 reloc Range 0x3 0x2\n"),
     },
     FileCase {
         shows: "a start 2^31-1 bytes behind its field",
         words: "link o@0x500000 e@0x400000",
-        base: OBJECT,
+        base: Base::Object,
         changes: &[Change(0xe0, "57 00 00 80 00 00 00 00")],
         end: End::Linked(
             "kept 1 omitted 0\n",
@@ -175,7 +180,7 @@ pub const RANGES: [FileCase; 30] = [
     FileCase {
         shows: "AArch64 type 256 is not known",
         words: "link o@0x12000 e@0x10000",
-        base: AARCH64,
+        base: Base::Aarch64,
         changes: &[
             Change(0xa8, "00 01"),
             Change(0xb0, "00 00 00 00 00 00 00 00"),
@@ -185,7 +190,7 @@ pub const RANGES: [FileCase; 30] = [
     FileCase {
         shows: "AArch64: a type of the other machine",
         words: "link o@0x12000 e@0x10000",
-        base: AARCH64,
+        base: Base::Aarch64,
         changes: &[
             Change(0xa8, "02 00"),
             Change(0xb0, "00 00 00 00 00 00 00 00"),
@@ -195,7 +200,7 @@ pub const RANGES: [FileCase; 30] = [
     FileCase {
         shows: "AArch64 type 0: a relocation that does nothing",
         words: "link o@0x12000 e@0x10000",
-        base: AARCH64,
+        base: Base::Aarch64,
         changes: &[
             Change(0xa8, "00 00"),
             Change(0xb0, "00 00 00 00 00 00 00 00"),
@@ -210,7 +215,7 @@ pub const RANGES: [FileCase; 30] = [
     FileCase {
         shows: "AArch64 type 257: eight absolute bytes",
         words: "link o@0x12000 e@0x10000",
-        base: AARCH64,
+        base: Base::Aarch64,
         changes: &[
             Change(0x71, "00"),
             Change(0x80, WIDE_FUNCTION),
@@ -227,7 +232,7 @@ pub const RANGES: [FileCase; 30] = [
     FileCase {
         shows: "AArch64 type 260: eight relative bytes",
         words: "link o@0x12000 e@0x10000",
-        base: AARCH64,
+        base: Base::Aarch64,
         changes: &[
             Change(0x71, "1c"),
             Change(0x80, WIDE_FUNCTION),
@@ -244,7 +249,7 @@ pub const RANGES: [FileCase; 30] = [
     FileCase {
         shows: "AArch64 type 258: the greatest value",
         words: "link o@0x12000 e@0x10000",
-        base: AARCH64,
+        base: Base::Aarch64,
         changes: &[
             Change(0xa8, "02 01"),
             Change(0xb0, "ff ff fe ff 00 00 00 00"),
@@ -259,7 +264,7 @@ pub const RANGES: [FileCase; 30] = [
     FileCase {
         shows: "AArch64 type 258: one above the greatest value",
         words: "link o@0x12000 e@0x10000",
-        base: AARCH64,
+        base: Base::Aarch64,
         changes: &[
             Change(0xa8, "02 01"),
             Change(0xb0, "00 00 ff ff 00 00 00 00"),
@@ -269,7 +274,7 @@ pub const RANGES: [FileCase; 30] = [
     FileCase {
         shows: "AArch64 type 258: the least value",
         words: "link o@0xffffffff80000000 e@0x10000",
-        base: AARCH64,
+        base: Base::Aarch64,
         changes: &[
             Change(0xa8, "02 01"),
             Change(0xb0, "00 00 ff 7f ff ff ff ff"),
@@ -284,7 +289,7 @@ pub const RANGES: [FileCase; 30] = [
     FileCase {
         shows: "AArch64 type 258: one below the least value",
         words: "link o@0x12000 e@0x10000",
-        base: AARCH64,
+        base: Base::Aarch64,
         changes: &[
             Change(0xa8, "02 01"),
             Change(0xb0, "ff ff fe 7f ff ff ff ff"),
@@ -294,7 +299,7 @@ pub const RANGES: [FileCase; 30] = [
     FileCase {
         shows: "AArch64 type 261: the greatest value",
         words: "link o@0x12000 e@0x10000",
-        base: AARCH64,
+        base: Base::Aarch64,
         changes: &[
             Change(0xa8, "05 01"),
             Change(0xb0, "3f 00 00 80 00 00 00 00"),
@@ -309,7 +314,7 @@ pub const RANGES: [FileCase; 30] = [
     FileCase {
         shows: "AArch64 type 261: one above the greatest value",
         words: "link o@0x12000 e@0x10000",
-        base: AARCH64,
+        base: Base::Aarch64,
         changes: &[
             Change(0xa8, "05 01"),
             Change(0xb0, "40 00 00 80 00 00 00 00"),
@@ -319,7 +324,7 @@ pub const RANGES: [FileCase; 30] = [
     FileCase {
         shows: "AArch64 type 261: the least value",
         words: "link o@0xffffffff80000000 e@0x10000",
-        base: AARCH64,
+        base: Base::Aarch64,
         changes: &[
             Change(0xa8, "05 01"),
             Change(0xb0, "40 00 00 80 ff ff ff ff"),
@@ -334,7 +339,7 @@ pub const RANGES: [FileCase; 30] = [
     FileCase {
         shows: "AArch64 type 261: one below the least value",
         words: "link o@0x12000 e@0x10000",
-        base: AARCH64,
+        base: Base::Aarch64,
         changes: &[
             Change(0xa8, "05 01"),
             Change(0xb0, "3f 00 00 80 ff ff ff ff"),
