@@ -1,8 +1,7 @@
 -- The joined lists of gathered functions are the functions in order.
-use Rattle.std.specs.Prelude.{◌⊎◌}
 use Rattle.std.specs.List.{AllPairs, flat_map}
 use Rattle.std.specs.List.Sorted.{IsPermutation}
-use Rattle.std.proofs.Common.{◌≡◌, ℕ, suc, ◌+◌, ◌<◌, ◌≤◌, All, Vec, Global, List, [], ◌∷◌, length, get_or, map, Option, Ok, refl, sym, ap, subst, ◌∙◌, add-one, arith, inl, inr}
+use Rattle.std.proofs.Common.{◌≡◌, ℕ, suc, ◌+◌, ◌<◌, ◌≤◌, All, Vec, Global, List, [], ◌∷◌, length, get_or, map, Option, refl, sym, ap, subst, ◌∙◌, arith, inl, inr}
 use Rattle.std.proofs.lemmas.List.Folds.{flat_map-map}
 use Rattle.std.proofs.lemmas.List.Sorted.{All-permutation, IsNonDecreasingBy-from_all_adjacent, IsPermutation-trans}
 use Rattle.sf_model.specs.declared.machine.Arch.{Arch}
@@ -77,4 +76,4 @@ each_rises arch lists h = λ k d lt. rises arch (get_or lists k d).items (h k d 
 pub joined_are : (arch : Arch) (ordered : List Func) (lists : List (Vec Func Global)) (joined : List Func) → AreLists arch ordered lists → IsPermutation (flat_map (λ (list : Vec Func Global). list.items) lists) joined → RisesStrictly joined → joined ≡ ordered
 joined_are arch ordered lists joined h same rising =
     sym (one_list ordered joined (rising_from 0 ordered (λ f rest is. omega arith) (rises arch ordered h.writable)) (rising_from 0 joined (λ f rest is. omega arith) rising)
-        (IsPermutation-trans ordered (flat_map (λ (list : Vec Func Global). list.items) lists) joined h.same same))
+    (IsPermutation-trans ordered (flat_map (λ (list : Vec Func Global). list.items) lists) joined h.same same))

@@ -6,7 +6,7 @@ mod files;
 
 use super::*;
 use files::GROUPED;
-use sf_asm::{Form, Gathered, GatherFault, Input, LinkFault, Linked, gather};
+use sf_asm::{Form, GatherFault, Gathered, Input, LinkFault, Linked, gather};
 use sf_model::Arch;
 use std::alloc::Global;
 use std::process::Abort;
@@ -82,7 +82,12 @@ fn expect_case(rt: &impl Abort, alloc: Global, case: &Case) -> Result<(), Fail> 
         input_of(&case.inputs[1], &second)?,
     ];
     let linked = link(alloc, &inputs, case.at, case.before);
-    assert_eq!(rt; told(alloc, &linked)?.as_str(), case.answer, "{}", case.shows);
+    assert_eq!(rt;
+        told(alloc, &linked)?.as_str(),
+        case.answer,
+        "{}",
+        case.shows
+    );
     Ok(())
 }
 
@@ -127,28 +132,25 @@ fn functions_are_handed_out_by_inputs(rt: HostRuntime) -> Result<(), Fail> {
         input_of(&LOW, &low)?,
     ];
     let gathered = gather(alloc, &inputs, Some(Arch::Amd64))?;
-    let expected = "kept 1020\nkept\nkept 1000\nomitted 1010 of 2\nall 1000 of 3 1010 of 2 1020 of 1";
+    let expected =
+        "kept 1020\nkept\nkept 1000\nomitted 1010 of 2\nall 1000 of 3 1010 of 2 1020 of 1";
     assert_eq!(rt; starts_of(alloc, &gathered)?.as_str(), expected);
     Ok(())
 }
 
 /// A function of AMD64 of 6 bytes, at 0x1000 where the section lies at 0x2000.
-const PUSHES: &str =
-    "14 00 00 00 00 00 00 00 01 7a 52 00 01 78 10 01 1b 0c 07 08 90 01 00 00 \
+const PUSHES: &str = "14 00 00 00 00 00 00 00 01 7a 52 00 01 78 10 01 1b 0c 07 08 90 01 00 00 \
      1c 00 00 00 1c 00 00 00 e0 ef ff ff 06 00 00 00 00 41 0e 10 86 02 43 0d \
      06 41 0c 07 08 00 00 00 00 00 00 00";
 
 /// A function of AArch64 of 28 bytes, at 0x1000 where the section lies at 0x2000.
-const SIGNS: &str =
-    "14 00 00 00 00 00 00 00 01 7a 52 42 00 04 78 1e 01 1b 0c 1f 00 00 00 00 \
+const SIGNS: &str = "14 00 00 00 00 00 00 00 01 7a 52 42 00 04 78 1e 01 1b 0c 1f 00 00 00 00 \
      20 00 00 00 1c 00 00 00 e0 ef ff ff 1c 00 00 00 00 41 2d 41 0e 20 9d 04 \
      9e 03 43 dd de 0e 00 41 2d 00 00 00";
 
 /// A function of AMD64 that SFrame can't express: its return address is undefined.
-const OUTERMOST: &str =
-    "14 00 00 00 00 00 00 00 01 7a 52 00 01 78 10 01 1b 0c 07 08 90 01 00 00 \
+const OUTERMOST: &str = "14 00 00 00 00 00 00 00 01 7a 52 00 01 78 10 01 1b 0c 07 08 90 01 00 00 \
      10 00 00 00 1c 00 00 00 e0 ef ff ff 06 00 00 00 00 07 10 00 00 00 00 00";
-
 
 /// Three inputs whose functions start at 0x1000, 0x1010 and 0x1020.
 const LOW: Given = Given {

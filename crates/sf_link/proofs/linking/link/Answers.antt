@@ -41,4 +41,4 @@ returns-in-Err-OutOfReach-clause-fault c =
     let lists = are_lists c.args.before (map object_of c.args.inputs.now) c.in-Ok.gathered.arch c.in-Ok.gathered.kept.items c.in-Ok.gathered.omitted.items c.in-Ok.gathered.spans.items gathered in
     let kept = joined_are c.in-Ok.gathered.arch (kept_of gathered.ordered) c.in-Ok.gathered.kept.items c.in-Ok-join.kept.items lists c.in-Ok-join.ensures.joined c.in-Ok-join.ensures.rising in
     inr (not_reached c.args.before (map object_of c.args.inputs.now) c.args.at c.in-Ok-join.kept.items gathered.ordered _ gathered.is kept
-        (ap (first_out_of_reach c.args.at 0) (sym c.deref.ensures.value) ∙ reach_refused c.in-Err-OutOfReach.field-0 c.in-Err-OutOfReach.start _ c.in-Err-OutOfReach.field-0-is c.in-Err-OutOfReach.ensures.fault ∙ ap Some (sym c.in-Err-OutOfReach.start-is)))
+    (ap (first_out_of_reach c.args.at 0) (sym c.deref.ensures.value) ∙ reach_refused c.in-Err-OutOfReach.field-0 c.in-Err-OutOfReach.start _ c.in-Err-OutOfReach.field-0-is c.in-Err-OutOfReach.ensures.fault ∙ ap Some (sym c.in-Err-OutOfReach.start-is)))
