@@ -2,7 +2,7 @@
 use Rattle.std.specs.Prelude.{ℕ, List, [], ◌∷◌, Option, Some}
 use Rattle.sf_model.specs.declared.notice.Group.{Group}
 use Rattle.sf_model.specs.declared.notice.Group.TheVariants as group
-use Rattle.sf_model.specs.declared.notice.Notice.{Notice}
+use Rattle.sf_model.specs.Told.{Told}
 use Rattle.cfa_insn.specs.declared.fault.InsnFault.{InsnFault}
 use Rattle.cfa_insn.specs.declared.fault.InsnFault.TheVariants as insn
 use Rattle.cfa_machine.specs.declared.fault.MachineFault.{MachineFault}
@@ -21,15 +21,6 @@ use Rattle.sf_asm.specs.declared.fault.GatherFault.{GatherFault}
 use Rattle.sf_asm.specs.declared.fault.GatherFault.TheVariants as gather
 use Rattle.sf_asm.specs.declared.fault.LinkFault.{LinkFault}
 use Rattle.sf_asm.specs.declared.fault.LinkFault.TheVariants as link
-
-pub record Told : Type 0 where
-  pub item : Option ℕ
-  pub group : Group
-  pub number : ℕ
-  pub values : List ℕ
-
-abbrev pub told_by : Notice → Told
-told_by notice = record { item = notice.item; group = notice.group; number = notice.number; values = notice.values.items }
 
 -- want of memory has no line
 abbrev pub untold : Option ℕ → Told

@@ -2,7 +2,8 @@
 
 ghost use Rattle.std.specs.Prelude.{◌≡◌, ◌∷◌, [], ℕ, Option, IsTrue, IsSome};
 ghost use Rattle.sf_model.specs.Notice.{HasLine, up_to};
-ghost use Rattle.sf_asm.specs.Told.{told_by, told_of_file, told_of_elf, told_of_section, told_of_placing, told_of_relocation, told_of_relocating, told_of_place, told_of_records, told_of_instruction, told_of_machine, told_of_input, told_of_gathering, told_of_linking};
+ghost use Rattle.sf_model.specs.Told.{told_by};
+ghost use Rattle.sf_asm.specs.Told.{told_of_file, told_of_elf, told_of_section, told_of_placing, told_of_relocation, told_of_relocating, told_of_place, told_of_records, told_of_instruction, told_of_machine, told_of_input, told_of_gathering, told_of_linking};
 ghost use Rattle.sf_asm.specs.Fault.{is_place_refusal, is_reloc_refusal, is_record_refusal, is_machine_refusal, is_input_refusal, is_gather_refusal, is_refusal};
 
 use crate::fault::{AsmFault, GatherFault, LinkFault};

@@ -2,18 +2,9 @@
 use Rattle.std.specs.Prelude.{ℕ, List, [], ◌∷◌, Option}
 use Rattle.sf_model.specs.declared.notice.Group.{Group}
 use Rattle.sf_model.specs.declared.notice.Group.TheVariants as group
-use Rattle.sf_model.specs.declared.notice.Notice.{Notice}
+use Rattle.sf_model.specs.Told.{Told}
 use Rattle.sf_merge.specs.declared.fault.MergeFault.{MergeFault}
 use Rattle.sf_merge.specs.declared.fault.MergeFault.TheVariants as merge
-
-pub record Told : Type 0 where
-  pub item : Option ℕ
-  pub group : Group
-  pub number : ℕ
-  pub values : List ℕ
-
-abbrev pub told_by : Notice → Told
-told_by notice = record { item = notice.item; group = notice.group; number = notice.number; values = notice.values.items }
 
 abbrev pub told_of_link : Option ℕ → (number : ℕ) → List ℕ → Told
 told_of_link item number values = record { item = item; group = group.Link; number = number; values = values }

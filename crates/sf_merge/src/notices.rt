@@ -3,7 +3,8 @@
 ghost use Rattle.std.specs.Prelude.{◌≡◌, ◌∷◌, [], IsTrue};
 ghost use Rattle.sf_model.specs.Notice.{HasLine};
 ghost use Rattle.sf_merge.specs.Fault.{is_refusal};
-ghost use Rattle.sf_merge.specs.Told.{told_by, told_of_merging};
+ghost use Rattle.sf_model.specs.Told.{told_by};
+ghost use Rattle.sf_merge.specs.Told.{told_of_merging};
 
 use crate::fault::MergeFault;
 use arrayvec::ArrayVec;

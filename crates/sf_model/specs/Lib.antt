@@ -11,3 +11,4 @@ pub mod Lookup
 pub mod Union
 pub mod Walk
 pub mod Notice
+pub mod Told

@@ -11,7 +11,8 @@ use Rattle.sf_asm.specs.declared.fault.LinkFault.TheVariants.{Gather}
 use Rattle.sf_asm.specs.Answers.{IsLinked}
 use Rattle.sf_asm.specs.Functions.{Object}
 use Rattle.sf_asm.specs.Linking.{Links}
-use Rattle.sf_asm.specs.Told.{told_by, told_of_linking}
+use Rattle.sf_model.specs.Told.{told_by}
+use Rattle.sf_asm.specs.Told.{told_of_linking}
 use Rattle.sf_text.specs.Report.{report_text}
 use Rattle.sf_run.specs.declared.refusal.Limit.{Limit}
 use Rattle.sf_run.specs.declared.refusal.Limit.TheVariants.{Inputs, File, Total, Functions, Rows}

@@ -13,7 +13,8 @@ use Rattle.sf_merge.specs.declared.fault.MergeFault.{MergeFault}
 use Rattle.sf_merge.specs.declared.fault.MergeFault.TheVariants as merge
 use Rattle.sf_merge.specs.Answers.{IsMerged}
 use Rattle.sf_merge.specs.Merging.{Merges}
-use Rattle.sf_merge.specs.Told.{told_by, told_of_merging}
+use Rattle.sf_model.specs.Told.{told_by}
+use Rattle.sf_merge.specs.Told.{told_of_merging}
 use Rattle.sf_text.specs.Merged.{merged_text}
 use Rattle.sf_run.specs.declared.refusal.Limit.{Limit}
 use Rattle.sf_run.specs.declared.refusal.Limit.TheVariants.{Inputs, File, Total, Functions, Rows}

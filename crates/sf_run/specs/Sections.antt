@@ -15,7 +15,7 @@ use Rattle.sf_decode.specs.declared.fault.DecodeFault.TheVariants.{TooManyFuncti
 use Rattle.sf_decode.specs.Decoding.{section_check}
 use Rattle.sf_decode.specs.Fault.{number_and_place}
 use Rattle.sf_decode.specs.View.{head_of}
-use Rattle.sf_asm.specs.Told.{Told, told_by}
+use Rattle.sf_model.specs.Told.{Told, told_by}
 use Rattle.sf_text.specs.Dump.{dump_text}
 use Rattle.sf_text.specs.Found.{found_text}
 use Rattle.sf_run.specs.declared.refusal.Limit.{Limit}
