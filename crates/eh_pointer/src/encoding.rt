@@ -1,6 +1,6 @@
 //! The width of a pointer, and what it points to.
 
-ghost use Rattle.std.specs.Prelude.{◌≡◌, ◌<◌, ◌^◌, ◌+◌, ◌%◌, IsSome, IfSome, IsTrue};
+ghost use Rattle.std.specs.Prelude.{◌≡◌, ◌<◌, ◌^◌, ◌%◌, IsSome, IfSome, IsTrue};
 ghost use Rattle.sf_bytes.specs.Field.{is_field_width};
 ghost use Rattle.std.specs.Option.{ForSome};
 ghost use Rattle.eh_pointer.specs.Pointer.{pointer_width, usable_width, pointer_bits, pointer_value, sign_extended};

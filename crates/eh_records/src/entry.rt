@@ -1,6 +1,6 @@
 //! The entries of a section, of both kinds.
 
-ghost use Rattle.std.specs.Prelude.{◌≡◌, ◌<◌, ◌^◌, length, List};
+ghost use Rattle.std.specs.Prelude.{◌<◌, ◌^◌, length};
 ghost use Rattle.eh_records.specs.Cut.{Is, piece};
 ghost use Rattle.eh_records.specs.Entry.{entry_view, GivesFirst};
 ghost use Rattle.eh_records.specs.Places.{IsRising};

@@ -1,6 +1,6 @@
 //! Reading frame description entries.
 
-ghost use Rattle.std.specs.Prelude.{◌≡◌, ◌<◌, ◌≤◌, ◌^◌, length};
+ghost use Rattle.std.specs.Prelude.{◌≡◌, ◌<◌, ◌^◌, length};
 ghost use Rattle.std.specs.Option.{option_map};
 ghost use Rattle.eh_records.specs.Cie.{shared_view};
 ghost use Rattle.eh_records.specs.Cut.{Is, piece};

@@ -1,6 +1,6 @@
 //! The frame description entries of a section, one after the other.
 
-ghost use Rattle.std.specs.Prelude.{◌<◌, ◌+◌, ◌^◌, ◌≡◌, length};
+ghost use Rattle.std.specs.Prelude.{◌<◌, ◌^◌, ◌≡◌, length};
 ghost use Rattle.eh_records.specs.Iter.{GivesFrame};
 ghost use Rattle.eh_records.specs.Section.{cuts, cuts_of, entries_before, frames};
 ghost use Rattle.eh_records.specs.Step.{reader_cursor};

@@ -1,6 +1,6 @@
 //! The augmentation string of a common information entry.
 
-ghost use Rattle.std.specs.Prelude.{◌≡◌, ◌<◌, [], List, take, drop};
+ghost use Rattle.std.specs.Prelude.{◌≡◌, ◌<◌, []};
 ghost use Rattle.std.specs.Option.{option_map};
 ghost use Rattle.eh_records.specs.Augmentation.{is_letter, is_new, are_letters, letters_at};
 ghost use Rattle.eh_records.specs.Step.{Answers, reader_cursor};

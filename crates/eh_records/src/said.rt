@@ -1,6 +1,6 @@
 //! The augmentation data of a common information entry.
 
-ghost use Rattle.std.specs.Prelude.{◌≡◌, ◌<◌, List, take, drop};
+ghost use Rattle.std.specs.Prelude.{◌≡◌, ◌<◌};
 ghost use Rattle.std.specs.Option.{option_map};
 ghost use Rattle.eh_records.specs.Augmentation.{form_view, said_view, said_plain, said_by, data_at, form_at, personality_at, letter_at};
 ghost use Rattle.eh_records.specs.Cut.{Is};

@@ -3,14 +3,13 @@
 ghost use Rattle.std.specs.Prelude.{◌≡◌, ◌<◌, ◌≤◌, ◌^◌, length, IfOk};
 ghost use Rattle.elf_read.specs.Checking.{each_below};
 ghost use Rattle.elf_read.specs.Header.{is_rel};
-ghost use Rattle.elf_read.specs.Sections.{section_count};
 ghost use Rattle.elf_read.specs.Views.{file};
 ghost use Rattle.elf_place.specs.Dropped.{values_below};
 ghost use Rattle.elf_place.specs.Place as spec;
 
 use crate::checks::is_placed;
 use crate::fault::PlaceFault;
-use elf_read::{Elf, Kind, Section};
+use elf_read::{Elf, Kind};
 use std::alloc::Global;
 
 /// The first number behind all addresses.

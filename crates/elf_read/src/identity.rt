@@ -1,8 +1,7 @@
 //! Checks of the file header and of section 0's header.
 
-ghost use Rattle.std.specs.Prelude.{◌≡◌, ◌≤◌, ◌<◌, ◌^◌, length, OnOk};
+ghost use Rattle.std.specs.Prelude.{◌≡◌, ◌<◌};
 ghost use Rattle.elf_read.specs.Checks as spec;
-ghost use Rattle.elf_read.specs.Header.{e_shoff as shoff};
 
 use crate::check::require;
 use crate::fault::ElfFault;

@@ -1,6 +1,6 @@
 //! Checks of the relocations of call frame information and of section groups.
 
-ghost use Rattle.std.specs.Prelude.{◌≡◌, ◌<◌, ◌≤◌, ◌^◌, length};
+ghost use Rattle.std.specs.Prelude.{◌≡◌, ◌<◌, ◌^◌, length};
 ghost use Rattle.elf_read.specs.Checking.{each_below};
 ghost use Rattle.elf_read.specs.Header.{e_shoff as shoff};
 ghost use Rattle.elf_read.specs.Sections as fields;

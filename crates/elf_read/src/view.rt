@@ -9,7 +9,7 @@ use crate::fault::ElfFault;
 use crate::kind::Kind;
 use crate::number::bytes_at;
 use crate::parsing::check_file;
-use crate::{entries, header, program_header, reading, section_header, sections};
+use crate::{entries, header, program_header, reading, sections};
 use sf_model::Arch;
 
 /// An ELF file that was checked. It lends the file's bytes, of which there are fewer than 2^32.

@@ -1,7 +1,7 @@
 //! What one relocation does.
 
 ghost use Rattle.std.specs.Prelude.{◌≡◌, None};
-ghost use Rattle.std.specs.Int.{w64, cast_unsigned};
+ghost use Rattle.std.specs.Int.{cast_unsigned};
 ghost use Rattle.elf_place.specs.Views.{placing};
 ghost use Rattle.elf_reloc.specs.Reading as spec;
 ghost use Rattle.elf_reloc.specs.Table as table;

@@ -1,6 +1,5 @@
 -- What the line of a fault shows: its group, its number in the group and its values.
-use Rattle.std.specs.Prelude.{ℕ, List, [], ◌∷◌, Option, Some}
-use Rattle.sf_model.specs.declared.notice.Group.{Group}
+use Rattle.std.specs.Prelude.{ℕ, [], ◌∷◌, Option, Some}
 use Rattle.sf_model.specs.declared.notice.Group.TheVariants as group
 use Rattle.sf_model.specs.Told.{Told}
 use Rattle.cfa_insn.specs.declared.fault.InsnFault.{InsnFault}

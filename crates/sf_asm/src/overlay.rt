@@ -1,6 +1,6 @@
 //! What relocations write over the fields of a section.
 
-ghost use Rattle.std.specs.Prelude.{◌≡◌, ◌⊎◌, Ok, Err, IfErr, IfOk, OnOk, map};
+ghost use Rattle.std.specs.Prelude.{◌≡◌, ◌⊎◌, Ok, Err, IfErr, IfOk, OnOk};
 ghost use Rattle.std.specs.Option.{option_map};
 ghost use Rattle.elf_place.specs.Views.{placing};
 ghost use Rattle.elf_reloc.specs.declared.fault.RelocFault.TheVariants.{NoMemory};

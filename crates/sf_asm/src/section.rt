@@ -20,7 +20,7 @@ ghost use Rattle.sf_asm.specs.Fault.{is_input_answered, wraps_record, wraps_relo
 ghost use Rattle.sf_asm.specs.declared.fault.AsmFault.TheVariants.{NoMemory, Record};
 ghost use Rattle.sf_asm.specs.Functions.{fault_in, function_in, functions_in, named, section_functions, span_in};
 ghost use Rattle.sf_asm.specs.Kept.{outcome_by};
-ghost use Rattle.sf_asm.specs.Relocated.{on_pointers, pointer_check};
+ghost use Rattle.sf_asm.specs.Relocated.{pointer_check};
 ghost use Rattle.sf_asm.specs.Views.{AreChecked, IsReadFrom, overlaid, relocations_by, seen_section, written_by};
 
 use crate::entry::{Entry, Outcome};

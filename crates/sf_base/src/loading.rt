@@ -1,5 +1,5 @@
 // A whole file, read into memory.
-ghost use Rattle.std.specs.Prelude.{◌≡◌, ◌<◌, ◌≤◌, ◌++◌, ◌+◌, ℕ, length, [], vec_len, IsTrue, IsErrOf, IfOk, IfErr, IfSome, OnOk};
+ghost use Rattle.std.specs.Prelude.{◌≡◌, ◌<◌, ◌≤◌, ◌++◌, ◌+◌, ℕ, length, [], vec_len, IsTrue, IsErrOf, IfOk, IfSome, OnOk};
 ghost use Rattle.sf_base.specs.Contents.{contents_of};
 ghost use Rattle.sf_base.specs.declared.loading.LoadFault.TheVariants.{Read, NoMemory};
 ghost use Rattle.sf_base.specs.Faults.{Rose};

@@ -1,5 +1,5 @@
 // Files in memory.
-ghost use Rattle.std.specs.Prelude.{◌≡◌, ◌⊎◌, ◌↔◌, ◌<◌, ◌≤◌, ℕ, [], true, false, min, length, drop, take, is_some, is_ok, Some, None, IfSome, IfOk, OnOk, OnErr, IsErr, IsTrue, vec_len, if◌then◌else◌};
+ghost use Rattle.std.specs.Prelude.{◌≡◌, ◌⊎◌, ◌↔◌, ◌<◌, ◌≤◌, [], true, false, min, length, take, is_some, is_ok, Some, None, IfSome, IfOk, OnOk, OnErr, IsErr, IsTrue, vec_len, if◌then◌else◌};
 ghost use Rattle.std.specs.Option.{ForSome};
 ghost use Rattle.sf_base.specs.Contents.{contents_of, Changes, Holds, Grows, Moves};
 ghost use Rattle.sf_base.specs.Faults.{Cause};

@@ -1,5 +1,5 @@
 // Whole texts and files, written out.
-ghost use Rattle.std.specs.Prelude.{◌≡◌, ◌==◌, ◌≤◌, false, length, OnOk, OnErr, IsTrue, if◌then◌else◌};
+ghost use Rattle.std.specs.Prelude.{◌≡◌, ◌==◌, false, length, OnOk, OnErr, IsTrue, if◌then◌else◌};
 ghost use Rattle.sf_base.specs.Contents.{Grows, GrowsByPrefix};
 ghost use Rattle.sf_base.specs.Written.{Appends, AppendsPrefix};
 ghost use Rattle.sf_base.specs.Faults.{Cause};

@@ -1,5 +1,5 @@
 // Where a program's text goes.
-ghost use Rattle.std.specs.Prelude.{◌≡◌, ◌<◌, ◌≤◌, ℕ, List, Option, length, take, IfOk, OnErr};
+ghost use Rattle.std.specs.Prelude.{◌<◌, ◌≤◌, ℕ, List, Option, length, take, IfOk, OnErr};
 ghost use Rattle.sf_base.specs.Written.{Appends, Kept};
 ghost use Rattle.sf_base.specs.Faults.{Cause};
 

@@ -1,6 +1,6 @@
 //! LEB128 numbers (DWARF 5, section 7.6).
 
-ghost use Rattle.std.specs.Prelude.{◌≡◌, ◌<◌, ◌≤◌, ◌^◌, ◌+◌, pos, ◌≤ℤ◌, ◌<ℤ◌, ◌-ℤ◌, length, ℕ, ℤ, IfOk};
+ghost use Rattle.std.specs.Prelude.{◌≡◌, ◌<◌, ◌≤◌, ◌^◌, ◌+◌, length, ℕ, ℤ, IfOk};
 ghost use Rattle.sf_bytes.specs.Cursor.{Cursor, cursor, Gives, EndStays};
 ghost use Rattle.sf_bytes.specs.Leb.{Uleb, Sleb, leb_sum, leb_signed, run_length, uleb_at, sleb_at};
 ghost use Rattle.sf_bytes.specs.Standing.{Stands};

@@ -1,6 +1,6 @@
 //! Function descriptor entries (SFrame Version 2).
 
-ghost use Rattle.std.specs.Prelude.{◌≡◌, ◌<◌, ◌≤◌, ◌+◌, ◌-◌, ◌^◌, IsTrue, length};
+ghost use Rattle.std.specs.Prelude.{◌≡◌, ◌<◌, ◌+◌, ◌-◌, ◌^◌, IsTrue};
 ghost use Rattle.sf_model.specs.Section as section;
 ghost use Rattle.sf_decode.specs.Entry as spec;
 

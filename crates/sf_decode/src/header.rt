@@ -1,6 +1,6 @@
 //! The preamble and the header (SFrame Version 2).
 
-ghost use Rattle.std.specs.Prelude.{◌≡◌, ◌<◌, ◌≤◌, ◌+◌, ◌*◌, ◌^◌, length, OnOk};
+ghost use Rattle.std.specs.Prelude.{◌≡◌, ◌<◌, ◌+◌, ◌*◌, ◌^◌, length};
 ghost use Rattle.sf_model.specs.Section as section;
 ghost use Rattle.sf_decode.specs.Entry as entry;
 ghost use Rattle.sf_decode.specs.Header as spec;

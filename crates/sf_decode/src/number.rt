@@ -1,6 +1,6 @@
 //! Numbers at places, little-endian. What lies past the end reads as 0; the checks rule it out.
 
-ghost use Rattle.std.specs.Prelude.{◌≡◌, ◌<◌, ◌≤◌, ◌^◌, length, slice_index, take, drop};
+ghost use Rattle.std.specs.Prelude.{◌≡◌, ◌<◌, ◌≤◌, ◌^◌, slice_index, take, drop};
 ghost use Rattle.sf_model.specs.Section.{number_in};
 ghost use Rattle.sf_decode.specs.Row as row;
 

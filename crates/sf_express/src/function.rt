@@ -1,11 +1,11 @@
 //! A whole function in SFrame's form.
 
-ghost use Rattle.std.specs.Prelude.{◌≡◌, ◌^◌, ◌<◌, ◌+◌, ◌≤◌, List, All, IfOk, IsTrue, None};
+ghost use Rattle.std.specs.Prelude.{◌≡◌, ◌^◌, ◌<◌, ◌+◌, ◌≤◌, All, IfOk, IsTrue, None};
 ghost use Rattle.sf_model.specs.Function.{IsWritable, key_fits};
 ghost use Rattle.cfa_machine.specs.RowList.{AreRows};
 ghost use Rattle.sf_express.specs.Offsets.{Omits, SayTheSame, StandAtChanges};
 ghost use Rattle.sf_express.specs.Runs.{AreSaid, Saying, function_of};
-ghost use Rattle.sf_express.specs.Expressed.{repeats, same_content, column_of, reason_of, row_by, Makes, Appends, Gives, unless_repeated, expressed_rows, function_by};
+ghost use Rattle.sf_express.specs.Expressed.{repeats, same_content, column_of, reason_of, row_by, Makes, Appends, Gives, expressed_rows, function_by};
 
 use crate::fault::ExpressFault;
 use crate::row::content;

@@ -7,7 +7,7 @@ mod files;
 
 use super::*;
 use cases::{CASES, HIGH, LOW, OMITTED};
-use sf_asm::{Form, GatherFault, Gathered, Input, LinkFault, Linked, gather};
+use sf_asm::{Form, Gathered, Input, LinkFault, Linked, gather};
 use sf_model::Arch;
 use std::alloc::Global;
 use std::process::Abort;

@@ -1,6 +1,6 @@
 //! The last start that an address has reached.
 
-ghost use Rattle.std.specs.Prelude.{◌≡◌, ◌+◌, ◌-◌, ◌*◌, ◌^◌, ◌≤◌, length};
+ghost use Rattle.std.specs.Prelude.{◌+◌, ◌-◌, ◌*◌, ◌^◌, ◌≤◌, length};
 ghost use Rattle.sf_lookup.specs.Starts.{NeverFall, IsLastStart};
 
 use crate::starts::Starts;

@@ -1,6 +1,5 @@
 -- What the line of a fault shows: its number in the group of faults of linking, and its values.
 use Rattle.std.specs.Prelude.{ℕ, List, [], ◌∷◌, Option}
-use Rattle.sf_model.specs.declared.notice.Group.{Group}
 use Rattle.sf_model.specs.declared.notice.Group.TheVariants as group
 use Rattle.sf_model.specs.Told.{Told}
 use Rattle.sf_merge.specs.declared.fault.MergeFault.{MergeFault}

@@ -1,6 +1,6 @@
 //! The checks of sections that are to be merged.
 
-ghost use Rattle.std.specs.Prelude.{◌≡◌, ◌<◌, ◌≤◌, ◌+◌, ◌^◌, Some, None, map, length, All, IfOk, OnOk, IfErr};
+ghost use Rattle.std.specs.Prelude.{◌≡◌, ◌<◌, ◌≤◌, ◌+◌, Some, None, map, length, All, IfOk, OnOk, IfErr};
 ghost use Rattle.sf_model.specs.Table.{Table as table_fact};
 ghost use Rattle.sf_decode.specs.View.{table_of};
 ghost use Rattle.sf_merge.specs.Merging.{same_arch, mixed_fault, limits_fault, overlap, overlap_fault, unless};

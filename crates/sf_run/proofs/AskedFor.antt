@@ -1,8 +1,6 @@
 -- What split words ask for.
-use Rattle.std.specs.Prelude.{All, IsTrue, IfSome}
 use Rattle.std.specs.List.{AllZip}
-use Rattle.std.proofs.Common.{◌≡◌, ◌<◌, ◌≤◌, ℕ, zero, suc, List, [], ◌∷◌, map, length, refl, ap, sym, subst, ◌∙◌, arith}
-use Rattle.sf_run.specs.declared.words.Command.{Command}
+use Rattle.std.proofs.Common.{◌≡◌, ℕ, suc, List, [], ◌∷◌, map, length, refl, ap, sym, subst, ◌∙◌}
 use Rattle.sf_run.specs.declared.words.Command.TheVariants as command
 use Rattle.sf_run.specs.declared.words.LinkCommand.{LinkCommand}
 use Rattle.sf_run.specs.declared.words.MergeCommand.{MergeCommand}

@@ -1,20 +1,17 @@
 -- Where there is no refusal and no fault of a file or a sink, a run is done, or memory was wanting.
 use Rattle.std.specs.Prelude.{◌⊎◌, IfSome}
 use Rattle.std.specs.List.{AllZip, zip}
-use Rattle.std.proofs.Common.{◌≡◌, ◌<◌, ◌≤◌, ◌^◌, ℕ, List, [], ◌∷◌, length, Some, None, Ok, Err, refl, ap, sym, subst, ◌∙◌, inl, inr, arith}
+use Rattle.std.proofs.Common.{◌≡◌, ℕ, List, [], ◌∷◌, Some, None, Ok, Err, refl, ap, sym, subst, ◌∙◌, inl, inr, arith}
 use Rattle.std.proofs.lemmas.List.{length-map}
 use Rattle.sf_base.specs.Contents.{contents_of}
 use Rattle.sf_model.specs.declared.notice.Notice.{Notice}
-use Rattle.sf_model.specs.Section.{Section}
 use Rattle.sf_model.specs.Table.{Table}
 use Rattle.sf_model.proofs.TableSame.{table_same}
-use Rattle.sf_decode.specs.declared.fault.DecodeFault.{DecodeFault}
 use Rattle.sf_asm.specs.declared.fault.LinkFault.{LinkFault}
 use Rattle.sf_asm.specs.declared.fault.LinkFault.TheVariants.{Gather}
 use Rattle.sf_asm.specs.declared.fault.GatherFault.TheVariants.{TooManyFunctions, TooManyRows}
 use Rattle.sf_asm.specs.Linking.{Links}
 use Rattle.sf_asm.proofs.OneOrder.{one_result}
-use Rattle.sf_merge.specs.declared.fault.MergeFault.{MergeFault}
 use Rattle.sf_merge.specs.Merging.{Merges}
 use Rattle.sf_merge.proofs.OneOrder.{one_result as one_merge}
 use Rattle.sf_run.specs.declared.refusal.Limit.{Limit}
@@ -23,8 +20,8 @@ use Rattle.sf_run.specs.declared.status.Status.{Status}
 use Rattle.sf_run.specs.declared.status.Status.TheVariants as status
 use Rattle.sf_run.specs.First.{First, IsFirst, IsExceeded, objects_in, input_limit}
 use Rattle.sf_run.specs.Loading.{Contents, IsTooMuch, bytes_told, loading_limit}
-use Rattle.sf_run.specs.Merging.{Item, IsSectionOf, AreSections, MergeFirst, MergeRefusing, Loading, Decoding, Merging, IsMergeFirst, IsMergeExceeded, section_limit}
-use Rattle.sf_run.specs.Words.{InputWords, LinkWords, MergeWords, input_names, section_names}
+use Rattle.sf_run.specs.Merging.{Item, IsSectionOf, MergeFirst, MergeRefusing, Loading, Decoding, Merging, IsMergeFirst, IsMergeExceeded, section_limit}
+use Rattle.sf_run.specs.Words.{LinkWords, MergeWords, input_names, section_names}
 use Rattle.sf_run.specs.Ends.{FilesSeen, SinkSeen, Ends, MakingEnds, IsComplete, IsUnfaulted}
 use Rattle.sf_run.specs.Showing.{MergeEnds, MergeIsComplete}
 use Rattle.sf_run.proofs.Loads.{are_few}

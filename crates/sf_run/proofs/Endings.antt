@@ -1,5 +1,4 @@
 -- How a run ends, from how its last step ends.
-use Rattle.std.specs.Prelude.{Contains}
 use Rattle.std.proofs.Common.{◌≡◌, ◌⊎◌, ℕ, List, refl, sym, subst, inl, inr}
 use Rattle.sf_base.specs.Faults.{Rose}
 use Rattle.sf_run.specs.declared.refusal.Refusal.{Refusal}

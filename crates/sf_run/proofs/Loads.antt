@@ -1,5 +1,5 @@
 -- Items that are loaded one after the other, and the first limit that they exceed.
-use Rattle.std.specs.Prelude.{nat_lt, IfSome, Contains}
+use Rattle.std.specs.Prelude.{nat_lt, IfSome}
 use Rattle.std.proofs.Common.{Bor, Vec, Global, ◌≡◌, ℕ, zero, suc, ◌+◌, ◌<◌, ◌≤◌, ◌^◌, Bool, true, false, cond, List, [], ◌∷◌, ◌++◌, map, length, take, drop, get_or, Option, Some, None, refl, ap, sym, subst, ◌∙◌, arith}
 use Rattle.std.proofs.lemmas.Bool.{lt-ltb, le-ltb}
 use Rattle.std.proofs.lemmas.Bool.Decides.{nat_tests}

@@ -1,11 +1,9 @@
 -- Sections with their bytes, one after the other, and what merging them comes to.
-use Rattle.std.specs.Prelude.{IfOk, IfErr}
 use Rattle.std.specs.List.{AllZip, zip}
-use Rattle.std.proofs.Common.{Vec, Global, ◌≡◌, ℕ, zero, suc, ◌+◌, ◌<◌, ◌≤◌, ◌^◌, List, [], ◌∷◌, ◌++◌, map, length, drop, get_or, Option, Some, None, Result, Ok, Err, refl, ap, sym, subst, ◌∙◌, inl, inr, arith}
+use Rattle.std.proofs.Common.{Vec, Global, ◌≡◌, ℕ, zero, suc, ◌+◌, ◌<◌, ◌≤◌, List, [], ◌∷◌, ◌++◌, map, length, drop, get_or, None, Result, Ok, Err, refl, ap, sym, subst, ◌∙◌, inl, inr, arith}
 use Rattle.std.proofs.lemmas.List.{drop_more, append-nil}
 use Rattle.sf_model.specs.Table.{Table}
 use Rattle.sf_decode.specs.declared.fault.DecodeFault.{DecodeFault}
-use Rattle.sf_decode.specs.declared.fault.DecodeFault.TheVariants as decode
 use Rattle.sf_decode.specs.declared.view.View.{View}
 use Rattle.sf_decode.specs.Decoding.{section_check}
 use Rattle.sf_decode.specs.View.{table_of}
@@ -17,7 +15,7 @@ use Rattle.sf_run.specs.declared.refusal.Refusal.{Refusal}
 use Rattle.sf_run.specs.declared.refusal.Refusal.TheVariants as refusal
 use Rattle.sf_run.specs.declared.words.SectionFile.{SectionFile}
 use Rattle.sf_run.specs.Loading.{loading_limit}
-use Rattle.sf_run.specs.Merging.{Item, IsSectionOf, or_in, sections_fault, AreSections, MergeRefusing, Decoding, Merging, MergeFirst, IsMergeRefusalOf, IsFirstMergeOf, IsMergingRefusal, section_limit}
+use Rattle.sf_run.specs.Merging.{Item, IsSectionOf, or_in, sections_fault, AreSections, Decoding, Merging, IsMergeRefusalOf, IsFirstMergeOf, IsMergingRefusal, section_limit}
 use Rattle.sf_run.specs.Parsed.{section_of}
 use Rattle.sf_run.specs.Sections.{IsDecodeRefusal}
 use Rattle.sf_run.specs.Words.{MergeWords}

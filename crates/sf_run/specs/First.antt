@@ -15,7 +15,7 @@ use Rattle.sf_model.specs.Told.{told_by}
 use Rattle.sf_asm.specs.Told.{told_of_linking}
 use Rattle.sf_text.specs.Report.{report_text}
 use Rattle.sf_run.specs.declared.refusal.Limit.{Limit}
-use Rattle.sf_run.specs.declared.refusal.Limit.TheVariants.{Inputs, File, Total, Functions, Rows}
+use Rattle.sf_run.specs.declared.refusal.Limit.TheVariants.{Functions, Rows}
 use Rattle.sf_run.specs.Loading.{Contents, AreLoaded, IsTooMuch, loading_limit}
 use Rattle.sf_run.specs.Words.{InputWords, LinkWords, input_names}
 

@@ -1,5 +1,5 @@
 -- The items of a run, loaded one after the other, and the limits of loading: 512 items, the bytes of one item, and 2^30 bytes of all items.
-use Rattle.std.specs.Prelude.{◌≡◌, ◌≤◌, ◌<◌, ◌+◌, ◌^◌, ℕ, nat_lt, List, [], ◌∷◌, map, length, Contains, Option, Some, None, IfSome, if◌then◌else◌}
+use Rattle.std.specs.Prelude.{◌≡◌, ◌<◌, ◌+◌, ◌^◌, ℕ, nat_lt, List, [], ◌∷◌, map, length, Contains, Option, Some, None, IfSome, if◌then◌else◌}
 use Rattle.sf_base.specs.Contents.{contents_of}
 use Rattle.sf_base.specs.declared.loading.LoadFault.{LoadFault}
 use Rattle.sf_base.specs.declared.loading.LoadFault.TheVariants as load

@@ -1,5 +1,5 @@
 -- The first refusal of a run of `merge` over the bytes of its sections, and what is made where there is none.
-use Rattle.std.specs.Prelude.{◌≡◌, ◌^◌, ◌+◌, ℕ, List, [], ◌∷◌, length, Option, Some, None, Result, Ok, Err, IfSome}
+use Rattle.std.specs.Prelude.{◌≡◌, ◌^◌, ◌+◌, ℕ, List, [], ◌∷◌, length, Option, Some, None, Result, Ok, Err}
 use Rattle.std.specs.List.{AllZip, zip}
 use Rattle.sf_model.specs.declared.function.Func.{Func}
 use Rattle.sf_model.specs.declared.notice.Notice.{Notice}
@@ -17,7 +17,7 @@ use Rattle.sf_model.specs.Told.{told_by}
 use Rattle.sf_merge.specs.Told.{told_of_merging}
 use Rattle.sf_text.specs.Merged.{merged_text}
 use Rattle.sf_run.specs.declared.refusal.Limit.{Limit}
-use Rattle.sf_run.specs.declared.refusal.Limit.TheVariants.{Inputs, File, Total, Functions, Rows}
+use Rattle.sf_run.specs.declared.refusal.Limit.TheVariants.{Functions, Rows}
 use Rattle.sf_run.specs.declared.refusal.Refusal.{Refusal}
 use Rattle.sf_run.specs.declared.refusal.Refusal.TheVariants as refusal
 use Rattle.sf_run.specs.Loading.{Contents, AreLoaded, IsTooMuch, loading_limit}

@@ -1,6 +1,6 @@
 //! One line on a sink, in pieces, without memory.
 
-ghost use Rattle.std.specs.Prelude.{◌≡◌, ◌++◌, OnOk, OnErr};
+ghost use Rattle.std.specs.Prelude.{◌++◌, OnOk, OnErr};
 ghost use Rattle.sf_base.specs.Written.{Appends, AppendsPrefix};
 ghost use Rattle.sf_base.specs.Faults.{Cause};
 ghost use Rattle.sf_run.specs.Lines.{line};

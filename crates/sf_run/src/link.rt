@@ -1,6 +1,6 @@
 //! What `link` makes before it writes anything.
 
-ghost use Rattle.std.specs.Prelude.{◌≡◌, ◌<◌, ◌≤◌, ◌^◌, All, None, map, length, IsTrue, IfOk, IfErr};
+ghost use Rattle.std.specs.Prelude.{◌≡◌, ◌<◌, ◌≤◌, All, None, map, length, IsTrue, IfOk, IfErr};
 ghost use Rattle.sf_base.specs.Faults.{Rose};
 ghost use Rattle.sf_asm.specs.Answers.{IsLinked};
 ghost use Rattle.sf_asm.specs.Fault.{is_answered};

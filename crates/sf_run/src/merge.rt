@@ -4,7 +4,6 @@ ghost use Rattle.std.specs.Prelude.{◌≡◌, ◌<◌, ◌≤◌, None, All, ma
 ghost use Rattle.std.specs.List.{zip};
 ghost use Rattle.sf_base.specs.Faults.{Rose};
 ghost use Rattle.sf_decode.specs.View.{table_of};
-ghost use Rattle.sf_merge.specs.Answers.{IsMerged};
 ghost use Rattle.sf_model.specs.Section.{Section};
 ghost use Rattle.sf_model.specs.Table.{Table, row_count};
 ghost use Rattle.sf_text.specs.Merged.{merged_text};

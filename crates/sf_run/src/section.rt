@@ -1,14 +1,13 @@
 //! What a section says, read before anything is written.
 
-ghost use Rattle.std.specs.Prelude.{◌≡◌, ◌≤◌, ◌^◌, length, Ok, IsTrue, IfOk, IfErr, IfSome, OnOk, [], ◌∷◌};
-ghost use Rattle.sf_base.specs.Contents.{contents_of};
+ghost use Rattle.std.specs.Prelude.{◌≡◌, Ok, IsTrue, IfOk, IfErr, OnOk, [], ◌∷◌};
 ghost use Rattle.sf_base.specs.Faults.{Rose};
 ghost use Rattle.sf_model.specs.Section.{Section};
 ghost use Rattle.sf_decode.specs.Decoding.{section_check};
 ghost use Rattle.sf_decode.specs.View.{table_of};
 ghost use Rattle.sf_run.specs.Parsed.{section_of};
 ghost use Rattle.sf_run.specs.Loading.{IsRead, IsTold};
-ghost use Rattle.sf_run.specs.Sections.{IsBytesRefusal, IsDecodeRefusal, IsInput, IsSectionRefusal, IsShowRefusal, IsShown, IsShownOf, Shows};
+ghost use Rattle.sf_run.specs.Sections.{IsBytesRefusal, IsDecodeRefusal, IsSectionRefusal, IsShowRefusal, IsShown, IsShownOf, Shows};
 
 use crate::loading::not_loaded;
 use crate::refusal::{Limit, Refusal};

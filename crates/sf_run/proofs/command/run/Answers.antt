@@ -1,4 +1,4 @@
-use Rattle.std.proofs.Common.{◌≡◌, ℕ, List, [], ◌∷◌, ap, subst, sym, arith}
+use Rattle.std.proofs.Common.{[], subst, sym, arith}
 use Rattle.sf_run.specs.declared.words.Command.{Command}
 use Rattle.sf_run.specs.Ends.{files_seen, sink_seen}
 use Rattle.sf_run.specs.Parsed.{section_of, Asks}

@@ -1,6 +1,5 @@
-use Rattle.std.proofs.Common.{List, ℕ, map}
 use Rattle.sf_run.specs.First.{IsMade, IsRefused, IsExceeded}
-use Rattle.sf_run.specs.Parsed.{link_of, input_of}
+use Rattle.sf_run.specs.Parsed.{link_of}
 use Rattle.sf_run.specs.Words.{input_names}
 use Rattle.sf_run.specs.Ends.{files_seen, sink_seen}
 use Rattle.sf_run.proofs.Endings.{ends_from_delivers, ends_from_tells, link_claims}

@@ -1,10 +1,10 @@
-use Rattle.std.proofs.Common.{◌≡◌, ◌<◌, ◌≤◌, ℕ, List, map, length, refl, ap, sym, subst, ◌∙◌, arith}
+use Rattle.std.proofs.Common.{◌≡◌, ◌<◌, ◌≤◌, List, map, length, refl, ap, sym, subst, ◌∙◌, arith}
 use Rattle.std.proofs.lemmas.List.{length-map}
 use Rattle.sf_run.specs.declared.refusal.Limit.TheVariants.{Inputs}
 use Rattle.sf_run.specs.declared.refusal.Refusal.TheVariants as refusal
 use Rattle.sf_run.specs.declared.words.InputFile.{InputFile}
 use Rattle.sf_run.specs.First.{IsMade, IsRefused, IsExceeded}
-use Rattle.sf_run.specs.Parsed.{input_of, section_of, AsksLink}
+use Rattle.sf_run.specs.Parsed.{input_of}
 use Rattle.sf_run.specs.Words.{InputWords, LinkWords, input_names}
 use Rattle.sf_run.specs.Ends.{Ends, files_seen, sink_seen}
 use Rattle.sf_run.proofs.AskedFor.{inputs_asked}

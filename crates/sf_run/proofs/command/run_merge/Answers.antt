@@ -1,11 +1,11 @@
-use Rattle.std.proofs.Common.{◌≡◌, ◌<◌, ◌≤◌, ℕ, List, map, length, refl, ap, sym, subst, ◌∙◌, arith}
+use Rattle.std.proofs.Common.{◌≡◌, ◌<◌, ◌≤◌, List, map, length, refl, ap, sym, subst, ◌∙◌, arith}
 use Rattle.std.proofs.lemmas.List.{length-map}
 use Rattle.sf_run.specs.declared.refusal.Limit.TheVariants.{Inputs}
 use Rattle.sf_run.specs.declared.refusal.Refusal.TheVariants as refusal
 use Rattle.sf_run.specs.declared.words.SectionFile.{SectionFile}
 use Rattle.sf_run.specs.Merging.{IsMergeMade, IsMergeRefused, IsMergeExceeded}
 use Rattle.sf_run.specs.Showing.{MergeEnds}
-use Rattle.sf_run.specs.Parsed.{section_of, AsksMerge}
+use Rattle.sf_run.specs.Parsed.{section_of}
 use Rattle.sf_run.specs.Words.{SectionWords, MergeWords, section_names}
 use Rattle.sf_run.specs.Ends.{files_seen, sink_seen}
 use Rattle.sf_run.proofs.AskedFor.{sections_asked}

@@ -1,6 +1,5 @@
-use Rattle.std.proofs.Common.{List, ℕ, map}
 use Rattle.sf_run.specs.Merging.{IsMergeMade, IsMergeRefused, IsMergeExceeded}
-use Rattle.sf_run.specs.Parsed.{merge_of, section_of}
+use Rattle.sf_run.specs.Parsed.{merge_of}
 use Rattle.sf_run.specs.Words.{section_names}
 use Rattle.sf_run.specs.Ends.{files_seen, sink_seen}
 use Rattle.sf_run.proofs.Endings.{ends_from_delivers, ends_from_tells, merge_claims}

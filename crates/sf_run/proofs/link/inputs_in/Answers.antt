@@ -1,4 +1,4 @@
-use Rattle.std.proofs.Common.{Vec, Global, ◌≡◌, ◌≤◌, ◌++◌, ◌+◌, ◌∷◌, ℕ, List, [], map, length, drop, get_or, min, refl, ap, sym, subst, ◌∙◌, arith}
+use Rattle.std.proofs.Common.{Vec, Global, ◌≡◌, ◌≤◌, ◌++◌, ◌+◌, ◌∷◌, ℕ, List, [], map, length, drop, get_or, ap, sym, subst, ◌∙◌, arith}
 use Rattle.std.proofs.lemmas.List.{length_push, append-nil}
 use Rattle.std.proofs.lemmas.Slice.Zip.{zip_turn, zip_end}
 use Rattle.sf_asm.specs.Functions.{Object, object_of}

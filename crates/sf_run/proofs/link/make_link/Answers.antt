@@ -1,4 +1,4 @@
-use Rattle.std.proofs.Common.{◌≡◌, List, ℕ, Bor, map, sym, subst}
+use Rattle.std.proofs.Common.{List, ℕ, Bor, sym, subst}
 use Rattle.std.specs.Prelude.{All, IsTrue}
 use Rattle.sf_run.proofs.Linked.{unmapped}
 use Rattle.sf_run.proofs.link.make_link.Goals as goal

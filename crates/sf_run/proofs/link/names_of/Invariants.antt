@@ -1,4 +1,4 @@
-use Rattle.std.proofs.Common.{◌≡◌, List, ◌++◌, map, take}
+use Rattle.std.proofs.Common.{◌≡◌, map, take}
 use Rattle.sf_run.specs.Parsed.{input_of}
 use Rattle.sf_run.specs.Words.{input_names}
 use Rattle.sf_run.proofs.link.names_of.Given as goal

@@ -1,6 +1,5 @@
-use Rattle.std.proofs.Common.{◌≡◌, ◌<◌, ◌≤◌, ℕ, List, map, length, sym, subst, ap, ◌∙◌, arith}
+use Rattle.std.proofs.Common.{◌<◌, ◌≤◌, ℕ, List, map, length, sym, subst, arith}
 use Rattle.sf_model.specs.Section.{Section}
-use Rattle.sf_model.specs.Table.{Table}
 use Rattle.sf_model.proofs.TightOne.{tight_section}
 use Rattle.sf_decode.specs.declared.view.View.{View}
 use Rattle.sf_decode.specs.View.{table_of}

@@ -1,4 +1,4 @@
-use Rattle.std.proofs.Common.{◌≡◌, List, ◌++◌, map, take}
+use Rattle.std.proofs.Common.{◌≡◌, map, take}
 use Rattle.sf_run.specs.Parsed.{section_of}
 use Rattle.sf_run.specs.Words.{section_names}
 use Rattle.sf_run.proofs.merge.names_of.Given as goal

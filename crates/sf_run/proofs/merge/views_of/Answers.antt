@@ -1,14 +1,13 @@
-use Rattle.std.proofs.Common.{Vec, Global, ◌≡◌, ◌≤◌, ◌++◌, ◌+◌, ◌∷◌, ℕ, List, [], map, length, drop, get_or, min, refl, ap, sym, subst, ◌∙◌, Ok, Err, arith}
-use Rattle.std.proofs.lemmas.List.{length_push, length-map}
+use Rattle.std.proofs.Common.{Vec, Global, ◌≡◌, ◌≤◌, ◌++◌, ◌+◌, ◌∷◌, ℕ, List, [], map, length, drop, get_or, ap, sym, subst, ◌∙◌, Ok, Err, arith}
+use Rattle.std.proofs.lemmas.List.{length_push}
 use Rattle.std.proofs.lemmas.Slice.Zip.{zip_turn, zip_end}
-use Rattle.sf_decode.specs.declared.fault.DecodeFault.{DecodeFault}
 use Rattle.sf_decode.specs.Decoding.{section_check}
 use Rattle.sf_decode.specs.View.{table_of}
 use Rattle.sf_run.specs.declared.words.SectionFile.{SectionFile}
 use Rattle.sf_run.specs.Merging.{Item, IsSectionOf}
 use Rattle.sf_run.specs.Parsed.{merge_of, section_of}
 use Rattle.sf_run.proofs.Linked.{bytes_of}
-use Rattle.sf_run.proofs.Merged.{Reading, items_of, item_at, one_item, no_item_left, first_read, one_more_read, all_read, not_read}
+use Rattle.sf_run.proofs.Merged.{Reading, items_of, item_at, one_item, no_item_left, one_more_read, all_read, not_read}
 use Rattle.sf_run.proofs.merge.views_of.Goals as goal
 
 pub loop-section-preserved : goal.loop-section-preserved

@@ -1,7 +1,6 @@
 use Rattle.std.proofs.Common.{◌≡◌, ℕ, List, All, length, take, get_or, ap, sym, subst, ◌∙◌, arith}
 use lib.Seq.{take-length}
 use Rattle.std.specs.String.{string_bytes}
-use Rattle.std.specs.Option.{is_some}
 use Rattle.std.proofs.lemmas.List.Elements.{All-more}
 use Rattle.sf_run.specs.Parsed.{input_of}
 use Rattle.sf_run.specs.Words.{IsInputWord, InputWords}

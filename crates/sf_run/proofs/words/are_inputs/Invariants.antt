@@ -1,4 +1,4 @@
-use Rattle.std.proofs.Common.{ℕ, All, take}
+use Rattle.std.proofs.Common.{All, take}
 use Rattle.std.specs.String.{string_bytes}
 use Rattle.sf_run.specs.Words.{IsInputWord, InputWords}
 use Rattle.sf_run.proofs.words.are_inputs.Given as goal

@@ -1,7 +1,6 @@
-use Rattle.std.proofs.Common.{◌≡◌, subst, refl}
-use Rattle.std.specs.String.{string_bytes}
+use Rattle.std.proofs.Common.{refl}
 use Rattle.sf_run.specs.Parsed.{section_of}
-use Rattle.sf_run.specs.Words.{SectionWords, IsDump, IsLookup, CommandWords, Link, Merge, Dump, Lookup}
+use Rattle.sf_run.specs.Words.{Link, Merge, Dump, Lookup}
 use Rattle.sf_run.proofs.AskedFor.{link_asked, merge_asked, dump_asked, lookup_asked}
 use Rattle.sf_run.proofs.words.command_words.Goals as goal
 

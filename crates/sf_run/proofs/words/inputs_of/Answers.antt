@@ -1,7 +1,7 @@
-use Rattle.std.proofs.Common.{◌≡◌, ℕ, List, [], ◌∷◌, ◌++◌, map, get_or, ap, sym, subst, ◌∙◌, arith}
+use Rattle.std.proofs.Common.{◌≡◌, ℕ, List, get_or, ap, sym, subst, ◌∙◌, arith}
 use Rattle.std.specs.String.{string_bytes}
 use Rattle.sf_run.specs.Parsed.{input_of}
-use Rattle.sf_run.specs.Words.{IsInputWord, InputWords}
+use Rattle.sf_run.specs.Words.{IsInputWord}
 use Rattle.sf_run.proofs.NamedWords.{turn, pushed}
 use Rattle.sf_run.proofs.words.inputs_of.Goals as goal
 

@@ -1,9 +1,9 @@
-use Rattle.std.proofs.Common.{rules, ◌≡◌, ℕ, List, ◌∷◌, ◌<◌, map, length, refl, ap, sym, subst, ◌∙◌, arith}
+use Rattle.std.proofs.Common.{rules, ◌≡◌, ℕ, List, ◌∷◌, ◌<◌, map, refl, ap, sym, subst, ◌∙◌}
 use Rattle.std.proofs.lemmas.List.{length-map}
 use Rattle.std.specs.Prelude.{codes}
 use Rattle.std.specs.String.{string_bytes}
 use Rattle.sf_run.specs.Parsed.{section_of}
-use Rattle.sf_run.specs.Words.{IsSectionWord, IsSectionWord, SectionWords}
+use Rattle.sf_run.specs.Words.{IsSectionWord, IsSectionWord}
 use Rattle.sf_run.proofs.NamedWords.{all_named}
 use Rattle.sf_run.proofs.words.merge_words.Goals as goal
 

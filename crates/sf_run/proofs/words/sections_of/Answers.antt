@@ -1,7 +1,7 @@
-use Rattle.std.proofs.Common.{◌≡◌, ℕ, List, [], ◌∷◌, ◌++◌, map, get_or, ap, sym, subst, ◌∙◌, arith}
+use Rattle.std.proofs.Common.{◌≡◌, ℕ, List, get_or, ap, sym, subst, ◌∙◌, arith}
 use Rattle.std.specs.String.{string_bytes}
 use Rattle.sf_run.specs.Parsed.{section_of}
-use Rattle.sf_run.specs.Words.{IsSectionWord, SectionWords}
+use Rattle.sf_run.specs.Words.{IsSectionWord}
 use Rattle.sf_run.proofs.NamedWords.{turn, pushed}
 use Rattle.sf_run.proofs.words.sections_of.Goals as goal
 
