@@ -12,6 +12,7 @@ use crate::part::Part;
 const MOST_BYTES: usize = 10;
 
 // How many bytes the number at the front has, which stands at `place`.
+#[inline(always)]
 fn number_length(bytes: &[u8], place: u64) -> Result<usize, ByteFault>
     ensures exact { result ≡ run_length place 10 bytes.now }
     ensures within { IfOk result (λ n. n ≤ length bytes.now) }
@@ -35,6 +36,7 @@ fn number_length(bytes: &[u8], place: u64) -> Result<usize, ByteFault>
 }
 
 // The sum of the low seven bits times the powers of 128.
+#[inline(always)]
 fn sum_of(run: &[u8]) -> u128
     requires { length run.now ≤ 10 }
     ensures value { result ≡ leb_sum run.now }
@@ -50,6 +52,7 @@ fn sum_of(run: &[u8]) -> u128
 }
 
 // The sum in two's complement of seven bits a byte.
+#[inline(always)]
 fn signed_sum_of(run: &[u8]) -> i128
     requires some { 0 < length run.now }
     requires most { length run.now ≤ 10 }
@@ -65,6 +68,7 @@ fn signed_sum_of(run: &[u8]) -> i128
 
 impl Part<'_> {
     #[tactic(auto, unfolding(crate::specs::Leb::uleb_at))]
+    #[inline(always)]
     fn read_uleb(&mut self) -> Result<u64, ByteFault>
         ensures exact { Gives (λ x. x) self.old self.new result (uleb_at (cursor self.old)) }
         ensures end { EndStays self.old self.new }
@@ -84,6 +88,7 @@ impl Part<'_> {
     }
 
     #[tactic(auto, unfolding(crate::specs::Leb::sleb_at))]
+    #[inline(never)]
     fn read_sleb(&mut self) -> Result<i64, ByteFault>
         ensures exact { Gives (λ x. x) self.old self.new result (sleb_at (cursor self.old)) }
         ensures end { EndStays self.old self.new }
@@ -106,6 +111,7 @@ impl Part<'_> {
     ///
     /// `Leb` where ten bytes all go on or the value doesn't fit, `Short` where fewer than ten are left and
     /// all go on.
+    #[inline(always)]
     pub fn uleb(&mut self) -> Result<u64, ByteFault>
         // What is answered stands there.
         ensures found { IfOk result (λ v. Stands Uleb v (cursor self.old) (cursor self.new)) }
@@ -123,6 +129,7 @@ impl Part<'_> {
     ///
     /// `Leb` where ten bytes all go on or the value doesn't fit, `Short` where fewer than ten are left and
     /// all go on.
+    #[inline(always)]
     pub fn sleb(&mut self) -> Result<i64, ByteFault>
         // What is answered stands there.
         ensures found { IfOk result (λ z. Stands Sleb z (cursor self.old) (cursor self.new)) }

@@ -9,6 +9,7 @@ use byteorder::{ByteOrder, LittleEndian};
 
 impl<'a> Part<'a> {
     /// The part whose first byte stands at `place`.
+    #[inline(always)]
     pub fn new(bytes: &'a [u8], place: u64) -> Part<'a>
         requires { place + length bytes.now < 2 ^ 64 }
         ensures bytes { result.bytes.now ≡ bytes.now }
@@ -18,6 +19,7 @@ impl<'a> Part<'a> {
     }
 
     /// How many bytes are left.
+    #[inline(always)]
     pub fn len(&self) -> u64
         ensures { result ≡ length self.now.bytes.now }
     {
@@ -25,6 +27,7 @@ impl<'a> Part<'a> {
     }
 
     /// Whether no byte is left.
+    #[inline(always)]
     pub fn is_empty(&self) -> bool
         ensures { result ≡ (length self.now.bytes.now == 0) }
     {
@@ -35,6 +38,7 @@ impl<'a> Part<'a> {
     ///
     /// `Short` where fewer are left.
     #[tactic(auto, unfolding(crate::specs::Cursor::part_at))]
+    #[inline(always)]
     pub fn take(&mut self, n: u64) -> Result<Part<'a>, ByteFault>
         ensures exact { Gives cursor self.old self.new result (part_at n (cursor self.old)) }
         ensures place { IfOk result (λ taken. taken.place ≡ self.old.place) }
@@ -62,6 +66,7 @@ impl<'a> Part<'a> {
     ///
     /// `Short` where none is left.
     #[tactic(auto, unfolding(crate::specs::Cursor::part_at, crate::specs::Cursor::number_at))]
+    #[inline(always)]
     pub fn get_u8(&mut self) -> Result<u8, ByteFault>
         ensures exact { Gives (λ x. x) self.old self.new result (number_at 1 (cursor self.old)) }
         // The part ends where it did.
@@ -75,6 +80,7 @@ impl<'a> Part<'a> {
     ///
     /// `Short` where fewer are left.
     #[tactic(auto, unfolding(crate::specs::Cursor::part_at, crate::specs::Cursor::number_at))]
+    #[inline(always)]
     pub fn get_u16(&mut self) -> Result<u16, ByteFault>
         ensures exact { Gives (λ x. x) self.old self.new result (number_at 2 (cursor self.old)) }
         // The part ends where it did.
@@ -88,6 +94,7 @@ impl<'a> Part<'a> {
     ///
     /// `Short` where fewer are left.
     #[tactic(auto, unfolding(crate::specs::Cursor::part_at, crate::specs::Cursor::number_at))]
+    #[inline(always)]
     pub fn get_u32(&mut self) -> Result<u32, ByteFault>
         ensures exact { Gives (λ x. x) self.old self.new result (number_at 4 (cursor self.old)) }
         // The part ends where it did.
@@ -101,6 +108,7 @@ impl<'a> Part<'a> {
     ///
     /// `Short` where fewer are left.
     #[tactic(auto, unfolding(crate::specs::Cursor::part_at, crate::specs::Cursor::number_at))]
+    #[inline(always)]
     pub fn get_u64(&mut self) -> Result<u64, ByteFault>
         ensures exact { Gives (λ x. x) self.old self.new result (number_at 8 (cursor self.old)) }
         // The part ends where it did.
@@ -114,6 +122,7 @@ impl<'a> Part<'a> {
     ///
     /// `Short` where none is left.
     #[tactic(auto, unfolding(crate::specs::Cursor::number_at, crate::specs::Cursor::signed_at))]
+    #[inline(always)]
     pub fn get_i8(&mut self) -> Result<i8, ByteFault>
         ensures exact { Gives (λ x. x) self.old self.new result (signed_at 1 (cursor self.old)) }
         // The part ends where it did.
@@ -127,6 +136,7 @@ impl<'a> Part<'a> {
     ///
     /// `Short` where fewer are left.
     #[tactic(auto, unfolding(crate::specs::Cursor::number_at, crate::specs::Cursor::signed_at))]
+    #[inline(always)]
     pub fn get_i16(&mut self) -> Result<i16, ByteFault>
         ensures exact { Gives (λ x. x) self.old self.new result (signed_at 2 (cursor self.old)) }
         // The part ends where it did.
@@ -140,6 +150,7 @@ impl<'a> Part<'a> {
     ///
     /// `Short` where fewer are left.
     #[tactic(auto, unfolding(crate::specs::Cursor::number_at, crate::specs::Cursor::signed_at))]
+    #[inline(always)]
     pub fn get_i32(&mut self) -> Result<i32, ByteFault>
         ensures exact { Gives (λ x. x) self.old self.new result (signed_at 4 (cursor self.old)) }
         // The part ends where it did.
@@ -153,6 +164,7 @@ impl<'a> Part<'a> {
     ///
     /// `Short` where fewer are left.
     #[tactic(auto, unfolding(crate::specs::Cursor::number_at, crate::specs::Cursor::signed_at))]
+    #[inline(always)]
     pub fn get_i64(&mut self) -> Result<i64, ByteFault>
         ensures exact { Gives (λ x. x) self.old self.new result (signed_at 8 (cursor self.old)) }
         // The part ends where it did.
