@@ -1,21 +1,88 @@
 -- Placing one section after the other.
-use Rattle.std.proofs.Common.{◌≡◌, ℕ, suc, ◌+◌, Bool, List, [], Result, Err, refl, ap, ◌∙◌, arith}
+use Rattle.std.proofs.Common.{◌≡◌, ℕ, suc, ◌+◌, Bool, true, List, [], ◌∷◌, ◌++◌, Option, Some, None, Result, Err, refl, sym, ap, ◌∙◌, arith, inl, inr, if◌then◌else◌}
+use Rattle.std.proofs.lemmas.Bool.{cases_Bool}
+use Rattle.elf_read.specs.Checking.{unless, where_so}
+use Rattle.elf_read.specs.Header.{is_rel}
+use Rattle.elf_read.specs.Sections.{sh_size, sh_addralign}
 use Rattle.elf_place.specs.declared.fault.PlaceFault.{PlaceFault}
 use Rattle.elf_place.specs.declared.fault.PlaceFault.TheVariants.{Align, AddressOverflow, NoBits, NoMemory}
-use Rattle.elf_place.specs.Place.{cursor_at, cursor_from, Fails, is_kept_eh_frame, with_one, eh_frames_below}
+use Rattle.elf_place.specs.Cursor.{start_from, cursor_from, address_from, overflow_from, IsCursor}
+use Rattle.elf_place.specs.Place.{is_placed, aligned, is_in_memory, placed_below, end_of, start_of, address_of, overflow_check, Fails, is_kept_eh_frame, with_one, eh_frames_below}
 
-pub cursor_at-none : (file : List ℕ) (dropped : List Bool) (base : ℕ) → cursor_at file dropped base 0 ≡ base
-unfolding cursor_at
-cursor_at-none file dropped base = refl
+-- the cursor starts at the base
+pub is_cursor-start : (file : List ℕ) (dropped : List Bool) (base : ℕ) → IsCursor file dropped base 0 base
+unfolding placed_below end_of
+is_cursor-start file dropped base object = refl
 
-after_suc : (file : List ℕ) (dropped : List Bool) (base i : ℕ) → cursor_at file dropped base (suc i) ≡ cursor_from file dropped base (cursor_at file dropped base i) i
-unfolding cursor_at
-after_suc file dropped base i = refl
+end_of-one : (file : List ℕ) (from i : ℕ) → end_of file from (i ∷ []) ≡ aligned from (sh_addralign file i) + sh_size file i
+unfolding end_of
+end_of-one file from i = refl
 
-pub cursor_at-more : (file : List ℕ) (dropped : List Bool) (base i : ℕ) → cursor_at file dropped base (i + 1) ≡ cursor_from file dropped base (cursor_at file dropped base i) i
-cursor_at-more file dropped base i =
+end_of-more : (file : List ℕ) (from i j : ℕ) (others : List ℕ) → end_of file from ((i ∷ others) ++ j ∷ []) ≡ end_of file (aligned from (sh_addralign file i) + sh_size file i) (others ++ j ∷ [])
+unfolding end_of
+end_of-more file from i j others = refl
+
+end_of-behind : (file : List ℕ) (from i : ℕ) (others : List ℕ) → end_of file from (i ∷ others) ≡ end_of file (aligned from (sh_addralign file i) + sh_size file i) others
+unfolding end_of
+end_of-behind file from i others = refl
+
+end_of-none : (file : List ℕ) (from : ℕ) → end_of file from [] ≡ from
+unfolding end_of
+end_of-none file from = refl
+
+-- one section more
+end_of-append : (file : List ℕ) (from : ℕ) (sections : List ℕ) (j : ℕ) → end_of file from (sections ++ j ∷ []) ≡ aligned (end_of file from sections) (sh_addralign file j) + sh_size file j
+end_of-append file from [] j =
+    end_of-one file from j ∙ ap (λ (e : ℕ). aligned e (sh_addralign file j) + sh_size file j) (sym (end_of-none file from))
+end_of-append file from (i ∷ others) j =
+    end_of-more file from i j others
+    ∙ end_of-append file (aligned from (sh_addralign file i) + sh_size file i) others j
+    ∙ ap (λ (e : ℕ). aligned e (sh_addralign file j) + sh_size file j) (sym (end_of-behind file from i others))
+
+placed_below-suc : (file : List ℕ) (dropped : List Bool) (i : ℕ) → placed_below file dropped (suc i) ≡ with_one (is_placed file dropped i) i (placed_below file dropped i)
+unfolding placed_below
+placed_below-suc file dropped i = refl
+
+placed_below-more : (file : List ℕ) (dropped : List Bool) (i : ℕ) → placed_below file dropped (i + 1) ≡ with_one (is_placed file dropped i) i (placed_below file dropped i)
+placed_below-more file dropped i =
     let next : i + 1 ≡ suc i = omega arith in
-    ap (cursor_at file dropped base) next ∙ after_suc file dropped base i
+    ap (placed_below file dropped) next ∙ placed_below-suc file dropped i
+
+start_from-object : (file : List ℕ) (base cursor i : ℕ) → is_rel file ≡ true → start_from file base cursor i ≡ aligned cursor (sh_addralign file i)
+unfolding start_from
+start_from-object file base cursor i object = rw object refl
+
+-- where a section starts by the cursor is where it starts
+pub start_from-is : (file : List ℕ) (dropped : List Bool) (base i cursor : ℕ) → IsCursor file dropped base i cursor → start_from file base cursor i ≡ start_of file dropped base i
+unfolding start_from start_of
+start_from-is file dropped base i cursor is =
+    elim (cases_Bool (is_rel file)) [
+      | inl object ↦ rw object (ap (λ (e : ℕ). aligned e (sh_addralign file i)) (is object))
+      | inr other ↦ rw other refl
+    ]
+
+pub address_from-is : (file : List ℕ) (dropped : List Bool) (base i cursor : ℕ) → IsCursor file dropped base i cursor → address_from file dropped base cursor i ≡ address_of file dropped base i
+unfolding address_from address_of
+address_from-is file dropped base i cursor is =
+    ap (λ (start : ℕ). if is_placed file dropped i then Some start else None) (start_from-is file dropped base i cursor is)
+
+pub overflow_from-is : (file : List ℕ) (dropped : List Bool) (base i cursor : ℕ) → IsCursor file dropped base i cursor → overflow_from file dropped base cursor i ≡ overflow_check file dropped base i
+unfolding overflow_from overflow_check
+overflow_from-is file dropped base i cursor is =
+    ap (λ (start : ℕ). where_so (is_placed file dropped i) (unless (is_in_memory start (sh_size file i)) (AddressOverflow i))) (start_from-is file dropped base i cursor is)
+
+-- the cursor behind a section is where the sections up to it end
+pub is_cursor-next : (file : List ℕ) (dropped : List Bool) (base i cursor : ℕ) → IsCursor file dropped base i cursor → IsCursor file dropped base (i + 1) (cursor_from file dropped base cursor i)
+unfolding cursor_from
+is_cursor-next file dropped base i cursor is object =
+    elim (cases_Bool (is_placed file dropped i)) [
+      | inl placed ↦
+          rw (placed_below-more file dropped i, placed)
+          (ap (λ (start : ℕ). start + sh_size file i) (start_from-object file base cursor i object)
+          ∙ ap (λ (e : ℕ). aligned e (sh_addralign file i) + sh_size file i) (is object)
+          ∙ sym (end_of-append file base (placed_below file dropped i) i))
+      | inr other ↦ rw (placed_below-more file dropped i, other) (is object)
+    ]
 
 -- a fault that the check has is an answer to it
 pub fails : (e : PlaceFault) (check : Result (Unit {0}) PlaceFault) → check ≡ Err e → Fails e check

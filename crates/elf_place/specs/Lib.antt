@@ -1,3 +1,4 @@
+pub mod Cursor
 pub mod Dropped
 pub mod Place
 pub mod Views

@@ -23,37 +23,35 @@ align_check file dropped i = where_so (is_placed file dropped i) (unless (is_ali
 unfoldable pub aligned : ℕ → ℕ → ℕ
 aligned from align = if align == 0 then from else (from + (align - 1)) / align * align
 
--- where a section starts: in an object at the cursor, as its alignment asks; else at its own address, moved by the base
-unfoldable pub start_from : List ℕ → (base cursor : ℕ) → ℕ → ℕ
-start_from file base cursor i = if is_rel file then aligned cursor (sh_addralign file i) else base + sh_addr file i
+abbrev pub with_one : Bool → ℕ → List ℕ → List ℕ
+with_one kept i before = if kept then before ++ i ∷ [] else before
 
--- the cursor behind a section
-unfoldable pub cursor_from : List ℕ → List Bool → (base cursor : ℕ) → ℕ → ℕ
-cursor_from file dropped base cursor i = if is_placed file dropped i then start_from file base cursor i + sh_size file i else cursor
+-- the numbers below n of sections that get an address, in order
+unfoldable pub placed_below : List ℕ → List Bool → ℕ → List ℕ
+placed_below file dropped zero = []
+placed_below file dropped (suc n) = with_one (is_placed file dropped n) n (placed_below file dropped n)
 
--- the section's address, where it has one
-unfoldable pub address_from : List ℕ → List Bool → (base cursor : ℕ) → ℕ → Option ℕ
-address_from file dropped base cursor i = if is_placed file dropped i then Some (start_from file base cursor i) else None
+-- where sections end that follow one another from an address on, each at the least multiple of its alignment
+unfoldable pub end_of : List ℕ → (from : ℕ) → List ℕ → ℕ
+end_of file from [] = from
+end_of file from (i ∷ sections) = end_of file (aligned from (sh_addralign file i) + sh_size file i) sections
+
+-- where a section starts: in an object behind those before it, as its alignment asks; else at its own address, moved by the base
+unfoldable pub start_of : List ℕ → List Bool → (base i : ℕ) → ℕ
+start_of file dropped base i =
+    if is_rel file then aligned (end_of file base (placed_below file dropped i)) (sh_addralign file i) else base + sh_addr file i
+
+-- a section's address, where it has one
+unfoldable pub address_of : List ℕ → List Bool → (base i : ℕ) → Option ℕ
+address_of file dropped base i = if is_placed file dropped i then Some (start_of file dropped base i) else None
 
 -- it starts below 2^64 and ends there or before
 abbrev pub is_in_memory : ℕ → ℕ → Bool
 is_in_memory start size = nat_lt start (2 ^ 64) && nat_le (start + size) (2 ^ 64)
 
-unfoldable pub overflow_from : List ℕ → List Bool → (base cursor : ℕ) → ℕ → Result (Unit {0}) PlaceFault
-overflow_from file dropped base cursor i =
-    where_so (is_placed file dropped i) (unless (is_in_memory (start_from file base cursor i) (sh_size file i)) (AddressOverflow i))
-
--- the cursor before a section: it starts at the base
-unfoldable pub cursor_at : List ℕ → List Bool → ℕ → ℕ → ℕ
-cursor_at file dropped base zero = base
-cursor_at file dropped base (suc i) = cursor_from file dropped base (cursor_at file dropped base i) i
-
--- a section's address
-abbrev pub address_of : List ℕ → List Bool → ℕ → ℕ → Option ℕ
-address_of file dropped base i = address_from file dropped base (cursor_at file dropped base i) i
-
-abbrev pub overflow_check : List ℕ → List Bool → ℕ → ℕ → Result (Unit {0}) PlaceFault
-overflow_check file dropped base i = overflow_from file dropped base (cursor_at file dropped base i) i
+unfoldable pub overflow_check : List ℕ → List Bool → (base i : ℕ) → Result (Unit {0}) PlaceFault
+overflow_check file dropped base i =
+    where_so (is_placed file dropped i) (unless (is_in_memory (start_of file dropped base i) (sh_size file i)) (AddressOverflow i))
 
 -- the sections with call frame information that are not dropped
 unfoldable pub is_kept_eh_frame : List ℕ → List Bool → ℕ → Bool
@@ -69,9 +67,6 @@ place_check file dropped base =
     each_below (section_count file) (align_check file dropped)
     >> each_below (section_count file) (overflow_check file dropped base)
     >> each_below (section_count file) (bits_check file dropped)
-
-abbrev pub with_one : Bool → ℕ → List ℕ → List ℕ
-with_one kept i before = if kept then before ++ i ∷ [] else before
 
 -- the numbers below n of sections with call frame information that are not dropped
 unfoldable pub eh_frames_below : List ℕ → List Bool → ℕ → List ℕ

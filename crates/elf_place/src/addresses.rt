@@ -5,6 +5,7 @@ ghost use Rattle.elf_read.specs.Checking.{each_below};
 ghost use Rattle.elf_read.specs.Header.{is_rel};
 ghost use Rattle.elf_read.specs.Views.{file};
 ghost use Rattle.elf_place.specs.Dropped.{values_below};
+ghost use Rattle.elf_place.specs.Cursor as by_cursor;
 ghost use Rattle.elf_place.specs.Place as spec;
 
 use crate::checks::is_placed;
@@ -45,10 +46,10 @@ fn is_object(elf: &Elf<'_>) -> bool
 }
 
 // Where a section starts.
-#[tactic(auto, unfolding(crate::specs::Place::start_from))]
+#[tactic(auto, unfolding(crate::specs::Cursor::start_from))]
 fn start_from(elf: &Elf<'_>, base: u64, cursor: u128, i: u32) -> u128
     requires { cursor ≤ 2 ^ 64 }
-    ensures value { result ≡ spec.start_from (file elf.now) base cursor i }
+    ensures value { result ≡ by_cursor.start_from (file elf.now) base cursor i }
     ensures small { result < 2 ^ 66 }
 {
     let section = elf.section(i);
@@ -68,7 +69,7 @@ fn is_in_memory(start: u128, size: u64) -> bool
 }
 
 // Places a section at the cursor.
-#[tactic(auto, unfolding(crate::specs::Place::address_from, crate::specs::Place::cursor_from, crate::specs::Place::overflow_from))]
+#[tactic(auto, unfolding(crate::specs::Cursor::address_from, crate::specs::Cursor::cursor_from, crate::specs::Cursor::overflow_from))]
 fn place_section(
     elf: &Elf<'_>,
     base: u64,
@@ -78,10 +79,10 @@ fn place_section(
 ) -> Result<Spot, PlaceFault>
     requires index { i < length dropped.now }
     requires small { cursor ≤ 2 ^ 64 }
-    ensures address { IfOk result (λ s. s.address ≡ spec.address_from (file elf.now) dropped.now base cursor i) }
-    ensures cursor { IfOk result (λ s. s.cursor ≡ spec.cursor_from (file elf.now) dropped.now base cursor i) }
+    ensures address { IfOk result (λ s. s.address ≡ by_cursor.address_from (file elf.now) dropped.now base cursor i) }
+    ensures cursor { IfOk result (λ s. s.cursor ≡ by_cursor.cursor_from (file elf.now) dropped.now base cursor i) }
     ensures end { IfOk result (λ s. s.cursor ≤ 2 ^ 64) }
-    ensures exact { spec.verdict result ≡ spec.overflow_from (file elf.now) dropped.now base cursor i }
+    ensures exact { spec.verdict result ≡ by_cursor.overflow_from (file elf.now) dropped.now base cursor i }
 {
     if !is_placed(elf, dropped, i) {
         return Ok(Spot {

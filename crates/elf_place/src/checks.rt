@@ -8,11 +8,7 @@ ghost use Rattle.elf_place.specs.Place as spec;
 
 use crate::fault::PlaceFault;
 use elf_read::Elf;
-
-/// SHF_ALLOC.
-const SHF_ALLOC: u64 = 2;
-/// SHT_NOBITS.
-const SHT_NOBITS: u32 = 8;
+use elf_read::layout::{SHF_ALLOC, SHT_NOBITS};
 
 // Whether a section is loaded.
 #[tactic(auto, unfolding(elf_read::specs::Sections::is_allocated))]
@@ -80,7 +76,7 @@ fn check_bits(elf: &Elf<'_>, dropped: &[bool], i: u32) -> Result<(), PlaceFault>
     Ok(())
 }
 
-/// The bytes of call frame information.
+/// Refuses call frame information without bytes in the file.
 pub fn check_all_bits(elf: &Elf<'_>, dropped: &[bool], count: u32) -> Result<(), PlaceFault>
     requires { count ≡ length dropped.now }
     ensures { result ≡ each_below count (spec.bits_check (file elf.now) dropped.now) }

@@ -9,8 +9,8 @@
 //! `specs/Parsing.antt`): `parse` answers Ok exactly where no check fails, and the accessors give the
 //! fields.
 //!
-//! The caller owes a file of fewer than 2^32 bytes. Nothing takes memory. The checks go once over the
-//! headers, and once over the relocations and group members that are used.
+//! The caller owes a file of fewer than 2^32 bytes. Nothing takes memory. Each check goes once over the
+//! headers, and those of relocations and group members once over the ones that are used.
 #![tactic(auto)]
 
 mod check;
@@ -21,7 +21,7 @@ mod fault;
 mod header;
 mod identity;
 mod kind;
-mod layout;
+pub mod layout;
 mod names;
 mod number;
 mod parsing;

@@ -13,14 +13,8 @@ use crate::fault::RelocFault;
 use crate::fix::Fix;
 use elf_place::Placed;
 use elf_read::Kind;
+use elf_read::layout::{ENTRY_LEN, SHT_REL, SHT_RELA};
 use std::alloc::Global;
-
-/// SHT_RELA.
-const SHT_RELA: u32 = 4;
-/// SHT_REL.
-const SHT_REL: u32 = 9;
-/// How many bytes a relocation with an addend has.
-const RELA_LEN: usize = 24;
 
 /// What was read so far: the fields that are written, and how many relocations there were.
 #[derive(Debug, Drop)]
@@ -77,7 +71,7 @@ fn is_rela_of(placed: &Placed<'_>, section: u32, i: u32) -> bool
 fn entry_count(placed: &Placed<'_>, i: u32) -> u32
     ensures { result ≡ fields.entry_count (file placed.now) i }
 {
-    (placed.elf().bytes(i).len() / RELA_LEN) as u32
+    (placed.elf().bytes(i).len() as u64 / ENTRY_LEN) as u32
 }
 
 // Reads section `i`, where it has relocations for the section.

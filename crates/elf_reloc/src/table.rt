@@ -3,6 +3,10 @@
 ghost use Rattle.std.specs.Prelude.{◌≡◌, ◌<◌, ◌^◌};
 ghost use Rattle.elf_reloc.specs.Table as spec;
 
+use crate::layout::{
+    R_AARCH64_ABS32, R_AARCH64_ABS64, R_AARCH64_NONE, R_AARCH64_PREL32, R_AARCH64_PREL64,
+    R_X86_64_32, R_X86_64_32S, R_X86_64_64, R_X86_64_NONE, R_X86_64_PC32, R_X86_64_PC64,
+};
 use sf_model::Arch;
 
 /// 2^64, by which sums of addresses wrap.
@@ -26,9 +30,9 @@ pub enum Range {
 pub enum Effect {
     /// Nothing.
     Nothing,
-    /// The symbol's value and the addend.
+    /// S + A: the symbol's value and the addend.
     Absolute(Range),
-    /// The same minus the field's address.
+    /// S + A - P: relative to the field's address.
     Relative(Range),
 }
 
@@ -39,20 +43,20 @@ pub fn effect_of(arch: Arch, kind: u32) -> Option<Effect>
 {
     match arch {
         Arch::Amd64 => match kind {
-            0 => Some(Effect::Nothing),
-            1 => Some(Effect::Absolute(Range::Any)),
-            2 => Some(Effect::Relative(Range::Signed)),
-            10 => Some(Effect::Absolute(Range::Unsigned)),
-            11 => Some(Effect::Absolute(Range::Signed)),
-            24 => Some(Effect::Relative(Range::Any)),
+            R_X86_64_NONE => Some(Effect::Nothing),
+            R_X86_64_64 => Some(Effect::Absolute(Range::Any)),
+            R_X86_64_PC32 => Some(Effect::Relative(Range::Signed)),
+            R_X86_64_32 => Some(Effect::Absolute(Range::Unsigned)),
+            R_X86_64_32S => Some(Effect::Absolute(Range::Signed)),
+            R_X86_64_PC64 => Some(Effect::Relative(Range::Any)),
             _ => None,
         },
         Arch::Aarch64 => match kind {
-            0 => Some(Effect::Nothing),
-            257 => Some(Effect::Absolute(Range::Any)),
-            258 => Some(Effect::Absolute(Range::Either)),
-            260 => Some(Effect::Relative(Range::Any)),
-            261 => Some(Effect::Relative(Range::Signed)),
+            R_AARCH64_NONE => Some(Effect::Nothing),
+            R_AARCH64_ABS64 => Some(Effect::Absolute(Range::Any)),
+            R_AARCH64_ABS32 => Some(Effect::Absolute(Range::Either)),
+            R_AARCH64_PREL64 => Some(Effect::Relative(Range::Any)),
+            R_AARCH64_PREL32 => Some(Effect::Relative(Range::Signed)),
             _ => None,
         },
     }

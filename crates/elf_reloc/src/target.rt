@@ -5,13 +5,7 @@ ghost use Rattle.elf_place.specs.Views.{placing};
 ghost use Rattle.elf_reloc.specs.Target as spec;
 
 use elf_place::Placed;
-
-/// SHN_UNDEF.
-const SHN_UNDEF: u16 = 0;
-/// SHN_ABS.
-const SHN_ABS: u16 = 0xfff1;
-/// SHN_LORESERVE.
-const SHN_LORESERVE: u16 = 0xff00;
+use elf_read::layout::{SHN_ABS, SHN_LORESERVE, SHN_UNDEF};
 
 /// What a symbol stands for once sections are placed.
 #[derive(Clone, Copy, Debug, PartialEq, Eq)]
