@@ -6,3 +6,4 @@ pub mod Checks
 pub mod Used
 pub mod Parsing
 pub mod Views
+pub mod Told

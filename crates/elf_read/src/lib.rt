@@ -23,6 +23,7 @@ mod identity;
 mod kind;
 pub mod layout;
 mod names;
+mod notice;
 mod number;
 mod parsing;
 mod program_header;
