@@ -18,6 +18,7 @@ impl<'a> Insns<'a> {
     ghost use Rattle.cfa_insn.specs.Remaining.{items_left};
 
     /// The instructions of the part's bytes.
+    #[inline(always)]
     pub fn new(part: Part<'a>) -> Insns<'a>
         ensures { items_left result ≡ listing (cursor part.entry) }
     {
@@ -36,6 +37,7 @@ impl<'a> Iterator for Insns<'a> {
 
     ghost remaining = { item_count items_left };
 
+    #[inline(always)]
     fn next(&mut self) -> Option<Result<(u64, Insn<'a>), InsnFault>> {
         let (item, rest) = first_of(self.part)?;
         self.part = rest;

@@ -22,6 +22,7 @@ const RESTORE: u8 = 0xc0;
 
 // A block: its length and that many bytes.
 #[tactic(auto, unfolding(crate::specs::Table::block_at))]
+#[inline(never)]
 fn block<'a>(part: &mut Part<'a>) -> Result<&'a [u8], ByteFault>
     ensures { Reads (λ b. b.now) part.new result (block_at (cursor part.old)) }
 {
@@ -32,6 +33,7 @@ fn block<'a>(part: &mut Part<'a>) -> Result<&'a [u8], ByteFault>
 
 // The instruction of an opcode below `ADVANCE_LOC`, or none for one that the table doesn't have.
 #[tactic(auto, unfolding(crate::specs::Table::extended_at))]
+#[inline(always)]
 fn extended<'a>(opcode: u8, part: &mut Part<'a>) -> Result<Option<Insn<'a>>, ByteFault>
     ensures { Reads (option_map instruction) part.new result (extended_at opcode (cursor part.old)) }
 {
@@ -66,6 +68,7 @@ fn extended<'a>(opcode: u8, part: &mut Part<'a>) -> Result<Option<Insn<'a>>, Byt
 
 // The instruction of any opcode, or none for one that the table doesn't have.
 #[tactic(auto, unfolding(crate::specs::Table::operands_at))]
+#[inline(always)]
 fn operands<'a>(opcode: u8, part: &mut Part<'a>) -> Result<Option<Insn<'a>>, ByteFault>
     ensures { Reads (option_map instruction) part.new result (operands_at opcode (cursor part.old)) }
 {
@@ -82,6 +85,7 @@ fn operands<'a>(opcode: u8, part: &mut Part<'a>) -> Result<Option<Insn<'a>>, Byt
 }
 
 // A fault of a field, at the instruction's place.
+#[inline(always)]
 fn placed_at(place: u64, fault: ByteFault) -> InsnFault
     ensures { result ≡ placed place fault }
 {
@@ -93,6 +97,7 @@ fn placed_at(place: u64, fault: ByteFault) -> InsnFault
 
 /// The instruction at the front. On a fault what is left of the part isn't said.
 #[tactic(auto, unfolding(crate::specs::Table::instruction_at))]
+#[inline(always)]
 pub fn instruction_of<'a>(part: &mut Part<'a>) -> Result<Insn<'a>, InsnFault>
     ensures { ReadsInstruction instruction part.new result (instruction_at (cursor part.old)) }
 {
@@ -109,6 +114,7 @@ pub fn instruction_of<'a>(part: &mut Part<'a>) -> Result<Insn<'a>, InsnFault>
 }
 
 /// The first item of a part and the part behind it, which is empty after a fault. None at the end.
+#[inline(always)]
 pub fn first_of<'a>(part: Part<'a>) -> Option<(Result<(u64, Insn<'a>), InsnFault>, Part<'a>)>
     ensures { GivesFirst result (listing (cursor part.entry)) }
 {

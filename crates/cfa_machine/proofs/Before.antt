@@ -1,6 +1,5 @@
 -- The loops over the instructions: what was given so far, and what the rest gives.
-use Rattle.std.proofs.Common.{◌≡◌, ℤ, List, [], ◌∷◌, ◌++◌, Option, Some, None, Result, Ok, Err, refl, sym, ap, ◌∙◌, append_assoc}
-use Rattle.std.proofs.lemmas.List.{append-nil}
+use Rattle.std.proofs.Common.{◌≡◌, ℕ, ℤ, List, [], ◌∷◌, ◌++◌, Option, Some, None, Result, Ok, Err, refl, subst, sym, ◌∙◌}
 use Rattle.sf_model.specs.declared.machine.Arch.{Arch}
 use Rattle.cfa_insn.specs.Listing.{Item}
 use Rattle.cfa_machine.specs.declared.fault.MachineFault.{MachineFault}
@@ -8,7 +7,8 @@ use Rattle.cfa_machine.specs.declared.fault.MachineFault.TheVariants.{CieInstruc
 use Rattle.cfa_machine.specs.declared.columns.Columns.{Columns}
 use Rattle.cfa_machine.specs.declared.machine.Setup.{Setup}
 use Rattle.cfa_machine.specs.declared.row.DwRow.{DwRow}
-use Rattle.cfa_machine.specs.Pass.{◌>>=◌, State, defined_more, defined_by, ran_more, rows_from, in_front, last_row, Fails}
+use Rattle.cfa_machine.specs.Left.{Follows, behind_row}
+use Rattle.cfa_machine.specs.Pass.{◌>>=◌, State, defined_more, defined_by, ended, ran_more, rows_from, in_front, last_row, Fails}
 
 -- ---- the common information entry
 pub defined_goes_on : (arch : Arch) (f : ℤ) (c : Columns) (x : Item) (d : Columns) (items rest : List Item) (whole : Result Columns MachineFault) → items ≡ x ∷ rest → Ok d ≡ defined_more arch f x c
@@ -31,39 +31,50 @@ defined_done arch f c items whole none so_far =
     let here : defined_by arch f c items ≡ Ok c = rw none refl in
     sym here ∙ so_far
 
--- ---- the function
+-- ---- one row after another
+nothing_in_front : (given : Result (List DwRow) MachineFault) → (given >>= λ rows. Ok (in_front None rows)) ≡ given
+nothing_in_front (Ok rows) = refl
+nothing_in_front (Err e) = refl
+
+pub row_comes : (k : Setup) (f : ℤ) (s : State) (x : Item) (t : State) (start : ℕ) (c : Columns) (found : Option ℕ) (items rest : List Item) (whole : Result (List DwRow) MachineFault) → items ≡ x ∷ rest → ran_more k f x s ≡ Ok (t, ended c found) → found ≡ Some start
+    → rows_from k f s items ≡ whole → whole ≡ behind_row start c (rows_from k f t rest)
+unfolding rows_from
+row_comes k f s x t start c found items rest whole next one there so_far =
+    let here : rows_from k f s items ≡ behind_row start c (rows_from k f t rest) = rw (next, one, there) refl in
+    sym so_far ∙ here
+
+pub no_row_comes : (k : Setup) (f : ℤ) (s : State) (x : Item) (t : State) (c : Columns) (found : Option ℕ) (items rest : List Item) (whole : Result (List DwRow) MachineFault) → items ≡ x ∷ rest → ran_more k f x s ≡ Ok (t, ended c found) → found ≡ None
+    → rows_from k f s items ≡ whole → rows_from k f t rest ≡ whole
+unfolding rows_from
+no_row_comes k f s x t c found items rest whole next one there so_far =
+    let here : rows_from k f s items ≡ rows_from k f t rest = rw (next, one, there) (nothing_in_front (rows_from k f t rest)) in
+    sym here ∙ so_far
+
+pub fault_comes : (k : Setup) (f : ℤ) (s : State) (x : Item) (e : MachineFault) (items rest : List Item) (whole : Result (List DwRow) MachineFault) → items ≡ x ∷ rest → ran_more k f x s ≡ Err e
+    → rows_from k f s items ≡ whole → whole ≡ Err e
+unfolding rows_from
+fault_comes k f s x e items rest whole next one so_far =
+    let here : rows_from k f s items ≡ Err e = rw (next, one) refl in
+    sym so_far ∙ here
+
+pub end_comes : (k : Setup) (f : ℤ) (s : State) (items : List Item) (whole : Result (List DwRow) MachineFault) → items ≡ []
+    → rows_from k f s items ≡ whole → whole ≡ Ok (in_front (last_row k.size s) [])
+unfolding rows_from
+end_comes k f s items whole none so_far =
+    let here : rows_from k f s items ≡ Ok (in_front (last_row k.size s) []) = rw none refl in
+    sym so_far ∙ here
+
+-- what a call for the next row returned
+pub row_follows : (c : Columns) (found : Option ℕ) (start : ℕ) (left after : Result (List DwRow) MachineFault) → found ≡ Some start → Follows c (Ok found) left after → left ≡ behind_row start c after
+row_follows c found start left after there h = subst (λ (x : Option ℕ). Follows c (Ok x) left after) there h
+
+pub none_follows : (c : Columns) (found : Option ℕ) (left after : Result (List DwRow) MachineFault) → found ≡ None → Follows c (Ok found) left after → left ≡ Ok []
+none_follows c found left after there h = subst (λ (x : Option ℕ). Follows c (Ok x) left after) there h
+
+-- ---- the list of all rows
 -- rows that were given before the others
 abbrev pub after_rows : List DwRow → Result (List DwRow) MachineFault → Result (List DwRow) MachineFault
 after_rows before given = given >>= λ rows. Ok (before ++ rows)
-
-row_before_rows : (before : List DwRow) (r : Option DwRow) (rows : List DwRow) → before ++ in_front r rows ≡ (before ++ in_front r []) ++ rows
-row_before_rows before None rows = ap (λ (front : List DwRow). front ++ rows) (sym (append-nil before))
-row_before_rows before (Some r) rows = simp append_assoc
-
-regroup : (before : List DwRow) (r : Option DwRow) (given : Result (List DwRow) MachineFault) → after_rows before (given >>= λ rows. Ok (in_front r rows)) ≡ after_rows (before ++ in_front r []) given
-regroup before r (Ok rows) = ap (λ (front : List DwRow). Ok front) (row_before_rows before r rows)
-regroup before r (Err e) = refl
-
-pub rows_go_on : (k : Setup) (f : ℤ) (before now : List DwRow) (s : State) (x : Item) (t : State) (r : Option DwRow) (items rest : List Item) (whole : Result (List DwRow) MachineFault) → items ≡ x ∷ rest → ran_more k f x s ≡ Ok (t, r) → now ≡ before ++ in_front r []
-    → after_rows before (rows_from k f s items) ≡ whole → after_rows now (rows_from k f t rest) ≡ whole
-unfolding rows_from
-rows_go_on k f before now s x t r items rest whole next one grown so_far =
-    let here : after_rows before (rows_from k f s items) ≡ after_rows now (rows_from k f t rest) = rw (next, one, grown) (regroup before r (rows_from k f t rest)) in
-    sym here ∙ so_far
-
-pub rows_end : (k : Setup) (f : ℤ) (before : List DwRow) (s : State) (x : Item) (e : MachineFault) (items rest : List Item) (whole : Result (List DwRow) MachineFault) → items ≡ x ∷ rest → ran_more k f x s ≡ Err e
-    → after_rows before (rows_from k f s items) ≡ whole → whole ≡ Err e
-unfolding rows_from
-rows_end k f before s x e items rest whole next one so_far =
-    let here : after_rows before (rows_from k f s items) ≡ Err e = rw (next, one) refl in
-    sym so_far ∙ here
-
-pub rows_done : (k : Setup) (f : ℤ) (before now : List DwRow) (s : State) (last : Option DwRow) (items : List Item) (whole : Result (List DwRow) MachineFault) → items ≡ [] → last ≡ last_row k.size s → now ≡ before ++ in_front last []
-    → after_rows before (rows_from k f s items) ≡ whole → whole ≡ Ok now
-unfolding rows_from
-rows_done k f before now s last items whole none ends grown so_far =
-    let here : after_rows before (rows_from k f s items) ≡ Ok now = rw (none, grown, ends) refl in
-    sym so_far ∙ here
 
 -- a fault is the definition's, or memory was wanting
 pub fails : {Y : Type 0} (e : MachineFault) (given : Result Y MachineFault) → given ≡ Err e → Fails e given

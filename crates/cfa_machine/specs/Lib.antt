@@ -2,6 +2,7 @@ pub mod Registers
 pub mod Effects
 pub mod Columns
 pub mod Pass
+pub mod Left
 pub mod RowList
 pub mod FullRow
 pub mod At

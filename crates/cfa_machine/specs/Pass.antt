@@ -1,6 +1,6 @@
 -- One pass over a function's instructions, with the columns alone: the rows, each from the offset of an advance
 -- to the next, or the first fault.
-use Rattle.std.specs.Prelude.{◌≡◌, ℕ, ℤ, ◌+◌, ◌*◌, ◌-◌, ◌^◌, min, ◌&&◌, nat_lt, List, [], ◌∷◌, ◌++◌, length, reverse, Option, Some, None, Result, Ok, Err, if◌then◌else◌}
+use Rattle.std.specs.Prelude.{◌≡◌, ◌<◌, ℕ, ℤ, ◌+◌, ◌*◌, ◌-◌, ◌^◌, min, ◌&&◌, nat_lt, List, [], ◌∷◌, length, reverse, Option, Some, None, Result, Ok, Err, if◌then◌else◌}
 use Rattle.arrayvec.specs.ArrayVec.{ArrayVec}
 use Rattle.sf_model.specs.declared.machine.Arch.{Arch}
 use Rattle.cfa_insn.specs.Listing.{Item}
@@ -96,21 +96,27 @@ rows_by arch code f size cie fde = do
   rows_from (record { arch = arch; code = code; size = size; initial = initial }) f (record { columns = initial; remembered = []; offset = 0 }) fde
 
 -- ---- what the code keeps of a state
--- memory may be wanting for a row
-abbrev pub Appends : {U : Type 0} → List DwRow → List DwRow → Option DwRow → Result U MachineFault → Type 0
-Appends old new row (Ok u) = new ≡ old ++ in_front row []
-Appends old new row (Err e) = e ≡ NoMemory
-
 abbrev pub latest_first : ArrayVec Columns → List Columns
 latest_first stack = reverse stack.items
 
 abbrev pub state : Machine → State
 state m = record { columns = m.columns; remembered = latest_first m.remembered; offset = m.offset }
 
+-- the row that ends, by its start: its columns are the present ones
+abbrev pub ended : Columns → Option ℕ → Option DwRow
+ended c None = None
+ended c (Some start) = Some (row_from start c)
+
 -- what a call answered is what the pass gives
-abbrev pub Steps : Machine → Result (Option DwRow) MachineFault → Result (State × Option DwRow) MachineFault → Type 0
-Steps new (Ok row) given = given ≡ Ok (state new, row)
+abbrev pub Steps : Machine → Result (Option ℕ) MachineFault → Result (State × Option DwRow) MachineFault → Type 0
+Steps new (Ok start) given = given ≡ Ok (state new, ended new.columns start)
 Steps new (Err e) given = given ≡ Err e
+
+-- a row that ends starts below the size
+abbrev pub StartsBelow : (size : ℕ) → Result (Option ℕ) MachineFault → Type 0
+StartsBelow size (Ok (Some start)) = start < size
+StartsBelow size (Ok None) = Unit {0}
+StartsBelow size (Err e) = Unit {0}
 
 abbrev pub Remembers : {U : Type 0} → ArrayVec Columns → Result U MachineFault → Result (List Columns) MachineFault → Type 0
 Remembers new (Ok u) given = given ≡ Ok (latest_first new)

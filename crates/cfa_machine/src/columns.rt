@@ -1,7 +1,7 @@
 //! The part of a row that is kept: the CFA, four registers and the sign state.
 
-ghost use Rattle.std.specs.Prelude.{◌≡◌, if◌then◌else◌};
-ghost use Rattle.cfa_machine.specs.Columns.{no_columns, with_rule, restored, changed, row_from};
+ghost use Rattle.std.specs.Prelude.{◌≡◌};
+ghost use Rattle.cfa_machine.specs.Columns.{no_columns, with_rule, restored, changed, row_from, Changes};
 
 use crate::effect::RowEffect;
 use crate::fault::MachineFault;
@@ -25,7 +25,25 @@ pub struct Columns {
     pub signed: bool,
 }
 
+impl Columns {
+    /// A row's columns.
+    #[inline(always)]
+    pub fn of_row(row: &DwRow) -> Columns
+        ensures { row_from row.now.start result ≡ row.now }
+    {
+        Columns {
+            cfa: row.cfa,
+            sp: row.sp,
+            fp: row.fp,
+            ra: row.ra,
+            sign: row.sign,
+            signed: row.signed,
+        }
+    }
+}
+
 /// The row before any instruction.
+#[inline(always)]
 pub fn empty_columns() -> Columns
     ensures { result ≡ no_columns }
 {
@@ -45,62 +63,72 @@ impl Default for Columns {
     }
 }
 
-// The new rule where the register is this one.
-fn chosen(is_this: bool, new: Rule, old: Rule) -> Rule
-    ensures { result ≡ (if is_this then new else old) }
+// Gives a register a rule. Registers that the row doesn't keep change nothing.
+#[inline(always)]
+fn set_rule(arch: Arch, register: u64, rule: Rule, columns: &mut Columns)
+    ensures { columns.new ≡ with_rule arch register rule columns.old }
 {
-    if is_this { new } else { old }
-}
-
-// The row in which a register has a rule. Registers that it doesn't keep change nothing.
-fn rule_set(arch: Arch, register: u64, rule: Rule, columns: Columns) -> Columns
-    ensures { result ≡ with_rule arch register rule columns }
-{
-    Columns {
-        cfa: columns.cfa,
-        sp: chosen(register == stack_pointer_of(arch), rule, columns.sp),
-        fp: chosen(register == frame_pointer_of(arch), rule, columns.fp),
-        ra: chosen(register == return_address_of(arch), rule, columns.ra),
-        sign: chosen(is_sign_state_of(arch, register), rule, columns.sign),
-        signed: columns.signed,
+    if register == stack_pointer_of(arch) {
+        columns.sp = rule;
+    }
+    if register == frame_pointer_of(arch) {
+        columns.fp = rule;
+    }
+    if register == return_address_of(arch) {
+        columns.ra = rule;
+    }
+    if is_sign_state_of(arch, register) {
+        columns.sign = rule;
     }
 }
 
-/// The row in which a register has its initial rule again.
-pub fn rule_restored(arch: Arch, register: u64, initial: Columns, columns: Columns) -> Columns
-    ensures { result ≡ restored arch register initial columns }
+/// Gives a register its initial rule again.
+#[inline(always)]
+pub fn restore_rule(arch: Arch, register: u64, initial: &Columns, columns: &mut Columns)
+    ensures { columns.new ≡ restored arch register initial.now columns.old }
 {
-    Columns {
-        cfa: columns.cfa,
-        sp: chosen(register == stack_pointer_of(arch), initial.sp, columns.sp),
-        fp: chosen(register == frame_pointer_of(arch), initial.fp, columns.fp),
-        ra: chosen(register == return_address_of(arch), initial.ra, columns.ra),
-        sign: chosen(is_sign_state_of(arch, register), initial.sign, columns.sign),
-        signed: columns.signed,
+    if register == stack_pointer_of(arch) {
+        columns.sp = initial.sp;
+    }
+    if register == frame_pointer_of(arch) {
+        columns.fp = initial.fp;
+    }
+    if register == return_address_of(arch) {
+        columns.ra = initial.ra;
+    }
+    if is_sign_state_of(arch, register) {
+        columns.sign = initial.sign;
     }
 }
 
-/// The row after a change by the instruction at `place`.
-pub fn row_changed(
+/// Changes the row by the instruction at `place`. On a fault it is as it was.
+#[inline(always)]
+pub fn change_row(
     arch: Arch,
     place: u64,
-    effect: RowEffect,
-    columns: Columns,
-) -> Result<Columns, MachineFault>
-    ensures { result ≡ changed arch place effect columns }
+    change: RowEffect,
+    columns: &mut Columns,
+) -> Result<(), MachineFault>
+    ensures { Changes columns.new result (changed arch place change columns.old) }
 {
-    match effect {
-        RowEffect::Nothing => Ok(columns),
-        RowEffect::SetRule(register, rule) => Ok(rule_set(arch, register, rule, columns)),
-        RowEffect::SetCfa(cfa) => Ok(Columns { cfa, ..columns }),
+    match change {
+        RowEffect::Nothing => Ok(()),
+        RowEffect::SetRule(register, rule) => {
+            set_rule(arch, register, rule, columns);
+            Ok(())
+        }
+        RowEffect::SetCfa(cfa) => {
+            columns.cfa = cfa;
+            Ok(())
+        }
         RowEffect::SetCfaRegister(register) => match columns.cfa {
             CfaRule::Reg {
                 register: _,
                 offset,
-            } => Ok(Columns {
-                cfa: CfaRule::Reg { register, offset },
-                ..columns
-            }),
+            } => {
+                columns.cfa = CfaRule::Reg { register, offset };
+                Ok(())
+            }
             CfaRule::Missing => Err(MachineFault::NoCfaRegister(place)),
             CfaRule::Expression => Err(MachineFault::NoCfaRegister(place)),
         },
@@ -108,26 +136,27 @@ pub fn row_changed(
             CfaRule::Reg {
                 register,
                 offset: _,
-            } => Ok(Columns {
-                cfa: CfaRule::Reg { register, offset },
-                ..columns
-            }),
+            } => {
+                columns.cfa = CfaRule::Reg { register, offset };
+                Ok(())
+            }
             CfaRule::Missing => Err(MachineFault::NoCfaRegister(place)),
             CfaRule::Expression => Err(MachineFault::NoCfaRegister(place)),
         },
         RowEffect::NegateSign => match arch {
             Arch::Amd64 => Err(MachineFault::Insn(InsnFault::Opcode(place, NEGATE_RA_STATE))),
-            Arch::Aarch64 => Ok(Columns {
-                signed: !columns.signed,
-                ..columns
-            }),
+            Arch::Aarch64 => {
+                columns.signed = !columns.signed;
+                Ok(())
+            }
         },
     }
 }
 
 /// The row from an offset on.
-pub fn row_at(start: u64, columns: Columns) -> DwRow
-    ensures { result ≡ row_from start columns }
+#[inline(always)]
+pub fn row_at(start: u64, columns: &Columns) -> DwRow
+    ensures { result ≡ row_from start columns.now }
 {
     DwRow {
         start,

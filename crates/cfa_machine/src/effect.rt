@@ -40,6 +40,7 @@ pub enum Effect {
 }
 
 // An operand times the data alignment factor.
+#[inline(always)]
 fn scaled(operand: u64, factor: i64) -> i128
     ensures { result ≡ pos operand *ℤ factor }
 {
@@ -47,6 +48,7 @@ fn scaled(operand: u64, factor: i64) -> i128
 }
 
 // A signed operand times the data alignment factor.
+#[inline(always)]
 fn scaled_signed(operand: i64, factor: i64) -> i128
     ensures { result ≡ operand *ℤ factor }
 {
@@ -54,6 +56,7 @@ fn scaled_signed(operand: i64, factor: i64) -> i128
 }
 
 // A register gets a rule.
+#[inline(always)]
 fn rule_for(register: u64, rule: Rule) -> Effect
     ensures { result ≡ Effect.Row (RowEffect.SetRule register rule) }
 {
@@ -61,6 +64,7 @@ fn rule_for(register: u64, rule: Rule) -> Effect
 }
 
 // The CFA is a register plus an offset.
+#[inline(always)]
 fn cfa_at(register: u64, offset: i128) -> Effect
     ensures { result ≡ Effect.Row (RowEffect.SetCfa (CfaRule.Reg register offset)) }
 {
@@ -69,6 +73,7 @@ fn cfa_at(register: u64, offset: i128) -> Effect
 
 /// The effect of an instruction under a data alignment factor.
 #[tactic(auto, unfolding(crate::specs::Effects::effect_by), using(std::proofs::lemmas::Int::ints))]
+#[inline(always)]
 pub fn effect_of(factor: i64, insn: Insn<'_>) -> Effect
     ensures { result ≡ effect_by factor (instruction insn.entry) }
 {

@@ -12,15 +12,19 @@
 mod columns;
 mod effect;
 mod fault;
+mod initial;
 mod machine;
 mod registers;
 mod row;
 mod rule;
+mod runner;
 mod table;
 
+pub use columns::Columns;
 pub use fault::MachineFault;
 pub use row::DwRow;
 pub use rule::{CfaRule, Rule};
+pub use runner::Runner;
 pub use table::rows;
 
 #[cfg(test)]

@@ -1,13 +1,13 @@
 //! The machine that runs instructions: the present row, the remembered rows and the offset.
 
-ghost use Rattle.std.specs.Prelude.{◌≡◌, []};
+ghost use Rattle.std.specs.Prelude.{◌≡◌, ◌<◌, ◌&&◌, [], nat_lt, IfSome};
 ghost use Rattle.cfa_insn.specs.Listing.{item};
-ghost use Rattle.cfa_machine.specs.Pass.{state, defined, defined_more, ran, ran_more, row_before, last_row, advanced, with_remembered, with_recalled, Steps, Remembers, Recalls, latest_first};
+ghost use Rattle.cfa_machine.specs.Columns.{Changes};
+ghost use Rattle.cfa_machine.specs.Pass.{state, defined, defined_more, ran, ran_more, ended, last_row, advanced, with_remembered, with_recalled, StartsBelow, Steps, Remembers, Recalls, latest_first};
 
-use crate::columns::{Columns, row_at, row_changed, rule_restored};
+use crate::columns::{Columns, change_row, restore_rule};
 use crate::effect::{Effect, effect_of};
 use crate::fault::MachineFault;
-use crate::row::DwRow;
 use arrayvec::ArrayVec;
 use cfa_insn::{Insn, InsnFault};
 use sf_model::Arch;
@@ -39,17 +39,18 @@ pub struct Machine {
     pub remembered: ArrayVec<Columns, MOST_REMEMBERED>,
 }
 
-// The row of a common information entry after one more instruction, at `place`.
-fn defined_at(
+// Changes the row of a common information entry by one more instruction, at `place`.
+#[inline(always)]
+fn define_at(
     arch: Arch,
     place: u64,
     effect: Effect,
-    columns: Columns,
-) -> Result<Columns, MachineFault>
-    ensures { result ≡ defined arch place effect columns }
+    columns: &mut Columns,
+) -> Result<(), MachineFault>
+    ensures { Changes columns.new result (defined arch place effect columns.old) }
 {
     match effect {
-        Effect::Row(change) => row_changed(arch, place, change, columns),
+        Effect::Row(change) => change_row(arch, place, change, columns),
         Effect::Advance(_) => Err(MachineFault::CieInstruction(place)),
         Effect::Restore(_) => Err(MachineFault::CieInstruction(place)),
         Effect::Remember => Err(MachineFault::CieInstruction(place)),
@@ -57,40 +58,40 @@ fn defined_at(
     }
 }
 
-/// The row of a common information entry after one more item of its instructions.
-pub fn row_defined(
+/// Changes the row of a common information entry by one more item of its instructions.
+#[inline(always)]
+pub fn define_row(
     arch: Arch,
     factor: i64,
     read: Result<(u64, Insn<'_>), InsnFault>,
-    columns: Columns,
-) -> Result<Columns, MachineFault>
-    ensures { result ≡ defined_more arch factor (item read.entry) columns }
+    columns: &mut Columns,
+) -> Result<(), MachineFault>
+    ensures { Changes columns.new result (defined_more arch factor (item read.entry) columns.old) }
 {
     match read {
-        Ok((place, insn)) => defined_at(arch, place, effect_of(factor, insn), columns),
+        Ok((place, insn)) => define_at(arch, place, effect_of(factor, insn), columns),
         Err(fault) => Err(MachineFault::Insn(fault)),
     }
 }
 
 // The offset after an advance by `delta` code alignments, or the greatest `u64` where it passes it.
+#[inline(always)]
 fn offset_after(code: u64, delta: u32, offset: u64) -> u64
     ensures { result ≡ advanced code delta offset }
 {
     offset.saturating_add(code.saturating_mul(u64::from(delta)))
 }
 
-// The row that ends where the offset goes on to `next`.
-fn row_ended(size: u64, next: u64, offset: u64, columns: Columns) -> Option<DwRow>
-    ensures { result ≡ row_before size next offset columns }
+// Whether a row ends where the offset goes on to `next`.
+#[inline(always)]
+fn row_ends(size: u64, next: u64, offset: u64) -> bool
+    ensures { result ≡ (nat_lt offset next && nat_lt offset size) }
 {
-    if offset < next && offset < size {
-        Some(row_at(offset, columns))
-    } else {
-        None
-    }
+    offset < next && offset < size
 }
 
 // Puts a row on the stack, at the instruction at `place`.
+#[inline(always)]
 fn remember(
     remembered: &mut ArrayVec<Columns, MOST_REMEMBERED>,
     place: u64,
@@ -106,6 +107,7 @@ fn remember(
 }
 
 // Takes the latest row from the stack, at the instruction at `place`.
+#[inline(always)]
 fn recall(
     remembered: &mut ArrayVec<Columns, MOST_REMEMBERED>,
     place: u64,
@@ -120,6 +122,7 @@ fn recall(
 
 impl Machine {
     /// The machine before a function's first instruction.
+    #[inline(always)]
     pub fn new(initial: Columns) -> Machine
         ensures { state result ≡ record { columns = initial; remembered = []; offset = 0 } }
     {
@@ -130,14 +133,27 @@ impl Machine {
         }
     }
 
-    /// Runs one more item of the instructions, and gives the row that ends there, if one does.
+    /// Puts the machine before a function's first instruction again.
+    #[inline(always)]
+    pub fn restart(&mut self, initial: Columns)
+        ensures { state self.new ≡ record { columns = initial; remembered = []; offset = 0 } }
+    {
+        self.columns = initial;
+        self.offset = 0;
+        self.remembered.clear();
+    }
+
+    /// Runs one more item of the instructions, and gives the start of the row that ends there, if one does: its columns are the
+    /// machine's.
+    #[inline(always)]
     pub fn step(
         &mut self,
         setup: &Setup,
         factor: i64,
         read: Result<(u64, Insn<'_>), InsnFault>,
-    ) -> Result<Option<DwRow>, MachineFault>
-        ensures { Steps self.new result (ran_more setup.now factor (item read.entry) (state self.old)) }
+    ) -> Result<Option<u64>, MachineFault>
+        ensures steps { Steps self.new result (ran_more setup.now factor (item read.entry) (state self.old)) }
+        ensures below { StartsBelow setup.now.size result }
     {
         match read {
             Ok((place, insn)) => self.run(setup, place, effect_of(factor, insn)),
@@ -145,28 +161,34 @@ impl Machine {
         }
     }
 
-    // Runs one instruction, which stands at `place`, and gives the row that ends there, if one does.
+    // Runs one instruction, which stands at `place`, and gives the start of the row that ends there.
+    #[inline(always)]
     fn run(
         &mut self,
         setup: &Setup,
         place: u64,
         effect: Effect,
-    ) -> Result<Option<DwRow>, MachineFault>
-        ensures { Steps self.new result (ran setup.now place effect (state self.old)) }
+    ) -> Result<Option<u64>, MachineFault>
+        ensures steps { Steps self.new result (ran setup.now place effect (state self.old)) }
+        ensures below { StartsBelow setup.now.size result }
     {
         match effect {
             Effect::Row(change) => {
-                self.columns = row_changed(setup.arch, place, change, self.columns)?;
+                change_row(setup.arch, place, change, &mut self.columns)?;
                 Ok(None)
             }
             Effect::Advance(delta) => {
                 let next = offset_after(setup.code, delta, self.offset);
-                let row = row_ended(setup.size, next, self.offset, self.columns);
+                let start = self.offset;
                 self.offset = next;
-                Ok(row)
+                if row_ends(setup.size, next, start) {
+                    Ok(Some(start))
+                } else {
+                    Ok(None)
+                }
             }
             Effect::Restore(register) => {
-                self.columns = rule_restored(setup.arch, register, setup.initial, self.columns);
+                restore_rule(setup.arch, register, &setup.initial, &mut self.columns);
                 Ok(None)
             }
             Effect::Remember => {
@@ -180,12 +202,14 @@ impl Machine {
         }
     }
 
-    /// The row at the end, which covers all offsets from the last advance on.
-    pub fn last(&self, size: u64) -> Option<DwRow>
-        ensures { result ≡ last_row size (state self.now) }
+    /// The start of the row at the end, which covers all offsets from the last advance on.
+    #[inline(always)]
+    pub fn last(&self, size: u64) -> Option<u64>
+        ensures is { ended self.now.columns result ≡ last_row size (state self.now) }
+        ensures below { IfSome result (λ start. start < size) }
     {
         if self.offset < size {
-            Some(row_at(self.offset, self.columns))
+            Some(self.offset)
         } else {
             None
         }

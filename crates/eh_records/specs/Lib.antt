@@ -5,6 +5,7 @@ pub mod Cutting
 pub mod Entry
 pub mod Fde
 pub mod Iter
+pub mod Kept
 pub mod Places
 pub mod Raw
 pub mod Section

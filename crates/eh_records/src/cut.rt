@@ -24,6 +24,7 @@ pub struct Cut<'a> {
 
 impl Cut<'_> {
     /// Whether the record is a common information entry.
+    #[inline(always)]
     pub fn is_cie(&self) -> bool
         ensures { result ≡ (self.now.id == 0) }
     {
@@ -33,6 +34,7 @@ impl Cut<'_> {
     /// The place of the common information entry that the record names, `CiePointer` where that is before
     /// the section.
     #[tactic(auto, unfolding(crate::specs::Cut::named_place))]
+    #[inline(always)]
     pub fn cie_place(&self) -> Result<u32, RecordFault>
         ensures { NamedAnswers result (named_place (piece self.now)) }
     {
@@ -45,6 +47,7 @@ impl Cut<'_> {
 
 /// Cuts the next record off, or answers none at the end and at a length word of 0.
 #[tactic(auto, unfolding(crate::specs::Cut::piece_at, crate::specs::Cut::piece_of))]
+#[inline(always)]
 pub fn next_cut<'a>(rest: &mut Reader<'a>) -> Result<Option<Cut<'a>>, RecordFault>
     ensures exact { CutAnswers rest.new result (piece_at (reader_cursor rest.old)) }
     ensures shorter { IfOk result (λ cut. IfSome cut (λ _. length rest.new.part.bytes.now < length rest.old.part.bytes.now)) }

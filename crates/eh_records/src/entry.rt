@@ -3,6 +3,7 @@
 ghost use Rattle.std.specs.Prelude.{◌<◌, ◌^◌, length};
 ghost use Rattle.eh_records.specs.Cut.{Is, piece};
 ghost use Rattle.eh_records.specs.Entry.{entry_view, GivesFirst};
+ghost use Rattle.eh_records.specs.Kept.{IsKept};
 ghost use Rattle.eh_records.specs.Places.{IsRising};
 ghost use Rattle.eh_records.specs.Section.{entry_here, entry_at, entries_before, cuts};
 ghost use Rattle.eh_records.specs.Step.{reader_cursor};
@@ -13,6 +14,7 @@ use crate::cut::{Cut, next_cut};
 use crate::fault::RecordFault;
 use crate::fde::Fde;
 use crate::frame::read_fde;
+use crate::kept::CommonAt;
 use crate::places::place_of_shared;
 use crate::reader::Reader;
 use sf_model::Arch;
@@ -28,15 +30,23 @@ pub enum Entry<'a> {
 
 /// The entry of a record.
 #[tactic(auto, unfolding(crate::specs::Section::entry_here))]
-fn read_here<'a>(section: &'a [u8], cut: &Cut<'a>, arch: Arch) -> Result<Entry<'a>, RecordFault>
-    requires { length section.now < 2 ^ 32 }
-    ensures { Is entry_view result (entry_here arch section.now (piece cut.now)) }
+#[inline(always)]
+fn read_here<'a>(
+    kept: &mut Option<CommonAt<'a>>,
+    section: &'a [u8],
+    cut: &Cut<'a>,
+    arch: Arch,
+) -> Result<Entry<'a>, RecordFault>
+    requires small { length section.now < 2 ^ 32 }
+    requires kept { IsKept arch section.now kept.old }
+    ensures is { Is entry_view result (entry_here arch section.now (piece cut.now)) }
+    ensures kept { IsKept arch section.now kept.new }
 {
     if cut.is_cie() {
         let shared = read_cie(cut, arch)?;
         Ok(Entry::Common(shared))
     } else {
-        let fde = read_fde(section, cut, arch)?;
+        let fde = read_fde(kept, section, cut, arch)?;
         Ok(Entry::Frame(fde))
     }
 }
@@ -44,6 +54,7 @@ fn read_here<'a>(section: &'a [u8], cut: &Cut<'a>, arch: Arch) -> Result<Entry<'
 /// The entry of a record. `places` has those of the common information entries before it, and rises.
 #[tactic(auto, unfolding(crate::specs::Section::entry_at))]
 pub fn read_after<'a>(
+    kept: &mut Option<CommonAt<'a>>,
     section: &'a [u8],
     places: &[u32],
     cut: &Cut<'a>,
@@ -51,20 +62,29 @@ pub fn read_after<'a>(
 ) -> Result<Entry<'a>, RecordFault>
     requires small { length section.now < 2 ^ 32 }
     requires rising { IsRising places.now }
-    ensures { Is entry_view result (entry_at arch section.now places.now (piece cut.now)) }
+    requires kept { IsKept arch section.now kept.old }
+    ensures kept { IsKept arch section.now kept.new }
+    ensures is { Is entry_view result (entry_at arch section.now places.now (piece cut.now)) }
 {
     place_of_shared(cut, places)?;
-    read_here(section, cut, arch)
+    read_here(kept, section, cut, arch)
 }
 
 /// The first entry of what is left of a section that was parsed, or none at its end.
-pub fn next_entry<'a>(section: &'a [u8], arch: Arch, rest: &mut Reader<'a>) -> Option<Entry<'a>>
-    requires { length section.now < 2 ^ 32 }
-    ensures { GivesFirst result (entries_before arch section.now (cuts (reader_cursor rest.old))) (entries_before arch section.now (cuts (reader_cursor rest.new))) }
+pub fn next_entry<'a>(
+    kept: &mut Option<CommonAt<'a>>,
+    section: &'a [u8],
+    arch: Arch,
+    rest: &mut Reader<'a>,
+) -> Option<Entry<'a>>
+    requires small { length section.now < 2 ^ 32 }
+    requires kept { IsKept arch section.now kept.old }
+    ensures kept { IsKept arch section.now kept.new }
+    ensures gives { GivesFirst result (entries_before arch section.now (cuts (reader_cursor rest.old))) (entries_before arch section.now (cuts (reader_cursor rest.new))) }
 {
     let mut after = *rest;
     match next_cut(&mut after) {
-        Ok(Some(cut)) => match read_here(section, &cut, arch) {
+        Ok(Some(cut)) => match read_here(kept, section, &cut, arch) {
             Ok(entry) => {
                 *rest = after;
                 Some(entry)

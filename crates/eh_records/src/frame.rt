@@ -5,13 +5,14 @@ ghost use Rattle.std.specs.Option.{option_map};
 ghost use Rattle.eh_records.specs.Cie.{shared_view};
 ghost use Rattle.eh_records.specs.Cut.{Is, piece};
 ghost use Rattle.eh_records.specs.Fde.{fde_view, lsda_in, lsda_at, entry_of, fde_of};
+ghost use Rattle.eh_records.specs.Kept.{IsKept};
 ghost use Rattle.eh_records.specs.Step.{Answers, pointer_view, reader_cursor};
 
 use crate::cie::Shared;
-use crate::common::cie_at;
 use crate::cut::Cut;
 use crate::fault::RecordFault;
 use crate::fde::Fde;
+use crate::kept::CommonAt;
 use crate::reader::Reader;
 use crate::said::read_data;
 use eh_pointer::width;
@@ -58,13 +59,21 @@ pub fn read_entry<'a>(cut: &Cut<'a>, shared: &Shared<'a>) -> Result<Fde<'a>, Rec
     })
 }
 
-/// The frame description entry of a record, with the common information entry that it names read again.
+/// The frame description entry of a record, with the common information entry that it names, which is read
+/// again unless it is the one that is kept.
 #[tactic(auto, unfolding(crate::specs::Fde::fde_of))]
-pub fn read_fde<'a>(section: &'a [u8], cut: &Cut<'a>, arch: Arch) -> Result<Fde<'a>, RecordFault>
-    requires { length section.now < 2 ^ 32 }
-    ensures { Is fde_view result (fde_of arch section.now (piece cut.now)) }
+pub fn read_fde<'a>(
+    kept: &mut Option<CommonAt<'a>>,
+    section: &'a [u8],
+    cut: &Cut<'a>,
+    arch: Arch,
+) -> Result<Fde<'a>, RecordFault>
+    requires small { length section.now < 2 ^ 32 }
+    requires kept { IsKept arch section.now kept.old }
+    ensures is { Is fde_view result (fde_of arch section.now (piece cut.now)) }
+    ensures kept { IsKept arch section.now kept.new }
 {
     let place = cut.cie_place()?;
-    let shared = cie_at(section, place, arch)?;
+    let shared = CommonAt::read(kept, section, place, arch)?;
     read_entry(cut, &shared)
 }

@@ -2,11 +2,13 @@
 
 ghost use Rattle.std.specs.Prelude.{◌<◌, ◌^◌, ◌≡◌, length};
 ghost use Rattle.eh_records.specs.Iter.{GivesFrame};
+ghost use Rattle.eh_records.specs.Kept.{IsKept};
 ghost use Rattle.eh_records.specs.Section.{cuts, cuts_of, entries_before, frames};
 ghost use Rattle.eh_records.specs.Step.{reader_cursor};
 
 use crate::entry::{Entry, next_entry};
 use crate::fde::Fde;
+use crate::kept::CommonAt;
 use crate::reader::Reader;
 use sf_model::Arch;
 
@@ -16,7 +18,9 @@ pub struct FdeIter<'a> {
     section: &'a [u8],
     arch: Arch,
     rest: Reader<'a>,
+    kept: Option<CommonAt<'a>>,
     ghost small: { length section.now < 2 ^ 32 },
+    ghost same: { IsKept arch section.now kept },
 }
 
 impl<'a> FdeIter<'a> {
@@ -31,16 +35,24 @@ impl<'a> FdeIter<'a> {
             section,
             arch,
             rest: Reader::from_place(section, 0),
+            kept: None,
         }
     }
 }
 
 // The next frame description entry of what is left.
-fn next_fde<'a>(section: &'a [u8], arch: Arch, rest: &mut Reader<'a>) -> Option<Fde<'a>>
-    requires { length section.now < 2 ^ 32 }
-    ensures { GivesFrame result (entries_before arch section.now (cuts (reader_cursor rest.old))) (entries_before arch section.now (cuts (reader_cursor rest.new))) }
+fn next_fde<'a>(
+    kept: &mut Option<CommonAt<'a>>,
+    section: &'a [u8],
+    arch: Arch,
+    rest: &mut Reader<'a>,
+) -> Option<Fde<'a>>
+    requires small { length section.now < 2 ^ 32 }
+    requires kept { IsKept arch section.now kept.old }
+    ensures kept { IsKept arch section.now kept.new }
+    ensures gives { GivesFrame result (entries_before arch section.now (cuts (reader_cursor rest.old))) (entries_before arch section.now (cuts (reader_cursor rest.new))) }
 {
-    while let Some(entry) = next_entry(section, arch, rest) {
+    while let Some(entry) = next_entry(kept, section, arch, rest) {
         if let Entry::Frame(fde) = entry {
             return Some(fde);
         }
@@ -60,6 +72,6 @@ impl<'a> Iterator for FdeIter<'a> {
     ghost remaining = { item_count frames_left };
 
     fn next(&mut self) -> Option<Fde<'a>> {
-        next_fde(self.section, self.arch, &mut self.rest)
+        next_fde(&mut self.kept, self.section, self.arch, &mut self.rest)
     }
 }

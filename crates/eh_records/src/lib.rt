@@ -19,6 +19,7 @@ mod fault;
 mod fde;
 mod frame;
 mod iter;
+mod kept;
 mod laws;
 mod layout;
 mod letters;

@@ -18,6 +18,7 @@ impl<'a> Reader<'a> {
     ghost use Rattle.eh_records.specs.Step.{Answers, reader_cursor, fault_of, number_field, uleb_field, sleb_field, text_field, part_field, pointer_field, pointer_view};
 
     // The fault of a field that stands at a place.
+    #[inline(always)]
     fn fault_at(place: u32, fault: ByteFault) -> RecordFault
         ensures { result ≡ fault_of place fault }
     {
@@ -28,6 +29,7 @@ impl<'a> Reader<'a> {
     }
 
     /// The bytes of a section from a place on.
+    #[inline(always)]
     pub fn from_place(section: &'a [u8], place: u32) -> Reader<'a>
         requires { length section.now < 2 ^ 32 }
         ensures { reader_cursor result ≡ record { place = place; left = drop place section.now } }
@@ -43,6 +45,7 @@ impl<'a> Reader<'a> {
     }
 
     /// The place of the next byte.
+    #[inline(always)]
     pub fn place(&self) -> u32
         ensures { result ≡ self.now.part.place }
     {
@@ -51,6 +54,7 @@ impl<'a> Reader<'a> {
 
     /// The next byte.
     #[tactic(auto, unfolding(crate::specs::Step::number_field))]
+    #[inline(always)]
     pub fn byte(&mut self) -> Result<u8, RecordFault>
         ensures exact { Answers (λ x. x) self.new result (number_field 1 (reader_cursor self.old)) }
     {
@@ -67,6 +71,7 @@ impl<'a> Reader<'a> {
 
     /// The number in the next two bytes.
     #[tactic(auto, unfolding(crate::specs::Step::number_field))]
+    #[inline(always)]
     pub fn half(&mut self) -> Result<u16, RecordFault>
         ensures exact { Answers (λ x. x) self.new result (number_field 2 (reader_cursor self.old)) }
     {
@@ -83,6 +88,7 @@ impl<'a> Reader<'a> {
 
     /// The number in the next four bytes.
     #[tactic(auto, unfolding(crate::specs::Step::number_field, sf_bytes::specs::Cursor::number_at))]
+    #[inline(always)]
     pub fn word(&mut self) -> Result<u32, RecordFault>
         ensures exact { Answers (λ x. x) self.new result (number_field 4 (reader_cursor self.old)) }
         ensures left { OnOk result (length self.new.part.bytes.now + 4 ≡ length self.old.part.bytes.now) }
@@ -100,6 +106,7 @@ impl<'a> Reader<'a> {
 
     /// The number in the next eight bytes.
     #[tactic(auto, unfolding(crate::specs::Step::number_field))]
+    #[inline(always)]
     pub fn double(&mut self) -> Result<u64, RecordFault>
         ensures exact { Answers (λ x. x) self.new result (number_field 8 (reader_cursor self.old)) }
     {
@@ -116,6 +123,7 @@ impl<'a> Reader<'a> {
 
     /// The next unsigned LEB128 number.
     #[tactic(auto, unfolding(crate::specs::Step::uleb_field))]
+    #[inline(always)]
     pub fn uleb(&mut self) -> Result<u64, RecordFault>
         ensures exact { Answers (λ x. x) self.new result (uleb_field (reader_cursor self.old)) }
     {
@@ -132,6 +140,7 @@ impl<'a> Reader<'a> {
 
     /// The next signed LEB128 number.
     #[tactic(auto, unfolding(crate::specs::Step::sleb_field))]
+    #[inline(always)]
     pub fn sleb(&mut self) -> Result<i64, RecordFault>
         ensures exact { Answers (λ x. x) self.new result (sleb_field (reader_cursor self.old)) }
     {
@@ -148,6 +157,7 @@ impl<'a> Reader<'a> {
 
     /// The bytes before the next zero byte, which is passed.
     #[tactic(auto, unfolding(crate::specs::Step::text_field))]
+    #[inline(always)]
     pub fn text(&mut self) -> Result<&'a [u8], RecordFault>
         ensures exact { Answers (λ text. text.now) self.new result (text_field (reader_cursor self.old)) }
     {
@@ -164,6 +174,7 @@ impl<'a> Reader<'a> {
 
     /// The next `len` bytes, as a reader of their own.
     #[tactic(auto, unfolding(crate::specs::Step::part_field, sf_bytes::specs::Cursor::part_at))]
+    #[inline(always)]
     pub fn sub(&mut self, len: u64) -> Result<Reader<'a>, RecordFault>
         ensures exact { Answers (reader_cursor) self.new result (part_field len (reader_cursor self.old)) }
         ensures left { OnOk result (length self.new.part.bytes.now + len ≡ length self.old.part.bytes.now) }
@@ -180,6 +191,7 @@ impl<'a> Reader<'a> {
     }
 
     /// The number in the next `width` bytes.
+    #[inline(always)]
     pub fn number(&mut self, width: u8) -> Result<u64, RecordFault>
         requires { IsTrue (is_field_width width) }
         ensures exact { Answers (λ x. x) self.new result (number_field width (reader_cursor self.old)) }
@@ -200,6 +212,7 @@ impl<'a> Reader<'a> {
 
     /// A pointer field of `width` bytes.
     #[tactic(auto, unfolding(crate::specs::Step::pointer_field))]
+    #[inline(always)]
     pub fn pointer(&mut self, width: u8) -> Result<Field, RecordFault>
         requires { IsTrue (is_field_width width) }
         ensures exact { Answers pointer_view self.new result (pointer_field width (reader_cursor self.old)) }

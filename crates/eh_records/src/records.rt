@@ -69,8 +69,9 @@ impl<'a> Records<'a> {
     {
         let mut places: Vec<u32> = Vec::new(alloc);
         let mut rest = Reader::from_place(bytes, 0);
+        let mut kept = None;
         while let Some(cut) = next_cut(&mut rest)? {
-            read_after(bytes, places.as_slice(), &cut, arch)?;
+            read_after(&mut kept, bytes, places.as_slice(), &cut, arch)?;
             note_place(&cut, &mut places)?;
         }
         Ok(Records { bytes, arch })
@@ -95,7 +96,8 @@ impl<'a> Records<'a> {
     {
         let mut fields: Vec<Field> = Vec::new(alloc);
         let mut rest = Reader::from_place(self.bytes, 0);
-        while let Some(entry) = next_entry(self.bytes, self.arch, &mut rest) {
+        let mut kept = None;
+        while let Some(entry) = next_entry(&mut kept, self.bytes, self.arch, &mut rest) {
             push_fields(&mut fields, &entry)?;
         }
         Ok(fields)

@@ -20,3 +20,4 @@ pub mod FaithfulSections
 pub mod OneOrder
 pub mod Worked
 pub mod Accepting
+pub mod MadeRows

@@ -39,6 +39,10 @@ ReadsOne (Err fault) given = (fault ≡ asm.NoMemory) ⊎ (given ≡ Err fault)
 abbrev pub IsRunFault : (section : ℕ) → AsmFault → Option MachineFault → Type 0
 IsRunFault section fault first = (fault ≡ asm.NoMemory) ⊎ (named (asm.Machine section) (unless first) ≡ Err fault)
 
+-- the fault of the rows that are left was returned, or memory ran out
+abbrev pub IsRowsFault : {X : Type 0} → (section : ℕ) → AsmFault → Result X MachineFault → Type 0
+IsRowsFault section fault given = (fault ≡ asm.NoMemory) ⊎ (named (asm.Machine section) given ≡ Err fault)
+
 -- the fault of a section's records was answered, or memory was wanting
 abbrev pub IsRecordsFault : (section : ℕ) → AsmFault → Result (List EntryView) RecordFault → Type 0
 IsRecordsFault section fault given = (fault ≡ asm.NoMemory) ⊎ (named (asm.Record section) given ≡ Err fault)

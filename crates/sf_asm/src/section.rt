@@ -1,24 +1,25 @@
 //! The functions of one call frame section, in the order of its records.
 
-ghost use Rattle.std.specs.Prelude.{◌≡◌, ◌≤◌, ◌+◌, ◌^◌, List, All, Result, Ok, None, IfOk, IfErr, OnOk, IsTrue};
+ghost use Rattle.std.specs.Prelude.{◌≡◌, ◌≤◌, ◌+◌, ◌^◌, List, All, Result, Ok, IfOk, IfErr, OnOk, IsTrue};
 ghost use Rattle.std.specs.Option.{option_map};
 ghost use Rattle.sf_bytes.specs.Cursor.{cursor};
 ghost use Rattle.sf_model.specs.Function.{key_fits};
 ghost use Rattle.cfa_insn.specs.Listing.{listing};
-ghost use Rattle.cfa_machine.specs.At.{SayAll};
-ghost use Rattle.cfa_machine.specs.RowList.{AreRows};
+ghost use Rattle.cfa_machine.specs.Left.{limit, rows_left};
+ghost use Rattle.cfa_machine.specs.Pass.{rows_by};
 ghost use Rattle.eh_records.specs.Fde.{fde_view};
 ghost use Rattle.eh_records.specs.Section.{entries_of, frames, pointer_fields};
 ghost use Rattle.eh_records.specs.View.{arch_of as machine_of_records, entries as entries_of_records};
 ghost use Rattle.elf_place.specs.Views.{placing};
 ghost use Rattle.elf_reloc.specs.declared.fault.RelocFault.{RelocFault as reloc_fault};
 ghost use Rattle.elf_reloc.specs.declared.fix.Fix.{Fix};
-ghost use Rattle.sf_express.specs.Runs.{AreSaid, Saying, function_of};
-ghost use Rattle.sf_asm.specs.Answers.{IsRecordsFault, IsRelocFault, IsRunFault, ReadsMore, ReadsOne};
-ghost use Rattle.sf_asm.specs.Entry.{IsSound, IsSoundOutcome};
+ghost use Rattle.sf_express.specs.Expressed.{function_by};
+ghost use Rattle.sf_express.specs.Run.{on_rows};
+ghost use Rattle.sf_asm.specs.Answers.{IsRecordsFault, IsRelocFault, IsRowsFault, ReadsMore, ReadsOne};
+ghost use Rattle.sf_asm.specs.Entry.{IsSound};
 ghost use Rattle.sf_asm.specs.Fault.{is_input_answered, wraps_record, wraps_reloc, wraps_machine};
-ghost use Rattle.sf_asm.specs.declared.fault.AsmFault.TheVariants.{NoMemory, Record};
-ghost use Rattle.sf_asm.specs.Functions.{fault_in, function_in, functions_in, named, section_functions, span_in};
+ghost use Rattle.sf_asm.specs.declared.fault.AsmFault.TheVariants.{Record};
+ghost use Rattle.sf_asm.specs.Functions.{function_in, functions_in, named, section_functions, span_in};
 ghost use Rattle.sf_asm.specs.Kept.{outcome_by};
 ghost use Rattle.sf_asm.specs.Relocated.{pointer_check};
 ghost use Rattle.sf_asm.specs.Views.{AreChecked, IsReadFrom, overlaid, relocations_by, seen_section, written_by};
@@ -27,11 +28,11 @@ use crate::entry::{Entry, Outcome};
 use crate::fault::AsmFault;
 use crate::frames::Frames;
 use crate::overlay::Overlay;
-use cfa_machine::{DwRow, MachineFault, rows};
+use cfa_machine::{MachineFault, Runner};
 use eh_records::{Fde, RecordFault, Records};
 use elf_place::Placed;
 use elf_reloc::RelocFault;
-use sf_express::{ExpressFault, express};
+use sf_express::express_run;
 use sf_model::{Arch, FdeFacts, Origin, Span};
 use std::alloc::Global;
 
@@ -124,56 +125,58 @@ fn span_of(section: &Frames<'_>, overlay: &Overlay, fde: &Fde<'_>) -> Result<(u6
     }
 }
 
-/// The rows of a function, each of whose instructions was run.
-fn rows_of(
-    alloc: Global,
-    section: &Frames<'_>,
-    fde: &Fde<'_>,
+/// Starts the runner on the rows of a function.
+fn begin_rows<'a>(
+    section: &Frames<'a>,
+    fde: &Fde<'a>,
     size: u64,
-) -> Result<Vec<DwRow>, AsmFault>
-    ensures rows { IfOk result (λ v. AreRows section.now.arch size v.items) }
-    ensures at { IfOk result (λ v. SayAll section.now.arch fde.now.cie.code fde.now.cie.factor size (listing (cursor fde.now.cie.insns)) (listing (cursor fde.now.insns)) v.items) }
-    ensures runs { OnOk result (fault_in section.now.arch (fde_view fde.now) ≡ None) }
-    ensures fault { IfErr result (λ fault. IsRunFault section.now.number fault (fault_in section.now.arch (fde_view fde.now))) }
+    run: &mut Runner<'a>,
+) -> Result<(), AsmFault>
+    ensures begins { OnOk result (rows_left run.new ≡ rows_by section.now.arch fde.now.cie.code fde.now.cie.factor size (listing (cursor fde.now.cie.insns)) (listing (cursor fde.now.insns))) }
+    ensures limit { OnOk result (limit run.new ≡ size) }
+    ensures fault { IfErr result (λ fault. IsRowsFault section.now.number fault (rows_by section.now.arch fde.now.cie.code fde.now.cie.factor size (listing (cursor fde.now.cie.insns)) (listing (cursor fde.now.insns)))) }
     ensures answered { IfErr result (λ fault. IsTrue (is_input_answered fault)) }
 {
-    let arch = section.arch;
     let cie = fde.cie;
-    match rows(
-        alloc, arch, cie.code, cie.factor, cie.insns, fde.insns, size,
+    match run.start(
+        section.arch,
+        cie.code,
+        cie.factor,
+        cie.insns,
+        fde.insns,
+        size,
     ) {
-        Ok(rows) => Ok(rows),
+        Ok(()) => Ok(()),
         Err(fault) => Err(machine_fault(section.number, fault)),
     }
 }
 
-/// What becomes of a function with these rows.
+/// What becomes of the function that the runner was started on. Each of its instructions is run.
 fn outcome_of(
     alloc: Global,
-    arch: Arch,
+    section: &Frames<'_>,
     facts: &FdeFacts,
-    rows: &[DwRow],
+    run: &mut Runner<'_>,
 ) -> Result<Outcome, AsmFault>
-    requires rows { AreRows arch facts.now.size rows.now }
-    requires end { facts.now.start + facts.now.size ≤ 2 ^ 64 }
-    requires key { IsTrue (key_fits arch facts.now.key) }
-    ensures means { IfOk result (λ outcome. (says : Saying) → AreSaid arch facts.now.size rows.now says → outcome ≡ outcome_by (function_of arch facts.now says)) }
-    ensures sound { IfOk result (IsSoundOutcome arch facts.now.start facts.now.size) }
-    ensures fault { IfErr result (λ fault. fault ≡ NoMemory) }
+    requires { limit run.old ≡ facts.now.size }
+    ensures given { IfOk result (λ outcome. on_rows (λ rows. outcome_by (function_by section.now.arch facts.now rows)) (rows_left run.old) ≡ Ok outcome) }
+    ensures fault { IfErr result (λ fault. IsRowsFault section.now.number fault (rows_left run.old)) }
+    ensures answered { IfErr result (λ fault. IsTrue (is_input_answered fault)) }
 {
-    match express(alloc, arch, facts, rows) {
-        Ok(func) => Ok(Outcome::Kept(func)),
-        Err(ExpressFault::Omit(omission)) => Ok(Outcome::Left(omission)),
-        Err(ExpressFault::NoMemory) => Err(AsmFault::NoMemory),
+    match express_run(alloc, section.arch, facts, run) {
+        Ok(Ok(function)) => Ok(Outcome::Kept(function)),
+        Ok(Err(omission)) => Ok(Outcome::Left(omission)),
+        Err(fault) => Err(machine_fault(section.number, fault)),
     }
 }
 
 /// The function of one frame description entry.
-fn read_function(
+fn read_function<'a>(
     alloc: Global,
-    section: &Frames<'_>,
+    section: &Frames<'a>,
     overlay: &Overlay,
-    fde: &Fde<'_>,
+    fde: &Fde<'a>,
+    run: &mut Runner<'a>,
 ) -> Result<Entry, AsmFault>
     requires { IsTrue (key_fits section.now.arch fde.now.cie.key) }
     ensures exact { (relocations : Result (List Fix) reloc_fault) → ReadsOne result (function_in section.now.arch section.now.item (seen_section section.now relocations) (overlaid (written_by overlay.now)) (fde_view fde.now)) }
@@ -181,7 +184,7 @@ fn read_function(
     ensures answered { IfErr result (λ fault. IsTrue (is_input_answered fault)) }
 {
     let (start, size) = span_of(section, overlay, fde)?;
-    let rows = rows_of(alloc, section, fde, size)?;
+    begin_rows(section, fde, size, run)?;
     let facts = FdeFacts {
         start,
         size,
@@ -189,7 +192,7 @@ fn read_function(
         signal: fde.cie.signal,
         key: fde.cie.key,
     };
-    let outcome = outcome_of(alloc, section.arch, &facts, &rows)?;
+    let outcome = outcome_of(alloc, section, &facts, run)?;
     let origin = Origin {
         item: section.item,
         section: section.number,
@@ -206,11 +209,11 @@ fn read_function(
 }
 
 /// The functions of the records, behind those that were read before.
-fn read_frames(
+fn read_frames<'a>(
     alloc: Global,
-    section: &Frames<'_>,
+    section: &Frames<'a>,
     overlay: &Overlay,
-    records: &Records<'_>,
+    records: &Records<'a>,
     entries: &mut Vec<Entry>,
 ) -> Result<(), AsmFault>
     requires machine { machine_of_records records.now ≡ section.now.arch }
@@ -219,11 +222,12 @@ fn read_frames(
     ensures sound { OnOk result (All (IsSound section.now.arch) entries.new.items) }
     ensures answered { IfErr result (λ fault. IsTrue (is_input_answered fault)) }
 {
+    let mut run = Runner::new();
     for fde in records.fdes() {
         if overlay.dropped(fde.begin) {
             continue;
         }
-        entries.push(read_function(alloc, section, overlay, &fde)?)?;
+        entries.push(read_function(alloc, section, overlay, &fde, &mut run)?)?;
     }
     Ok(())
 }

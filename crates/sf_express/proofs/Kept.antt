@@ -18,7 +18,7 @@ kept_before : (b : Bool) (before : List Row) (row : Row) (rows : List Row) → b
 kept_before true before row rows = ap (λ (front : List Row). front ++ rows) (sym (append-nil before))
 kept_before false before row rows = simp append_assoc
 
-regroup : (before : List Row) (last : Option Content) (row : Row) (given : Result (List Row) Omission)
+pub regroup : (before : List Row) (last : Option Content) (row : Row) (given : Result (List Row) Omission)
     → after_kept before (given >>= λ rows. Ok (unless_repeated last row rows)) ≡ after_kept (before ++ unless_repeated last row []) given
 regroup before last row (Ok rows) = ap (λ (front : List Row). Ok front) (kept_before (repeats last row.content) before row rows)
 regroup before last row (Err e) = refl

@@ -7,3 +7,4 @@ pub mod Alike
 pub mod Runs
 pub mod Means
 pub mod Found
+pub mod Running

@@ -154,7 +154,7 @@ some_kept arch (r ∷ rows) h = first_kept r.start (content_of arch r) _
 pub size_is_some : (arch : Arch) (facts : FdeFacts) → reason_of arch facts ≡ None → 0 < facts.size
 size_is_some arch facts e = grind arith
 
-abbrev FunctionFits : Arch → Result Func Omission → Type 0
+abbrev pub FunctionFits : Arch → Result Func Omission → Type 0
 FunctionFits arch (Ok f) = f.start + f.size ≤ 2 ^ 64 → IsTrue (key_fits arch f.key) → IsWritable arch f
 FunctionFits arch (Err e) = Unit {0}
 
@@ -171,7 +171,7 @@ whole_fits arch facts None (Ok rows) size fit some = λ end key. record {
   shape = refl;
 }
 
-function_by-fits : (arch : Arch) (facts : FdeFacts) (rows : List DwRow) → AreRows arch facts.size rows → FunctionFits arch (function_by arch facts rows)
+pub function_by-fits : (arch : Arch) (facts : FdeFacts) (rows : List DwRow) → AreRows arch facts.size rows → FunctionFits arch (function_by arch facts rows)
 function_by-fits arch facts rows h = whole_fits arch facts (reason_of arch facts) (expressed_rows arch None rows) (size_is_some arch facts) (kept_fit arch 0 None rows h.rise h.signs) (λ some. some_kept arch rows (h.some some))
 
 pub kept_is_writable : (arch : Arch) (facts : FdeFacts) (rows : List DwRow) (kept : List Row) → AreRows arch facts.size rows → reason_of arch facts ≡ None → expressed_rows arch None rows ≡ Ok kept → facts.start + facts.size ≤ 2 ^ 64 → IsTrue (key_fits arch facts.key)

@@ -1,5 +1,5 @@
 -- A function as SFrame Version 2 expresses it, or why it can't.
-use Rattle.std.specs.Prelude.{◌≡◌, ℕ, ℤ, ◌^◌, ◌==◌, nat_le, Bool, true, false, ◌&&◌, not, List, [], ◌∷◌, ◌++◌, Option, Some, None, Result, Ok, Err, if◌then◌else◌}
+use Rattle.std.specs.Prelude.{◌≡◌, ℕ, ℤ, ◌^◌, ◌==◌, nat_le, Bool, true, false, ◌&&◌, not, List, [], ◌∷◌, Option, Some, None, Result, Ok, Err, if◌then◌else◌}
 use Rattle.std.specs.Ordering.{int_eq}
 use Rattle.sf_model.specs.declared.machine.Base.{Base}
 use Rattle.sf_model.specs.declared.machine.Base.TheVariants.{Fp, Sp}
@@ -110,11 +110,7 @@ Makes (Ok row) given = given ≡ Ok row
 Makes (Err (Omit omission)) given = given ≡ Err omission
 Makes (Err NoMemory) given = ⊥
 
--- memory may be wanting
-abbrev pub Appends : {U : Type 0} → List Row → List Row → Option Content → Row → Result U ExpressFault → Type 0
-Appends old new last row (Ok u) = new ≡ old ++ unless_repeated last row []
-Appends old new last row (Err e) = e ≡ NoMemory
-
+-- the omission was returned, or memory ran out
 abbrev pub Fails : {Y : Type 0} → ExpressFault → Result Y Omission → Type 0
 Fails (Omit omission) given = given ≡ Err omission
 Fails NoMemory given = Unit {0}

@@ -1,22 +1,24 @@
 //! A whole function in SFrame's form.
 
-ghost use Rattle.std.specs.Prelude.{◌≡◌, ◌^◌, ◌<◌, ◌+◌, ◌≤◌, All, IfOk, IsTrue, None};
+ghost use Rattle.std.specs.Prelude.{◌≡◌, ◌^◌, ◌<◌, ◌+◌, ◌≤◌, ◌++◌, [], All, IfOk, OnOk, IsTrue, None};
+ghost use Rattle.sf_model.specs.declared.function.Shape.TheVariants.{Plain};
 ghost use Rattle.sf_model.specs.Function.{IsWritable, key_fits};
 ghost use Rattle.cfa_machine.specs.RowList.{AreRows};
 ghost use Rattle.sf_express.specs.Offsets.{Omits, SayTheSame, StandAtChanges};
 ghost use Rattle.sf_express.specs.Runs.{AreSaid, Saying, function_of};
-ghost use Rattle.sf_express.specs.Expressed.{repeats, same_content, column_of, reason_of, row_by, Makes, Appends, Gives, expressed_rows, function_by};
+ghost use Rattle.sf_express.specs.Expressed.{repeats, same_content, column_of, reason_of, row_by, unless_repeated, Makes, Gives, expressed_rows, function_by};
 
 use crate::fault::ExpressFault;
 use crate::row::content;
 use cfa_machine::DwRow;
 use sf_model::{Arch, Content, FdeFacts, Func, Omission, Reason, Row, Rows, Shape};
-use std::alloc::Global;
+use std::alloc::{AllocError, Global};
 
 /// The first size that doesn't fit a function descriptor entry, in bytes.
 const SIZE_LIMIT: u64 = 0x1_0000_0000;
 
 // Whether two contents are the same.
+#[inline(always)]
 fn is_same(last: Content, content: Content) -> bool
     ensures { result ≡ same_content last content }
 {
@@ -28,6 +30,7 @@ fn is_same(last: Content, content: Content) -> bool
 }
 
 // Whether a content is that of the row before.
+#[inline(always)]
 fn is_repeated(last: Option<Content>, content: Content) -> bool
     ensures { result ≡ repeats last content }
 {
@@ -47,8 +50,8 @@ fn return_column(arch: Arch) -> u64
     }
 }
 
-// The first reason of the function as a whole.
-fn function_reason(arch: Arch, facts: &FdeFacts) -> Option<Reason>
+/// The first reason of the function as a whole.
+pub fn function_reason(arch: Arch, facts: &FdeFacts) -> Option<Reason>
     ensures { result ≡ reason_of arch facts.now }
 {
     if facts.size == 0 {
@@ -67,6 +70,7 @@ fn function_reason(arch: Arch, facts: &FdeFacts) -> Option<Reason>
 }
 
 // The row in SFrame's form, or the omission at its start.
+#[inline(always)]
 fn row_of(arch: Arch, row: &DwRow) -> Result<Row, ExpressFault>
     requires { row.now.start < 2 ^ 32 }
     ensures { Makes result (row_by arch row.now) }
@@ -81,9 +85,10 @@ fn row_of(arch: Arch, row: &DwRow) -> Result<Row, ExpressFault>
     }
 }
 
-// Appends the row, unless it says what the row before it says.
-fn append(kept: &mut Rows, last: Option<Content>, row: Row) -> Result<(), ExpressFault>
-    ensures { Appends kept.old kept.new last row result }
+/// Appends the row, unless its content is that of the row before it.
+#[inline(always)]
+pub fn append(kept: &mut Rows, last: Option<Content>, row: Row) -> Result<(), AllocError>
+    ensures { OnOk result (kept.new ≡ kept.old ++ unless_repeated last row []) }
 {
     if !is_repeated(last, row.content) {
         kept.push(row)?;
@@ -106,6 +111,20 @@ fn express_rows(alloc: Global, arch: Arch, rows: &[DwRow]) -> Result<Rows, Expre
     Ok(kept)
 }
 
+/// The function with these facts and rows.
+pub fn function_with(facts: &FdeFacts, rows: Rows) -> Func
+    requires { facts.now.size < 2 ^ 32 }
+    ensures { result ≡ record { start = facts.now.start; size = facts.now.size; shape = Plain; key = facts.now.key; rows = rows } }
+{
+    Func {
+        start: facts.start,
+        size: facts.size as u32,
+        shape: Shape::Plain,
+        key: facts.key,
+        rows,
+    }
+}
+
 // The function, or its first omission.
 fn whole(alloc: Global, arch: Arch, facts: &FdeFacts, rows: &[DwRow]) -> Result<Func, ExpressFault>
     requires { AreRows arch facts.now.size rows.now }
@@ -121,13 +140,7 @@ fn whole(alloc: Global, arch: Arch, facts: &FdeFacts, rows: &[DwRow]) -> Result<
         }));
     }
     let kept = express_rows(alloc, arch, rows)?;
-    Ok(Func {
-        start: facts.start,
-        size: facts.size as u32,
-        shape: Shape::Plain,
-        key: facts.key,
-        rows: kept,
-    })
+    Ok(function_with(facts, kept))
 }
 
 /// The function as SFrame Version 2 expresses it: a row where the content changes, from offset 0 on.

@@ -16,11 +16,13 @@ mod function;
 mod part;
 mod recovery;
 mod row;
+mod run;
 
 pub use fault::ExpressFault;
 pub use function::express;
 pub use recovery::{functions_recover_alike, rows_recover_alike};
 pub use row::content;
+pub use run::express_run;
 
 #[cfg(test)]
 mod tests;

@@ -10,6 +10,7 @@ use sf_model::{Arch, Base, Ra, Reason};
 const FIXED_RA: i128 = -8;
 
 // A number that fits 32 signed bits.
+#[inline(always)]
 fn as_i32(number: i128) -> Option<i32>
     ensures { result ≡ narrowed number }
 {
@@ -21,6 +22,7 @@ fn as_i32(number: i128) -> Option<i32>
 }
 
 // The base register of SFrame that a DWARF register is.
+#[inline(always)]
 fn base(arch: Arch, register: u64) -> Option<Base>
     ensures { result ≡ base_of arch register }
 {
@@ -38,6 +40,7 @@ fn base(arch: Arch, register: u64) -> Option<Base>
 }
 
 /// The canonical frame address: its base and its offset in bytes.
+#[inline(always)]
 pub fn cfa(arch: Arch, rule: CfaRule) -> Result<(Base, i32), Reason>
     ensures { result ≡ cfa_part arch rule }
 {
@@ -55,6 +58,7 @@ pub fn cfa(arch: Arch, rule: CfaRule) -> Result<(Base, i32), Reason>
 }
 
 /// The stack pointer, which SFrame takes to be the canonical frame address.
+#[inline(always)]
 pub fn sp(rule: Rule) -> Result<(), Reason>
     ensures { result ≡ sp_part rule }
 {
@@ -72,6 +76,7 @@ pub fn sp(rule: Rule) -> Result<(), Reason>
 }
 
 // The return address of AMD64.
+#[inline(always)]
 fn ra_amd64(rule: Rule) -> Result<Ra, Reason>
     ensures { result ≡ ra_part Arch.Amd64 rule }
 {
@@ -88,6 +93,7 @@ fn ra_amd64(rule: Rule) -> Result<Ra, Reason>
 }
 
 // The return address of AArch64.
+#[inline(always)]
 fn ra_aarch64(rule: Rule) -> Result<Ra, Reason>
     ensures { result ≡ ra_part Arch.Aarch64 rule }
 {
@@ -103,6 +109,7 @@ fn ra_aarch64(rule: Rule) -> Result<Ra, Reason>
 }
 
 /// The return address.
+#[inline(always)]
 pub fn ra(arch: Arch, rule: Rule) -> Result<Ra, Reason>
     ensures { result ≡ ra_part arch rule }
 {
@@ -113,6 +120,7 @@ pub fn ra(arch: Arch, rule: Rule) -> Result<Ra, Reason>
 }
 
 /// The frame pointer: the offset that it is saved at, or none where it keeps its value.
+#[inline(always)]
 pub fn fp(rule: Rule) -> Result<Option<i32>, Reason>
     ensures { result ≡ fp_part rule }
 {
@@ -128,6 +136,7 @@ pub fn fp(rule: Rule) -> Result<Option<i32>, Reason>
 }
 
 /// A saved frame pointer needs a saved return address.
+#[inline(always)]
 pub fn pair(ra: Ra, fp: Option<i32>) -> Result<(), Reason>
     ensures { result ≡ pair_part ra fp }
 {
@@ -140,6 +149,7 @@ pub fn pair(ra: Ra, fp: Option<i32>) -> Result<(), Reason>
 }
 
 /// The register of the sign state, which may have no rule.
+#[inline(always)]
 pub fn sign(arch: Arch, rule: Rule) -> Result<(), Reason>
     ensures { result ≡ sign_part arch rule }
 {

@@ -8,6 +8,7 @@ use std::alloc::AllocError;
 
 /// Appends a number's four bytes.
 #[tactic(auto, unfolding(crate::specs::Number::word_bytes))]
+#[inline(always)]
 pub(crate) fn push_word(bytes: &mut Vec<u8>, number: u32) -> Result<(), AllocError>
     ensures { OnOk result (bytes.new.items ≡ bytes.old.items ++ word_bytes number) }
 {
@@ -16,6 +17,7 @@ pub(crate) fn push_word(bytes: &mut Vec<u8>, number: u32) -> Result<(), AllocErr
 
 /// Appends a number's four bytes in two's complement.
 #[tactic(auto, unfolding(crate::specs::Number::signed_word_bytes))]
+#[inline(always)]
 pub(crate) fn push_signed_word(bytes: &mut Vec<u8>, number: i32) -> Result<(), AllocError>
     ensures { OnOk result (bytes.new.items ≡ bytes.old.items ++ signed_word_bytes number) }
 {
@@ -23,6 +25,7 @@ pub(crate) fn push_signed_word(bytes: &mut Vec<u8>, number: i32) -> Result<(), A
 }
 
 /// Appends the low bytes of a number, as many as the width has.
+#[inline(always)]
 pub(crate) fn push_narrow(bytes: &mut Vec<u8>, number: u32, width: u8) -> Result<(), AllocError>
     requires { width ≤ 2 }
     ensures { OnOk result (bytes.new.items ≡ bytes.old.items ++ unsigned_bytes width number) }
@@ -36,6 +39,7 @@ pub(crate) fn push_narrow(bytes: &mut Vec<u8>, number: u32, width: u8) -> Result
 }
 
 /// Appends the low bytes of a number in two's complement, as many as the width has.
+#[inline(always)]
 pub(crate) fn push_narrow_signed(
     bytes: &mut Vec<u8>,
     number: i32,

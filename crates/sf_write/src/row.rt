@@ -61,6 +61,7 @@ pub(crate) fn push_rows(bytes: &mut Vec<u8>, rows: &[Row]) -> Result<(), AllocEr
 
 /// Appends a row: its start in bytes of the width `kind`, its info byte and its offsets.
 #[tactic(auto, unfolding(sf_model::specs::RowBytes::spelled_row, crate::specs::Room::offsets_fit))]
+#[inline(always)]
 fn push_row(bytes: &mut Vec<u8>, kind: u8, row: &Row) -> Result<(), AllocError>
     requires { kind ≤ 2 }
     ensures ok { OnOk result (bytes.new.items ≡ bytes.old.items ++ narrow_row kind row.now) }
@@ -72,6 +73,7 @@ fn push_row(bytes: &mut Vec<u8>, kind: u8, row: &Row) -> Result<(), AllocError>
 }
 
 /// The info byte of a row.
+#[inline(always)]
 fn info_of(content: &Content) -> u8
     ensures value { result ≡ row_info_byte (offset_width content.now) content.now }
     ensures fits { IsTrue (holds_row_offsets content.now (offset_width content.now)) }
@@ -85,6 +87,7 @@ fn info_of(content: &Content) -> u8
 
 /// Appends a row's offsets in their order: of the canonical frame address, the return address and the
 /// frame pointer.
+#[inline(always)]
 fn push_offsets(bytes: &mut Vec<u8>, content: &Content) -> Result<(), AllocError>
     ensures { OnOk result (bytes.new.items ≡ bytes.old.items ++ flat_map (signed_bytes (offset_width content.now)) (row_offsets content.now)) }
 {
@@ -95,6 +98,7 @@ fn push_offsets(bytes: &mut Vec<u8>, content: &Content) -> Result<(), AllocError
 }
 
 /// Appends an offset that may be absent.
+#[inline(always)]
 fn push_if_any(bytes: &mut Vec<u8>, offset: Option<i32>, width: u8) -> Result<(), AllocError>
     requires { width ≤ 2 }
     ensures { OnOk result (bytes.new.items ≡ bytes.old.items ++ flat_map (signed_bytes width) (option_to_list offset)) }

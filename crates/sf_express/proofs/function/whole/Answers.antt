@@ -8,12 +8,12 @@ use Rattle.sf_express.proofs.function.whole.Goals as goal
 pub returns-clause-writable : goal.returns-clause-writable
 returns-clause-writable c =
     let none : reason_of c.args.arch c.args.facts.now ≡ None = search rules in
-    kept_is_writable _ _ _ _ c.requires none c.in_ok-kept.ensures
+    rw c.function_with.ensures (kept_is_writable _ _ _ _ c.requires none c.in_ok-kept.ensures)
 
 pub returns-clause-same : goal.returns-clause-same
-returns-clause-same c = kept_say_the_same _ _ _ _ c.requires c.in_ok-kept.ensures
+returns-clause-same c = rw c.function_with.ensures (kept_say_the_same _ _ _ _ c.requires c.in_ok-kept.ensures)
 
 pub returns-clause-changes : goal.returns-clause-changes
 returns-clause-changes c =
     let none : reason_of c.args.arch c.args.facts.now ≡ None = search rules in
-    kept_stand_at_changes c.args.arch c.args.facts.now c.args.rows.now _ c.requires none c.in_ok-kept.ensures
+    rw c.function_with.ensures (kept_stand_at_changes c.args.arch c.args.facts.now c.args.rows.now _ c.requires none c.in_ok-kept.ensures)

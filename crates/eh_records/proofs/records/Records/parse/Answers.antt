@@ -16,6 +16,7 @@ pub loop-places-init : goal.loop-places-init
 loop-places-init c = record {
   fault = rw c.new-places.ensures.items (ap (fault_from c.args.arch c.args.bytes.now []) c.from_place-rest.ensures ∙ begins c.args.arch c.args.bytes.now);
   rising = λ i j le within. absurd (omega (arith, ap length c.new-places.ensures.items));
+  kept = λ k e. cc;
   before = λ i within. absurd (omega (arith, ap length c.new-places.ensures.items));
 }
 
@@ -30,7 +31,7 @@ pub returns-in_err-read_after-clause-exact : goal.returns-in_err-read_after-clau
 returns-in_err-read_after-clause-exact c =
     let p = err_from_is_err_and c.from_residual-in_err-read_after.result c.from_residual-in_err-read_after.ensures.1 in
     let cut_read = rw c.in-Some.is at c.in_ok-cut.ensures.exact in
-    let read = rw c.as_slice.ensures.value at c.in_err-read_after.ensures in
+    let read = rw c.as_slice.ensures.value at c.in_err-read_after.ensures.is in
     let fault : fault_in (entries_of c.args.arch c.args.bytes.now) ≡ Some c.in_err-read_after.field-0.0 =
     sym c.loop-places.invariant.fault ∙ refused c.args.arch c.args.bytes.now c.loop-places.places.items (reader_cursor c.loop-places.rest) (piece c.in-Some.cut) (reader_cursor c.next_cut.new.rest) c.in_err-read_after.field-0.0 cut_read read in
     rw (p.1, p.2) (inr (fault_is _ _ fault))
@@ -38,7 +39,7 @@ returns-in_err-read_after-clause-exact c =
 pub loop-places-preserved : goal.loop-places-preserved
 loop-places-preserved c =
     let cut_read = rw c.in-Some.is at c.in_ok-cut.ensures.exact in
-    let read = rw c.as_slice.ensures.value at c.in_ok-read_after.ensures in
+    let read = rw c.as_slice.ensures.value at c.in_ok-read_after.ensures.is in
     let cut : Stands (reader_cursor c.loop-places.rest) (piece c.in-Some.cut) (reader_cursor c.next_cut.new.rest) = cut_is (reader_cursor c.loop-places.rest) (piece c.in-Some.cut) (reader_cursor c.next_cut.new.rest) cut_read in
     let place : c.in-Some.cut.place ≡ c.loop-places.rest.part.place = ap (λ (q : Piece). q.place) cut.piece in
     let end : c.next_cut.new.rest.part.place ≡ c.loop-places.rest.part.place + (4 + cut.len) = ap (λ (at : Cursor). at.place) cut.behind in
@@ -48,6 +49,7 @@ loop-places-preserved c =
     record {
       fault = rw noted (sym (goes_on c.args.arch c.args.bytes.now c.loop-places.places.items (reader_cursor c.loop-places.rest) (piece c.in-Some.cut) (reader_cursor c.next_cut.new.rest) _ cut_read read) ∙ c.loop-places.invariant.fault);
       rising = subst IsRising (sym noted) (rising_with (c.in-Some.cut.id == 0) c.loop-places.places.items c.in-Some.cut.place c.loop-places.invariant.rising before);
+      kept = c.in_ok-read_after.ensures.kept;
       before = subst (IsBefore c.next_cut.new.rest.part.place) (sym noted) (before_with (c.in-Some.cut.id == 0) c.loop-places.places.items c.in-Some.cut.place c.next_cut.new.rest.part.place before further);
     }
 

@@ -4,7 +4,7 @@ use Rattle.cfa_insn.specs.Listing.{listing}
 use Rattle.cfa_insn.specs.Remaining.{items_left}
 use Rattle.cfa_machine.specs.Columns.{no_columns}
 use Rattle.cfa_machine.specs.Pass.{defined_by}
-use Rattle.cfa_machine.proofs.table.initial_row.Given as goal
+use Rattle.cfa_machine.proofs.initial.initial_row.Given as goal
 
 abbrev pub invariant-loop-item : goal.invariant-loop-item
 invariant-loop-item l = record {

@@ -1,0 +1,60 @@
+-- The rows of a function that are still to come, where they are made one after the other.
+use Rattle.std.specs.Prelude.{◌≡◌, ◌+◌, ℕ, Bool, true, false, List, [], ◌∷◌, length, Option, Some, None, Result, Ok, Err}
+use Rattle.cfa_insn.specs.Remaining.{items_left}
+use Rattle.cfa_machine.specs.declared.columns.Columns.{Columns}
+use Rattle.cfa_machine.specs.declared.fault.MachineFault.{MachineFault}
+use Rattle.cfa_machine.specs.declared.row.DwRow.{DwRow}
+use Rattle.cfa_machine.specs.declared.runner.Runner.{Runner}
+use Rattle.cfa_machine.specs.Columns.{row_from}
+use Rattle.cfa_machine.specs.Pass.{◌>>=◌, state, rows_from}
+
+-- the rows that come, or the fault that will
+abbrev pub unless_over : Bool → Result (List DwRow) MachineFault → Result (List DwRow) MachineFault
+unless_over true rows = Ok []
+unless_over false rows = rows
+
+abbrev pub rows_left : Runner → Result (List DwRow) MachineFault
+rows_left r = unless_over r.over (rows_from r.setup r.factor (state r.machine) (items_left r.insns))
+
+-- how many steps are left at most
+abbrev pub steps_if : Bool → ℕ → ℕ
+steps_if true n = 0
+steps_if false n = n + 1
+
+abbrev pub steps_left : Runner → ℕ
+steps_left r = steps_if r.over (length (items_left r.insns))
+
+-- the columns of the row that was given last
+abbrev pub present : Runner → Columns
+present r = r.machine.columns
+
+-- no row starts there or above
+abbrev pub limit : Runner → ℕ
+limit r = r.setup.size
+
+-- after the row that starts there, whose columns are these
+abbrev pub behind_row : ℕ → Columns → Result (List DwRow) MachineFault → Result (List DwRow) MachineFault
+behind_row start c after = after >>= λ rows. Ok (row_from start c ∷ rows)
+
+-- what a call answered is the next row, or that the instructions are over, or their fault
+abbrev pub Reaches : Columns → Result (Option ℕ) MachineFault → (before after end : Result (List DwRow) MachineFault) → Type 0
+Reaches c (Ok (Some start)) before after end = before ≡ behind_row start c after
+Reaches c (Ok None) before after end = before ≡ end
+Reaches c (Err e) before after end = before ≡ Err e
+
+-- what a call answered is the next row, or that there is none, or the fault
+abbrev pub Follows : Columns → Result (Option ℕ) MachineFault → (before after : Result (List DwRow) MachineFault) → Type 0
+Follows c (Ok (Some start)) before after = before ≡ behind_row start c after
+Follows c (Ok None) before after = before ≡ Ok []
+Follows c (Err e) before after = before ≡ Err e
+
+-- where a row was given, this holds
+abbrev pub OnRow : Result (Option ℕ) MachineFault → (ℕ → Type 0) → Type 0
+OnRow (Ok (Some start)) P = P start
+OnRow (Ok None) P = Unit {0}
+OnRow (Err e) P = Unit {0}
+
+-- what a start answered
+abbrev pub Begins : {U : Type 0} → Runner → Result U MachineFault → Result (List DwRow) MachineFault → Type 0
+Begins new (Ok u) given = rows_left new ≡ given
+Begins new (Err e) given = given ≡ Err e

@@ -1,0 +1,136 @@
+//! The rows of a function one by one, each made when it is asked for.
+
+ghost use Rattle.std.specs.Prelude.{◌≡◌, ◌<◌, [], Ok, OnOk, length};
+ghost use Rattle.sf_bytes.specs.Cursor.{cursor};
+ghost use Rattle.cfa_insn.specs.Listing.{listing};
+ghost use Rattle.cfa_insn.specs.Remaining.{items_left};
+ghost use Rattle.cfa_machine.specs.Left.{Begins, Follows, OnRow, Reaches, limit, present, rows_left, steps_left};
+ghost use Rattle.cfa_machine.specs.Pass.{in_front, last_row, rows_by, rows_from, state};
+
+use crate::columns::{Columns, empty_columns};
+use crate::fault::MachineFault;
+use crate::initial::Initial;
+use crate::machine::{Machine, Setup};
+use cfa_insn::Insns;
+use sf_bytes::Part;
+use sf_model::Arch;
+
+/// Gives the rows of a function by rising start, and allocates nothing. It can be started again for the next
+/// function, and keeps the initial row of the common information entry.
+#[derive(Debug, Drop)]
+pub struct Runner<'a> {
+    machine: Machine,
+    setup: Setup,
+    factor: i64,
+    insns: Insns<'a>,
+    over: bool,
+    kept: Option<Initial<'a>>,
+}
+
+// Runs instructions up to the next row, whose start it gives, or to their end.
+#[inline(always)]
+fn next_start(
+    machine: &mut Machine,
+    setup: &Setup,
+    factor: i64,
+    insns: &mut Insns<'_>,
+) -> Result<Option<u64>, MachineFault>
+    ensures reaches { Reaches machine.new.columns result (rows_from setup.now factor (state machine.old) (items_left insns.old)) (rows_from setup.now factor (state machine.new) (items_left insns.new)) (Ok (in_front (last_row setup.now.size (state machine.new)) [])) }
+    ensures fewer { OnRow result (λ start. length (items_left insns.new) < length (items_left insns.old)) }
+    ensures below { OnRow result (λ start. start < setup.now.size) }
+{
+    while let Some(item) = insns.next() {
+        if let Some(start) = machine.step(setup, factor, item)? {
+            return Ok(Some(start));
+        }
+    }
+    Ok(None)
+}
+
+impl<'a> Runner<'a> {
+    /// The runner before any function.
+    pub fn new() -> Runner<'a>
+        ensures { rows_left result ≡ Ok [] }
+    {
+        let initial = empty_columns();
+        Runner {
+            machine: Machine::new(initial),
+            setup: Setup {
+                arch: Arch::Amd64,
+                code: 0,
+                size: 0,
+                initial,
+            },
+            factor: 0,
+            insns: Insns::new(Part::new(&[], 0)),
+            over: true,
+            kept: None,
+        }
+    }
+
+    /// Begins the rows of a function, with the arguments of [`rows`](crate::rows).
+    ///
+    /// # Errors
+    ///
+    /// The first fault of the common information entry's instructions.
+    pub fn start(
+        &mut self,
+        arch: Arch,
+        code: u64,
+        factor: i64,
+        cie: Part<'a>,
+        fde: Part<'a>,
+        size: u64,
+    ) -> Result<(), MachineFault>
+        ensures exact { Begins self.new result (rows_by arch code factor size (listing (cursor cie.entry)) (listing (cursor fde.entry))) }
+        ensures limit { OnOk result (limit self.new ≡ size) }
+    {
+        let initial = Initial::row(&mut self.kept, arch, factor, cie)?;
+        self.machine.restart(initial);
+        self.setup = Setup {
+            arch,
+            code,
+            size,
+            initial,
+        };
+        self.factor = factor;
+        self.insns = Insns::new(fde);
+        self.over = false;
+        Ok(())
+    }
+
+    /// The start of the next row, or none after the last. [`columns`](Runner::columns) has its columns.
+    ///
+    /// # Errors
+    ///
+    /// The first fault of the function's own instructions.
+    #[inline(always)]
+    pub fn next_row(&mut self) -> Result<Option<u64>, MachineFault>
+        ensures follows { Follows (present self.new) result (rows_left self.old) (rows_left self.new) }
+        ensures fewer { OnRow result (λ start. steps_left self.new < steps_left self.old) }
+        ensures below { OnRow result (λ start. start < limit self.old) }
+        ensures limit { limit self.new ≡ limit self.old }
+    {
+        if self.over {
+            return Ok(None);
+        }
+        if let Some(start) = next_start(
+            &mut self.machine,
+            &self.setup,
+            self.factor,
+            &mut self.insns,
+        )? {
+            return Ok(Some(start));
+        }
+        self.over = true;
+        Ok(self.machine.last(self.setup.size))
+    }
+
+    /// The columns of the row whose start was returned last.
+    #[inline(always)]
+    pub fn columns(&self) -> &Columns
+        ensures { result.now ≡ present self.now }
+    {
+        &self.machine.columns
+    }
+}

@@ -1,0 +1,15 @@
+use Rattle.std.proofs.Common.{◌≡◌, None}
+use Rattle.cfa_machine.specs.Left.{limit, rows_left, steps_left}
+use Rattle.sf_express.specs.Expressed.{expressed_rows}
+use Rattle.sf_express.specs.Run.{on_rows}
+use Rattle.sf_express.proofs.Running.{kept_and_left}
+use Rattle.sf_express.proofs.run.run_rows.Given as goal
+
+abbrev pub invariant-loop-kept : goal.invariant-loop-kept
+invariant-loop-kept l = record {
+  same : kept_and_left l.arch l.kept l.last (rows_left l.run) ≡ on_rows (expressed_rows l.arch None) (rows_left l.initial.run);
+  limit : limit l.run ≡ limit l.initial.run;
+}
+
+abbrev pub decreases-loop-kept : goal.decreases-loop-kept
+decreases-loop-kept l = steps_left l.run
