@@ -1,0 +1,186 @@
+#!/usr/bin/env python3
+"""Proves the crates of crates.txt and runs the program, with a line for each crate as it is done.
+
+    demo/build.py LOG [WORD ..]     the words are those of the program's run
+
+Crates that don't stand on each other are proved side by side. `rt` keeps all other runs out of the folders below the crate that it
+proves, so each library is proved in a copy of these folders, over the libraries that are ready; its own out/ is moved there and back.
+"""
+
+import collections
+import functools
+import os
+import re
+import shutil
+import signal
+import subprocess
+import sys
+import time
+
+TOP = os.path.dirname(os.path.dirname(os.path.abspath(__file__)))
+ROOMS = f"{TOP}/demo/out/rooms"
+# What a check has been seen to take, in bytes: its first process, and each further one.
+FIRST, FURTHER = 2.5e9, 1.5e9
+
+
+def crates():
+    """The crates below each crate of crates.txt, lowest first."""
+    used = {}
+    with open(f"{TOP}/crates.txt", encoding="utf-8") as file:
+        for line in file:
+            name, colon, below = line.partition("#")[0].partition(":")
+            if colon:
+                used[name.split()[0]] = below.split()
+
+    @functools.lru_cache(maxsize=None)
+    def below(name):
+        return set().union(*({it} | below(it) for it in used[name] if it in used))
+
+    found = {name: below(name) for name in used}
+    return dict(sorted(found.items(), key=lambda it: len(it[1])))
+
+
+def files(name):
+    """The files of a crate that its proof reads."""
+    for part in ("src", "specs", "proofs"):
+        for folder, _, names in os.walk(f"{TOP}/crates/{name}/{part}"):
+            yield from (f"{folder}/{it}" for it in names)
+
+
+def lines(name):
+    return sum(open(it, "rb").read().count(b"\n") for it in files(name))
+
+
+def is_program(name):
+    return os.path.isfile(f"{TOP}/crates/{name}/src/main.rt")
+
+
+def free_memory():
+    with open("/proc/meminfo", encoding="ascii") as file:
+        return 1024 * int(re.search(r"MemAvailable: *(\d+)", file.read())[1])
+
+
+def link(file, to):
+    try:
+        os.link(file, to)
+    except OSError:
+        shutil.copy2(file, to)
+
+
+def copy(name, to, parts):
+    for part in parts:
+        if os.path.isdir(f"{TOP}/crates/{name}/{part}"):
+            by = link if part == "out/rlib" else shutil.copy2
+            shutil.copytree(f"{TOP}/crates/{name}/{part}", f"{to}/{name}/{part}", copy_function=by)
+
+
+class Proof:
+    """The run of `rt` that proves a crate: a library in a room of its own, the program where it stands."""
+
+    def __init__(self, name, below, jobs, words):
+        self.name, self.jobs, self.began = name, jobs, time.monotonic()
+        self.out, self.room = f"{TOP}/crates/{name}/out", None
+        folder, command = f"{TOP}/crates/{name}", ["run", "--jobs", str(jobs), "--", *words]
+        if not is_program(name):
+            self.room = f"{ROOMS}/{name}"
+            folder, command = f"{self.room}/crates/{name}", ["lib", "--jobs", str(jobs)]
+            for it in below:
+                copy(it, f"{self.room}/crates", ("src", "specs", "proofs", "out/rlib"))
+            copy(name, f"{self.room}/crates", ("src", "specs", "proofs"))
+            self.list_crates([*below, name])
+            if os.path.isdir(self.out):
+                os.rename(self.out, f"{folder}/out")
+        self.said = open(f"{ROOMS}/{name}.log", "w+", encoding="utf-8", errors="replace")
+        self.process = subprocess.Popen(["rt", *command], cwd=folder, stdout=self.said, stderr=subprocess.STDOUT)
+
+    def list_crates(self, names):
+        with open(f"{TOP}/crates.txt", encoding="utf-8") as file, open(f"{self.room}/crates.txt", "w", encoding="utf-8") as to:
+            to.writelines(it for it in file if re.split("[ :]", it)[0] in names)
+
+    def memory(self):
+        return FIRST + (self.jobs - 1) * FURTHER
+
+    def leave(self):
+        """Ends the run, and gives the crate what was made."""
+        if self.process.poll() is None:
+            self.process.terminate()
+            self.process.wait()
+        if self.room:
+            if os.path.isdir(f"{self.room}/crates/{self.name}/out"):
+                os.rename(f"{self.room}/crates/{self.name}/out", self.out)
+            shutil.rmtree(self.room, ignore_errors=True)
+
+    def end(self, log):
+        """Returns the number of functions that were proved, or none where `rt` failed."""
+        self.said.seek(0)
+        said = self.said.read().replace(self.room or TOP, TOP)
+        print(f"== {self.name}\n{said}", end="", file=log, flush=True)
+        self.leave()
+        functions = re.findall(r"(?m)^logic=proved .*?functions=(\d+)", said)
+        return None if self.process.returncode else int(functions[-1]) if functions else 0
+
+
+def prove(all_below, words, log):
+    """Proves the crates: of those that wait for none, the ones with the longest chain of others above them first."""
+    behind = collections.Counter()
+    for name in reversed(all_below):
+        behind[name] += lines(name)
+        for it in all_below[name]:
+            behind[it] = max(behind[it], behind[name])
+    left, done, running, functions = sorted(all_below, key=lambda it: -behind[it]), set(), [], 0
+    processors, memory, began = len(os.sched_getaffinity(0)), free_memory(), time.monotonic()
+    try:
+        while left or running:
+            ready = [it for it in left if done.issuperset(all_below[it])]
+            for at, name in enumerate(ready):
+                idle = processors - sum(it.jobs for it in running)
+                room = memory - sum(it.memory() for it in running)
+                if running and (idle < 1 or room < FIRST):
+                    break
+                # A crate gets the processors that no other one waits for.
+                jobs = min(4, idle // (len(ready) - at), 1 + int((room - FIRST) / FURTHER))
+                left.remove(name)
+                running.append(Proof(name, all_below[name], max(1, jobs), words))
+            time.sleep(0.1)
+            for proof in [it for it in running if it.process.poll() is not None]:
+                proved = proof.end(log)
+                if proved is None:
+                    return proof.name
+                running.remove(proof)
+                done.add(proof.name)
+                functions += proved
+                number = f"{len(done):{len(str(len(all_below)))}}/{len(all_below)}"
+                what = f"{proved:4} functions {clock(proof.began)}" if proved else "kept from an earlier run"
+                print(f"   [{number}] {proof.name:14} {what}", flush=True)
+    finally:
+        for proof in running:
+            proof.leave()
+    if functions:
+        print(f"   {functions} functions were proved in {clock(began).strip()} minutes.")
+    return None
+
+
+def clock(began):
+    took = round(time.monotonic() - began)
+    return f"{took // 60:3}:{took % 60:02}"
+
+
+def main(to, *words):
+    shutil.rmtree(ROOMS, ignore_errors=True)
+    os.makedirs(ROOMS)
+    try:
+        with open(to, "w", encoding="utf-8") as log:
+            failed = prove(crates(), words, log)
+        if failed:
+            print(f"   {failed} failed; its last lines:", file=sys.stderr)
+            with open(f"{ROOMS}/{failed}.log", encoding="utf-8", errors="replace") as said:
+                sys.stderr.writelines(said.readlines()[-20:])
+    finally:
+        shutil.rmtree(ROOMS, ignore_errors=True)
+    return 1 if failed else 0
+
+
+if __name__ == "__main__":
+    for number in (signal.SIGINT, signal.SIGTERM, signal.SIGHUP):
+        signal.signal(number, lambda number, _: sys.exit(128 + number))
+    sys.exit(main(*sys.argv[1:]))
