@@ -1,3 +1,4 @@
+pub mod Seen
 pub mod Told
 pub mod Faults
 pub mod Contents

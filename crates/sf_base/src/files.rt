@@ -1,6 +1,7 @@
 // The files of the outside, as a program sees them.
 ghost use Rattle.std.specs.Prelude.{◌≡◌, ◌<◌, ◌≤◌, ℕ, Bool, false, List, [], Option, length, take, is_ok, IsTrue, IfOk, IfSome, OnOk, OnErr};
 ghost use Rattle.sf_base.specs.Contents.{contents_of, Unchanged, Holds, Grows, Moves};
+ghost use Rattle.sf_base.specs.Seen.{FilesSeen, OnlyReads};
 ghost use Rattle.sf_base.specs.Faults.{Cause};
 
 use crate::Failed;
@@ -9,15 +10,8 @@ use crate::Failed;
 ///
 /// An implementation may tell what its files hold, or nothing. What it says holds whether it tells or not.
 pub trait Files {
-    /// What all names hold, where it is told: pairs of a name's bytes and a file's bytes. The first pair of a
-    /// name counts, and a name that is not in the list counts as an empty file.
-    ghost contents: { Self → Option (List (List ℕ × List ℕ)) };
-
-    /// Whether a file is created.
-    ghost created: { Self → Bool };
-
-    /// The name of the created file. It is read only where contents are told and a file is created.
-    ghost created_name: { Self → List ℕ };
+    /// What the files hold, which one is created, and how many calls have failed.
+    ghost seen: { Self → FilesSeen };
 
     /// Whether a file is opened.
     ghost opened: { Self → Bool };
@@ -31,12 +25,6 @@ pub trait Files {
     /// Whether a name may be created. No call changes it.
     ghost may_create: { Self → List ℕ → Bool };
 
-    /// How many opens and reads have failed.
-    ghost read_faults: { Self → ℕ };
-
-    /// How many creates and writes have failed.
-    ghost write_faults: { Self → ℕ };
-
     /// Opens a file for reading, from its start. The file that was opened before is closed.
     ///
     /// # Errors
@@ -45,15 +33,12 @@ pub trait Files {
     fn open_file(&mut self, name: &str) -> Result<(), Failed>
         requires { IsTrue (may_open self.old name.now) }
         ensures opened { opened self.new ≡ is_ok result }
-        ensures rest { OnOk result (IfSome (contents self.new) (λ files.
+        ensures rest { OnOk result (IfSome ((seen self.new).contents) (λ files.
             rest self.new ≡ contents_of files name.now)) }
-        ensures contents { contents self.new ≡ contents self.old }
-        ensures created { created self.new ≡ created self.old }
-        ensures created_name { created_name self.new ≡ created_name self.old }
         ensures may_open { may_open self.new ≡ may_open self.old }
         ensures may_create { may_create self.new ≡ may_create self.old }
-        ensures cause { Cause (read_faults self.old) (read_faults self.new) result }
-        ensures write_faults { write_faults self.new ≡ write_faults self.old };
+        ensures cause { Cause ((seen self.old).read_faults) ((seen self.new).read_faults) result }
+        ensures reads { OnlyReads (seen self.old) (seen self.new) };
 
     /// Moves the next bytes of the opened file to the front of `buf`, and answers how many.
     /// 0 says that the file is at its end.
@@ -65,16 +50,13 @@ pub trait Files {
         requires opened { IsTrue (opened self.old) }
         requires room { 0 < length buf.old }
         ensures within { IfOk result (λ n. n ≤ length buf.old) }
-        ensures moves { IfOk result (λ n. IfSome (contents self.old) (λ _.
+        ensures moves { IfOk result (λ n. IfSome ((seen self.old).contents) (λ _.
             Moves n (rest self.old) (rest self.new) buf.new)) }
         ensures opened { opened self.new ≡ is_ok result }
-        ensures contents { contents self.new ≡ contents self.old }
-        ensures created { created self.new ≡ created self.old }
-        ensures created_name { created_name self.new ≡ created_name self.old }
         ensures may_open { may_open self.new ≡ may_open self.old }
         ensures may_create { may_create self.new ≡ may_create self.old }
-        ensures cause { Cause (read_faults self.old) (read_faults self.new) result }
-        ensures write_faults { write_faults self.new ≡ write_faults self.old };
+        ensures cause { Cause ((seen self.old).read_faults) ((seen self.new).read_faults) result }
+        ensures reads { OnlyReads (seen self.old) (seen self.new) };
 
     /// Makes the file of this name empty, and takes it for writing. No file is opened after it.
     ///
@@ -83,16 +65,16 @@ pub trait Files {
     /// `Failed` where the file cannot be made. No file is created then.
     fn create_file(&mut self, name: &str) -> Result<(), Failed>
         requires { IsTrue (may_create self.old name.now) }
-        ensures created { created self.new ≡ is_ok result }
-        ensures created_name { OnOk result (IfSome (contents self.new) (λ _.
-            created_name self.new ≡ name.now)) }
-        ensures holds { OnOk result (Holds (contents self.old) (contents self.new) name.now []) }
-        ensures unchanged { OnErr result (Unchanged (contents self.old) (contents self.new)) }
+        ensures created { (seen self.new).created ≡ is_ok result }
+        ensures created_name { OnOk result (IfSome ((seen self.new).contents) (λ _.
+            (seen self.new).created_name ≡ name.now)) }
+        ensures holds { OnOk result (Holds ((seen self.old).contents) ((seen self.new).contents) name.now []) }
+        ensures unchanged { OnErr result (Unchanged ((seen self.old).contents) ((seen self.new).contents)) }
         ensures opened { opened self.new ≡ false }
         ensures may_open { may_open self.new ≡ may_open self.old }
         ensures may_create { may_create self.new ≡ may_create self.old }
-        ensures cause { Cause (write_faults self.old) (write_faults self.new) result }
-        ensures read_faults { read_faults self.new ≡ read_faults self.old };
+        ensures cause { Cause ((seen self.old).write_faults) ((seen self.new).write_faults) result }
+        ensures read_faults { (seen self.new).read_faults ≡ (seen self.old).read_faults };
 
     /// Appends the first bytes of `piece` to the created file, one or more, and answers how many.
     /// No file is opened after it.
@@ -101,17 +83,17 @@ pub trait Files {
     ///
     /// `Failed` where the write failed. Nothing was appended then.
     fn write(&mut self, piece: &[u8]) -> Result<usize, Failed>
-        requires created { IsTrue (created self.old) }
+        requires created { IsTrue ((seen self.old).created) }
         requires some { 0 < length piece.now }
         ensures within { IfOk result (λ n. (1 ≤ n) × (n ≤ length piece.now)) }
         ensures grows { IfOk result (λ n.
-            Grows (contents self.old) (contents self.new) (created_name self.old) (take n piece.now)) }
-        ensures unchanged { OnErr result (Unchanged (contents self.old) (contents self.new)) }
-        ensures created { created self.new ≡ created self.old }
-        ensures created_name { created_name self.new ≡ created_name self.old }
+            Grows ((seen self.old).contents) ((seen self.new).contents) ((seen self.old).created_name) (take n piece.now)) }
+        ensures unchanged { OnErr result (Unchanged ((seen self.old).contents) ((seen self.new).contents)) }
+        ensures created { (seen self.new).created ≡ (seen self.old).created }
+        ensures created_name { (seen self.new).created_name ≡ (seen self.old).created_name }
         ensures opened { opened self.new ≡ false }
         ensures may_open { may_open self.new ≡ may_open self.old }
         ensures may_create { may_create self.new ≡ may_create self.old }
-        ensures cause { Cause (write_faults self.old) (write_faults self.new) result }
-        ensures read_faults { read_faults self.new ≡ read_faults self.old };
+        ensures cause { Cause ((seen self.old).write_faults) ((seen self.new).write_faults) result }
+        ensures read_faults { (seen self.new).read_faults ≡ (seen self.old).read_faults };
 }

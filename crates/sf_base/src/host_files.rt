@@ -21,9 +21,9 @@ impl<'a, R: rt::Files> HostFiles<'a, R> {
     /// The files of this runtime, of which none is opened or created and no fault is counted.
     pub fn new(runtime: &'a R) -> HostFiles<'a, R>
         ensures opened { ⟦<HostFiles<'a, R> as Files>⟧.opened result ≡ false }
-        ensures created { ⟦<HostFiles<'a, R> as Files>⟧.created result ≡ false }
-        ensures read_faults { ⟦<HostFiles<'a, R> as Files>⟧.read_faults result ≡ 0 }
-        ensures write_faults { ⟦<HostFiles<'a, R> as Files>⟧.write_faults result ≡ 0 }
+        ensures created { (⟦<HostFiles<'a, R> as Files>⟧.seen result).created ≡ false }
+        ensures read_faults { (⟦<HostFiles<'a, R> as Files>⟧.seen result).read_faults ≡ 0 }
+        ensures write_faults { (⟦<HostFiles<'a, R> as Files>⟧.seen result).write_faults ≡ 0 }
     {
         HostFiles {
             runtime,
@@ -36,11 +36,7 @@ impl<'a, R: rt::Files> HostFiles<'a, R> {
 }
 
 impl<'a, R: rt::Files> Files for HostFiles<'a, R> {
-    ghost contents = { λ _. None };
-
-    ghost created = { λ files. is_some files.created };
-
-    ghost created_name = { λ _. [] };
+    ghost seen = { λ files. record { contents = None; created = is_some files.created; created_name = []; read_faults = files.read_faults; write_faults = files.write_faults } };
 
     ghost opened = { λ files. is_some files.opened };
 
@@ -49,10 +45,6 @@ impl<'a, R: rt::Files> Files for HostFiles<'a, R> {
     ghost may_open = { λ _ _. true };
 
     ghost may_create = { λ _ _. true };
-
-    ghost read_faults = { λ files. files.read_faults };
-
-    ghost write_faults = { λ files. files.write_faults };
 
     fn open_file(&mut self, name: &str) -> Result<(), Failed> {
         match fs::open(self.runtime, name) {

@@ -17,16 +17,14 @@ impl<W: Write + Drop> HostSink<W> {
     /// The stream of this writer, with no fault counted.
     pub fn new(writer: W) -> HostSink<W>
         ensures writer { result.writer ≡ writer }
-        ensures faults { ⟦<HostSink<W> as Sink>⟧.faults result ≡ 0 }
+        ensures faults { (⟦<HostSink<W> as Sink>⟧.seen result).faults ≡ 0 }
     {
         HostSink { writer, faults: 0 }
     }
 }
 
 impl<W: Write + Drop> Sink for HostSink<W> {
-    ghost written = { λ _. None };
-
-    ghost faults = { λ sink. sink.faults };
+    ghost seen = { λ sink. record { written = None; faults = sink.faults } };
 
     fn write(&mut self, piece: &[u8]) -> Result<usize, Failed> {
         match self.writer.write(piece) {

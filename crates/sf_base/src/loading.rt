@@ -3,6 +3,7 @@ ghost use Rattle.std.specs.Prelude.{◌≡◌, ◌<◌, ◌≤◌, ◌++◌, ◌
 ghost use Rattle.sf_base.specs.Contents.{contents_of};
 ghost use Rattle.sf_base.specs.declared.loading.LoadFault.TheVariants.{Read, NoMemory};
 ghost use Rattle.sf_base.specs.Faults.{Rose};
+ghost use Rattle.sf_base.specs.Seen.{OnlyReads};
 
 use crate::{Failed, Files, NoMemory};
 use std::alloc::{AllocError, Global};
@@ -60,20 +61,17 @@ pub fn load<F: Files>(
 ) -> Result<Vec<u8>, LoadFault>
     requires { IsTrue (F.may_open files.old name.now) }
     ensures within { IfOk result (λ bytes. vec_len bytes ≤ limit) }
-    ensures bytes { IfOk result (λ bytes. IfSome (F.contents files.old) (λ told.
+    ensures bytes { IfOk result (λ bytes. IfSome ((F.seen files.old).contents) (λ told.
         bytes.items ≡ contents_of told name.now)) }
     ensures read { IsErrOf result LoadFault.Read →
-        Rose (F.read_faults files.old) (F.read_faults files.new) }
+        Rose ((F.seen files.old).read_faults) ((F.seen files.new).read_faults) }
     ensures too_long { (n : ℕ) → IsErrOf result (LoadFault.TooLong n) → n ≡ limit }
-    ensures longer { (n : ℕ) → IsErrOf result (LoadFault.TooLong n) → IfSome (F.contents files.old) (λ told.
+    ensures longer { (n : ℕ) → IsErrOf result (LoadFault.TooLong n) → IfSome ((F.seen files.old).contents) (λ told.
         limit < length (contents_of told name.now)) }
-    ensures contents { F.contents files.new ≡ F.contents files.old }
-    ensures created { F.created files.new ≡ F.created files.old }
-    ensures created_name { F.created_name files.new ≡ F.created_name files.old }
     ensures may_open { F.may_open files.new ≡ F.may_open files.old }
     ensures may_create { F.may_create files.new ≡ F.may_create files.old }
-    ensures read_faults { F.read_faults files.old ≤ F.read_faults files.new }
-    ensures write_faults { F.write_faults files.new ≡ F.write_faults files.old }
+    ensures reads { OnlyReads (F.seen files.old) (F.seen files.new) }
+    ensures same { OnOk result (F.seen files.new ≡ F.seen files.old) }
 {
     files.open_file(name)?;
     let mut bytes = Vec::new(alloc);
@@ -96,21 +94,18 @@ fn read_more<F: Files>(files: &mut F, bytes: &mut Vec<u8>, room: usize) -> Resul
     requires room { 0 < room }
     ensures len { IfOk result (λ n. vec_len bytes.new ≡ vec_len bytes.old + n) }
     ensures within { IfOk result (λ n. n ≤ room) }
-    ensures moved { OnOk result (IfSome (F.contents files.old) (λ _.
+    ensures moved { OnOk result (IfSome ((F.seen files.old).contents) (λ _.
         bytes.old.items ++ F.rest files.old ≡ bytes.new.items ++ F.rest files.new)) }
-    ensures end { IfOk result (λ n. IfSome (F.contents files.old) (λ _.
+    ensures end { IfOk result (λ n. IfSome ((F.seen files.old).contents) (λ _.
         n ≡ 0 → F.rest files.old ≡ [])) }
     ensures opened { OnOk result (IsTrue (F.opened files.new)) }
     ensures read { IsErrOf result LoadFault.Read →
-        Rose (F.read_faults files.old) (F.read_faults files.new) }
+        Rose ((F.seen files.old).read_faults) ((F.seen files.new).read_faults) }
     ensures not_long { (n : ℕ) → IsErrOf result (LoadFault.TooLong n) → ⊥ }
-    ensures contents { F.contents files.new ≡ F.contents files.old }
-    ensures created { F.created files.new ≡ F.created files.old }
-    ensures created_name { F.created_name files.new ≡ F.created_name files.old }
     ensures may_open { F.may_open files.new ≡ F.may_open files.old }
     ensures may_create { F.may_create files.new ≡ F.may_create files.old }
-    ensures read_faults { F.read_faults files.old ≤ F.read_faults files.new }
-    ensures write_faults { F.write_faults files.new ≡ F.write_faults files.old }
+    ensures reads { OnlyReads (F.seen files.old) (F.seen files.new) }
+    ensures same { OnOk result (F.seen files.new ≡ F.seen files.old) }
 {
     let filled = bytes.len();
     let end = filled.checked_add(room).ok_or(NoMemory)?;

@@ -36,11 +36,11 @@ impl MemFiles {
     /// counted together from 1, and those with a number in `fails` are to fail.
     pub fn new(alloc: Global, most: usize, fails: Vec<u64>) -> MemFiles
         requires { 0 < most }
-        ensures contents { ⟦<MemFiles as Files>⟧.contents result ≡ Some [] }
-        ensures created { ⟦<MemFiles as Files>⟧.created result ≡ false }
+        ensures contents { (⟦<MemFiles as Files>⟧.seen result).contents ≡ Some [] }
+        ensures created { (⟦<MemFiles as Files>⟧.seen result).created ≡ false }
         ensures opened { ⟦<MemFiles as Files>⟧.opened result ≡ false }
-        ensures read_faults { ⟦<MemFiles as Files>⟧.read_faults result ≡ 0 }
-        ensures write_faults { ⟦<MemFiles as Files>⟧.write_faults result ≡ 0 }
+        ensures read_faults { (⟦<MemFiles as Files>⟧.seen result).read_faults ≡ 0 }
+        ensures write_faults { (⟦<MemFiles as Files>⟧.seen result).write_faults ≡ 0 }
         ensures most { result.most ≡ most }
         ensures made { result.calls.made ≡ 0 }
         ensures fails { result.calls.fails.items ≡ fails.items }
@@ -64,14 +64,14 @@ impl MemFiles {
     /// `NoMemory`. Nothing is changed then, and no file is closed.
     pub fn put(&mut self, name: &str, bytes: Vec<u8>) -> Result<(), NoMemory>
         ensures ok { OnOk result (Holds
-            (⟦<MemFiles as Files>⟧.contents self.old) (⟦<MemFiles as Files>⟧.contents self.new) name.now bytes.items) }
+            ((⟦<MemFiles as Files>⟧.seen self.old).contents) ((⟦<MemFiles as Files>⟧.seen self.new).contents) name.now bytes.items) }
         ensures names { OnOk result (
             AddsName name.now (pairs_of self.old.files.items) (pairs_of self.new.files.items)) }
         ensures closed { self.new.opened ≡ (if is_ok result then None else self.old.opened) }
         ensures err { OnErr result (
-            ⟦<MemFiles as Files>⟧.contents self.new ≡ ⟦<MemFiles as Files>⟧.contents self.old) }
+            (⟦<MemFiles as Files>⟧.seen self.new).contents ≡ (⟦<MemFiles as Files>⟧.seen self.old).contents) }
         ensures created { self.new.created ≡ self.old.created }
-        ensures created_name { ⟦<MemFiles as Files>⟧.created_name self.new ≡ ⟦<MemFiles as Files>⟧.created_name self.old }
+        ensures created_name { (⟦<MemFiles as Files>⟧.seen self.new).created_name ≡ (⟦<MemFiles as Files>⟧.seen self.old).created_name }
         ensures read_faults { self.new.read_faults ≡ self.old.read_faults }
         ensures write_faults { self.new.write_faults ≡ self.old.write_faults }
         ensures made { self.new.calls.made ≡ self.old.calls.made }
@@ -94,11 +94,7 @@ impl MemFiles {
 }
 
 impl Files for MemFiles {
-    ghost contents = { λ files. Some (pairs_of files.files.items) };
-
-    ghost created = { λ files. is_some files.created };
-
-    ghost created_name = { λ files. name_of (pairs_of files.files.items) files.created };
+    ghost seen = { λ files. record { contents = Some (pairs_of files.files.items); created = is_some files.created; created_name = name_of (pairs_of files.files.items) files.created; read_faults = files.read_faults; write_faults = files.write_faults } };
 
     ghost opened = { λ files. is_some files.opened };
 
@@ -107,10 +103,6 @@ impl Files for MemFiles {
     ghost may_open = { λ _ _. true };
 
     ghost may_create = { λ _ _. true };
-
-    ghost read_faults = { λ files. files.read_faults };
-
-    ghost write_faults = { λ files. files.write_faults };
 
     fn open_file(&mut self, name: &str) -> Result<(), Failed>
         // It fails at a listed call and for a name that isn't there, and at no other.

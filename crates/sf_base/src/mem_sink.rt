@@ -24,8 +24,8 @@ impl MemSink {
     /// `fails` are to fail; the first write is number 1.
     pub fn new(alloc: Global, most: usize, fails: Vec<u64>) -> MemSink
         requires { 0 < most }
-        ensures written { ⟦<MemSink as Sink>⟧.written result ≡ Some [] }
-        ensures faults { ⟦<MemSink as Sink>⟧.faults result ≡ 0 }
+        ensures written { (⟦<MemSink as Sink>⟧.seen result).written ≡ Some [] }
+        ensures faults { (⟦<MemSink as Sink>⟧.seen result).faults ≡ 0 }
         ensures most { result.most ≡ most }
         ensures made { result.calls.made ≡ 0 }
         ensures fails { result.calls.fails.items ≡ fails.items }
@@ -40,16 +40,14 @@ impl MemSink {
 
     /// All the bytes that were written.
     pub fn bytes(&self) -> &[u8]
-        ensures { ⟦<MemSink as Sink>⟧.written self.now ≡ Some result.now }
+        ensures { (⟦<MemSink as Sink>⟧.seen self.now).written ≡ Some result.now }
     {
         &self.bytes
     }
 }
 
 impl Sink for MemSink {
-    ghost written = { λ sink. Some sink.bytes.items };
-
-    ghost faults = { λ sink. sink.faults };
+    ghost seen = { λ sink. record { written = Some sink.bytes.items; faults = sink.faults } };
 
     fn write(&mut self, piece: &[u8]) -> Result<usize, Failed>
         ensures listed { IsListed self.old.calls.fails.items self.old.calls.made → IsErr result }

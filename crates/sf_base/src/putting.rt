@@ -12,9 +12,9 @@ use crate::{Failed, Files, Sink};
 ///
 /// `Failed` where a write of the sink failed. A prefix of the bytes was appended then.
 pub fn put_all<S: Sink>(sink: &mut S, bytes: &[u8]) -> Result<(), Failed>
-    ensures all { OnOk result (Appends (S.written sink.old) (S.written sink.new) bytes.now) }
-    ensures prefix { OnErr result (AppendsPrefix (S.written sink.old) (S.written sink.new) bytes.now) }
-    ensures cause { Cause (S.faults sink.old) (S.faults sink.new) result }
+    ensures all { OnOk result (Appends ((S.seen sink.old).written) ((S.seen sink.new).written) bytes.now) }
+    ensures prefix { OnErr result (AppendsPrefix ((S.seen sink.old).written) ((S.seen sink.new).written) bytes.now) }
+    ensures cause { Cause ((S.seen sink.old).faults) ((S.seen sink.new).faults) result }
 {
     let mut done = 0;
     while done < bytes.len() {
@@ -29,19 +29,19 @@ pub fn put_all<S: Sink>(sink: &mut S, bytes: &[u8]) -> Result<(), Failed>
 ///
 /// `Failed` where a write failed. A prefix of the bytes was appended then.
 pub fn put_file<F: Files>(files: &mut F, bytes: &[u8]) -> Result<(), Failed>
-    requires { IsTrue (F.created files.old) }
+    requires { IsTrue ((F.seen files.old).created) }
     ensures all { OnOk result (
-        Grows (F.contents files.old) (F.contents files.new) (F.created_name files.old) bytes.now) }
+        Grows ((F.seen files.old).contents) ((F.seen files.new).contents) ((F.seen files.old).created_name) bytes.now) }
     ensures prefix { OnErr result (
-        GrowsByPrefix (F.contents files.old) (F.contents files.new) (F.created_name files.old) bytes.now) }
-    ensures cause { Cause (F.write_faults files.old) (F.write_faults files.new) result }
-    ensures created { F.created files.new ≡ F.created files.old }
-    ensures created_name { F.created_name files.new ≡ F.created_name files.old }
+        GrowsByPrefix ((F.seen files.old).contents) ((F.seen files.new).contents) ((F.seen files.old).created_name) bytes.now) }
+    ensures cause { Cause ((F.seen files.old).write_faults) ((F.seen files.new).write_faults) result }
+    ensures created { (F.seen files.new).created ≡ (F.seen files.old).created }
+    ensures created_name { (F.seen files.new).created_name ≡ (F.seen files.old).created_name }
     // With no bytes nothing is called.
     ensures opened { F.opened files.new ≡ (if length bytes.now == 0 then F.opened files.old else false) }
     ensures may_open { F.may_open files.new ≡ F.may_open files.old }
     ensures may_create { F.may_create files.new ≡ F.may_create files.old }
-    ensures read_faults { F.read_faults files.new ≡ F.read_faults files.old }
+    ensures read_faults { (F.seen files.new).read_faults ≡ (F.seen files.old).read_faults }
 {
     let mut done = 0;
     while done < bytes.len() {

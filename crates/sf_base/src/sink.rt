@@ -1,17 +1,15 @@
 // Where a program's text goes.
 ghost use Rattle.std.specs.Prelude.{◌<◌, ◌≤◌, ℕ, List, Option, length, take, IfOk, OnErr};
 ghost use Rattle.sf_base.specs.Written.{Appends, Kept};
+ghost use Rattle.sf_base.specs.Seen.{SinkSeen};
 ghost use Rattle.sf_base.specs.Faults.{Cause};
 
 use crate::Failed;
 
 /// A stream of bytes that are only ever appended.
 pub trait Sink {
-    /// All the bytes that were written, where it is told.
-    ghost written: { Self → Option (List ℕ) };
-
-    /// How many writes have failed.
-    ghost faults: { Self → ℕ };
+    /// What was written, and how many writes have failed.
+    ghost seen: { Self → SinkSeen };
 
     /// Appends the first bytes of `piece`, one or more, and answers how many.
     ///
@@ -21,7 +19,7 @@ pub trait Sink {
     fn write(&mut self, piece: &[u8]) -> Result<usize, Failed>
         requires { 0 < length piece.now }
         ensures within { IfOk result (λ n. (1 ≤ n) × (n ≤ length piece.now)) }
-        ensures appends { IfOk result (λ n. Appends (written self.old) (written self.new) (take n piece.now)) }
-        ensures kept { OnErr result (Kept (written self.old) (written self.new)) }
-        ensures cause { Cause (faults self.old) (faults self.new) result };
+        ensures appends { IfOk result (λ n. Appends ((seen self.old).written) ((seen self.new).written) (take n piece.now)) }
+        ensures kept { OnErr result (Kept ((seen self.old).written) ((seen self.new).written)) }
+        ensures cause { Cause ((seen self.old).faults) ((seen self.new).faults) result };
 }

@@ -23,8 +23,8 @@ pub struct SureFiles<'a> {
 impl<'a> SureFiles<'a> {
     /// The files of this list, of which the first pair with a name counts. None is opened or created.
     pub fn new(names: &'a [(String, Vec<u8>)]) -> SureFiles<'a>
-        ensures contents { ⟦<SureFiles<'a> as Files>⟧.contents result ≡ Some (pairs_of names.now) }
-        ensures created { ⟦<SureFiles<'a> as Files>⟧.created result ≡ false }
+        ensures contents { (⟦<SureFiles<'a> as Files>⟧.seen result).contents ≡ Some (pairs_of names.now) }
+        ensures created { (⟦<SureFiles<'a> as Files>⟧.seen result).created ≡ false }
         ensures opened { ⟦<SureFiles<'a> as Files>⟧.opened result ≡ false }
         ensures count { result.count ≡ 0 }
     {
@@ -45,11 +45,7 @@ impl<'a> SureFiles<'a> {
 }
 
 impl<'a> Files for SureFiles<'a> {
-    ghost contents = { λ files. told_until files.created (pairs_of files.names.now) };
-
-    ghost created = { λ files. files.created };
-
-    ghost created_name = { λ _. [] };
+    ghost seen = { λ files. record { contents = told_until files.created (pairs_of files.names.now); created = files.created; created_name = []; read_faults = 0; write_faults = 0 } };
 
     ghost opened = { λ files. is_some files.rest };
 
@@ -58,10 +54,6 @@ impl<'a> Files for SureFiles<'a> {
     ghost may_open = { λ _ _. true };
 
     ghost may_create = { λ _ _. true };
-
-    ghost read_faults = { λ _. 0 };
-
-    ghost write_faults = { λ _. 0 };
 
     fn open_file(&mut self, name: &str) -> Result<(), Failed> {
         self.rest = Some(bytes_of(self.names, name));

@@ -26,9 +26,7 @@ impl SureSink {
 }
 
 impl Sink for SureSink {
-    ghost written = { λ _. None };
-
-    ghost faults = { λ _. 0 };
+    ghost seen = { λ _. record { written = None; faults = 0 } };
 
     fn write(&mut self, piece: &[u8]) -> Result<usize, Failed>
         ensures all { result ≡ Ok (length piece.now) }

@@ -1,6 +1,7 @@
 //! The section of several inputs.
 
 ghost use Rattle.std.specs.Prelude.{◌≤◌, ◌<◌, ◌^◌, All, length, map, IfOk, IfErr, IsTrue};
+ghost use Rattle.sf_model.specs.Section.{AreBytes};
 ghost use Rattle.sf_asm.specs.Answers.{IsFirstLinked, IsLinked};
 ghost use Rattle.sf_asm.specs.Fault.{is_answered};
 ghost use Rattle.sf_asm.specs.Functions.{object_of};
@@ -31,6 +32,7 @@ pub fn link(
     requires small { All (λ input. length input.bytes.now < 2 ^ 32) inputs.now }
     // The section is that of the inputs' kept functions, and these were left out.
     ensures linked { IfOk result (λ linked. IsLinked before (map object_of inputs.now) at linked.section.items linked.kept linked.omitted.items) }
+    ensures are_bytes { IfOk result (λ linked. AreBytes linked.section.items) }
     // A fault is the first one.
     ensures fault { IfErr result (IsFirstLinked before (map object_of inputs.now) at) }
     ensures answered { IfErr result (λ fault. IsTrue (is_answered fault)) }

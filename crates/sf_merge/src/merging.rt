@@ -3,6 +3,7 @@
 ghost use Rattle.std.specs.Prelude.{◌≡◌, ◌<◌, ◌≤◌, map, length, IfOk, IfErr};
 ghost use Rattle.sf_model.specs.Union.{is_of_use};
 ghost use Rattle.sf_decode.specs.View.{table_of};
+ghost use Rattle.sf_model.specs.Section.{AreBytes};
 ghost use Rattle.sf_merge.specs.Answers.{IsMerged, IsFirstFault};
 ghost use Rattle.sf_merge.specs.Merging.{written};
 
@@ -50,6 +51,7 @@ pub fn merge(alloc: Global, views: &[View<'_>], at: u64) -> Result<Vec<u8>, Merg
     requires few { length views.now ≤ 512 }
     // The section is that of the union.
     ensures merged { IfOk result (λ section. IsMerged (map table_of views.now) at section.items) }
+    ensures are_bytes { IfOk result (λ section. AreBytes section.items) }
     // A fault is the first one.
     ensures fault { IfErr result (IsFirstFault (map table_of views.now) at) }
 {

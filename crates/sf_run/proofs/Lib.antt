@@ -1,10 +1,2 @@
 pub mod Pieces
-pub mod AtSigns
-pub mod NamedWords
-pub mod Loads
-pub mod Endings
-pub mod Completeness
-pub mod ShownSections
-pub mod Linked
-pub mod Merged
-pub mod AskedFor
+pub mod Runs

@@ -1,124 +1,164 @@
--- How a run ends: for each status what files and sinks then hold, and which line was told.
-use Rattle.std.specs.Prelude.{◌≡◌, ◌⊎◌, ℕ, Bool, List, Contains, Option, None, IfSome}
+-- How a run of a command ends: for each status what files and streams then hold, and which line was said.
+use Rattle.std.specs.Prelude.{◌≡◌, ◌⊎◌, ℕ, List, [], Contains, Option, Some, None, IfSome, IsTrue}
 use Rattle.sf_base.specs.Contents.{Unchanged, Holds, HoldsPrefix}
 use Rattle.sf_base.specs.Faults.{Rose}
+use Rattle.sf_base.specs.Seen.{FilesSeen, SinkSeen, OnlyReads}
 use Rattle.sf_base.specs.Written.{Appends, AppendsPrefix}
 use Rattle.sf_model.specs.declared.notice.Notice.{Notice}
+use Rattle.sf_model.specs.Notice.{HasLine}
+use Rattle.sf_model.specs.Told.{told_by}
 use Rattle.sf_text.specs.FaultLine.{fault_text}
-use Rattle.sf_run.specs.declared.refusal.Limit.{Limit}
-use Rattle.sf_run.specs.declared.refusal.Refusal.{Refusal}
-use Rattle.sf_run.specs.declared.refusal.Refusal.TheVariants as refusal
+use Rattle.sf_items.specs.declared.refusal.Limit.{Limit}
+use Rattle.sf_items.specs.declared.refusal.Limit.TheVariants.{Inputs}
+use Rattle.sf_items.specs.declared.refusal.Refusal.{Refusal}
+use Rattle.sf_items.specs.declared.refusal.Refusal.TheVariants as refusal
+use Rattle.sf_items.specs.Loading.{AreBytesOf, Contents, bytes_known}
+use Rattle.sf_words.specs.Items.{item_names, items_of}
+use Rattle.sf_words.specs.Words.{CommandWords, out_name}
+use Rattle.sf_make.specs.declared.made.Outcome.{Outcome}
+use Rattle.sf_make.specs.declared.made.Outcome.TheVariants as outcome
+use Rattle.sf_make.specs.Comes.{Comes, RefusesNothing}
+use Rattle.sf_make.specs.Coming.{Coming, Refused, Exceeded, Makes}
+use Rattle.sf_make.specs.Making.{ComesAs}
 use Rattle.sf_run.specs.declared.status.Status.{Status}
 use Rattle.sf_run.specs.declared.status.Status.TheVariants as status
-use Rattle.sf_run.specs.First.{First, IsMade, IsRefused, IsExceeded}
-use Rattle.sf_run.specs.Loading.{bytes_told}
-use Rattle.sf_run.specs.Words.{LinkWords, input_names}
-use Rattle.sf_run.specs.Lines.{read_line, write_file_line, write_output_line, memory_line, limit_line}
+use Rattle.sf_run.specs.Lines.{Says, read_line, write_file_line, write_output_line, memory_line, limit_line}
+use Rattle.sf_run.specs.Status.{status_for, status_of}
 
--- what is seen of files: what they hold where it is told, whether one is created, and the counts of faults
-pub record FilesSeen : Type 0 where
-  pub contents : Option (List (List ℕ × List ℕ))
-  pub created : Bool
-  pub read_faults : ℕ
-  pub write_faults : ℕ
+-- what is seen of the outside
+pub record Seen : Type 0 where
+  pub files : FilesSeen
+  pub out : SinkSeen
+  pub err : SinkSeen
 
--- what is seen of a sink: what was written where it is told, and the count of faults
-pub record SinkSeen : Type 0 where
-  pub written : Option (List ℕ)
-  pub faults : ℕ
+abbrev pub seen : FilesSeen → (out err : SinkSeen) → Seen
+seen files out err = record { files = files; out = out; err = err }
 
-abbrev pub files_seen : {F : Type 0} → (F → Option (List (List ℕ × List ℕ))) → (F → Bool) → (F → ℕ) → (F → ℕ) → F → FilesSeen
-files_seen contents created read_faults write_faults files =
-    record { contents = contents files; created = created files; read_faults = read_faults files; write_faults = write_faults files }
+-- the command comes to this over the bytes of its items, which are those that its files hold, where that is known
+pub record RunComes (command : CommandWords) (contents : Contents) (coming : Coming) : Type 0 where
+  pub items : List (List ℕ)
+  pub bytes : AreBytesOf contents (items_of command) items
+  pub comes : Comes command items coming
 
-abbrev pub sink_seen : {S : Type 0} → (S → Option (List ℕ)) → (S → ℕ) → S → SinkSeen
-sink_seen written faults sink = record { written = written sink; faults = faults sink }
+-- Files were read alone: none was created or changed. Nothing went to the output, and the errors got this line.
+pub record TurnedAway (before after : Seen) (line : List ℕ) : Type 0 where
+  pub files : OnlyReads before.files after.files
+  pub output : after.out ≡ before.out
+  pub says : Says before.err after.err line
 
--- the sink got the line, or a prefix of it where its count of faults rose
-abbrev pub Says : SinkSeen → SinkSeen → List ℕ → Type 0
-Says before after text = Appends before.written after.written text ⊎ (AppendsPrefix before.written after.written text × Rose before.faults after.faults)
+-- the section is in the file of this name, which is the created one; no other name changed, and no call failed
+pub record StoredIn (name section : List ℕ) (before after : FilesSeen) : Type 0 where
+  pub holds : Holds before.contents after.contents name section
+  pub created : IsTrue after.created
+  pub named : IfSome after.contents (λ _. after.created_name ≡ name)
+  pub read_faults : after.read_faults ≡ before.read_faults
+  pub write_faults : after.write_faults ≡ before.write_faults
 
--- No file was created or changed and nothing went to the output. The errors got this line.
-pub record IsTurnedAway (files files' : FilesSeen) (out out' err err' : SinkSeen) (text : List ℕ) : Type 0 where
-  pub contents : files'.contents ≡ files.contents
-  pub created : files'.created ≡ files.created
-  pub write_faults : files'.write_faults ≡ files.write_faults
-  pub output : out' ≡ out
-  pub says : Says err err' text
+-- the section is stored in the command's file; without either all that is seen of files is as before
+abbrev pub Stored : (file section : Option (List ℕ)) → (before after : FilesSeen) → Type 0
+Stored (Some name) (Some section) before after = StoredIn name section before after
+Stored (Some name) None before after = after ≡ before
+Stored None section before after = after ≡ before
 
--- the section stands in its file, the text was printed, and no other name changed
-pub record IsDone (out_file : List ℕ) (files files' : FilesSeen) (out out' err err' : SinkSeen) (section text : List ℕ) : Type 0 where
-  pub file : Holds files.contents files'.contents out_file section
-  pub output : Appends out.written out'.written text
-  pub errors : err' ≡ err
+-- the section is stored, the text was printed, and nothing went to the errors: no call failed
+pub record Written (file section : Option (List ℕ)) (text : List ℕ) (before after : Seen) : Type 0 where
+  pub stored : Stored file section before.files after.files
+  pub output : Appends before.out.written after.out.written text
+  pub faults : after.out.faults ≡ before.out.faults
+  pub errors : after.err ≡ before.err
 
--- The section's file could not be made or written whole: it is as before, or holds a prefix of the section.
-pub record FileFails (out_file : List ℕ) (files files' : FilesSeen) (out out' err err' : SinkSeen) (section : List ℕ) : Type 0 where
-  pub file : Unchanged files.contents files'.contents ⊎ HoldsPrefix files.contents files'.contents out_file section
-  pub cause : Rose files.write_faults files'.write_faults
-  pub output : out' ≡ out
-  pub says : Says err err' (write_file_line out_file)
+-- the section is stored, and a prefix of the text was printed, since the output failed
+pub record OutputFailed (file section : Option (List ℕ)) (text : List ℕ) (before after : Seen) : Type 0 where
+  pub stored : Stored file section before.files after.files
+  pub output : AppendsPrefix before.out.written after.out.written text
+  pub cause : Rose before.out.faults after.out.faults
+  pub says : Says before.err after.err write_output_line
 
--- the section stands in its file, and a prefix of the text was printed
-pub record OutputFails (out_file : List ℕ) (files files' : FilesSeen) (out out' err err' : SinkSeen) (section text : List ℕ) : Type 0 where
-  pub file : Holds files.contents files'.contents out_file section
-  pub output : AppendsPrefix out.written out'.written text
-  pub cause : Rose out.faults out'.faults
-  pub says : Says err err' write_output_line
+-- what the command's file holds that could not be made or written whole: what it held before, or a prefix of the section
+abbrev pub StoredPart : (file section : Option (List ℕ)) → (before after : FilesSeen) → Type 0
+StoredPart (Some name) (Some section) before after = Unchanged before.contents after.contents ⊎ HoldsPrefix before.contents after.contents name section
+StoredPart (Some name) None before after = ⊥
+StoredPart None section before after = ⊥
 
--- a section and a text were made, and this was left of them
-pub record WasMade (Made Left : (section text : List ℕ) → Type 0) : Type 0 where
-  pub section : List ℕ
+-- the line of a file that could not be written
+abbrev pub file_line : Option (List ℕ) → List ℕ
+file_line (Some name) = write_file_line name
+file_line None = []
+
+-- the file could not be made or written whole
+pub record FileFailed (file section : Option (List ℕ)) (before after : Seen) : Type 0 where
+  pub stored : StoredPart file section before.files after.files
+  pub cause : Rose before.files.write_faults after.files.write_faults
+  pub output : after.out ≡ before.out
+  pub says : Says before.err after.err (file_line file)
+
+-- the run comes to a section or none and a text with this outcome, and this is left of them
+pub record Leaves (command : CommandWords) (contents : Contents) (outcome : Outcome) (Left : (section : Option (List ℕ)) → (text : List ℕ) → Type 0) : Type 0 where
+  pub section : Option (List ℕ)
   pub text : List ℕ
-  pub made : Made section text
+  pub comes : RunComes command contents (Makes outcome section text)
   pub left : Left section text
 
--- how a run ends with each status that makes a section in this file of the items of these names: what is made, which notices it may refuse
--- with, and which limits it may name
-abbrev pub MakingEnds : Status → (out_file : List ℕ) → (names : List (List ℕ)) → (Made : (section text : List ℕ) → Type 0) → (Refused : Notice → Type 0)
-    → (Exceeded : Limit → Type 0) → FilesSeen → FilesSeen → SinkSeen → SinkSeen → SinkSeen → SinkSeen → Type 0
-MakingEnds status.Done out_file names Made Refused Exceeded files files' out out' err err' =
-    WasMade Made (λ section text. IsDone out_file files files' out out' err err' section text)
-MakingEnds status.No out_file names Made Refused Exceeded files files' out out' err err' = ⊥
-MakingEnds status.Usage out_file names Made Refused Exceeded files files' out out' err err' = ⊥
-MakingEnds status.Read out_file names Made Refused Exceeded files files' out out' err err' =
-    (name : List ℕ) × Contains names name × IsTurnedAway files files' out out' err err' (read_line name) × Rose files.read_faults files'.read_faults
-MakingEnds status.Write out_file names Made Refused Exceeded files files' out out' err err' =
-    WasMade Made (λ section text. FileFails out_file files files' out out' err err' section ⊎ OutputFails out_file files files' out out' err err' section text)
-MakingEnds status.Refused out_file names Made Refused Exceeded files files' out out' err err' =
-    (notice : Notice) × Refused notice × IsTurnedAway files files' out out' err err' (fault_text notice)
-MakingEnds status.Memory out_file names Made Refused Exceeded files files' out out' err err' = IsTurnedAway files files' out out' err err' memory_line
-MakingEnds status.Limit out_file names Made Refused Exceeded files files' out out' err err' =
-    (limit : Limit) × Exceeded limit × IsTurnedAway files files' out out' err err' (limit_line limit)
+-- how a run of a command ends with each status
+abbrev pub RunEnds : Status → CommandWords → (before after : Seen) → Type 0
+RunEnds status.Done command before after =
+    Leaves command before.files.contents outcome.Done (λ section text. Written (out_name command) section text before after)
+RunEnds status.No command before after =
+    Leaves command before.files.contents outcome.No (λ section text. Written (out_name command) section text before after)
+RunEnds status.Usage command before after = ⊥
+RunEnds status.Read command before after =
+    (name : List ℕ) × Contains (item_names command) name × TurnedAway before after (read_line name) × Rose before.files.read_faults after.files.read_faults
+RunEnds status.Write command before after =
+    (made : Outcome) × Leaves command before.files.contents made (λ section text.
+    FileFailed (out_name command) section before after ⊎ OutputFailed (out_name command) section text before after)
+RunEnds status.Refused command before after =
+    (notice : Notice) × HasLine notice × RunComes command before.files.contents (Refused (told_by notice)) × TurnedAway before after (fault_text notice)
+RunEnds status.Memory command before after = TurnedAway before after memory_line
+RunEnds status.Limit command before after =
+    (limit : Limit) × RunComes command before.files.contents (Exceeded limit) × TurnedAway before after (limit_line limit)
 
--- how a run of `link` ends with each status
-abbrev pub Ends : Status → LinkWords → FilesSeen → FilesSeen → SinkSeen → SinkSeen → SinkSeen → SinkSeen → Type 0
-Ends answer link files files' out out' err err' =
-    MakingEnds answer link.out.name (input_names link.inputs) (IsMade link files.contents) (IsRefused link files.contents) (IsExceeded link files.contents)
-    files files' out out' err err'
+-- the run ends with `limit inputs`, and no file was opened
+pub record TurnedAwayUnread (answer : Status) (before after : Seen) : Type 0 where
+  pub limit : answer ≡ status.Limit
+  pub unread : after.files ≡ before.files
+  pub turned : TurnedAway before after (limit_line Inputs)
 
 -- no open, read, create or write failed, of the files and of the output
-pub record IsUnfaulted (files files' : FilesSeen) (out out' : SinkSeen) : Type 0 where
-  pub reads : Rose files.read_faults files'.read_faults → ⊥
-  pub writes : Rose files.write_faults files'.write_faults → ⊥
-  pub output : Rose out.faults out'.faults → ⊥
+pub record NoneFailed (before after : Seen) : Type 0 where
+  pub reads : Rose before.files.read_faults after.files.read_faults → ⊥
+  pub writes : Rose before.files.write_faults after.files.write_faults → ⊥
+  pub output : Rose before.out.faults after.out.faults → ⊥
 
--- Where the contents are told and nothing is refused, a run in which no call failed is done, unless memory was wanting.
-abbrev pub IsComplete : Status → LinkWords → FilesSeen → FilesSeen → SinkSeen → SinkSeen → Type 0
-IsComplete answer link files files' out out' =
-    IfSome files.contents (λ told. First link (bytes_told told (input_names link.inputs)) None → IsUnfaulted files files' out out'
-    → (answer ≡ status.Done) ⊎ (answer ≡ status.Memory))
+-- the status is that of what the command comes to; and where nothing is refused, the run made something; unless memory ran out
+pub record AnswersFor (answer : Status) (command : CommandWords) (items : List (List ℕ)) : Type 0 where
+  pub comes : (coming : Coming) → Comes command items coming → (answer ≡ status_of coming) ⊎ (answer ≡ status.Memory)
+  pub accepted : RefusesNothing command items → (answer ≡ status.Done) ⊎ ((answer ≡ status.No) ⊎ (answer ≡ status.Memory))
 
--- what a run leaves that has made this section and this text
-abbrev pub Delivers : Status → (out_file : List ℕ) → FilesSeen → FilesSeen → SinkSeen → SinkSeen → SinkSeen → SinkSeen → (section text : List ℕ) → Type 0
-Delivers status.Done out_file files files' out out' err err' section text = IsDone out_file files files' out out' err err' section text
-Delivers status.Write out_file files files' out out' err err' section text =
-    FileFails out_file files files' out out' err err' section ⊎ OutputFails out_file files files' out out' err err' section text
-Delivers answer out_file files files' out out' err err' section text = ⊥
+-- where the contents are known and no call failed, the run answers for the bytes that the files hold
+abbrev pub RunIsComplete : Status → CommandWords → (before after : Seen) → Type 0
+RunIsComplete answer command before after =
+    IfSome before.files.contents (λ known. NoneFailed before after → AnswersFor answer command (bytes_known known (items_of command)))
+
+-- ---- refusals and deliveries
+-- why a run makes nothing: an item could not be read, or a refusal is what the run comes to, or memory ran out
+abbrev pub RunRefuses : CommandWords → Contents → Refusal → Type 0
+RunRefuses command contents (refusal.Read name) = Contains (item_names command) name.now
+RunRefuses command contents refused = ComesAs (RunComes command contents) refused
+
+-- a refused item has a line
+abbrev pub CanBeSaid : Refusal → Type 0
+CanBeSaid (refusal.Input notice) = HasLine notice
+CanBeSaid refused = Unit {0}
 
 -- the status and the line of a refusal
-abbrev pub Tells : Refusal → Status → SinkSeen → SinkSeen → Type 0
-Tells (refusal.Read name) answer err err' = (answer ≡ status.Read) × Says err err' (read_line name.now)
-Tells refusal.Memory answer err err' = (answer ≡ status.Memory) × Says err err' memory_line
-Tells (refusal.Limit limit) answer err err' = (answer ≡ status.Limit) × Says err err' (limit_line limit)
-Tells (refusal.Input notice) answer err err' = (answer ≡ status.Refused) × Says err err' (fault_text notice)
+abbrev pub Tells : Refusal → Status → (before after : SinkSeen) → Type 0
+Tells (refusal.Read name) answer before after = (answer ≡ status.Read) × Says before after (read_line name.now)
+Tells refusal.Memory answer before after = (answer ≡ status.Memory) × Says before after memory_line
+Tells (refusal.Limit limit) answer before after = (answer ≡ status.Limit) × Says before after (limit_line limit)
+Tells (refusal.Input notice) answer before after = (answer ≡ status.Refused) × Says before after (fault_text notice)
+
+-- what delivering leaves of what was made with this outcome
+abbrev pub Delivered : Status → (made : Outcome) → (file section : Option (List ℕ)) → (text : List ℕ) → (before after : Seen) → Type 0
+Delivered answer made file section text before after =
+    ((answer ≡ status_for made) × Written file section text before after)
+    ⊎ ((answer ≡ status.Write) × (FileFailed file section before after ⊎ OutputFailed file section text before after))

@@ -1,11 +1,3 @@
-pub mod Words
-pub mod Parsed
-pub mod Lines
-pub mod Loading
-pub mod First
-pub mod Refused
 pub mod Ends
+pub mod Lines
 pub mod Status
-pub mod Sections
-pub mod Merging
-pub mod Showing

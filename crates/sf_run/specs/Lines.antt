@@ -1,8 +1,11 @@
 -- The lines on the error sink.
-use Rattle.std.specs.Prelude.{ℕ, List, [], ◌∷◌, ◌++◌, codes}
+use Rattle.std.specs.Prelude.{◌⊎◌, ℕ, List, [], ◌∷◌, ◌++◌, codes}
+use Rattle.sf_base.specs.Faults.{Rose}
+use Rattle.sf_base.specs.Seen.{SinkSeen}
+use Rattle.sf_base.specs.Written.{Appends, AppendsPrefix}
 use Rattle.sf_text.specs.Merged.{file_limit_text}
-use Rattle.sf_run.specs.declared.refusal.Limit.{Limit}
-use Rattle.sf_run.specs.declared.refusal.Limit.TheVariants.{Inputs, File, Total, Functions, Rows}
+use Rattle.sf_items.specs.declared.refusal.Limit.{Limit}
+use Rattle.sf_items.specs.declared.refusal.Limit.TheVariants.{Inputs, File, Total, Functions, Rows}
 
 -- a text and a line feed
 abbrev pub line : List ℕ → List ℕ
@@ -35,3 +38,7 @@ limit_line (File item) = file_limit_text item
 limit_line Total = line (codes "limit total")
 limit_line Functions = line (codes "limit functions")
 limit_line Rows = line (codes "limit rows")
+
+-- the sink got the line, or a prefix of it where its count of faults rose
+abbrev pub Says : (before after : SinkSeen) → (line : List ℕ) → Type 0
+Says before after text = Appends before.written after.written text ⊎ (AppendsPrefix before.written after.written text × Rose before.faults after.faults)

@@ -1,5 +1,9 @@
 -- The exit status of a run.
 use Rattle.std.specs.Prelude.{ℕ}
+use Rattle.sf_make.specs.declared.made.Outcome.{Outcome}
+use Rattle.sf_make.specs.declared.made.Outcome.TheVariants as outcome
+use Rattle.sf_make.specs.Coming.{Coming}
+use Rattle.sf_make.specs.Coming as coming
 use Rattle.sf_run.specs.declared.status.Status.{Status}
 use Rattle.sf_run.specs.declared.status.Status.TheVariants.{Done, No, Usage, Read, Write, Refused, Memory, Limit}
 
@@ -12,3 +16,14 @@ status_code Write = 4
 status_code Refused = 5
 status_code Memory = 6
 status_code Limit = 7
+
+-- the status of a run that made something
+abbrev pub status_for : Outcome → Status
+status_for outcome.Done = Done
+status_for outcome.No = No
+
+-- the status of what a run comes to
+abbrev pub status_of : Coming → Status
+status_of (coming.Refused shown) = Refused
+status_of (coming.Exceeded limit) = Limit
+status_of (coming.Makes outcome section text) = status_for outcome

@@ -1,208 +1,99 @@
-//! One run of a command.
+//! One run of a command: its words, how many files they name, loading, making, and delivering.
 
-ghost use Rattle.std.specs.Prelude.{◌≡◌, ◌↔◌, ◌<◌, ◌≤◌, ℕ, List, All, map, length, IfSome, IsTrue};
+ghost use Rattle.std.specs.Prelude.{◌≡◌, ◌↔◌, ◌<◌, ◌≤◌, ℕ, List, All, map, length, IfOk, IfErr, IfSome, IsTrue, OnOk};
 ghost use Rattle.std.specs.String.{string_bytes};
-ghost use Rattle.sf_run.specs.Ends.{Ends, IsTurnedAway, Says, Tells, files_seen, sink_seen};
-ghost use Rattle.sf_run.specs.Lines.{limit_line, usage_line};
-ghost use Rattle.sf_run.specs.Loading.{IsTold};
-ghost use Rattle.sf_run.specs.Parsed.{AsksLink, AsksMerge, input_of, link_of, merge_of, section_of};
-ghost use Rattle.sf_run.specs.Showing.{CommandEnds, CommandIsComplete, MergeEnds, ShowEnds};
-ghost use Rattle.sf_run.specs.Words.{CommandWords, HasNoForm, IsCommand, LinkWords, MergeWords, input_names, item_names, out_name, section_names};
+ghost use Rattle.sf_base.specs.Faults.{Rose};
+ghost use Rattle.sf_base.specs.Seen.{OnlyReads};
+ghost use Rattle.sf_items.specs.Loading.{IsRead};
+ghost use Rattle.sf_words.specs.Items.{counted_items, item_names, items_of};
+ghost use Rattle.sf_words.specs.Parsed.{Asks, words_of};
+ghost use Rattle.sf_words.specs.Words.{CommandWords, HasNoForm, IsCommand, out_name};
+ghost use Rattle.sf_make.specs.Making.{coming_of};
+ghost use Rattle.sf_run.specs.Ends.{RunComes, RunEnds, RunIsComplete, RunRefuses, TurnedAway, TurnedAwayUnread, seen};
+ghost use Rattle.sf_run.specs.Lines.{usage_line};
 
 use crate::deliver::deliver;
 use crate::lines::say;
-use crate::link::make_link;
-use crate::loading::ITEM_COUNT;
-use crate::merge::make_merge;
-use crate::print::print;
-use crate::refusal::{Limit, Refusal};
-use crate::section::{Query, show};
 use crate::status::Status;
-use crate::words::{
-    Command, Link, LinkCommand, Merge, MergeCommand, SectionFile, command_words, inputs_of,
-    sections_of,
-};
-use sf_base::{Files, NoMemory, Sink};
-use sf_text::{fault_line, file_limit_line};
+use crate::tell::tell;
+use sf_base::{Files, Sink};
+use sf_items::{Limit, Refusal, load_all};
+use sf_make::{Made, make};
+use sf_words::{Asked, Command, command_words, items, read_words};
 use std::alloc::Global;
 
-/// Says which limit is exceeded.
-fn say_limit<E: Sink>(limit: Limit, err: &mut E)
-    ensures { Says (sink_seen E.written E.faults err.old) (sink_seen E.written E.faults err.new) (limit_line limit) }
-{
-    match limit {
-        Limit::Inputs => say(err, "limit ", "inputs"),
-        Limit::File(item) => {
-            let _ = file_limit_line(err, item);
-        }
-        Limit::Total => say(err, "limit ", "total"),
-        Limit::Functions => say(err, "limit ", "functions"),
-        Limit::Rows => say(err, "limit ", "rows"),
-    }
-}
+/// The most files that the list of a command names.
+const ITEM_COUNT: usize = 512;
 
-/// Says why nothing was made.
-fn tell<E: Sink>(refusal: &Refusal<'_>, err: &mut E) -> Status
-    requires { (names : List (List ℕ)) × IsTold names refusal.now }
-    ensures { Tells refusal.now result (sink_seen E.written E.faults err.old) (sink_seen E.written E.faults err.new) }
-{
-    match refusal {
-        Refusal::Read(name) => {
-            say(err, "read ", name);
-            Status::Read
-        }
-        Refusal::Memory => {
-            say(err, "memory", "");
-            Status::Memory
-        }
-        Refusal::Limit(limit) => {
-            say_limit(*limit, err);
-            Status::Limit
-        }
-        Refusal::Input(notice) => {
-            let _ = fault_line(err, notice);
-            Status::Refused
-        }
-    }
-}
-
-/// Links inputs, and writes the section and the report.
-fn run_inputs<F: Files, O: Sink, E: Sink>(
+/// Loads the items and makes what is asked for. Nothing is written.
+fn load_and_make<'a, F: Files>(
     alloc: Global,
-    link: &Link<'_, '_>,
+    asked: &Asked<'a>,
+    files: &mut F,
+) -> Result<Made, Refusal<'a>>
+    requires some { 0 < length (items_of (words_of asked.now)) }
+    requires few { counted_items (words_of asked.now) ≤ 512 }
+    requires open { All (λ name. IsTrue (F.may_open files.old name)) (item_names (words_of asked.now)) }
+    ensures made { IfOk result (λ made. RunComes (words_of asked.now) ((F.seen files.old).contents) (coming_of made)) }
+    ensures refused { IfErr result (RunRefuses (words_of asked.now) ((F.seen files.old).contents)) }
+    ensures read { IfErr result (λ refused. IsRead refused → Rose ((F.seen files.old).read_faults) ((F.seen files.new).read_faults)) }
+    ensures reads { OnlyReads (F.seen files.old) (F.seen files.new) }
+    ensures same { OnOk result (F.seen files.new ≡ F.seen files.old) }
+    ensures may_create { F.may_create files.new ≡ F.may_create files.old }
+{
+    let items = items(alloc, asked)?;
+    let loaded = load_all(alloc, &items, files)?;
+    make(alloc, asked, &loaded)
+}
+
+/// Reads the words of a command, loads its items and makes what is asked for. Nothing is written.
+fn read_and_make<'a, F: Files>(
+    alloc: Global,
+    command: &Command<'a>,
+    files: &mut F,
+) -> Result<Made, Refusal<'a>>
+    requires asked { (wanted : CommandWords) × Asks command.now wanted }
+    requires some { (wanted : CommandWords) → Asks command.now wanted → 0 < length (items_of wanted) }
+    requires few { (wanted : CommandWords) → Asks command.now wanted → counted_items wanted ≤ 512 }
+    requires open { (wanted : CommandWords) → Asks command.now wanted → All (λ name. IsTrue (F.may_open files.old name)) (item_names wanted) }
+    ensures made { (wanted : CommandWords) → Asks command.now wanted → IfOk result (λ made. RunComes wanted ((F.seen files.old).contents) (coming_of made)) }
+    ensures refused { (wanted : CommandWords) → Asks command.now wanted → IfErr result (RunRefuses wanted ((F.seen files.old).contents)) }
+    ensures read { IfErr result (λ refused. IsRead refused → Rose ((F.seen files.old).read_faults) ((F.seen files.new).read_faults)) }
+    ensures reads { OnlyReads (F.seen files.old) (F.seen files.new) }
+    ensures same { OnOk result (F.seen files.new ≡ F.seen files.old) }
+    ensures may_create { F.may_create files.new ≡ F.may_create files.old }
+{
+    let asked = read_words(alloc, command)?;
+    load_and_make(alloc, &asked, files)
+}
+
+/// Runs a command. Its files are counted before memory is taken and before one is opened.
+fn run_command<F: Files, O: Sink, E: Sink>(
+    alloc: Global,
+    command: &Command<'_>,
     files: &mut F,
     out: &mut O,
     err: &mut E,
 ) -> Status
-    requires some { 0 < length link.now.inputs.now }
-    requires few { length link.now.inputs.now ≤ 512 }
-    requires open { All (λ name. IsTrue (F.may_open files.old name)) (input_names (map input_of link.now.inputs.now)) }
-    requires create { IsTrue (F.may_create files.old link.now.out.name.now) }
-    ensures { Ends result (link_of link.now)
-        (files_seen F.contents F.created F.read_faults F.write_faults files.old)
-        (files_seen F.contents F.created F.read_faults F.write_faults files.new)
-        (sink_seen O.written O.faults out.old) (sink_seen O.written O.faults out.new)
-        (sink_seen E.written E.faults err.old) (sink_seen E.written E.faults err.new) }
+    requires asked { (wanted : CommandWords) × Asks command.now wanted }
+    requires some { (wanted : CommandWords) → Asks command.now wanted → 0 < length (items_of wanted) }
+    requires open { (wanted : CommandWords) → Asks command.now wanted → All (λ name. IsTrue (F.may_open files.old name)) (item_names wanted) }
+    requires create { (wanted : CommandWords) → Asks command.now wanted → IfSome (out_name wanted) (λ name. IsTrue (F.may_create files.old name)) }
+    ensures ends { (wanted : CommandWords) → Asks command.now wanted → RunEnds result wanted
+        (seen (F.seen files.old) (O.seen out.old) (E.seen err.old)) (seen (F.seen files.new) (O.seen out.new) (E.seen err.new)) }
+    ensures counted { (wanted : CommandWords) → Asks command.now wanted → 512 < counted_items wanted → TurnedAwayUnread result
+        (seen (F.seen files.old) (O.seen out.old) (E.seen err.old)) (seen (F.seen files.new) (O.seen out.new) (E.seen err.new)) }
 {
-    match make_link(alloc, link, files) {
-        Ok(made) => deliver(link.out.name, &made, files, out, err),
-        Err(refusal) => tell(&refusal, err),
-    }
-}
-
-/// Links what the words name.
-fn run_link<F: Files, O: Sink, E: Sink>(
-    alloc: Global,
-    command: &LinkCommand<'_>,
-    files: &mut F,
-    out: &mut O,
-    err: &mut E,
-) -> Status
-    requires some { 0 < length command.now.inputs.now }
-    requires asked { (link : LinkWords) × AsksLink command.now link }
-    requires open { (link : LinkWords) → AsksLink command.now link → All (λ name. IsTrue (F.may_open files.old name)) (input_names link.inputs) }
-    requires create { IsTrue (F.may_create files.old command.now.out.name.now) }
-    ensures { (link : LinkWords) → AsksLink command.now link → Ends result link
-        (files_seen F.contents F.created F.read_faults F.write_faults files.old)
-        (files_seen F.contents F.created F.read_faults F.write_faults files.new)
-        (sink_seen O.written O.faults out.old) (sink_seen O.written O.faults out.new)
-        (sink_seen E.written E.faults err.old) (sink_seen E.written E.faults err.new) }
-{
-    if command.inputs.len() > ITEM_COUNT {
+    if command.counted() > ITEM_COUNT {
         return tell(&Refusal::Limit(Limit::Inputs), err);
     }
-    match inputs_of(alloc, command.inputs) {
-        Ok(inputs) => {
-            let link = Link {
-                out: command.out,
-                inputs: &inputs,
-            };
-            run_inputs(alloc, &link, files, out, err)
-        }
-        Err(NoMemory) => tell(&Refusal::Memory, err),
-    }
-}
-
-/// Merges sections, and writes the merged one and its counts.
-fn run_sections<F: Files, O: Sink, E: Sink>(
-    alloc: Global,
-    merge: &Merge<'_, '_>,
-    files: &mut F,
-    out: &mut O,
-    err: &mut E,
-) -> Status
-    requires some { 0 < length merge.now.sections.now }
-    requires few { length merge.now.sections.now ≤ 512 }
-    requires open { All (λ name. IsTrue (F.may_open files.old name)) (section_names (map section_of merge.now.sections.now)) }
-    requires create { IsTrue (F.may_create files.old merge.now.out.name.now) }
-    ensures { MergeEnds result (merge_of merge.now)
-        (files_seen F.contents F.created F.read_faults F.write_faults files.old)
-        (files_seen F.contents F.created F.read_faults F.write_faults files.new)
-        (sink_seen O.written O.faults out.old) (sink_seen O.written O.faults out.new)
-        (sink_seen E.written E.faults err.old) (sink_seen E.written E.faults err.new) }
-{
-    match make_merge(alloc, merge, files) {
-        Ok(made) => deliver(merge.out.name, &made, files, out, err),
+    match read_and_make(alloc, command, files) {
+        Ok(made) => deliver(command.out_name(), &made, files, out, err),
         Err(refusal) => tell(&refusal, err),
     }
 }
 
-/// Merges what the words name.
-fn run_merge<F: Files, O: Sink, E: Sink>(
-    alloc: Global,
-    command: &MergeCommand<'_>,
-    files: &mut F,
-    out: &mut O,
-    err: &mut E,
-) -> Status
-    requires some { 0 < length command.now.sections.now }
-    requires asked { (merge : MergeWords) × AsksMerge command.now merge }
-    requires open { (merge : MergeWords) → AsksMerge command.now merge → All (λ name. IsTrue (F.may_open files.old name)) (section_names merge.sections) }
-    requires create { IsTrue (F.may_create files.old command.now.out.name.now) }
-    ensures { (merge : MergeWords) → AsksMerge command.now merge → MergeEnds result merge
-        (files_seen F.contents F.created F.read_faults F.write_faults files.old)
-        (files_seen F.contents F.created F.read_faults F.write_faults files.new)
-        (sink_seen O.written O.faults out.old) (sink_seen O.written O.faults out.new)
-        (sink_seen E.written E.faults err.old) (sink_seen E.written E.faults err.new) }
-{
-    if command.sections.len() > ITEM_COUNT {
-        return tell(&Refusal::Limit(Limit::Inputs), err);
-    }
-    match sections_of(alloc, command.sections) {
-        Ok(sections) => {
-            let merge = Merge {
-                out: command.out,
-                sections: &sections,
-            };
-            run_sections(alloc, &merge, files, out, err)
-        }
-        Err(NoMemory) => tell(&Refusal::Memory, err),
-    }
-}
-
-/// Shows what is asked of a section.
-fn run_show<F: Files, O: Sink, E: Sink>(
-    alloc: Global,
-    section: &SectionFile<'_>,
-    query: Query,
-    files: &mut F,
-    out: &mut O,
-    err: &mut E,
-) -> Status
-    requires { IsTrue (F.may_open files.old section.now.name.now) }
-    ensures { ShowEnds result (section_of section.now) query
-        (files_seen F.contents F.created F.read_faults F.write_faults files.old)
-        (files_seen F.contents F.created F.read_faults F.write_faults files.new)
-        (sink_seen O.written O.faults out.old) (sink_seen O.written O.faults out.new)
-        (sink_seen E.written E.faults err.old) (sink_seen E.written E.faults err.new) }
-{
-    match show(alloc, section, query, files) {
-        Ok(shown) => print(&shown, out, err),
-        Err(refusal) => tell(&refusal, err),
-    }
-}
-
-/// Runs the command that the words ask for, and answers how it ended. Nothing is opened or created but
+/// Runs the command that the words ask for, and returns how it ended. Nothing is opened or created but
 /// what the words name. On the statuses from 2 on one line goes to `err`, whose faults change nothing.
 pub fn run<F: Files, O: Sink, E: Sink>(
     alloc: Global,
@@ -214,31 +105,21 @@ pub fn run<F: Files, O: Sink, E: Sink>(
     requires open { (command : CommandWords) → IsCommand (map string_bytes words.now) command → All (λ name. IsTrue (F.may_open files.old name)) (item_names command) }
     requires create { (command : CommandWords) → IsCommand (map string_bytes words.now) command → IfSome (out_name command) (λ name. IsTrue (F.may_create files.old name)) }
     ensures usage { (result ≡ Status.Usage) ↔ HasNoForm (map string_bytes words.now) }
-    ensures turned_away { HasNoForm (map string_bytes words.now) → IsTurnedAway
-        (files_seen F.contents F.created F.read_faults F.write_faults files.old)
-        (files_seen F.contents F.created F.read_faults F.write_faults files.new)
-        (sink_seen O.written O.faults out.old) (sink_seen O.written O.faults out.new)
-        (sink_seen E.written E.faults err.old) (sink_seen E.written E.faults err.new) usage_line }
-    ensures ends { (command : CommandWords) → IsCommand (map string_bytes words.now) command → CommandEnds result command
-        (files_seen F.contents F.created F.read_faults F.write_faults files.old)
-        (files_seen F.contents F.created F.read_faults F.write_faults files.new)
-        (sink_seen O.written O.faults out.old) (sink_seen O.written O.faults out.new)
-        (sink_seen E.written E.faults err.old) (sink_seen E.written E.faults err.new) }
-    ensures complete { (command : CommandWords) → IsCommand (map string_bytes words.now) command → CommandIsComplete result command
-        (files_seen F.contents F.created F.read_faults F.write_faults files.old)
-        (files_seen F.contents F.created F.read_faults F.write_faults files.new)
-        (sink_seen O.written O.faults out.old) (sink_seen O.written O.faults out.new) }
+    ensures turned_away { HasNoForm (map string_bytes words.now) → TurnedAway
+        (seen (F.seen files.old) (O.seen out.old) (E.seen err.old)) (seen (F.seen files.new) (O.seen out.new) (E.seen err.new)) usage_line }
+    // More than 512 files: no file is read, and no memory is wanted.
+    ensures counted { (command : CommandWords) → IsCommand (map string_bytes words.now) command → 512 < counted_items command → TurnedAwayUnread result
+        (seen (F.seen files.old) (O.seen out.old) (E.seen err.old)) (seen (F.seen files.new) (O.seen out.new) (E.seen err.new)) }
+    // What each status says.
+    ensures ends { (command : CommandWords) → IsCommand (map string_bytes words.now) command → RunEnds result command
+        (seen (F.seen files.old) (O.seen out.old) (E.seen err.old)) (seen (F.seen files.new) (O.seen out.new) (E.seen err.new)) }
+    // Which status comes, where no call fails.
+    ensures complete { (command : CommandWords) → IsCommand (map string_bytes words.now) command → RunIsComplete result command
+        (seen (F.seen files.old) (O.seen out.old) (E.seen err.old)) (seen (F.seen files.new) (O.seen out.new) (E.seen err.new)) }
 {
     let Some(command) = command_words(words) else {
         say(err, "usage", "");
         return Status::Usage;
     };
-    match command {
-        Command::Link(link) => run_link(alloc, &link, files, out, err),
-        Command::Merge(merge) => run_merge(alloc, &merge, files, out, err),
-        Command::Dump(section) => run_show(alloc, &section, Query::Whole, files, out, err),
-        Command::Lookup(section, pc) => {
-            run_show(alloc, &section, Query::RowAt(pc), files, out, err)
-        }
-    }
+    run_command(alloc, &command, files, out, err)
 }

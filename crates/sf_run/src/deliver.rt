@@ -1,50 +1,78 @@
 //! What is made, written out: first the section, then the text.
 
-ghost use Rattle.std.specs.Prelude.{◌≡◌, ◌⊎◌, IsTrue, OnOk, OnErr};
-ghost use Rattle.sf_base.specs.Contents.{Unchanged, Holds, HoldsPrefix};
+ghost use Rattle.std.specs.Prelude.{◌≡◌, ◌⊎◌, IfSome, IsSome, IsTrue, OnOk, OnErr};
+ghost use Rattle.std.specs.Option.{option_map};
+ghost use Rattle.sf_base.specs.Contents.{Unchanged, HoldsPrefix};
 ghost use Rattle.sf_base.specs.Faults.{Cause};
-ghost use Rattle.sf_run.specs.Ends.{Delivers, files_seen, sink_seen};
+ghost use Rattle.sf_run.specs.Ends.{Delivered, Stored, StoredIn, StoredPart, file_line, seen};
+ghost use Rattle.sf_run.specs.Lines.{Says};
 
 use crate::lines::say;
-use crate::link::Made;
 use crate::status::Status;
 use sf_base::{Failed, Files, Sink, put_all, put_file};
+use sf_make::Made;
 
 /// Makes the file and writes the bytes.
 fn store<F: Files>(files: &mut F, name: &str, bytes: &[u8]) -> Result<(), Failed>
     requires { IsTrue (F.may_create files.old name.now) }
-    ensures whole { OnOk result (Holds (F.contents files.old) (F.contents files.new) name.now bytes.now) }
-    ensures part { OnErr result (Unchanged (F.contents files.old) (F.contents files.new) ⊎ HoldsPrefix (F.contents files.old) (F.contents files.new) name.now bytes.now) }
-    ensures cause { Cause (F.write_faults files.old) (F.write_faults files.new) result }
-    ensures read_faults { F.read_faults files.new ≡ F.read_faults files.old }
+    ensures whole { OnOk result (StoredIn name.now bytes.now (F.seen files.old) (F.seen files.new)) }
+    ensures part { OnErr result (Unchanged ((F.seen files.old).contents) ((F.seen files.new).contents) ⊎ HoldsPrefix ((F.seen files.old).contents) ((F.seen files.new).contents) name.now bytes.now) }
+    ensures cause { Cause ((F.seen files.old).write_faults) ((F.seen files.new).write_faults) result }
 {
     files.create_file(name)?;
     put_file(files, bytes)
 }
 
-/// Writes the section to its file and then the text to the output. Where one fails, a line says which.
+/// Stores the section, where one is made for a file.
+fn store_made<F: Files>(
+    files: &mut F,
+    file: Option<&str>,
+    section: &Option<Vec<u8>>,
+) -> Result<(), Failed>
+    requires { IfSome file (λ name. IsTrue (F.may_create files.old name.now)) }
+    ensures whole { OnOk result (Stored (option_map (λ name. name.now) file.entry) (option_map (λ v. v.items) section.now) (F.seen files.old) (F.seen files.new)) }
+    ensures part { OnErr result (StoredPart (option_map (λ name. name.now) file.entry) (option_map (λ v. v.items) section.now) (F.seen files.old) (F.seen files.new)) }
+    ensures cause { Cause ((F.seen files.old).write_faults) ((F.seen files.new).write_faults) result }
+{
+    let Some(name) = file else {
+        return Ok(());
+    };
+    match section {
+        Some(section) => store(files, name, section),
+        None => Ok(()),
+    }
+}
+
+/// Says that the file could not be written.
+fn say_file<E: Sink>(file: Option<&str>, err: &mut E)
+    requires { IsSome file }
+    ensures { Says (E.seen err.old) (E.seen err.new) (file_line (option_map (λ name. name.now) file.entry)) }
+{
+    if let Some(name) = file {
+        say(err, "write file ", name);
+    }
+}
+
+/// Writes the section to its file, where there is one, and then the text to the output. Where one fails, a line
+/// says which.
 pub fn deliver<F: Files, O: Sink, E: Sink>(
-    name: &str,
+    file: Option<&str>,
     made: &Made,
     files: &mut F,
     out: &mut O,
     err: &mut E,
 ) -> Status
-    requires { IsTrue (F.may_create files.old name.now) }
-    ensures { Delivers result name.now
-        (files_seen F.contents F.created F.read_faults F.write_faults files.old)
-        (files_seen F.contents F.created F.read_faults F.write_faults files.new)
-        (sink_seen O.written O.faults out.old) (sink_seen O.written O.faults out.new)
-        (sink_seen E.written E.faults err.old) (sink_seen E.written E.faults err.new)
-        made.now.section.items made.now.text.items }
+    requires { IfSome file (λ name. IsTrue (F.may_create files.old name.now)) }
+    ensures { Delivered result made.now.outcome (option_map (λ name. name.now) file.entry) (option_map (λ v. v.items) made.now.section) made.now.text.items
+        (seen (F.seen files.old) (O.seen out.old) (E.seen err.old)) (seen (F.seen files.new) (O.seen out.new) (E.seen err.new)) }
 {
-    if store(files, name, &made.section).is_err() {
-        say(err, "write file ", name);
+    if store_made(files, file, &made.section).is_err() {
+        say_file(file, err);
         return Status::Write;
     }
     if put_all(out, &made.text).is_err() {
         say(err, "write output", "");
         return Status::Write;
     }
-    Status::Done
+    Status::of(made.outcome)
 }

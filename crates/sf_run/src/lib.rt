@@ -1,17 +1,15 @@
-//! The commands, from the words of a command line to the files and texts that they leave.
+//! One run of a command, from the words of a command line to the files and texts that it leaves.
+//!
+//! [`run`] finds the command (`sf_words`), counts the files that it names, loads them (`sf_items`), makes what is
+//! asked for (`sf_make`), and delivers it: first the section to its file, then the text to the output. Its clauses
+//! stand in specs/Ends.antt.
 #![tactic(auto)]
 
 mod command;
 mod deliver;
 mod lines;
-mod link;
-mod loading;
-mod merge;
-mod print;
-mod refusal;
-mod section;
 mod status;
-mod words;
+mod tell;
 
 pub use command::run;
 pub use status::Status;

@@ -3,15 +3,14 @@
 ghost use Rattle.std.specs.Prelude.{◌++◌, OnOk, OnErr};
 ghost use Rattle.sf_base.specs.Written.{Appends, AppendsPrefix};
 ghost use Rattle.sf_base.specs.Faults.{Cause};
-ghost use Rattle.sf_run.specs.Lines.{line};
-ghost use Rattle.sf_run.specs.Ends.{Says, sink_seen};
+ghost use Rattle.sf_run.specs.Lines.{Says, line};
 
 use sf_base::{Failed, Sink, put_all};
 
 fn put_line<S: Sink>(sink: &mut S, front: &str, back: &str) -> Result<(), Failed>
-    ensures all { OnOk result (Appends (S.written sink.old) (S.written sink.new) (line (front.now ++ back.now))) }
-    ensures prefix { OnErr result (AppendsPrefix (S.written sink.old) (S.written sink.new) (line (front.now ++ back.now))) }
-    ensures cause { Cause (S.faults sink.old) (S.faults sink.new) result }
+    ensures all { OnOk result (Appends ((S.seen sink.old).written) ((S.seen sink.new).written) (line (front.now ++ back.now))) }
+    ensures prefix { OnErr result (AppendsPrefix ((S.seen sink.old).written) ((S.seen sink.new).written) (line (front.now ++ back.now))) }
+    ensures cause { Cause ((S.seen sink.old).faults) ((S.seen sink.new).faults) result }
 {
     put_all(sink, front.as_bytes())?;
     put_all(sink, back.as_bytes())?;
@@ -20,7 +19,7 @@ fn put_line<S: Sink>(sink: &mut S, front: &str, back: &str) -> Result<(), Failed
 
 /// Says one line. Where the sink fails, a prefix of the line stands there.
 pub fn say<S: Sink>(sink: &mut S, front: &str, back: &str)
-    ensures { Says (sink_seen S.written S.faults sink.old) (sink_seen S.written S.faults sink.new) (line (front.now ++ back.now)) }
+    ensures { Says (S.seen sink.old) (S.seen sink.new) (line (front.now ++ back.now)) }
 {
     let _ = put_line(sink, front, back);
 }

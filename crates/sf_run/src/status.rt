@@ -1,7 +1,9 @@
 //! How a run ends, as a number for the system.
 
 ghost use Rattle.std.specs.Prelude.{◌≡◌};
-ghost use Rattle.sf_run.specs.Status.{status_code};
+ghost use Rattle.sf_run.specs.Status.{status_code, status_for};
+
+use sf_make::Outcome;
 
 /// How a run ended.
 #[derive(Clone, Copy, Debug, PartialEq, Eq)]
@@ -25,6 +27,16 @@ pub enum Status {
 }
 
 impl Status {
+    /// The status of a run that made something.
+    pub fn of(outcome: Outcome) -> Status
+        ensures { result ≡ status_for outcome }
+    {
+        match outcome {
+            Outcome::Done => Status::Done,
+            Outcome::No => Status::No,
+        }
+    }
+
     /// The exit status: 0 to 7, in the order of the variants.
     pub fn code(self) -> u8
         ensures { result ≡ status_code self }

@@ -1,40 +1,11 @@
-//! Whole runs over files and sinks in memory: what is written, printed and told.
-
-mod files;
-mod linked;
-mod lists;
-mod many;
-mod merged;
-mod refused;
-mod several;
-mod shown;
+//! Runs in which a call of a file or of a stream fails, and runs past a limit, over files and streams in memory.
+//! Whole runs of the program are cases in files, tried with the program.
 
 use crate::{Status, run};
-use files::{expect_files, parts};
-use linked::LINKED;
-use lists::LISTS;
-use many::{MANY, expect_many};
-use merged::MERGED_SECTIONS;
-use refused::REFUSED;
-use several::expect_list;
 use sf_base::{MemFiles, MemSink};
-use shown::SHOWN;
 use std::alloc::{AllocError, Global};
 use std::process::Abort;
 use std::test::Fail;
-
-/// A run over one file: what it leaves.
-#[derive(Drop)]
-struct Case {
-    shows: &'static str,
-    words: &'static str,
-    file: &'static str,
-    bytes: &'static str,
-    status: Status,
-    text: &'static str,
-    line: &'static str,
-    section: Option<&'static str>,
-}
 
 /// A run in which one call on the files fails: what it leaves.
 struct Fault {
@@ -80,85 +51,7 @@ fn expect_section(
     Ok(())
 }
 
-/// Runs one case over a file of these bytes, with no fault.
-fn expect_run(rt: &impl Abort, alloc: Global, case: &Case, bytes: Vec<u8>) -> Result<(), Fail> {
-    let mut files = MemFiles::new(alloc, 1 << 20, Vec::new(alloc));
-    if !case.file.is_empty() {
-        let put = files.put(case.file, bytes);
-        assert!(rt; put.is_ok());
-    }
-    let mut out = MemSink::new(alloc, 1 << 20, Vec::new(alloc));
-    let mut err = MemSink::new(alloc, 1 << 20, Vec::new(alloc));
-    let words = words_of(alloc, case.words)?;
-    let status = run(alloc, &words, &mut files, &mut out, &mut err);
-    assert_eq!(rt; err.bytes(), case.line.as_bytes(), "{}", case.shows);
-    assert_eq!(rt; out.bytes(), case.text.as_bytes(), "{}", case.shows);
-    assert_eq!(rt; status, case.status, "{}", case.shows);
-    expect_section(rt, alloc, &files, case.section, case.shows)
-}
-
-/// Runs one case, with no fault.
-fn expect_case(rt: &impl Abort, alloc: Global, case: &Case) -> Result<(), Fail> {
-    expect_run(rt, alloc, case, bytes_of(alloc, case.bytes)?)
-}
-
-#[test]
-fn links_print_and_write_what_is_expected(rt: HostRuntime) -> Result<(), Fail> {
-    for case in &LINKED {
-        expect_case(&rt, rt.alloc(), case)?;
-    }
-    Ok(())
-}
-
-#[test]
-fn refused_runs_leave_their_lines(rt: HostRuntime) -> Result<(), Fail> {
-    for case in &REFUSED {
-        expect_case(&rt, rt.alloc(), case)?;
-    }
-    Ok(())
-}
-
-#[test]
-fn files_are_linked(rt: HostRuntime) -> Result<(), Fail> {
-    for cases in parts() {
-        expect_files(&rt, rt.alloc(), cases)?;
-    }
-    Ok(())
-}
-
-#[test]
-fn sections_are_shown(rt: HostRuntime) -> Result<(), Fail> {
-    for case in &SHOWN {
-        expect_case(&rt, rt.alloc(), case)?;
-    }
-    Ok(())
-}
-
-#[test]
-fn lists_of_inputs_are_linked(rt: HostRuntime) -> Result<(), Fail> {
-    for case in &LISTS {
-        expect_list(&rt, rt.alloc(), case)?;
-    }
-    Ok(())
-}
-
-#[test]
-fn sections_are_merged(rt: HostRuntime) -> Result<(), Fail> {
-    for case in &MERGED_SECTIONS {
-        expect_list(&rt, rt.alloc(), case)?;
-    }
-    Ok(())
-}
-
-#[test]
-fn the_number_of_items_is_limited(rt: HostRuntime) -> Result<(), Fail> {
-    for case in &MANY {
-        expect_many(&rt, rt.alloc(), case)?;
-    }
-    Ok(())
-}
-
-/// Runs the first case sixteen bytes at a time, with failing calls of the files and of the sinks.
+/// Links one function, with failing calls of the files and of the streams.
 fn run_with(
     alloc: Global,
     files: &mut MemFiles,
@@ -229,6 +122,59 @@ fn a_failing_error_sink_changes_no_status(rt: HostRuntime) -> Result<(), Fail> {
     let status = run(alloc, &words, &mut files, &mut out, &mut err);
     assert_eq!(rt; status, Status::Read);
     assert_eq!(rt; err.bytes().len(), 0);
+    Ok(())
+}
+
+#[test]
+fn a_failing_error_sink_changes_no_refusal(rt: HostRuntime) -> Result<(), Fail> {
+    let alloc = rt.alloc();
+    let mut files = MemFiles::new(alloc, 16, Vec::new(alloc));
+    let bytes = vec![in alloc; 1u8]?;
+    assert!(rt; files.put("e1", bytes).is_ok());
+    let mut out = MemSink::new(alloc, 16, Vec::new(alloc));
+    let mut err = MemSink::new(alloc, 4, vec![in alloc; 3u64]?);
+    let words = words_of(alloc, "link o@0x3000 eh-amd64:e1@0x2000")?;
+    let status = run(alloc, &words, &mut files, &mut out, &mut err);
+    assert_eq!(rt; status, Status::Refused);
+    assert_eq!(rt; err.bytes(), b"refused ".as_slice());
+    Ok(())
+}
+
+/// Runs a command over the section of one function.
+fn run_over_section(
+    rt: &impl Abort,
+    alloc: Global,
+    line: &str,
+    text: &[u8],
+) -> Result<MemFiles, Fail> {
+    let mut files = MemFiles::new(alloc, 1 << 20, Vec::new(alloc));
+    let put = files.put("s", bytes_of(alloc, ONE_FUNCTION_LINKED)?);
+    assert!(rt; put.is_ok());
+    let mut out = MemSink::new(alloc, 1 << 20, Vec::new(alloc));
+    let mut err = MemSink::new(alloc, 1 << 20, Vec::new(alloc));
+    let words = words_of(alloc, line)?;
+    let status = run(alloc, &words, &mut files, &mut out, &mut err);
+    assert_eq!(rt; err.bytes().len(), 0, "{line}");
+    assert_eq!(rt; out.bytes(), text, "{line}");
+    assert_eq!(rt; status, Status::Done, "{line}");
+    Ok(files)
+}
+
+#[test]
+fn each_command_is_done(rt: HostRuntime) -> Result<(), Fail> {
+    let alloc = rt.alloc();
+    let mut files = MemFiles::new(alloc, 16, Vec::new(alloc));
+    let mut out = MemSink::new(alloc, 16, Vec::new(alloc));
+    let mut err = MemSink::new(alloc, 16, Vec::new(alloc));
+    let status = run_with(alloc, &mut files, &mut out, &mut err)?;
+    assert_eq!(rt; status, Status::Done);
+    assert_eq!(rt; out.bytes(), b"kept 1 omitted 0\n".as_slice());
+    expect_section(&rt, alloc, &files, Some(ONE_FUNCTION_LINKED), "link")?;
+    let merge = "merge o@0x3000 s@0x3000";
+    let merged = run_over_section(&rt, alloc, merge, b"merged 1 functions 4 rows\n")?;
+    expect_section(&rt, alloc, &merged, Some(ONE_FUNCTION_LINKED), "merge")?;
+    run_over_section(&rt, alloc, "lookup s@0x3000 0x1005", FOUND)?;
+    run_over_section(&rt, alloc, "dump s@0x3000", DUMPED)?;
     Ok(())
 }
 
@@ -331,3 +277,9 @@ const FAULTS: [Fault; 11] = [
         ),
     },
 ];
+
+const FOUND: &[u8] = b"0x1005 in 0x1000 row +5 cfa=sp+8 fp=c-16\n";
+
+const DUMPED: &[u8] = b"sframe 2 amd64 flags 0x5 functions 1 rows 4\n\
+func 0x1000 size 6 plain key a rows 4\n  +0 cfa=sp+8\n  +1 cfa=sp+16 fp=c-16\n  \
++4 cfa=fp+16 fp=c-16\n  +5 cfa=sp+8 fp=c-16\n";

@@ -14,9 +14,9 @@ use sf_base::{Failed, Sink, put_all};
 ///
 /// `Failed` where a write of the sink failed. A prefix of the line was appended then.
 pub fn file_limit_line<S: Sink>(sink: &mut S, item: u32) -> Result<(), Failed>
-    ensures all { OnOk result (Appends (S.written sink.old) (S.written sink.new) (file_limit_text item)) }
-    ensures prefix { OnErr result (AppendsPrefix (S.written sink.old) (S.written sink.new) (file_limit_text item)) }
-    ensures cause { Cause (S.faults sink.old) (S.faults sink.new) result }
+    ensures all { OnOk result (Appends ((S.seen sink.old).written) ((S.seen sink.new).written) (file_limit_text item)) }
+    ensures prefix { OnErr result (AppendsPrefix ((S.seen sink.old).written) ((S.seen sink.new).written) (file_limit_text item)) }
+    ensures cause { Cause ((S.seen sink.old).faults) ((S.seen sink.new).faults) result }
 {
     put_all(sink, line_of(item).as_slice())
 }

@@ -20,9 +20,9 @@ use sf_model::{Group, Notice};
 /// `Failed` where a write of the sink failed. A prefix of the line was appended then.
 pub fn fault_line<S: Sink>(sink: &mut S, notice: &Notice) -> Result<(), Failed>
     requires { HasLine notice.now }
-    ensures all { OnOk result (Appends (S.written sink.old) (S.written sink.new) (fault_text notice.now)) }
-    ensures prefix { OnErr result (AppendsPrefix (S.written sink.old) (S.written sink.new) (fault_text notice.now)) }
-    ensures cause { Cause (S.faults sink.old) (S.faults sink.new) result }
+    ensures all { OnOk result (Appends ((S.seen sink.old).written) ((S.seen sink.new).written) (fault_text notice.now)) }
+    ensures prefix { OnErr result (AppendsPrefix ((S.seen sink.old).written) ((S.seen sink.new).written) (fault_text notice.now)) }
+    ensures cause { Cause ((S.seen sink.old).faults) ((S.seen sink.new).faults) result }
 {
     put_all(sink, line_of(notice).as_slice())
 }

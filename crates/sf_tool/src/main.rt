@@ -4,7 +4,7 @@
 
 ghost use Rattle.std.specs.Prelude.{◌≡◌, ◌↔◌, map};
 ghost use Rattle.std.specs.String.{string_bytes};
-ghost use Rattle.sf_run.specs.Words.{HasNoForm};
+ghost use Rattle.sf_words.specs.Words.{HasNoForm};
 
 use sf_base::{HostFiles, HostSink, put_all};
 use sf_run::{Status, run};

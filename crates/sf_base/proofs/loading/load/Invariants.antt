@@ -10,14 +10,10 @@ invariant-loop-bytes g l =
     record {
       within : vec_len l.bytes ≤ l.limit;
       opened : IsTrue (files.opened l.files);
-      told : IfSome (files.contents l.fn.files) (λ told. l.bytes.items ++ files.rest l.files ≡ contents_of told l.name);
-      contents : files.contents l.files ≡ files.contents l.fn.files;
-      created : files.created l.files ≡ files.created l.fn.files;
-      created_name : files.created_name l.files ≡ files.created_name l.fn.files;
+      told : IfSome ((files.seen l.fn.files).contents) (λ told. l.bytes.items ++ files.rest l.files ≡ contents_of told l.name);
+      same : files.seen l.files ≡ files.seen l.fn.files;
       may_open : files.may_open l.files ≡ files.may_open l.fn.files;
       may_create : files.may_create l.files ≡ files.may_create l.fn.files;
-      read_faults : files.read_faults l.fn.files ≤ files.read_faults l.files;
-      write_faults : files.write_faults l.files ≡ files.write_faults l.fn.files;
     }
 
 abbrev pub decreases-loop-bytes : goal.decreases-loop-bytes

@@ -13,6 +13,6 @@ returns-clause-moved g c =
     let below : f ≤ c.in_ok-end.end = search rules in
     let short : n ≤ length c.read.new.buf = search rules in
     let room : f + n ≤ c.resize.new.self.len = search rules in
-    IfSome_then (g.F.Files.contents c.args.files.now) c.in_ok-n.ensures.moves (λ told moves.
+    IfSome_then ((g.F.Files.seen c.args.files.now).contents) c.in_ok-n.ensures.moves (λ told moves.
     moved_behind f n c.in_ok-end.end _ c.args.bytes.now.items c.deref_mut.result.now c.resize.new.self.items c.read.new.buf _ _ _ c.truncate.new.self.items rest left
     c.truncate.ensures.items c.deref_mut.ensures.value c.in_ok-resize.ensures.items long below short room moves)

@@ -1,4 +1,4 @@
-use Rattle.std.proofs.Common.{◌≤◌, ◌-◌, length, take}
+use Rattle.std.proofs.Common.{◌≡◌, ◌≤◌, ◌-◌, length, take}
 use Rattle.sf_base.specs.Written.{Appends}
 use Rattle.sf_base.proofs.putting.put_all.Given as goal
 
@@ -8,8 +8,8 @@ invariant-loop-done g l =
     let sink = g.S.Sink in
     record {
       within : l.done ≤ length l.bytes;
-      appended : Appends (sink.written l.fn.sink) (sink.written l.sink) (take l.done l.bytes);
-      later : sink.faults l.fn.sink ≤ sink.faults l.sink;
+      appended : Appends ((sink.seen l.fn.sink).written) ((sink.seen l.sink).written) (take l.done l.bytes);
+      later : (sink.seen l.sink).faults ≡ (sink.seen l.fn.sink).faults;
     }
 
 abbrev pub decreases-loop-done : goal.decreases-loop-done

@@ -1,4 +1,4 @@
-use Rattle.std.proofs.Common.{◌∙◌, rules, arith}
+use Rattle.std.proofs.Common.{refl, ◌∙◌, rules, arith}
 use Rattle.sf_base.proofs.Growing.{more_grown}
 use Rattle.sf_base.proofs.putting.put_file.Goals as goal
 
@@ -9,8 +9,8 @@ loop-done-preserved g c =
     let files = g.F.Files in
     record {
       within = omega (arith, ok.within);
-      grown = more_grown (files.contents c.args.files.now) _ (files.contents c.write.new.self) (files.created_name c.args.files.now) _ c.args.bytes.now c.loop-done.done c.in_ok-done.field-0 done.created_name done.grown ok.grows;
-      later = omega (arith, done.later, ok.cause.later);
+      grown = more_grown ((files.seen c.args.files.now).contents) _ ((files.seen c.write.new.self).contents) ((files.seen c.args.files.now).created_name) _ c.args.bytes.now c.loop-done.done c.in_ok-done.field-0 done.created_name done.grown ok.grows;
+      later = ok.cause.done refl ∙ done.later;
       created = ok.created ∙ done.created;
       created_name = ok.created_name ∙ done.created_name;
       opened = search rules;

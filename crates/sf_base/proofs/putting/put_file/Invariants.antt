@@ -8,14 +8,14 @@ invariant-loop-done g l =
     let files = g.F.Files in
     record {
       within : l.done ≤ length l.bytes;
-      grown : Grows (files.contents l.fn.files) (files.contents l.files) (files.created_name l.fn.files) (take l.done l.bytes);
-      later : files.write_faults l.fn.files ≤ files.write_faults l.files;
-      created : files.created l.files ≡ files.created l.fn.files;
-      created_name : files.created_name l.files ≡ files.created_name l.fn.files;
+      grown : Grows ((files.seen l.fn.files).contents) ((files.seen l.files).contents) ((files.seen l.fn.files).created_name) (take l.done l.bytes);
+      later : (files.seen l.files).write_faults ≡ (files.seen l.fn.files).write_faults;
+      created : (files.seen l.files).created ≡ (files.seen l.fn.files).created;
+      created_name : (files.seen l.files).created_name ≡ (files.seen l.fn.files).created_name;
       opened : files.opened l.files ≡ cond (eqb l.done 0) (files.opened l.fn.files) false;
       may_open : files.may_open l.files ≡ files.may_open l.fn.files;
       may_create : files.may_create l.files ≡ files.may_create l.fn.files;
-      read_faults : files.read_faults l.files ≡ files.read_faults l.fn.files;
+      read_faults : (files.seen l.files).read_faults ≡ (files.seen l.fn.files).read_faults;
     }
 
 abbrev pub decreases-loop-done : goal.decreases-loop-done

@@ -1,0 +1,77 @@
+-- The files that a command reads, loaded one after the other, and the limits of their bytes: of one file, by its kind, and 2^30 bytes of all.
+use Rattle.std.specs.Prelude.{◌≡◌, ◌+◌, ◌^◌, ℕ, nat_lt, List, [], ◌∷◌, map, length, Contains, Option, Some, None, IfSome, if◌then◌else◌}
+use Rattle.std.specs.List.{zip}
+use Rattle.sf_base.specs.Contents.{contents_of}
+use Rattle.sf_base.specs.declared.loading.LoadFault.{LoadFault}
+use Rattle.sf_base.specs.declared.loading.LoadFault.TheVariants as load
+use Rattle.sf_words.specs.declared.item.ItemKind.{ItemKind}
+use Rattle.sf_words.specs.Items.{ItemWords, counted_bytes, limit_of, names_of}
+use Rattle.sf_items.specs.declared.refusal.Limit.{Limit}
+use Rattle.sf_items.specs.declared.refusal.Limit.TheVariants.{File, Total}
+use Rattle.sf_items.specs.declared.refusal.Refusal.{Refusal}
+use Rattle.sf_items.specs.declared.refusal.Refusal.TheVariants as refusal
+
+-- the contents of all names, where they are known
+abbrev pub Contents : Type 0
+Contents = Option (List (List ℕ × List ℕ))
+
+-- the first limit that the bytes of files exceed, which are numbered from `item` on and come after `total` bytes that count: the limit of
+-- one file, and then the limit of all files up to it
+unfoldable pub bytes_limit : (item total : ℕ) → List (ItemKind × List ℕ) → Option Limit
+bytes_limit item total [] = None
+bytes_limit item total (file ∷ files) =
+    if nat_lt (limit_of file.0) (length file.1) then Some (File item)
+    else (if nat_lt (2 ^ 30) (total + counted_bytes file.0 (length file.1)) then Some Total
+    else bytes_limit (item + 1) (total + counted_bytes file.0 (length file.1)) files)
+
+-- the kinds of items, each with the bytes of its file
+abbrev pub of_kinds : List ItemWords → (files : List (List ℕ)) → List (ItemKind × List ℕ)
+of_kinds items files = zip (map (λ (item : ItemWords). item.kind) items) files
+
+-- the first limit that the bytes of all items exceed
+abbrev pub items_limit : List ItemWords → (files : List (List ℕ)) → Option Limit
+items_limit items files = bytes_limit 0 0 (of_kinds items files)
+
+-- the bytes of the files that items name
+abbrev pub bytes_known : List (List ℕ × List ℕ) → List ItemWords → List (List ℕ)
+bytes_known known items = map (λ (item : ItemWords). contents_of known item.name) items
+
+-- these are the bytes of the items: one file each, and what its name holds, where that is known
+pub record AreBytesOf (contents : Contents) (items : List ItemWords) (files : List (List ℕ)) : Type 0 where
+  pub are : IfSome contents (λ known. files ≡ bytes_known known items)
+  pub count : length files ≡ length items
+
+-- and they are within the limits
+pub record AreLoaded (contents : Contents) (items : List ItemWords) (files : List (List ℕ)) : Type 0 where
+  pub bytes : AreBytesOf contents items files
+  pub within : items_limit items files ≡ None
+
+-- the bytes of the items exceed this limit, as the first
+pub record Exceeds (contents : Contents) (items : List ItemWords) (limit : Limit) : Type 0 where
+  pub files : List (List ℕ)
+  pub bytes : AreBytesOf contents items files
+  pub first : items_limit items files ≡ Some limit
+
+-- ---- refusals
+-- an item of this name could not be read
+abbrev pub IsReadOf : (name : List ℕ) → Refusal → Type 0
+IsReadOf name (refusal.Read unread) = unread.now ≡ name
+IsReadOf name refused = ⊥
+
+-- the refusal that a fault of loading the item of this number and name makes
+abbrev pub IsLoadRefusal : LoadFault → (item : ℕ) → (name : List ℕ) → Refusal → Type 0
+IsLoadRefusal load.Read item name refused = IsReadOf name refused
+IsLoadRefusal (load.TooLong limit) item name refused = refused ≡ refusal.Limit (File item)
+IsLoadRefusal load.NoMemory item name refused = refused ≡ refusal.Memory
+
+-- loading refuses these items: one could not be read, their bytes exceed a limit, or memory ran out
+abbrev pub IsLoadingRefusal : Contents → (items : List ItemWords) → Refusal → Type 0
+IsLoadingRefusal contents items (refusal.Read name) = Contains (names_of items) name.now
+IsLoadingRefusal contents items refusal.Memory = Unit {0}
+IsLoadingRefusal contents items (refusal.Limit limit) = Exceeds contents items limit
+IsLoadingRefusal contents items (refusal.Input notice) = ⊥
+
+-- an item could not be read
+abbrev pub IsRead : Refusal → Type 0
+IsRead (refusal.Read name) = Unit {0}
+IsRead refused = ⊥

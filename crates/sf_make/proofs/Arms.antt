@@ -1,0 +1,97 @@
+-- What commands make of the bytes of their items is what they come to.
+use Rattle.std.specs.List.{AllZip}
+use Rattle.std.proofs.Common.{◌≡◌, ℕ, List, [], ◌∷◌, length, Option, Some, None, Result, Ok, Err, refl, ap, sym, subst, ◌∙◌, inl, inr}
+use Rattle.std.proofs.lemmas.List.{append-nil}
+use Rattle.sf_model.specs.declared.omission.Omitted.{Omitted}
+use Rattle.sf_model.specs.Section.{AreBytes}
+use Rattle.sf_model.specs.Table.{Table, row_count}
+use Rattle.sf_decode.specs.declared.fault.DecodeFault.{DecodeFault}
+use Rattle.sf_decode.specs.Decoding.{section_check}
+use Rattle.sf_asm.specs.declared.fault.LinkFault.{LinkFault}
+use Rattle.sf_asm.specs.Answers.{IsLinked}
+use Rattle.sf_asm.specs.Linking.{Links, LinksFrom}
+use Rattle.sf_asm.specs.declared.fault.GatherFault.{GatherFault}
+use Rattle.sf_asm.specs.Functions.{Function, Object, functions_of}
+use Rattle.sf_asm.specs.Inputs.{machines_of, mixed_fault, first_item}
+use Rattle.sf_asm.specs.Linking.{unless_fault}
+use Rattle.sf_asm.proofs.GatheredInputs.{by_parts}
+use Rattle.sf_asm.proofs.Machines.{one_is_unmixed}
+use Rattle.sf_text.specs.Report.{report_text}
+use Rattle.sf_make.specs.LinkComes.{LinkComes, objects_in}
+use Rattle.sf_merge.specs.declared.fault.MergeFault.{MergeFault}
+use Rattle.sf_merge.specs.declared.fault.MergeFault.TheVariants as merge
+use Rattle.sf_merge.specs.Answers.{IsFirstFault, IsMerged}
+use Rattle.sf_text.specs.Merged.{merged_text}
+use Rattle.sf_items.specs.declared.refusal.Refusal.{Refusal}
+use Rattle.sf_items.specs.declared.refusal.Refusal.TheVariants as refusal
+use Rattle.sf_make.specs.declared.made.Outcome.TheVariants.{Done}
+use Rattle.sf_make.specs.Coming.{Coming, Makes}
+use Rattle.sf_make.specs.Making.{ComesAs}
+use Rattle.sf_make.specs.MergeComes.{Item, IsSectionOf, MergeComesAt, coming_of_merging, sections_fault}
+use Rattle.sf_make.specs.SectionComes.{coming_of_decoding}
+use Rattle.sf_words.specs.Words.{InputWords}
+use Rattle.sf_make.proofs.Merged.{Reading, fault_step, no_fault}
+
+-- a refusal that tells one thing tells what follows from it
+pub comes_as : (P Q : Coming → Type 0) → ((c : Coming) → P c → Q c) → (refused : Refusal) → ComesAs P refused → ComesAs Q refused
+comes_as P Q on (refusal.Read name) h = absurd h
+comes_as P Q on refusal.Memory h = tt
+comes_as P Q on (refusal.Limit limit) h = on _ h
+comes_as P Q on (refusal.Input notice) h = (h.0, on _ h.1)
+
+memory_comes : (P : Coming → Type 0) (refused : Refusal) → refused ≡ refusal.Memory → ComesAs P refused
+memory_comes P refused e = subst (ComesAs P) (sym e) tt
+
+-- ---- merge
+pub all_checked : (items : List Item) (k : ℕ) (left : List Item) (tables : List Table) → Reading items k left tables → left ≡ [] → sections_fault 0 items ≡ None
+all_checked items k left tables h none = h.fault ∙ ap (sections_fault k) none ∙ no_fault k
+
+pub all_sections : (items : List Item) (k : ℕ) (left : List Item) (tables : List Table) → Reading items k left tables → left ≡ [] → AllZip IsSectionOf items tables
+all_sections items k left tables h none =
+    subst (λ (ts : List Table). AllZip IsSectionOf items ts) (append-nil tables) (h.are [] (subst (λ (is : List Item). AllZip IsSectionOf is []) (sym none) tt))
+
+pub unread : (items : List Item) (k number : ℕ) (left : List Item) (tables : List Table) (item : Item) (later : List Item) (fault : DecodeFault) (refused : Refusal)
+    → Reading items k left tables → left ≡ item ∷ later → section_check item.1 item.0.at ≡ Err fault → number ≡ k → ComesAs (λ (c : Coming). c ≡ coming_of_decoding number fault) refused
+    → (at : ℕ) → ComesAs (λ (c : Coming). MergeComesAt at items (sections_fault 0 items) c) refused
+unread items k number left tables item later fault refused h are check is tells at =
+    let first : sections_fault 0 items ≡ Some (k, fault) = h.fault ∙ ap (sections_fault k) are ∙ fault_step k item later (Err fault) check in
+    comes_as (λ (c : Coming). c ≡ coming_of_decoding number fault) (λ (c : Coming). MergeComesAt at items (sections_fault 0 items) c)
+    (λ c e. subst (λ (f : Option (ℕ × DecodeFault)). MergeComesAt at items f c) (sym first) (e ∙ ap (λ (n : ℕ). coming_of_decoding n fault) is)) refused tells
+
+pub merged_comes : (at : ℕ) (items : List Item) (tables : List Table) (section text : List ℕ) → sections_fault 0 items ≡ None → AllZip IsSectionOf items tables
+    → AreBytes section → (h : IsMerged tables at section) → text ≡ merged_text (length h.functions) (row_count h.functions) → MergeComesAt at items (sections_fault 0 items) (Makes Done (Some section) text)
+merged_comes at items tables section text checked are bytes h text_is =
+    subst (λ (f : Option (ℕ × DecodeFault)). MergeComesAt at items f (Makes Done (Some section) text)) (sym checked) record {
+      tables = tables;
+      are = are;
+      result = Ok h.functions;
+      merges = h.are;
+      comes = record { section = section; text = text; are_bytes = bytes; merged = h; text_is = text_is; is = refl };
+    }
+
+pub unmerged_comes : (at : ℕ) (items : List Item) (tables : List Table) (fault : MergeFault) (refused : Refusal) → sections_fault 0 items ≡ None → AllZip IsSectionOf items tables
+    → IsFirstFault tables at fault → (fault ≡ merge.NoMemory → refused ≡ refusal.Memory) → ComesAs (λ (c : Coming). c ≡ coming_of_merging fault) refused → ComesAs (λ (c : Coming). MergeComesAt at items (sections_fault 0 items) c) refused
+unmerged_comes at items tables fault refused checked are (inl none) memory tells = memory_comes (λ (c : Coming). MergeComesAt at items (sections_fault 0 items) c) refused (memory none)
+unmerged_comes at items tables fault refused checked are (inr first) memory tells =
+    comes_as (λ (c : Coming). c ≡ coming_of_merging fault) (λ (c : Coming). MergeComesAt at items (sections_fault 0 items) c)
+    (λ c e. subst (λ (f : Option (ℕ × DecodeFault)). MergeComesAt at items f c) (sym checked) record { tables = tables; are = are; result = Err fault; merges = first; comes = e }) refused tells
+
+-- ---- link
+by_parts_are : (given : Result (List Function) GatherFault) (mixed : Option GatherFault) (functions : List Function) → given ≡ Ok functions → mixed ≡ None → by_parts given mixed ≡ Ok functions
+by_parts_are (Ok others) None functions e f = e
+by_parts_are (Ok others) (Some fault) functions e f = cc
+by_parts_are (Err fault) mixed functions e f = cc
+
+links_of : (objects : List Object) (at : ℕ) (section : List ℕ) (kept : ℕ) (omitted : List Omitted) → (h : IsLinked None objects at section kept omitted) → Links None objects at (Ok h.ordered)
+links_of objects at section kept omitted h =
+    let given = by_parts_are (functions_of (first_item None) objects) (mixed_fault None objects) h.functions h.are (one_is_unmixed h.arch (machines_of None objects) h.machine) in
+    subst (λ (g : Result (List Function) GatherFault). LinksFrom at g (Ok h.ordered)) (sym given)
+    (h.ordered, h.in_order, sym (ap (λ (fault : Option LinkFault). unless_fault fault h.ordered) h.accepted))
+
+pub linked_comes : (inputs : List InputWords) (at : ℕ) (items : List (List ℕ)) (section text : List ℕ) (kept : ℕ) (omitted : List Omitted) → IsLinked None (objects_in inputs items) at section kept omitted → AreBytes section
+    → text ≡ report_text kept omitted → LinkComes inputs at items (Makes Done (Some section) text)
+linked_comes inputs at items section text kept omitted h bytes text_is = record {
+  result = Ok h.ordered;
+  links = links_of (objects_in inputs items) at section kept omitted h;
+  comes = record { section = section; text = text; kept = kept; omitted = omitted; are_bytes = bytes; linked = h; text_is = text_is; is = refl };
+}

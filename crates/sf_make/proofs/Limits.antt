@@ -1,0 +1,33 @@
+-- What the limits of loading say of items that exceed none.
+use Rattle.std.specs.Prelude.{nat_lt}
+use Rattle.std.proofs.Common.{◌≡◌, ℕ, ◌<◌, ◌≤◌, Bool, true, false, cond, List, Some, None, refl, ap, sym, ◌∙◌, arith}
+use Rattle.std.proofs.lemmas.Bool.{lt-ltb}
+use Rattle.std.proofs.lemmas.Bool.Decides.{nat_tests}
+use Rattle.sf_items.specs.declared.refusal.Limit.TheVariants.{Inputs}
+use Rattle.sf_items.specs.Loading.{items_limit}
+use Rattle.sf_words.specs.Items.{counted_items, items_of}
+use Rattle.sf_words.specs.Words.{CommandWords}
+use Rattle.sf_make.specs.Comes.{command_limit}
+
+by_count : (command : CommandWords) (items : List (List ℕ)) (many : Bool) → nat_lt 512 (counted_items command) ≡ many → command_limit command items ≡ cond many (Some Inputs) (items_limit (items_of command) items)
+unfolding command_limit
+by_count command items many e = ap (λ (b : Bool). cond b (Some Inputs) (items_limit (items_of command) items)) e
+
+not_many : (n : ℕ) → nat_lt 512 n ≡ false → n ≤ 512
+not_many n h = grind (arith, nat_tests)
+
+few : (n : ℕ) → n ≤ 512 → nat_lt 512 n ≡ false
+few n h = grind (arith, nat_tests)
+
+pub within_limits : (command : CommandWords) (items : List (List ℕ)) → command_limit command items ≡ None → (counted_items command ≤ 512) × (items_limit (items_of command) items ≡ None)
+within_limits command items h = by_test (nat_lt 512 (counted_items command)) refl
+  where
+    by_test : (many : Bool) → nat_lt 512 (counted_items command) ≡ many → (counted_items command ≤ 512) × (items_limit (items_of command) items ≡ None)
+    by_test true e = let some : Some Inputs ≡ None = sym (by_count command items true e) ∙ h in absurd cc
+    by_test false e = (not_many (counted_items command) e, sym (by_count command items false e) ∙ h)
+
+pub few_limit : (command : CommandWords) (items : List (List ℕ)) → counted_items command ≤ 512 → command_limit command items ≡ items_limit (items_of command) items
+few_limit command items h = by_count command items false (few (counted_items command) h)
+
+pub many_limit : (command : CommandWords) (items : List (List ℕ)) → 512 < counted_items command → command_limit command items ≡ Some Inputs
+many_limit command items h = by_count command items true (lt-ltb 512 (counted_items command) h)

@@ -1,0 +1,159 @@
+-- A run comes to one thing at most.
+use Rattle.std.specs.List.{AllZip, zip}
+use Rattle.std.proofs.Common.{◌≡◌, ◌<◌, ℕ, List, [], ◌∷◌, map, length, get_or, All, Option, Some, None, Result, Ok, Err, refl, ap, sym, subst, ◌∙◌, arith}
+use Rattle.sf_model.specs.declared.function.Func.{Func}
+use Rattle.sf_model.specs.declared.machine.Arch.{Arch}
+use Rattle.sf_model.specs.declared.omission.Omitted.{Omitted}
+use Rattle.sf_model.specs.Section.{AreBytes}
+use Rattle.sf_model.specs.Table.{Table, row_count}
+use Rattle.sf_model.specs.Tight.{Narrow, Tight}
+use Rattle.sf_model.proofs.TableSame.{table_same}
+use Rattle.sf_model.proofs.TightOne.{tight_one}
+use Rattle.sf_write.specs.Section.{table_of}
+use Rattle.sf_decode.specs.declared.fault.DecodeFault.{DecodeFault}
+use Rattle.sf_decode.specs.Decoding.{section_check}
+use Rattle.sf_asm.specs.declared.entry.Entry.{Entry}
+use Rattle.sf_asm.specs.declared.fault.LinkFault.{LinkFault}
+use Rattle.sf_asm.specs.Answers.{IsLinked}
+use Rattle.sf_asm.specs.Entry.{kept_of, omitted_of}
+use Rattle.sf_asm.specs.Functions.{Function, Object}
+use Rattle.sf_asm.specs.Inputs.{HaveMachine}
+use Rattle.sf_asm.specs.Kept.{entry_of}
+use Rattle.sf_asm.specs.Linking.{InOrder}
+use Rattle.sf_asm.proofs.OneOrder.{one_order, one_result}
+use Rattle.sf_merge.specs.declared.fault.MergeFault.{MergeFault}
+use Rattle.sf_merge.specs.Merging.{Merges}
+use Rattle.sf_merge.proofs.OneOrder.{one_result as one_merge}
+use Rattle.sf_text.specs.Merged.{merged_text}
+use Rattle.sf_text.specs.Report.{report_text}
+use Rattle.sf_items.specs.declared.refusal.Limit.{Limit}
+use Rattle.sf_make.specs.declared.section.Query.{Query}
+use Rattle.sf_make.specs.declared.section.Query.TheVariants.{Whole, RowAt}
+use Rattle.sf_make.specs.declared.made.Outcome.{Outcome}
+use Rattle.sf_make.specs.declared.made.Outcome.TheVariants.{Done}
+use Rattle.sf_make.specs.Comes.{Comes, CommandComes, AreItems}
+use Rattle.sf_make.specs.Coming.{Coming, Makes, ComesWithin}
+use Rattle.sf_make.specs.LinkComes.{LinkComes, LinkComesFrom, MakesLink, objects_in}
+use Rattle.sf_make.specs.MergeComes.{Item, IsSectionOf, MergeComesAt, MergeComesFrom, MakesMerge, TablesCome, sections_fault}
+use Rattle.sf_make.specs.SectionComes.{SectionComesFrom, MakesShown, Shows}
+use Rattle.std.proofs.lemmas.List.{length-map}
+use Rattle.sf_words.specs.Items.{input_item, section_item}
+use Rattle.sf_words.specs.Words.{CommandWords, Link, Merge, Dump, Lookup, SectionWords, InputWords}
+
+-- ---- dump and lookup
+shows_one : (query : Query) (table : Table) (a b : Outcome) (s t : List ℕ) → Shows query table a s → Shows query table b t → (a ≡ b) × (s ≡ t)
+shows_one Whole table a b s t p q = (p.0 ∙ sym q.0, p.1 ∙ sym q.1)
+shows_one (RowAt pc) table a b s t p q = (p.0 ∙ sym q.0, p.1 ∙ sym q.1)
+
+one_shown : (at : ℕ) (bytes : List ℕ) (query : Query) (c d : Coming) → MakesShown at bytes query c → MakesShown at bytes query d → c ≡ d
+one_shown at bytes query c d p q =
+    let tables = table_same bytes at p.table q.table p.of_bytes q.of_bytes in
+    let both = shows_one query q.table p.outcome q.outcome p.text q.text (subst (λ (t : Table). Shows query t p.outcome p.text) tables p.shows) q.shows in
+    p.is ∙ ap (λ (s : Outcome). Makes s None p.text) both.0 ∙ ap (λ (t : List ℕ). Makes q.outcome None t) both.1 ∙ sym q.is
+
+one_section : (at : ℕ) (bytes : List ℕ) (query : Query) (check : Result (Unit {0}) DecodeFault) (c d : Coming) → SectionComesFrom at bytes query check c → SectionComesFrom at bytes query check d → c ≡ d
+one_section at bytes query (Err fault) c d p q = p ∙ sym q
+one_section at bytes query (Ok u) c d p q = one_shown at bytes query c d p q
+
+-- ---- merge
+one_list : (items : List Item) (one other : List Table) → AllZip IsSectionOf items one → AllZip IsSectionOf items other → one ≡ other
+one_list [] [] [] p q = refl
+one_list [] [] (t ∷ ts) p q = absurd q
+one_list [] (t ∷ ts) other p q = absurd p
+one_list (i ∷ is) [] other p q = absurd p
+one_list (i ∷ is) (t ∷ ts) [] p q = absurd q
+one_list (i ∷ is) (t ∷ ts) (u ∷ us) p q =
+    ap (λ (v : Table). v ∷ ts) (table_same i.1 i.0.at t u p.0 q.0) ∙ ap (λ (vs : List Table). u ∷ vs) (one_list is ts us p.1 q.1)
+
+one_merged : (at : ℕ) (tables : List Table) (c d : Coming) → 0 < length tables → MakesMerge at tables c → MakesMerge at tables d → c ≡ d
+one_merged at tables c d some p q =
+    let same = one_merge tables at (Ok p.merged.functions) (Ok q.merged.functions) p.merged.are q.merged.are in
+    let functions : p.merged.functions ≡ q.merged.functions = cc in
+    let arch : p.merged.arch ≡ q.merged.arch = one_arch tables some p.merged.arch q.merged.arch p.merged.union.one_machine q.merged.union.one_machine in
+    let table : table_of p.merged.arch p.merged.functions ≡ table_of q.merged.arch q.merged.functions = ap (λ (a : Arch). table_of a p.merged.functions) arch ∙ ap (table_of q.merged.arch) functions in
+    let sections = tight_one p.section q.section at (table_of q.merged.arch q.merged.functions) p.are_bytes q.are_bytes
+    (subst (Tight p.section at) table p.merged.tight) q.merged.tight (subst (Narrow p.section) table p.merged.narrow) q.merged.narrow in
+    let texts : p.text ≡ q.text = p.text_is ∙ ap (λ (fs : List Func). merged_text (length fs) (row_count fs)) functions ∙ sym q.text_is in
+    p.is ∙ ap (λ (s : List ℕ). Makes Done (Some s) p.text) sections ∙ ap (λ (t : List ℕ). Makes Done (Some q.section) t) texts ∙ sym q.is
+  where
+    one_arch : (tables : List Table) → 0 < length tables → (a b : Arch) → All (λ (t : Table). t.arch ≡ a) tables → All (λ (t : Table). t.arch ≡ b) tables → a ≡ b
+    one_arch [] some a b p q = let none : ⊥ = omega (arith, some) in absurd none
+    one_arch (t ∷ ts) some a b p q = sym (p 0 t (omega arith)) ∙ q 0 t (omega arith)
+
+one_from_tables : (at : ℕ) (tables : List Table) (result : Result (List Func) MergeFault) (c d : Coming) → 0 < length tables → MergeComesFrom at tables result c → MergeComesFrom at tables result d → c ≡ d
+one_from_tables at tables (Err fault) c d some p q = p ∙ sym q
+one_from_tables at tables (Ok functions) c d some p q = one_merged at tables c d some p q
+
+-- as many tables as items, and one at least
+some_tables : (sections : List SectionWords) (items : List (List ℕ)) (tables : List Table) → 0 < length items → length items ≡ length sections → AllZip IsSectionOf (zip sections items) tables → 0 < length tables
+some_tables [] [] tables some count are = let none : ⊥ = omega (arith, some) in absurd none
+some_tables [] (i ∷ is) tables some count are = let none : ⊥ = omega (arith, count) in absurd none
+some_tables (s ∷ ss) [] tables some count are = let none : ⊥ = omega (arith, some) in absurd none
+some_tables (s ∷ ss) (i ∷ is) [] some count are = absurd are
+some_tables (s ∷ ss) (i ∷ is) (t ∷ ts) some count are = omega arith
+
+one_tables : (at : ℕ) (sections : List SectionWords) (items : List (List ℕ)) (c d : Coming) → 0 < length items → length items ≡ length sections → TablesCome at (zip sections items) c → TablesCome at (zip sections items) d → c ≡ d
+one_tables at sections items c d some count p q =
+    let tables : p.tables ≡ q.tables = one_list (zip sections items) p.tables q.tables p.are q.are in
+    let merges = subst (λ (ts : List Table). Merges ts at p.result) tables p.merges in
+    let result = one_merge q.tables at p.result q.result merges q.merges in
+    let comes = subst (λ (ts : List Table). MergeComesFrom at ts p.result c) tables p.comes in
+    one_from_tables at q.tables q.result c d (some_tables sections items q.tables some count q.are) (subst (λ (r : Result (List Func) MergeFault). MergeComesFrom at q.tables r c) result comes) q.comes
+
+one_merge_coming : (at : ℕ) (sections : List SectionWords) (items : List (List ℕ)) (fault : Option (ℕ × DecodeFault)) (c d : Coming) → 0 < length items → length items ≡ length sections → MergeComesAt at (zip sections items) fault c → MergeComesAt at (zip sections items) fault d → c ≡ d
+one_merge_coming at sections items (Some fault) c d some count p q = p ∙ sym q
+one_merge_coming at sections items None c d some count p q = one_tables at sections items c d some count p q
+
+-- ---- link
+one_machine : (objects : List Object) → 0 < length objects → (a b : Arch) → HaveMachine None objects a → HaveMachine None objects b → a ≡ b
+one_machine [] some a b p q = let none : ⊥ = omega (arith, some) in absurd none
+one_machine (o ∷ os) some a b p q = sym (p 0 a (omega arith)) ∙ q 0 a (omega arith)
+
+some_objects : (inputs : List InputWords) (items : List (List ℕ)) → 0 < length items → length items ≡ length inputs → 0 < length (objects_in inputs items)
+some_objects [] [] some count = let none : ⊥ = omega (arith, some) in absurd none
+some_objects [] (i ∷ is) some count = let none : ⊥ = omega (arith, count) in absurd none
+some_objects (s ∷ ss) [] some count = let none : ⊥ = omega (arith, some) in absurd none
+some_objects (s ∷ ss) (i ∷ is) some count = omega arith
+
+one_linked : (objects : List Object) (at : ℕ) (s t : List ℕ) (j k : ℕ) (m n : List Omitted) → 0 < length objects → AreBytes s → AreBytes t → IsLinked None objects at s j m → IsLinked None objects at t k n
+    → (s ≡ t) × (j ≡ k) × (m ≡ n)
+one_linked objects at s t j k m n some x y p q =
+    let both : Ok p.functions ≡ Ok q.functions = sym p.are ∙ q.are in
+    let functions : p.functions ≡ q.functions = cc in
+    let ordered : p.ordered ≡ q.ordered = one_order (map entry_of q.functions) p.ordered q.ordered (subst (λ (fs : List Function). InOrder (map entry_of fs) p.ordered) functions p.in_order) q.in_order in
+    let arch = one_machine objects some p.arch q.arch p.machine q.machine in
+    let table : table_of p.arch (kept_of p.ordered) ≡ table_of q.arch (kept_of q.ordered) = ap (λ (a : Arch). table_of a (kept_of p.ordered)) arch ∙ ap (λ (es : List Entry). table_of q.arch (kept_of es)) ordered in (
+      tight_one s t at (table_of q.arch (kept_of q.ordered)) x y (subst (Tight s at) table p.tight) q.tight (subst (Narrow s) table p.narrow) q.narrow,
+      p.kept_is ∙ ap (λ (es : List Entry). length (kept_of es)) ordered ∙ sym q.kept_is,
+      p.omitted_are ∙ ap omitted_of ordered ∙ sym q.omitted_are,
+    )
+
+one_made : (inputs : List InputWords) (at : ℕ) (items : List (List ℕ)) (c d : Coming) → 0 < length (objects_in inputs items) → MakesLink inputs at items c → MakesLink inputs at items d → c ≡ d
+one_made inputs at items c d some p q =
+    let same = one_linked (objects_in inputs items) at p.section q.section p.kept q.kept p.omitted q.omitted some p.are_bytes q.are_bytes p.linked q.linked in
+    let texts : p.text ≡ q.text = p.text_is ∙ ap (λ (k : ℕ). report_text k p.omitted) same.1 ∙ ap (report_text q.kept) same.2 ∙ sym q.text_is in
+    p.is ∙ ap (λ (s : List ℕ). Makes Done (Some s) p.text) same.0 ∙ ap (λ (t : List ℕ). Makes Done (Some q.section) t) texts ∙ sym q.is
+
+one_from_links : (inputs : List InputWords) (at : ℕ) (items : List (List ℕ)) (result : Result (List Entry) LinkFault) (c d : Coming) → 0 < length (objects_in inputs items) → LinkComesFrom inputs at items result c → LinkComesFrom inputs at items result d → c ≡ d
+one_from_links inputs at items (Err fault) c d some p q = p ∙ sym q
+one_from_links inputs at items (Ok ordered) c d some p q = one_made inputs at items c d some p q
+
+one_link : (inputs : List InputWords) (at : ℕ) (items : List (List ℕ)) (c d : Coming) → 0 < length (objects_in inputs items) → LinkComes inputs at items c → LinkComes inputs at items d → c ≡ d
+one_link inputs at items c d some p q =
+    let result = one_result None (objects_in inputs items) at p.result q.result p.links q.links in
+    one_from_links inputs at items q.result c d some (subst (λ (r : Result (List Entry) LinkFault). LinkComesFrom inputs at items r c) result p.comes) q.comes
+
+-- ---- each command
+one_command : (command : CommandWords) (items : List (List ℕ)) (c d : Coming) → AreItems command items → CommandComes command items c → CommandComes command items d → c ≡ d
+one_command (Link link) items c d are p q = one_link link.inputs link.out.at items c d (some_objects link.inputs items are.some (are.count ∙ length-map link.inputs input_item)) p q
+one_command (Merge merge) items c d are p q = one_merge_coming merge.out.at merge.sections items (sections_fault 0 (zip merge.sections items)) c d are.some (are.count ∙ length-map merge.sections section_item) p q
+one_command (Dump section) items c d are p q = one_section section.at (get_or items 0 []) Whole (section_check (get_or items 0 []) section.at) c d p q
+one_command (Lookup section pc) items c d are p q = one_section section.at (get_or items 0 []) (RowAt pc) (section_check (get_or items 0 []) section.at) c d p q
+
+one_within : (limit : Option Limit) (Then : Coming → Type 0) → ((c d : Coming) → Then c → Then d → c ≡ d) → (c d : Coming) → ComesWithin limit Then c → ComesWithin limit Then d → c ≡ d
+one_within (Some limit) Then one c d p q = p ∙ sym q
+one_within None Then one c d p q = one c d p q
+
+-- what a run comes to is one thing
+pub one_coming : (command : CommandWords) (items : List (List ℕ)) (c d : Coming) → AreItems command items → Comes command items c → Comes command items d → c ≡ d
+one_coming command items c d are p q = one_within _ (CommandComes command items) (λ c d. one_command command items c d are) c d p q

@@ -1,0 +1,74 @@
+-- What `merge` comes to.
+use Rattle.std.specs.Prelude.{◌≡◌, ◌+◌, ℕ, List, [], ◌∷◌, length, Option, Some, None, Result, Ok, Err}
+use Rattle.std.specs.List.{AllZip, zip}
+use Rattle.sf_model.specs.declared.function.Func.{Func}
+use Rattle.sf_model.specs.Section.{AreBytes, Section}
+use Rattle.sf_model.specs.Table.{Table, row_count}
+use Rattle.sf_decode.specs.declared.fault.DecodeFault.{DecodeFault}
+use Rattle.sf_decode.specs.Decoding.{section_check}
+use Rattle.sf_merge.specs.declared.fault.MergeFault.{MergeFault}
+use Rattle.sf_merge.specs.declared.fault.MergeFault.TheVariants as merge
+use Rattle.sf_merge.specs.Answers.{IsMerged}
+use Rattle.sf_merge.specs.Merging.{Merges}
+use Rattle.sf_merge.specs.Told.{told_of_merging}
+use Rattle.sf_text.specs.Merged.{merged_text}
+use Rattle.sf_items.specs.declared.refusal.Limit.TheVariants.{Functions, Rows}
+use Rattle.sf_words.specs.Words.{SectionWords}
+use Rattle.sf_make.specs.declared.made.Outcome.TheVariants.{Done}
+use Rattle.sf_make.specs.Coming.{Coming, Refused, Exceeded, Makes}
+use Rattle.sf_make.specs.SectionComes.{coming_of_decoding}
+
+-- a section as it is named, and its bytes
+abbrev pub Item : Type 0
+Item = SectionWords × List ℕ
+
+-- the bytes of an item are a section at its address, of this table
+abbrev pub IsSectionOf : Item → Table → Type 0
+IsSectionOf item table = Section item.1 item.0.at table
+
+-- a fault with the number of its item
+abbrev pub or_in : Result (Unit {0}) DecodeFault → (item : ℕ) → Option (ℕ × DecodeFault) → Option (ℕ × DecodeFault)
+or_in (Err fault) item later = Some (item, fault)
+or_in (Ok u) item later = later
+
+-- the first item that is no section, of items that are numbered from this number on, and its first fault
+unfoldable pub sections_fault : (number : ℕ) → List Item → Option (ℕ × DecodeFault)
+sections_fault number [] = None
+sections_fault number (item ∷ items) = or_in (section_check item.1 item.0.at) number (sections_fault (number + 1) items)
+
+-- what a fault of merging comes to
+abbrev pub coming_of_merging : MergeFault → Coming
+coming_of_merging merge.TooManyFunctions = Exceeded Functions
+coming_of_merging merge.TooManyRows = Exceeded Rows
+coming_of_merging fault = Refused (told_of_merging None fault)
+
+-- The section is that of the union of the tables, without gaps and with the least widths, and the text has the counts of its functions and
+-- rows.
+pub record MakesMerge (at : ℕ) (tables : List Table) (coming : Coming) : Type 0 where
+  pub section : List ℕ
+  pub text : List ℕ
+  pub are_bytes : AreBytes section
+  pub merged : IsMerged tables at section
+  pub text_is : text ≡ merged_text (length merged.functions) (row_count merged.functions)
+  pub is : coming ≡ Makes Done (Some section) text
+
+abbrev pub MergeComesFrom : (at : ℕ) → List Table → Result (List Func) MergeFault → Coming → Type 0
+MergeComesFrom at tables (Err fault) coming = coming ≡ coming_of_merging fault
+MergeComesFrom at tables (Ok functions) coming = MakesMerge at tables coming
+
+-- what merging sections of these tables comes to
+pub record TablesCome (at : ℕ) (items : List Item) (coming : Coming) : Type 0 where
+  pub tables : List Table
+  pub are : AllZip IsSectionOf items tables
+  pub result : Result (List Func) MergeFault
+  pub merges : Merges tables at result
+  pub comes : MergeComesFrom at tables result coming
+
+-- the first item that is no section, or else what merging comes to
+abbrev pub MergeComesAt : (at : ℕ) → (items : List Item) → Option (ℕ × DecodeFault) → Coming → Type 0
+MergeComesAt at items (Some fault) coming = coming ≡ coming_of_decoding fault.0 fault.1
+MergeComesAt at items None coming = TablesCome at items coming
+
+-- what merging sections of these bytes comes to, for a section at this address
+abbrev pub MergeComes : List SectionWords → (at : ℕ) → (items : List (List ℕ)) → Coming → Type 0
+MergeComes sections at items coming = MergeComesAt at (zip sections items) (sections_fault 0 (zip sections items)) coming

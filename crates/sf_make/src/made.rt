@@ -1,0 +1,18 @@
+//! What a command makes.
+
+/// How a command that made something ends.
+#[derive(Clone, Copy, Debug, PartialEq, Eq)]
+pub enum Outcome {
+    /// It did what it was asked: status 0.
+    Done,
+    /// The answer is no: a look-up found nothing, or a comparison found a difference. Status 1.
+    No,
+}
+
+/// A section or none, and a text.
+#[derive(Drop)]
+pub struct Made {
+    pub outcome: Outcome,
+    pub section: Option<Vec<u8>>,
+    pub text: Vec<u8>,
+}

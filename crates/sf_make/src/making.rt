@@ -1,0 +1,33 @@
+//! What a command makes of the bytes of its items.
+
+ghost use Rattle.std.specs.Prelude.{◌≡◌, None, map};
+ghost use Rattle.sf_words.specs.Parsed.{words_of};
+ghost use Rattle.sf_make.specs.Comes.{AreItems, Comes, command_limit};
+ghost use Rattle.sf_make.specs.Making.{ComesTo};
+
+use crate::link::link_made;
+use crate::made::Made;
+use crate::merge::merge_made;
+use crate::section::{Query, section_made};
+use sf_items::Refusal;
+use sf_words::Asked;
+use std::alloc::Global;
+
+/// Makes what is asked for of the bytes of the items, which are within the limits of loading.
+///
+/// # Errors
+///
+/// `Refusal::Input` shows what is refused, `Refusal::Limit` says which limit of functions or rows is exceeded,
+/// and `Refusal::Memory` that memory ran out. `Refusal::Read` is never returned.
+pub fn make<'a>(alloc: Global, asked: &Asked<'a>, items: &[Vec<u8>]) -> Result<Made, Refusal<'a>>
+    requires items { AreItems (words_of asked.now) (map (λ v. v.items) items.now) }
+    requires within { command_limit (words_of asked.now) (map (λ v. v.items) items.now) ≡ None }
+    ensures comes { ComesTo (Comes (words_of asked.now) (map (λ v. v.items) items.now)) result }
+{
+    match asked {
+        Asked::Link(link) => link_made(alloc, &link.inputs, link.out.at, items),
+        Asked::Merge(merge) => merge_made(alloc, &merge.sections, merge.out.at, items),
+        Asked::Dump(section) => section_made(alloc, &items[0], section.at, Query::Whole),
+        Asked::Lookup(section, pc) => section_made(alloc, &items[0], section.at, Query::RowAt(*pc)),
+    }
+}

@@ -1,0 +1,69 @@
+//! What `dump` and `lookup` make.
+
+ghost use Rattle.std.specs.Prelude.{◌≡◌, None, IfOk};
+ghost use Rattle.sf_decode.specs.Decoding.{section_check};
+ghost use Rattle.sf_decode.specs.View.{table_of};
+ghost use Rattle.sf_make.specs.Coming.{Coming};
+ghost use Rattle.sf_make.specs.Making.{ComesAs, ComesTo};
+ghost use Rattle.sf_make.specs.SectionComes.{SectionComesFrom, Shows, coming_of_decoding};
+
+use crate::made::{Made, Outcome};
+use sf_base::NoMemory;
+use sf_decode::{DecodeFault, View};
+use sf_items::{Limit, Refusal};
+use sf_lookup::find;
+use sf_text::{dump, found};
+use std::alloc::Global;
+
+/// What is asked of a section.
+#[derive(Clone, Copy)]
+pub enum Query {
+    /// All that it says.
+    Whole,
+    /// The row that holds at an address.
+    RowAt(u64),
+}
+
+/// Why the section of an item was not read, as a refusal of the run.
+pub fn undecoded<'a>(fault: DecodeFault, item: u32) -> Refusal<'a>
+    ensures { ComesAs (λ (coming : Coming). coming ≡ coming_of_decoding item fault) result }
+{
+    match fault {
+        DecodeFault::TooManyFunctions(_) => Refusal::Limit(Limit::Functions),
+        DecodeFault::TooManyRows(_) => Refusal::Limit(Limit::Rows),
+        _ => Refusal::Input(fault.notice(Some(item))),
+    }
+}
+
+/// What is asked of a section.
+fn shown(alloc: Global, view: &View<'_>, query: Query) -> Result<Made, NoMemory>
+    ensures { IfOk result (λ made. (made.section ≡ None) × Shows query (table_of view.now) made.outcome made.text.items) }
+{
+    let (outcome, text) = match query {
+        Query::Whole => (Outcome::Done, dump(alloc, view)?),
+        Query::RowAt(pc) => match find(view, pc) {
+            Some(row) => (Outcome::Done, found(alloc, pc, Some((row.func, row.row)))?),
+            None => (Outcome::No, found(alloc, pc, None)?),
+        },
+    };
+    Ok(Made {
+        outcome,
+        section: None,
+        text,
+    })
+}
+
+/// What is asked of the section of these bytes.
+pub fn section_made<'a>(
+    alloc: Global,
+    bytes: &[u8],
+    at: u64,
+    query: Query,
+) -> Result<Made, Refusal<'a>>
+    ensures { ComesTo (SectionComesFrom at bytes.now query (section_check bytes.now at)) result }
+{
+    match View::parse(bytes, at) {
+        Ok(view) => Ok(shown(alloc, &view, query)?),
+        Err(fault) => Err(undecoded(fault, 0)),
+    }
+}

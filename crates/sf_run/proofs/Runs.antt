@@ -1,0 +1,170 @@
+-- How a run ends, from what it comes to and from how its last step ends.
+use Rattle.std.specs.Prelude.{◌⊎◌, IfSome, IfOk, IfErr, IsTrue}
+use Rattle.std.proofs.Math.ListN.{get_or-map}
+use Rattle.std.proofs.Common.{◌≡◌, ◌<◌, ◌≤◌, ℕ, Bool, List, [], ◌∷◌, All, map, length, Option, Some, None, Result, Ok, Err, refl, ap, sym, subst, ◌∙◌, inl, inr, arith}
+use Rattle.std.proofs.lemmas.List.{length-map}
+use Rattle.sf_base.specs.Contents.{contents_of}
+use Rattle.sf_base.specs.Faults.{Rose}
+use Rattle.sf_base.specs.Seen.{FilesSeen, SinkSeen, OnlyReads}
+use Rattle.sf_model.specs.Told.{Told, told_by}
+use Rattle.sf_text.specs.FaultLine.{fault_text}
+use Rattle.sf_items.specs.declared.refusal.Limit.{Limit}
+use Rattle.sf_items.specs.declared.refusal.Limit.TheVariants.{Inputs}
+use Rattle.sf_items.specs.declared.refusal.Refusal.{Refusal}
+use Rattle.sf_items.specs.declared.refusal.Refusal.TheVariants as refusal
+use Rattle.sf_items.specs.Loading.{AreBytesOf, AreLoaded, Contents, Exceeds, IsLoadingRefusal, IsRead, bytes_known, items_limit}
+use Rattle.sf_words.specs.declared.item.Item.{Item}
+use Rattle.sf_words.specs.Items.{ItemWords, counted_items, item_names, item_of, items_of, names_of}
+use Rattle.sf_words.specs.Words.{CommandWords, out_name}
+use Rattle.sf_make.specs.declared.made.Made.{Made}
+use Rattle.sf_make.specs.declared.made.Outcome.{Outcome}
+use Rattle.sf_make.specs.declared.made.Outcome.TheVariants as outcome
+use Rattle.sf_make.specs.Comes.{AreItems, Comes, CommandComes, RefusesNothing, command_limit}
+use Rattle.sf_make.specs.Coming.{Coming, ComesWithin, Exceeded, Makes, Refused}
+use Rattle.sf_make.specs.Making.{ComesAs, ComesTo, coming_of}
+use Rattle.sf_make.proofs.Limits.{few_limit, many_limit}
+use Rattle.sf_make.proofs.Arms.{comes_as}
+use Rattle.sf_make.proofs.OneComing.{one_coming}
+use Rattle.sf_run.specs.declared.status.Status.{Status}
+use Rattle.sf_run.specs.declared.status.Status.TheVariants as status
+use Rattle.sf_run.specs.Ends.{AnswersFor, CanBeSaid, Delivered, FileFailed, Leaves, NoneFailed, OutputFailed, RunComes, RunEnds, RunIsComplete, RunRefuses, Seen, Tells, TurnedAway, Written, seen}
+use Rattle.sf_run.specs.Lines.{Says, limit_line, memory_line, read_line}
+use Rattle.sf_run.specs.Status.{status_for, status_of}
+
+-- ---- the items of a command, as the code has them
+unmapped : {A B : Type 0} (f : A → B) (P : B → Type 0) (xs : List A) → All P (map f xs) → All (λ (x : A). P (f x)) xs
+unmapped f P xs h k d lt = subst P (get_or-map f xs k d) (h k (f d) (subst (λ (n : ℕ). k < n) (sym (length-map xs f)) lt))
+
+named_items : (items : List Item) → names_of (map item_of items) ≡ map (λ (item : Item). item.name.now) items
+named_items [] = refl
+named_items (i ∷ is) = ap (λ (ns : List (List ℕ)). i.name.now ∷ ns) (named_items is)
+
+pub may_open_items : (may : List ℕ → Bool) (items : List Item) (wanted : List ItemWords) → map item_of items ≡ wanted → All (λ (name : List ℕ). IsTrue (may name)) (names_of wanted) → All (λ (item : Item). IsTrue (may item.name.now)) items
+may_open_items may items wanted are h =
+    unmapped (λ (item : Item). item.name.now) (λ (name : List ℕ). IsTrue (may name)) items
+    (subst (All (λ (name : List ℕ). IsTrue (may name))) (ap (λ (ws : List ItemWords). names_of ws) (sym are) ∙ named_items items) h)
+
+-- ---- what a run comes to, from what it loads
+pub made_runs : (command : CommandWords) (contents : Contents) (items : List (List ℕ)) → AreLoaded contents (items_of command) items → (answer : Result Made Refusal) → ComesTo (Comes command items) answer
+    → IfOk answer (λ made. RunComes command contents (coming_of made))
+made_runs command contents items loaded (Ok made) h = record { items = items; bytes = loaded.bytes; comes = h }
+made_runs command contents items loaded (Err refused) h = tt
+
+refused_as : (command : CommandWords) (contents : Contents) (refused : Refusal) → ComesAs (RunComes command contents) refused → RunRefuses command contents refused
+refused_as command contents (refusal.Read name) h = absurd h
+refused_as command contents refusal.Memory h = h
+refused_as command contents (refusal.Limit limit) h = h
+refused_as command contents (refusal.Input notice) h = h
+
+pub refused_runs : (command : CommandWords) (contents : Contents) (items : List (List ℕ)) → AreLoaded contents (items_of command) items → (answer : Result Made Refusal) → ComesTo (Comes command items) answer
+    → IfErr answer (RunRefuses command contents)
+refused_runs command contents items loaded (Ok made) h = tt
+refused_runs command contents items loaded (Err refused) h =
+    refused_as command contents refused
+    (comes_as (Comes command items) (RunComes command contents) (λ coming comes. record { items = items; bytes = loaded.bytes; comes = comes }) refused h)
+
+-- a limit of loading is what the command comes to
+limit_comes : (command : CommandWords) (items : List (List ℕ)) (limit : Limit) → command_limit command items ≡ Some limit → Comes command items (Exceeded limit)
+limit_comes command items limit h = subst (λ (l : Option Limit). ComesWithin l (CommandComes command items) (Exceeded limit)) (sym h) refl
+
+-- loading refuses as the command does
+pub loading_refuses : (command : CommandWords) (contents : Contents) (refused : Refusal) → counted_items command ≤ 512 → IsLoadingRefusal contents (items_of command) refused → RunRefuses command contents refused
+loading_refuses command contents (refusal.Read name) few h = h
+loading_refuses command contents refusal.Memory few h = tt
+loading_refuses command contents (refusal.Limit limit) few h = record { items = h.files; bytes = h.bytes; comes = limit_comes command h.files limit (few_limit command h.files few ∙ h.first) }
+loading_refuses command contents (refusal.Input notice) few h = absurd h
+
+-- there are files that items name
+some_files : (contents : Contents) (items : List ItemWords) → (files : List (List ℕ)) × AreBytesOf contents items files
+some_files None items = (map (λ (item : ItemWords). []) items, record { are = tt; count = length-map items (λ (item : ItemWords). []) })
+some_files (Some known) items = (bytes_known known items, record { are = refl; count = length-map items (λ (item : ItemWords). contents_of known item.name) })
+
+-- more than 512 files exceed the limit, whatever they hold
+pub too_many_runs : (command : CommandWords) (contents : Contents) → 512 < counted_items command → RunComes command contents (Exceeded Inputs)
+too_many_runs command contents many =
+    let files = some_files contents (items_of command) in
+    record { items = files.0; bytes = files.1; comes = limit_comes command files.0 Inputs (many_limit command files.0 many) }
+
+-- ---- how a run ends that makes nothing
+pub can_be_said : (command : CommandWords) (contents : Contents) (refused : Refusal) → RunRefuses command contents refused → CanBeSaid refused
+can_be_said command contents (refusal.Read name) h = tt
+can_be_said command contents refusal.Memory h = tt
+can_be_said command contents (refusal.Limit limit) h = tt
+can_be_said command contents (refusal.Input notice) h = h.0
+
+pub ends_from_tells : (refused : Refusal) (answer : Status) (command : CommandWords) (before after : Seen) → OnlyReads before.files after.files → after.out ≡ before.out
+    → (IsRead refused → Rose before.files.read_faults after.files.read_faults) → RunRefuses command before.files.contents refused → Tells refused answer before.err after.err → RunEnds answer command before after
+ends_from_tells (refusal.Read name) answer command before after reads out rose h t =
+    subst (λ (s : Status). RunEnds s command before after) (sym t.0) (name.now, h, record { files = reads; output = out; says = t.1 }, rose tt)
+ends_from_tells refusal.Memory answer command before after reads out rose h t =
+    subst (λ (s : Status). RunEnds s command before after) (sym t.0) record { files = reads; output = out; says = t.1 }
+ends_from_tells (refusal.Limit limit) answer command before after reads out rose h t =
+    subst (λ (s : Status). RunEnds s command before after) (sym t.0) (limit, h, record { files = reads; output = out; says = t.1 })
+ends_from_tells (refusal.Input notice) answer command before after reads out rose h t =
+    subst (λ (s : Status). RunEnds s command before after) (sym t.0) (notice, h.0, h.1, record { files = reads; output = out; says = t.1 })
+
+-- ---- how a run ends that delivers what it made
+delivered : (answer : Status) (made : Outcome) (command : CommandWords) (section : Option (List ℕ)) (text : List ℕ) (before after : Seen) → RunComes command before.files.contents (Makes made section text)
+    → Delivered answer made (out_name command) section text before after → RunEnds answer command before after
+delivered answer outcome.Done command section text before after comes (inl d) =
+    subst (λ (s : Status). RunEnds s command before after) (sym d.0) record { section = section; text = text; comes = comes; left = d.1 }
+delivered answer outcome.No command section text before after comes (inl d) =
+    subst (λ (s : Status). RunEnds s command before after) (sym d.0) record { section = section; text = text; comes = comes; left = d.1 }
+delivered answer made command section text before after comes (inr d) =
+    subst (λ (s : Status). RunEnds s command before after) (sym d.0) (made, record { section = section; text = text; comes = comes; left = d.1 })
+
+pub ends_from_delivered : (answer : Status) (made : Outcome) (command : CommandWords) (file section : Option (List ℕ)) (text : List ℕ) (f g h : FilesSeen) (o o' e e' : SinkSeen) → file ≡ out_name command → g ≡ f
+    → RunComes command f.contents (Makes made section text) → Delivered answer made file section text (seen g o e) (seen h o' e') → RunEnds answer command (seen f o e) (seen h o' e')
+ends_from_delivered answer made command file section text f g h o o' e e' n same comes d =
+    delivered answer made command section text (seen f o e) (seen h o' e') comes
+    (subst (λ (x : Option (List ℕ)). Delivered answer made x section text (seen f o e) (seen h o' e')) n
+    (subst (λ (k : FilesSeen). Delivered answer made file section text (seen k o e) (seen h o' e')) same d))
+
+-- ---- completeness
+answers_for : (answer : Status) (command : CommandWords) (known : List (List ℕ × List ℕ)) (before after : Seen) → before.files.contents ≡ Some known → AreItems command (bytes_known known (items_of command))
+    → RunEnds answer command before after → NoneFailed before after → AnswersFor answer command (bytes_known known (items_of command))
+answers_for answer command known before after e are ends fine = record { comes = λ coming comes. at_status coming comes answer ends; accepted = λ nothing. accepted nothing answer ends }
+  where
+    items : List (List ℕ)
+    items = bytes_known known (items_of command)
+
+    here : (coming : Coming) → RunComes command before.files.contents coming → Comes command items coming
+    here coming h = subst (λ (is : List (List ℕ)). Comes command is coming) (subst (λ (c : Contents). IfSome c (λ k. h.items ≡ bytes_known k (items_of command))) e h.bytes.are) h.comes
+
+    same : (other coming : Coming) → Comes command items coming → RunComes command before.files.contents other → status_of other ≡ status_of coming
+    same other coming comes h = ap status_of (one_coming command items other coming are (here other h) comes)
+
+    at_status : (coming : Coming) → Comes command items coming → (answer : Status) → RunEnds answer command before after → (answer ≡ status_of coming) ⊎ (answer ≡ status.Memory)
+    at_status coming comes status.Done h = inl (same _ coming comes h.comes)
+    at_status coming comes status.No h = inl (same _ coming comes h.comes)
+    at_status coming comes status.Usage h = absurd h
+    at_status coming comes status.Read h = absurd (fine.reads h.3)
+    at_status coming comes status.Write h = absurd (elim h.1.left [
+      | inl failed ↦ fine.writes failed.cause
+      | inr failed ↦ fine.output failed.cause
+    ])
+    at_status coming comes status.Refused h = inl (same _ coming comes h.2)
+    at_status coming comes status.Memory h = inr refl
+    at_status coming comes status.Limit h = inl (same _ coming comes h.1)
+
+    accepted : RefusesNothing command items → (answer : Status) → RunEnds answer command before after → (answer ≡ status.Done) ⊎ ((answer ≡ status.No) ⊎ (answer ≡ status.Memory))
+    accepted nothing status.Done h = inl refl
+    accepted nothing status.No h = inr (inl refl)
+    accepted nothing status.Usage h = absurd h
+    accepted nothing status.Read h = absurd (fine.reads h.3)
+    accepted nothing status.Write h = absurd (elim h.1.left [
+      | inl failed ↦ fine.writes failed.cause
+      | inr failed ↦ fine.output failed.cause
+    ])
+    accepted nothing status.Refused h = absurd (nothing.accepted (told_by h.0) (here _ h.2))
+    accepted nothing status.Memory h = inr (inr refl)
+    accepted nothing status.Limit h = absurd (nothing.within h.0 (here _ h.1))
+
+pub complete_from : (answer : Status) (command : CommandWords) (before after : Seen) → 0 < length (items_of command) → RunEnds answer command before after → RunIsComplete answer command before after
+complete_from answer command before after some ends = at_contents before.files.contents refl
+  where
+    at_contents : (contents : Contents) → before.files.contents ≡ contents → IfSome contents (λ known. NoneFailed before after → AnswersFor answer command (bytes_known known (items_of command)))
+    at_contents None e = tt
+    at_contents (Some known) e =
+        let count = length-map (items_of command) (λ (item : ItemWords). contents_of known item.name) in
+        answers_for answer command known before after e record { some = omega (arith, some, count); count = count } ends

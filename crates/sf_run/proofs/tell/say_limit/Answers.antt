@@ -1,0 +1,13 @@
+use Rattle.std.proofs.Common.{sym, subst}
+use Rattle.sf_items.specs.declared.refusal.Limit.{Limit}
+use Rattle.sf_run.specs.Lines.{Says, limit_line}
+use Rattle.sf_run.proofs.tell.say_limit.Goals as goal
+
+pub returns-in-Inputs : goal.returns-in-Inputs
+returns-in-Inputs g c = subst (λ (limit : Limit). Says (g.E.Sink.seen c.args.err.now) (g.E.Sink.seen c.say.new.sink) (limit_line limit)) (sym c.in-Inputs.is) c.say.ensures
+
+pub returns-in-Total : goal.returns-in-Total
+returns-in-Total g c = subst (λ (limit : Limit). Says (g.E.Sink.seen c.args.err.now) (g.E.Sink.seen c.say-in-Total.new.sink) (limit_line limit)) (sym c.in-Total.is) c.say-in-Total.ensures
+
+pub returns-in-Functions : goal.returns-in-Functions
+returns-in-Functions g c = subst (λ (limit : Limit). Says (g.E.Sink.seen c.args.err.now) (g.E.Sink.seen c.say-in-Functions.new.sink) (limit_line limit)) (sym c.in-Functions.is) c.say-in-Functions.ensures

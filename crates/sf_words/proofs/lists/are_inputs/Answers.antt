@@ -1,0 +1,28 @@
+use Rattle.std.proofs.Common.{◌≡◌, ℕ, List, All, length, take, get_or, ap, sym, subst, ◌∙◌, arith}
+use lib.Seq.{take-length}
+use Rattle.std.specs.String.{string_bytes}
+use Rattle.std.proofs.lemmas.List.Elements.{All-more}
+use Rattle.sf_words.specs.Parsed.{input_of}
+use Rattle.sf_words.specs.Words.{IsInputWord, InputWords}
+use Rattle.sf_words.proofs.NamedWords.{named_at, found_thing, must_find}
+use Rattle.sf_words.proofs.lists.are_inputs.Goals as goal
+
+pub returns-then-is_none-clause-only : goal.returns-then-is_none-clause-only
+returns-then-is_none-clause-only c inputs h =
+    let named = named_at string_bytes IsInputWord c.args.words.now inputs c.loop-word.word-index c.word-item.result h (omega arith) in
+    let word : c.deref.result.now ≡ string_bytes (get_or c.args.words.now c.loop-word.word-index c.word-item.result) = c.deref.ensures ∙ ap string_bytes c.word-item.is in
+    let found = c.input_file.ensures.only named.0 (subst (λ (w : List ℕ). IsInputWord w named.0) (sym word) named.1) in
+    absurd (must_find _ c.input_file.result c.if-is_none.ensures found)
+
+pub loop-word-preserved : goal.loop-word-preserved
+loop-word-preserved c =
+    let word : c.deref.result.now ≡ string_bytes (get_or c.args.words.now c.loop-word.word-index c.word-item.result) = c.deref.ensures ∙ ap string_bytes c.word-item.is in
+    let thing = found_thing c.deref.result.now IsInputWord input_of c.input_file.result c.if-is_none.ensures c.input_file.ensures.found in
+    All-more (λ word. (input : InputWords) × IsInputWord (string_bytes word) input) c.args.words.now c.loop-word.word-index c.word-item.result (omega arith) c.loop-word.invariant
+    (thing.0, subst (λ (w : List ℕ). IsInputWord w thing.0) word thing.1)
+
+pub returns-clause-all : goal.returns-clause-all
+returns-clause-all c is =
+    let end : c.loop-word.word-index ≡ length c.args.words.now = omega arith in
+    let whole : take c.loop-word.word-index c.args.words.now ≡ c.args.words.now = ap (λ (n : ℕ). take n c.args.words.now) end ∙ take-length c.args.words.now in
+    subst (All (λ word. (input : InputWords) × IsInputWord (string_bytes word) input)) whole c.loop-word.invariant

@@ -1,0 +1,54 @@
+-- The files that a command reads, each of a kind, and the limits of each kind.
+use Rattle.std.specs.Prelude.{◌^◌, ℕ, List, [], ◌∷◌, map, length}
+use Rattle.sf_words.specs.declared.item.Item.{Item}
+use Rattle.sf_words.specs.declared.item.ItemKind.{ItemKind}
+use Rattle.sf_words.specs.declared.item.ItemKind.TheVariants.{Input, Section, Core}
+use Rattle.sf_words.specs.Words.{CommandWords, Link, Merge, Dump, Lookup, InputWords, SectionWords}
+
+-- a file that a command reads: its name and its kind
+pub record ItemWords : Type 0 where
+  pub name : List ℕ
+  pub kind : ItemKind
+
+abbrev pub item_of : Item → ItemWords
+item_of item = record { name = item.name.now; kind = item.kind }
+
+-- the most bytes of one file of a kind
+abbrev pub limit_of : ItemKind → ℕ
+limit_of Input = 2 ^ 28
+limit_of Section = 2 ^ 29
+limit_of Core = 2 ^ 30
+
+-- how many of a file's bytes count for the limit of all files of a run: all but a core's
+abbrev pub counted_bytes : ItemKind → (bytes : ℕ) → ℕ
+counted_bytes Input bytes = bytes
+counted_bytes Section bytes = bytes
+counted_bytes Core bytes = 0
+
+abbrev pub input_item : InputWords → ItemWords
+input_item input = record { name = input.name; kind = Input }
+
+abbrev pub section_item : SectionWords → ItemWords
+section_item section = record { name = section.name; kind = Section }
+
+-- the files that a command reads, in order
+abbrev pub items_of : CommandWords → List ItemWords
+items_of (Link link) = map input_item link.inputs
+items_of (Merge merge) = map section_item merge.sections
+items_of (Dump section) = section_item section ∷ []
+items_of (Lookup section pc) = section_item section ∷ []
+
+-- how many files a command's list names, for the limit of 512
+abbrev pub counted_items : CommandWords → ℕ
+counted_items (Link link) = length link.inputs
+counted_items (Merge merge) = length merge.sections
+counted_items (Dump section) = 1
+counted_items (Lookup section pc) = 1
+
+-- the names of these files
+abbrev pub names_of : List ItemWords → List (List ℕ)
+names_of items = map (λ (item : ItemWords). item.name) items
+
+-- the names of the files that a command reads, in order
+abbrev pub item_names : CommandWords → List (List ℕ)
+item_names command = names_of (items_of command)

@@ -1,0 +1,48 @@
+-- What the words say, seen without where they lie in memory.
+use Rattle.std.specs.Prelude.{◌≡◌, map}
+use Rattle.std.specs.List.{AllZip}
+use Rattle.std.specs.String.{string_bytes}
+use Rattle.sf_words.specs.declared.asked.Link.{Link}
+use Rattle.sf_words.specs.declared.asked.Merge.{Merge}
+use Rattle.sf_words.specs.declared.asked.Asked.{Asked}
+use Rattle.sf_words.specs.declared.asked.Asked.TheVariants as asked
+use Rattle.sf_words.specs.declared.words.InputFile.{InputFile}
+use Rattle.sf_words.specs.declared.command.LinkCommand.{LinkCommand}
+use Rattle.sf_words.specs.declared.command.MergeCommand.{MergeCommand}
+use Rattle.sf_words.specs.declared.command.Command.{Command}
+use Rattle.sf_words.specs.declared.command.Command.TheVariants as command
+use Rattle.sf_words.specs.declared.words.SectionFile.{SectionFile}
+use Rattle.sf_words.specs.Words.{InputWords, LinkWords, MergeWords, SectionWords, CommandWords, IsInputWord, IsSectionWord, Link as LinkOf, Merge as MergeOf, Dump, Lookup}
+
+abbrev pub input_of : InputFile → InputWords
+input_of input = record { form = input.form; name = input.name.now; base = input.base }
+
+abbrev pub section_of : SectionFile → SectionWords
+section_of section = record { name = section.name.now; at = section.at }
+
+abbrev pub link_of : Link → LinkWords
+link_of link = record { out = section_of link.out; inputs = map input_of link.inputs.items }
+
+abbrev pub merge_of : Merge → MergeWords
+merge_of merge = record { out = section_of merge.out; sections = map section_of merge.sections.items }
+
+abbrev pub words_of : Asked → CommandWords
+words_of (asked.Link link) = LinkOf (link_of link)
+words_of (asked.Merge merge) = MergeOf (merge_of merge)
+words_of (asked.Dump section) = Dump (section_of section)
+words_of (asked.Lookup section pc) = Lookup (section_of section) pc
+
+-- words that are split, and what they ask for
+pub record AsksLink (split : LinkCommand) (link : LinkWords) : Type 0 where
+  pub out : section_of split.out ≡ link.out
+  pub inputs : AllZip IsInputWord (map string_bytes split.inputs.now) link.inputs
+
+pub record AsksMerge (split : MergeCommand) (merge : MergeWords) : Type 0 where
+  pub out : section_of split.out ≡ merge.out
+  pub sections : AllZip IsSectionWord (map string_bytes split.sections.now) merge.sections
+
+abbrev pub Asks : Command → CommandWords → Type 0
+Asks (command.Link split) wanted = (link : LinkWords) × (wanted ≡ LinkOf link) × AsksLink split link
+Asks (command.Merge split) wanted = (merge : MergeWords) × (wanted ≡ MergeOf merge) × AsksMerge split merge
+Asks (command.Dump section) wanted = wanted ≡ Dump (section_of section)
+Asks (command.Lookup section pc) wanted = wanted ≡ Lookup (section_of section) pc

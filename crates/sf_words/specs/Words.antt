@@ -1,0 +1,116 @@
+-- The words of a command line: `link OUT@AT IN@BASE ..`, `merge OUT@AT FILE@AT ..`, `dump FILE@AT` and `lookup FILE@AT PC`, where the
+-- dots stand for any number of further words of the kind.
+use Rattle.std.specs.Prelude.{◌≡◌, ℕ, ◌<◌, List, [], ◌∷◌, ◌++◌, length, codes, Option, Some, None}
+use Rattle.std.specs.List.{AllZip}
+use Rattle.sf_base.specs.Word.{SpellsHexadecimal}
+use Rattle.sf_model.specs.declared.machine.Arch.{Arch}
+use Rattle.sf_model.specs.declared.machine.Arch.TheVariants.{Amd64, Aarch64}
+use Rattle.sf_asm.specs.declared.input.Form.{Form}
+use Rattle.sf_asm.specs.declared.input.Form.TheVariants.{Elf, Bare}
+
+-- NAME@ADDRESS: a name, an `@`, and an address as `0x` and 1 to 16 lower-case digits of base 16
+pub record IsPlaced (word name : List ℕ) (address : ℕ) : Type 0 where
+  pub digits : List ℕ
+  pub parts : word ≡ name ++ 64 ∷ digits
+  pub value : SpellsHexadecimal digits address
+
+-- what a word begins with that names a bare call frame section of this machine
+abbrev pub prefix_of : Arch → List ℕ
+prefix_of Amd64 = codes "eh-amd64:"
+prefix_of Aarch64 = codes "eh-aarch64:"
+
+-- how the name of an input is spelled: a bare section's behind what its machine begins with, and an ELF file's as it is, where it begins
+-- with neither
+abbrev pub Spells : Form → (text name : List ℕ) → Type 0
+Spells (Bare arch) text name = text ≡ prefix_of arch ++ name
+Spells Elf text name = (text ≡ name) × ((arch : Arch) (rest : List ℕ) → text ≡ prefix_of arch ++ rest → ⊥)
+
+-- an input: what its bytes are, the file's name and the load address
+pub record InputWords : Type 0 where
+  pub form : Form
+  pub name : List ℕ
+  pub base : ℕ
+
+-- the word names this input, and the name is not empty
+pub record IsInputWord (word : List ℕ) (input : InputWords) : Type 0 where
+  pub text : List ℕ
+  pub placed : IsPlaced word text input.base
+  pub spelled : Spells input.form text input.name
+  pub named : 0 < length input.name
+
+-- a section in a file: the file's name and the section's address
+pub record SectionWords : Type 0 where
+  pub name : List ℕ
+  pub at : ℕ
+
+-- the word names this section, and the name is not empty
+pub record IsSectionWord (word : List ℕ) (section : SectionWords) : Type 0 where
+  pub placed : IsPlaced word section.name section.at
+  pub named : 0 < length section.name
+
+-- what is asked of `link`: the section's file and address, and what is linked
+pub record LinkWords : Type 0 where
+  pub out : SectionWords
+  pub inputs : List InputWords
+
+-- the words ask for this link
+pub record IsLink (words : List (List ℕ)) (link : LinkWords) : Type 0 where
+  pub out_word : List ℕ
+  pub input_words : List (List ℕ)
+  pub words_are : words ≡ codes "link" ∷ out_word ∷ input_words
+  pub out : IsSectionWord out_word link.out
+  pub some : 0 < length input_words
+  pub inputs : AllZip IsInputWord input_words link.inputs
+
+-- what is asked of `merge`: the merged section's file and address, and the sections
+pub record MergeWords : Type 0 where
+  pub out : SectionWords
+  pub sections : List SectionWords
+
+-- the words ask for this merge
+pub record IsMerge (words : List (List ℕ)) (merge : MergeWords) : Type 0 where
+  pub out_word : List ℕ
+  pub section_words : List (List ℕ)
+  pub words_are : words ≡ codes "merge" ∷ out_word ∷ section_words
+  pub out : IsSectionWord out_word merge.out
+  pub some : 0 < length section_words
+  pub sections : AllZip IsSectionWord section_words merge.sections
+
+-- the words ask for what this section says
+pub record IsDump (words : List (List ℕ)) (section : SectionWords) : Type 0 where
+  pub section_word : List ℕ
+  pub words_are : words ≡ codes "dump" ∷ section_word ∷ []
+  pub named : IsSectionWord section_word section
+
+-- the words ask for the row of this section at this address
+pub record IsLookup (words : List (List ℕ)) (section : SectionWords) (pc : ℕ) : Type 0 where
+  pub section_word : List ℕ
+  pub address_word : List ℕ
+  pub words_are : words ≡ codes "lookup" ∷ section_word ∷ address_word ∷ []
+  pub named : IsSectionWord section_word section
+  pub address : SpellsHexadecimal address_word pc
+
+-- what a command line asks for
+pub data CommandWords : Type 0 where
+  Link : LinkWords → CommandWords
+  Merge : MergeWords → CommandWords
+  Dump : SectionWords → CommandWords
+  Lookup : SectionWords → (pc : ℕ) → CommandWords
+
+-- the words ask for this
+abbrev pub IsCommand : List (List ℕ) → CommandWords → Type 0
+IsCommand words (Link link) = IsLink words link
+IsCommand words (Merge merge) = IsMerge words merge
+IsCommand words (Dump section) = IsDump words section
+IsCommand words (Lookup section pc) = IsLookup words section pc
+
+-- the name of the file that a command makes
+abbrev pub out_name : CommandWords → Option (List ℕ)
+out_name (Link link) = Some link.out.name
+out_name (Merge merge) = Some merge.out.name
+out_name (Dump section) = None
+out_name (Lookup section pc) = None
+
+-- the words have none of the forms
+abbrev pub HasNoForm : List (List ℕ) → Type 0
+HasNoForm words = (command : CommandWords) → IsCommand words command → ⊥

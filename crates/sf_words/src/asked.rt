@@ -1,0 +1,105 @@
+//! What a command line asks for, with each of its words read.
+
+ghost use Rattle.std.specs.Prelude.{◌≡◌, List, map, IfOk};
+ghost use Rattle.sf_words.specs.Items.{items_of, item_of, input_item, section_item};
+ghost use Rattle.sf_words.specs.Parsed.{Asks, input_of, section_of, words_of};
+ghost use Rattle.sf_words.specs.Words.{CommandWords};
+
+use crate::command::Command;
+use crate::item::{Item, ItemKind};
+use crate::lists::{inputs_of, sections_of};
+use crate::words::{InputFile, SectionFile};
+use sf_base::NoMemory;
+use std::alloc::Global;
+
+/// What is linked, and the section that is made of it.
+#[derive(Drop)]
+pub struct Link<'a> {
+    pub out: SectionFile<'a>,
+    pub inputs: Vec<InputFile<'a>>,
+}
+
+/// What is merged, and the section that is made of it.
+#[derive(Drop)]
+pub struct Merge<'a> {
+    pub out: SectionFile<'a>,
+    pub sections: Vec<SectionFile<'a>>,
+}
+
+/// What a command asks for.
+#[derive(Drop)]
+pub enum Asked<'a> {
+    /// `link OUT@AT IN@BASE ..`
+    Link(Link<'a>),
+    /// `merge OUT@AT FILE@AT ..`
+    Merge(Merge<'a>),
+    /// `dump FILE@AT`
+    Dump(SectionFile<'a>),
+    /// `lookup FILE@AT PC`
+    Lookup(SectionFile<'a>, u64),
+}
+
+/// Reads the words of a command.
+///
+/// # Errors
+///
+/// `NoMemory`.
+pub fn read_words<'a>(alloc: Global, command: &Command<'a>) -> Result<Asked<'a>, NoMemory>
+    ensures { (wanted : CommandWords) → Asks command.now wanted → IfOk result (λ asked. words_of asked ≡ wanted) }
+{
+    match command {
+        Command::Link(link) => Ok(Asked::Link(Link {
+            out: link.out,
+            inputs: inputs_of(alloc, link.inputs)?,
+        })),
+        Command::Merge(merge) => Ok(Asked::Merge(Merge {
+            out: merge.out,
+            sections: sections_of(alloc, merge.sections)?,
+        })),
+        Command::Dump(section) => Ok(Asked::Dump(*section)),
+        Command::Lookup(section, pc) => Ok(Asked::Lookup(*section, *pc)),
+    }
+}
+
+/// The files to be linked, as items.
+fn input_items<'a>(alloc: Global, inputs: &[InputFile<'a>]) -> Result<Vec<Item<'a>>, NoMemory>
+    ensures { IfOk result (λ items. map item_of items.items ≡ map input_item (map input_of inputs.now)) }
+{
+    let mut items = Vec::new(alloc);
+    for input in inputs {
+        items.push(Item {
+            name: input.name,
+            kind: ItemKind::Input,
+        })?;
+    }
+    Ok(items)
+}
+
+/// The sections, as items.
+fn section_items<'a>(alloc: Global, sections: &[SectionFile<'a>]) -> Result<Vec<Item<'a>>, NoMemory>
+    ensures { IfOk result (λ items. map item_of items.items ≡ map section_item (map section_of sections.now)) }
+{
+    let mut items = Vec::new(alloc);
+    for section in sections {
+        items.push(Item {
+            name: section.name,
+            kind: ItemKind::Section,
+        })?;
+    }
+    Ok(items)
+}
+
+/// The files that a command reads, in order.
+///
+/// # Errors
+///
+/// `NoMemory`.
+pub fn items<'a>(alloc: Global, asked: &Asked<'a>) -> Result<Vec<Item<'a>>, NoMemory>
+    ensures { IfOk result (λ items. map item_of items.items ≡ items_of (words_of asked.now)) }
+{
+    match asked {
+        Asked::Link(link) => input_items(alloc, &link.inputs),
+        Asked::Merge(merge) => section_items(alloc, &merge.sections),
+        Asked::Dump(section) | Asked::Lookup(section, _) => section_items(alloc, &[*section]),
+    }
+}

@@ -1,0 +1,176 @@
+//! The forms of a command line.
+
+ghost use Rattle.std.specs.Prelude.{◌≡◌, ◌<◌, ℕ, [], ◌∷◌, List, map, length, IfSome, IsSome, IsSomeAnd};
+ghost use Rattle.std.specs.Option.{option_map};
+ghost use Rattle.std.specs.String.{string_bytes};
+ghost use Rattle.sf_words.specs.Words.{IsLink, IsMerge, IsDump, IsLookup, IsCommand, LinkWords, MergeWords, SectionWords, CommandWords, out_name};
+ghost use Rattle.sf_words.specs.Items.{counted_items};
+ghost use Rattle.sf_words.specs.Parsed.{section_of, Asks, AsksLink, AsksMerge};
+
+use crate::lists::{are_inputs, are_sections};
+use crate::words::{SectionFile, section_file};
+use sf_base::hex_word;
+
+/// The words of `link OUT@AT IN@BASE ..`.
+#[derive(Clone, Copy)]
+pub struct LinkCommand<'a> {
+    pub out: SectionFile<'a>,
+    /// The words that name the inputs.
+    pub inputs: &'a [String],
+}
+
+/// The words of `merge OUT@AT FILE@AT ..`.
+#[derive(Clone, Copy)]
+pub struct MergeCommand<'a> {
+    pub out: SectionFile<'a>,
+    /// The words that name the sections.
+    pub sections: &'a [String],
+}
+
+/// A command line that has one of the forms. It lends its words: reading them takes no memory.
+#[derive(Clone, Copy)]
+pub enum Command<'a> {
+    /// `link OUT@AT IN@BASE ..`
+    Link(LinkCommand<'a>),
+    /// `merge OUT@AT FILE@AT ..`
+    Merge(MergeCommand<'a>),
+    /// `dump FILE@AT`
+    Dump(SectionFile<'a>),
+    /// `lookup FILE@AT PC`
+    Lookup(SectionFile<'a>, u64),
+}
+
+impl<'a> Command<'a> {
+    /// How many files its list names, for the limit of 512.
+    pub fn counted(&self) -> usize
+        ensures { (wanted : CommandWords) → Asks self.now wanted → result ≡ counted_items wanted }
+    {
+        match self {
+            Command::Link(link) => link.inputs.len(),
+            Command::Merge(merge) => merge.sections.len(),
+            Command::Dump(_) | Command::Lookup(_, _) => 1,
+        }
+    }
+
+    /// The name of the file that it makes, where it makes one.
+    pub fn out_name(&self) -> Option<&'a str>
+        ensures { (wanted : CommandWords) → Asks self.now wanted → option_map (λ name. name.now) result ≡ out_name wanted }
+    {
+        match self {
+            Command::Link(link) => Some(link.out.name),
+            Command::Merge(merge) => Some(merge.out.name),
+            Command::Dump(_) | Command::Lookup(_, _) => None,
+        }
+    }
+}
+
+/// The two words, where there are two.
+fn two_words(words: &[String]) -> Option<(&str, &str)>
+    ensures found { IfSome result (λ t. map string_bytes words.now ≡ t.0.now ∷ t.1.now ∷ []) }
+    ensures only { (a b : List ℕ) → map string_bytes words.now ≡ a ∷ b ∷ [] → IsSome result }
+{
+    match words {
+        [first, second] => Some((first.as_str(), second.as_str())),
+        _ => None,
+    }
+}
+
+/// The three words, where there are three.
+fn three_words(words: &[String]) -> Option<(&str, &str, &str)>
+    ensures found { IfSome result (λ t. map string_bytes words.now ≡ t.0.now ∷ t.1.now ∷ t.2.now ∷ []) }
+    ensures only { (a b c : List ℕ) → map string_bytes words.now ≡ a ∷ b ∷ c ∷ [] → IsSome result }
+{
+    match words {
+        [first, second, third] => Some((first.as_str(), second.as_str(), third.as_str())),
+        _ => None,
+    }
+}
+
+/// The first two words and the others, where there is a third one.
+fn out_and_items(words: &[String]) -> Option<(&str, &str, &[String])>
+    ensures found { IfSome result (λ t. (map string_bytes words.now ≡ t.0.now ∷ t.1.now ∷ map string_bytes t.2.now) × (0 < length t.2.now)) }
+    ensures only { (a b : List ℕ) (rest : List (List ℕ)) → map string_bytes words.now ≡ a ∷ b ∷ rest → 0 < length rest → IsSome result }
+{
+    match words {
+        [_, _] => None,
+        [first, second, rest @ ..] => Some((first.as_str(), second.as_str(), rest)),
+        _ => None,
+    }
+}
+
+/// The parts of the words, where they have the form `link OUT@AT IN@BASE ..`.
+fn link_words(words: &[String]) -> Option<LinkCommand<'_>>
+    ensures found { IfSome result (λ c. (link : LinkWords) → AsksLink c link → IsLink (map string_bytes words.now) link) }
+    ensures named { IfSome result (λ c. (link : LinkWords) × AsksLink c link) }
+    ensures only { (link : LinkWords) → IsLink (map string_bytes words.now) link → IsSomeAnd result (λ c. AsksLink c link) }
+{
+    let (command, out, inputs) = out_and_items(words)?;
+    if command != "link" {
+        return None;
+    }
+    let out = section_file(out)?;
+    if !are_inputs(inputs) {
+        return None;
+    }
+    Some(LinkCommand { out, inputs })
+}
+
+/// The parts of the words, where they have the form `merge OUT@AT FILE@AT ..`.
+fn merge_words(words: &[String]) -> Option<MergeCommand<'_>>
+    ensures found { IfSome result (λ c. (merge : MergeWords) → AsksMerge c merge → IsMerge (map string_bytes words.now) merge) }
+    ensures named { IfSome result (λ c. (merge : MergeWords) × AsksMerge c merge) }
+    ensures only { (merge : MergeWords) → IsMerge (map string_bytes words.now) merge → IsSomeAnd result (λ c. AsksMerge c merge) }
+{
+    let (command, out, sections) = out_and_items(words)?;
+    if command != "merge" {
+        return None;
+    }
+    let out = section_file(out)?;
+    if !are_sections(sections) {
+        return None;
+    }
+    Some(MergeCommand { out, sections })
+}
+
+/// The section, where the words have the form `dump FILE@AT`.
+fn dump_words(words: &[String]) -> Option<SectionFile<'_>>
+    ensures found { IfSome result (λ s. IsDump (map string_bytes words.now) (section_of s)) }
+    ensures only { (section : SectionWords) → IsDump (map string_bytes words.now) section → IsSomeAnd result (λ s. section_of s ≡ section) }
+{
+    let (command, section) = two_words(words)?;
+    if command != "dump" {
+        return None;
+    }
+    section_file(section)
+}
+
+/// The section and the address, where the words have the form `lookup FILE@AT PC`.
+fn lookup_words(words: &[String]) -> Option<(SectionFile<'_>, u64)>
+    ensures found { IfSome result (λ l. IsLookup (map string_bytes words.now) (section_of l.0) l.1) }
+    ensures only { (section : SectionWords) (pc : ℕ) → IsLookup (map string_bytes words.now) section pc → IsSomeAnd result (λ l. (section_of l.0 ≡ section) × (l.1 ≡ pc)) }
+{
+    let (command, section, address) = three_words(words)?;
+    if command != "lookup" {
+        return None;
+    }
+    Some((section_file(section)?, hex_word(address)?))
+}
+
+/// What the words ask for, where they have one of the forms.
+pub fn command_words(words: &[String]) -> Option<Command<'_>>
+    ensures found { IfSome result (λ c. (command : CommandWords) → Asks c command → IsCommand (map string_bytes words.now) command) }
+    ensures named { IfSome result (λ c. (command : CommandWords) × Asks c command) }
+    ensures only { (command : CommandWords) → IsCommand (map string_bytes words.now) command → IsSomeAnd result (λ c. Asks c command) }
+{
+    if let Some(link) = link_words(words) {
+        return Some(Command::Link(link));
+    }
+    if let Some(merge) = merge_words(words) {
+        return Some(Command::Merge(merge));
+    }
+    if let Some(section) = dump_words(words) {
+        return Some(Command::Dump(section));
+    }
+    let (section, pc) = lookup_words(words)?;
+    Some(Command::Lookup(section, pc))
+}
