@@ -20,7 +20,7 @@ import time
 TOP = os.path.dirname(os.path.dirname(os.path.abspath(__file__)))
 ROOMS = f"{TOP}/demo/out/rooms"
 # What a check has been seen to take, in bytes: its first process, and each further one.
-FIRST, FURTHER = 2.5e9, 1.5e9
+FIRST, FURTHER = 2e9, 1e9
 
 
 def crates():
