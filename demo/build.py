@@ -19,8 +19,9 @@ import time
 
 TOP = os.path.dirname(os.path.dirname(os.path.abspath(__file__)))
 ROOMS = f"{TOP}/demo/out/rooms"
-# What a check has been seen to take, in bytes: its first process, and each further one.
-FIRST, FURTHER = 2e9, 1e9
+# The memory that is set aside for a check, in bytes: its first process, and each further one. Most checks take less than 2 GB, and
+# rt reckons with 1.5 GB for a further process.
+FIRST, FURTHER = 2e9, 1.5e9
 
 
 def crates():
