@@ -6,30 +6,28 @@ use Rattle.std.proofs.lemmas.List.{length-map}
 use Rattle.sf_base.specs.Contents.{contents_of}
 use Rattle.sf_base.specs.Faults.{Rose}
 use Rattle.sf_base.specs.Seen.{FilesSeen, SinkSeen, OnlyReads}
-use Rattle.sf_model.specs.Told.{Told, told_by}
-use Rattle.sf_text.specs.FaultLine.{fault_text}
+use Rattle.sf_model.specs.Told.{told_by}
 use Rattle.sf_items.specs.declared.refusal.Limit.{Limit}
 use Rattle.sf_items.specs.declared.refusal.Limit.TheVariants.{Inputs}
 use Rattle.sf_items.specs.declared.refusal.Refusal.{Refusal}
 use Rattle.sf_items.specs.declared.refusal.Refusal.TheVariants as refusal
-use Rattle.sf_items.specs.Loading.{AreBytesOf, AreLoaded, Contents, Exceeds, IsLoadingRefusal, IsRead, bytes_known, items_limit}
+use Rattle.sf_items.specs.Loading.{AreBytesOf, AreLoaded, Contents, IsLoadingRefusal, IsRead, bytes_known}
 use Rattle.sf_words.specs.declared.item.Item.{Item}
-use Rattle.sf_words.specs.Items.{ItemWords, counted_items, item_names, item_of, items_of, names_of}
+use Rattle.sf_words.specs.Items.{ItemWords, counted_items, item_of, items_of, names_of}
 use Rattle.sf_words.specs.Words.{CommandWords, out_name}
 use Rattle.sf_make.specs.declared.made.Made.{Made}
 use Rattle.sf_make.specs.declared.made.Outcome.{Outcome}
 use Rattle.sf_make.specs.declared.made.Outcome.TheVariants as outcome
 use Rattle.sf_make.specs.Comes.{AreItems, Comes, CommandComes, RefusesNothing, command_limit}
-use Rattle.sf_make.specs.Coming.{Coming, ComesWithin, Exceeded, Makes, Refused}
+use Rattle.sf_make.specs.Coming.{Coming, ComesWithin, Exceeded, Makes}
 use Rattle.sf_make.specs.Making.{ComesAs, ComesTo, coming_of}
 use Rattle.sf_make.proofs.Limits.{few_limit, many_limit}
 use Rattle.sf_make.proofs.Arms.{comes_as}
 use Rattle.sf_make.proofs.OneComing.{one_coming}
 use Rattle.sf_run.specs.declared.status.Status.{Status}
 use Rattle.sf_run.specs.declared.status.Status.TheVariants as status
-use Rattle.sf_run.specs.Ends.{AnswersFor, CanBeSaid, Delivered, FileFailed, Leaves, NoneFailed, OutputFailed, RunComes, RunEnds, RunIsComplete, RunRefuses, Seen, Tells, TurnedAway, Written, seen}
-use Rattle.sf_run.specs.Lines.{Says, limit_line, memory_line, read_line}
-use Rattle.sf_run.specs.Status.{status_for, status_of}
+use Rattle.sf_run.specs.Ends.{AnswersFor, CanBeSaid, Delivered, NoneFailed, RunComes, RunEnds, RunIsComplete, RunRefuses, Seen, Tells, seen}
+use Rattle.sf_run.specs.Status.{status_of}
 
 -- ---- the items of a command, as the code has them
 unmapped : {A B : Type 0} (f : A → B) (P : B → Type 0) (xs : List A) → All P (map f xs) → All (λ (x : A). P (f x)) xs
