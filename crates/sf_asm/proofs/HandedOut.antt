@@ -1,23 +1,18 @@
 -- Kept functions, a list for each input.
-use Rattle.std.specs.Prelude.{not}
-use Rattle.std.specs.List.{AllByRecursion, cons_option, filter, flat_map}
-use Rattle.std.specs.List.Sorted.{IsPermutation}
-use Rattle.std.proofs.Common.{◌≡◌, ℕ, zero, suc, ◌+◌, ◌<◌, ◌≤◌, Bool, true, false, cond, eqb, All, Vec, Global, List, [], ◌∷◌, ◌++◌, length, get_or, map, Option, Some, None, refl, sym, ap, subst, ◌∙◌, arith, inl, inr}
+use Rattle.std.specs.List.{AllByRecursion}
+use Rattle.std.proofs.Common.{◌≡◌, ℕ, zero, suc, ◌+◌, ◌<◌, Bool, true, false, cond, eqb, All, Vec, Global, List, [], ◌∷◌, ◌++◌, length, get_or, map, refl, sym, ap, subst, ◌∙◌, arith}
 use Rattle.std.proofs.Math.ListN.{set}
-use Rattle.std.proofs.lemmas.Bool.{cases_lt, eqb-true, eqb-false}
+use Rattle.std.proofs.lemmas.Bool.{eqb-true, eqb-false}
 use Rattle.std.proofs.lemmas.Bool.Decides.{nat_tests}
 use Rattle.std.proofs.lemmas.List.{append-nil, get_or-set_same, get_or-set_other, length-set}
-use Rattle.std.proofs.lemmas.List.Concat.{flat_map-cons}
-use Rattle.std.proofs.lemmas.List.Sorted.{IsPermutation-append_right, IsPermutation-cons, IsPermutation-middle, IsPermutation-refl, IsPermutation-sym, IsPermutation-trans}
-use Rattle.std.proofs.lemmas.List.Elements.{All-from_recursion, filter-append, recursion_from_All}
+use Rattle.std.proofs.lemmas.List.Elements.{All-from_recursion, filter-append}
 use Rattle.sf_model.specs.declared.machine.Arch.{Arch}
 use Rattle.sf_model.specs.declared.function.Func.{Func}
 use Rattle.sf_model.specs.declared.omission.Omission.{Omission}
 use Rattle.sf_model.specs.Function.{AreWritable}
 use Rattle.sf_asm.specs.declared.entry.Entry.{Entry}
 use Rattle.sf_asm.specs.declared.entry.Outcome.TheVariants.{Kept, Left}
-use Rattle.sf_asm.specs.Entry.{kept_by_item, kept_in, kept_of, of_item}
-use Rattle.sf_asm.proofs.Items.{IsWithin}
+use Rattle.sf_asm.specs.Entry.{kept_by_item, kept_of, of_item}
 use Rattle.sf_asm.proofs.Kept.{kept_of-kept, kept_of-left}
 
 abbrev pub is_of : (item : ℕ) → Entry → Bool
@@ -104,89 +99,3 @@ each_of arch first (suc count) (list ∷ lists) es e h =
 pub each_writable : (arch : Arch) (first count : ℕ) (lists : List (Vec Func Global)) (es : List Entry) → map (λ (list : Vec Func Global). list.items) lists ≡ kept_by_item first count es → ((item : ℕ) → AreWritable arch (kept_of (of_item item es)))
     → All (λ (list : Vec Func Global). AreWritable arch list.items) lists
 each_writable arch first count lists es e h = All-from_recursion (λ (list : Vec Func Global). AreWritable arch list.items) lists (each_of arch first count lists es e h)
-
--- of one input
-all_of_it : (item : ℕ) (es : List Entry) → AllByRecursion (IsWithin item (item + 1)) es → of_item item es ≡ es
-all_of_it item [] h = refl
-all_of_it item (e ∷ es) h =
-    ap (λ (b : Bool). cond b (e ∷ of_item item es) (of_item item es)) (equal_test e.span.origin.item item (omega (arith, h.0.0, h.0.1))) ∙ ap (λ (xs : List Entry). e ∷ xs) (all_of_it item es h.1)
-
-pub one_list : (item : ℕ) (es : List Entry) → All (IsWithin item (item + 1)) es → kept_by_item item 1 es ≡ kept_of es ∷ []
-one_list item es h = ap (λ (xs : List Entry). kept_of xs ∷ []) (all_of_it item es (recursion_from_All (IsWithin item (item + 1)) es h))
-
-pub only_list : (lists : List (Vec Func Global)) (list : Vec Func Global) (fs : List Func) → map (λ (list : Vec Func Global). list.items) lists ≡ fs ∷ [] → list ≡ get_or lists 0 list → list.items ≡ fs
-only_list [] list fs e at = cc
-only_list (first ∷ lists) list fs e at = let is : first.items ≡ fs = cc in ap (λ (v : Vec Func Global). v.items) at ∙ is
-
--- ---- all lists together
--- the functions of one input and the others
-abbrev is_other : (item : ℕ) → Entry → Bool
-is_other item e = not (is_of item e)
-
-one_moves : (f : Option Func) (b : Bool) (fs ours theirs : List Func) → IsPermutation fs (ours ++ theirs) → IsPermutation (cons_option f fs) (cond b (cons_option f ours) ours ++ cond (not b) (cons_option f theirs) theirs)
-one_moves None true fs ours theirs h = h
-one_moves None false fs ours theirs h = h
-one_moves (Some f) true fs ours theirs h = IsPermutation-cons f fs (ours ++ theirs) h
-one_moves (Some f) false fs ours theirs h =
-    IsPermutation-trans (f ∷ fs) (f ∷ (ours ++ theirs)) (ours ++ f ∷ theirs) (IsPermutation-cons f fs (ours ++ theirs) h)
-    (IsPermutation-sym (ours ++ f ∷ theirs) (f ∷ (ours ++ theirs)) (IsPermutation-middle ours f theirs))
-
-kept_if : (b : Bool) (e : Entry) (es : List Entry) → kept_of (cond b (e ∷ es) es) ≡ cond b (cons_option (kept_in e.outcome) (kept_of es)) (kept_of es)
-kept_if true e es = refl
-kept_if false e es = refl
-
-parted : (item : ℕ) (es : List Entry) → IsPermutation (kept_of es) (kept_of (of_item item es) ++ kept_of (filter (is_other item) es))
-parted item [] = IsPermutation-refl []
-parted item (e ∷ es) =
-    let whole = one_moves (kept_in e.outcome) (is_of item e) (kept_of es) (kept_of (of_item item es)) (kept_of (filter (is_other item) es)) (parted item es) in
-    rw (kept_if (is_of item e) e (of_item item es), kept_if (not (is_of item e)) e (filter (is_other item) es)) whole
-
--- the lists of later inputs hold others
-of_others : (item first : ℕ) (es : List Entry) → first < item → of_item item (filter (is_other first) es) ≡ of_item item es
-of_others item first [] lt = refl
-of_others item first (e ∷ es) lt = at_test (is_of first e) refl (of_others item first es lt)
-  where
-    at_test : (b : Bool) → is_of first e ≡ b → of_item item (filter (is_other first) es) ≡ of_item item es → of_item item (filter (is_other first) (e ∷ es)) ≡ of_item item (e ∷ es)
-    at_test true t rest =
-        let here = eqb-true e.span.origin.item first t in
-        let not_it : is_of item e ≡ false = other_test e.span.origin.item item (λ is. omega (arith, is, here, lt)) in
-        rw (t, not_it) rest
-    at_test false t rest = rw t (ap (λ (xs : List Entry). cond (is_of item e) (e ∷ xs) xs) rest)
-
-lists_of_others : (from count first : ℕ) (es : List Entry) → first < from → kept_by_item from count (filter (is_other first) es) ≡ kept_by_item from count es
-lists_of_others from zero first es lt = refl
-lists_of_others from (suc count) first es lt =
-    ap (λ (xs : List Entry). kept_of xs ∷ kept_by_item (from + 1) count (filter (is_other first) es)) (of_others from first es lt)
-    ∙ ap (λ (fss : List (List Func)). kept_of (of_item from es) ∷ fss) (lists_of_others (from + 1) count first es (omega (arith, lt)))
-
-above : (first item : ℕ) → first ≤ item → (item ≡ first → ⊥) → first + 1 ≤ item
-above first item le not_first = elim (cases_lt first item) [
-  | inl lt ↦ omega (arith, lt)
-  | inr not_above ↦ absurd (not_first (omega (arith, le, not_above)))
-]
-
-others_within : (first to : ℕ) (es : List Entry) → AllByRecursion (IsWithin first to) es → AllByRecursion (IsWithin (first + 1) to) (filter (is_other first) es)
-others_within first to [] h = tt
-others_within first to (e ∷ es) h = at_test (is_of first e) refl (others_within first to es h.1)
-  where
-    at_test : (b : Bool) → is_of first e ≡ b → AllByRecursion (IsWithin (first + 1) to) (filter (is_other first) es) → AllByRecursion (IsWithin (first + 1) to) (filter (is_other first) (e ∷ es))
-    at_test true t rest = rw t rest
-    at_test false t rest = let not_first : e.span.origin.item ≡ first → ⊥ = eqb-false e.span.origin.item first t in rw t ((above first e.span.origin.item h.0.0 not_first, h.0.1), rest)
-
-none_there : (first : ℕ) (es : List Entry) → AllByRecursion (IsWithin first (first + 0)) es → kept_of es ≡ []
-none_there first [] h = refl
-none_there first (e ∷ es) h = absurd (omega (arith, h.0.0, h.0.1))
-
-together_from : (first count : ℕ) (es : List Entry) → AllByRecursion (IsWithin first (first + count)) es → IsPermutation (kept_of es) (flat_map (λ fs. fs) (kept_by_item first count es))
-together_from first zero es h = rw (none_there first es h) (IsPermutation-refl [])
-together_from first (suc count) es h =
-    let there = others_within first (first + suc count) es h in
-    let rest = together_from (first + 1) count (filter (is_other first) es) (subst (λ (to : ℕ). AllByRecursion (IsWithin (first + 1) to) (filter (is_other first) es)) (omega arith) there) in
-    let rest_of_all = subst (λ (fss : List (List Func)). IsPermutation (kept_of (filter (is_other first) es)) (flat_map (λ fs. fs) fss)) (lists_of_others (first + 1) count first es (omega arith)) rest in
-    rw (flat_map-cons (λ (fs : List Func). fs) (kept_of (of_item first es)) (kept_by_item (first + 1) count es))
-    (IsPermutation-trans (kept_of es) (kept_of (of_item first es) ++ kept_of (filter (is_other first) es)) (kept_of (of_item first es) ++ flat_map (λ fs. fs) (kept_by_item (first + 1) count es)) (parted first es)
-    (IsPermutation-append_right (kept_of (of_item first es)) (kept_of (filter (is_other first) es)) (flat_map (λ fs. fs) (kept_by_item (first + 1) count es)) rest_of_all))
-
--- the kept functions are those of all lists
-pub all_together : (first count : ℕ) (es : List Entry) → All (IsWithin first (first + count)) es → IsPermutation (kept_of es) (flat_map (λ fs. fs) (kept_by_item first count es))
-all_together first count es h = together_from first count es (recursion_from_All (IsWithin first (first + count)) es h)

@@ -77,6 +77,15 @@ pub record AreGathered (before : Option Arch) (objects : List Object) (arch : Ar
   pub omitted_are : omitted ≡ omitted_of ordered
   pub spans_are : spans ≡ spans_of ordered
 
+-- the same functions, those of all inputs together
+pub record AreTogether (before : Option Arch) (objects : List Object) (arch : Arch) (kept : List Func) (omitted : List Omitted) : Type 0 where
+  pub ordered : List Entry
+  pub is : Gathers before objects (Ok ordered)
+  pub kept_are : kept ≡ kept_of ordered
+  -- one section can hold them
+  pub writable : AreWritable arch kept
+  pub omitted_are : omitted ≡ omitted_of ordered
+
 -- a fault of gathering is the first one, or memory was wanting
 abbrev pub IsFirstGathered : (before : Option Arch) → List Object → GatherFault → Type 0
 IsFirstGathered before objects fault = (fault ≡ gather.NoMemory) ⊎ Gathers before objects (Err fault)

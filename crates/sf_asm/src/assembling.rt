@@ -6,7 +6,7 @@ ghost use Rattle.sf_asm.specs.Functions.{object_of};
 ghost use Rattle.sf_asm.specs.Fault.{is_answered};
 
 use crate::fault::{GatherFault, LinkFault};
-use crate::gathering::gather;
+use crate::gathering::gather_together;
 use crate::input::Input;
 use sf_model::Omitted;
 use sf_write::{WriteFault, write};
@@ -37,16 +37,15 @@ pub fn assemble(alloc: Global, input: &Input<'_>, at: u64) -> Result<Linked, Lin
     ensures fault { IfErr result (IsFirstLinked None (object_of input.now ∷ []) at) }
     ensures answered { IfErr result (λ fault. IsTrue (is_answered fault)) }
 {
-    let gathered = match gather(alloc, &[*input], None) {
+    let gathered = match gather_together(alloc, &[*input], None) {
         Ok(gathered) => gathered,
         Err(GatherFault::NoMemory) => return Err(LinkFault::NoMemory),
         Err(fault) => return Err(LinkFault::Gather(fault)),
     };
-    let kept = &gathered.kept[0];
-    match write(alloc, gathered.arch, at, kept) {
+    match write(alloc, gathered.arch, at, &gathered.kept) {
         Ok(section) => Ok(Linked {
             section,
-            kept: kept.len() as u32,
+            kept: gathered.kept.len() as u32,
             omitted: gathered.omitted,
         }),
         Err(WriteFault::OutOfReach(start)) => Err(LinkFault::OutOfReach(start)),

@@ -3,9 +3,9 @@
 ghost use Rattle.std.specs.Prelude.{◌≡◌, ◌≤◌, ◌<◌, ◌+◌, ◌^◌, All, [], length, map, Ok, None, IfOk, IfErr, IfSome, OnOk, IsTrue};
 ghost use Rattle.std.specs.Option.{option_map};
 ghost use Rattle.sf_model.specs.Function.{AreWritable};
-ghost use Rattle.sf_asm.specs.Entry.{IsSound, kept_by_item, omitted_of, spans_of};
+ghost use Rattle.sf_asm.specs.Entry.{IsSound, kept_by_item, kept_of, omitted_of, spans_of};
 ghost use Rattle.sf_asm.specs.declared.fault.GatherFault.TheVariants.{NoMemory};
-ghost use Rattle.sf_asm.specs.Answers.{AreGathered, IsFirstGathered};
+ghost use Rattle.sf_asm.specs.Answers.{AreGathered, AreTogether, IsFirstGathered};
 ghost use Rattle.sf_asm.specs.Functions.{object_of, unless};
 ghost use Rattle.sf_asm.specs.Inputs.{HaveMachine, first_item as item_of_first};
 ghost use Rattle.sf_asm.specs.Linking.{Gathers, InOrder, functions_fault, limits_fault, overlap_fault, overlap_in, overlap_with};
@@ -38,6 +38,17 @@ pub struct Gathered {
     pub spans: Vec<Span>,
 }
 
+/// The functions of the inputs, those of all inputs together.
+#[derive(Drop)]
+pub struct Together {
+    /// The machine of all inputs.
+    pub arch: Arch,
+    /// The functions that SFrame can express, by rising start.
+    pub kept: Vec<Func>,
+    /// The functions that it can't, by start and then origin.
+    pub omitted: Vec<Omitted>,
+}
+
 /// Tries the limits: functions first, then rows.
 fn check_limits(entries: &[Entry]) -> Result<(), GatherFault>
     ensures exact { result ≡ unless (limits_fault entries.now) }
@@ -58,6 +69,7 @@ fn check_limits(entries: &[Entry]) -> Result<(), GatherFault>
 }
 
 /// The rows of a kept function.
+#[inline(always)]
 fn row_count(outcome: &Outcome) -> usize
     ensures { result ≡ rows_of outcome.now }
 {
@@ -68,6 +80,7 @@ fn row_count(outcome: &Outcome) -> usize
 }
 
 /// The fault of a function that begins before the end of another one.
+#[inline(always)]
 fn overlap_of(before: Option<Span>, span: Span) -> Option<GatherFault>
     ensures exact { result ≡ overlap_with before span }
     ensures answered { IfSome result (λ fault. IsTrue (is_gather_answered fault)) }
@@ -149,6 +162,56 @@ fn first_item(before: Option<Arch>) -> u32
         Some(_) => 1,
         None => 0,
     }
+}
+
+/// The kept and the omitted functions, both in the order of all.
+fn kept_and_omitted(alloc: Global, arch: Arch, entries: Vec<Entry>) -> Result<Together, AllocError>
+    ensures arch { IfOk result (λ g. g.arch ≡ arch) }
+    ensures kept { IfOk result (λ g. g.kept.items ≡ kept_of entries.items) }
+    ensures omitted { IfOk result (λ g. g.omitted.items ≡ omitted_of entries.items) }
+{
+    let mut together = Together {
+        arch,
+        kept: Vec::new(alloc),
+        omitted: Vec::new(alloc),
+    };
+    for entry in entries {
+        let Entry { span, outcome } = entry;
+        match outcome {
+            Outcome::Kept(func) => together.kept.push(func)?,
+            Outcome::Left(omission) => together.omitted.push(Omitted {
+                start: span.start,
+                size: span.size,
+                origin: span.origin,
+                omission,
+            })?,
+        }
+    }
+    Ok(together)
+}
+
+/// Gathers the functions of 1 to 512 inputs as [`gather`] does, into one list by rising start.
+///
+/// # Errors
+///
+/// Those of [`gather`].
+pub fn gather_together(
+    alloc: Global,
+    inputs: &[Input<'_>],
+    before: Option<Arch>,
+) -> Result<Together, GatherFault>
+    requires some { (0 < length inputs.now) × (length inputs.now ≤ 512) }
+    requires small { All (λ input. length input.bytes.now < 2 ^ 32) inputs.now }
+    // The functions are those of the inputs by rising start, and one section can hold them.
+    ensures gathered { IfOk result (λ g. AreTogether before (map object_of inputs.now) g.arch g.kept.items g.omitted.items) }
+    // It's the machine of all items.
+    ensures machine { IfOk result (λ g. HaveMachine before (map object_of inputs.now) g.arch) }
+    // A fault is the first one.
+    ensures fault { IfErr result (IsFirstGathered before (map object_of inputs.now)) }
+    ensures answered { IfErr result (λ fault. IsTrue (is_gather_answered fault)) }
+{
+    let read = ordered(alloc, inputs, before)?;
+    Ok(kept_and_omitted(alloc, read.arch, read.entries)?)
 }
 
 /// So many empty lists.

@@ -114,6 +114,7 @@ fn check_overlay(
 }
 
 /// The start and size of a function.
+#[inline(always)]
 fn span_of(section: &Frames<'_>, overlay: &Overlay, fde: &Fde<'_>) -> Result<(u64, u64), AsmFault>
     ensures exact { (relocations : Result (List Fix) reloc_fault) → result ≡ named (Record section.now.number) (span_in (seen_section section.now relocations) (overlaid (written_by overlay.now)) (fde_view fde.now)) }
     ensures end { IfOk result (λ s. s.0 + s.1 ≤ 2 ^ 64) }
@@ -126,6 +127,7 @@ fn span_of(section: &Frames<'_>, overlay: &Overlay, fde: &Fde<'_>) -> Result<(u6
 }
 
 /// Starts the runner on the rows of a function.
+#[inline(always)]
 fn begin_rows<'a>(
     section: &Frames<'a>,
     fde: &Fde<'a>,
@@ -152,6 +154,7 @@ fn begin_rows<'a>(
 }
 
 /// What becomes of the function that the runner was started on. Each of its instructions is run.
+#[inline(always)]
 fn outcome_of(
     alloc: Global,
     section: &Frames<'_>,
@@ -171,6 +174,7 @@ fn outcome_of(
 }
 
 /// The function of one frame description entry.
+#[inline(always)]
 fn read_function<'a>(
     alloc: Global,
     section: &Frames<'a>,

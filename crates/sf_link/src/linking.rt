@@ -6,9 +6,7 @@ ghost use Rattle.sf_asm.specs.Answers.{IsFirstLinked, IsLinked};
 ghost use Rattle.sf_asm.specs.Fault.{is_answered};
 ghost use Rattle.sf_asm.specs.Functions.{object_of};
 
-use sf_asm::{GatherFault, Input, LinkFault, Linked, gather};
-use sf_base::NoMemory;
-use sf_merge::join;
+use sf_asm::{GatherFault, Input, LinkFault, Linked, gather_together};
 use sf_model::Arch;
 use sf_write::{WriteFault, write};
 use std::alloc::Global;
@@ -37,19 +35,15 @@ pub fn link(
     ensures fault { IfErr result (IsFirstLinked before (map object_of inputs.now) at) }
     ensures answered { IfErr result (λ fault. IsTrue (is_answered fault)) }
 {
-    let gathered = match gather(alloc, inputs, before) {
+    let gathered = match gather_together(alloc, inputs, before) {
         Ok(gathered) => gathered,
         Err(GatherFault::NoMemory) => return Err(LinkFault::NoMemory),
         Err(fault) => return Err(LinkFault::Gather(fault)),
     };
-    let kept = match join(alloc, gathered.kept) {
-        Ok(kept) => kept,
-        Err(NoMemory) => return Err(LinkFault::NoMemory),
-    };
-    match write(alloc, gathered.arch, at, &kept) {
+    match write(alloc, gathered.arch, at, &gathered.kept) {
         Ok(section) => Ok(Linked {
             section,
-            kept: kept.len() as u32,
+            kept: gathered.kept.len() as u32,
             omitted: gathered.omitted,
         }),
         Err(WriteFault::OutOfReach(start)) => Err(LinkFault::OutOfReach(start)),

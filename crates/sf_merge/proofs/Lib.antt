@@ -1,5 +1,5 @@
 pub mod Permutations
-pub mod HeadLists
+pub mod Ranked
 pub mod Written
 pub mod Checks
 pub mod Read

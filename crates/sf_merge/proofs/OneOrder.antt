@@ -19,10 +19,9 @@ use Rattle.sf_model.specs.Table.{Table}
 use Rattle.sf_decode.proofs.Holds.{if_eq}
 use Rattle.sf_merge.specs.declared.fault.MergeFault.{MergeFault}
 use Rattle.sf_merge.specs.declared.located.Located.{Located}
-use Rattle.sf_merge.specs.Heads.{before}
-use Rattle.sf_merge.specs.Located.{at_entry, located, all_located, has_bytes, sized, compared, InOrder}
+use Rattle.sf_merge.specs.Located.{before, at_entry, located, all_located, has_bytes, sized, compared, InOrder}
 use Rattle.sf_merge.specs.Merging.{functions_fault, sections_fault, unless_fault, written, Merges, MergesUnless}
-use Rattle.sf_merge.proofs.HeadLists.{order, first_least, rest_sorted}
+use Rattle.sf_merge.proofs.Ranked.{order, first_least, rest_sorted}
 use Rattle.sf_merge.proofs.Permutations.{along}
 
 -- ---- neither comes before the other

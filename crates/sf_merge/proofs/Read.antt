@@ -1,12 +1,10 @@
 -- The functions of sections as they are read, one after the other.
 use Rattle.std.specs.Prelude.{nat_lt}
 use Rattle.std.specs.List.{enumerate_from, filter, flat_map}
-use Rattle.std.specs.List.Sorted.{IsPermutation, IsSorted}
-use Rattle.std.proofs.Common.{◌≡◌, ℕ, ◌+◌, ◌<◌, ◌≤◌, Bool, cond, List, [], ◌∷◌, ◌++◌, length, map, drop, get_or, Result, Ok, Err, IfOk, OnOk, sym, ap, subst, ◌∙◌, append_assoc, arith}
+use Rattle.std.proofs.Common.{◌≡◌, ℕ, ◌+◌, ◌<◌, ◌≤◌, Bool, cond, List, [], ◌∷◌, ◌++◌, length, map, drop, get_or, sym, ap, ◌∙◌, append_assoc, arith}
 use Rattle.std.proofs.lemmas.Bool.{lt-ltb, le-ltb}
 use Rattle.std.proofs.lemmas.List.{append-nil, drop_more, drop_all}
 use Rattle.std.proofs.lemmas.List.Elements.{filter-append}
-use Rattle.std.proofs.lemmas.List.Sorted.{IsPermutation-trans, IsPermutation-append_left, IsPermutation-append_comm}
 use Rattle.sf_model.specs.declared.function.Func.{Func}
 use Rattle.sf_model.specs.declared.function.FuncHead.{FuncHead}
 use Rattle.sf_model.specs.declared.rows.Row.{Row}
@@ -14,7 +12,7 @@ use Rattle.sf_model.specs.Table.{Table}
 use Rattle.sf_decode.specs.declared.view.View.{View}
 use Rattle.sf_decode.specs.View.{table_of, head_of}
 use Rattle.sf_merge.specs.declared.located.Located.{Located}
-use Rattle.sf_merge.specs.Located.{at_entry, located, has_bytes, compared, InOrder}
+use Rattle.sf_merge.specs.Located.{at_entry, located, has_bytes}
 use Rattle.sf_merge.proofs.Checks.{tables_more, no_tables_left}
 
 -- ---- a function
@@ -60,21 +58,5 @@ section_left item views i v lt is =
     ap (sized_from item) (tables_more views i v lt is)
     ∙ filter-append has_bytes (located item (table_of v)) (flat_map (λ (section : ℕ × Table). located section.0 section.1) (enumerate_from (item + 1) (map table_of (drop (i + 1) views))))
 
-pub section_added : (all own list old new rest : List Located) → IsPermutation all (old ++ (own ++ rest)) → IsPermutation own list → IsPermutation (list ++ old) new → IsPermutation all (new ++ rest)
-section_added all own list old new rest h moved added =
-    let front = IsPermutation-trans (old ++ own) (own ++ old) new (IsPermutation-append_comm old own) (IsPermutation-trans (own ++ old) (list ++ old) new (IsPermutation-append_left old own list moved) added) in
-    IsPermutation-trans all (old ++ (own ++ rest)) (new ++ rest) h (subst (λ ls. IsPermutation ls (new ++ rest)) (append_assoc old own rest) (IsPermutation-append_left rest (old ++ own) new front))
-
-pub none_left : (all held : List Located) (item : ℕ) (views : List View) (i : ℕ) → length views ≤ i → IsPermutation all (held ++ sized_from item (map table_of (drop i views))) → IsPermutation all held
-none_left all held item views i le h =
-    subst (IsPermutation all) (ap (λ ts. held ++ sized_from item ts) (no_tables_left views i le) ∙ append-nil held) h
-
--- ---- by the result of a call
-pub in_order_by : {V E : Type 0} (items : V → List Located) (r : Result V E) (all held : List Located) → IsPermutation all held → IfOk r (λ v. IsPermutation held (items v)) → IfOk r (λ v. IsSorted compared (items v))
-    → IfOk r (λ v. InOrder all (items v))
-in_order_by items (Ok v) all held h taken sorted = record { moved = IsPermutation-trans all held (items v) h taken; rising = sorted }
-in_order_by items (Err e) all held h taken sorted = tt
-
-pub on_ok : {V E : Type 0} (P : Type 0) (r : Result V E) → P → OnOk r P
-on_ok P (Ok v) p = p
-on_ok P (Err e) p = tt
+pub none_left : (all so_far : List Located) (item : ℕ) (views : List View) (i : ℕ) → length views ≤ i → all ≡ so_far ++ sized_from item (map table_of (drop i views)) → all ≡ so_far
+none_left all so_far item views i le h = h ∙ ap (λ ts. so_far ++ sized_from item ts) (no_tables_left views i le) ∙ append-nil so_far

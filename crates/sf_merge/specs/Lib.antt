@@ -1,7 +1,5 @@
 pub mod Located
 pub mod Merging
-pub mod Heads
-pub mod Held
 pub mod Joining
 pub mod Views
 pub mod Answers

@@ -3,7 +3,7 @@
 use Rattle.std.specs.Prelude.{ℕ, Bool, nat_lt, List, map}
 use Rattle.std.specs.List.{enumerate_from, filter, flat_map}
 use Rattle.std.specs.List.Sorted.{IsPermutation, IsSorted}
-use Rattle.std.specs.Ordering.{nat_cmp, ordering_then}
+use Rattle.std.specs.Ordering.{is_lt, nat_cmp, ordering_then}
 use Rattle.std.specs.declared.cmp.Ordering.{Ordering}
 use Rattle.sf_model.specs.declared.function.Func.{Func}
 use Rattle.sf_model.specs.Table.{Table}
@@ -39,6 +39,10 @@ rank_of l = record { start = l.func.start; item = l.item; number = l.number }
 
 abbrev pub compared : Located → Located → Ordering
 compared a b = compared_ranks (rank_of a) (rank_of b)
+
+-- the one comes before the other
+abbrev pub before : Located → Located → Bool
+before a b = is_lt (compared a b)
 
 -- the same functions in this order
 pub record InOrder (all ordered : List Located) : Type 0 where

@@ -63,6 +63,7 @@ pub fn check_limits(views: &[View<'_>]) -> Result<(), MergeFault>
 }
 
 /// Whether the second function begins before the end of the first.
+#[inline(always)]
 fn shares_address(before: &Located, function: &Located) -> bool
     ensures { result ≡ overlap (before.now, function.now) }
 {

@@ -10,14 +10,12 @@
 //! where the definition has no fault, and a look-up in the union finds what the one section had.
 //!
 //! The caller owes `merge` from 1 to 512 sections, and `join` lists that rise, of functions with bytes that
-//! share no address. Both take memory. Each section's functions are brought into order once, and then the
-//! heads of the lists are taken by least start: n functions of k sections cost about n log k steps.
+//! share no address. Both allocate. All functions are sorted once: n functions cost about n log n steps, and
+//! one pass where they are in order, as those of one section by rising start are.
 #![tactic(auto)]
 
 mod checking;
 mod fault;
-mod head;
-mod heads;
 mod joining;
 mod laws;
 mod located;

@@ -26,6 +26,7 @@ pub struct Located {
 
 impl Located {
     /// Its place in the order of all functions.
+    #[inline(always)]
     pub fn rank(&self) -> Rank
         ensures { result ≡ rank_of self.now }
     {

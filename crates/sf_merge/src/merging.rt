@@ -18,6 +18,7 @@ use sf_write::write;
 use std::alloc::Global;
 
 /// Whether a function holds an address and has a row.
+#[inline(always)]
 fn is_of_use(func: &Func) -> bool
     ensures { result ≡ is_of_use func.now }
 {

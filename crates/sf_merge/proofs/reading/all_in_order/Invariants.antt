@@ -1,7 +1,5 @@
 use Rattle.std.proofs.Common.{◌≡◌, ◌++◌, All, map, take, drop}
-use Rattle.std.specs.List.Sorted.{IsPermutation}
 use Rattle.sf_decode.specs.View.{table_of}
-use Rattle.sf_merge.specs.Held.{held}
 use Rattle.sf_merge.specs.Located.{sized}
 use Rattle.sf_merge.specs.Views.{IsRead}
 use Rattle.sf_merge.proofs.Read.{sized_from}
@@ -10,6 +8,6 @@ use Rattle.sf_merge.proofs.reading.all_in_order.Given as goal
 abbrev pub invariant-loop-view : goal.invariant-loop-view
 invariant-loop-view l = record {
   item : l.item ≡ l.view-index;
-  all : IsPermutation (sized (map table_of l.views)) (held l.heads ++ sized_from l.item (map table_of (drop l.view-index l.views)));
+  all : sized (map table_of l.views) ≡ l.all.items ++ sized_from l.item (map table_of (drop l.view-index l.views));
   read : All IsRead (take l.view-index l.views);
 }

@@ -5,8 +5,8 @@ use Rattle.sf_decode.specs.View.{table_of, function_of}
 use Rattle.sf_merge.specs.declared.located.Located.{Located}
 use Rattle.sf_merge.specs.Located.{at_entry, has_bytes, located}
 use Rattle.sf_merge.proofs.Read.{left_in, left_kept, left_passed}
-use Rattle.sf_merge.proofs.reading.functions.Goals as goal
-use Rattle.sf_merge.proofs.reading.functions.Goals.{then-func-ne0+in_ok-func+in_ok-push, else-func-ne0}
+use Rattle.sf_merge.proofs.reading.push_functions.Goals as goal
+use Rattle.sf_merge.proofs.reading.push_functions.Goals.{then-func-ne0+in_ok-func+in_ok-push, else-func-ne0}
 
 pub loop-number-preserved : goal.loop-number-preserved
 loop-number-preserved c =
@@ -14,17 +14,17 @@ loop-number-preserved c =
     let number = c.loop-number.number in
     let functions = (table_of c.args.view.now).functions in
     let f = function_of c.args.view.now number in
-    let all = filter has_bytes (located item (table_of c.args.view.now)) in
-    let so_far = c.loop-number.functions.items in
+    let all = c.args.all.now.items ++ filter has_bytes (located item (table_of c.args.view.now)) in
+    let so_far = c.loop-number.all.items in
     let within : number < length functions = omega (c.loop-number-test.true, c.len-number-end.ensures.value, arith) in
     let is = c.functions_are_numbered.ensures number f within in
     let size : c.func.result.size ≡ f.size = ap (λ (head : FuncHead). head.size) c.func.ensures in
     let rest = left_in item (number + 1) (drop (number + 1) functions) in
     elim c.if-func-ne0.branch [
       | then-func-ne0+in_ok-func+in_ok-push w ↦
-          let pushed : c.if-func-ne0.functions.items ≡ so_far ++ at_entry item (number, f) ∷ [] = cc (w.functions-is, w.in_ok-push.ensures.items, w.in_ok-func.ensures) in
+          let pushed : c.if-func-ne0.all.items ≡ so_far ++ at_entry item (number, f) ∷ [] = cc (w.all-is, w.in_ok-push.ensures.items, w.in_ok-func.ensures) in
           left_kept all so_far item number functions f within is (omega (size, w.if-func-ne0.true, arith)) c.loop-number.invariant ∙ ap (λ (ls : List Located). ls ++ rest) (sym pushed)
       | else-func-ne0 w ↦
-          let kept : c.if-func-ne0.functions.items ≡ so_far = cc (w.functions-is) in
+          let kept : c.if-func-ne0.all.items ≡ so_far = cc (w.all-is) in
           left_passed all so_far item number functions f within is (omega (size, w.if-func-ne0.false, arith)) c.loop-number.invariant ∙ ap (λ (ls : List Located). ls ++ rest) (sym kept)
     ]

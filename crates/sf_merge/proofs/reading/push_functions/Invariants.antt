@@ -3,8 +3,8 @@ use Rattle.std.specs.List.{filter}
 use Rattle.sf_decode.specs.View.{table_of}
 use Rattle.sf_merge.specs.Located.{has_bytes, located}
 use Rattle.sf_merge.proofs.Read.{left_in}
-use Rattle.sf_merge.proofs.reading.functions.Given as goal
+use Rattle.sf_merge.proofs.reading.push_functions.Given as goal
 
 abbrev pub invariant-loop-number : goal.invariant-loop-number
 invariant-loop-number l =
-    filter has_bytes (located l.item (table_of l.view)) ≡ l.functions.items ++ left_in l.item l.number (drop l.number (table_of l.view).functions)
+    l.initial.all.items ++ filter has_bytes (located l.item (table_of l.view)) ≡ l.all.items ++ left_in l.item l.number (drop l.number (table_of l.view).functions)
