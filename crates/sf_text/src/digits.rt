@@ -16,6 +16,7 @@ pub(crate) struct Digits {
 
 impl Digits {
     /// The digits, the highest first.
+    #[inline(always)]
     pub(crate) fn as_bytes(&self) -> &[u8]
         ensures value { result.now ≡ drop self.now.start self.now.bytes }
         ensures short { length result.now ≤ 20 }
@@ -24,7 +25,9 @@ impl Digits {
     }
 }
 
-/// The digits of a number in a base, without leading zeros.
+/// The digits of a number in a base, without leading zeros. It is inlined, so that a base that is known
+/// divides by a multiplication.
+#[inline(always)]
 pub(crate) fn digits_in(base: u64, number: u64) -> Digits
     requires base { (2 ≤ base) × (base ≤ 16) }
     requires fits { number < base ^ 20 }
@@ -44,6 +47,7 @@ pub(crate) fn digits_in(base: u64, number: u64) -> Digits
 }
 
 /// The character of a digit below 16.
+#[inline(always)]
 fn glyph(digit: u64) -> u8
     requires { digit < 16 }
     ensures { result ≡ digit_glyph false digit }

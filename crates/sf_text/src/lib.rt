@@ -18,6 +18,7 @@ mod line;
 mod link_report;
 mod merge_text;
 mod names;
+mod number;
 mod refusal;
 mod section_dump;
 mod shown;

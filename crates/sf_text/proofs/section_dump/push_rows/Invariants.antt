@@ -1,5 +1,4 @@
 use Rattle.std.proofs.Common.{◌≡◌, ◌++◌}
-use Rattle.std.specs.Prelude.{string_bytes}
 use Rattle.std.specs.List.{flat_map}
 use Rattle.sf_decode.specs.View.{rows_left}
 use Rattle.sf_text.specs.Dump.{row_line}
@@ -11,5 +10,5 @@ invariant-loop-row l = record {
   can : (goal.iterator-loop-row).can_next l.row-iterator;
   ends : (goal.iterator-loop-row).is_finite l.row-iterator;
   text :
-      string_bytes l.text ++ flat_map row_line (rows_left l.row-iterator) ≡ string_bytes l.initial.text ++ flat_map row_line (rows_left l.rows);
+      l.text.items ++ flat_map row_line (rows_left l.row-iterator) ≡ l.initial.text.items ++ flat_map row_line (rows_left l.rows);
 }
