@@ -71,6 +71,7 @@ pub fn read_after<'a>(
 }
 
 /// The first entry of what is left of a section that was parsed, or none at its end.
+#[inline(always)]
 pub fn next_entry<'a>(
     kept: &mut Option<CommonAt<'a>>,
     section: &'a [u8],

@@ -41,6 +41,7 @@ impl<'a> FdeIter<'a> {
 }
 
 // The next frame description entry of what is left.
+#[inline(always)]
 fn next_fde<'a>(
     kept: &mut Option<CommonAt<'a>>,
     section: &'a [u8],
@@ -71,6 +72,7 @@ impl<'a> Iterator for FdeIter<'a> {
 
     ghost remaining = { item_count frames_left };
 
+    #[inline(always)]
     fn next(&mut self) -> Option<Fde<'a>> {
         next_fde(&mut self.kept, self.section, self.arch, &mut self.rest)
     }

@@ -3,4 +3,5 @@ pub mod Fields
 pub mod Inside
 pub mod Lebs
 pub mod Run
+pub mod ShortLeb
 pub mod Texts

@@ -67,9 +67,29 @@ fn signed_sum_of(run: &[u8]) -> i128
 }
 
 impl Part<'_> {
-    #[tactic(auto, unfolding(crate::specs::Leb::uleb_at))]
+    // A number of one byte, as most are, or else of any length.
+    #[tactic(auto, using(crate::proofs::ShortLeb::one_byte), unfolding(crate::specs::Leb::uleb_at))]
     #[inline(always)]
     fn read_uleb(&mut self) -> Result<u64, ByteFault>
+        ensures exact { Gives (λ x. x) self.old self.new result (uleb_at (cursor self.old)) }
+        ensures end { EndStays self.old self.new }
+    {
+        if let Some((first, rest)) = self.bytes.split_first() {
+            if *first < 128 {
+                let number = u64::from(*first);
+                *self = Part {
+                    bytes: rest,
+                    place: self.place + 1,
+                };
+                return Ok(number);
+            }
+        }
+        self.read_long_uleb()
+    }
+
+    #[tactic(auto, unfolding(crate::specs::Leb::uleb_at))]
+    #[inline(never)]
+    fn read_long_uleb(&mut self) -> Result<u64, ByteFault>
         ensures exact { Gives (λ x. x) self.old self.new result (uleb_at (cursor self.old)) }
         ensures end { EndStays self.old self.new }
     {

@@ -16,6 +16,7 @@ use crate::row::check_rows;
 use sf_model::{Arch, Key, Shape};
 
 /// The place of an entry.
+#[inline(always)]
 pub fn entry_place(bytes: &[u8], i: u32) -> u64
     ensures value { result ≡ spec.entry_place bytes.now i }
     ensures small { result < 2 ^ 40 }
@@ -24,6 +25,7 @@ pub fn entry_place(bytes: &[u8], i: u32) -> u64
 }
 
 /// The size of the function in bytes.
+#[inline(always)]
 pub fn size_at(bytes: &[u8], place: u64) -> u32
     requires { place < 2 ^ 62 }
     ensures { result ≡ spec.size_at bytes.now place }
@@ -32,6 +34,7 @@ pub fn size_at(bytes: &[u8], place: u64) -> u32
 }
 
 /// The place of its first row in the sub-section of rows.
+#[inline(always)]
 pub fn row_offset_at(bytes: &[u8], place: u64) -> u32
     requires { place < 2 ^ 62 }
     ensures { result ≡ section.row_offset_at bytes.now place }
@@ -40,6 +43,7 @@ pub fn row_offset_at(bytes: &[u8], place: u64) -> u32
 }
 
 /// The number of its rows.
+#[inline(always)]
 pub fn row_count_at(bytes: &[u8], place: u64) -> u32
     requires { place < 2 ^ 62 }
     ensures { result ≡ spec.row_count_at bytes.now place }
@@ -48,6 +52,7 @@ pub fn row_count_at(bytes: &[u8], place: u64) -> u32
 }
 
 // The info byte.
+#[inline(always)]
 fn info_at(bytes: &[u8], place: u64) -> u8
     requires { place < 2 ^ 62 }
     ensures { result ≡ spec.info_at bytes.now place }
@@ -56,6 +61,7 @@ fn info_at(bytes: &[u8], place: u64) -> u8
 }
 
 // The repeat size.
+#[inline(always)]
 fn repeat_size_at(bytes: &[u8], place: u64) -> u8
     requires { place < 2 ^ 62 }
     ensures { result ≡ spec.repeat_size_at bytes.now place }
@@ -64,6 +70,7 @@ fn repeat_size_at(bytes: &[u8], place: u64) -> u8
 }
 
 /// The width of its rows' starts.
+#[inline(always)]
 pub fn start_width_at(bytes: &[u8], place: u64) -> u8
     requires { place < 2 ^ 62 }
     ensures { result ≡ section.start_width_at bytes.now place }
@@ -72,6 +79,7 @@ pub fn start_width_at(bytes: &[u8], place: u64) -> u8
 }
 
 // Whether functions are sorted by start.
+#[inline(always)]
 fn is_sorted(flags: u8) -> bool
     ensures { result ≡ section.is_sorted flags }
 {
@@ -79,6 +87,7 @@ fn is_sorted(flags: u8) -> bool
 }
 
 // The address that a start counts from.
+#[inline(always)]
 fn start_origin(flags: u8, at: u64, place: u64) -> u128
     ensures value { result ≡ section.start_origin flags at place }
     ensures small { result < 2 ^ 65 }
@@ -92,6 +101,7 @@ fn start_origin(flags: u8, at: u64, place: u64) -> u128
 
 // The start moved up by 2^31, so that it is never below 0.
 #[tactic(auto, unfolding(crate::specs::Entry::raised_start))]
+#[inline(always)]
 fn raised_start(bytes: &[u8], at: u64, place: u64) -> u128
     requires { place < 2 ^ 62 }
     ensures value { result ≡ spec.raised_start bytes.now at place }
@@ -102,6 +112,7 @@ fn raised_start(bytes: &[u8], at: u64, place: u64) -> u128
 }
 
 // Whether the rows repeat.
+#[inline(always)]
 fn is_repeated(info: u8) -> bool
     ensures { result ≡ spec.is_repeated info }
 {
@@ -109,6 +120,7 @@ fn is_repeated(info: u8) -> bool
 }
 
 // The key.
+#[inline(always)]
 fn key_of(info: u8) -> Key
     ensures { result ≡ spec.key_in info }
 {
@@ -116,6 +128,7 @@ fn key_of(info: u8) -> Key
 }
 
 // Whether only bits that have a meaning are set, and the machine has the key.
+#[inline(always)]
 fn is_known_info(arch: Arch, info: u8) -> bool
     ensures { result ≡ spec.is_known_info arch info }
 {
@@ -126,6 +139,7 @@ fn is_known_info(arch: Arch, info: u8) -> bool
 }
 
 // Whether a function whose rows repeat has a repeat size.
+#[inline(always)]
 fn has_repeat_size(info: u8, size: u8) -> bool
     ensures { result ≡ spec.has_repeat_size info size }
 {
@@ -134,6 +148,7 @@ fn has_repeat_size(info: u8, size: u8) -> bool
 
 // Whether the start is an address, and the function ends at 2^64 or before.
 #[tactic(auto, unfolding(crate::specs::Entry::is_in_memory))]
+#[inline(always)]
 fn is_in_memory(bytes: &[u8], at: u64, place: u64) -> bool
     requires { place < 2 ^ 62 }
     ensures { result ≡ spec.is_in_memory bytes.now at place }
@@ -145,6 +160,7 @@ fn is_in_memory(bytes: &[u8], at: u64, place: u64) -> bool
 
 // The checks of an entry's own fields.
 #[tactic(auto, unfolding(crate::specs::Entry::entry_fields_check))]
+#[inline(always)]
 fn check_fields(bytes: &[u8], at: u64, place: u64) -> Result<(), DecodeFault>
     requires { place < 2 ^ 62 }
     ensures { result ≡ spec.entry_fields_check bytes.now at place }
@@ -170,6 +186,7 @@ fn check_fields(bytes: &[u8], at: u64, place: u64) -> Result<(), DecodeFault>
 
 // That an entry of a sorted section starts where the one before ends, or behind.
 #[tactic(auto, unfolding(crate::specs::Entry::order_check))]
+#[inline(always)]
 fn check_order(bytes: &[u8], at: u64, before: u64, place: u64) -> Result<(), DecodeFault>
     requires before { before < 2 ^ 62 }
     requires place { place < 2 ^ 62 }
@@ -184,6 +201,7 @@ fn check_order(bytes: &[u8], at: u64, before: u64, place: u64) -> Result<(), Dec
 
 // The order, where functions are sorted and there is an entry before.
 #[tactic(auto, unfolding(crate::specs::Entry::follows_check))]
+#[inline(always)]
 fn check_follows(bytes: &[u8], at: u64, i: u32) -> Result<(), DecodeFault>
     ensures { result ≡ spec.follows_check bytes.now at i }
 {
@@ -222,6 +240,7 @@ pub fn check_entry(bytes: &[u8], at: u64, i: u32) -> Result<(), DecodeFault>
 
 /// The function's start.
 #[tactic(auto, unfolding(crate::specs::Entry::is_in_memory))]
+#[inline(always)]
 pub fn start_at(bytes: &[u8], at: u64, place: u64) -> u64
     requires near { place < 2 ^ 62 }
     requires address { IsTrue (spec.is_in_memory bytes.now at place) }
@@ -231,6 +250,7 @@ pub fn start_at(bytes: &[u8], at: u64, place: u64) -> u64
 }
 
 /// How the rows are looked up.
+#[inline(always)]
 pub fn shape_at(bytes: &[u8], place: u64) -> Shape
     requires { place < 2 ^ 62 }
     ensures { result ≡ spec.shape_in (spec.info_at bytes.now place) (spec.repeat_size_at bytes.now place) }
@@ -243,6 +263,7 @@ pub fn shape_at(bytes: &[u8], place: u64) -> Shape
 }
 
 /// The key of its signed return addresses.
+#[inline(always)]
 pub fn key_at(bytes: &[u8], place: u64) -> Key
     requires { place < 2 ^ 62 }
     ensures { result ≡ spec.key_in (spec.info_at bytes.now place) }

@@ -17,6 +17,7 @@ use crate::number::{byte_at, bytes_at, u16_at, u32_at};
 use sf_model::Arch;
 
 /// The preamble's flags.
+#[inline(always)]
 pub fn flags_of(bytes: &[u8]) -> u8
     ensures { result ≡ entry.flags_in bytes.now }
 {
@@ -24,6 +25,7 @@ pub fn flags_of(bytes: &[u8]) -> u8
 }
 
 /// The machine.
+#[inline(always)]
 pub fn arch_of(bytes: &[u8]) -> Arch
     ensures { result ≡ entry.arch_in bytes.now }
 {
@@ -35,6 +37,7 @@ pub fn arch_of(bytes: &[u8]) -> Arch
 }
 
 /// The number of functions.
+#[inline(always)]
 pub fn function_count(bytes: &[u8]) -> u32
     ensures { result ≡ spec.function_count_in bytes.now }
 {
@@ -42,6 +45,7 @@ pub fn function_count(bytes: &[u8]) -> u32
 }
 
 /// The number of rows of all functions.
+#[inline(always)]
 pub fn row_count(bytes: &[u8]) -> u32
     ensures { result ≡ spec.row_count_in bytes.now }
 {
@@ -49,6 +53,7 @@ pub fn row_count(bytes: &[u8]) -> u32
 }
 
 // Where the header and the auxiliary header end.
+#[inline(always)]
 fn header_end(bytes: &[u8]) -> u64
     ensures value { result ≡ section.header_end bytes.now }
     ensures small { result < 2 ^ 32 }
@@ -57,6 +62,7 @@ fn header_end(bytes: &[u8]) -> u64
 }
 
 /// The place of the first function descriptor entry.
+#[inline(always)]
 pub fn functions_place(bytes: &[u8]) -> u64
     ensures value { result ≡ section.functions_place bytes.now }
     ensures small { result < 2 ^ 33 }
@@ -65,6 +71,7 @@ pub fn functions_place(bytes: &[u8]) -> u64
 }
 
 /// The place of the sub-section of rows.
+#[inline(always)]
 pub fn rows_place(bytes: &[u8]) -> u64
     ensures value { result ≡ section.rows_place bytes.now }
     ensures small { result < 2 ^ 33 }
@@ -73,6 +80,7 @@ pub fn rows_place(bytes: &[u8]) -> u64
 }
 
 // The length of the sub-section of rows.
+#[inline(always)]
 fn rows_len(bytes: &[u8]) -> u64
     ensures value { result ≡ section.rows_len bytes.now }
     ensures small { result < 2 ^ 32 }

@@ -21,6 +21,7 @@ impl<'a> RowIter<'a> {
     ghost use Rattle.sf_decode.specs.View.{rows_left};
 
     /// The iterator over so many rows from a place of the sub-section of rows on.
+    #[inline(always)]
     pub(crate) fn new(
         arch: Arch,
         rows: &'a [u8],
@@ -51,6 +52,7 @@ impl<'a> Iterator for RowIter<'a> {
     ghost remaining = { item_count rows_left };
 
     #[tactic(auto, unfolding(crate::specs::Row::rows_in))]
+    #[inline(always)]
     fn next(&mut self) -> Option<Row> {
         if self.left == 0 {
             return None;

@@ -5,6 +5,7 @@ ghost use Rattle.sf_model.specs.Section.{number_in};
 ghost use Rattle.sf_decode.specs.Row as row;
 
 /// The byte at a place.
+#[inline(always)]
 pub fn byte_at(bytes: &[u8], place: u64) -> u8
     ensures { result ≡ slice_index bytes.now place }
 {
@@ -15,15 +16,43 @@ pub fn byte_at(bytes: &[u8], place: u64) -> u8
 }
 
 /// The number in two bytes at a place.
+#[inline(always)]
 pub fn u16_at(bytes: &[u8], place: u64) -> u16
+    requires { place < 2 ^ 63 }
+    ensures { result ≡ number_in 2 place bytes.now }
+{
+    if place + 2 > bytes.len() as u64 {
+        return u16_at_end(bytes, place);
+    }
+    let i = place as usize;
+    u16::from_le_bytes([bytes[i], bytes[i + 1]])
+}
+
+// The same where the bytes may end before.
+#[inline(never)]
+fn u16_at_end(bytes: &[u8], place: u64) -> u16
     requires { place < 2 ^ 63 }
     ensures { result ≡ number_in 2 place bytes.now }
 {
     u16::from_le_bytes([byte_at(bytes, place), byte_at(bytes, place + 1)])
 }
 
-/// The number in four bytes at a place.
+/// The number in four bytes at a place: one test of the length, and one read.
+#[inline(always)]
 pub fn u32_at(bytes: &[u8], place: u64) -> u32
+    requires { place < 2 ^ 63 }
+    ensures { result ≡ number_in 4 place bytes.now }
+{
+    if place + 4 > bytes.len() as u64 {
+        return u32_at_end(bytes, place);
+    }
+    let i = place as usize;
+    u32::from_le_bytes([bytes[i], bytes[i + 1], bytes[i + 2], bytes[i + 3]])
+}
+
+// The same where the bytes may end before.
+#[inline(never)]
+fn u32_at_end(bytes: &[u8], place: u64) -> u32
     requires { place < 2 ^ 63 }
     ensures { result ≡ number_in 4 place bytes.now }
 {
@@ -37,6 +66,7 @@ pub fn u32_at(bytes: &[u8], place: u64) -> u32
 
 /// The unsigned number of a width at a place.
 #[tactic(auto, unfolding(crate::specs::Row::unsigned_in))]
+#[inline(always)]
 pub fn unsigned_at(bytes: &[u8], width: u8, place: u64) -> u32
     requires { place < 2 ^ 63 }
     ensures { result ≡ row.unsigned_in width place bytes.now }
@@ -50,6 +80,7 @@ pub fn unsigned_at(bytes: &[u8], width: u8, place: u64) -> u32
 
 /// The signed number of a width at a place.
 #[tactic(auto, unfolding(crate::specs::Row::signed_in))]
+#[inline(always)]
 pub fn signed_at(bytes: &[u8], width: u8, place: u64) -> i32
     requires { place < 2 ^ 63 }
     ensures { result ≡ row.signed_in width place bytes.now }
@@ -62,6 +93,7 @@ pub fn signed_at(bytes: &[u8], width: u8, place: u64) -> i32
 }
 
 /// How many bytes a number of a width has.
+#[inline(always)]
 pub fn number_len(width: u8) -> u64
     ensures value { result ≡ row.number_len width }
     ensures some { 1 ≤ result }

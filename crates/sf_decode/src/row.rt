@@ -10,6 +10,7 @@ use crate::number::{byte_at, number_len, signed_at, unsigned_at};
 use sf_model::{Arch, Base, Content, Ra, Row};
 
 // The place of a row's info byte, behind its start.
+#[inline(always)]
 fn info_place(start_width: u8, place: u64) -> u64
     requires { place < 2 ^ 62 }
     ensures value { result ≡ spec.info_place start_width place }
@@ -19,6 +20,7 @@ fn info_place(start_width: u8, place: u64) -> u64
 }
 
 // The place of its first offset.
+#[inline(always)]
 fn offsets_place(start_width: u8, place: u64) -> u64
     requires { place < 2 ^ 62 }
     ensures value { result ≡ spec.offsets_place start_width place }
@@ -28,6 +30,7 @@ fn offsets_place(start_width: u8, place: u64) -> u64
 }
 
 // The base of the canonical frame address by the info byte.
+#[inline(always)]
 fn base_of(info: u8) -> Base
     ensures { result ≡ spec.base_in info }
 {
@@ -35,6 +38,7 @@ fn base_of(info: u8) -> Base
 }
 
 // The number of offsets.
+#[inline(always)]
 fn offset_count(info: u8) -> u8
     ensures value { result ≡ spec.offset_count_in info }
     ensures most { result < 16 }
@@ -43,6 +47,7 @@ fn offset_count(info: u8) -> u8
 }
 
 // The width of the offsets.
+#[inline(always)]
 fn offset_width(info: u8) -> u8
     ensures value { result ≡ spec.offset_width_in info }
     ensures most { result < 4 }
@@ -51,6 +56,7 @@ fn offset_width(info: u8) -> u8
 }
 
 // Whether the return address is signed.
+#[inline(always)]
 fn is_signed(info: u8) -> bool
     ensures { result ≡ spec.is_signed_in info }
 {
@@ -58,6 +64,7 @@ fn is_signed(info: u8) -> bool
 }
 
 // A row's info byte.
+#[inline(always)]
 fn info_at(rows: &[u8], start_width: u8, place: u64) -> u8
     requires { place < 2 ^ 62 }
     ensures { result ≡ spec.row_info rows.now start_width place }
@@ -66,6 +73,7 @@ fn info_at(rows: &[u8], start_width: u8, place: u64) -> u8
 }
 
 // How many bytes so many numbers of a width have.
+#[inline(always)]
 fn numbers_len(width: u8, count: u8) -> u64
     requires { count < 16 }
     ensures value { result ≡ count * spec.number_len width }
@@ -80,6 +88,7 @@ fn numbers_len(width: u8, count: u8) -> u64
 }
 
 /// Where a row ends.
+#[inline(always)]
 pub fn row_end(rows: &[u8], start_width: u8, place: u64) -> u64
     requires { place < 2 ^ 62 }
     ensures value { result ≡ spec.row_end start_width place (spec.row_info rows.now start_width place) }
@@ -90,6 +99,7 @@ pub fn row_end(rows: &[u8], start_width: u8, place: u64) -> u64
 }
 
 // Whether the machine's rows have so many offsets.
+#[inline(always)]
 fn has_offset_count(arch: Arch, count: u8) -> bool
     ensures { result ≡ spec.has_offset_count arch count }
 {
@@ -100,6 +110,7 @@ fn has_offset_count(arch: Arch, count: u8) -> bool
 }
 
 // Whether the machine's return addresses can be signed, where one is.
+#[inline(always)]
 fn may_be_signed(arch: Arch, signed: bool) -> bool
     ensures { result ≡ spec.may_be_signed arch signed }
 {
@@ -111,6 +122,7 @@ fn may_be_signed(arch: Arch, signed: bool) -> bool
 
 // The checks of a row: `origin` is the place of the sub-section of rows, `least` the least start.
 #[tactic(auto, unfolding(crate::specs::Row::row_check))]
+#[inline(always)]
 fn check_row(
     arch: Arch,
     rows: &[u8],
@@ -175,6 +187,7 @@ pub fn check_rows(
 }
 
 // Where the return address is, by the number of offsets and the second one.
+#[inline(always)]
 fn return_address(arch: Arch, count: u8, second: i32) -> Ra
     ensures { result ≡ spec.ra_in arch count second }
 {
@@ -186,6 +199,7 @@ fn return_address(arch: Arch, count: u8, second: i32) -> Ra
 }
 
 // Where the frame pointer is saved, by the number of offsets, the second and the third one.
+#[inline(always)]
 fn frame_pointer(arch: Arch, count: u8, second: i32, third: i32) -> Option<i32>
     ensures { result ≡ spec.fp_in arch count second third }
 {
@@ -198,6 +212,7 @@ fn frame_pointer(arch: Arch, count: u8, second: i32, third: i32) -> Option<i32>
 
 // A row's content, by its info byte and the place of its first offset.
 #[tactic(auto, unfolding(crate::specs::Row::content_in))]
+#[inline(always)]
 fn content_at(arch: Arch, rows: &[u8], info: u8, first: u64) -> Content
     requires { first < 2 ^ 62 }
     ensures { result ≡ spec.content_in arch rows.now info first }
@@ -218,6 +233,7 @@ fn content_at(arch: Arch, rows: &[u8], info: u8, first: u64) -> Content
 
 /// The row at a place.
 #[tactic(auto, unfolding(crate::specs::Row::row_in))]
+#[inline(always)]
 pub fn row_at(arch: Arch, rows: &[u8], start_width: u8, place: u64) -> Row
     requires { place < 2 ^ 61 }
     ensures { result ≡ spec.row_in arch rows.now start_width place }

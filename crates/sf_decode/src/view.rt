@@ -47,6 +47,7 @@ impl<'a> View<'a> {
     }
 
     /// The section's bytes.
+    #[inline(always)]
     pub(crate) fn bytes(&self) -> &'a [u8]
         ensures { result.now ≡ section_bytes self.now }
     {
@@ -54,6 +55,7 @@ impl<'a> View<'a> {
     }
 
     /// Its address.
+    #[inline(always)]
     pub(crate) fn address(&self) -> u64
         ensures { result ≡ section_address self.now }
     {
@@ -61,6 +63,7 @@ impl<'a> View<'a> {
     }
 
     /// For which machine it is.
+    #[inline(always)]
     pub fn arch(&self) -> Arch
         ensures { result ≡ (table_of self.now).arch }
     {
@@ -76,6 +79,7 @@ impl<'a> View<'a> {
 
     /// How many functions it has.
     #[tactic(auto, using(crate::proofs::Checked::functions_length, crate::proofs::Joined::function_limit_checked))]
+    #[inline(always)]
     pub fn len(&self) -> u32
         ensures value { result ≡ length (table_of self.now).functions }
         ensures most { result ≤ 2 ^ 21 }
@@ -93,6 +97,7 @@ impl<'a> View<'a> {
     }
 
     /// The place of a function descriptor entry in the section.
+    #[inline(always)]
     pub fn entry_place(&self, i: u32) -> u64
         ensures { result ≡ entry.entry_place (section_bytes self.now) i }
     {
@@ -101,6 +106,7 @@ impl<'a> View<'a> {
 
     /// Where a function starts.
     #[tactic(auto, using(crate::proofs::Checked::in_memory_checked), unfolding(crate::specs::Entry::function_in))]
+    #[inline(always)]
     pub fn start(&self, i: u32) -> u64
         requires { i < length (table_of self.now).functions }
         ensures { result ≡ (function_of self.now i).start }

@@ -22,6 +22,7 @@ fn run_all(run: &mut Runner<'_>) -> Result<(), MachineFault>
 }
 
 // The rows in SFrame's form, or the omission of the first that has none.
+#[inline(always)]
 fn run_rows(
     alloc: Global,
     arch: Arch,
@@ -58,6 +59,7 @@ fn run_rows(
 ///
 /// The first fault of the instructions: they are all run, after an omission too. `NoMemory` where memory
 /// runs out.
+#[inline(always)]
 pub fn express_run(
     alloc: Global,
     arch: Arch,

@@ -20,6 +20,7 @@ use std::sync::ledger::{Blank, Ledger};
 const SORTED: u8 = 0x1;
 
 /// Whether the function's bytes hold the address.
+#[inline(always)]
 fn contains(func: &FuncHead, pc: u64) -> bool
     ensures { result ≡ (nat_le func.now.start pc && nat_lt pc (func.now.start + func.now.size)) }
 {
@@ -27,6 +28,7 @@ fn contains(func: &FuncHead, pc: u64) -> bool
 }
 
 /// Whether the functions are sorted by start.
+#[inline(always)]
 fn is_sorted(flags: u8) -> bool
     ensures { result ≡ is_sorted flags }
 {

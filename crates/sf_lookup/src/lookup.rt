@@ -25,6 +25,7 @@ pub struct Found {
 }
 
 /// The offset that a function's rows speak of: in a function of repeated blocks, the offset in its block.
+#[inline(always)]
 fn offset_in_block(shape: Shape, offset: u64) -> u64
     requires { IsTrue (shape_fits shape) }
     ensures { result ≡ offset_in_block shape offset }

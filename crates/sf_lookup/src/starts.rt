@@ -28,10 +28,12 @@ pub trait Starts<L: Ledger> {
 impl<'a, L: Ledger> Starts<L> for View<'a> {
     ghost starts = { λ view. starts_of (table_of view).functions };
 
+    #[inline(always)]
     fn count(&self) -> u32 {
         self.len()
     }
 
+    #[inline(always)]
     fn start_at(&self, i: u32, steps: &mut Steps<L>) -> u64 {
         functions_are_numbered(self);
         steps.tick();

@@ -33,6 +33,7 @@ impl<L: Ledger> Steps<L> {
     }
 
     /// One step more.
+    #[inline(always)]
     pub fn tick(&mut self)
         ensures { self.new ≡ self.old + 1 }
     {

@@ -10,6 +10,7 @@ use sf_model::{Content, Ra};
 
 /// The width of a row's offsets: 0, 1 or 2 for 1, 2 or 4 signed bytes, the least that holds each of
 /// them.
+#[inline(always)]
 pub fn offset_size(content: &Content) -> u8
     ensures value { result ≡ offset_width content.now }
     ensures width { IsWidth (holds_row_offsets content.now) result }
@@ -27,6 +28,7 @@ pub fn offset_size(content: &Content) -> u8
 /// How many bytes a row has, whose start has the width `kind`: the start, the info byte and the
 /// offsets, of which AMD64 has 1 or 2 and AArch64 has 1 to 3. They are 17 at most.
 #[tactic(auto, using(crate::proofs::Spelled::spelled_is))]
+#[inline(always)]
 pub fn row_bytes(kind: u8, content: &Content) -> u32
     requires { kind ≤ 2 }
     ensures value { result ≡ row_len kind content.now }
@@ -38,6 +40,7 @@ pub fn row_bytes(kind: u8, content: &Content) -> u32
 
 /// How many offsets a row has: the canonical frame address's, and those of a saved return address and
 /// of a saved frame pointer.
+#[inline(always)]
 pub fn offset_count(content: &Content) -> u8
     ensures value { result ≡ length (row_offsets content.now) }
     ensures most { result ≤ 3 }
@@ -47,6 +50,7 @@ pub fn offset_count(content: &Content) -> u8
 }
 
 /// The return address's offset from the canonical frame address, where a row has one of its own.
+#[inline(always)]
 pub fn saved_offset(ra: Ra) -> Option<i32>
     ensures { option_to_list result ≡ return_offset ra }
 {
@@ -57,6 +61,7 @@ pub fn saved_offset(ra: Ra) -> Option<i32>
 }
 
 /// Whether one byte holds each offset.
+#[inline(always)]
 fn fit_bytes(content: &Content) -> bool
     ensures { result ≡ holds_row_offsets content.now 0 }
 {
@@ -67,6 +72,7 @@ fn fit_bytes(content: &Content) -> bool
 }
 
 /// Whether two bytes hold each offset; four always do.
+#[inline(always)]
 fn fit_halves(content: &Content) -> bool
     ensures value { result ≡ holds_row_offsets content.now 1 }
     ensures four { IsTrue (holds_row_offsets content.now 2) }

@@ -8,6 +8,7 @@ ghost use Rattle.sf_sizes.specs.Width.{least_width};
 /// The width of a function's row starts, of which `last` is the greatest: 0, 1 or 2 for 1, 2 or 4
 /// unsigned bytes, the least that holds it.
 #[tactic(auto, using(crate::proofs::Least::none_below_two))]
+#[inline(always)]
 pub fn row_type(last: u32) -> u8
     ensures value { result ≡ least_width (holds_unsigned last) }
     ensures width { IsWidth (holds_unsigned last) result }
@@ -23,6 +24,7 @@ pub fn row_type(last: u32) -> u8
 }
 
 /// How many bytes a width has.
+#[inline(always)]
 pub(crate) fn bytes_of(width: u8) -> u32
     requires { width ≤ 2 }
     ensures value { result ≡ width_len width }
@@ -36,6 +38,7 @@ pub(crate) fn bytes_of(width: u8) -> u32
 }
 
 /// Whether one signed byte holds an offset.
+#[inline(always)]
 pub(crate) fn fits_byte(offset: i32) -> bool
     ensures { result ≡ holds_signed offset 0 }
 {
@@ -43,6 +46,7 @@ pub(crate) fn fits_byte(offset: i32) -> bool
 }
 
 /// Whether two signed bytes hold an offset; four always do.
+#[inline(always)]
 pub(crate) fn fits_half(offset: i32) -> bool
     ensures value { result ≡ holds_signed offset 1 }
     ensures four { IsTrue (holds_signed offset 2) }
@@ -51,6 +55,7 @@ pub(crate) fn fits_half(offset: i32) -> bool
 }
 
 /// Whether one signed byte holds an offset that may be absent.
+#[inline(always)]
 pub(crate) fn fits_byte_if_any(offset: Option<i32>) -> bool
     ensures { result ≡ list_all (λ z. holds_signed z 0) (option_to_list offset) }
 {
@@ -58,6 +63,7 @@ pub(crate) fn fits_byte_if_any(offset: Option<i32>) -> bool
 }
 
 /// Whether two signed bytes hold an offset that may be absent; four always do.
+#[inline(always)]
 pub(crate) fn fits_half_if_any(offset: Option<i32>) -> bool
     ensures value { result ≡ list_all (λ z. holds_signed z 1) (option_to_list offset) }
     ensures four { IsTrue (list_all (λ z. holds_signed z 2) (option_to_list offset)) }

@@ -37,6 +37,7 @@ pub(crate) fn push_entries(bytes: &mut Vec<u8>, at: u64, funcs: &[Func]) -> Resu
 
 /// Appends the entry with this number, whose rows begin at this place among all rows.
 #[tactic(auto, unfolding(crate::specs::Entry::entry_bytes, crate::specs::Room::entry_fits))]
+#[inline(always)]
 fn push_entry(
     bytes: &mut Vec<u8>,
     at: u64,
@@ -62,6 +63,7 @@ fn push_entry(
 
 /// The info byte of an entry.
 #[tactic(auto, unfolding(crate::specs::Entry::entry_info))]
+#[inline(always)]
 fn info_of(func: &Func) -> u8
     ensures value { result ≡ entry_info func.now }
     ensures starts { IsWidth (holds_unsigned (last_start func.now.rows)) (start_width func.now.rows) }
@@ -78,6 +80,7 @@ fn info_of(func: &Func) -> u8
 }
 
 /// The repeat size, 0 for a plain function.
+#[inline(always)]
 fn repeat_size_of(shape: Shape) -> u8
     ensures { result ≡ repeat_size shape }
 {

@@ -1,10 +1,10 @@
 //! A function's rows (SFrame Version 2, frame row entries).
 
-ghost use Rattle.std.specs.Prelude.{◌≡◌, ◌≤◌, ◌^◌, ◌*◌, ◌++◌, length, IsTrue, OnOk, option_to_list};
+ghost use Rattle.std.specs.Prelude.{◌≡◌, ◌≤◌, ◌^◌, ◌*◌, ◌++◌, [], ◌∷◌, length, IsTrue, OnOk, option_to_list};
 ghost use Rattle.std.specs.List.{flat_map, list_all};
 ghost use Rattle.sf_model.specs.RowBytes.{holds_row_offsets, row_info_byte, row_offsets};
 ghost use Rattle.sf_model.specs.Tight.{last_start};
-ghost use Rattle.sf_model.specs.Width.{holds_unsigned, signed_bytes, IsWidth};
+ghost use Rattle.sf_model.specs.Width.{holds_unsigned, signed_bytes, unsigned_bytes, IsWidth};
 ghost use Rattle.sf_sizes.specs.RowLength.{offset_width};
 ghost use Rattle.sf_write.specs.Room.{offsets_fit};
 ghost use Rattle.sf_write.specs.Row.{narrow_row, start_width, rows_bytes, rows_len};
@@ -15,6 +15,7 @@ use sf_sizes::{offset_count, offset_size, row_bytes, row_type, saved_offset};
 use std::alloc::AllocError;
 
 /// The width of a function's row starts: the least that holds the last one.
+#[inline(always)]
 pub(crate) fn start_width_of(rows: &[Row]) -> u8
     ensures value { result ≡ start_width rows.now }
     ensures width { IsWidth (holds_unsigned (last_start rows.now)) result }
@@ -25,6 +26,7 @@ pub(crate) fn start_width_of(rows: &[Row]) -> u8
 
 /// The start of the last row.
 #[tactic(auto, using(crate::proofs::LastStart::last_start_by))]
+#[inline(always)]
 fn last_start_of(rows: &[Row]) -> u32
     ensures { result ≡ last_start rows.now }
 {
@@ -59,7 +61,8 @@ pub(crate) fn push_rows(bytes: &mut Vec<u8>, rows: &[Row]) -> Result<(), AllocEr
     Ok(())
 }
 
-/// Appends a row: its start in bytes of the width `kind`, its info byte and its offsets.
+/// Appends a row: its start in bytes of the width `kind`, its info byte and its offsets. Most rows have a byte
+/// for each number, and no offset of the return address: they are appended at once.
 #[tactic(auto, unfolding(sf_model::specs::RowBytes::spelled_row, crate::specs::Room::offsets_fit))]
 #[inline(always)]
 fn push_row(bytes: &mut Vec<u8>, kind: u8, row: &Row) -> Result<(), AllocError>
@@ -67,9 +70,35 @@ fn push_row(bytes: &mut Vec<u8>, kind: u8, row: &Row) -> Result<(), AllocError>
     ensures ok { OnOk result (bytes.new.items ≡ bytes.old.items ++ narrow_row kind row.now) }
     ensures fits { OnOk result (IsTrue (offsets_fit row.now)) }
 {
-    push_narrow(bytes, row.start, kind)?;
-    bytes.push(info_of(&row.content))?;
-    push_offsets(bytes, &row.content)
+    let content = &row.content;
+    let info = info_of(content);
+    let start = low_byte(row.start);
+    let cfa = low_byte(content.cfa.cast_unsigned());
+    match (
+        kind,
+        offset_size(content),
+        saved_offset(content.ra),
+        content.fp,
+    ) {
+        (0, 0, None, None) => bytes.extend_from_slice(&[start, info, cfa]),
+        (0, 0, None, Some(fp)) => {
+            bytes.extend_from_slice(&[start, info, cfa, low_byte(fp.cast_unsigned())])
+        }
+        _ => {
+            push_narrow(bytes, row.start, kind)?;
+            bytes.push(info)?;
+            push_offsets(bytes, content)
+        }
+    }
+}
+
+/// The low byte of a number.
+#[inline(always)]
+fn low_byte(number: u32) -> u8
+    ensures { result ∷ [] ≡ unsigned_bytes 0 number }
+{
+    let [low, _, _, _] = number.to_le_bytes();
+    low
 }
 
 /// The info byte of a row.
