@@ -1,0 +1,9 @@
+pub mod OneNote
+pub mod Listings
+pub mod Segments
+pub mod Rising
+pub mod Holders
+pub mod Scan
+pub mod Segmented
+pub mod Threaded
+pub mod Checked

@@ -1,0 +1,66 @@
+-- The checks of a core file, in their order (Linux core files; ELF64 gABI, "Note Section").
+use Rattle.std.specs.Prelude.{ℕ, ◌==◌, Bool, true, false, ◌&&◌, ◌||◌, not, List, [], ◌∷◌, length, Result, Ok, Err, nat_le}
+use Rattle.sf_model.specs.declared.machine.Arch.{Arch}
+use Rattle.elf_read.specs.declared.kind.Kind.{Kind}
+use Rattle.elf_read.specs.declared.kind.Kind.TheVariants.{Rel, Exec, Dyn, Core}
+use Rattle.elf_read.specs.declared.fault.ElfFault.{ElfFault}
+use Rattle.elf_read.specs.Checking.{unless, where_so, ◌>>◌}
+use Rattle.elf_read.specs.Header.{arch_of, kind_of}
+use Rattle.elf_read.specs.Parsing.{file_check}
+use Rattle.core_notes.specs.declared.fault.CoreFault.{CoreFault}
+use Rattle.core_notes.specs.declared.fault.CoreFault.TheVariants.{Elf, NotCore, Note, StatusSize, NoThread, TooManyThreads}
+use Rattle.core_notes.specs.declared.status.Thread.{Thread}
+use Rattle.core_notes.specs.Note.{NoteView}
+use Rattle.core_notes.specs.Listing.{Item, items_of, whole_notes}
+use Rattle.core_notes.specs.Thread.{is_mask_note, is_status, status_size, threads_in}
+
+abbrev pub Check : Type 0
+Check = Result (Unit {0}) CoreFault
+
+-- a status has the machine's size; a mask after a thread has two numbers of eight bytes
+unfoldable pub note_check : Arch → (after_thread : Bool) → NoteView → Check
+note_check arch after_thread n =
+    where_so (is_status n) (unless (length n.descriptor.left == status_size arch) (StatusSize n.place))
+    >> where_so (after_thread && is_mask_note arch n) (unless (length n.descriptor.left == 16) (Note n.place))
+
+-- each note in order; one that is cut is a fault
+unfoldable pub items_check : Arch → (after_thread : Bool) → List Item → Check
+items_check arch after_thread [] = Ok tt
+items_check arch after_thread (Err place ∷ items) = Err (Note place)
+items_check arch after_thread (Ok n ∷ items) = note_check arch after_thread n >> items_check arch (after_thread || is_status n) items
+
+-- the checks of the ELF file
+abbrev pub elf_part : Result (Unit {0}) ElfFault → Check
+elf_part (Ok x) = Ok tt
+elf_part (Err fault) = Err (Elf fault)
+
+-- the threads of a file
+abbrev pub file_threads : List ℕ → List Thread
+file_threads file = threads_in (arch_of file) (whole_notes (items_of file))
+
+-- at least one thread, and at most 4096
+abbrev pub count_check : (threads : ℕ) → Check
+count_check threads = unless (not (threads == 0)) NoThread >> unless (nat_le threads 4096) TooManyThreads
+
+-- ET_CORE
+abbrev pub is_core_kind : Kind → Bool
+is_core_kind Rel = false
+is_core_kind Exec = false
+is_core_kind Dyn = false
+is_core_kind Core = true
+
+-- the checks after those of the ELF file: its kind, its notes, and how many threads it has
+unfoldable pub core_part : List ℕ → Check
+core_part file =
+    unless (is_core_kind (kind_of file)) NotCore
+    >> items_check (arch_of file) false (items_of file)
+    >> count_check (length (file_threads file))
+
+-- all checks: the first that fails is the file's fault
+abbrev pub core_check : List ℕ → Check
+core_check file = elf_part (file_check file) >> core_part file
+
+-- what a call answered, without its value
+abbrev pub verdict : {X : Type 0} → Result X CoreFault → Check
+verdict (Ok x) = Ok tt
+verdict (Err fault) = Err fault

@@ -1,0 +1,9 @@
+pub mod Segment
+pub mod Note
+pub mod Listing
+pub mod Thread
+pub mod Threads
+pub mod Checks
+pub mod Memory
+pub mod Views
+pub mod Told

@@ -1,0 +1,85 @@
+-- The notes of a core file: those of its PT_NOTE segments, in order (ELF64 gABI, "Note Section"; Linux core files).
+use Rattle.std.specs.Prelude.{◌≡◌, ℕ, zero, suc, ◌+◌, ◌-◌, ◌++◌, Bool, true, false, List, [], ◌∷◌, length, drop, Result, Ok, Err, if◌then◌else◌}
+use Rattle.std.specs.List.{flat_map}
+use Rattle.sf_bytes.specs.declared.fault.ByteFault.{ByteFault}
+use Rattle.sf_bytes.specs.Cursor.{Cursor, Read, cursor}
+use Rattle.elf_read.specs.Views.{file}
+use Rattle.core_notes.specs.declared.note.Note.{Note}
+use Rattle.core_notes.specs.declared.notes.Notes.{Notes}
+use Rattle.core_notes.specs.Note.{NoteView, NoteStands, note_at, note_view}
+use Rattle.core_notes.specs.Segment.{SegmentView, holds_notes, segments}
+
+-- ---- what a run of bytes is
+-- notes are between two cursors, each where the one before it ends
+abbrev pub NotesStand : List NoteView → Cursor → Cursor → Type 0
+NotesStand [] from to = to ≡ from
+NotesStand (n ∷ ns) from to = (after : Cursor) × NoteStands n from after × NotesStand ns after to
+
+-- the bytes of a segment, with their place
+abbrev pub segment_cursor : SegmentView → Cursor
+segment_cursor s = record { place = s.place; left = s.bytes }
+
+-- notes are the bytes from a cursor on, to their end
+pub record AreAllNotes (notes : List NoteView) (from : Cursor) : Type 0 where
+  pub end : Cursor
+  pub stand : NotesStand notes from end
+  pub nothing_left : end.left ≡ []
+
+-- the notes that are the bytes of a segment; one that isn't a PT_NOTE has none
+abbrev pub AreSegmentNotes : (holds_notes : Bool) → SegmentView → List NoteView → Type 0
+AreSegmentNotes true s notes = AreAllNotes notes (segment_cursor s)
+AreSegmentNotes false s notes = notes ≡ []
+
+-- the notes of segments, in order
+abbrev pub AreNotes : List SegmentView → List NoteView → Type 0
+AreNotes [] notes = notes ≡ []
+AreNotes (s ∷ ss) notes = (here later : List NoteView) × (notes ≡ here ++ later) × AreSegmentNotes (holds_notes s) s here × AreNotes ss later
+
+-- ---- the same as a list that ends at a note that is cut
+-- a note, or the place of one that is cut
+abbrev pub Item : Type 0
+Item = Result NoteView ℕ
+
+-- how many bytes are left after the note
+abbrev pub left_after : Read NoteView → ℕ
+left_after (Ok (n, after)) = length after.left
+left_after (Err e) = 0
+
+-- the note and those after it, or the place alone
+abbrev pub front_of : (place : ℕ) → Read NoteView → List Item → List Item
+front_of place (Ok (n, after)) others = Ok n ∷ others
+front_of place (Err e) others = Err place ∷ []
+
+-- the notes after this many further bytes of a note that was read
+unfoldable pub notes_after : (skipped place : ℕ) → List ℕ → List Item
+notes_after skipped place [] = []
+notes_after (suc n) place (b ∷ bs) = notes_after n (place + 1) bs
+notes_after zero place (b ∷ bs) =
+    let read = note_at (record { place = place; left = b ∷ bs }) in
+    front_of place read (notes_after (length bs - left_after read) (place + 1) bs)
+
+-- the notes from a cursor on
+abbrev pub notes_from : Cursor → List Item
+notes_from at = notes_after 0 at.place at.left
+
+abbrev pub segment_items : SegmentView → List Item
+segment_items s = if holds_notes s then notes_from (segment_cursor s) else []
+
+-- the notes of a file
+abbrev pub items_of : List ℕ → List Item
+items_of bytes = flat_map segment_items (segments bytes)
+
+-- the notes without those that are cut
+unfoldable pub whole_notes : List Item → List NoteView
+whole_notes [] = []
+whole_notes (Ok n ∷ items) = n ∷ whole_notes items
+whole_notes (Err place ∷ items) = whole_notes items
+
+-- ---- what an iterator has left
+abbrev pub items_left : Notes → List Item
+items_left notes = notes_from (cursor notes.rest) ++ flat_map segment_items (drop notes.segment (segments (file notes.elf)))
+
+-- what an item as it is lent stands for
+abbrev pub item : Result Note ℕ → Item
+item (Ok n) = Ok (note_view n)
+item (Err place) = Err place

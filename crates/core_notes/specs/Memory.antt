@@ -1,0 +1,34 @@
+-- The memory of a core file: its PT_LOAD segments (ELF64 gABI, "Program Header").
+use Rattle.std.specs.Prelude.{ℕ, ◌+◌, ◌<◌, ◌≤◌, Bool, true, ◌&&◌, nat_le, List, [], ◌∷◌, length, map, slice_index_or, if◌then◌else◌}
+use Rattle.std.specs.List.{filter}
+use Rattle.sf_model.specs.Memory.{Region, holds_eight}
+use Rattle.core_notes.specs.Segment.{SegmentView, is_load, segments}
+
+abbrev pub region_of : SegmentView → Region
+region_of s = record { start = s.vaddr; bytes = s.bytes }
+
+-- the regions of segments, and of a file, in the order of their headers
+abbrev pub regions_in : List SegmentView → List Region
+regions_in ss = map region_of (filter is_load ss)
+
+abbrev pub file_regions : List ℕ → List Region
+file_regions file = regions_in (segments file)
+
+-- the segment is memory that holds the eight bytes from an address on
+abbrev pub is_holder : (address : ℕ) → SegmentView → Bool
+is_holder address s = is_load s && holds_eight address (region_of s)
+
+-- where the memory of a segment ends
+abbrev pub memory_end : SegmentView → ℕ
+memory_end s = if is_load s then s.vaddr + length s.bytes else s.vaddr
+
+-- each segment has its address where the memory before it ends, or after
+unfoldable pub rise_from : (end : ℕ) → List SegmentView → Bool
+rise_from end [] = true
+rise_from end (s ∷ ss) = nat_le end s.vaddr && rise_from (memory_end s) ss
+
+-- so many segments have an address that is not above this one: those before the others
+pub record IsCountUpto (address : ℕ) (ss : List SegmentView) (n : ℕ) : Type 0 where
+  pub within : n ≤ length ss
+  pub reached : (k : ℕ) (d : SegmentView) → k < n → (slice_index_or ss k d).vaddr ≤ address
+  pub above : (k : ℕ) (d : SegmentView) → n ≤ k → k < length ss → address < (slice_index_or ss k d).vaddr

@@ -1,0 +1,34 @@
+//! Core files of both machines, as views over lent bytes (ELF64 gABI, "Note Section" and "Program Header"; Linux core
+//! files).
+//!
+//! [`Core::parse`] checks a file once: the ELF file, then each note of its PT_NOTE segments in order, then how many
+//! threads there are. The first check that fails is the fault, with its place. [`Core::threads_iter`] gives the threads
+//! in the order of their notes, each with its registers and its mask of return addresses; [`Core::thread`] gives one by
+//! its number. As a [`sf_model::Memory`] a core is its PT_LOAD segments. [`Core::file_note`] is the descriptor of the note
+//! on mapped files.
+//!
+//! The meaning of a file is its list of bytes: `AreNotes` says when notes are the bytes of its segments, `threads_in`
+//! which threads the notes have, `file_regions` what its memory is.
+//!
+//! The caller owes a file of fewer than 2^32 bytes. Nothing allocates. Walking all threads reads each note twice;
+//! `thread` reads the notes up to that thread. A read of memory halves the segments where their addresses rise, as
+//! kernels write them, and else it goes over them.
+#![tactic(auto)]
+
+mod fault;
+mod iter;
+mod layout;
+mod memory;
+mod note;
+mod notes;
+mod notice;
+mod number;
+mod parsing;
+mod segment;
+mod status;
+mod view;
+
+pub use fault::CoreFault;
+pub use iter::ThreadIter;
+pub use status::Thread;
+pub use view::Core;

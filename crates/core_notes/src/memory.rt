@@ -1,0 +1,118 @@
+//! Reads of the memory that a core file holds.
+
+ghost use Rattle.std.specs.Prelude.{◌≡◌, ◌<◌, ◌≤◌, true, length, slice_index_or, ℕ};
+ghost use Rattle.std.specs.List.{find};
+ghost use Rattle.std.specs.Option.{option_map};
+ghost use Rattle.sf_model.specs.Memory.{read_eight};
+ghost use Rattle.elf_read.specs.Views.{file};
+ghost use Rattle.core_notes.specs.Memory as spec;
+ghost use Rattle.core_notes.specs.Memory.{file_regions, is_holder};
+ghost use Rattle.core_notes.specs.Segment.{segment_view, segments};
+
+use crate::layout::PT_LOAD;
+use crate::number::u64_at;
+use crate::segment::segment_at;
+use elf_read::{Elf, Segment};
+
+/// Whether a segment is memory that holds the eight bytes from an address on.
+#[inline(always)]
+fn is_holder(segment: &Segment<'_>, address: u64) -> bool
+    ensures { result ≡ is_holder address (segment_view segment.now) }
+{
+    segment.kind == PT_LOAD
+        && segment.vaddr <= address
+        && u128::from(address) + 8 <= u128::from(segment.vaddr) + segment.bytes.len() as u128
+}
+
+/// Where the memory of a segment ends.
+fn memory_end(segment: &Segment<'_>) -> u128
+    ensures { result ≡ spec.memory_end (segment_view segment.now) }
+{
+    if segment.kind == PT_LOAD {
+        u128::from(segment.vaddr) + segment.bytes.len() as u128
+    } else {
+        u128::from(segment.vaddr)
+    }
+}
+
+/// Whether each segment has its address where the memory before it ends, or after.
+pub fn rise(elf: &Elf<'_>) -> bool
+    ensures { result ≡ spec.rise_from 0 (segments (file elf.now)) }
+{
+    let mut end = 0;
+    for i in 0..elf.segments() {
+        let segment = segment_at(elf, i);
+        if u128::from(segment.vaddr) < end {
+            return false;
+        }
+        end = memory_end(&segment);
+    }
+    true
+}
+
+/// The first segment that holds the eight bytes, in whatever order the segments are.
+fn by_scan<'a>(elf: &Elf<'a>, address: u64) -> Option<Segment<'a>>
+    ensures { option_map segment_view result ≡ find (is_holder address) (segments (file elf.now)) }
+{
+    for i in 0..elf.segments() {
+        let segment = segment_at(elf, i);
+        if is_holder(&segment, address) {
+            return Some(segment);
+        }
+    }
+    None
+}
+
+/// How many segments have an address that is not above this one. The addresses rise.
+fn count_upto(elf: &Elf<'_>, address: u64) -> u32
+    requires { spec.rise_from 0 (segments (file elf.now)) ≡ true }
+    ensures { spec.IsCountUpto address (segments (file elf.now)) result }
+{
+    // Each address before `low` is reached, and none from `high` on.
+    let mut low = 0;
+    let mut high = elf.segments();
+    while low < high {
+        let middle = low + (high - low) / 2;
+        if segment_at(elf, middle).vaddr <= address {
+            low = middle + 1;
+        } else {
+            high = middle;
+        }
+    }
+    low
+}
+
+/// The first segment that holds the eight bytes, where the addresses rise: the memory of an earlier one than the last
+/// that has been reached ends before.
+fn by_halves<'a>(elf: &Elf<'a>, address: u64) -> Option<Segment<'a>>
+    requires { spec.rise_from 0 (segments (file elf.now)) ≡ true }
+    ensures { option_map segment_view result ≡ find (is_holder address) (segments (file elf.now)) }
+{
+    let i = count_upto(elf, address).checked_sub(1)?;
+    let segment = segment_at(elf, i);
+    is_holder(&segment, address).then_some(segment)
+}
+
+/// The first segment that holds the eight bytes from an address on.
+fn holder<'a>(elf: &Elf<'a>, rises: bool, address: u64) -> Option<Segment<'a>>
+    requires { rises ≡ spec.rise_from 0 (segments (file elf.now)) }
+    ensures { option_map segment_view result ≡ find (is_holder address) (segments (file elf.now)) }
+{
+    if rises {
+        by_halves(elf, address)
+    } else {
+        by_scan(elf, address)
+    }
+}
+
+/// The number in the eight bytes from an address on.
+pub fn read_eight(elf: &Elf<'_>, rises: bool, address: u64) -> Option<u64>
+    requires { rises ≡ spec.rise_from 0 (segments (file elf.now)) }
+    ensures { result ≡ read_eight (file_regions (file elf.now)) address }
+{
+    if address > u64::MAX - 7 {
+        return None;
+    }
+    let segment = holder(elf, rises, address)?;
+    Some(u64_at(segment.bytes, address - segment.vaddr))
+}

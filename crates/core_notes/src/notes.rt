@@ -1,0 +1,86 @@
+//! The notes of a core file, one after the other.
+
+ghost use Rattle.std.specs.Prelude.{◌<◌, ◌^◌, length};
+ghost use Rattle.elf_read.specs.Views.{file};
+
+use crate::note::{Note, take_note};
+use crate::segment::note_bytes;
+use elf_read::Elf;
+use sf_bytes::Part;
+
+/// An iterator over the notes of all PT_NOTE segments. A note that is cut is an error with its place, and the last of
+/// its segment.
+#[derive(Clone, Copy, Debug)]
+pub struct Notes<'a> {
+    elf: Elf<'a>,
+    // What is left of the segment that is being read, and the number of the next one.
+    rest: Part<'a>,
+    segment: u32,
+    ghost small: { length (file elf) < 2 ^ 32 },
+}
+
+impl<'a> Notes<'a> {
+    ghost use Rattle.std.specs.Prelude.{◌≡◌, []};
+    ghost use Rattle.std.specs.Iterator.{YieldsFirstBy};
+    ghost use Rattle.core_notes.specs.Listing.{item, items_left, items_of};
+
+    /// The notes of a file.
+    pub fn new(elf: &Elf<'a>) -> Notes<'a>
+        requires { length (file elf.now) < 2 ^ 32 }
+        ensures { items_left result ≡ items_of (file elf.now) }
+    {
+        Notes {
+            elf: *elf,
+            rest: Part::new(&[], 0),
+            segment: 0,
+        }
+    }
+
+    // Goes on to the next segment that has notes, where none is left of this one.
+    fn go_on(&mut self)
+        ensures same { items_left self.new ≡ items_left self.old }
+        ensures all { length self.new.rest.bytes.now ≡ 0 → items_left self.new ≡ [] }
+    {
+        while self.rest.is_empty() && self.segment < self.elf.segments() {
+            self.rest = note_bytes(&self.elf, self.segment);
+            self.segment += 1;
+        }
+    }
+
+    // The next note, or the place of one that is cut.
+    fn take_item(&mut self) -> Option<Result<Note<'a>, u64>>
+        ensures { YieldsFirstBy item items_left self.old result self.new }
+    {
+        self.go_on();
+        if self.rest.is_empty() {
+            return None;
+        }
+        let place = self.rest.place;
+        let mut rest = self.rest;
+        match take_note(&mut rest) {
+            Ok(note) => {
+                self.rest = rest;
+                Some(Ok(note))
+            }
+            Err(_) => {
+                self.rest = Part::new(&[], place);
+                Some(Err(place))
+            }
+        }
+    }
+}
+
+impl<'a> Iterator for Notes<'a> {
+    ghost use Rattle.std.specs.Iterator.{YieldsFirstBy, item_count};
+    ghost use Rattle.core_notes.specs.Listing.{item, items_left};
+
+    type Item = Result<Note<'a>, u64>;
+
+    ghost next_gives = { YieldsFirstBy item items_left };
+
+    ghost remaining = { item_count items_left };
+
+    fn next(&mut self) -> Option<Result<Note<'a>, u64>> {
+        self.take_item()
+    }
+}

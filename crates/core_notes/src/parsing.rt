@@ -1,0 +1,87 @@
+//! The checks of the notes, in their order.
+
+ghost use Rattle.std.specs.Prelude.{◌≡◌, ◌<◌, ◌-◌, ◌^◌, IfOk, OnOk, ◌≤◌, false, length, min};
+ghost use Rattle.elf_read.specs.Views.{file};
+ghost use Rattle.core_notes.specs.Checks as spec;
+ghost use Rattle.core_notes.specs.Checks.{verdict};
+ghost use Rattle.core_notes.specs.Listing.{items_left, whole_notes};
+ghost use Rattle.core_notes.specs.Note.{note_view};
+ghost use Rattle.core_notes.specs.Thread.{threads_in};
+
+use crate::fault::CoreFault;
+use crate::layout::{MAX_THREADS, PAC_MASK_LEN};
+use crate::note::Note;
+use crate::notes::Notes;
+use crate::status::{is_mask_note, is_status, status_size};
+use elf_read::{Elf, Kind};
+use sf_model::Arch;
+
+// The size of a status, and of a mask after a thread.
+#[tactic(auto, unfolding(crate::specs::Checks::note_check))]
+fn check_note(arch: Arch, after_thread: bool, note: &Note<'_>) -> Result<(), CoreFault>
+    ensures { result ≡ spec.note_check arch after_thread (note_view note.now) }
+{
+    let size = note.descriptor.len();
+    if is_status(note) && size != status_size(arch) {
+        return Err(CoreFault::StatusSize(note.place));
+    }
+    if after_thread && is_mask_note(arch, note) && size != PAC_MASK_LEN {
+        return Err(CoreFault::Note(note.place));
+    }
+    Ok(())
+}
+
+// Whether a file is a core file.
+fn is_core(kind: Kind) -> bool
+    ensures { result ≡ spec.is_core_kind kind }
+{
+    kind == Kind::Core
+}
+
+// Checks the notes, and counts their threads, up to 2^32 - 1.
+fn count_threads(arch: Arch, notes: Notes<'_>) -> Result<u32, CoreFault>
+    ensures check { verdict result ≡ spec.items_check arch false (items_left notes.entry) }
+    ensures count { IfOk result (λ n. n ≡ min (length (threads_in arch (whole_notes (items_left notes.entry)))) (2 ^ 32 - 1)) }
+{
+    let mut threads: u32 = 0;
+    for item in notes {
+        let note = match item {
+            Ok(note) => note,
+            Err(place) => return Err(CoreFault::Note(place)),
+        };
+        check_note(arch, threads > 0, &note)?;
+        if is_status(&note) {
+            threads = threads.saturating_add(1);
+        }
+    }
+    Ok(threads)
+}
+
+// There is a thread, and there are not too many.
+fn check_count(threads: u32) -> Result<(), CoreFault>
+    ensures check { result ≡ spec.count_check threads }
+    ensures most { OnOk result (threads ≤ 4096) }
+{
+    if threads == 0 {
+        return Err(CoreFault::NoThread);
+    }
+    if threads > MAX_THREADS {
+        return Err(CoreFault::TooManyThreads);
+    }
+    Ok(())
+}
+
+/// The checks after those of the ELF file: its kind, its notes, and how many threads it has, which is returned.
+#[tactic(auto, unfolding(crate::specs::Checks::core_part))]
+pub fn check_core(elf: &Elf<'_>) -> Result<u32, CoreFault>
+    requires { length (file elf.now) < 2 ^ 32 }
+    ensures check { verdict result ≡ spec.core_part (file elf.now) }
+    ensures count { IfOk result (λ threads. threads ≡ length (spec.file_threads (file elf.now))) }
+{
+    if !is_core(elf.kind()) {
+        return Err(CoreFault::NotCore);
+    }
+    let threads = count_threads(elf.arch(), Notes::new(elf))?;
+    check_count(threads)?;
+    Ok(threads)
+}

@@ -1,0 +1,121 @@
+//! A core file that was checked.
+
+ghost use Rattle.std.specs.Prelude.{◌≡◌, ◌<◌, ◌^◌, IsTrue, is_ok, length};
+ghost use Rattle.elf_read.specs.Views.{file};
+ghost use Rattle.core_notes.specs.Checks.{core_check, file_threads};
+ghost use Rattle.core_notes.specs.Memory.{rise_from};
+ghost use Rattle.core_notes.specs.Segment.{segments};
+
+use crate::fault::CoreFault;
+use crate::iter::ThreadIter;
+use crate::memory::{read_eight, rise};
+use crate::notes::Notes;
+use crate::parsing::check_core;
+use crate::status::{Thread, is_file_note};
+use elf_read::Elf;
+use sf_bytes::Part;
+use sf_model::{Arch, Memory};
+
+/// A core file that was checked. It lends the file's bytes, of which there are fewer than 2^32.
+#[derive(Clone, Copy, Debug)]
+pub struct Core<'a> {
+    elf: Elf<'a>,
+    threads: u32,
+    // Whether a read may halve the segments.
+    rises: bool,
+    ghost small: { length (file elf) < 2 ^ 32 },
+    ghost checked: { IsTrue (is_ok (core_check (file elf))) },
+    ghost counted: { threads ≡ length (file_threads (file elf)) },
+    ghost ordered: { rises ≡ rise_from 0 (segments (file elf)) },
+}
+
+impl<'a> Core<'a> {
+    ghost use Rattle.std.specs.Prelude.{IfOk, slice_index_or};
+    ghost use Rattle.std.specs.List.{find};
+    ghost use Rattle.std.specs.Option.{option_map};
+    ghost use Rattle.sf_bytes.specs.Cursor.{cursor};
+    ghost use Rattle.elf_read.specs.Header.{arch_of};
+    ghost use Rattle.core_notes.specs.declared.status.Thread.{Thread as thread};
+    ghost use Rattle.core_notes.specs.Checks.{verdict};
+    ghost use Rattle.core_notes.specs.Note.{NoteView};
+    ghost use Rattle.core_notes.specs.Thread as spec;
+    ghost use Rattle.core_notes.specs.Views.{core_bytes, notes_of, threads_left, threads_of};
+
+    /// Checks a file: the ELF file, its kind, each note in order, and the number of threads. The fault is that of the
+    /// first check that fails.
+    pub fn parse(bytes: &'a [u8]) -> Result<Core<'a>, CoreFault>
+        requires { length bytes.now < 2 ^ 32 }
+        // It is read exactly where no check fails; else the fault is that of the first that does.
+        ensures exact { verdict result ≡ core_check bytes.now }
+        ensures bytes { IfOk result (λ core. core_bytes core ≡ bytes.now) }
+    {
+        let elf = Elf::parse(bytes)?;
+        let threads = check_core(&elf)?;
+        let rises = rise(&elf);
+        Ok(Core {
+            elf,
+            threads,
+            rises,
+        })
+    }
+
+    /// For which machine it is.
+    pub fn arch(&self) -> Arch
+        ensures { result ≡ arch_of (core_bytes self.now) }
+    {
+        self.elf.arch()
+    }
+
+    /// How many threads it has.
+    pub fn threads(&self) -> u32
+        ensures { result ≡ length (threads_of self.now) }
+    {
+        self.threads
+    }
+
+    /// The threads, in the order of their notes.
+    pub fn threads_iter(&self) -> ThreadIter<'a>
+        ensures { threads_left result ≡ threads_of self.now }
+    {
+        ThreadIter::new(self.elf.arch(), Notes::new(&self.elf))
+    }
+
+    /// The thread of a number. To go over all threads take `threads_iter`.
+    pub fn thread(&self, i: u32) -> Thread
+        requires { i < length (threads_of self.now) }
+        ensures { (d : thread) → slice_index_or (threads_of self.now) i d ≡ result }
+    {
+        let mut threads = self.threads_iter();
+        for passed in 0..i {
+            threads.next();
+        }
+        match threads.next() {
+            Some(thread) => thread,
+            None => unreachable!(),
+        }
+    }
+
+    /// The descriptor of the first note that lists the mapped files, if there is one.
+    pub fn file_note(&self) -> Option<Part<'a>>
+        ensures { option_map cursor result ≡ option_map (λ (n : NoteView). n.descriptor) (find spec.is_file_note (notes_of self.now)) }
+    {
+        for item in Notes::new(&self.elf) {
+            if let Ok(note) = item {
+                if is_file_note(&note) {
+                    return Some(note.descriptor);
+                }
+            }
+        }
+        None
+    }
+}
+
+impl<'a> Memory for Core<'a> {
+    ghost use Rattle.core_notes.specs.Views.{memory_of};
+
+    ghost regions = { memory_of };
+
+    fn read8(&self, address: u64) -> Option<u64> {
+        read_eight(&self.elf, self.rises, address)
+    }
+}
