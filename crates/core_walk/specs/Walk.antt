@@ -1,0 +1,10 @@
+-- What a walk lists, and the thread that it starts with (GNU SFrame specification, Version 2; Linux core files).
+use Rattle.sf_model.specs.declared.walk.Walk.{Walk}
+use Rattle.sf_model.specs.Walk.{Listing, ThreadState}
+use Rattle.core_notes.specs.declared.status.Thread.{Thread}
+
+abbrev pub listing : Walk → Listing
+listing walk = record { frames = walk.frames.items; stop = walk.stop }
+
+abbrev pub thread_state : Thread → ThreadState
+thread_state thread = record { pc = thread.pc; regs = thread.regs; mask = thread.mask }

@@ -1,0 +1,114 @@
+//! One step of a walk, from a frame to its caller.
+
+ghost use Rattle.std.specs.Prelude.{◌≡◌, List, Some, ℕ};
+ghost use Rattle.sf_model.specs.declared.recovery.Regs.{Regs as registers};
+ghost use Rattle.sf_model.specs.declared.content.Content.{Content as row_content};
+ghost use Rattle.sf_model.specs.declared.machine.Key.{Key as signing_key};
+ghost use Rattle.sf_model.specs.Memory.{Region};
+ghost use Rattle.sf_model.specs.Recovery as recovering;
+ghost use Rattle.sf_model.specs.Walk.{Going, address_before, behind, frame_by, on_by, recover_by_rows, unsigned_address};
+ghost use Rattle.sf_decode.specs.View.{table_of};
+ghost use Rattle.core_walk.specs.Step.{on_with};
+
+use sf_decode::View;
+use sf_lookup::find;
+use sf_model::{Content, Frame, Key, Memory, Ra, Recovered, Regs, Stop, moved, recover};
+
+/// Where the walk goes on.
+#[derive(Clone, Copy, Debug)]
+pub struct Caller {
+    /// The address that it returns to.
+    pub pc: u64,
+    /// Its registers.
+    pub regs: Regs,
+}
+
+/// The address before this one, modulo 2^64: a call ends there, and may be the last of its function.
+pub fn address_before(pc: u64) -> u64
+    ensures { result ≡ address_before pc }
+{
+    moved(pc, -1)
+}
+
+// A return address without its signature, none where it is signed and the thread has no mask.
+fn unsigned_address(signed: Option<Key>, mask: Option<u64>, address: u64) -> Option<u64>
+    ensures { result ≡ unsigned_address signed mask address }
+{
+    match (signed, mask) {
+        (None, _) => Some(address),
+        (Some(_), None) => None,
+        (Some(_), Some(mask)) => Some(address & !mask),
+    }
+}
+
+// Where a return address is saved that can't be read; one in the link register is known.
+fn return_place(ra: Ra, frame_address: u64) -> u64
+    ensures { (place : ℕ) → recovering.return_place ra frame_address ≡ Some place → place ≡ result }
+{
+    match ra {
+        Ra::At(offset) => moved(frame_address, offset),
+        Ra::Fixed | Ra::Link => moved(frame_address, -8),
+    }
+}
+
+// Where a frame pointer is saved that can't be read; one that isn't saved is known.
+fn pointer_place(offset: Option<i32>, frame_address: u64) -> u64
+    ensures { (place : ℕ) → recovering.pointer_place offset frame_address ≡ Some place → place ≡ result }
+{
+    match offset {
+        Some(offset) => moved(frame_address, offset),
+        None => frame_address,
+    }
+}
+
+// The caller of a frame, by the row's content and what it recovers, or why the walk stops: the return address is tried
+// before the frame pointer. The caller's link register is the return address with its signature.
+fn caller_of(
+    content: &Content,
+    mask: Option<u64>,
+    recovered: &Recovered,
+) -> Result<Caller, Stop>
+    ensures { (key : signing_key) (regs : registers) (memory : List Region) → recovered.now ≡ recovering.recovered (recovering.recovery content.now key regs memory) → (go : Going) → on_by go mask (recovering.recovery content.now key regs memory) (recovering.recovery content.now key regs memory).return_address ≡ on_with go result }
+{
+    let frame_address = recovered.cfa;
+    let Some(address) = recovered.ra else {
+        return Err(Stop::Unreadable(return_place(content.ra, frame_address)));
+    };
+    let Some(fp) = recovered.fp else {
+        return Err(Stop::Unreadable(pointer_place(content.fp, frame_address)));
+    };
+    let Some(pc) = unsigned_address(recovered.signed, mask, address) else {
+        return Err(Stop::Signed(address));
+    };
+    Ok(Caller {
+        pc,
+        regs: Regs {
+            sp: frame_address,
+            fp,
+            lr: address,
+        },
+    })
+}
+
+/// The frame at a program counter, and its caller or why the walk stops. The row is looked up at the asked address.
+pub fn step<M: Memory>(
+    view: &View<'_>,
+    mask: Option<u64>,
+    mem: &M,
+    asked: u64,
+    at: &Caller,
+) -> (Frame, Result<Caller, Stop>)
+    ensures { (go : Going) → frame_by go mask asked at.now.pc (recover_by_rows (table_of view.now).functions (M.regions mem.now) asked at.now.regs) ≡ behind result.0 (on_with go result.1) }
+{
+    let pc = at.pc;
+    let Some(found) = find(view, asked) else {
+        return (Frame { pc, cfa: None }, Err(Stop::Outside(asked)));
+    };
+    let content = &found.row.content;
+    let recovered = recover(view.arch(), content, found.func.key, &at.regs, mem);
+    let frame = Frame {
+        pc,
+        cfa: Some(recovered.cfa),
+    };
+    (frame, caller_of(content, mask, &recovered))
+}
