@@ -66,7 +66,7 @@ pub status_counted : (arch : Arch) (threads : ℕ) (items rest all : List Item) 
 status_counted arch threads items rest all n c e s h =
     let more : 0 < min (threads + 1) most = omega arith in
     let after : (nat_lt 0 threads || is_status n) ≡ nat_lt 0 (min (threads + 1) most) =
-        ap (λ (b : Bool). nat_lt 0 threads || b) s ∙ or_true (nat_lt 0 threads) ∙ sym (lt-ltb 0 (min (threads + 1) most) more) in
+    ap (λ (b : Bool). nat_lt 0 threads || b) s ∙ or_true (nat_lt 0 threads) ∙ sym (lt-ltb 0 (min (threads + 1) most) more) in
     let len : length (threads_in arch (whole_notes items)) ≡ length (threads_in arch (whole_notes rest)) + 1 = ap length (status_is_thread arch items rest n e s) ∙ omega arith in
     record {
       fits = omega arith;

@@ -7,3 +7,5 @@ pub mod Scan
 pub mod Segmented
 pub mod Threaded
 pub mod Checked
+pub mod Spelled
+pub mod CoreLaw

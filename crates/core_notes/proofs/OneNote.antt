@@ -95,7 +95,7 @@ note_takes at n after e =
     let named = padded_takes ns.0.0 k.0.1 nm.0.0 nm.0.1 nm.1 in
     let described = padded_takes ds.0.0 nm.0.1 d.0.0 d.0.1 d.1 in
     let h = note_of_fields at ns.0.1 ds.0.1 k.0.1 nm.0.0 nm.0.1 d.0.0 d.0.1 ns.0.0 ds.0.0 k.0.0
-        (number_takes 4 at ns.0.0 ns.0.1 ns.1) (number_takes 4 ns.0.1 ds.0.0 ds.0.1 ds.1) (number_takes 4 ds.0.1 k.0.0 k.0.1 k.1) named described in
+    (number_takes 4 at ns.0.0 ns.0.1 ns.1) (number_takes 4 ns.0.1 ds.0.0 ds.0.1 ds.1) (number_takes 4 ds.0.1 k.0.0 k.0.1 k.1) named described in
     subst (λ (p : NoteView × Cursor). NoteStands p.0 at p.1) same h
 
 pub note_again : (at : Cursor) (n : NoteView) (after : Cursor) → NoteStands n at after → note_at at ≡ Ok (n, after)
@@ -106,9 +106,9 @@ note_again at n after s =
     let e3 = number_again 4 s.at_kind n.kind s.at_name s.kind in
     let named : Cursor = record { place = s.at_name.place; left = n.name } in
     let e4 : padded_at (length n.name) s.at_name ≡ Ok (named, s.at_descriptor) =
-        padded_again (length n.name) s.at_name named s.after_name s.at_descriptor s.name refl s.name_padding in
+    padded_again (length n.name) s.at_name named s.after_name s.at_descriptor s.name refl s.name_padding in
     let e5 : padded_at (length n.descriptor.left) s.at_descriptor ≡ Ok (n.descriptor, after) =
-        padded_again (length n.descriptor.left) s.at_descriptor n.descriptor s.after_descriptor after s.descriptor s.start s.descriptor_padding in
+    padded_again (length n.descriptor.left) s.at_descriptor n.descriptor s.after_descriptor after s.descriptor s.start s.descriptor_padding in
     rw (e1, e2, e3, e4, e5) (ap (λ (p : ℕ). Ok (record { place = p; name = n.name; kind = n.kind; descriptor = n.descriptor }, after)) (sym s.place))
 
 -- ---- a note has bytes

@@ -157,7 +157,7 @@ pub last_reached : (address : ℕ) (ss : List SegmentView) (n : ℕ) (d : Segmen
     → find (is_holder address) ss ≡ cond (is_holder address (get_or ss n d)) (Some (get_or ss n d)) None
 last_reached address ss n d h c =
     only_one (is_holder address) ss n d (omega (c.within, arith)) (λ k e within other.
-        elim (cases_lt k n) [
-          | inl before ↦ ends_before address (get_or ss k e) (omega (ordered 0 ss h k n e before (omega (c.within, arith)), c.reached n e (omega arith), arith))
-          | inr from ↦ starts_after address (get_or ss k e) (c.above k e (omega (from, other, arith)) within)
-        ])
+    elim (cases_lt k n) [
+      | inl before ↦ ends_before address (get_or ss k e) (omega (ordered 0 ss h k n e before (omega (c.within, arith)), c.reached n e (omega arith), arith))
+      | inr from ↦ starts_after address (get_or ss k e) (c.above k e (omega (from, other, arith)) within)
+    ])

@@ -7,3 +7,4 @@ pub mod Checks
 pub mod Memory
 pub mod Views
 pub mod Told
+pub mod Core

@@ -17,6 +17,7 @@
 
 mod fault;
 mod iter;
+mod laws;
 mod layout;
 mod memory;
 mod note;
@@ -30,5 +31,9 @@ mod view;
 
 pub use fault::CoreFault;
 pub use iter::ThreadIter;
+pub use laws::core_is_its_notes;
 pub use status::Thread;
 pub use view::Core;
+
+#[cfg(test)]
+mod tests;

@@ -30,13 +30,14 @@ pub struct Core<'a> {
 }
 
 impl<'a> Core<'a> {
-    ghost use Rattle.std.specs.Prelude.{IfOk, slice_index_or};
+    ghost use Rattle.std.specs.Prelude.{◌≤◌, IfOk, IsOkAnd, List, slice_index_or};
     ghost use Rattle.std.specs.List.{find};
     ghost use Rattle.std.specs.Option.{option_map};
     ghost use Rattle.sf_bytes.specs.Cursor.{cursor};
     ghost use Rattle.elf_read.specs.Header.{arch_of};
     ghost use Rattle.core_notes.specs.declared.status.Thread.{Thread as thread};
     ghost use Rattle.core_notes.specs.Checks.{verdict};
+    ghost use Rattle.core_notes.specs.Core.{IsCore};
     ghost use Rattle.core_notes.specs.Note.{NoteView};
     ghost use Rattle.core_notes.specs.Thread as spec;
     ghost use Rattle.core_notes.specs.Views.{core_bytes, notes_of, threads_left, threads_of};
@@ -45,7 +46,20 @@ impl<'a> Core<'a> {
     /// first check that fails.
     pub fn parse(bytes: &'a [u8]) -> Result<Core<'a>, CoreFault>
         requires { length bytes.now < 2 ^ 32 }
+        // What was read is a core file of the notes that the view shows.
+        ensures sound { IfOk result (λ core. IsCore bytes.now (notes_of core)) }
+        // Each core file is read, as one of its notes.
+        ensures complete { (notes : List NoteView) → IsCore bytes.now notes → IsOkAnd result (λ core. notes_of core ≡ notes) }
         // It is read exactly where no check fails; else the fault is that of the first that does.
+        ensures exact { verdict result ≡ core_check bytes.now }
+        ensures bytes { IfOk result (λ core. core_bytes core ≡ bytes.now) }
+    {
+        Self::checked(bytes)
+    }
+
+    // The same by the checks alone.
+    fn checked(bytes: &'a [u8]) -> Result<Core<'a>, CoreFault>
+        requires { length bytes.now < 2 ^ 32 }
         ensures exact { verdict result ≡ core_check bytes.now }
         ensures bytes { IfOk result (λ core. core_bytes core ≡ bytes.now) }
     {
@@ -68,7 +82,9 @@ impl<'a> Core<'a> {
 
     /// How many threads it has.
     pub fn threads(&self) -> u32
-        ensures { result ≡ length (threads_of self.now) }
+        ensures value { result ≡ length (threads_of self.now) }
+        ensures some { 1 ≤ result }
+        ensures most { result ≤ 4096 }
     {
         self.threads
     }

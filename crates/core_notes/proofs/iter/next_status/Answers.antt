@@ -25,6 +25,6 @@ loop-item-preserved c = λ arch.
 
 pub returns : goal.returns
 returns c = λ arch. (
-    sym (c.loop-item.invariant arch) ∙ threads_end arch (items_left c.loop-item.notes) c.in_default.ensures.steps.0,
-    threads_end arch (items_left c.next.new.self) c.in_default.ensures.steps.1,
-  )
+  sym (c.loop-item.invariant arch) ∙ threads_end arch (items_left c.loop-item.notes) c.in_default.ensures.steps.0,
+  threads_end arch (items_left c.next.new.self) c.in_default.ensures.steps.1,
+)

@@ -18,7 +18,7 @@ loop-item-preserved-then-is_mask_note c =
     let rest = items_left c.next.new.self in
     ap (λ (mask : ℕ). mask_with (own_mask c.args.arch (whole_notes rest)) (Some mask)) c.mask_of.ensures
     ∙ sym (mask_goes_on c.args.arch items rest (note_view c.in-Ok.note) c.loop-item.mask _ (to_note items rest c.in-Some.item c.in-Ok.note c.in-Some.ensures.steps c.in-Ok.is)
-        (sym c.is_status.ensures ∙ c.if-is_status.false) (sym c.is_mask_note.ensures ∙ c.if-is_mask_note.true))
+    (sym c.is_status.ensures ∙ c.if-is_status.false) (sym c.is_mask_note.ensures ∙ c.if-is_mask_note.true))
     ∙ c.loop-item.invariant
 
 pub loop-item-preserved-else-is_mask_note : goal.loop-item-preserved-else-is_mask_note
@@ -26,7 +26,7 @@ loop-item-preserved-else-is_mask_note c =
     let items = items_left c.loop-item.item-iterator in
     let rest = items_left c.next.new.self in
     sym (mask_goes_on c.args.arch items rest (note_view c.in-Ok.note) c.loop-item.mask _ (to_note items rest c.in-Some.item c.in-Ok.note c.in-Some.ensures.steps c.in-Ok.is)
-        (sym c.is_status.ensures ∙ c.if-is_status.false) (sym c.is_mask_note.ensures ∙ c.if-is_mask_note.false))
+    (sym c.is_status.ensures ∙ c.if-is_status.false) (sym c.is_mask_note.ensures ∙ c.if-is_mask_note.false))
     ∙ c.loop-item.invariant
 
 pub loop-item-preserved : goal.loop-item-preserved

@@ -8,13 +8,13 @@ use Rattle.core_notes.proofs.memory.by_scan.Goals as goal
 pub returns-then-is_holder : goal.returns-then-is_holder
 returns-then-is_holder c =
     sym (takes (is_holder c.args.address) (file c.args.elf.now) c.loop-i.i (segment_view c.segment_at-segment.result) (omega (c.loop-i-test.true, c.segments-i-end.ensures, arith)) c.segment_at-segment.ensures
-        (sym c.is_holder.ensures ∙ c.if-is_holder.true))
+    (sym c.is_holder.ensures ∙ c.if-is_holder.true))
     ∙ c.loop-i.invariant
 
 pub loop-i-preserved : goal.loop-i-preserved
 loop-i-preserved c =
     sym (skips (is_holder c.args.address) (file c.args.elf.now) c.loop-i.i (segment_view c.segment_at-segment.result) (omega (c.loop-i-test.true, c.segments-i-end.ensures, arith)) c.segment_at-segment.ensures
-        (sym c.is_holder.ensures ∙ c.if-is_holder.false))
+    (sym c.is_holder.ensures ∙ c.if-is_holder.false))
     ∙ c.loop-i.invariant
 
 pub returns : goal.returns

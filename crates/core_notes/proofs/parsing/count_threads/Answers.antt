@@ -28,7 +28,7 @@ loop-item-preserved-then-is_status c =
     let rest = items_left c.next.new.self in
     subst (λ (n : ℕ). Counted c.args.arch n rest (items_left c.args.notes)) (sym c.saturating_add-threads.ensures)
     (status_counted c.args.arch c.loop-item.threads items rest (items_left c.args.notes) (note_view c.in-Ok.note) c.loop-item.invariant
-        (to_note items rest c.in-Some.item c.in-Ok.note c.in-Some.ensures.steps c.in-Ok.is) (sym c.is_status.ensures ∙ c.if-is_status.true) (sym c.in_ok-check_note.ensures))
+    (to_note items rest c.in-Some.item c.in-Ok.note c.in-Some.ensures.steps c.in-Ok.is) (sym c.is_status.ensures ∙ c.if-is_status.true) (sym c.in_ok-check_note.ensures))
 
 pub loop-item-preserved : goal.loop-item-preserved
 loop-item-preserved c =

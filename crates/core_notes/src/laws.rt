@@ -1,0 +1,11 @@
+//! Laws over the definitions: functions that do nothing, for their contracts.
+
+ghost use Rattle.core_notes.specs.Core.{IsCore};
+ghost use Rattle.core_notes.specs.Views.{core_bytes, notes_of};
+
+use crate::view::Core;
+
+/// What a core shows is what its bytes are.
+pub fn core_is_its_notes(core: &Core<'_>)
+    ensures { IsCore (core_bytes core.now) (notes_of core.now) }
+{}
