@@ -1,8 +1,8 @@
 -- No check of a core file fails exactly where it is a core file, and its notes are those that are read.
 use Rattle.std.specs.Prelude.{◌&&◌, ◌||◌, ◌==◌, not, nat_le}
 use Rattle.std.specs.List.{list_all}
-use Rattle.std.proofs.Common.{◌≡◌, ℕ, zero, suc, ◌<◌, ◌≤◌, Bool, true, false, cond, IsTrue, List, [], ◌∷◌, length, Result, Ok, Err, is_ok, refl, sym, ap, subst, ◌∙◌, arith}
-use Rattle.std.proofs.lemmas.Bool.{eqb-true, leb-true, le-leb, ne_eqb}
+use Rattle.std.proofs.Common.{◌≡◌, ℕ, zero, suc, ◌≤◌, Bool, true, false, cond, IsTrue, List, [], ◌∷◌, length, Result, Ok, Err, is_ok, refl, ap, ◌∙◌, arith}
+use Rattle.std.proofs.lemmas.Bool.{leb-true, le-leb, ne_eqb}
 use Rattle.sf_model.specs.declared.machine.Arch.{Arch}
 use Rattle.elf_read.specs.declared.fault.ElfFault.{ElfFault}
 use Rattle.elf_read.specs.declared.kind.Kind.{Kind}
@@ -18,7 +18,7 @@ use Rattle.core_notes.specs.Listing.{Item, items_of, whole_notes}
 use Rattle.core_notes.specs.Note.{NoteView}
 use Rattle.core_notes.specs.Segment.{segments}
 use Rattle.core_notes.specs.Thread.{is_mask_note, is_status, status_size, threads_in}
-use Rattle.core_notes.proofs.Spelled.{NoneCut, all_whole, none_cut_whole, notes_are_read, read_are_notes, whole-all}
+use Rattle.core_notes.proofs.Spelled.{NoneCut, all_whole, notes_are_read, read_are_notes, whole-all}
 
 -- ---- tests that must hold
 fine : Check

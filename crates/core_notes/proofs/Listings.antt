@@ -1,7 +1,7 @@
 -- The notes of a run of bytes, one after the other.
 use Rattle.std.proofs.Common.{◌≡◌, ℕ, zero, suc, ◌+◌, ◌-◌, ◌<◌, List, [], ◌∷◌, length, drop, Ok, Err, refl, sym, ap, ◌∙◌, arith, length-drop}
 use Rattle.sf_bytes.specs.declared.fault.ByteFault.{ByteFault}
-use Rattle.sf_bytes.specs.Cursor.{Cursor, past}
+use Rattle.sf_bytes.specs.Cursor.{Cursor}
 use Rattle.sf_bytes.proofs.Fields.{passes-past}
 use Rattle.core_notes.specs.Note.{NoteView, note_at}
 use Rattle.core_notes.specs.Listing.{Item, notes_after, notes_from}

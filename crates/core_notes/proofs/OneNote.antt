@@ -1,11 +1,10 @@
 -- A note is read exactly where one is.
-use Rattle.std.specs.Prelude.{nat_lt, min}
-use Rattle.std.proofs.Common.{◌≡◌, ℕ, ◌+◌, ◌<◌, ◌≤◌, List, ◌++◌, length, take, drop, Result, Ok, Err, refl, sym, ap, subst, ◌∙◌, arith, append_assoc}
+use Rattle.std.specs.Prelude.{min}
+use Rattle.std.proofs.Common.{◌≡◌, ℕ, ◌+◌, ◌<◌, List, ◌++◌, length, take, Ok, refl, sym, ap, subst, ◌∙◌, arith, append_assoc}
 use Rattle.std.proofs.lemmas.List.{length-append, length-take-le}
-use Rattle.sf_bytes.specs.declared.fault.ByteFault.{ByteFault}
 use Rattle.sf_bytes.specs.Cursor.{Cursor, Read, ◌>>=◌, past, number_at, part_at}
 use Rattle.sf_bytes.specs.Standing.{Passes, Stands, Number, Bytes}
-use Rattle.sf_bytes.proofs.Fields.{bind_ok, ok_is, number_takes, number_again, part_takes, part_again, past-passes, passes-past, passes-within}
+use Rattle.sf_bytes.proofs.Fields.{bind_ok, ok_is, number_takes, number_again, part_takes, part_again, past-passes, passes-past}
 use Rattle.core_notes.specs.Note.{NoteView, NoteStands, PaddingStands, note_at, padded_at, padding}
 
 -- ---- a field and its padding

@@ -1,6 +1,6 @@
 -- Going over segments by number.
 use Rattle.std.specs.List.{find}
-use Rattle.std.proofs.Common.{◌≡◌, ℕ, ◌+◌, ◌<◌, ◌≤◌, Bool, true, false, cond, List, [], ◌∷◌, length, drop, get_or, Option, Some, None, refl, sym, ap, ◌∙◌, arith}
+use Rattle.std.proofs.Common.{◌≡◌, ℕ, ◌+◌, ◌<◌, ◌≤◌, Bool, true, false, cond, List, ◌∷◌, drop, Some, None, sym, ap, ◌∙◌}
 use Rattle.elf_read.specs.Sections.{segment_count}
 use Rattle.core_notes.specs.Segment.{SegmentView, segment_of, segments}
 use Rattle.core_notes.specs.Memory.{memory_end, rise_from}

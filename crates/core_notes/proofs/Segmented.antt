@@ -1,7 +1,7 @@
 -- The notes of one segment after the other.
 use Rattle.std.specs.Prelude.{◌++◌}
 use Rattle.std.specs.List.{flat_map}
-use Rattle.std.proofs.Common.{◌≡◌, ℕ, ◌+◌, ◌<◌, ◌≤◌, Bool, true, false, cond, List, [], ◌∷◌, length, drop, refl, sym, ap, ◌∙◌, arith}
+use Rattle.std.proofs.Common.{◌≡◌, ℕ, ◌+◌, ◌<◌, ◌≤◌, Bool, true, false, cond, List, [], length, drop, sym, ap, ◌∙◌}
 use Rattle.sf_bytes.specs.Cursor.{Cursor}
 use Rattle.elf_read.specs.Sections.{segment_count}
 use Rattle.core_notes.specs.Listing.{Item, items_of, notes_after, notes_from, segment_cursor, segment_items}

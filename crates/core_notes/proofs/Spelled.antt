@@ -1,11 +1,10 @@
 -- The notes that are read are those that the segments' bytes are.
 use Rattle.std.specs.Prelude.{◌++◌}
 use Rattle.std.specs.List.{flat_map}
-use Rattle.std.proofs.Common.{◌≡◌, ℕ, ◌+◌, ◌<◌, ◌≤◌, Bool, true, false, cond, List, [], ◌∷◌, length, Result, Ok, Err, refl, sym, ap, subst, ◌∙◌, arith}
-use Rattle.sf_bytes.specs.declared.fault.ByteFault.{ByteFault}
+use Rattle.std.proofs.Common.{◌≡◌, ℕ, ◌<◌, Bool, true, false, cond, List, [], ◌∷◌, length, Ok, Err, refl, sym, ap, ◌∙◌, arith}
 use Rattle.sf_bytes.specs.Cursor.{Cursor, Read}
 use Rattle.sf_bytes.proofs.Fields.{passes-within}
-use Rattle.core_notes.specs.Note.{NoteView, NoteStands, note_at}
+use Rattle.core_notes.specs.Note.{NoteView, note_at}
 use Rattle.core_notes.specs.Listing.{AreAllNotes, AreNotes, AreSegmentNotes, Item, NotesStand, notes_from, segment_cursor, segment_items, whole_notes}
 use Rattle.core_notes.specs.Segment.{SegmentView, holds_notes}
 use Rattle.core_notes.proofs.OneNote.{SomeBytes, note_again, note_passes, note_takes}

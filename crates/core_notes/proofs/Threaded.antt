@@ -1,8 +1,7 @@
 -- The threads of notes, one note after the other.
 use Rattle.std.specs.List.{find}
-use Rattle.std.proofs.Common.{◌≡◌, ℕ, Bool, true, false, cond, List, [], ◌∷◌, Option, Some, None, Result, Ok, Err, refl, sym, ap, ◌∙◌}
+use Rattle.std.proofs.Common.{◌≡◌, ℕ, Bool, true, false, cond, List, [], ◌∷◌, Option, Some, None, Result, Ok, Err, refl, ap, ◌∙◌}
 use Rattle.sf_model.specs.declared.machine.Arch.{Arch}
-use Rattle.core_notes.specs.declared.status.Thread.{Thread}
 use Rattle.core_notes.specs.declared.note.Note.{Note}
 use Rattle.core_notes.specs.Listing.{Item, item, whole_notes}
 use Rattle.core_notes.specs.Note.{NoteView, note_view}

@@ -1,7 +1,6 @@
 -- The notes of a core file: those of its PT_NOTE segments, in order (ELF64 gABI, "Note Section"; Linux core files).
 use Rattle.std.specs.Prelude.{◌≡◌, ℕ, zero, suc, ◌+◌, ◌-◌, ◌++◌, Bool, true, false, List, [], ◌∷◌, length, drop, Result, Ok, Err, if◌then◌else◌}
 use Rattle.std.specs.List.{flat_map}
-use Rattle.sf_bytes.specs.declared.fault.ByteFault.{ByteFault}
 use Rattle.sf_bytes.specs.Cursor.{Cursor, Read, cursor}
 use Rattle.elf_read.specs.Views.{file}
 use Rattle.core_notes.specs.declared.note.Note.{Note}

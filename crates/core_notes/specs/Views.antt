@@ -1,6 +1,5 @@
 -- What a core file that was checked shows (Linux core files).
-use Rattle.std.specs.Prelude.{◌≡◌, ℕ, ◌<◌, ◌≤◌, List, length}
-use Rattle.sf_model.specs.declared.machine.Arch.{Arch}
+use Rattle.std.specs.Prelude.{ℕ, List}
 use Rattle.sf_model.specs.Memory.{Region}
 use Rattle.elf_read.specs.Header.{arch_of}
 use Rattle.elf_read.specs.Views.{file}

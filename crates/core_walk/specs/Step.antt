@@ -1,6 +1,5 @@
 -- One step of a walk, from a frame to its caller (GNU SFrame specification, Version 2: what an SFrame section is for).
-use Rattle.std.specs.Prelude.{ℕ, Result, Ok, Err}
-use Rattle.sf_model.specs.declared.recovery.Regs.{Regs}
+use Rattle.std.specs.Prelude.{Result, Ok, Err}
 use Rattle.sf_model.specs.declared.walk.Stop.{Stop}
 use Rattle.sf_model.specs.Walk.{Going, Listing, stopped}
 use Rattle.core_walk.specs.declared.step.Caller.{Caller}

@@ -11,3 +11,6 @@ mod step;
 mod walking;
 
 pub use walking::walk;
+
+#[cfg(test)]
+mod tests;

@@ -63,11 +63,7 @@ fn pointer_place(offset: Option<i32>, frame_address: u64) -> u64
 
 // The caller of a frame, by the row's content and what it recovers, or why the walk stops: the return address is tried
 // before the frame pointer. The caller's link register is the return address with its signature.
-fn caller_of(
-    content: &Content,
-    mask: Option<u64>,
-    recovered: &Recovered,
-) -> Result<Caller, Stop>
+fn caller_of(content: &Content, mask: Option<u64>, recovered: &Recovered) -> Result<Caller, Stop>
     ensures { (key : signing_key) (regs : registers) (memory : List Region) → recovered.now ≡ recovering.recovered (recovering.recovery content.now key regs memory) → (go : Going) → on_by go mask (recovering.recovery content.now key regs memory) (recovering.recovery content.now key regs memory).return_address ≡ on_with go result }
 {
     let frame_address = recovered.cfa;

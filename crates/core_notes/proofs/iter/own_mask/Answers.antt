@@ -1,5 +1,5 @@
-use Rattle.std.proofs.Common.{◌≡◌, ℕ, Option, Some, List, sym, ap, ◌∙◌}
-use Rattle.core_notes.specs.Listing.{Item, items_left, whole_notes}
+use Rattle.std.proofs.Common.{ℕ, Some, List, sym, ap, ◌∙◌}
+use Rattle.core_notes.specs.Listing.{items_left, whole_notes}
 use Rattle.core_notes.specs.Note.{NoteView, note_view}
 use Rattle.core_notes.specs.Thread.{own_mask}
 use Rattle.core_notes.proofs.Threaded.{at_no_note, mask_ends, mask_goes_on, mask_is_found, mask_with, to_note}

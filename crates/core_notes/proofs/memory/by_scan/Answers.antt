@@ -1,4 +1,4 @@
-use Rattle.std.proofs.Common.{◌≡◌, true, false, sym, ap, ◌∙◌, arith}
+use Rattle.std.proofs.Common.{sym, ◌∙◌, arith}
 use Rattle.elf_read.specs.Views.{file}
 use Rattle.core_notes.specs.Memory.{is_holder}
 use Rattle.core_notes.specs.Segment.{segment_view}

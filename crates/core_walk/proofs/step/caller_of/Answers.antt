@@ -1,4 +1,3 @@
-use Rattle.std.proofs.Common.{sym, ◌∙◌}
 use Rattle.core_walk.proofs.Steps.{both_known, no_address, no_pointer}
 use Rattle.core_walk.proofs.step.caller_of.Goals as goal
 

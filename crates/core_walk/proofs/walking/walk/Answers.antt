@@ -22,7 +22,7 @@ returns-in-Err g c =
     let whole = section_walk functions (thread_state c.args.thread.now) memory c.args.depth in
     whole_list c.push.new.self.items c.in-Err.stop whole
     (stops (recover_by_rows functions memory) c.args.thread.now.mask c.args.depth c.loop-listed.listed c.loop-listed.asked c.loop-listed.at c.loop-listed.frames.items c.push.new.self.items frame c.in-Err.stop whole
-        c.loop-listed-test.true (λ go. c.step-next.ensures go ∙ ap (λ (next : Result Caller Stop). behind frame (on_with go next)) c.in-Err.is) c.in_ok-push.ensures.items c.loop-listed.invariant)
+    c.loop-listed-test.true (λ go. c.step-next.ensures go ∙ ap (λ (next : Result Caller Stop). behind frame (on_with go next)) c.in-Err.is) c.in_ok-push.ensures.items c.loop-listed.invariant)
 
 pub loop-listed-preserved : goal.loop-listed-preserved
 loop-listed-preserved g c =
@@ -34,7 +34,7 @@ loop-listed-preserved g c =
     let whole = section_walk functions (thread_state c.args.thread.now) memory c.args.depth in
     ap (λ (asked : ℕ). after_frames c.push.new.self.items (frames_from rows mask (c.args.depth - (c.loop-listed.listed + 1)) asked c.in-Ok.caller.pc c.in-Ok.caller.regs)) c.address_before-asked.ensures
     ∙ goes_on rows mask c.args.depth c.loop-listed.listed c.loop-listed.asked c.loop-listed.at c.in-Ok.caller c.loop-listed.frames.items c.push.new.self.items frame whole
-        c.loop-listed-test.true (λ go. c.step-next.ensures go ∙ ap (λ (next : Result Caller Stop). behind frame (on_with go next)) c.in-Ok.is) c.in_ok-push.ensures.items c.loop-listed.invariant
+    c.loop-listed-test.true (λ go. c.step-next.ensures go ∙ ap (λ (next : Result Caller Stop). behind frame (on_with go next)) c.in-Ok.is) c.in_ok-push.ensures.items c.loop-listed.invariant
 
 pub returns : goal.returns
 returns g c =

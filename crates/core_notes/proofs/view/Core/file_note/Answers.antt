@@ -1,7 +1,7 @@
 use Rattle.std.specs.List.{find}
 use Rattle.std.specs.Option.{option_map}
-use Rattle.std.proofs.Common.{◌≡◌, Option, Some, List, sym, ap, ◌∙◌}
-use Rattle.core_notes.specs.Listing.{items_left, whole_notes}
+use Rattle.std.proofs.Common.{sym, ap, ◌∙◌}
+use Rattle.core_notes.specs.Listing.{items_left}
 use Rattle.core_notes.specs.Note.{NoteView, note_view}
 use Rattle.core_notes.specs.Thread.{is_file_note}
 use Rattle.core_notes.proofs.Threaded.{at_end, at_no_note, found_note, to_note}

@@ -1,5 +1,5 @@
 use Rattle.std.specs.Iterator.{YieldsFirst}
-use Rattle.std.proofs.Common.{◌≡◌, ◌+◌, ◌<◌, ℕ, List, [], ◌∷◌, Option, Some, None, length, drop, get_or, sym, ap, subst, ◌∙◌, arith}
+use Rattle.std.proofs.Common.{◌≡◌, ◌+◌, ◌<◌, ℕ, List, ◌∷◌, Option, Some, None, length, drop, get_or, sym, ap, ◌∙◌, arith}
 use Rattle.std.proofs.lemmas.List.{drop-drop, drop_more, length-drop}
 use Rattle.core_notes.specs.declared.iter.ThreadIter.{ThreadIter}
 use Rattle.core_notes.specs.declared.status.Thread.{Thread}
