@@ -9,7 +9,7 @@ use Rattle.sf_model.specs.declared.walk.Stop.TheVariants.{Depth}
 use Rattle.sf_model.specs.Memory.{Region}
 use Rattle.sf_model.specs.Walk.{Going, Listing, Recovering, ThreadState, address_before, behind, frame_by, frames_from, recover_by_rows, section_walk, stopped, walk_by}
 use Rattle.core_walk.specs.declared.step.Caller.{Caller}
-use Rattle.core_walk.specs.Step.{on_with}
+use Rattle.core_walk.specs.Step.{Steps, on_with}
 
 -- frames before a listing
 abbrev pub after_frames : List Frame → Listing → Listing
@@ -31,10 +31,6 @@ frames-suc : (recovering : Recovering) (mask : Option ℕ) (left asked pc : ℕ)
     → frames_from recovering mask (suc left) asked pc regs ≡ frame_by (onward recovering mask left) mask asked pc (recovering asked regs)
 unfolding frames_from
 frames-suc recovering mask left asked pc regs = refl
-
--- what a step says, for every way of going on
-abbrev pub Steps : Recovering → Option ℕ → (asked : ℕ) → Caller → Frame → Result Caller Stop → Type 0
-Steps recovering mask asked at frame next = (go : Going) → frame_by go mask asked at.pc (recovering asked at.regs) ≡ behind frame (on_with go next)
 
 one_more : (recovering : Recovering) (mask : Option ℕ) (depth i asked : ℕ) (at : Caller) (frame : Frame) (next : Result Caller Stop) → i < depth → Steps recovering mask asked at frame next
     → frames_from recovering mask (depth - i) asked at.pc at.regs ≡ behind frame (on_with (onward recovering mask (depth - (i + 1))) next)

@@ -1,14 +1,10 @@
 //! One step of a walk, from a frame to its caller.
 
-ghost use Rattle.std.specs.Prelude.{◌≡◌, List, Some, ℕ};
-ghost use Rattle.sf_model.specs.declared.recovery.Regs.{Regs as registers};
-ghost use Rattle.sf_model.specs.declared.content.Content.{Content as row_content};
-ghost use Rattle.sf_model.specs.declared.machine.Key.{Key as signing_key};
-ghost use Rattle.sf_model.specs.Memory.{Region};
+ghost use Rattle.std.specs.Prelude.{◌≡◌, Some, ℕ};
 ghost use Rattle.sf_model.specs.Recovery as recovering;
-ghost use Rattle.sf_model.specs.Walk.{Going, address_before, behind, frame_by, on_by, recover_by_rows, unsigned_address};
+ghost use Rattle.sf_model.specs.Walk.{address_before, recover_by_rows, unsigned_address};
 ghost use Rattle.sf_decode.specs.View.{table_of};
-ghost use Rattle.core_walk.specs.Step.{on_with};
+ghost use Rattle.core_walk.specs.Step.{GoesOnBy, Steps};
 
 use sf_decode::View;
 use sf_lookup::find;
@@ -64,7 +60,7 @@ fn pointer_place(offset: Option<i32>, frame_address: u64) -> u64
 // The caller of a frame, by the row's content and what it recovers, or why the walk stops: the return address is tried
 // before the frame pointer. The caller's link register is the return address with its signature.
 fn caller_of(content: &Content, mask: Option<u64>, recovered: &Recovered) -> Result<Caller, Stop>
-    ensures { (key : signing_key) (regs : registers) (memory : List Region) → recovered.now ≡ recovering.recovered (recovering.recovery content.now key regs memory) → (go : Going) → on_by go mask (recovering.recovery content.now key regs memory) (recovering.recovery content.now key regs memory).return_address ≡ on_with go result }
+    ensures { GoesOnBy content.now mask recovered.now result }
 {
     let frame_address = recovered.cfa;
     let Some(address) = recovered.ra else {
@@ -94,7 +90,7 @@ pub fn step<M: Memory>(
     asked: u64,
     at: &Caller,
 ) -> (Frame, Result<Caller, Stop>)
-    ensures { (go : Going) → frame_by go mask asked at.now.pc (recover_by_rows (table_of view.now).functions (M.regions mem.now) asked at.now.regs) ≡ behind result.0 (on_with go result.1) }
+    ensures { Steps (recover_by_rows (table_of view.now).functions (M.regions mem.now)) mask asked at.now result.0 result.1 }
 {
     let pc = at.pc;
     let Some(found) = find(view, asked) else {
