@@ -1,0 +1,20 @@
+-- Which kind each made function has: the generator of the C standard's example of rand (ISO C, "The rand function"), with a
+-- state below 2^31, begun with the number of functions.
+use Rattle.std.specs.Prelude.{◌+◌, ◌*◌, ◌/◌, ◌%◌, ◌^◌, ℕ, zero, suc}
+
+-- the next state
+unfoldable pub next : ℕ → ℕ
+next state = (state * 1103515245 + 12345) % 2 ^ 31
+
+-- the state after so many steps
+abbrev pub state_after : (seed steps : ℕ) → ℕ
+state_after seed zero = seed
+state_after seed (suc steps) = next (state_after seed steps)
+
+-- a state's kind, from 0 to 3
+unfoldable pub kind_of : (state : ℕ) → ℕ
+kind_of state = state / 65536 % 4
+
+-- the kind of a function, numbered from 0, of n in all
+abbrev pub kind : (n i : ℕ) → ℕ
+kind n i = kind_of (state_after n (i + 1))
