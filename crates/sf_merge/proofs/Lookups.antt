@@ -16,7 +16,7 @@ use Rattle.sf_model.specs.Union.{all_functions, is_of_use, IsApart, IsUnion}
 use Rattle.sf_merge.proofs.Permutations.{pairs_head, pairs_tail}
 
 -- ---- elements
-abbrev Member : {X : Type 0} → List X → X → Type 0
+abbrev pub Member : {X : Type 0} → List X → X → Type 0
 Member [] x = ⊥
 Member (y ∷ ys) x = (y ≡ x) ⊎ Member ys x
 
@@ -30,10 +30,10 @@ contained [] x m = absurd m
 contained (y ∷ ys) x (inl is) = (zero, omega arith, is)
 contained (y ∷ ys) x (inr m) = let later = contained ys x m in (suc later.0, omega (arith, later.1), later.2)
 
-moved : {X : Type 0} (xs ys : List X) (x : X) → IsPermutation xs ys → Member xs x → Member ys x
+pub moved : {X : Type 0} (xs ys : List X) (x : X) → IsPermutation xs ys → Member xs x → Member ys x
 moved xs ys x h m = member ys x (Contains-permutation xs ys x h (contained xs x m))
 
-in_filter : {X : Type 0} (p : X → Bool) (xs : List X) (x : X) → p x ≡ true → Member xs x → Member (filter p xs) x
+pub in_filter : {X : Type 0} (p : X → Bool) (xs : List X) (x : X) → p x ≡ true → Member xs x → Member (filter p xs) x
 in_filter p [] x e m = m
 in_filter p (y ∷ ys) x e (inl is) = subst (λ (b : Bool). Member (cond b (y ∷ filter p ys) (filter p ys)) x) (sym (ap p is ∙ e)) (inl is)
 in_filter p (y ∷ ys) x e (inr m) = at_test (p y) (in_filter p ys x e m)
@@ -42,7 +42,7 @@ in_filter p (y ∷ ys) x e (inr m) = at_test (p y) (in_filter p ys x e m)
     at_test true m = inr m
     at_test false m = m
 
-from_filter : {X : Type 0} (p : X → Bool) (xs : List X) (x : X) → Member (filter p xs) x → Member xs x
+pub from_filter : {X : Type 0} (p : X → Bool) (xs : List X) (x : X) → Member (filter p xs) x → Member xs x
 from_filter p [] x m = m
 from_filter p (y ∷ ys) x m = at_test (p y) m (from_filter p ys x)
   where
@@ -66,14 +66,14 @@ either_side (y ∷ xs) ys x (inl is) = inl (inl is)
 either_side (y ∷ xs) ys x (inr m) = elim (either_side xs ys x m) [ inl m ↦ inl (inr m) | inr m ↦ inr m ]
 
 -- ---- the first that passes, where at most one does
-abbrev OnePasses : {X : Type 0} → (X → Bool) → List X → Type 0
+abbrev pub OnePasses : {X : Type 0} → (X → Bool) → List X → Type 0
 OnePasses {X} p xs = (x y : X) → Member xs x → Member xs y → p x ≡ true → p y ≡ true → x ≡ y
 
-record IsFound {X : Type 0} (p : X → Bool) (xs : List X) (x : X) : Type 0 where
-  passes : p x ≡ true
-  within : Member xs x
+pub record IsFound {X : Type 0} (p : X → Bool) (xs : List X) (x : X) : Type 0 where
+  pub passes : p x ≡ true
+  pub within : Member xs x
 
-found : {X : Type 0} (p : X → Bool) (xs : List X) (x : X) → find p xs ≡ Some x → IsFound p xs x
+pub found : {X : Type 0} (p : X → Bool) (xs : List X) (x : X) → find p xs ≡ Some x → IsFound p xs x
 found p [] x e = cc
 found p (y ∷ ys) x e = at_test (p y) refl e (found p ys x)
   where
@@ -81,7 +81,7 @@ found p (y ∷ ys) x e = at_test (p y) refl e (found p ys x)
     at_test true t e later = let is : y ≡ x = cc in record { passes = ap p (sym is) ∙ t; within = inl is }
     at_test false t e later = let h = later e in record { passes = h.passes; within = inr h.within }
 
-some_found : {X : Type 0} (p : X → Bool) (xs : List X) (x : X) → p x ≡ true → Member xs x → find p xs ≡ None → ⊥
+pub some_found : {X : Type 0} (p : X → Bool) (xs : List X) (x : X) → p x ≡ true → Member xs x → find p xs ≡ None → ⊥
 some_found p [] x t m e = m
 some_found p (y ∷ ys) x t (inl is) e = let no = ap (λ (b : Bool). cond b (Some y) (find p ys)) (sym (ap p is ∙ t)) ∙ e in cc
 some_found p (y ∷ ys) x t (inr m) e = at_test (p y) e (some_found p ys x t m)
@@ -90,7 +90,7 @@ some_found p (y ∷ ys) x t (inr m) e = at_test (p y) e (some_found p ys x t m)
     at_test true e later = cc
     at_test false e later = later e
 
-found_alone : {X : Type 0} (p : X → Bool) (xs : List X) (x : X) → OnePasses p xs → Member xs x → p x ≡ true → find p xs ≡ Some x
+pub found_alone : {X : Type 0} (p : X → Bool) (xs : List X) (x : X) → OnePasses p xs → Member xs x → p x ≡ true → find p xs ≡ Some x
 found_alone p xs x one m t = at_result (find p xs) refl
   where
     at_result : (r : Option _) → find p xs ≡ r → find p xs ≡ Some x
@@ -102,11 +102,11 @@ both : (a b : Bool) → (a && b) ≡ true → (a ≡ true) × (b ≡ true)
 both true b e = (refl, e)
 both false b e = cc
 
-record IsWithin (pc : ℕ) (f : Func) : Type 0 where
-  from : f.start ≤ pc
-  to : pc < f.start + f.size
+pub record IsWithin (pc : ℕ) (f : Func) : Type 0 where
+  pub from : f.start ≤ pc
+  pub to : pc < f.start + f.size
 
-within : (pc : ℕ) (f : Func) → contains pc f ≡ true → IsWithin pc f
+pub within : (pc : ℕ) (f : Func) → contains pc f ≡ true → IsWithin pc f
 within pc f e =
     let two = both (nat_le f.start pc) (nat_lt pc (f.start + f.size)) e in
     record { from = leb-true f.start pc two.0; to = ltb-true pc (f.start + f.size) two.1 }
@@ -165,7 +165,7 @@ useful_there pc f r t e =
     let rows = lt-ltb 0 (length f.rows) (has_rows _ f.rows f r e) in
     rw (size, rows) refl
 
-found_by : (functions : List Func) (pc : ℕ) (o : Option Func) → find (contains pc) functions ≡ o → found_at functions pc ≡ row_in_first pc o
+pub found_by : (functions : List Func) (pc : ℕ) (o : Option Func) → find (contains pc) functions ≡ o → found_at functions pc ≡ row_in_first pc o
 unfolding found_at
 found_by functions pc o e = ap (row_in_first pc) e
 

@@ -47,7 +47,7 @@ entry_sound arch bytes origin place f entry (end, rows) = record {
   shape = shape_is f.shape _ entry.repeat_size;
 }
 
-functions_sound : (arch : Arch) (bytes : List ℕ) (flags at place : ℕ) (functions : List Func) → FunctionsStand arch bytes flags at place functions → All (IsSound arch) functions
+pub functions_sound : (arch : Arch) (bytes : List ℕ) (flags at place : ℕ) (functions : List Func) → FunctionsStand arch bytes flags at place functions → All (IsSound arch) functions
 functions_sound arch bytes flags at place [] h = All-nil (IsSound arch)
 functions_sound arch bytes flags at place (f ∷ functions) (entry, rows, later) =
     All-cons (IsSound arch) f functions (entry_sound arch bytes _ place f entry rows) (functions_sound arch bytes flags at (place + 20) functions later)

@@ -4,7 +4,8 @@
 //! address: each function that holds an address and has a row is taken over row for row, by rising start.
 //! What merging comes to is one definition (`Merges` of `specs/Merging.antt`): these functions, or the first
 //! fault. The answer is the `Tight` and `Narrow` section, by the definitions of `sf_model`, of the tables'
-//! union (`IsUnion`). [`join`] makes lists of functions into one list by rising start.
+//! union (`IsUnion`). [`join`] makes lists of functions into one list by rising start. [`in_order`] reads the
+//! functions of one section, by start.
 //!
 //! [`merging_comes_to_one_result`] and [`merged_sections_answer_alike`] are laws: so the answer is Ok exactly
 //! where the definition has no fault, and a look-up in the union finds what the one section had.
@@ -26,7 +27,9 @@ mod reading;
 pub use fault::MergeFault;
 pub use joining::join;
 pub use laws::{merged_sections_answer_alike, merging_comes_to_one_result};
+pub use located::{Located, Rank};
 pub use merging::merge;
+pub use reading::in_order;
 
 #[cfg(test)]
 mod tests;

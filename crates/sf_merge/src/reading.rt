@@ -2,8 +2,9 @@
 
 ghost use Rattle.std.specs.Prelude.{◌≡◌, ◌<◌, ◌≤◌, ◌++◌, length, map, IfOk, OnOk, All};
 ghost use Rattle.std.specs.List.{filter};
+ghost use Rattle.std.specs.List.Sorted.{IsPermutation, IsSorted};
 ghost use Rattle.sf_decode.specs.View.{table_of, function_of};
-ghost use Rattle.sf_merge.specs.Located.{has_bytes, located, sized, InOrder};
+ghost use Rattle.sf_merge.specs.Located.{compared, has_bytes, located, sized, InOrder};
 ghost use Rattle.sf_merge.specs.Views.{IsRead};
 
 use crate::located::Located;
@@ -51,6 +52,24 @@ fn push_functions(
         }
     }
     Ok(())
+}
+
+/// The functions of a section that hold an address, by start and then by entry, each with the number of
+/// its entry; `item` is the number that the section is given. Where the section has them in order, sorting
+/// costs one pass.
+///
+/// # Errors
+///
+/// `NoMemory` alone.
+pub fn in_order(alloc: Global, item: u32, view: &View<'_>) -> Result<Vec<Located>, NoMemory>
+    ensures moved { IfOk result (λ v. IsPermutation (filter has_bytes (located item (table_of view.now))) v.items) }
+    ensures sorted { IfOk result (λ v. IsSorted compared v.items) }
+    ensures read { IsRead view.now }
+{
+    let mut functions = Vec::new(alloc);
+    push_functions(alloc, &mut functions, item, view)?;
+    functions.sort_by_key(|function| function.rank())?;
+    Ok(functions)
 }
 
 /// The functions of all sections that have bytes, in order. They are sorted once, which costs one pass where

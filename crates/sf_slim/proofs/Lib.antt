@@ -1,0 +1,10 @@
+pub mod AllKept
+pub mod Overlaps
+pub mod Least
+pub mod Sweep
+pub mod Live
+pub mod Needed
+pub mod Slims
+pub mod Alike
+pub mod Ranges
+pub mod Shorter

@@ -1,0 +1,53 @@
+-- What slimming comes to, by the results of its steps.
+use Rattle.std.specs.Option.{option_map}
+use Rattle.std.specs.List.Sorted.{IsPermutation, IsSorted}
+use Rattle.std.proofs.Common.{◌≡◌, ℕ, List, length, map, Option, Some, None, Ok, Err, sym, ap, ◌∙◌}
+use Rattle.sf_model.specs.declared.function.Func.{Func}
+use Rattle.sf_model.specs.Table.{row_count}
+use Rattle.sf_model.specs.Tight.{Narrow, Tight}
+use Rattle.sf_write.specs.Reach.{first_out_of_reach}
+use Rattle.sf_write.specs.Section.{section_len, table_of}
+use Rattle.sf_decode.specs.declared.view.View.{View}
+use Rattle.sf_decode.specs.View as view
+use Rattle.sf_merge.specs.declared.located.Located.{Located}
+use Rattle.sf_merge.specs.Located.{compared, InOrder}
+use Rattle.sf_merge.specs.Views.{IsRead}
+use Rattle.sf_merge.proofs.Apart.{function_of}
+use Rattle.sf_slim.specs.declared.fault.SlimFault.{SlimFault}
+use Rattle.sf_slim.specs.declared.fault.SlimFault.TheVariants.{OutOfReach}
+use Rattle.sf_slim.specs.Answers.{IsSlimmed}
+use Rattle.sf_slim.specs.Slimming.{or_later, overlap_fault, reach_fault, sized, slimmed, unless_fault, Slims}
+use Rattle.sf_slim.proofs.Needed.{is_slim, needed, ordered_sound, slimmed_is}
+
+pub in_order : (given : View) (ordered : List Located) → IsPermutation (sized (view.table_of given)) ordered → IsSorted compared ordered → InOrder (sized (view.table_of given)) ordered
+in_order given ordered moved rising = record { moved = moved; rising = rising }
+
+-- a function is out of reach
+pub is_far : (given : View) (at start : ℕ) (ordered : List Located) → IsRead given → InOrder (sized (view.table_of given)) ordered → overlap_fault (view.section_bytes given) ordered ≡ None
+    → first_out_of_reach at 0 (needed (map function_of ordered)) ≡ Some start → Slims given at (Err (OutOfReach start))
+is_far given at start ordered read order apart far =
+    let written = slimmed_is (view.table_of given).arch ordered (ordered_sound given ordered read order) in
+    let fault : or_later (overlap_fault (view.section_bytes given) ordered) (reach_fault at (slimmed ordered)) ≡ Some (OutOfReach start) =
+    ap (λ o. or_later o (reach_fault at (slimmed ordered))) apart ∙ ap (λ (fs : List Func). reach_fault at fs) written ∙ ap (option_map OutOfReach) far in
+    (ordered, order, sym (ap (λ (o : Option SlimFault). unless_fault o (slimmed ordered)) fault))
+
+-- nothing is wrong
+pub is_slimmed : (given : View) (at : ℕ) (section : List ℕ) (functions rows : ℕ) (ordered : List Located) → IsRead given → InOrder (sized (view.table_of given)) ordered
+    → overlap_fault (view.section_bytes given) ordered ≡ None → first_out_of_reach at 0 (needed (map function_of ordered)) ≡ None
+    → Tight section at (table_of (view.table_of given).arch (needed (map function_of ordered))) → Narrow section (table_of (view.table_of given).arch (needed (map function_of ordered)))
+    → length section ≡ section_len (needed (map function_of ordered)) → functions ≡ length (needed (map function_of ordered)) → rows ≡ row_count (needed (map function_of ordered))
+    → IsSlimmed given at section functions rows
+is_slimmed given at section functions rows ordered read order apart reach tight narrow len count row_number =
+    let written = slimmed_is (view.table_of given).arch ordered (ordered_sound given ordered read order) in
+    let none : or_later (overlap_fault (view.section_bytes given) ordered) (reach_fault at (slimmed ordered)) ≡ None =
+    ap (λ o. or_later o (reach_fault at (slimmed ordered))) apart ∙ ap (λ (fs : List Func). reach_fault at fs) written ∙ ap (option_map OutOfReach) reach in
+    record {
+      needed = needed (map function_of ordered);
+      are = (ordered, order, sym (ap (λ (o : Option SlimFault). unless_fault o (slimmed ordered)) none ∙ ap (λ (fs : List Func). Ok fs) written));
+      slim = is_slim given ordered read order apart;
+      tight = tight;
+      narrow = narrow;
+      len = len;
+      function_count = count;
+      row_count = row_number;
+    }

@@ -1,0 +1,5 @@
+pub mod Slim
+pub mod Pass
+pub mod Slimming
+pub mod Answers
+pub mod Shortest

@@ -1,0 +1,43 @@
+-- The same by one pass over the rows.
+use Rattle.std.specs.Prelude.{ℕ, Bool, false, true, not, ◌&&◌, nat_lt, List, [], ◌∷◌, Option, Some, None, if◌then◌else◌}
+use Rattle.sf_model.specs.declared.content.Content.{Content}
+use Rattle.sf_model.specs.declared.function.Func.{Func}
+use Rattle.sf_model.specs.declared.function.Shape.{Shape}
+use Rattle.sf_model.specs.declared.function.Shape.TheVariants.{Plain, Repeat}
+use Rattle.sf_model.specs.declared.rows.Row.{Row}
+use Rattle.sf_express.specs.Expressed.{repeats}
+
+-- the row begins within the function, and says something new
+abbrev pub is_kept : (last : Option Content) → (size : ℕ) → Row → Bool
+is_kept last size row = nat_lt row.start size && not (repeats last row.content)
+
+-- the rows that are kept after one with this content
+abbrev pub kept : (last : Option Content) → (size : ℕ) → List Row → List Row
+kept last size [] = []
+kept last size (row ∷ rows) = if is_kept last size row then row ∷ kept (Some row.content) size rows else kept last size rows
+
+-- all rows are kept
+abbrev pub all_kept : (last : Option Content) → (size : ℕ) → List Row → Bool
+all_kept last size [] = true
+all_kept last size (row ∷ rows) = is_kept last size row && all_kept (Some row.content) size rows
+
+abbrev pub kept_of : Shape → (size : ℕ) → List Row → List Row
+kept_of Plain size rows = kept None size rows
+kept_of (Repeat block) size rows = rows
+
+-- the function with the rows that are kept
+abbrev pub kept_function : Func → Func
+kept_function f = record { start = f.start; size = f.size; shape = f.shape; key = f.key; rows = kept_of f.shape f.size f.rows }
+
+-- an offset is within a block
+abbrev pub is_in_block : Shape → (offset : ℕ) → Bool
+is_in_block Plain offset = true
+is_in_block (Repeat block) offset = nat_lt offset block
+
+-- the first row begins within the function, and within a block of it
+abbrev pub first_holds : Shape → (size : ℕ) → List Row → Bool
+first_holds shape size [] = false
+first_holds shape size (row ∷ rows) = nat_lt row.start size && is_in_block shape row.start
+
+abbrev pub answers : Func → Bool
+answers f = first_holds f.shape f.size f.rows

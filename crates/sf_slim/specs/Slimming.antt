@@ -1,0 +1,50 @@
+-- What slimming a section comes to (GNU SFrame specification, Version 2): the functions that are written, or the first fault.
+use Rattle.std.specs.Prelude.{◌≡◌, ℕ, List, map, Option, Some, None, Result, Ok, Err}
+use Rattle.std.specs.Option.{option_map}
+use Rattle.std.specs.List.{filter, find}
+use Rattle.sf_model.specs.declared.function.Func.{Func}
+use Rattle.sf_model.specs.Table.{Table}
+use Rattle.sf_write.specs.Reach.{first_out_of_reach}
+use Rattle.sf_decode.specs.declared.view.View.{View}
+use Rattle.sf_decode.specs.Entry.{entry_place}
+use Rattle.sf_decode.specs.View.{section_bytes, table_of}
+use Rattle.sf_merge.specs.declared.located.Located.{Located}
+use Rattle.sf_merge.specs.Located.{has_bytes, located, InOrder}
+use Rattle.sf_merge.specs.Merging.{neighbours, overlap}
+use Rattle.sf_slim.specs.declared.fault.SlimFault.{SlimFault}
+use Rattle.sf_slim.specs.declared.fault.SlimFault.TheVariants.{Overlap, OutOfReach}
+use Rattle.sf_slim.specs.Slim.{is_live, slim_function}
+
+-- the functions of a table that hold an address, each with the number of its entry
+abbrev pub sized : Table → List Located
+sized table = filter has_bytes (located 0 table)
+
+-- the place of the entry of the second
+abbrev pub shared_by : (bytes : List ℕ) → Located × Located → SlimFault
+shared_by bytes pair = Overlap (entry_place bytes pair.1.number)
+
+-- the first two neighbours that share an address
+unfoldable pub overlap_fault : (bytes : List ℕ) → List Located → Option SlimFault
+overlap_fault bytes ordered = option_map (shared_by bytes) (find overlap (neighbours ordered))
+
+-- the functions that are written
+unfoldable pub slimmed : List Located → List Func
+slimmed ordered = map slim_function (filter is_live (map (λ (l : Located). l.func) ordered))
+
+-- the first of them that lies too far from its start field, in a section at this address
+abbrev pub reach_fault : (at : ℕ) → List Func → Option SlimFault
+reach_fault at functions = option_map OutOfReach (first_out_of_reach at 0 functions)
+
+abbrev pub or_later : Option SlimFault → Option SlimFault → Option SlimFault
+or_later (Some fault) later = Some fault
+or_later None later = later
+
+abbrev pub unless_fault : {X : Type 0} → Option SlimFault → X → Result X SlimFault
+unless_fault None x = Ok x
+unless_fault (Some fault) x = Err fault
+
+-- slimming this section for this address comes to this: its functions that hold an address are taken by start and then by entry
+abbrev pub Slims : View → (at : ℕ) → Result (List Func) SlimFault → Type 0
+Slims view at result =
+    (ordered : List Located) × InOrder (sized (table_of view)) ordered
+    × (result ≡ unless_fault (or_later (overlap_fault (section_bytes view) ordered) (reach_fault at (slimmed ordered))) (slimmed ordered))
