@@ -136,10 +136,13 @@ def prove(all_below, words, log):
             for at, name in enumerate(ready):
                 idle = processors - sum(it.jobs for it in running)
                 room = memory - sum(it.memory() for it in running)
-                if running and (idle < 1 or room < FIRST):
-                    break
-                # A crate gets the processors that no other one waits for.
-                jobs = min(4, idle // (len(ready) - at), 1 + int((room - FIRST) / FURTHER))
+                # All that still waits stands on this crate: it is hurried, at the cost of those beside it.
+                is_neck = all(name in all_below[it] for it in left if it not in ready)
+                if running and (room < FIRST or idle < 1 and not is_neck):
+                    continue
+                # Any other crate gets the processors that no other one waits for.
+                jobs = max(idle // (len(ready) - at), 3 if is_neck else 1)
+                jobs = min(jobs, 4, 1 + int((room - FIRST) / FURTHER))
                 left.remove(name)
                 running.append(Proof(name, all_below[name], max(1, jobs), words))
             time.sleep(0.1)
