@@ -1,11 +1,11 @@
-//! Whole files at several bases, and with some of their bytes changed.
+//! Where the sections of whole files are. Files that cannot be placed are cases in files.
 
 mod files;
 mod groups;
 
 use super::*;
 use elf_read::Elf;
-use files::{AARCH64, COMPILED, GENERATED, GROUPED, SHARED};
+use files::{GROUPED, SHARED};
 use std::alloc::Global;
 use std::test::*;
 
@@ -32,23 +32,7 @@ struct Case {
     eh_frames: &'static [u32],
 }
 
-const CASES: [Case; 6] = [
-    Case {
-        file: COMPILED,
-        base: 0x400000,
-        shift: 0,
-        addresses: &[
-            None,
-            Some(0x400000),
-            Some(0x40001b),
-            Some(0x400030),
-            None,
-            None,
-            None,
-            None,
-        ],
-        eh_frames: &[3],
-    },
+const CASES: [Case; 3] = [
     Case {
         file: GROUPED,
         base: 0x400000,
@@ -80,20 +64,6 @@ const CASES: [Case; 6] = [
         addresses: &[None, Some(0x2000), None],
         eh_frames: &[1],
     },
-    Case {
-        file: AARCH64,
-        base: 0x10000,
-        shift: 0,
-        addresses: &[None, Some(0x10000), Some(0x10020), None, None, None, None],
-        eh_frames: &[2],
-    },
-    Case {
-        file: GENERATED,
-        base: 0x400000,
-        shift: 0,
-        addresses: &[None, Some(0x400000), Some(0x400040), None, None, None, None],
-        eh_frames: &[2],
-    },
 ];
 
 #[test]
@@ -118,69 +88,3 @@ fn addresses_of_all_sections(rt: HostRuntime) -> Result<(), Fail> {
     }
     Ok(())
 }
-
-/// What is changed, the base, and the address of section 1, `.eh_frame`.
-type SharedCase = (&'static [(u16, u8)], u64, Result<Option<u64>, PlaceFault>);
-
-#[test]
-fn a_shared_object(rt: HostRuntime) -> Result<(), Fail> {
-    let cases: [SharedCase; 11] = [
-        // An address 32 bytes below 2^64, which the section passes; at the base 32 it starts at 2^64.
-        (BELOW_END, 0, Err(PlaceFault::AddressOverflow(1))),
-        (BELOW_END_EMPTY, 0, Ok(Some(0xffff_ffff_ffff_ffe0))),
-        (BELOW_END_EMPTY, 31, Ok(Some(0xffff_ffff_ffff_ffff))),
-        (BELOW_END_EMPTY, 32, Err(PlaceFault::AddressOverflow(1))),
-        // It may end at 2^64.
-        (UPTO_END, 0, Ok(Some(0xffff_ffff_ffff_ffc4))),
-        (UPTO_END, 1, Err(PlaceFault::AddressOverflow(1))),
-        // Its alignment is tried, though it moves nothing.
-        (&[(264, 3)], 0, Err(PlaceFault::Align(1))),
-        (&[(264, 3), (16, 2)], 0, Err(PlaceFault::Align(1))),
-        (&[(264, 128)], 0, Ok(Some(0x2000))),
-        // A program alike.
-        (&[(16, 2)], 0x1000, Ok(Some(0x3000))),
-        (&[(220, 8)], 0, Err(PlaceFault::NoBits(1))),
-    ];
-    for (edits, base, expected) in cases {
-        let bytes = bytes_of(rt.alloc(), SHARED, edits)?;
-        assert!(rt; bytes.len() < 4096);
-        let elf = Elf::parse(&bytes).ok().ok_or("the file is sound")?;
-        let got = Placed::new(rt.alloc(), &elf, base, &[]).map(|placed| placed.address(1));
-        assert_eq!(rt; got, expected, "{edits:?} at {base}");
-    }
-    Ok(())
-}
-
-const BELOW_END: &[(u16, u8)] = &[
-    (232, 0xe0),
-    (233, 255),
-    (234, 255),
-    (235, 255),
-    (236, 255),
-    (237, 255),
-    (238, 255),
-    (239, 255),
-];
-
-const BELOW_END_EMPTY: &[(u16, u8)] = &[
-    (232, 0xe0),
-    (233, 255),
-    (234, 255),
-    (235, 255),
-    (236, 255),
-    (237, 255),
-    (238, 255),
-    (239, 255),
-    (248, 0),
-];
-
-const UPTO_END: &[(u16, u8)] = &[
-    (232, 0xc4),
-    (233, 255),
-    (234, 255),
-    (235, 255),
-    (236, 255),
-    (237, 255),
-    (238, 255),
-    (239, 255),
-];

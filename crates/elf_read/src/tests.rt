@@ -1,14 +1,10 @@
-//! Whole files: what is wrong with them once some of their bytes are others, and what is seen of them.
+//! What is seen of whole files. What is wrong with a file is a clause, and whole runs over faulty files are cases in files.
 
-mod faults;
 mod files;
 mod views;
 
 use std::alloc::Global;
 use std::test::Fail;
-
-/// Places of bytes, and what they are changed to.
-type Edits = &'static [(u16, u8)];
 
 /// The bytes that are written in hexadecimal, with some of them changed.
 fn bytes_of(alloc: Global, text: &str, edits: &[(u16, u8)]) -> Result<Vec<u8>, Fail> {

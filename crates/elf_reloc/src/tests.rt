@@ -1,9 +1,8 @@
-//! Relocations of whole files, with some of their bytes changed.
+//! What the pointer fields of whole files hold. Relocations that are refused, and the types at the ends of their ranges, are cases in
+//! files.
 
-mod faults;
 mod fields;
 mod files;
-mod types;
 
 ghost use Rattle.std.specs.Prelude.{◌≡◌};
 
@@ -35,15 +34,6 @@ fn four_bytes(place: u64) -> Field
     Field {
         place,
         width: 4,
-        raw: 7,
-    }
-}
-
-/// A field of eight bytes that hold 7.
-fn eight_bytes(place: u64) -> Field {
-    Field {
-        place,
-        width: 8,
         raw: 7,
     }
 }

@@ -1,7 +1,7 @@
 //! What is seen of whole files.
 
 use super::bytes_of;
-use super::files::{AARCH64, COMPILED, GENERATED, GROUPED, SHARED};
+use super::files::{AARCH64, GROUPED};
 use crate::{Elf, Kind, Rela, Symbol};
 use sf_model::Arch;
 use std::test::*;
@@ -14,22 +14,7 @@ struct File {
     sections: &'static [(&'static str, usize)],
 }
 
-const FILES: [File; 5] = [
-    File {
-        bytes: COMPILED,
-        kind: Kind::Rel,
-        arch: Arch::Amd64,
-        sections: &[
-            ("", 0),
-            (".text", 27),
-            (".gcc_except_table", 16),
-            (".eh_frame", 72),
-            (".rela.eh_frame", 72),
-            (".symtab", 120),
-            (".strtab", 22),
-            (".shstrtab", 76),
-        ],
-    },
+const FILES: [File; 2] = [
     File {
         bytes: GROUPED,
         kind: Kind::Rel,
@@ -47,12 +32,6 @@ const FILES: [File; 5] = [
         ],
     },
     File {
-        bytes: SHARED,
-        kind: Kind::Dyn,
-        arch: Arch::Amd64,
-        sections: &[("", 0), (".eh_frame", 60), (".shstrtab", 21)],
-    },
-    File {
         bytes: AARCH64,
         kind: Kind::Rel,
         arch: Arch::Aarch64,
@@ -61,20 +40,6 @@ const FILES: [File; 5] = [
             (".text", 28),
             (".eh_frame", 60),
             (".rela.eh_frame", 24),
-            (".symtab", 48),
-            (".strtab", 1),
-            (".shstrtab", 58),
-        ],
-    },
-    File {
-        bytes: GENERATED,
-        kind: Kind::Rel,
-        arch: Arch::Amd64,
-        sections: &[
-            ("", 0),
-            (".text", 64),
-            (".eh_frame", 88),
-            (".rela.eh_frame", 48),
             (".symtab", 48),
             (".strtab", 1),
             (".shstrtab", 58),
@@ -116,14 +81,11 @@ fn rela(offset: u64, symbol: u32, kind: u32, addend: i64) -> Rela {
 
 #[test]
 fn entries_of_relocation_sections(rt: HostRuntime) -> Result<(), Fail> {
-    let cases: [Entry; 7] = [
-        (COMPILED, 4, 0, rela(0x13, 1, 10, 0)),
-        (COMPILED, 4, 1, rela(0x28, 2, 2, 0)),
-        (COMPILED, 4, 2, rela(0x31, 3, 10, 0)),
+    let cases: [Entry; 4] = [
+        (GROUPED, 5, 0, rela(0x13, 1, 10, 0)),
         (GROUPED, 5, 1, rela(0x28, 2, 2, 0)),
+        (GROUPED, 5, 2, rela(0x31, 3, 10, 0)),
         (AARCH64, 3, 0, rela(0x20, 1, 261, 0)),
-        (GENERATED, 3, 0, rela(0x20, 1, 2, 0)),
-        (GENERATED, 3, 1, rela(0x40, 1, 2, 0x20)),
     ];
     for (file, section, entry, expected) in cases {
         let bytes = bytes_of(rt.alloc(), file, &[])?;
@@ -155,12 +117,9 @@ fn an_addend_below_zero(rt: HostRuntime) -> Result<(), Fail> {
 
 #[test]
 fn symbols(rt: HostRuntime) -> Result<(), Fail> {
-    let cases: [(&'static str, u32, u32, u32, u16); 5] = [
-        (COMPILED, 5, 1, 1, 0),
-        (COMPILED, 5, 2, 0, 1),
+    let cases: [(&'static str, u32, u32, u32, u16); 2] = [
         (GROUPED, 6, 5, 22, 2),
         (AARCH64, 4, 1, 0, 1),
-        (GENERATED, 4, 1, 0, 1),
     ];
     for (file, table, k, name, section) in cases {
         let bytes = bytes_of(rt.alloc(), file, &[])?;

@@ -2,7 +2,7 @@
 
 ghost use Rattle.sf_bytes.specs.Rising.{AreRising};
 
-use super::files::{AARCH64, COMPILED, GENERATED, GROUPED};
+use super::files::{AARCH64, GROUPED};
 use super::{Edits, bytes_of, four_bytes};
 use crate::{RelocFault, Relocs};
 use elf_place::Placed;
@@ -22,30 +22,7 @@ struct Case {
     fields: &'static [(u64, Option<u64>, bool)],
 }
 
-const CASES: [Case; 12] = [
-    Case {
-        shows: "a compiler's object",
-        file: COMPILED,
-        edits: &[],
-        base: 0x400000,
-        gone: &[],
-        section: 3,
-        fields: &[
-            (0x13, None, false),
-            (0x28, Some(0xffff_ffa8), false),
-            (0x2c, Some(7), false),
-            (0x31, Some(0x40001b), false),
-        ],
-    },
-    Case {
-        shows: "a start against an undefined symbol",
-        file: COMPILED,
-        edits: &[(220, 4)],
-        base: 0x400000,
-        gone: &[],
-        section: 3,
-        fields: &[(0x28, None, false), (0x31, Some(0x40001b), false)],
-    },
+const CASES: [Case; 9] = [
     Case {
         shows: "an object for AArch64",
         file: AARCH64,
@@ -54,20 +31,6 @@ const CASES: [Case; 12] = [
         gone: &[],
         section: 2,
         fields: &[(0x20, Some(0xffff_ffc0), false), (0x24, Some(7), false)],
-    },
-    Case {
-        shows: "two functions",
-        file: GENERATED,
-        edits: &[],
-        base: 0x400000,
-        gone: &[],
-        section: 2,
-        fields: &[
-            (0x20, Some(0xffff_ffa0), false),
-            (0x24, Some(7), false),
-            (0x40, Some(0xffff_ffa0), false),
-            (0x44, Some(7), false),
-        ],
     },
     Case {
         shows: "a group that stays",
@@ -178,7 +141,7 @@ fn fields_hold_their_values(rt: HostRuntime) -> Result<(), Fail> {
     Ok(())
 }
 
-/// The pointer fields of a compiler's object: its personality, a start, a size, and a data area.
+/// The pointer fields of the object: its personality, a start, a size, and a data area.
 fn pointer_fields() -> [Field; 4]
     ensures { AreRising result }
 {
@@ -190,32 +153,32 @@ fn pointer_fields() -> [Field; 4]
     ]
 }
 
-// The relocations of a compiler's object stand at 184 (at 0x13), 208 (at 0x28) and 232 (at 0x31).
+// The relocations stand at 200 (at 0x13), 224 (at 0x28) and 248 (at 0x31).
 #[test]
 fn relocations_that_lie_on_no_field(rt: HostRuntime) -> Result<(), Fail> {
     let cases: [(Edits, Result<(), RelocFault>); 9] = [
         (&[], Ok(())),
-        (&[(232, 0x35)], Err(RelocFault::Place(2))),
-        (&[(208, 0x44)], Err(RelocFault::Place(1))),
+        (&[(248, 0x35)], Err(RelocFault::Place(2))),
+        (&[(224, 0x44)], Err(RelocFault::Place(1))),
         // One that does nothing may stand anywhere.
-        (&[(232, 0x35), (240, 0)], Ok(())),
+        (&[(248, 0x35), (256, 0)], Ok(())),
         // One whose symbol is not known may not.
-        (&[(184, 0x10)], Err(RelocFault::Place(0))),
+        (&[(200, 0x10)], Err(RelocFault::Place(0))),
         // A field of another width.
-        (&[(216, 1)], Err(RelocFault::Place(1))),
+        (&[(232, 1)], Err(RelocFault::Place(1))),
         // The one of the least place is named.
-        (&[(184, 0x10), (232, 0x35)], Err(RelocFault::Place(0))),
-        (&[(184, 0x40), (232, 0x35)], Err(RelocFault::Place(2))),
-        (&[(184, 0x40), (208, 0x36)], Err(RelocFault::Place(1))),
+        (&[(200, 0x10), (248, 0x35)], Err(RelocFault::Place(0))),
+        (&[(200, 0x40), (248, 0x35)], Err(RelocFault::Place(2))),
+        (&[(200, 0x40), (224, 0x36)], Err(RelocFault::Place(1))),
     ];
     for (edits, expected) in cases {
-        let bytes = bytes_of(rt.alloc(), COMPILED, edits)?;
+        let bytes = bytes_of(rt.alloc(), GROUPED, edits)?;
         assert!(rt; bytes.len() < 4096);
         let elf = Elf::parse(&bytes).ok().ok_or("the object is sound")?;
         let placed = Placed::new(rt.alloc(), &elf, 0x400000, &[])
             .ok()
             .ok_or("it can be placed")?;
-        let relocs = Relocs::new(rt.alloc(), &placed, 3)
+        let relocs = Relocs::new(rt.alloc(), &placed, 4)
             .ok()
             .ok_or("it can be relocated")?;
         let fields = pointer_fields();
