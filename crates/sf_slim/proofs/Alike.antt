@@ -1,6 +1,6 @@
 -- What is needed of a section recovers what the section recovers.
 use Rattle.std.specs.Prelude.{is_some}
-use Rattle.std.specs.List.{filter, find, list_any, range_with_len, AllPairs}
+use Rattle.std.specs.List.{filter, find, list_any, range_with_len}
 use Rattle.std.specs.Option.{option_map}
 use Rattle.std.proofs.Common.{◌≡◌, ℕ, ◌-◌, ◌<◌, Bool, true, false, cond, List, [], ◌∷◌, All, map, Option, Some, None, refl, sym, ap, subst, ◌∙◌, arith, inl, inr}
 use Rattle.std.proofs.lemmas.List.Elements.{All-head, All-tail}
@@ -16,7 +16,6 @@ use Rattle.sf_model.specs.Lookup.{FoundRow, contains, found_at, offset_in_block,
 use Rattle.sf_model.specs.Memory.{Region}
 use Rattle.sf_model.specs.Recovery.{Recovery, recovery}
 use Rattle.sf_model.specs.Table.{Table}
-use Rattle.sf_model.specs.Union.{IsApart}
 use Rattle.sf_model.specs.Walk.{recover_by_rows}
 use Rattle.sf_merge.proofs.Lookups.{IsFound, Member, OnePasses, found, found_alone, found_by, from_filter, in_filter, moved, one_contains, some_found, within}
 use Rattle.sf_slim.specs.Slim.{answers_at, content_at, is_live, slim_function, slim_rows_of, IsSlim}
@@ -82,9 +81,9 @@ no_row pc f t dead =
     by_row (Some r) e live = let yes = live (ap is_some e) in cc
 
 -- ---- the functions
-module _ (table : Table) (functions : List Func) (rise : All (λ (f : Func). RowsRise f.rows) table.functions) (apart : AllPairs IsApart table.functions) (slim : IsSlim table functions) (pc : ℕ) where
+module _ (table : Table) (functions : List Func) (rise : All (λ (f : Func). RowsRise f.rows) table.functions) (slim : IsSlim table functions) (pc : ℕ) where
   pub one : OnePasses (contains pc) table.functions
-  one = one_contains pc table.functions apart
+  one = one_contains pc table.functions slim.apart
 
   -- each of the functions is one of the table's
   pub from_table : (g : Func) → Member functions g → (f : Func) × Member table.functions f × (is_live f ≡ true) × (slim_function f ≡ g)
@@ -136,7 +135,7 @@ module _ (table : Table) (functions : List Func) (rise : All (λ (f : Func). Row
           let h = found (contains pc) table.functions f e in
           by_live f h (is_live f) refl ∙ ap (recovers regs memory) (sym (found_by table.functions pc (Some f) e))
 
-pub alike : (table : Table) (functions : List Func) → All (λ (f : Func). RowsRise f.rows) table.functions → AllPairs IsApart table.functions → IsSlim table functions → (pc : ℕ) (regs : Regs) (memory : List Region)
+pub alike : (table : Table) (functions : List Func) → All (λ (f : Func). RowsRise f.rows) table.functions → IsSlim table functions → (pc : ℕ) (regs : Regs) (memory : List Region)
     → recover_by_rows functions memory pc regs ≡ recover_by_rows table.functions memory pc regs
 unfolding recover_by_rows
-alike table functions rise apart slim pc regs memory = alike_at table functions rise apart slim pc regs memory
+alike table functions rise slim pc regs memory = alike_at table functions rise slim pc regs memory

@@ -19,7 +19,7 @@ use Rattle.sf_model.specs.declared.rows.Row.{Row}
 use Rattle.sf_model.specs.Content.{content_fits}
 use Rattle.sf_model.specs.Function.{AreWritable, IsWritable, RowsRise}
 use Rattle.sf_model.specs.Table.{Table, row_count}
-use Rattle.sf_model.specs.Union.{all_functions}
+use Rattle.sf_model.specs.Union.{all_functions, IsApart}
 use Rattle.sf_decode.specs.declared.view.View.{View}
 use Rattle.sf_decode.specs.View.{section_bytes, table_of}
 use Rattle.sf_merge.specs.declared.located.Located.{Located}
@@ -29,7 +29,7 @@ use Rattle.sf_merge.specs.Views.{IsRead}
 use Rattle.sf_merge.proofs.Apart.{EndsBy, adjacent, function_of, none_share, pairs_map, rises}
 use Rattle.sf_merge.proofs.Permutations.{filter_permuted}
 use Rattle.sf_merge.proofs.Sound.{IsSound, RowsFit, all_sound}
-use Rattle.sf_merge.proofs.United.{functions_are}
+use Rattle.sf_merge.proofs.United.{apart, functions_are}
 use Rattle.sf_slim.specs.Slim.{is_live, slim_function, slim_rows_of, IsSlim}
 use Rattle.sf_slim.specs.Pass.{answers, first_holds, is_in_block, is_kept, kept, kept_function, kept_of}
 use Rattle.sf_slim.specs.Slimming.{overlap_fault, sized, slimmed}
@@ -290,6 +290,8 @@ pub is_slim : (view : View) (ordered : List Located) → IsRead view → InOrder
 is_slim view ordered read order e =
     let functions = map function_of ordered in
     record {
+      apart = subst (AllPairs IsApart) (those_of (table_of view))
+          (apart (table_of view ∷ []) ordered (in_tables (table_of view) ordered order) (none_shared (section_bytes view) ordered e));
       taken = subst (IsPermutation (map slim_function (filter is_live (table_of view).functions)))
           (slim_is_needed (table_of view).arch functions (ordered_sound view ordered read order)) (taken view ordered read order);
       rising = rises (needed functions) (needed_sizes functions) (adjacent EndsBy (needed functions) (needed_apart (section_bytes view) ordered e));

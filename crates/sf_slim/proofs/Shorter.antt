@@ -149,7 +149,7 @@ slim_again : (size : ℕ) (rows : List Row) → RowsRise rows → slim_rows size
 unfolding slim_rows
 slim_again size rows h = rows_alike (content_at (slim_rows size rows)) (content_at rows) 0 size (λ p lt. slim_says size rows h p (omega (lt, arith)))
 
-module _ (bytes : List ℕ) (at : ℕ) (given : Table) (functions : List Func) (is_section : Section bytes at given) (apart : AllPairs IsApart given.functions) (slim : IsSlim given functions) (plain : All IsPlain functions)
+module _ (bytes : List ℕ) (at : ℕ) (given : Table) (functions : List Func) (is_section : Section bytes at given) (slim : IsSlim given functions) (plain : All IsPlain functions)
     (place : ℕ) (other : List ℕ) (table : Table) (says : SaysTheSame given functions place other table) where
   sound : All (IsSound given.arch) given.functions
   sound = functions_sound given.arch bytes given.flags at _ given.functions is_section.functions
@@ -180,7 +180,7 @@ module _ (bytes : List ℕ) (at : ℕ) (given : Table) (functions : List Func) (
       let pc : ℕ = f0.start + o in
       let in_f : contains pc f0 ≡ true = rw (le-leb f0.start pc (omega arith), lt-ltb pc (f0.start + f0.size) (omega (lt, arith))) refl in
       let in_g : contains pc g ≡ true = rw (le-leb g.start pc (omega (start, arith)), lt-ltb pc (g.start + g.size) (omega (lt, start, size, arith))) refl in
-      let found_f : found_at given.functions pc ≡ row_in pc f0 = found_by given.functions pc (Some f0) (found_alone (contains pc) given.functions f0 (one_contains pc given.functions apart) m in_f) in
+      let found_f : found_at given.functions pc ≡ row_in pc f0 = found_by given.functions pc (Some f0) (found_alone (contains pc) given.functions f0 (one_contains pc given.functions slim.apart) m in_f) in
       let found_g : found_at table.functions pc ≡ row_in pc g = found_by table.functions pc (Some g) (found_alone (contains pc) table.functions g (one_contains pc table.functions other_apart) n in_g) in
       let offset_f : offset_in_block f0.shape (pc - f0.start) ≡ o = plain_offset f0.shape (pc - f0.start) p ∙ omega arith in
       let offset_g : offset_in_block g.shape (pc - g.start) ≡ o = plain_offset g.shape (pc - g.start) q ∙ omega (start, arith) in
@@ -198,7 +198,7 @@ module _ (bytes : List ℕ) (at : ℕ) (given : Table) (functions : List Func) (
 
   fits : (f g : Func) → Member functions f → Member table.functions g → span g ≡ span f → Fits given.arch f g
   fits f g m n e =
-      let back = from_table given functions rise apart slim 0 f m in
+      let back = from_table given functions rise slim 0 f m in
       let f0 = back.0 in
       let is : slim_function f0 ≡ f = back.3 in
       let rising = all_member (λ (x : Func). RowsRise x.rows) given.functions f0 rise back.1 in
@@ -240,6 +240,6 @@ module _ (bytes : List ℕ) (at : ℕ) (given : Table) (functions : List Func) (
       let two = length-map functions span in
       omega (rows, says.tight.nothing_besides, counts, one, two, arith)
 
-pub none_is_shorter_than : (bytes : List ℕ) (at : ℕ) (given : Table) (functions : List Func) → Section bytes at given → AllPairs IsApart given.functions → IsSlim given functions → All IsPlain functions
+pub none_is_shorter_than : (bytes : List ℕ) (at : ℕ) (given : Table) (functions : List Func) → Section bytes at given → IsSlim given functions → All IsPlain functions
     → (place : ℕ) (other : List ℕ) (table : Table) → SaysTheSame given functions place other table → section_len functions ≤ length other
-none_is_shorter_than bytes at given functions is_section apart slim plain place other table says = not_shorter bytes at given functions is_section apart slim plain place other table says
+none_is_shorter_than bytes at given functions is_section slim plain place other table says = not_shorter bytes at given functions is_section slim plain place other table says

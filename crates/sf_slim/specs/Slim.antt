@@ -2,7 +2,7 @@
 -- needed to say at each address what the section says.
 use Rattle.std.specs.Prelude.{◌<◌, ℕ, zero, suc, Bool, true, false, not, is_some, List, length, map, Option, Some, None}
 use Rattle.std.specs.Option.{option_map}
-use Rattle.std.specs.List.{AllAdjacentBelow, filter, filter_map, list_any, range_with_len}
+use Rattle.std.specs.List.{AllAdjacentBelow, AllPairs, filter, filter_map, list_any, range_with_len}
 use Rattle.std.specs.List.Sorted.{IsPermutation}
 use Rattle.sf_model.specs.declared.content.Content.{Content}
 use Rattle.sf_model.specs.declared.function.Func.{Func}
@@ -11,6 +11,7 @@ use Rattle.sf_model.specs.declared.function.Shape.TheVariants.{Plain, Repeat}
 use Rattle.sf_model.specs.declared.rows.Row.{Row}
 use Rattle.sf_model.specs.Lookup.{offset_in_block, row_at}
 use Rattle.sf_model.specs.Table.{Table}
+use Rattle.sf_model.specs.Union.{IsApart}
 use Rattle.sf_express.specs.Expressed.{same_content}
 
 -- what is said at each offset: a content, or nothing
@@ -63,7 +64,9 @@ answers_at f offset = is_some (row_at (offset_in_block f.shape offset) f.rows)
 unfoldable pub is_live : Func → Bool
 is_live f = list_any (answers_at f) (range_with_len 0 f.size)
 
--- these are the functions of a table that have a row at some address, by rising start, each with the rows that are needed
+-- No two functions of the table share an address, and these are those that have a row at some address, by rising start, each
+-- with the rows that are needed.
 pub record IsSlim (table : Table) (functions : List Func) : Type 0 where
+  pub apart : AllPairs IsApart table.functions
   pub taken : IsPermutation (map slim_function (filter is_live table.functions)) functions
   pub rising : AllAdjacentBelow (λ (f : Func) (g : Func). f.start < g.start) functions (length functions)

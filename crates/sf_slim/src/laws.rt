@@ -1,7 +1,6 @@
 //! Laws over the definitions: functions that do nothing, for their contracts.
 
 ghost use Rattle.std.specs.Prelude.{◌≡◌, ◌≤◌, ℕ, All, List, length};
-ghost use Rattle.std.specs.List.{AllPairs};
 ghost use Rattle.sf_model.specs.declared.machine.Arch.{Arch as arch};
 ghost use Rattle.sf_model.specs.declared.function.Func.{Func as func};
 ghost use Rattle.sf_model.specs.declared.recovery.Regs.{Regs as registers};
@@ -10,7 +9,6 @@ ghost use Rattle.sf_model.specs.Function.{RowsRise};
 ghost use Rattle.sf_model.specs.Memory.{Region};
 ghost use Rattle.sf_model.specs.Section.{Section};
 ghost use Rattle.sf_model.specs.Table.{Table};
-ghost use Rattle.sf_model.specs.Union.{IsApart};
 ghost use Rattle.sf_model.specs.Walk.{recover_by_rows};
 ghost use Rattle.sf_write.specs.Row.{rows_len};
 ghost use Rattle.sf_write.specs.Section.{section_len};
@@ -25,11 +23,11 @@ pub fn no_list_of_rows_is_shorter()
 /// At every address, for all registers and any memory, what is needed of a section recovers what the
 /// section recovers, or nothing where that has nothing.
 pub fn slim_functions_recover_alike()
-    ensures { (table : Table) (functions : List func) → All (λ (f : func). RowsRise f.rows) table.functions → AllPairs IsApart table.functions → IsSlim table functions → (pc : ℕ) (regs : registers) (memory : List Region) → recover_by_rows functions memory pc regs ≡ recover_by_rows table.functions memory pc regs }
+    ensures { (table : Table) (functions : List func) → All (λ (f : func). RowsRise f.rows) table.functions → IsSlim table functions → (pc : ℕ) (regs : registers) (memory : List Region) → recover_by_rows functions memory pc regs ≡ recover_by_rows table.functions memory pc regs }
 {}
 
 /// Where what is needed of a section is plain functions alone, no section without gaps of the same machine,
 /// of plain functions with the same starts and sizes, that recovers the same everywhere is shorter.
 pub fn no_section_is_shorter()
-    ensures { (bytes : List ℕ) (at : ℕ) (given : Table) (functions : List func) → Section bytes at given → AllPairs IsApart given.functions → IsSlim given functions → All IsPlain functions → (place : ℕ) (other : List ℕ) (table : Table) → SaysTheSame given functions place other table → section_len functions ≤ length other }
+    ensures { (bytes : List ℕ) (at : ℕ) (given : Table) (functions : List func) → Section bytes at given → IsSlim given functions → All IsPlain functions → (place : ℕ) (other : List ℕ) (table : Table) → SaysTheSame given functions place other table → section_len functions ≤ length other }
 {}
