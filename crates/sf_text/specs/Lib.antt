@@ -6,3 +6,4 @@ pub mod Content
 pub mod Dump
 pub mod Found
 pub mod FaultLine
+pub mod Frames

@@ -2,6 +2,7 @@ ghost use Rattle.std.specs.Prelude.{◌≡◌, Some, length, IsTrue, is_some};
 ghost use Rattle.sf_model.specs.Notice.{values_shown, shows_item};
 
 mod sections;
+mod walks;
 
 use super::*;
 use arrayvec::ArrayVec;

@@ -1,0 +1,40 @@
+-- The text of a walk: a line for the thread, a line for each of its frames, and a line on why the walk stopped.
+use Rattle.std.specs.Prelude.{◌++◌, ◌+◌, ℕ, List, [], ◌∷◌, codes, Option, Some, None}
+use Rattle.std.specs.Fmt.{decimal}
+use Rattle.sf_model.specs.declared.walk.Frame.{Frame}
+use Rattle.sf_model.specs.declared.walk.Stop.{Stop}
+use Rattle.sf_model.specs.declared.walk.Stop.TheVariants.{Depth, Outside, Unreadable, Signed}
+use Rattle.sf_text.specs.Number.{hexadecimal}
+
+-- `thread NUMBER pid PID`
+unfoldable pub thread_line : (number pid : ℕ) → List ℕ
+thread_line number pid = codes "thread " ++ decimal number ++ codes " pid " ++ decimal pid ++ codes "\n"
+
+-- ` cfa ADDRESS`, where the canonical frame address is known
+abbrev pub cfa_text : Option ℕ → List ℕ
+cfa_text (Some address) = codes " cfa " ++ hexadecimal address
+cfa_text None = []
+
+-- two blanks, `#NUMBER pc PC`, and the canonical frame address
+unfoldable pub frame_line : (number : ℕ) → Frame → List ℕ
+frame_line number frame = codes "  #" ++ decimal number ++ codes " pc " ++ hexadecimal frame.pc ++ cfa_text frame.cfa ++ codes "\n"
+
+-- the lines of frames that are counted from a number on
+unfoldable pub frame_lines : (first : ℕ) → List Frame → List ℕ
+frame_lines first [] = []
+frame_lines first (frame ∷ frames) = frame_line first frame ++ frame_lines (first + 1) frames
+
+-- why a walk stopped, with the address
+abbrev pub stop_text : Stop → List ℕ
+stop_text Depth = codes "depth"
+stop_text (Outside address) = codes "outside " ++ hexadecimal address
+stop_text (Unreadable address) = codes "unreadable " ++ hexadecimal address
+stop_text (Signed address) = codes "signed " ++ hexadecimal address
+
+-- two blanks, and why the walk stopped
+unfoldable pub stop_line : Stop → List ℕ
+stop_line stop = codes "  stop " ++ stop_text stop ++ codes "\n"
+
+-- the thread, its frames from 0 on, and the stop
+unfoldable pub walk_text : (number pid : ℕ) → List Frame → Stop → List ℕ
+walk_text number pid frames stop = thread_line number pid ++ frame_lines 0 frames ++ stop_line stop
