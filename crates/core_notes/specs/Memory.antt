@@ -27,7 +27,7 @@ unfoldable pub rise_from : (end : ℕ) → List SegmentView → Bool
 rise_from end [] = true
 rise_from end (s ∷ ss) = nat_le end s.vaddr && rise_from (memory_end s) ss
 
--- so many segments have an address that is not above this one: those before the others
+-- n segments have an address that is not above this one: those before the others
 pub record IsCountUpto (address : ℕ) (ss : List SegmentView) (n : ℕ) : Type 0 where
   pub within : n ≤ length ss
   pub reached : (k : ℕ) (d : SegmentView) → k < n → (slice_index_or ss k d).vaddr ≤ address

@@ -136,7 +136,7 @@ const CASES: [Case; 7] = [
         frames: &[(0x1000, Some(0x9008))],
         stop: Stop::Unreadable(0x9000),
     },
-    // The memory begins at the return address, behind the saved frame pointer.
+    // The memory begins at the return address, after the saved frame pointer.
     Case {
         section: &PUSHING,
         file: TWO_THREADS,
