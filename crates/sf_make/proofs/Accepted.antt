@@ -12,7 +12,8 @@ use Rattle.sf_items.specs.declared.refusal.Limit.{Limit}
 use Rattle.sf_words.specs.Words.{CommandWords, InputWords, Link, LinkWords}
 use Rattle.sf_make.specs.Comes.{Comes, CommandComes, RefusesNothing, command_limit}
 use Rattle.sf_make.specs.Coming.{Coming, ComesWithin, Exceeded, Makes, Refused}
-use Rattle.sf_make.specs.LinkComes.{LinkComes, LinkComesFrom, MakesLink, coming_of_linking, objects_in}
+use Rattle.sf_make.specs.LinkComes.{LinkComes, objects_in, section_and_report}
+use Rattle.sf_make.specs.Linked.{LinkedComesFrom, MakesLinked, coming_of_linking}
 use Rattle.sf_make.proofs.SomeComing.{links_some}
 
 -- it is a refusal, or a limit
@@ -44,11 +45,11 @@ linking_refuses (link.Gather (gather.Input item fault)) = tt
 linking_refuses (link.Gather (gather.MixedArch first item)) = tt
 linking_refuses (link.Gather (gather.Overlap s i t j)) = tt
 
-makes_of : (inputs : List InputWords) (at : ℕ) (items : List (List ℕ)) (ordered : List Entry) → Links None (objects_in inputs items) at (Ok ordered) → (coming : Coming) → LinkComes inputs at items coming → MakesLink inputs at items coming
+makes_of : (inputs : List InputWords) (at : ℕ) (items : List (List ℕ)) (ordered : List Entry) → Links None (objects_in inputs items) at (Ok ordered) → (coming : Coming) → LinkComes inputs at items coming → MakesLinked None (objects_in inputs items) at section_and_report coming
 makes_of inputs at items ordered links coming h =
-    subst (λ (r : Result (List Entry) LinkFault). LinkComesFrom inputs at items r coming) (one_result None (objects_in inputs items) at h.result (Ok ordered) h.links links) h.comes
+    subst (λ (r : Result (List Entry) LinkFault). LinkedComesFrom None (objects_in inputs items) at section_and_report r coming) (one_result None (objects_in inputs items) at h.result (Ok ordered) h.links links) h.comes
 
-no_refusal : (inputs : List InputWords) (at : ℕ) (items : List (List ℕ)) (coming : Coming) → Refuses coming → MakesLink inputs at items coming → ⊥
+no_refusal : (inputs : List InputWords) (at : ℕ) (items : List (List ℕ)) (coming : Coming) → Refuses coming → MakesLinked None (objects_in inputs items) at section_and_report coming → ⊥
 no_refusal inputs at items coming is made = subst Refuses made.is is
 
 pub accepted_refuse_nothing : (link : LinkWords) (items : List (List ℕ)) → command_limit (Link link) items ≡ None → IsAccepted None (objects_in link.inputs items) link.out.at → RefusesNothing (Link link) items
@@ -57,7 +58,7 @@ accepted_refuse_nothing link items within h = record {
   accepted = λ shown comes. no_refusal link.inputs link.out.at items (Refused shown) tt (made (Refused shown) comes);
 }
   where
-    made : (coming : Coming) → Comes (Link link) items coming → MakesLink link.inputs link.out.at items coming
+    made : (coming : Coming) → Comes (Link link) items coming → MakesLinked None (objects_in link.inputs items) link.out.at section_and_report coming
     made coming comes =
         makes_of link.inputs link.out.at items h.ordered (accepted_links None (objects_in link.inputs items) link.out.at h) coming
         (subst (λ (l : Option Limit). ComesWithin l (CommandComes (Link link) items) coming) within comes)

@@ -2,6 +2,7 @@
 use Rattle.std.specs.List.{AllZip}
 use Rattle.std.proofs.Common.{◌≡◌, ℕ, List, [], ◌∷◌, length, Option, Some, None, Result, Ok, Err, refl, ap, sym, subst, ◌∙◌, inl, inr}
 use Rattle.std.proofs.lemmas.List.{append-nil}
+use Rattle.sf_model.specs.declared.machine.Arch.{Arch}
 use Rattle.sf_model.specs.declared.omission.Omitted.{Omitted}
 use Rattle.sf_model.specs.Section.{AreBytes}
 use Rattle.sf_model.specs.Table.{Table, row_count}
@@ -16,8 +17,7 @@ use Rattle.sf_asm.specs.Inputs.{machines_of, mixed_fault, first_item}
 use Rattle.sf_asm.specs.Linking.{unless_fault}
 use Rattle.sf_asm.proofs.GatheredInputs.{by_parts}
 use Rattle.sf_asm.proofs.Machines.{one_is_unmixed}
-use Rattle.sf_text.specs.Report.{report_text}
-use Rattle.sf_make.specs.LinkComes.{LinkComes, objects_in}
+use Rattle.sf_make.specs.Linked.{LinkedComes, Makings}
 use Rattle.sf_merge.specs.declared.fault.MergeFault.{MergeFault}
 use Rattle.sf_merge.specs.declared.fault.MergeFault.TheVariants as merge
 use Rattle.sf_merge.specs.Answers.{IsFirstFault, IsMerged}
@@ -29,7 +29,6 @@ use Rattle.sf_make.specs.Coming.{Coming, Makes}
 use Rattle.sf_make.specs.Making.{ComesAs}
 use Rattle.sf_make.specs.MergeComes.{Item, IsSectionOf, MergeComesAt, coming_of_merging, sections_fault}
 use Rattle.sf_make.specs.SectionComes.{coming_of_decoding}
-use Rattle.sf_words.specs.Words.{InputWords}
 use Rattle.sf_make.proofs.Merged.{Reading, fault_step, no_fault}
 
 -- a refusal that tells one thing tells what follows from it
@@ -82,16 +81,16 @@ by_parts_are (Ok others) None functions e f = e
 by_parts_are (Ok others) (Some fault) functions e f = cc
 by_parts_are (Err fault) mixed functions e f = cc
 
-links_of : (objects : List Object) (at : ℕ) (section : List ℕ) (kept : ℕ) (omitted : List Omitted) → (h : IsLinked None objects at section kept omitted) → Links None objects at (Ok h.ordered)
-links_of objects at section kept omitted h =
-    let given = by_parts_are (functions_of (first_item None) objects) (mixed_fault None objects) h.functions h.are (one_is_unmixed h.arch (machines_of None objects) h.machine) in
+links_of : (before : Option Arch) (objects : List Object) (at : ℕ) (section : List ℕ) (kept : ℕ) (omitted : List Omitted) → (h : IsLinked before objects at section kept omitted) → Links before objects at (Ok h.ordered)
+links_of before objects at section kept omitted h =
+    let given = by_parts_are (functions_of (first_item before) objects) (mixed_fault before objects) h.functions h.are (one_is_unmixed h.arch (machines_of before objects) h.machine) in
     subst (λ (g : Result (List Function) GatherFault). LinksFrom at g (Ok h.ordered)) (sym given)
     (h.ordered, h.in_order, sym (ap (λ (fault : Option LinkFault). unless_fault fault h.ordered) h.accepted))
 
-pub linked_comes : (inputs : List InputWords) (at : ℕ) (items : List (List ℕ)) (section text : List ℕ) (kept : ℕ) (omitted : List Omitted) → IsLinked None (objects_in inputs items) at section kept omitted → AreBytes section
-    → text ≡ report_text kept omitted → LinkComes inputs at items (Makes Done (Some section) text)
-linked_comes inputs at items section text kept omitted h bytes text_is = record {
+pub linked_comes : (before : Option Arch) (objects : List Object) (at : ℕ) (made : Makings) (section : List ℕ) (kept : ℕ) (omitted : List Omitted) → IsLinked before objects at section kept omitted → AreBytes section
+    → LinkedComes before objects at made (made section kept omitted)
+linked_comes before objects at made section kept omitted h bytes = record {
   result = Ok h.ordered;
-  links = links_of (objects_in inputs items) at section kept omitted h;
-  comes = record { section = section; text = text; kept = kept; omitted = omitted; are_bytes = bytes; linked = h; text_is = text_is; is = refl };
+  links = links_of before objects at section kept omitted h;
+  comes = record { section = section; kept = kept; omitted = omitted; are_bytes = bytes; linked = h; is = refl };
 }

@@ -25,7 +25,6 @@ use Rattle.sf_merge.specs.declared.fault.MergeFault.{MergeFault}
 use Rattle.sf_merge.specs.Merging.{Merges}
 use Rattle.sf_merge.proofs.OneOrder.{one_result as one_merge}
 use Rattle.sf_text.specs.Merged.{merged_text}
-use Rattle.sf_text.specs.Report.{report_text}
 use Rattle.sf_items.specs.declared.refusal.Limit.{Limit}
 use Rattle.sf_make.specs.declared.section.Query.{Query}
 use Rattle.sf_make.specs.declared.section.Query.TheVariants.{Whole, RowAt}
@@ -33,12 +32,14 @@ use Rattle.sf_make.specs.declared.made.Outcome.{Outcome}
 use Rattle.sf_make.specs.declared.made.Outcome.TheVariants.{Done}
 use Rattle.sf_make.specs.Comes.{Comes, CommandComes, AreItems}
 use Rattle.sf_make.specs.Coming.{Coming, Makes, ComesWithin}
-use Rattle.sf_make.specs.LinkComes.{LinkComes, LinkComesFrom, MakesLink, objects_in}
+use Rattle.sf_make.specs.GenComes.{made_object, summary_alone}
+use Rattle.sf_make.specs.LinkComes.{objects_in, section_and_report}
+use Rattle.sf_make.specs.Linked.{LinkedComes, LinkedComesFrom, Makings, MakesLinked}
 use Rattle.sf_make.specs.MergeComes.{Item, IsSectionOf, MergeComesAt, MergeComesFrom, MakesMerge, TablesCome, sections_fault}
 use Rattle.sf_make.specs.SectionComes.{SectionComesFrom, MakesShown, Shows}
 use Rattle.std.proofs.lemmas.List.{length-map}
 use Rattle.sf_words.specs.Items.{input_item, section_item}
-use Rattle.sf_words.specs.Words.{CommandWords, Link, Merge, Dump, Lookup, SectionWords, InputWords}
+use Rattle.sf_words.specs.Words.{CommandWords, Link, Merge, Dump, Lookup, Gen, SectionWords, InputWords}
 
 -- ---- dump and lookup
 shows_one : (query : Query) (table : Table) (a b : Outcome) (s t : List ℕ) → Shows query table a s → Shows query table b t → (a ≡ b) × (s ≡ t)
@@ -105,50 +106,53 @@ one_merge_coming at sections items (Some fault) c d some count p q = p ∙ sym q
 one_merge_coming at sections items None c d some count p q = one_tables at sections items c d some count p q
 
 -- ---- link
-one_machine : (objects : List Object) → 0 < length objects → (a b : Arch) → HaveMachine None objects a → HaveMachine None objects b → a ≡ b
-one_machine [] some a b p q = let none : ⊥ = omega (arith, some) in absurd none
-one_machine (o ∷ os) some a b p q = sym (p 0 a (omega arith)) ∙ q 0 a (omega arith)
+one_machine : (before : Option Arch) (objects : List Object) → 0 < length objects → (a b : Arch) → HaveMachine before objects a → HaveMachine before objects b → a ≡ b
+one_machine before [] some a b p q = let none : ⊥ = omega (arith, some) in absurd none
+one_machine None (o ∷ os) some a b p q = sym (p 0 a (omega arith)) ∙ q 0 a (omega arith)
+one_machine (Some arch) (o ∷ os) some a b p q = sym (p 0 a (omega arith)) ∙ q 0 a (omega arith)
 
-some_objects : (inputs : List InputWords) (items : List (List ℕ)) → 0 < length items → length items ≡ length inputs → 0 < length (objects_in inputs items)
-some_objects [] [] some count = let none : ⊥ = omega (arith, some) in absurd none
-some_objects [] (i ∷ is) some count = let none : ⊥ = omega (arith, count) in absurd none
-some_objects (s ∷ ss) [] some count = let none : ⊥ = omega (arith, some) in absurd none
+some_objects : (inputs : List InputWords) (items : List (List ℕ)) → 0 < length inputs → length items ≡ length inputs → 0 < length (objects_in inputs items)
+some_objects [] items some count = let none : ⊥ = omega (arith, some) in absurd none
+some_objects (s ∷ ss) [] some count = let none : ⊥ = omega (arith, count) in absurd none
 some_objects (s ∷ ss) (i ∷ is) some count = omega arith
 
-one_linked : (objects : List Object) (at : ℕ) (s t : List ℕ) (j k : ℕ) (m n : List Omitted) → 0 < length objects → AreBytes s → AreBytes t → IsLinked None objects at s j m → IsLinked None objects at t k n
+one_linked : (before : Option Arch) (objects : List Object) (at : ℕ) (s t : List ℕ) (j k : ℕ) (m n : List Omitted) → 0 < length objects → AreBytes s → AreBytes t → IsLinked before objects at s j m → IsLinked before objects at t k n
     → (s ≡ t) × (j ≡ k) × (m ≡ n)
-one_linked objects at s t j k m n some x y p q =
+one_linked before objects at s t j k m n some x y p q =
     let both : Ok p.functions ≡ Ok q.functions = sym p.are ∙ q.are in
     let functions : p.functions ≡ q.functions = cc in
     let ordered : p.ordered ≡ q.ordered = one_order (map entry_of q.functions) p.ordered q.ordered (subst (λ (fs : List Function). InOrder (map entry_of fs) p.ordered) functions p.in_order) q.in_order in
-    let arch = one_machine objects some p.arch q.arch p.machine q.machine in
+    let arch = one_machine before objects some p.arch q.arch p.machine q.machine in
     let table : table_of p.arch (kept_of p.ordered) ≡ table_of q.arch (kept_of q.ordered) = ap (λ (a : Arch). table_of a (kept_of p.ordered)) arch ∙ ap (λ (es : List Entry). table_of q.arch (kept_of es)) ordered in (
       tight_one s t at (table_of q.arch (kept_of q.ordered)) x y (subst (Tight s at) table p.tight) q.tight (subst (Narrow s) table p.narrow) q.narrow,
       p.kept_is ∙ ap (λ (es : List Entry). length (kept_of es)) ordered ∙ sym q.kept_is,
       p.omitted_are ∙ ap omitted_of ordered ∙ sym q.omitted_are,
     )
 
-one_made : (inputs : List InputWords) (at : ℕ) (items : List (List ℕ)) (c d : Coming) → 0 < length (objects_in inputs items) → MakesLink inputs at items c → MakesLink inputs at items d → c ≡ d
-one_made inputs at items c d some p q =
-    let same = one_linked (objects_in inputs items) at p.section q.section p.kept q.kept p.omitted q.omitted some p.are_bytes q.are_bytes p.linked q.linked in
-    let texts : p.text ≡ q.text = p.text_is ∙ ap (λ (k : ℕ). report_text k p.omitted) same.1 ∙ ap (report_text q.kept) same.2 ∙ sym q.text_is in
-    p.is ∙ ap (λ (s : List ℕ). Makes Done (Some s) p.text) same.0 ∙ ap (λ (t : List ℕ). Makes Done (Some q.section) t) texts ∙ sym q.is
+one_made : (before : Option Arch) (objects : List Object) (at : ℕ) (made : Makings) (c d : Coming) → 0 < length objects → MakesLinked before objects at made c → MakesLinked before objects at made d → c ≡ d
+one_made before objects at made c d some p q =
+    let same = one_linked before objects at p.section q.section p.kept q.kept p.omitted q.omitted some p.are_bytes q.are_bytes p.linked q.linked in
+    p.is ∙ ap (λ (s : List ℕ). made s p.kept p.omitted) same.0 ∙ ap (λ (k : ℕ). made q.section k p.omitted) same.1 ∙ ap (made q.section q.kept) same.2 ∙ sym q.is
 
-one_from_links : (inputs : List InputWords) (at : ℕ) (items : List (List ℕ)) (result : Result (List Entry) LinkFault) (c d : Coming) → 0 < length (objects_in inputs items) → LinkComesFrom inputs at items result c → LinkComesFrom inputs at items result d → c ≡ d
-one_from_links inputs at items (Err fault) c d some p q = p ∙ sym q
-one_from_links inputs at items (Ok ordered) c d some p q = one_made inputs at items c d some p q
+one_from_links : (before : Option Arch) (objects : List Object) (at : ℕ) (made : Makings) (result : Result (List Entry) LinkFault) (c d : Coming) → 0 < length objects → LinkedComesFrom before objects at made result c → LinkedComesFrom before objects at made result d → c ≡ d
+one_from_links before objects at made (Err fault) c d some p q = p ∙ sym q
+one_from_links before objects at made (Ok ordered) c d some p q = one_made before objects at made c d some p q
 
-one_link : (inputs : List InputWords) (at : ℕ) (items : List (List ℕ)) (c d : Coming) → 0 < length (objects_in inputs items) → LinkComes inputs at items c → LinkComes inputs at items d → c ≡ d
-one_link inputs at items c d some p q =
-    let result = one_result None (objects_in inputs items) at p.result q.result p.links q.links in
-    one_from_links inputs at items q.result c d some (subst (λ (r : Result (List Entry) LinkFault). LinkComesFrom inputs at items r c) result p.comes) q.comes
+one_link : (before : Option Arch) (objects : List Object) (at : ℕ) (made : Makings) (c d : Coming) → 0 < length objects → LinkedComes before objects at made c → LinkedComes before objects at made d → c ≡ d
+one_link before objects at made c d some p q =
+    let result = one_result before objects at p.result q.result p.links q.links in
+    one_from_links before objects at made q.result c d some (subst (λ (r : Result (List Entry) LinkFault). LinkedComesFrom before objects at made r c) result p.comes) q.comes
 
 -- ---- each command
 one_command : (command : CommandWords) (items : List (List ℕ)) (c d : Coming) → AreItems command items → CommandComes command items c → CommandComes command items d → c ≡ d
-one_command (Link link) items c d are p q = one_link link.inputs link.out.at items c d (some_objects link.inputs items are.some (are.count ∙ length-map link.inputs input_item)) p q
-one_command (Merge merge) items c d are p q = one_merge_coming merge.out.at merge.sections items (sections_fault 0 (zip merge.sections items)) c d are.some (are.count ∙ length-map merge.sections section_item) p q
+one_command (Link link) items c d are p q =
+    one_link None (objects_in link.inputs items) link.out.at section_and_report c d (some_objects link.inputs items are.asked (are.count ∙ length-map link.inputs input_item)) p q
+one_command (Merge merge) items c d are p q =
+    let count = are.count ∙ length-map merge.sections section_item in
+    one_merge_coming merge.out.at merge.sections items (sections_fault 0 (zip merge.sections items)) c d (omega (arith, count, are.asked)) count p q
 one_command (Dump section) items c d are p q = one_section section.at (get_or items 0 []) Whole (section_check (get_or items 0 []) section.at) c d p q
 one_command (Lookup section pc) items c d are p q = one_section section.at (get_or items 0 []) (RowAt pc) (section_check (get_or items 0 []) section.at) c d p q
+one_command (Gen n) items c d are p q = one_link None (made_object n ∷ []) 0x4000000 (summary_alone n) c d (omega arith) p q
 
 one_within : (limit : Option Limit) (Then : Coming → Type 0) → ((c d : Coming) → Then c → Then d → c ≡ d) → (c d : Coming) → ComesWithin limit Then c → ComesWithin limit Then d → c ≡ d
 one_within (Some limit) Then one c d p q = p ∙ sym q

@@ -1,13 +1,14 @@
 -- What a run of each command comes to over the bytes of its items: the limits of loading first, and then what the command makes of them.
-use Rattle.std.specs.Prelude.{◌≡◌, ◌<◌, ℕ, nat_lt, List, length, Option, Some, if◌then◌else◌}
+use Rattle.std.specs.Prelude.{◌≡◌, ℕ, nat_lt, List, length, Option, Some, if◌then◌else◌}
 use Rattle.sf_model.specs.Told.{Told}
 use Rattle.sf_items.specs.declared.refusal.Limit.{Limit}
 use Rattle.sf_items.specs.declared.refusal.Limit.TheVariants.{Inputs}
 use Rattle.sf_items.specs.Loading.{items_limit}
 use Rattle.sf_words.specs.Items.{counted_items, items_of}
-use Rattle.sf_words.specs.Words.{CommandWords, Link, Merge, Dump, Lookup}
+use Rattle.sf_words.specs.Words.{CanBeAsked, CommandWords, Link, Merge, Dump, Lookup, Gen}
 use Rattle.sf_make.specs.declared.section.Query.TheVariants.{Whole, RowAt}
 use Rattle.sf_make.specs.Coming.{Coming, ComesWithin, Exceeded, Refused}
+use Rattle.sf_make.specs.GenComes.{GenComes}
 use Rattle.sf_make.specs.LinkComes.{LinkComes}
 use Rattle.sf_make.specs.MergeComes.{MergeComes}
 use Rattle.sf_make.specs.SectionComes.{SectionComes}
@@ -22,13 +23,14 @@ CommandComes (Link link) items coming = LinkComes link.inputs link.out.at items 
 CommandComes (Merge merge) items coming = MergeComes merge.sections merge.out.at items coming
 CommandComes (Dump section) items coming = SectionComes section.at Whole items coming
 CommandComes (Lookup section pc) items coming = SectionComes section.at (RowAt pc) items coming
+CommandComes (Gen n) items coming = GenComes n coming
 
 abbrev pub Comes : CommandWords → (items : List (List ℕ)) → Coming → Type 0
 Comes command items coming = ComesWithin (command_limit command items) (CommandComes command items) coming
 
--- the bytes of one file for each item, and one item at least
+-- the bytes of one file for each item of a command that words can ask for
 pub record AreItems (command : CommandWords) (items : List (List ℕ)) : Type 0 where
-  pub some : 0 < length items
+  pub asked : CanBeAsked command
   pub count : length items ≡ length (items_of command)
 
 -- nothing is refused: neither a limit is exceeded nor an item refused

@@ -8,6 +8,7 @@
 mod laws;
 mod link;
 mod made;
+mod made_object;
 mod making;
 mod merge;
 mod section;

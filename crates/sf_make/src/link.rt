@@ -7,7 +7,8 @@ ghost use Rattle.sf_items.specs.Loading.{items_limit};
 ghost use Rattle.sf_words.specs.Items.{input_item};
 ghost use Rattle.sf_words.specs.Parsed.{input_of};
 ghost use Rattle.sf_make.specs.Coming.{Coming};
-ghost use Rattle.sf_make.specs.LinkComes.{LinkComes, coming_of_linking, objects_in};
+ghost use Rattle.sf_make.specs.LinkComes.{LinkComes, objects_in};
+ghost use Rattle.sf_make.specs.Linked.{coming_of_linking};
 ghost use Rattle.sf_make.specs.Making.{ComesAs, ComesTo};
 
 use crate::made::{Made, Outcome};
@@ -20,7 +21,7 @@ use sf_words::InputFile;
 use std::alloc::Global;
 
 /// Why inputs were not linked, as a refusal of the run.
-fn unlinked<'a>(fault: &LinkFault) -> Refusal<'a>
+pub fn unlinked<'a>(fault: &LinkFault) -> Refusal<'a>
     requires { IsTrue (is_answered fault.now) }
     ensures { ComesAs (λ (coming : Coming). coming ≡ coming_of_linking fault.now) result }
 {

@@ -7,6 +7,7 @@ ghost use Rattle.sf_make.specs.Making.{ComesTo};
 
 use crate::link::link_made;
 use crate::made::Made;
+use crate::made_object::gen_made;
 use crate::merge::merge_made;
 use crate::section::{Query, section_made};
 use sf_items::Refusal;
@@ -29,5 +30,6 @@ pub fn make<'a>(alloc: Global, asked: &Asked<'a>, items: &[Vec<u8>]) -> Result<M
         Asked::Merge(merge) => merge_made(alloc, &merge.sections, merge.out.at, items),
         Asked::Dump(section) => section_made(alloc, &items[0], section.at, Query::Whole),
         Asked::Lookup(section, pc) => section_made(alloc, &items[0], section.at, Query::RowAt(*pc)),
+        Asked::Gen(n) => gen_made(alloc, *n),
     }
 }

@@ -14,7 +14,7 @@ use Rattle.sf_items.specs.declared.refusal.Refusal.TheVariants as refusal
 use Rattle.sf_items.specs.Loading.{AreBytesOf, AreLoaded, Contents, IsLoadingRefusal, IsRead, bytes_known}
 use Rattle.sf_words.specs.declared.item.Item.{Item}
 use Rattle.sf_words.specs.Items.{ItemWords, counted_items, item_of, items_of, names_of}
-use Rattle.sf_words.specs.Words.{CommandWords, out_name}
+use Rattle.sf_words.specs.Words.{CanBeAsked, CommandWords, out_name}
 use Rattle.sf_make.specs.declared.made.Made.{Made}
 use Rattle.sf_make.specs.declared.made.Outcome.{Outcome}
 use Rattle.sf_make.specs.declared.made.Outcome.TheVariants as outcome
@@ -158,11 +158,11 @@ answers_for answer command known before after e are ends fine = record { comes =
     accepted nothing status.Memory h = inr (inr refl)
     accepted nothing status.Limit h = absurd (nothing.within h.0 (here _ h.1))
 
-pub complete_from : (answer : Status) (command : CommandWords) (before after : Seen) → 0 < length (items_of command) → RunEnds answer command before after → RunIsComplete answer command before after
-complete_from answer command before after some ends = at_contents before.files.contents refl
+pub complete_from : (answer : Status) (command : CommandWords) (before after : Seen) → CanBeAsked command → RunEnds answer command before after → RunIsComplete answer command before after
+complete_from answer command before after form ends = at_contents before.files.contents refl
   where
     at_contents : (contents : Contents) → before.files.contents ≡ contents → IfSome contents (λ known. NoneFailed before after → AnswersFor answer command (bytes_known known (items_of command)))
     at_contents None e = tt
     at_contents (Some known) e =
         let count = length-map (items_of command) (λ (item : ItemWords). contents_of known item.name) in
-        answers_for answer command known before after e record { some = omega (arith, some, count); count = count } ends
+        answers_for answer command known before after e record { asked = form; count = count } ends

@@ -1,13 +1,13 @@
 //! One run of a command: its words, how many files they name, loading, making, and delivering.
 
-ghost use Rattle.std.specs.Prelude.{◌≡◌, ◌↔◌, ◌<◌, ◌≤◌, ℕ, List, All, map, length, IfOk, IfErr, IfSome, IsTrue, OnOk};
+ghost use Rattle.std.specs.Prelude.{◌≡◌, ◌↔◌, ◌<◌, ◌≤◌, ℕ, List, All, map, IfOk, IfErr, IfSome, IsTrue, OnOk};
 ghost use Rattle.std.specs.String.{string_bytes};
 ghost use Rattle.sf_base.specs.Faults.{Rose};
 ghost use Rattle.sf_base.specs.Seen.{OnlyReads};
 ghost use Rattle.sf_items.specs.Loading.{IsRead};
-ghost use Rattle.sf_words.specs.Items.{counted_items, item_names, items_of};
+ghost use Rattle.sf_words.specs.Items.{counted_items, item_names};
 ghost use Rattle.sf_words.specs.Parsed.{Asks, words_of};
-ghost use Rattle.sf_words.specs.Words.{CommandWords, HasNoForm, IsCommand, out_name};
+ghost use Rattle.sf_words.specs.Words.{CanBeAsked, CommandWords, HasNoForm, IsCommand, out_name};
 ghost use Rattle.sf_make.specs.Making.{coming_of};
 ghost use Rattle.sf_run.specs.Ends.{RunComes, RunEnds, RunIsComplete, RunRefuses, TurnedAway, TurnedAwayUnread, seen};
 ghost use Rattle.sf_run.specs.Lines.{usage_line};
@@ -31,7 +31,7 @@ fn load_and_make<'a, F: Files>(
     asked: &Asked<'a>,
     files: &mut F,
 ) -> Result<Made, Refusal<'a>>
-    requires some { 0 < length (items_of (words_of asked.now)) }
+    requires form { CanBeAsked (words_of asked.now) }
     requires few { counted_items (words_of asked.now) ≤ 512 }
     requires open { All (λ name. IsTrue (F.may_open files.old name)) (item_names (words_of asked.now)) }
     ensures made { IfOk result (λ made. RunComes (words_of asked.now) ((F.seen files.old).contents) (coming_of made)) }
@@ -53,7 +53,7 @@ fn read_and_make<'a, F: Files>(
     files: &mut F,
 ) -> Result<Made, Refusal<'a>>
     requires asked { (wanted : CommandWords) × Asks command.now wanted }
-    requires some { (wanted : CommandWords) → Asks command.now wanted → 0 < length (items_of wanted) }
+    requires form { (wanted : CommandWords) → Asks command.now wanted → CanBeAsked wanted }
     requires few { (wanted : CommandWords) → Asks command.now wanted → counted_items wanted ≤ 512 }
     requires open { (wanted : CommandWords) → Asks command.now wanted → All (λ name. IsTrue (F.may_open files.old name)) (item_names wanted) }
     ensures made { (wanted : CommandWords) → Asks command.now wanted → IfOk result (λ made. RunComes wanted ((F.seen files.old).contents) (coming_of made)) }
@@ -76,7 +76,7 @@ fn run_command<F: Files, O: Sink, E: Sink>(
     err: &mut E,
 ) -> Status
     requires asked { (wanted : CommandWords) × Asks command.now wanted }
-    requires some { (wanted : CommandWords) → Asks command.now wanted → 0 < length (items_of wanted) }
+    requires form { (wanted : CommandWords) → Asks command.now wanted → CanBeAsked wanted }
     requires open { (wanted : CommandWords) → Asks command.now wanted → All (λ name. IsTrue (F.may_open files.old name)) (item_names wanted) }
     requires create { (wanted : CommandWords) → Asks command.now wanted → IfSome (out_name wanted) (λ name. IsTrue (F.may_create files.old name)) }
     ensures ends { (wanted : CommandWords) → Asks command.now wanted → RunEnds result wanted

@@ -175,6 +175,7 @@ fn each_command_is_done(rt: HostRuntime) -> Result<(), Fail> {
     expect_section(&rt, alloc, &merged, Some(ONE_FUNCTION_LINKED), "merge")?;
     run_over_section(&rt, alloc, "lookup s@0x3000 0x1005", FOUND)?;
     run_over_section(&rt, alloc, "dump s@0x3000", DUMPED)?;
+    run_over_section(&rt, alloc, "gen 1", MADE)?;
     Ok(())
 }
 
@@ -279,6 +280,8 @@ const FAULTS: [Fault; 11] = [
 ];
 
 const FOUND: &[u8] = b"0x1005 in 0x1000 row +5 cfa=sp+8 fp=c-16\n";
+
+const MADE: &[u8] = b"gen 1 kept 1 omitted 0 length 57 sum 1680\n";
 
 const DUMPED: &[u8] = b"sframe 2 amd64 flags 0x5 functions 1 rows 4\n\
 func 0x1000 size 6 plain key a rows 4\n  +0 cfa=sp+8\n  +1 cfa=sp+16 fp=c-16\n  \

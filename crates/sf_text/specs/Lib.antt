@@ -7,3 +7,4 @@ pub mod Dump
 pub mod Found
 pub mod FaultLine
 pub mod Frames
+pub mod Summary

@@ -1,13 +1,15 @@
 //! The texts that a program of this repository prints: the report of a link, the counts of a merge, what a
-//! section says, what a look-up finds, what a walk lists, the line of a fault, and the line of an item that
-//! is too long.
+//! section says, what a look-up finds, what a walk lists, the summary of a made object's link, the line of a
+//! fault, and the line of an item that is too long.
 //!
 //! Each text is a definition in `specs/`, and the calls give it byte for byte: [`report`] is `report_text`,
 //! [`merged`] is `merged_text`, [`dump`] is `dump_text` of the table that the view shows, [`found`] is
-//! `found_text`, [`thread_text`] is `walk_text`, and [`fault_line`] and [`file_limit_line`] append `fault_text` and `file_limit_text`. The
-//! caller owes a notice that has a line to `fault_line`, and nothing to the others.
+//! `found_text`, [`thread_text`] is `walk_text`, [`summary`] is `summary_text`, and [`fault_line`] and
+//! [`file_limit_line`] append `fault_text` and `file_limit_text`. The caller owes a notice that has a line to
+//! `fault_line`, and nothing to the others.
 //!
-//! `report`, `merged`, `dump`, `found` and `thread_text` build their text in one growing buffer, in the time of its length;
+//! `report`, `merged`, `dump`, `found`, `thread_text` and `summary` build their text in one growing buffer, in
+//! the time of its length;
 //! they fail for memory alone. `fault_line` and `file_limit_line` take no memory.
 #![tactic(auto)]
 
@@ -16,6 +18,7 @@ mod digits;
 mod file_limit;
 mod found_row;
 mod frames;
+mod gen_summary;
 mod line;
 mod link_report;
 mod merge_text;
@@ -28,6 +31,7 @@ mod shown;
 pub use file_limit::file_limit_line;
 pub use found_row::found;
 pub use frames::thread_text;
+pub use gen_summary::summary;
 pub use link_report::report;
 pub use merge_text::merged;
 pub use refusal::fault_line;

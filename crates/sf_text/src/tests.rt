@@ -212,6 +212,18 @@ fn a_merge_has_a_line_with_both_counts(rt: HostRuntime) -> Result<(), Fail> {
 }
 
 #[test]
+fn a_made_object_has_a_line_with_counts_and_the_sum_of_the_bytes(
+    rt: HostRuntime,
+) -> Result<(), Fail> {
+    let text = summary(rt.alloc(), 100000, 74889, 25111, &[0xff, 0, 0xff])?;
+    assert_eq!(rt;
+        text.as_slice(),
+        b"gen 100000 kept 74889 omitted 25111 length 3 sum 510\n".as_slice()
+    );
+    Ok(())
+}
+
+#[test]
 fn an_item_that_is_too_long_has_a_line(rt: HostRuntime) -> Result<(), Fail> {
     for (item, line) in [(0u32, "limit file 0\n"), (511, "limit file 511\n")] {
         let mut sink = MemSink::new(rt.alloc(), 5, Vec::new(rt.alloc()));

@@ -1,13 +1,12 @@
 -- What split words ask for.
 use Rattle.std.specs.List.{AllZip}
-use Rattle.std.proofs.Common.{◌≡◌, ◌<◌, ℕ, suc, List, [], ◌∷◌, map, length, refl, ap, sym, subst, ◌∙◌, arith}
+use Rattle.std.proofs.Common.{◌≡◌, ◌<◌, ℕ, suc, List, [], ◌∷◌, map, length, refl, ap, sym, subst, ◌∙◌}
 use Rattle.std.proofs.lemmas.List.{length-map}
 use Rattle.std.specs.String.{string_bytes}
 use Rattle.sf_words.specs.declared.command.LinkCommand.{LinkCommand}
 use Rattle.sf_words.specs.declared.command.MergeCommand.{MergeCommand}
-use Rattle.sf_words.specs.Items.{input_item, section_item, items_of}
 use Rattle.sf_words.specs.Parsed.{AsksLink, AsksMerge}
-use Rattle.sf_words.specs.Words.{CommandWords, Link, Merge, Dump, Lookup, LinkWords, MergeWords, IsCommand, IsInputWord, IsSectionWord}
+use Rattle.sf_words.specs.Words.{CanBeAsked, CommandWords, Link, Merge, Dump, Lookup, Gen, LinkWords, MergeWords, IsCommand, IsInputWord, IsSectionWord}
 
 -- two lists that are joined item by item are as long
 pub as_long : {A B : Type 0} (R : A → B → Type 0) (xs : List A) (ys : List B) → AllZip R xs ys → length xs ≡ length ys
@@ -24,11 +23,10 @@ inputs_asked split link asks = sym (as_long IsInputWord (map string_bytes split.
 pub sections_asked : (split : MergeCommand) (merge : MergeWords) → AsksMerge split merge → length merge.sections ≡ length split.sections.now
 sections_asked split merge asks = sym (as_long IsSectionWord (map string_bytes split.sections.now) merge.sections asks.sections) ∙ length-map split.sections.now string_bytes
 
--- a command that has a form reads one file at least
-pub some_items : (words : List (List ℕ)) (command : CommandWords) → IsCommand words command → 0 < length (items_of command)
-some_items words (Link link) h =
-    subst (λ (n : ℕ). 0 < n) (as_long IsInputWord h.input_words link.inputs h.inputs ∙ sym (length-map link.inputs input_item)) h.some
-some_items words (Merge merge) h =
-    subst (λ (n : ℕ). 0 < n) (as_long IsSectionWord h.section_words merge.sections h.sections ∙ sym (length-map merge.sections section_item)) h.some
-some_items words (Dump section) h = omega arith
-some_items words (Lookup section pc) h = omega arith
+-- a command that has a form keeps what the form says of it
+pub can_be_asked : (words : List (List ℕ)) (command : CommandWords) → IsCommand words command → CanBeAsked command
+can_be_asked words (Link link) h = subst (λ (n : ℕ). 0 < n) (as_long IsInputWord h.input_words link.inputs h.inputs) h.some
+can_be_asked words (Merge merge) h = subst (λ (n : ℕ). 0 < n) (as_long IsSectionWord h.section_words merge.sections h.sections) h.some
+can_be_asked words (Dump section) h = tt
+can_be_asked words (Lookup section pc) h = tt
+can_be_asked words (Gen n) h = h.within

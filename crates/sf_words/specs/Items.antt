@@ -3,7 +3,7 @@ use Rattle.std.specs.Prelude.{◌^◌, ℕ, List, [], ◌∷◌, map, length}
 use Rattle.sf_words.specs.declared.item.Item.{Item}
 use Rattle.sf_words.specs.declared.item.ItemKind.{ItemKind}
 use Rattle.sf_words.specs.declared.item.ItemKind.TheVariants.{Input, Section, Core}
-use Rattle.sf_words.specs.Words.{CommandWords, Link, Merge, Dump, Lookup, InputWords, SectionWords}
+use Rattle.sf_words.specs.Words.{CommandWords, Link, Merge, Dump, Lookup, Gen, InputWords, SectionWords}
 
 -- a file that a command reads: its name and its kind
 pub record ItemWords : Type 0 where
@@ -37,6 +37,7 @@ items_of (Link link) = map input_item link.inputs
 items_of (Merge merge) = map section_item merge.sections
 items_of (Dump section) = section_item section ∷ []
 items_of (Lookup section pc) = section_item section ∷ []
+items_of (Gen n) = []
 
 -- how many files a command's list names, for the limit of 512
 abbrev pub counted_items : CommandWords → ℕ
@@ -44,6 +45,7 @@ counted_items (Link link) = length link.inputs
 counted_items (Merge merge) = length merge.sections
 counted_items (Dump section) = 1
 counted_items (Lookup section pc) = 1
+counted_items (Gen n) = 0
 
 -- the names of these files
 abbrev pub names_of : List ItemWords → List (List ℕ)

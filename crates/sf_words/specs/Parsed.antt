@@ -12,7 +12,7 @@ use Rattle.sf_words.specs.declared.command.MergeCommand.{MergeCommand}
 use Rattle.sf_words.specs.declared.command.Command.{Command}
 use Rattle.sf_words.specs.declared.command.Command.TheVariants as command
 use Rattle.sf_words.specs.declared.words.SectionFile.{SectionFile}
-use Rattle.sf_words.specs.Words.{InputWords, LinkWords, MergeWords, SectionWords, CommandWords, IsInputWord, IsSectionWord, Link as LinkOf, Merge as MergeOf, Dump, Lookup}
+use Rattle.sf_words.specs.Words.{InputWords, LinkWords, MergeWords, SectionWords, CommandWords, IsInputWord, IsSectionWord, Link as LinkOf, Merge as MergeOf, Dump, Lookup, Gen}
 
 abbrev pub input_of : InputFile → InputWords
 input_of input = record { form = input.form; name = input.name.now; base = input.base }
@@ -31,6 +31,7 @@ words_of (asked.Link link) = LinkOf (link_of link)
 words_of (asked.Merge merge) = MergeOf (merge_of merge)
 words_of (asked.Dump section) = Dump (section_of section)
 words_of (asked.Lookup section pc) = Lookup (section_of section) pc
+words_of (asked.Gen n) = Gen n
 
 -- words that are split, and what they ask for
 pub record AsksLink (split : LinkCommand) (link : LinkWords) : Type 0 where
@@ -46,3 +47,4 @@ Asks (command.Link split) wanted = (link : LinkWords) × (wanted ≡ LinkOf link
 Asks (command.Merge split) wanted = (merge : MergeWords) × (wanted ≡ MergeOf merge) × AsksMerge split merge
 Asks (command.Dump section) wanted = wanted ≡ Dump (section_of section)
 Asks (command.Lookup section pc) wanted = wanted ≡ Lookup (section_of section) pc
+Asks (command.Gen n) wanted = wanted ≡ Gen n

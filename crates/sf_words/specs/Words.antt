@@ -1,8 +1,8 @@
 -- The words of a command line: `link OUT@AT IN@BASE ..`, `merge OUT@AT FILE@AT ..`, `dump FILE@AT` and `lookup FILE@AT PC`, where the
 -- dots stand for any number of further words of the kind.
-use Rattle.std.specs.Prelude.{◌≡◌, ℕ, ◌<◌, List, [], ◌∷◌, ◌++◌, length, codes, Option, Some, None}
+use Rattle.std.specs.Prelude.{◌≡◌, ℕ, ◌<◌, ◌≤◌, List, [], ◌∷◌, ◌++◌, length, codes, Option, Some, None}
 use Rattle.std.specs.List.{AllZip}
-use Rattle.sf_base.specs.Word.{SpellsHexadecimal}
+use Rattle.sf_base.specs.Word.{SpellsDecimal, SpellsHexadecimal}
 use Rattle.sf_model.specs.declared.machine.Arch.{Arch}
 use Rattle.sf_model.specs.declared.machine.Arch.TheVariants.{Amd64, Aarch64}
 use Rattle.sf_asm.specs.declared.input.Form.{Form}
@@ -90,12 +90,25 @@ pub record IsLookup (words : List (List ℕ)) (section : SectionWords) (pc : ℕ
   pub named : IsSectionWord section_word section
   pub address : SpellsHexadecimal address_word pc
 
+-- how many functions a made object may have: 1 to 100000
+pub record IsFunctionCount (n : ℕ) : Type 0 where
+  pub some : 0 < n
+  pub most : n ≤ 100000
+
+-- the words ask for the link of a made object of n functions
+pub record IsGen (words : List (List ℕ)) (n : ℕ) : Type 0 where
+  pub count_word : List ℕ
+  pub words_are : words ≡ codes "gen" ∷ count_word ∷ []
+  pub count : SpellsDecimal count_word n
+  pub within : IsFunctionCount n
+
 -- what a command line asks for
 pub data CommandWords : Type 0 where
   Link : LinkWords → CommandWords
   Merge : MergeWords → CommandWords
   Dump : SectionWords → CommandWords
   Lookup : SectionWords → (pc : ℕ) → CommandWords
+  Gen : (n : ℕ) → CommandWords
 
 -- the words ask for this
 abbrev pub IsCommand : List (List ℕ) → CommandWords → Type 0
@@ -103,6 +116,15 @@ IsCommand words (Link link) = IsLink words link
 IsCommand words (Merge merge) = IsMerge words merge
 IsCommand words (Dump section) = IsDump words section
 IsCommand words (Lookup section pc) = IsLookup words section pc
+IsCommand words (Gen n) = IsGen words n
+
+-- what each form says of the command that it asks for: a list that names one file at least, and a number within its range
+abbrev pub CanBeAsked : CommandWords → Type 0
+CanBeAsked (Link link) = 0 < length link.inputs
+CanBeAsked (Merge merge) = 0 < length merge.sections
+CanBeAsked (Dump section) = Unit {0}
+CanBeAsked (Lookup section pc) = Unit {0}
+CanBeAsked (Gen n) = IsFunctionCount n
 
 -- the name of the file that a command makes
 abbrev pub out_name : CommandWords → Option (List ℕ)
@@ -110,6 +132,7 @@ out_name (Link link) = Some link.out.name
 out_name (Merge merge) = Some merge.out.name
 out_name (Dump section) = None
 out_name (Lookup section pc) = None
+out_name (Gen n) = None
 
 -- the words have none of the forms
 abbrev pub HasNoForm : List (List ℕ) → Type 0

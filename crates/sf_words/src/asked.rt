@@ -37,6 +37,8 @@ pub enum Asked<'a> {
     Dump(SectionFile<'a>),
     /// `lookup FILE@AT PC`
     Lookup(SectionFile<'a>, u64),
+    /// `gen N`
+    Gen(u32),
 }
 
 /// Reads the words of a command.
@@ -58,6 +60,7 @@ pub fn read_words<'a>(alloc: Global, command: &Command<'a>) -> Result<Asked<'a>,
         })),
         Command::Dump(section) => Ok(Asked::Dump(*section)),
         Command::Lookup(section, pc) => Ok(Asked::Lookup(*section, *pc)),
+        Command::Gen(n) => Ok(Asked::Gen(*n)),
     }
 }
 
@@ -101,5 +104,6 @@ pub fn items<'a>(alloc: Global, asked: &Asked<'a>) -> Result<Vec<Item<'a>>, NoMe
         Asked::Link(link) => input_items(alloc, &link.inputs),
         Asked::Merge(merge) => section_items(alloc, &merge.sections),
         Asked::Dump(section) | Asked::Lookup(section, _) => section_items(alloc, &[*section]),
+        Asked::Gen(_) => Ok(Vec::new(alloc)),
     }
 }

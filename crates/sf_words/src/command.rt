@@ -1,15 +1,19 @@
 //! The forms of a command line.
 
-ghost use Rattle.std.specs.Prelude.{◌≡◌, ◌<◌, ℕ, [], ◌∷◌, List, map, length, IfSome, IsSome, IsSomeAnd};
+ghost use Rattle.std.specs.Prelude.{◌≡◌, ◌<◌, ◌≤◌, ℕ, [], ◌∷◌, List, map, length, IfSome, IsSome, IsSomeAnd};
 ghost use Rattle.std.specs.Option.{option_map};
 ghost use Rattle.std.specs.String.{string_bytes};
-ghost use Rattle.sf_words.specs.Words.{IsLink, IsMerge, IsDump, IsLookup, IsCommand, LinkWords, MergeWords, SectionWords, CommandWords, out_name};
+ghost use Rattle.sf_base.specs.Word.{SpellsDecimal};
+ghost use Rattle.sf_words.specs.Words.{IsLink, IsMerge, IsDump, IsLookup, IsGen, IsCommand, LinkWords, MergeWords, SectionWords, CommandWords, out_name};
 ghost use Rattle.sf_words.specs.Items.{counted_items};
 ghost use Rattle.sf_words.specs.Parsed.{section_of, Asks, AsksLink, AsksMerge};
 
 use crate::lists::{are_inputs, are_sections};
 use crate::words::{SectionFile, section_file};
-use sf_base::hex_word;
+use sf_base::{dec_word, hex_word};
+
+/// The most functions of a made object.
+const MOST_FUNCTIONS: u32 = 100_000;
 
 /// The words of `link OUT@AT IN@BASE ..`.
 #[derive(Clone, Copy)]
@@ -38,6 +42,8 @@ pub enum Command<'a> {
     Dump(SectionFile<'a>),
     /// `lookup FILE@AT PC`
     Lookup(SectionFile<'a>, u64),
+    /// `gen N`
+    Gen(u32),
 }
 
 impl<'a> Command<'a> {
@@ -49,6 +55,7 @@ impl<'a> Command<'a> {
             Command::Link(link) => link.inputs.len(),
             Command::Merge(merge) => merge.sections.len(),
             Command::Dump(_) | Command::Lookup(_, _) => 1,
+            Command::Gen(_) => 0,
         }
     }
 
@@ -59,7 +66,7 @@ impl<'a> Command<'a> {
         match self {
             Command::Link(link) => Some(link.out.name),
             Command::Merge(merge) => Some(merge.out.name),
-            Command::Dump(_) | Command::Lookup(_, _) => None,
+            Command::Dump(_) | Command::Lookup(_, _) | Command::Gen(_) => None,
         }
     }
 }
@@ -156,6 +163,30 @@ fn lookup_words(words: &[String]) -> Option<(SectionFile<'_>, u64)>
     Some((section_file(section)?, hex_word(address)?))
 }
 
+/// The number of a word, where it is from 1 to `most`.
+fn number_up_to(word: &str, most: u32) -> Option<u32>
+    ensures found { IfSome result (λ n. SpellsDecimal word.now n × (0 < n) × (n ≤ most)) }
+    ensures only { (n : ℕ) → SpellsDecimal word.now n → 0 < n → n ≤ most → IsSomeAnd result (λ m. m ≡ n) }
+{
+    let number = dec_word(word)?;
+    if number == 0 || number > most {
+        return None;
+    }
+    Some(number)
+}
+
+/// The number of functions, where the words have the form `gen N`.
+fn gen_words(words: &[String]) -> Option<u32>
+    ensures found { IfSome result (λ n. IsGen (map string_bytes words.now) n) }
+    ensures only { (n : ℕ) → IsGen (map string_bytes words.now) n → IsSomeAnd result (λ m. m ≡ n) }
+{
+    let (command, count) = two_words(words)?;
+    if command != "gen" {
+        return None;
+    }
+    number_up_to(count, MOST_FUNCTIONS)
+}
+
 /// What the words ask for, where they have one of the forms.
 pub fn command_words(words: &[String]) -> Option<Command<'_>>
     ensures found { IfSome result (λ c. (command : CommandWords) → Asks c command → IsCommand (map string_bytes words.now) command) }
@@ -171,6 +202,9 @@ pub fn command_words(words: &[String]) -> Option<Command<'_>>
     if let Some(section) = dump_words(words) {
         return Some(Command::Dump(section));
     }
-    let (section, pc) = lookup_words(words)?;
-    Some(Command::Lookup(section, pc))
+    if let Some((section, pc)) = lookup_words(words) {
+        return Some(Command::Lookup(section, pc));
+    }
+    let n = gen_words(words)?;
+    Some(Command::Gen(n))
 }

@@ -1,10 +1,13 @@
-use Rattle.std.proofs.Common.{◌<◌, ◌≤◌, ◌^◌, List, All, None, ap, map, length, sym, subst, ◌∙◌, arith}
+use Rattle.std.proofs.Common.{◌≡◌, ◌<◌, ◌≤◌, ◌^◌, ℕ, List, All, None, Some, ap, map, length, sym, subst, ◌∙◌, arith}
 use Rattle.std.proofs.lemmas.List.{length-map}
 use Rattle.sf_asm.specs.declared.input.Input.{Input}
 use Rattle.sf_asm.specs.Answers.{IsLinked}
 use Rattle.sf_asm.specs.Functions.{Object, object_of}
 use Rattle.sf_text.specs.Report.{report_text}
 use Rattle.sf_words.specs.Parsed.{input_of}
+use Rattle.sf_make.specs.declared.made.Outcome.TheVariants.{Done}
+use Rattle.sf_make.specs.Coming.{Makes}
+use Rattle.sf_make.specs.LinkComes.{LinkComes, objects_in, section_and_report}
 use Rattle.sf_make.proofs.Arms.{linked_comes}
 use Rattle.sf_make.proofs.Linked.{bytes_of, inputs_short, as_many_inputs}
 use Rattle.sf_make.proofs.link.link_made.Goals as goal
@@ -27,5 +30,8 @@ pub returns-in-Ok : goal.returns-in-Ok
 returns-in-Ok c =
     let are = ap (map object_of) c.deref.ensures.value ∙ c.in_ok-inputs.ensures in
     let linked = subst (λ (os : List Object). IsLinked None os c.args.at c.in-Ok.linked.section.items c.in-Ok.linked.kept c.in-Ok.linked.omitted.items) are c.in-Ok.ensures.linked in
-    linked_comes (map input_of c.args.inputs.now) c.args.at (bytes_of c.args.items.now) c.in-Ok.linked.section.items c.in_ok-text-in-Ok.text.items c.in-Ok.linked.kept c.in-Ok.linked.omitted.items
-    linked c.in-Ok.ensures.are_bytes (c.in_ok-text-in-Ok.ensures ∙ ap (report_text c.in-Ok.linked.kept) c.deref-in-Ok.ensures.value)
+    let text : c.in_ok-text-in-Ok.text.items ≡ report_text c.in-Ok.linked.kept c.in-Ok.linked.omitted.items =
+    c.in_ok-text-in-Ok.ensures ∙ ap (report_text c.in-Ok.linked.kept) c.deref-in-Ok.ensures.value in
+    subst (λ (t : List ℕ). LinkComes (map input_of c.args.inputs.now) c.args.at (bytes_of c.args.items.now) (Makes Done (Some c.in-Ok.linked.section.items) t)) (sym text)
+    (linked_comes None (objects_in (map input_of c.args.inputs.now) (bytes_of c.args.items.now)) c.args.at section_and_report
+    c.in-Ok.linked.section.items c.in-Ok.linked.kept c.in-Ok.linked.omitted.items linked c.in-Ok.ensures.are_bytes)

@@ -1,6 +1,6 @@
 use Rattle.std.proofs.Common.{refl, sym, subst}
 use Rattle.sf_words.specs.Parsed.{section_of}
-use Rattle.sf_words.specs.Words.{Link, Merge, Dump, Lookup, IsCommand}
+use Rattle.sf_words.specs.Words.{Link, Merge, Dump, Lookup, Gen, IsCommand}
 use Rattle.sf_words.proofs.command.command_words.Goals as goal
 
 pub returns-in-Some-clause-found : goal.returns-in-Some-clause-found
@@ -21,8 +21,14 @@ returns-in-Some-dump_words-clause-found c wanted asks = subst (IsCommand _) (sym
 pub returns-in-Some-dump_words-clause-named : goal.returns-in-Some-dump_words-clause-named
 returns-in-Some-dump_words-clause-named c = (Dump (section_of c.in-Some-dump_words.section), refl)
 
+pub returns-in-Some-lookup_words-clause-found : goal.returns-in-Some-lookup_words-clause-found
+returns-in-Some-lookup_words-clause-found c wanted asks = subst (IsCommand _) (sym asks) c.in-Some-lookup_words.ensures.found
+
+pub returns-in-Some-lookup_words-clause-named : goal.returns-in-Some-lookup_words-clause-named
+returns-in-Some-lookup_words-clause-named c = (Lookup (section_of c.in-Some-lookup_words.section) c.in-Some-lookup_words.pc, refl)
+
 pub returns-clause-found : goal.returns-clause-found
-returns-clause-found c wanted asks = subst (IsCommand _) (sym asks) c.in_ok-section.ensures.found
+returns-clause-found c wanted asks = subst (IsCommand _) (sym asks) c.in_ok-n.ensures.found
 
 pub returns-clause-named : goal.returns-clause-named
-returns-clause-named c = (Lookup (section_of c.in_ok-section.section) c.in_ok-section.pc, refl)
+returns-clause-named c = (Gen c.in_ok-n.n, refl)

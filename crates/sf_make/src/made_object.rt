@@ -1,0 +1,44 @@
+//! What `gen` makes.
+
+ghost use Rattle.std.specs.Prelude.{◌≤◌};
+ghost use Rattle.sf_make.specs.GenComes.{GenComes};
+ghost use Rattle.sf_make.specs.Making.{ComesTo};
+
+use crate::link::unlinked;
+use crate::made::{Made, Outcome};
+use sf_asm::{Form, Input};
+use sf_gen::object;
+use sf_items::Refusal;
+use sf_link::link;
+use sf_text::summary;
+use std::alloc::Global;
+
+/// Where the sections of the made object are laid out.
+const OBJECT_BASE: u64 = 0x40_0000;
+
+/// Where the section of its link lies.
+const SECTION_ADDRESS: u64 = 0x400_0000;
+
+/// The summary of a link of a made object of `n` functions.
+pub fn gen_made<'a>(alloc: Global, n: u32) -> Result<Made, Refusal<'a>>
+    requires { n ≤ 100000 }
+    ensures { ComesTo (GenComes n) result }
+{
+    let bytes = object(alloc, n)?;
+    let input = Input {
+        form: Form::Elf,
+        bytes: &bytes,
+        base: OBJECT_BASE,
+    };
+    match link(alloc, &[input], SECTION_ADDRESS, None) {
+        Ok(linked) => {
+            let text = summary(alloc, n, linked.kept, linked.omitted.len(), &linked.section)?;
+            Ok(Made {
+                outcome: Outcome::Done,
+                section: None,
+                text,
+            })
+        }
+        Err(fault) => Err(unlinked(&fault)),
+    }
+}
