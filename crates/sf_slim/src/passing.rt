@@ -69,6 +69,7 @@ fn kept_rows(alloc: Global, size: u32, rows: &[Row]) -> Result<Rows, NoMemory>
 }
 
 /// The function with the rows that are needed; those of repeated blocks stay.
+#[inline(always)]
 #[tactic(auto, using(crate::proofs::AllKept::all_stay))]
 pub(crate) fn kept_function(alloc: Global, func: Func) -> Result<Func, NoMemory>
     ensures { IfOk result (λ kept. kept ≡ spec.kept_function func) }
@@ -102,6 +103,7 @@ fn is_in_block(shape: Shape, offset: u32) -> bool
 }
 
 /// Whether a function has a row at some address: its first one begins within it.
+#[inline(always)]
 pub(crate) fn answers(func: &Func) -> bool
     ensures { result ≡ spec.answers func.now }
 {

@@ -31,7 +31,7 @@ pub struct Slimmed {
 fn needed(alloc: Global, ordered: Vec<Located>) -> Result<Vec<Func>, NoMemory>
     ensures { IfOk result (λ needed. needed.items ≡ map pass.kept_function (filter pass.answers (map (λ l. l.func) ordered.items))) }
 {
-    let mut needed = Vec::new(alloc);
+    let mut needed = Vec::with_capacity(alloc, ordered.len())?;
     for located in ordered {
         if answers(&located.func) {
             let func = kept_function(alloc, located.func)?;
