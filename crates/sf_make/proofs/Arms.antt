@@ -1,11 +1,11 @@
 -- What commands make of the bytes of their items is what they come to.
 use Rattle.std.specs.List.{AllZip}
-use Rattle.std.proofs.Common.{◌≡◌, ℕ, List, [], ◌∷◌, length, Option, Some, None, Result, Ok, Err, refl, ap, sym, subst, ◌∙◌, inl, inr}
+use Rattle.std.proofs.Common.{◌≡◌, ℕ, List, [], ◌∷◌, Option, Some, None, Result, Ok, Err, refl, ap, sym, subst, ◌∙◌, inl, inr}
 use Rattle.std.proofs.lemmas.List.{append-nil}
 use Rattle.sf_model.specs.declared.machine.Arch.{Arch}
 use Rattle.sf_model.specs.declared.omission.Omitted.{Omitted}
 use Rattle.sf_model.specs.Section.{AreBytes}
-use Rattle.sf_model.specs.Table.{Table, row_count}
+use Rattle.sf_model.specs.Table.{Table}
 use Rattle.sf_decode.specs.declared.fault.DecodeFault.{DecodeFault}
 use Rattle.sf_decode.specs.Decoding.{section_check}
 use Rattle.sf_asm.specs.declared.fault.LinkFault.{LinkFault}
@@ -57,15 +57,15 @@ unread items k number left tables item later fault refused h are check is tells 
     comes_as (λ (c : Coming). c ≡ coming_of_decoding number fault) (λ (c : Coming). MergeComesAt at items (sections_fault 0 items) c)
     (λ c e. subst (λ (f : Option (ℕ × DecodeFault)). MergeComesAt at items f c) (sym first) (e ∙ ap (λ (n : ℕ). coming_of_decoding n fault) is)) refused tells
 
-pub merged_comes : (at : ℕ) (items : List Item) (tables : List Table) (section text : List ℕ) → sections_fault 0 items ≡ None → AllZip IsSectionOf items tables
-    → AreBytes section → (h : IsMerged tables at section) → text ≡ merged_text (length h.functions) (row_count h.functions) → MergeComesAt at items (sections_fault 0 items) (Makes Done (Some section) text)
-merged_comes at items tables section text checked are bytes h text_is =
+pub merged_comes : (at : ℕ) (items : List Item) (tables : List Table) (section text : List ℕ) (count rows : ℕ) → sections_fault 0 items ≡ None → AllZip IsSectionOf items tables → (h : IsMerged tables at section count rows)
+    → text ≡ merged_text count rows → MergeComesAt at items (sections_fault 0 items) (Makes Done (Some section) text)
+merged_comes at items tables section text count rows checked are h text_is =
     subst (λ (f : Option (ℕ × DecodeFault)). MergeComesAt at items f (Makes Done (Some section) text)) (sym checked) record {
       tables = tables;
       are = are;
       result = Ok h.functions;
       merges = h.are;
-      comes = record { section = section; text = text; are_bytes = bytes; merged = h; text_is = text_is; is = refl };
+      comes = record { section = section; text = text; count = count; rows = rows; merged = h; text_is = text_is; is = refl };
     }
 
 pub unmerged_comes : (at : ℕ) (items : List Item) (tables : List Table) (fault : MergeFault) (refused : Refusal) → sections_fault 0 items ≡ None → AllZip IsSectionOf items tables

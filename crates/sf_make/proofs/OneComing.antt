@@ -72,9 +72,10 @@ one_merged at tables c d some p q =
     let functions : p.merged.functions ≡ q.merged.functions = cc in
     let arch : p.merged.arch ≡ q.merged.arch = one_arch tables some p.merged.arch q.merged.arch p.merged.union.one_machine q.merged.union.one_machine in
     let table : table_of p.merged.arch p.merged.functions ≡ table_of q.merged.arch q.merged.functions = ap (λ (a : Arch). table_of a p.merged.functions) arch ∙ ap (table_of q.merged.arch) functions in
-    let sections = tight_one p.section q.section at (table_of q.merged.arch q.merged.functions) p.are_bytes q.are_bytes
+    let sections = tight_one p.section q.section at (table_of q.merged.arch q.merged.functions) p.merged.are_bytes q.merged.are_bytes
     (subst (Tight p.section at) table p.merged.tight) q.merged.tight (subst (Narrow p.section) table p.merged.narrow) q.merged.narrow in
-    let texts : p.text ≡ q.text = p.text_is ∙ ap (λ (fs : List Func). merged_text (length fs) (row_count fs)) functions ∙ sym q.text_is in
+    let texts : p.text ≡ q.text = p.text_is ∙ ap (λ (n : ℕ). merged_text n p.rows) (p.merged.count_is ∙ ap (λ (fs : List Func). length fs) functions ∙ sym q.merged.count_is)
+    ∙ ap (λ (n : ℕ). merged_text q.count n) (p.merged.rows_are ∙ ap (λ (fs : List Func). row_count fs) functions ∙ sym q.merged.rows_are) ∙ sym q.text_is in
     p.is ∙ ap (λ (s : List ℕ). Makes Done (Some s) p.text) sections ∙ ap (λ (t : List ℕ). Makes Done (Some q.section) t) texts ∙ sym q.is
   where
     one_arch : (tables : List Table) → 0 < length tables → (a b : Arch) → All (λ (t : Table). t.arch ≡ a) tables → All (λ (t : Table). t.arch ≡ b) tables → a ≡ b

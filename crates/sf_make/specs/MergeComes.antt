@@ -1,9 +1,9 @@
 -- What `merge` comes to.
-use Rattle.std.specs.Prelude.{◌≡◌, ◌+◌, ℕ, List, [], ◌∷◌, length, Option, Some, None, Result, Ok, Err}
+use Rattle.std.specs.Prelude.{◌≡◌, ◌+◌, ℕ, List, [], ◌∷◌, Option, Some, None, Result, Ok, Err}
 use Rattle.std.specs.List.{AllZip, zip}
 use Rattle.sf_model.specs.declared.function.Func.{Func}
-use Rattle.sf_model.specs.Section.{AreBytes, Section}
-use Rattle.sf_model.specs.Table.{Table, row_count}
+use Rattle.sf_model.specs.Section.{Section}
+use Rattle.sf_model.specs.Table.{Table}
 use Rattle.sf_decode.specs.declared.fault.DecodeFault.{DecodeFault}
 use Rattle.sf_decode.specs.Decoding.{section_check}
 use Rattle.sf_merge.specs.declared.fault.MergeFault.{MergeFault}
@@ -47,9 +47,10 @@ coming_of_merging fault = Refused (told_of_merging None fault)
 pub record MakesMerge (at : ℕ) (tables : List Table) (coming : Coming) : Type 0 where
   pub section : List ℕ
   pub text : List ℕ
-  pub are_bytes : AreBytes section
-  pub merged : IsMerged tables at section
-  pub text_is : text ≡ merged_text (length merged.functions) (row_count merged.functions)
+  pub count : ℕ
+  pub rows : ℕ
+  pub merged : IsMerged tables at section count rows
+  pub text_is : text ≡ merged_text count rows
   pub is : coming ≡ Makes Done (Some section) text
 
 abbrev pub MergeComesFrom : (at : ℕ) → List Table → Result (List Func) MergeFault → Coming → Type 0

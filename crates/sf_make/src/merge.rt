@@ -2,10 +2,7 @@
 
 ghost use Rattle.std.specs.Prelude.{◌≡◌, ◌<◌, ◌≤◌, ℕ, None, length, map, IfOk, IfErr};
 ghost use Rattle.std.specs.List.{AllZip, zip};
-ghost use Rattle.sf_model.specs.Section.{Section};
-ghost use Rattle.sf_model.specs.Table.{Table, row_count};
 ghost use Rattle.sf_decode.specs.View.{table_of};
-ghost use Rattle.sf_text.specs.Merged.{merged_text};
 ghost use Rattle.sf_words.specs.Parsed.{section_of};
 ghost use Rattle.sf_make.specs.Coming.{Coming};
 ghost use Rattle.sf_make.specs.Making.{ComesAs, ComesTo};
@@ -13,7 +10,6 @@ ghost use Rattle.sf_make.specs.MergeComes.{IsSectionOf, MergeComes, coming_of_me
 
 use crate::made::{Made, Outcome};
 use crate::section::undecoded;
-use sf_base::NoMemory;
 use sf_decode::View;
 use sf_items::{Limit, Refusal};
 use sf_merge::{MergeFault, merge};
@@ -59,15 +55,6 @@ fn views_of<'a, 'b>(
     Ok(views)
 }
 
-/// The text with the counts of a section.
-fn counts_of(alloc: Global, section: &[u8], at: u64) -> Result<Vec<u8>, NoMemory>
-    requires { (table : Table) × Section section.now at table }
-    ensures { IfOk result (λ text. (table : Table) → Section section.now at table → text.items ≡ merged_text (length table.functions) (row_count table.functions)) }
-{
-    let view = View::parse(section, at).unwrap();
-    merged(alloc, view.len(), view.row_count())
-}
-
 /// The merged section of these bytes.
 pub fn merge_made<'a>(
     alloc: Global,
@@ -82,11 +69,11 @@ pub fn merge_made<'a>(
 {
     let views = views_of(alloc, sections, items)?;
     match merge(alloc, &views, at) {
-        Ok(section) => {
-            let text = counts_of(alloc, &section, at)?;
+        Ok(union) => {
+            let text = merged(alloc, union.functions, union.rows)?;
             Ok(Made {
                 outcome: Outcome::Done,
-                section: Some(section),
+                section: Some(union.section),
                 text,
             })
         }

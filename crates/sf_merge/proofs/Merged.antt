@@ -11,6 +11,7 @@ use Rattle.std.proofs.lemmas.List.Sums.{sum_by-append, sum_by-cons}
 use Rattle.sf_model.specs.declared.machine.Arch.{Arch}
 use Rattle.sf_model.specs.declared.function.Func.{Func}
 use Rattle.sf_model.specs.Function.{AreWritable, IsWritable}
+use Rattle.sf_model.specs.Section.{AreBytes}
 use Rattle.sf_model.specs.Table.{Table, row_count}
 use Rattle.sf_model.specs.Tight.{Narrow, Tight}
 use Rattle.sf_model.specs.Union.{all_functions, is_of_use}
@@ -91,12 +92,15 @@ comes_to tables at ordered mixed limits order overlaps reach =
 
 pub merged : (arch : Arch) (tables : List Table) (at : ℕ) (section : List ℕ) (ordered : List Located) → All (λ (table : Table). table.arch ≡ arch) tables → mixed_fault tables ≡ None → limits_fault tables ≡ None
     → InOrder (sized tables) ordered → overlap_fault ordered ≡ None → first_out_of_reach at 0 (written ordered) ≡ None → Tight section at (table_of arch (written ordered)) → Narrow section (table_of arch (written ordered))
-    → IsMerged tables at section
-merged arch tables at section ordered machines mixed limits order overlaps reach tight narrow = record {
+    → AreBytes section → IsMerged tables at section (length (written ordered)) (row_count (written ordered))
+merged arch tables at section ordered machines mixed limits order overlaps reach tight narrow bytes = record {
   arch = arch;
   functions = written ordered;
   are = comes_to tables at ordered mixed limits order overlaps reach;
   union = united arch tables ordered machines order overlaps;
   tight = tight;
   narrow = narrow;
+  are_bytes = bytes;
+  count_is = refl;
+  rows_are = refl;
 }

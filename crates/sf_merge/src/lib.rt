@@ -28,7 +28,7 @@ pub use fault::MergeFault;
 pub use joining::join;
 pub use laws::{merged_sections_answer_alike, merging_comes_to_one_result};
 pub use located::{Located, Rank};
-pub use merging::merge;
+pub use merging::{MergedSection, merge};
 pub use reading::in_order;
 
 #[cfg(test)]

@@ -129,7 +129,7 @@ fn merged(
     for (section, address) in sections {
         views.push(View::parse(section, *address).ok().ok_or("a section")?)?;
     }
-    Ok(merge(alloc, &views, at))
+    Ok(merge(alloc, &views, at).map(|merged| merged.section))
 }
 
 /// A section that is merged alone.

@@ -1,7 +1,9 @@
-use Rattle.std.proofs.Common.{◌≡◌, None, List, map, sym, subst, ◌∙◌}
+use Rattle.std.proofs.Common.{◌≡◌, None, ℕ, List, length, map, ap, sym, subst, ◌∙◌, arith}
 use Rattle.sf_model.specs.Function.{AreWritable}
 use Rattle.sf_model.specs.declared.function.Func.{Func}
+use Rattle.sf_model.specs.Table.{row_count}
 use Rattle.sf_decode.specs.View.{table_of}
+use Rattle.sf_merge.specs.Answers.{IsMerged}
 use Rattle.sf_merge.specs.Merging.{limits_fault, overlap_fault, written}
 use Rattle.sf_merge.proofs.Merged.{are_writable, merged, no_fault}
 use Rattle.sf_merge.proofs.Sound.{all_sound}
@@ -29,5 +31,11 @@ pub returns-in-Ok-clause-merged : goal.returns-in-Ok-clause-merged
 returns-in-Ok-clause-merged c =
     let before = (goal.at.returns-in-Ok-clause-merged c).After-deref-2 in
     let written_is = rw (functions before) at c.in-Ok.ensures in
-    merged c.in_ok-arch.arch (map table_of c.args.views.now) c.args.at c.in-Ok.section.items c.in_ok-ordered.ordered.items c.in_ok-arch.ensures.one c.in_ok-arch.ensures.none (limits before)
-    c.in_ok-ordered.ensures.order (overlaps before) written_is.in_reach written_is.tight written_is.narrow
+    let items = written c.in_ok-ordered.ordered.items in
+    let whole = merged c.in_ok-arch.arch (map table_of c.args.views.now) c.args.at c.in-Ok.section.items c.in_ok-ordered.ordered.items c.in_ok-arch.ensures.one c.in_ok-arch.ensures.none (limits before)
+    c.in_ok-ordered.ensures.order (overlaps before) written_is.in_reach written_is.tight written_is.narrow c.in-Ok.ensures.are_bytes in
+    let as_long : length c.in_ok-functions.functions.items ≡ length items = ap (λ (fs : List Func). length fs) c.in_ok-functions.ensures in
+    let count : c.len.result ≡ length items = omega (arith, c.len.ensures, c.in_ok-functions.functions.ok.0, as_long) in
+    let rows : c.count_rows.result ≡ row_count items = c.count_rows.ensures ∙ ap (λ (fs : List Func). row_count fs) (c.deref-in-Ok.ensures.value ∙ c.in_ok-functions.ensures) in
+    subst (λ (n : ℕ). IsMerged (map table_of c.args.views.now) c.args.at c.in-Ok.section.items n c.count_rows.result) (sym count)
+    (subst (λ (n : ℕ). IsMerged (map table_of c.args.views.now) c.args.at c.in-Ok.section.items (length items) n) (sym rows) whole)
