@@ -9,8 +9,7 @@
 //! `fault_line`, and nothing to the others.
 //!
 //! `report`, `merged`, `dump`, `found`, `thread_text` and `summary` build their text in one growing buffer, in
-//! the time of its length;
-//! they fail for memory alone. `fault_line` and `file_limit_line` take no memory.
+//! the time of its length; they fail for memory alone. `fault_line` and `file_limit_line` take no memory.
 #![tactic(auto)]
 
 mod content;
