@@ -19,6 +19,8 @@ pub enum Limit {
     Functions,
     /// The rows of a run.
     Rows,
+    /// The threads of a core file.
+    Threads,
 }
 
 /// Why nothing was made.

@@ -6,3 +6,4 @@ pub mod Merged
 pub mod OneComing
 pub mod Order
 pub mod SomeComing
+pub mod Walks

@@ -12,12 +12,15 @@ use Rattle.sf_model.proofs.TightOne.{tight_one}
 use Rattle.sf_write.specs.Section.{table_of}
 use Rattle.sf_decode.specs.declared.fault.DecodeFault.{DecodeFault}
 use Rattle.sf_decode.specs.Decoding.{section_check}
+use Rattle.elf_read.specs.Header.{arch_of}
+use Rattle.core_notes.specs.declared.fault.CoreFault.{CoreFault}
+use Rattle.core_notes.specs.Checks.{core_check}
 use Rattle.sf_asm.specs.declared.entry.Entry.{Entry}
 use Rattle.sf_asm.specs.declared.fault.LinkFault.{LinkFault}
 use Rattle.sf_asm.specs.Answers.{IsLinked}
 use Rattle.sf_asm.specs.Entry.{kept_of, omitted_of}
 use Rattle.sf_asm.specs.Functions.{Function, Object}
-use Rattle.sf_asm.specs.Inputs.{HaveMachine}
+use Rattle.sf_asm.specs.Inputs.{HaveMachine, is_same}
 use Rattle.sf_asm.specs.Kept.{entry_of}
 use Rattle.sf_asm.specs.Linking.{InOrder}
 use Rattle.sf_asm.proofs.OneOrder.{one_order, one_result}
@@ -37,9 +40,10 @@ use Rattle.sf_make.specs.LinkComes.{objects_in, section_and_report}
 use Rattle.sf_make.specs.Linked.{LinkedComes, LinkedComesFrom, Makings, MakesLinked}
 use Rattle.sf_make.specs.MergeComes.{Item, IsSectionOf, MergeComesAt, MergeComesFrom, MakesMerge, TablesCome, sections_fault}
 use Rattle.sf_make.specs.SectionComes.{SectionComesFrom, MakesShown, Shows}
+use Rattle.sf_make.specs.WalkComes.{WalkComesFrom, coming_of_walks, table_walks}
 use Rattle.std.proofs.lemmas.List.{length-map}
 use Rattle.sf_words.specs.Items.{input_item, section_item}
-use Rattle.sf_words.specs.Words.{CommandWords, Link, Merge, Dump, Lookup, Gen, SectionWords, InputWords}
+use Rattle.sf_words.specs.Words.{CommandWords, Link, Merge, Dump, Lookup, Walk, Gen, SectionWords, InputWords}
 
 -- ---- dump and lookup
 shows_one : (query : Query) (table : Table) (a b : Outcome) (s t : List ℕ) → Shows query table a s → Shows query table b t → (a ≡ b) × (s ≡ t)
@@ -55,6 +59,14 @@ one_shown at bytes query c d p q =
 one_section : (at : ℕ) (bytes : List ℕ) (query : Query) (check : Result (Unit {0}) DecodeFault) (c d : Coming) → SectionComesFrom at bytes query check c → SectionComesFrom at bytes query check d → c ≡ d
 one_section at bytes query (Err fault) c d p q = p ∙ sym q
 one_section at bytes query (Ok u) c d p q = one_shown at bytes query c d p q
+
+-- ---- walk
+one_walk : (at : ℕ) (section core : List ℕ) (depth : ℕ) (check : Result (Unit {0}) DecodeFault) (second : Result (Unit {0}) CoreFault) (c d : Coming) → WalkComesFrom at section core depth check second c → WalkComesFrom at section core depth check second d → c ≡ d
+one_walk at section core depth (Err fault) second c d p q = p ∙ sym q
+one_walk at section core depth (Ok u) (Err fault) c d p q = p ∙ sym q
+one_walk at section core depth (Ok u) (Ok v) c d p q =
+    let tables = table_same section at p.table q.table p.of_bytes q.of_bytes in
+    p.is ∙ ap (λ (t : Table). coming_of_walks (is_same t.arch (arch_of core)) (table_walks t core depth)) tables ∙ sym q.is
 
 -- ---- merge
 one_list : (items : List Item) (one other : List Table) → AllZip IsSectionOf items one → AllZip IsSectionOf items other → one ≡ other
@@ -153,6 +165,8 @@ one_command (Merge merge) items c d are p q =
     one_merge_coming merge.out.at merge.sections items (sections_fault 0 (zip merge.sections items)) c d (omega (arith, count, are.asked)) count p q
 one_command (Dump section) items c d are p q = one_section section.at (get_or items 0 []) Whole (section_check (get_or items 0 []) section.at) c d p q
 one_command (Lookup section pc) items c d are p q = one_section section.at (get_or items 0 []) (RowAt pc) (section_check (get_or items 0 []) section.at) c d p q
+one_command (Walk walk) items c d are p q =
+    one_walk walk.section.at (get_or items 0 []) (get_or items 1 []) walk.depth (section_check (get_or items 0 []) walk.section.at) (core_check (get_or items 1 [])) c d p q
 one_command (Gen n) items c d are p q = one_link None (made_object n ∷ []) 0x4000000 (summary_alone n) c d (omega arith) p q
 
 one_within : (limit : Option Limit) (Then : Coming → Type 0) → ((c d : Coming) → Then c → Then d → c ≡ d) → (c d : Coming) → ComesWithin limit Then c → ComesWithin limit Then d → c ≡ d

@@ -6,3 +6,4 @@ pub mod Linked
 pub mod Making
 pub mod MergeComes
 pub mod SectionComes
+pub mod WalkComes

@@ -12,6 +12,7 @@ mod made_object;
 mod making;
 mod merge;
 mod section;
+mod walk;
 
 pub use laws::{
     a_run_comes_to_one, a_shown_section_comes_to_something, linking_comes_to_a_result,

@@ -5,7 +5,7 @@ use Rattle.sf_base.specs.Seen.{SinkSeen}
 use Rattle.sf_base.specs.Written.{Appends, AppendsPrefix}
 use Rattle.sf_text.specs.Merged.{file_limit_text}
 use Rattle.sf_items.specs.declared.refusal.Limit.{Limit}
-use Rattle.sf_items.specs.declared.refusal.Limit.TheVariants.{Inputs, File, Total, Functions, Rows}
+use Rattle.sf_items.specs.declared.refusal.Limit.TheVariants.{Inputs, File, Total, Functions, Rows, Threads}
 
 -- a text and a line feed
 abbrev pub line : List ℕ → List ℕ
@@ -31,13 +31,14 @@ write_output_line = line (codes "write output")
 abbrev pub memory_line : List ℕ
 memory_line = line (codes "memory")
 
--- what is exceeded: the number of items, the bytes of this one, the bytes of all, the functions, or the rows
+-- what is exceeded: the number of items, the bytes of this one, the bytes of all, the functions, the rows, or the threads of a core
 abbrev pub limit_line : Limit → List ℕ
 limit_line Inputs = line (codes "limit inputs")
 limit_line (File item) = file_limit_text item
 limit_line Total = line (codes "limit total")
 limit_line Functions = line (codes "limit functions")
 limit_line Rows = line (codes "limit rows")
+limit_line Threads = line (codes "limit threads")
 
 -- the sink got the line, or a prefix of it where its count of faults rose
 abbrev pub Says : (before after : SinkSeen) → (line : List ℕ) → Type 0

@@ -21,6 +21,7 @@ fn say_limit<E: Sink>(limit: Limit, err: &mut E)
         Limit::Total => say(err, "limit ", "total"),
         Limit::Functions => say(err, "limit ", "functions"),
         Limit::Rows => say(err, "limit ", "rows"),
+        Limit::Threads => say(err, "limit ", "threads"),
     }
 }
 

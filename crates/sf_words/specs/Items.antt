@@ -3,7 +3,7 @@ use Rattle.std.specs.Prelude.{◌^◌, ℕ, List, [], ◌∷◌, map, length}
 use Rattle.sf_words.specs.declared.item.Item.{Item}
 use Rattle.sf_words.specs.declared.item.ItemKind.{ItemKind}
 use Rattle.sf_words.specs.declared.item.ItemKind.TheVariants.{Input, Section, Core}
-use Rattle.sf_words.specs.Words.{CommandWords, Link, Merge, Dump, Lookup, Gen, InputWords, SectionWords}
+use Rattle.sf_words.specs.Words.{CommandWords, Link, Merge, Dump, Lookup, Walk, Gen, InputWords, SectionWords}
 
 -- a file that a command reads: its name and its kind
 pub record ItemWords : Type 0 where
@@ -31,12 +31,16 @@ input_item input = record { name = input.name; kind = Input }
 abbrev pub section_item : SectionWords → ItemWords
 section_item section = record { name = section.name; kind = Section }
 
+abbrev pub core_item : (name : List ℕ) → ItemWords
+core_item name = record { name = name; kind = Core }
+
 -- the files that a command reads, in order
 abbrev pub items_of : CommandWords → List ItemWords
 items_of (Link link) = map input_item link.inputs
 items_of (Merge merge) = map section_item merge.sections
 items_of (Dump section) = section_item section ∷ []
 items_of (Lookup section pc) = section_item section ∷ []
+items_of (Walk walk) = section_item walk.section ∷ core_item walk.core ∷ []
 items_of (Gen n) = []
 
 -- how many files a command's list names, for the limit of 512
@@ -45,6 +49,7 @@ counted_items (Link link) = length link.inputs
 counted_items (Merge merge) = length merge.sections
 counted_items (Dump section) = 1
 counted_items (Lookup section pc) = 1
+counted_items (Walk walk) = 1
 counted_items (Gen n) = 0
 
 -- the names of these files

@@ -12,7 +12,8 @@ use Rattle.sf_words.specs.declared.command.MergeCommand.{MergeCommand}
 use Rattle.sf_words.specs.declared.command.Command.{Command}
 use Rattle.sf_words.specs.declared.command.Command.TheVariants as command
 use Rattle.sf_words.specs.declared.words.SectionFile.{SectionFile}
-use Rattle.sf_words.specs.Words.{InputWords, LinkWords, MergeWords, SectionWords, CommandWords, IsInputWord, IsSectionWord, Link as LinkOf, Merge as MergeOf, Dump, Lookup, Gen}
+use Rattle.sf_words.specs.declared.command.WalkFiles.{WalkFiles}
+use Rattle.sf_words.specs.Words.{InputWords, LinkWords, MergeWords, SectionWords, CommandWords, IsInputWord, IsSectionWord, Link as LinkOf, Merge as MergeOf, Dump, Lookup, Walk, Gen, WalkWords}
 
 abbrev pub input_of : InputFile → InputWords
 input_of input = record { form = input.form; name = input.name.now; base = input.base }
@@ -26,11 +27,15 @@ link_of link = record { out = section_of link.out; inputs = map input_of link.in
 abbrev pub merge_of : Merge → MergeWords
 merge_of merge = record { out = section_of merge.out; sections = map section_of merge.sections.items }
 
+abbrev pub walk_of : WalkFiles → WalkWords
+walk_of walk = record { section = section_of walk.section; core = walk.core.now; depth = walk.depth }
+
 abbrev pub words_of : Asked → CommandWords
 words_of (asked.Link link) = LinkOf (link_of link)
 words_of (asked.Merge merge) = MergeOf (merge_of merge)
 words_of (asked.Dump section) = Dump (section_of section)
 words_of (asked.Lookup section pc) = Lookup (section_of section) pc
+words_of (asked.Walk walk) = Walk (walk_of walk)
 words_of (asked.Gen n) = Gen n
 
 -- words that are split, and what they ask for
@@ -47,4 +52,5 @@ Asks (command.Link split) wanted = (link : LinkWords) × (wanted ≡ LinkOf link
 Asks (command.Merge split) wanted = (merge : MergeWords) × (wanted ≡ MergeOf merge) × AsksMerge split merge
 Asks (command.Dump section) wanted = wanted ≡ Dump (section_of section)
 Asks (command.Lookup section pc) wanted = wanted ≡ Lookup (section_of section) pc
+Asks (command.Walk walk) wanted = wanted ≡ Walk (walk_of walk)
 Asks (command.Gen n) wanted = wanted ≡ Gen n

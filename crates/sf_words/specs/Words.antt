@@ -90,6 +90,27 @@ pub record IsLookup (words : List (List ℕ)) (section : SectionWords) (pc : ℕ
   pub named : IsSectionWord section_word section
   pub address : SpellsHexadecimal address_word pc
 
+-- how many frames of a thread may be asked for: 1 to 1024
+pub record IsDepth (depth : ℕ) : Type 0 where
+  pub some : 0 < depth
+  pub most : depth ≤ 1024
+
+-- what is asked of `walk`: the section's file and address, the core file's name, and the most frames of a thread
+pub record WalkWords : Type 0 where
+  pub section : SectionWords
+  pub core : List ℕ
+  pub depth : ℕ
+
+-- the words ask for these walks: the name of the core file is a whole word, and is not empty
+pub record IsWalk (words : List (List ℕ)) (walk : WalkWords) : Type 0 where
+  pub section_word : List ℕ
+  pub depth_word : List ℕ
+  pub words_are : words ≡ codes "walk" ∷ section_word ∷ walk.core ∷ depth_word ∷ []
+  pub section : IsSectionWord section_word walk.section
+  pub named : 0 < length walk.core
+  pub depth : SpellsDecimal depth_word walk.depth
+  pub within : IsDepth walk.depth
+
 -- how many functions a made object may have: 1 to 100000
 pub record IsFunctionCount (n : ℕ) : Type 0 where
   pub some : 0 < n
@@ -108,6 +129,7 @@ pub data CommandWords : Type 0 where
   Merge : MergeWords → CommandWords
   Dump : SectionWords → CommandWords
   Lookup : SectionWords → (pc : ℕ) → CommandWords
+  Walk : WalkWords → CommandWords
   Gen : (n : ℕ) → CommandWords
 
 -- the words ask for this
@@ -116,6 +138,7 @@ IsCommand words (Link link) = IsLink words link
 IsCommand words (Merge merge) = IsMerge words merge
 IsCommand words (Dump section) = IsDump words section
 IsCommand words (Lookup section pc) = IsLookup words section pc
+IsCommand words (Walk walk) = IsWalk words walk
 IsCommand words (Gen n) = IsGen words n
 
 -- what each form says of the command that it asks for: a list that names one file at least, and a number within its range
@@ -124,6 +147,7 @@ CanBeAsked (Link link) = 0 < length link.inputs
 CanBeAsked (Merge merge) = 0 < length merge.sections
 CanBeAsked (Dump section) = Unit {0}
 CanBeAsked (Lookup section pc) = Unit {0}
+CanBeAsked (Walk walk) = IsDepth walk.depth
 CanBeAsked (Gen n) = IsFunctionCount n
 
 -- the name of the file that a command makes
@@ -132,6 +156,7 @@ out_name (Link link) = Some link.out.name
 out_name (Merge merge) = Some merge.out.name
 out_name (Dump section) = None
 out_name (Lookup section pc) = None
+out_name (Walk walk) = None
 out_name (Gen n) = None
 
 -- the words have none of the forms

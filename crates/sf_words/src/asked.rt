@@ -1,11 +1,11 @@
 //! What a command line asks for, with each of its words read.
 
-ghost use Rattle.std.specs.Prelude.{◌≡◌, List, map, IfOk};
-ghost use Rattle.sf_words.specs.Items.{items_of, item_of, input_item, section_item};
+ghost use Rattle.std.specs.Prelude.{◌≡◌, List, [], ◌∷◌, map, IfOk};
+ghost use Rattle.sf_words.specs.Items.{items_of, item_of, core_item, input_item, section_item};
 ghost use Rattle.sf_words.specs.Parsed.{Asks, input_of, section_of, words_of};
 ghost use Rattle.sf_words.specs.Words.{CommandWords};
 
-use crate::command::Command;
+use crate::command::{Command, WalkFiles};
 use crate::item::{Item, ItemKind};
 use crate::lists::{inputs_of, sections_of};
 use crate::words::{InputFile, SectionFile};
@@ -37,6 +37,8 @@ pub enum Asked<'a> {
     Dump(SectionFile<'a>),
     /// `lookup FILE@AT PC`
     Lookup(SectionFile<'a>, u64),
+    /// `walk FILE@AT CORE DEPTH`
+    Walk(WalkFiles<'a>),
     /// `gen N`
     Gen(u32),
 }
@@ -60,6 +62,7 @@ pub fn read_words<'a>(alloc: Global, command: &Command<'a>) -> Result<Asked<'a>,
         })),
         Command::Dump(section) => Ok(Asked::Dump(*section)),
         Command::Lookup(section, pc) => Ok(Asked::Lookup(*section, *pc)),
+        Command::Walk(walk) => Ok(Asked::Walk(*walk)),
         Command::Gen(n) => Ok(Asked::Gen(*n)),
     }
 }
@@ -78,18 +81,36 @@ fn input_items<'a>(alloc: Global, inputs: &[InputFile<'a>]) -> Result<Vec<Item<'
     Ok(items)
 }
 
+/// A section, as an item.
+fn section_item<'a>(section: &SectionFile<'a>) -> Item<'a>
+    ensures { item_of result ≡ section_item (section_of section.now) }
+{
+    Item {
+        name: section.name,
+        kind: ItemKind::Section,
+    }
+}
+
 /// The sections, as items.
 fn section_items<'a>(alloc: Global, sections: &[SectionFile<'a>]) -> Result<Vec<Item<'a>>, NoMemory>
     ensures { IfOk result (λ items. map item_of items.items ≡ map section_item (map section_of sections.now)) }
 {
     let mut items = Vec::new(alloc);
     for section in sections {
-        items.push(Item {
-            name: section.name,
-            kind: ItemKind::Section,
-        })?;
+        items.push(section_item(section))?;
     }
     Ok(items)
+}
+
+/// The section and the core file, as items.
+fn walk_items<'a>(alloc: Global, walk: &WalkFiles<'a>) -> Result<Vec<Item<'a>>, NoMemory>
+    ensures { IfOk result (λ items. map item_of items.items ≡ section_item (section_of walk.now.section) ∷ core_item walk.now.core.now ∷ []) }
+{
+    let core = Item {
+        name: walk.core,
+        kind: ItemKind::Core,
+    };
+    Ok(vec![in alloc; section_item(&walk.section), core]?)
 }
 
 /// The files that a command reads, in order.
@@ -104,6 +125,7 @@ pub fn items<'a>(alloc: Global, asked: &Asked<'a>) -> Result<Vec<Item<'a>>, NoMe
         Asked::Link(link) => input_items(alloc, &link.inputs),
         Asked::Merge(merge) => section_items(alloc, &merge.sections),
         Asked::Dump(section) | Asked::Lookup(section, _) => section_items(alloc, &[*section]),
+        Asked::Walk(walk) => walk_items(alloc, walk),
         Asked::Gen(_) => Ok(Vec::new(alloc)),
     }
 }

@@ -4,9 +4,9 @@ ghost use Rattle.std.specs.Prelude.{◌≡◌, ◌<◌, ◌≤◌, ℕ, [], ◌�
 ghost use Rattle.std.specs.Option.{option_map};
 ghost use Rattle.std.specs.String.{string_bytes};
 ghost use Rattle.sf_base.specs.Word.{SpellsDecimal};
-ghost use Rattle.sf_words.specs.Words.{IsLink, IsMerge, IsDump, IsLookup, IsGen, IsCommand, LinkWords, MergeWords, SectionWords, CommandWords, out_name};
+ghost use Rattle.sf_words.specs.Words.{IsLink, IsMerge, IsDump, IsLookup, IsWalk, IsGen, IsCommand, LinkWords, MergeWords, SectionWords, WalkWords, CommandWords, out_name};
 ghost use Rattle.sf_words.specs.Items.{counted_items};
-ghost use Rattle.sf_words.specs.Parsed.{section_of, Asks, AsksLink, AsksMerge};
+ghost use Rattle.sf_words.specs.Parsed.{section_of, walk_of, Asks, AsksLink, AsksMerge};
 
 use crate::lists::{are_inputs, are_sections};
 use crate::words::{SectionFile, section_file};
@@ -14,6 +14,9 @@ use sf_base::{dec_word, hex_word};
 
 /// The most functions of a made object.
 const MOST_FUNCTIONS: u32 = 100_000;
+
+/// The most frames of a thread.
+const MOST_FRAMES: u32 = 1024;
 
 /// The words of `link OUT@AT IN@BASE ..`.
 #[derive(Clone, Copy)]
@@ -31,6 +34,16 @@ pub struct MergeCommand<'a> {
     pub sections: &'a [String],
 }
 
+/// The words of `walk FILE@AT CORE DEPTH`.
+#[derive(Clone, Copy)]
+pub struct WalkFiles<'a> {
+    pub section: SectionFile<'a>,
+    /// The name of the core file.
+    pub core: &'a str,
+    /// The most frames of a thread.
+    pub depth: u32,
+}
+
 /// A command line that has one of the forms. It lends its words: reading them takes no memory.
 #[derive(Clone, Copy)]
 pub enum Command<'a> {
@@ -42,6 +55,8 @@ pub enum Command<'a> {
     Dump(SectionFile<'a>),
     /// `lookup FILE@AT PC`
     Lookup(SectionFile<'a>, u64),
+    /// `walk FILE@AT CORE DEPTH`
+    Walk(WalkFiles<'a>),
     /// `gen N`
     Gen(u32),
 }
@@ -54,7 +69,7 @@ impl<'a> Command<'a> {
         match self {
             Command::Link(link) => link.inputs.len(),
             Command::Merge(merge) => merge.sections.len(),
-            Command::Dump(_) | Command::Lookup(_, _) => 1,
+            Command::Dump(_) | Command::Lookup(_, _) | Command::Walk(_) => 1,
             Command::Gen(_) => 0,
         }
     }
@@ -66,7 +81,8 @@ impl<'a> Command<'a> {
         match self {
             Command::Link(link) => Some(link.out.name),
             Command::Merge(merge) => Some(merge.out.name),
-            Command::Dump(_) | Command::Lookup(_, _) | Command::Gen(_) => None,
+            Command::Dump(_) | Command::Lookup(_, _) => None,
+            Command::Walk(_) | Command::Gen(_) => None,
         }
     }
 }
@@ -89,6 +105,22 @@ fn three_words(words: &[String]) -> Option<(&str, &str, &str)>
 {
     match words {
         [first, second, third] => Some((first.as_str(), second.as_str(), third.as_str())),
+        _ => None,
+    }
+}
+
+/// The four words, where there are four.
+fn four_words(words: &[String]) -> Option<(&str, &str, &str, &str)>
+    ensures found { IfSome result (λ t. map string_bytes words.now ≡ t.0.now ∷ t.1.now ∷ t.2.now ∷ t.3.now ∷ []) }
+    ensures only { (a b c d : List ℕ) → map string_bytes words.now ≡ a ∷ b ∷ c ∷ d ∷ [] → IsSome result }
+{
+    match words {
+        [first, second, third, fourth] => Some((
+            first.as_str(),
+            second.as_str(),
+            third.as_str(),
+            fourth.as_str(),
+        )),
         _ => None,
     }
 }
@@ -175,6 +207,27 @@ fn number_up_to(word: &str, most: u32) -> Option<u32>
     Some(number)
 }
 
+/// The section, the core file and the depth, where the words have the form `walk FILE@AT CORE DEPTH`.
+fn walk_words(words: &[String]) -> Option<WalkFiles<'_>>
+    ensures found { IfSome result (λ w. IsWalk (map string_bytes words.now) (walk_of w)) }
+    ensures only { (walk : WalkWords) → IsWalk (map string_bytes words.now) walk → IsSomeAnd result (λ w. walk_of w ≡ walk) }
+{
+    let (command, section, core, depth) = four_words(words)?;
+    if command != "walk" {
+        return None;
+    }
+    let section = section_file(section)?;
+    if core.is_empty() {
+        return None;
+    }
+    let depth = number_up_to(depth, MOST_FRAMES)?;
+    Some(WalkFiles {
+        section,
+        core,
+        depth,
+    })
+}
+
 /// The number of functions, where the words have the form `gen N`.
 fn gen_words(words: &[String]) -> Option<u32>
     ensures found { IfSome result (λ n. IsGen (map string_bytes words.now) n) }
@@ -204,6 +257,9 @@ pub fn command_words(words: &[String]) -> Option<Command<'_>>
     }
     if let Some((section, pc)) = lookup_words(words) {
         return Some(Command::Lookup(section, pc));
+    }
+    if let Some(walk) = walk_words(words) {
+        return Some(Command::Walk(walk));
     }
     let n = gen_words(words)?;
     Some(Command::Gen(n))

@@ -1,14 +1,16 @@
-use Rattle.std.proofs.Common.{◌≡◌, List, None, length, map, sym, subst, arith}
+use Rattle.std.proofs.Common.{Vec, Global, ◌≡◌, ℕ, List, None, length, get_or, map, ap, sym, subst, ◌∙◌, arith}
+use Rattle.std.proofs.Math.ListN.{get_or-map}
 use Rattle.std.proofs.lemmas.List.{length-map}
 use Rattle.sf_items.specs.Loading.{items_limit}
 use Rattle.sf_words.specs.declared.asked.Asked.{Asked}
 use Rattle.sf_words.specs.declared.asked.Asked.TheVariants as asked
 use Rattle.sf_words.specs.declared.words.InputFile.{InputFile}
 use Rattle.sf_words.specs.Items.{input_item, items_of, section_item}
-use Rattle.sf_words.specs.Parsed.{input_of, section_of, words_of}
+use Rattle.sf_words.specs.Parsed.{input_of, section_of, walk_of, words_of}
 use Rattle.sf_make.specs.Comes.{command_limit}
 use Rattle.sf_make.proofs.Limits.{within_limits}
 use Rattle.sf_make.proofs.Linked.{bytes_of}
+use Rattle.sf_make.proofs.Walks.{core_short}
 use Rattle.sf_make.proofs.making.make.Goals as goal
 
 pub link_made-requires-clause-few : goal.link_made-requires-clause-few
@@ -34,3 +36,15 @@ merge_made-requires-clause-few c =
     let sections = length-map (map section_of c.in-Merge.merge.sections.items) section_item in
     let items = length-map c.args.items.now (λ v. v.items) in
     omega (arith, limits.0, count, sections, items)
+
+pub walk_made-requires : goal.walk_made-requires
+walk_made-requires c =
+    let within = subst (λ (a : Asked). command_limit (words_of a) (bytes_of c.args.items.now) ≡ None) c.in-Walk.is c.requires.within in
+    let limits = within_limits (words_of (asked.Walk c.in-Walk.walk)) (bytes_of c.args.items.now) within in
+    let count = subst (λ (a : Asked). length (bytes_of c.args.items.now) ≡ length (items_of (words_of a))) c.in-Walk.is c.requires.items.count in
+    let core = c.index-items-1.result in
+    let short = core_short (walk_of c.in-Walk.walk) (bytes_of c.args.items.now) core.items count limits.1 in
+    let second : c.deref-in-Walk-2.result.now ≡ get_or (bytes_of c.args.items.now) 1 core.items =
+    c.deref-in-Walk-2.ensures.value ∙ ap (λ (v : Vec ℕ Global). v.items) c.index-items-1.is ∙ sym (get_or-map (λ (v : Vec ℕ Global). v.items) c.args.items.now 1 core) in
+    let long = ap length second in
+    omega (arith, long, short)

@@ -11,3 +11,9 @@ returns-in-Total g c = subst (λ (limit : Limit). Says (g.E.Sink.seen c.args.err
 
 pub returns-in-Functions : goal.returns-in-Functions
 returns-in-Functions g c = subst (λ (limit : Limit). Says (g.E.Sink.seen c.args.err.now) (g.E.Sink.seen c.say-in-Functions.new.sink) (limit_line limit)) (sym c.in-Functions.is) c.say-in-Functions.ensures
+
+pub returns-in-Rows : goal.returns-in-Rows
+returns-in-Rows g c = subst (λ (limit : Limit). Says (g.E.Sink.seen c.args.err.now) (g.E.Sink.seen c.say-in-Rows.new.sink) (limit_line limit)) (sym c.in-Rows.is) c.say-in-Rows.ensures
+
+pub returns-in-Threads : goal.returns-in-Threads
+returns-in-Threads g c = subst (λ (limit : Limit). Says (g.E.Sink.seen c.args.err.now) (g.E.Sink.seen c.say-in-Threads.new.sink) (limit_line limit)) (sym c.in-Threads.is) c.say-in-Threads.ensures

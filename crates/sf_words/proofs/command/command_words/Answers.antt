@@ -1,6 +1,6 @@
 use Rattle.std.proofs.Common.{refl, sym, subst}
-use Rattle.sf_words.specs.Parsed.{section_of}
-use Rattle.sf_words.specs.Words.{Link, Merge, Dump, Lookup, Gen, IsCommand}
+use Rattle.sf_words.specs.Parsed.{section_of, walk_of}
+use Rattle.sf_words.specs.Words.{Link, Merge, Dump, Lookup, Walk, Gen, IsCommand}
 use Rattle.sf_words.proofs.command.command_words.Goals as goal
 
 pub returns-in-Some-clause-found : goal.returns-in-Some-clause-found
@@ -26,6 +26,12 @@ returns-in-Some-lookup_words-clause-found c wanted asks = subst (IsCommand _) (s
 
 pub returns-in-Some-lookup_words-clause-named : goal.returns-in-Some-lookup_words-clause-named
 returns-in-Some-lookup_words-clause-named c = (Lookup (section_of c.in-Some-lookup_words.section) c.in-Some-lookup_words.pc, refl)
+
+pub returns-in-Some-walk_words-clause-found : goal.returns-in-Some-walk_words-clause-found
+returns-in-Some-walk_words-clause-found c wanted asks = subst (IsCommand _) (sym asks) c.in-Some-walk_words.ensures.found
+
+pub returns-in-Some-walk_words-clause-named : goal.returns-in-Some-walk_words-clause-named
+returns-in-Some-walk_words-clause-named c = (Walk (walk_of c.in-Some-walk_words.walk), refl)
 
 pub returns-clause-found : goal.returns-clause-found
 returns-clause-found c wanted asks = subst (IsCommand _) (sym asks) c.in_ok-n.ensures.found

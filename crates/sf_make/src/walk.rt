@@ -1,0 +1,99 @@
+//! What `walk` makes.
+
+ghost use Rattle.std.specs.Prelude.{◌≡◌, ◌<◌, ◌≤◌, ◌^◌, false, [], IfOk, length};
+ghost use Rattle.sf_model.specs.Walk.{section_walk};
+ghost use Rattle.sf_decode.specs.Decoding.{section_check};
+ghost use Rattle.sf_decode.specs.View.{table_of};
+ghost use Rattle.core_notes.specs.Checks.{core_check};
+ghost use Rattle.core_notes.specs.Views.{memory_of, threads_of};
+ghost use Rattle.sf_asm.specs.Inputs.{is_same};
+ghost use Rattle.sf_make.specs.Coming.{Coming};
+ghost use Rattle.sf_make.specs.Making.{ComesAs, ComesTo};
+ghost use Rattle.sf_make.specs.WalkComes as spec;
+ghost use Rattle.sf_make.specs.WalkComes.{WalkComesFrom, coming_of_core, coming_of_walks};
+
+use crate::made::{Made, Outcome};
+use crate::section::undecoded;
+use core_notes::{Core, CoreFault};
+use core_walk::walk;
+use sf_asm::GatherFault;
+use sf_base::NoMemory;
+use sf_decode::View;
+use sf_items::{Limit, Refusal};
+use sf_model::Arch;
+use sf_text::thread_text;
+use std::alloc::Global;
+
+/// Why the core file of an item was not read, as a refusal of the run.
+pub fn unread_core<'a>(fault: &CoreFault, item: u32) -> Refusal<'a>
+    ensures { ComesAs (λ (coming : Coming). coming ≡ coming_of_core item fault.now) result }
+{
+    match fault {
+        CoreFault::TooManyThreads => Refusal::Limit(Limit::Threads),
+        _ => Refusal::Input(fault.notice(Some(item))),
+    }
+}
+
+/// That the section and the core file have different machines, as a refusal of the run.
+fn mixed<'a>() -> Refusal<'a>
+    ensures { ComesAs (λ (coming : Coming). coming ≡ coming_of_walks false []) result }
+{
+    Refusal::Input(GatherFault::MixedArch(0, 1).notice(None))
+}
+
+/// Whether two machines are the same.
+fn same_machine(one: Arch, other: Arch) -> bool
+    ensures { result ≡ is_same one other }
+{
+    one == other
+}
+
+/// The texts of the walks of all threads, of so many frames each at most.
+pub fn walks_text(
+    alloc: Global,
+    view: &View<'_>,
+    core: &Core<'_>,
+    depth: u32,
+) -> Result<Vec<u8>, NoMemory>
+    requires { length (threads_of core.now) ≤ 4096 }
+    ensures { IfOk result (λ text. text.items ≡ spec.walks_text (λ thread. section_walk (table_of view.now).functions thread (memory_of core.now) depth) 0 (threads_of core.now)) }
+{
+    let mut text = Vec::new(alloc);
+    let mut number = 0;
+    for thread in core.threads_iter() {
+        let walked = walk(alloc, view, &thread, core, depth)?;
+        text.extend_from_slice(&thread_text(alloc, number, thread.pid, &walked)?)?;
+        number += 1;
+    }
+    Ok(text)
+}
+
+/// The walks of the threads of a core file by the section of these bytes.
+pub fn walk_made<'a>(
+    alloc: Global,
+    section: &[u8],
+    at: u64,
+    core: &[u8],
+    depth: u32,
+) -> Result<Made, Refusal<'a>>
+    requires { length core.now < 2 ^ 32 }
+    ensures { ComesTo (WalkComesFrom at section.now core.now depth (section_check section.now at) (core_check core.now)) result }
+{
+    let view = match View::parse(section, at) {
+        Ok(view) => view,
+        Err(fault) => return Err(undecoded(fault, 0)),
+    };
+    let core = match Core::parse(core) {
+        Ok(core) => core,
+        Err(fault) => return Err(unread_core(&fault, 1)),
+    };
+    if !same_machine(view.arch(), core.arch()) {
+        return Err(mixed());
+    }
+    let text = walks_text(alloc, &view, &core, depth)?;
+    Ok(Made {
+        outcome: Outcome::Done,
+        section: None,
+        text,
+    })
+}
