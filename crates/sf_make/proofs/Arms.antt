@@ -1,10 +1,10 @@
 -- What commands make of the bytes of their items is what they come to.
 use Rattle.std.specs.List.{AllZip}
-use Rattle.std.proofs.Common.{◌≡◌, ℕ, List, [], ◌∷◌, Option, Some, None, Result, Ok, Err, refl, ap, sym, subst, ◌∙◌, inl, inr}
+use Rattle.std.proofs.Common.{◌≡◌, ℕ, List, [], ◌∷◌, length, Option, Some, None, Result, Ok, Err, refl, ap, sym, subst, ◌∙◌, inl, inr}
 use Rattle.std.proofs.lemmas.List.{append-nil}
 use Rattle.sf_model.specs.declared.machine.Arch.{Arch}
 use Rattle.sf_model.specs.declared.omission.Omitted.{Omitted}
-use Rattle.sf_model.specs.Section.{AreBytes}
+use Rattle.sf_model.specs.Section.{AreBytes, Section}
 use Rattle.sf_model.specs.Table.{Table}
 use Rattle.sf_decode.specs.declared.fault.DecodeFault.{DecodeFault}
 use Rattle.sf_decode.specs.Decoding.{section_check}
@@ -21,14 +21,22 @@ use Rattle.sf_make.specs.Linked.{LinkedComes, Makings}
 use Rattle.sf_merge.specs.declared.fault.MergeFault.{MergeFault}
 use Rattle.sf_merge.specs.declared.fault.MergeFault.TheVariants as merge
 use Rattle.sf_merge.specs.Answers.{IsFirstFault, IsMerged}
+use Rattle.sf_slim.specs.declared.fault.SlimFault.{SlimFault}
+use Rattle.sf_slim.specs.declared.fault.SlimFault.TheVariants as slim_fault
+use Rattle.sf_slim.specs.Answers as slim
+use Rattle.sf_slim.specs.Answers.{IsSlimmed}
+use Rattle.sf_slim.specs.Slimming.{Slims}
+use Rattle.sf_slim.specs.Told.{told_of_slimming}
 use Rattle.sf_text.specs.Merged.{merged_text}
+use Rattle.sf_text.specs.Slim.{slim_text}
 use Rattle.sf_items.specs.declared.refusal.Refusal.{Refusal}
 use Rattle.sf_items.specs.declared.refusal.Refusal.TheVariants as refusal
 use Rattle.sf_make.specs.declared.made.Outcome.TheVariants.{Done}
-use Rattle.sf_make.specs.Coming.{Coming, Makes}
+use Rattle.sf_make.specs.Coming.{Coming, Makes, Refused}
 use Rattle.sf_make.specs.Making.{ComesAs}
 use Rattle.sf_make.specs.MergeComes.{Item, IsSectionOf, MergeComesAt, coming_of_merging, sections_fault}
 use Rattle.sf_make.specs.SectionComes.{coming_of_decoding}
+use Rattle.sf_make.specs.SlimComes.{SlimComesFrom}
 use Rattle.sf_make.proofs.Merged.{Reading, fault_step, no_fault}
 
 -- a refusal that tells one thing tells what follows from it
@@ -74,6 +82,28 @@ unmerged_comes at items tables fault refused checked are (inl none) memory tells
 unmerged_comes at items tables fault refused checked are (inr first) memory tells =
     comes_as (λ (c : Coming). c ≡ coming_of_merging fault) (λ (c : Coming). MergeComesAt at items (sections_fault 0 items) c)
     (λ c e. subst (λ (f : Option (ℕ × DecodeFault)). MergeComesAt at items f c) (sym checked) record { tables = tables; are = are; result = Err fault; merges = first; comes = e }) refused tells
+
+-- ---- slim
+pub slimmed_comes : (from at : ℕ) (bytes read : List ℕ) (table : Table) (section text : List ℕ) (count rows : ℕ) → read ≡ bytes → section_check bytes from ≡ Ok tt → Section bytes from table
+    → IsSlimmed read table at section count rows → text ≡ slim_text (length bytes) (length section) count rows → SlimComesFrom from bytes at (section_check bytes from) (Makes Done (Some section) text)
+slimmed_comes from at bytes read table section text count rows same checked of_bytes made text_is =
+    let slimmed = subst (λ (b : List ℕ). IsSlimmed b table at section count rows) same made in
+    subst (λ (check : Result (Unit {0}) DecodeFault). SlimComesFrom from bytes at check (Makes Done (Some section) text)) (sym checked) record {
+      table = table;
+      of_bytes = of_bytes;
+      result = Ok slimmed.needed;
+      slims = slimmed.are;
+      comes = record { section = section; text = text; count = count; rows = rows; slimmed = slimmed; text_is = text_is; is = refl };
+    }
+
+pub unslimmed_comes : (from at : ℕ) (bytes read : List ℕ) (table : Table) (fault : SlimFault) (refused : Refusal) → read ≡ bytes → section_check bytes from ≡ Ok tt → Section bytes from table
+    → slim.IsFirstFault read table at fault → (fault ≡ slim_fault.NoMemory → refused ≡ refusal.Memory) → ComesAs (λ (c : Coming). c ≡ Refused (told_of_slimming (Some 0) fault)) refused
+    → ComesAs (SlimComesFrom from bytes at (section_check bytes from)) refused
+unslimmed_comes from at bytes read table fault refused same checked of_bytes (inl none) memory tells = memory_comes (SlimComesFrom from bytes at (section_check bytes from)) refused (memory none)
+unslimmed_comes from at bytes read table fault refused same checked of_bytes (inr first) memory tells =
+    comes_as (λ (c : Coming). c ≡ Refused (told_of_slimming (Some 0) fault)) (SlimComesFrom from bytes at (section_check bytes from))
+    (λ c e. subst (λ (check : Result (Unit {0}) DecodeFault). SlimComesFrom from bytes at check c) (sym checked)
+    record { table = table; of_bytes = of_bytes; result = Err fault; slims = subst (λ (b : List ℕ). Slims b table at (Err fault)) same first; comes = e }) refused tells
 
 -- ---- link
 by_parts_are : (given : Result (List Function) GatherFault) (mixed : Option GatherFault) (functions : List Function) → given ≡ Ok functions → mixed ≡ None → by_parts given mixed ≡ Ok functions

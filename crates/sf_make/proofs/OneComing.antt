@@ -27,7 +27,11 @@ use Rattle.sf_asm.proofs.OneOrder.{one_order, one_result}
 use Rattle.sf_merge.specs.declared.fault.MergeFault.{MergeFault}
 use Rattle.sf_merge.specs.Merging.{Merges}
 use Rattle.sf_merge.proofs.OneOrder.{one_result as one_merge}
+use Rattle.sf_slim.specs.declared.fault.SlimFault.{SlimFault}
+use Rattle.sf_slim.specs.Slimming.{Slims}
+use Rattle.sf_slim.proofs.OneResult.{one_result as one_slim}
 use Rattle.sf_text.specs.Merged.{merged_text}
+use Rattle.sf_text.specs.Slim.{slim_text}
 use Rattle.sf_items.specs.declared.refusal.Limit.{Limit}
 use Rattle.sf_make.specs.declared.section.Query.{Query}
 use Rattle.sf_make.specs.declared.section.Query.TheVariants.{Whole, RowAt}
@@ -40,10 +44,11 @@ use Rattle.sf_make.specs.LinkComes.{objects_in, section_and_report}
 use Rattle.sf_make.specs.Linked.{LinkedComes, LinkedComesFrom, Makings, MakesLinked}
 use Rattle.sf_make.specs.MergeComes.{Item, IsSectionOf, MergeComesAt, MergeComesFrom, MakesMerge, TablesCome, sections_fault}
 use Rattle.sf_make.specs.SectionComes.{SectionComesFrom, MakesShown, Shows}
+use Rattle.sf_make.specs.SlimComes.{MakesSlim, SlimComesFrom, SlimmingComes}
 use Rattle.sf_make.specs.WalkComes.{WalkComesFrom, coming_of_walks, table_walks}
 use Rattle.std.proofs.lemmas.List.{length-map}
 use Rattle.sf_words.specs.Items.{input_item, section_item}
-use Rattle.sf_words.specs.Words.{CommandWords, Link, Merge, Dump, Lookup, Walk, Gen, SectionWords, InputWords}
+use Rattle.sf_words.specs.Words.{CommandWords, Link, Merge, Slim, Dump, Lookup, Walk, Gen, SectionWords, InputWords}
 
 -- ---- dump and lookup
 shows_one : (query : Query) (table : Table) (a b : Outcome) (s t : List ℕ) → Shows query table a s → Shows query table b t → (a ≡ b) × (s ≡ t)
@@ -67,6 +72,31 @@ one_walk at section core depth (Ok u) (Err fault) c d p q = p ∙ sym q
 one_walk at section core depth (Ok u) (Ok v) c d p q =
     let tables = table_same section at p.table q.table p.of_bytes q.of_bytes in
     p.is ∙ ap (λ (t : Table). coming_of_walks (is_same t.arch (arch_of core)) (table_walks t core depth)) tables ∙ sym q.is
+
+-- ---- slim
+one_slimmed : (bytes : List ℕ) (table : Table) (at : ℕ) (c d : Coming) → MakesSlim bytes table at c → MakesSlim bytes table at d → c ≡ d
+one_slimmed bytes table at c d p q =
+    let same = one_slim bytes table at (Ok p.slimmed.needed) (Ok q.slimmed.needed) p.slimmed.are q.slimmed.are in
+    let needed : p.slimmed.needed ≡ q.slimmed.needed = cc in
+    let whole : table_of table.arch p.slimmed.needed ≡ table_of table.arch q.slimmed.needed = ap (table_of table.arch) needed in
+    let sections = tight_one p.section q.section at (table_of table.arch q.slimmed.needed) p.slimmed.are_bytes q.slimmed.are_bytes
+    (subst (Tight p.section at) whole p.slimmed.tight) q.slimmed.tight (subst (Narrow p.section) whole p.slimmed.narrow) q.slimmed.narrow in
+    let texts : p.text ≡ q.text = p.text_is ∙ ap (λ (s : List ℕ). slim_text (length bytes) (length s) p.count p.rows) sections
+    ∙ ap (λ (n : ℕ). slim_text (length bytes) (length q.section) n p.rows) (p.slimmed.function_count ∙ ap (λ (fs : List Func). length fs) needed ∙ sym q.slimmed.function_count)
+    ∙ ap (λ (n : ℕ). slim_text (length bytes) (length q.section) q.count n) (p.slimmed.row_count ∙ ap (λ (fs : List Func). row_count fs) needed ∙ sym q.slimmed.row_count) ∙ sym q.text_is in
+    p.is ∙ ap (λ (s : List ℕ). Makes Done (Some s) p.text) sections ∙ ap (λ (t : List ℕ). Makes Done (Some q.section) t) texts ∙ sym q.is
+
+one_from_slims : (bytes : List ℕ) (table : Table) (at : ℕ) (result : Result (List Func) SlimFault) (c d : Coming) → SlimmingComes bytes table at result c → SlimmingComes bytes table at result d → c ≡ d
+one_from_slims bytes table at (Err fault) c d p q = p ∙ sym q
+one_from_slims bytes table at (Ok functions) c d p q = one_slimmed bytes table at c d p q
+
+one_slim_coming : (from : ℕ) (bytes : List ℕ) (at : ℕ) (check : Result (Unit {0}) DecodeFault) (c d : Coming) → SlimComesFrom from bytes at check c → SlimComesFrom from bytes at check d → c ≡ d
+one_slim_coming from bytes at (Err fault) c d p q = p ∙ sym q
+one_slim_coming from bytes at (Ok u) c d p q =
+    let tables = table_same bytes from p.table q.table p.of_bytes q.of_bytes in
+    let result = one_slim bytes q.table at p.result q.result (subst (λ (t : Table). Slims bytes t at p.result) tables p.slims) q.slims in
+    let comes = subst (λ (t : Table). SlimmingComes bytes t at p.result c) tables p.comes in
+    one_from_slims bytes q.table at q.result c d (subst (λ (r : Result (List Func) SlimFault). SlimmingComes bytes q.table at r c) result comes) q.comes
 
 -- ---- merge
 one_list : (items : List Item) (one other : List Table) → AllZip IsSectionOf items one → AllZip IsSectionOf items other → one ≡ other
@@ -163,6 +193,8 @@ one_command (Link link) items c d are p q =
 one_command (Merge merge) items c d are p q =
     let count = are.count ∙ length-map merge.sections section_item in
     one_merge_coming merge.out.at merge.sections items (sections_fault 0 (zip merge.sections items)) c d (omega (arith, count, are.asked)) count p q
+one_command (Slim slim) items c d are p q =
+    one_slim_coming slim.section.at (get_or items 0 []) slim.out.at (section_check (get_or items 0 []) slim.section.at) c d p q
 one_command (Dump section) items c d are p q = one_section section.at (get_or items 0 []) Whole (section_check (get_or items 0 []) section.at) c d p q
 one_command (Lookup section pc) items c d are p q = one_section section.at (get_or items 0 []) (RowAt pc) (section_check (get_or items 0 []) section.at) c d p q
 one_command (Walk walk) items c d are p q =

@@ -6,4 +6,5 @@ pub mod Linked
 pub mod Making
 pub mod MergeComes
 pub mod SectionComes
+pub mod SlimComes
 pub mod WalkComes

@@ -12,6 +12,7 @@ mod made_object;
 mod making;
 mod merge;
 mod section;
+mod slim;
 mod walk;
 
 pub use laws::{

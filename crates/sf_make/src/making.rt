@@ -10,6 +10,7 @@ use crate::made::Made;
 use crate::made_object::gen_made;
 use crate::merge::merge_made;
 use crate::section::{Query, section_made};
+use crate::slim::slim_made;
 use crate::walk::walk_made;
 use sf_items::Refusal;
 use sf_words::Asked;
@@ -29,6 +30,7 @@ pub fn make<'a>(alloc: Global, asked: &Asked<'a>, items: &[Vec<u8>]) -> Result<M
     match asked {
         Asked::Link(link) => link_made(alloc, &link.inputs, link.out.at, items),
         Asked::Merge(merge) => merge_made(alloc, &merge.sections, merge.out.at, items),
+        Asked::Slim(slim) => slim_made(alloc, &items[0], slim.section.at, slim.out.at),
         Asked::Dump(section) => section_made(alloc, &items[0], section.at, Query::Whole),
         Asked::Lookup(section, pc) => section_made(alloc, &items[0], section.at, Query::RowAt(*pc)),
         Asked::Walk(walk) => { walk_made(alloc, &items[0], walk.section.at, &items[1], walk.depth) }

@@ -173,6 +173,9 @@ fn each_command_is_done(rt: HostRuntime) -> Result<(), Fail> {
     let merge = "merge o@0x3000 s@0x3000";
     let merged = run_over_section(&rt, alloc, merge, b"merged 1 functions 4 rows\n")?;
     expect_section(&rt, alloc, &merged, Some(ONE_FUNCTION_LINKED), "merge")?;
+    let slim = "slim o@0x3000 s@0x3000";
+    let slimmed = run_over_section(&rt, alloc, slim, b"slim 63 63 functions 1 rows 4\n")?;
+    expect_section(&rt, alloc, &slimmed, Some(ONE_FUNCTION_LINKED), "slim")?;
     run_over_section(&rt, alloc, "lookup s@0x3000 0x1005", FOUND)?;
     run_over_section(&rt, alloc, "dump s@0x3000", DUMPED)?;
     run_over_section(&rt, alloc, "gen 1", MADE)?;

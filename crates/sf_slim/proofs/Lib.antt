@@ -4,6 +4,7 @@ pub mod Least
 pub mod Sweep
 pub mod Live
 pub mod Needed
+pub mod OneResult
 pub mod Slims
 pub mod Alike
 pub mod Ranges

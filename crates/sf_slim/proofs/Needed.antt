@@ -160,7 +160,7 @@ fewer_rows (f ∷ functions) =
     at_test false e rest own = omega (e, rest, arith)
 
 -- ---- the functions in order
-in_tables : (table : Table) (ordered : List Located) → InOrder (sized table) ordered → InOrder (merged.sized (table ∷ [])) ordered
+pub in_tables : (table : Table) (ordered : List Located) → InOrder (sized table) ordered → InOrder (merged.sized (table ∷ [])) ordered
 in_tables table ordered order = subst (λ (ls : List Located). InOrder (filter has_bytes ls) ordered) (sym (append-nil (located 0 table))) order
 
 those_of : (table : Table) → all_functions (table ∷ []) ≡ table.functions

@@ -3,6 +3,7 @@ use Rattle.std.specs.Option.{option_map}
 use Rattle.std.specs.List.Sorted.{IsPermutation, IsSorted}
 use Rattle.std.proofs.Common.{◌≡◌, ℕ, List, length, map, Option, Some, None, Ok, Err, sym, ap, ◌∙◌}
 use Rattle.sf_model.specs.declared.function.Func.{Func}
+use Rattle.sf_model.specs.Section.{AreBytes}
 use Rattle.sf_model.specs.Table.{row_count}
 use Rattle.sf_model.specs.Tight.{Narrow, Tight}
 use Rattle.sf_write.specs.Reach.{first_out_of_reach}
@@ -24,7 +25,7 @@ in_order given ordered moved rising = record { moved = moved; rising = rising }
 
 -- a function is out of reach
 pub is_far : (given : View) (at start : ℕ) (ordered : List Located) → IsRead given → InOrder (sized (view.table_of given)) ordered → overlap_fault (view.section_bytes given) ordered ≡ None
-    → first_out_of_reach at 0 (needed (map function_of ordered)) ≡ Some start → Slims given at (Err (OutOfReach start))
+    → first_out_of_reach at 0 (needed (map function_of ordered)) ≡ Some start → Slims (view.section_bytes given) (view.table_of given) at (Err (OutOfReach start))
 is_far given at start ordered read order apart far =
     let written = slimmed_is (view.table_of given).arch ordered (ordered_sound given ordered read order) in
     let fault : or_later (overlap_fault (view.section_bytes given) ordered) (reach_fault at (slimmed ordered)) ≡ Some (OutOfReach start) =
@@ -36,8 +37,8 @@ pub is_slimmed : (given : View) (at : ℕ) (section : List ℕ) (functions rows 
     → overlap_fault (view.section_bytes given) ordered ≡ None → first_out_of_reach at 0 (needed (map function_of ordered)) ≡ None
     → Tight section at (table_of (view.table_of given).arch (needed (map function_of ordered))) → Narrow section (table_of (view.table_of given).arch (needed (map function_of ordered)))
     → length section ≡ section_len (needed (map function_of ordered)) → functions ≡ length (needed (map function_of ordered)) → rows ≡ row_count (needed (map function_of ordered))
-    → IsSlimmed given at section functions rows
-is_slimmed given at section functions rows ordered read order apart reach tight narrow len count row_number =
+    → AreBytes section → IsSlimmed (view.section_bytes given) (view.table_of given) at section functions rows
+is_slimmed given at section functions rows ordered read order apart reach tight narrow len count row_number bytes =
     let written = slimmed_is (view.table_of given).arch ordered (ordered_sound given ordered read order) in
     let none : or_later (overlap_fault (view.section_bytes given) ordered) (reach_fault at (slimmed ordered)) ≡ None =
     ap (λ o. or_later o (reach_fault at (slimmed ordered))) apart ∙ ap (λ (fs : List Func). reach_fault at fs) written ∙ ap (option_map OutOfReach) reach in
@@ -47,6 +48,7 @@ is_slimmed given at section functions rows ordered read order apart reach tight 
       slim = is_slim given ordered read order apart;
       tight = tight;
       narrow = narrow;
+      are_bytes = bytes;
       len = len;
       function_count = count;
       row_count = row_number;

@@ -5,9 +5,7 @@ use Rattle.std.specs.List.{filter, find}
 use Rattle.sf_model.specs.declared.function.Func.{Func}
 use Rattle.sf_model.specs.Table.{Table}
 use Rattle.sf_write.specs.Reach.{first_out_of_reach}
-use Rattle.sf_decode.specs.declared.view.View.{View}
 use Rattle.sf_decode.specs.Entry.{entry_place}
-use Rattle.sf_decode.specs.View.{section_bytes, table_of}
 use Rattle.sf_merge.specs.declared.located.Located.{Located}
 use Rattle.sf_merge.specs.Located.{has_bytes, located, InOrder}
 use Rattle.sf_merge.specs.Merging.{neighbours, overlap}
@@ -43,8 +41,9 @@ abbrev pub unless_fault : {X : Type 0} → Option SlimFault → X → Result X S
 unless_fault None x = Ok x
 unless_fault (Some fault) x = Err fault
 
--- slimming this section for this address comes to this: its functions that hold an address are taken by start and then by entry
-abbrev pub Slims : View → (at : ℕ) → Result (List Func) SlimFault → Type 0
-Slims view at result =
-    (ordered : List Located) × InOrder (sized (table_of view)) ordered
-    × (result ≡ unless_fault (or_later (overlap_fault (section_bytes view) ordered) (reach_fault at (slimmed ordered))) (slimmed ordered))
+-- slimming the section of these bytes, which says this table, for this address comes to this: its functions that hold an address
+-- are taken by start and then by entry
+abbrev pub Slims : (bytes : List ℕ) → Table → (at : ℕ) → Result (List Func) SlimFault → Type 0
+Slims bytes table at result =
+    (ordered : List Located) × InOrder (sized table) ordered
+    × (result ≡ unless_fault (or_later (overlap_fault bytes ordered) (reach_fault at (slimmed ordered))) (slimmed ordered))

@@ -1,6 +1,6 @@
 //! Laws over the definitions: functions that do nothing, for their contracts.
 
-ghost use Rattle.std.specs.Prelude.{◌≡◌, ◌≤◌, ℕ, All, List, length};
+ghost use Rattle.std.specs.Prelude.{◌≡◌, ◌≤◌, ℕ, All, List, Result, length};
 ghost use Rattle.sf_model.specs.declared.machine.Arch.{Arch as arch};
 ghost use Rattle.sf_model.specs.declared.function.Func.{Func as func};
 ghost use Rattle.sf_model.specs.declared.recovery.Regs.{Regs as registers};
@@ -12,8 +12,15 @@ ghost use Rattle.sf_model.specs.Table.{Table};
 ghost use Rattle.sf_model.specs.Walk.{recover_by_rows};
 ghost use Rattle.sf_write.specs.Row.{rows_len};
 ghost use Rattle.sf_write.specs.Section.{section_len};
+ghost use Rattle.sf_slim.specs.declared.fault.SlimFault.{SlimFault as slim_fault};
 ghost use Rattle.sf_slim.specs.Slim.{IsSlim, slim_rows};
+ghost use Rattle.sf_slim.specs.Slimming.{Slims};
 ghost use Rattle.sf_slim.specs.Shortest.{HoldsStarts, IsPlain, SaysTheSame, StandsFor, row_bytes};
+
+/// Slimming a section comes to one result: the functions that are written, or the first fault.
+pub fn slimming_comes_to_one_result()
+    ensures { (bytes : List ℕ) (table : Table) (at : ℕ) (one other : Result (List func) slim_fault) → Slims bytes table at one → Slims bytes table at other → one ≡ other }
+{}
 
 /// No list of rows that says what a plain function says has fewer bytes than the rows that are needed.
 pub fn no_list_of_rows_is_shorter()

@@ -8,19 +8,24 @@
 //! `sf_model`.
 //!
 //! [`slim_functions_recover_alike`], [`no_list_of_rows_is_shorter`] and [`no_section_is_shorter`] are laws: the
-//! same is recovered at every address, and it can't be said in fewer bytes.
+//! same is recovered at every address, and it can't be said in fewer bytes. [`slimming_comes_to_one_result`] is
+//! one too: so the answer is Ok exactly where the definition (`Slims` of `specs/Slimming.antt`) has no fault.
 //!
 //! The caller owes nothing. Memory is taken for the functions and for the section.
 #![tactic(auto)]
 
 mod fault;
 mod laws;
+mod notice;
 mod overlap;
 mod passing;
 mod slimming;
 
 pub use fault::SlimFault;
-pub use laws::{no_list_of_rows_is_shorter, no_section_is_shorter, slim_functions_recover_alike};
+pub use laws::{
+    no_list_of_rows_is_shorter, no_section_is_shorter, slim_functions_recover_alike,
+    slimming_comes_to_one_result,
+};
 pub use slimming::{Slimmed, slim};
 
 #[cfg(test)]

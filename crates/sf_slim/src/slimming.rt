@@ -3,6 +3,7 @@
 ghost use Rattle.std.specs.Prelude.{◌≡◌, ◌≤◌, ◌^◌, map, IfOk, IfErr, All};
 ghost use Rattle.std.specs.List.{filter};
 ghost use Rattle.sf_model.specs.Table.{row_count};
+ghost use Rattle.sf_decode.specs.View.{section_bytes, table_of};
 ghost use Rattle.sf_slim.specs.Answers.{IsFirstFault, IsSlimmed};
 ghost use Rattle.sf_slim.specs.Pass as pass;
 
@@ -63,9 +64,9 @@ fn count_rows(functions: &[Func]) -> u32
 /// `OutOfReach` where a function that is needed lies too far from the section; want of memory at any time.
 pub fn slim(alloc: Global, view: &View<'_>, at: u64) -> Result<Slimmed, SlimFault>
     // The section is that of what is needed.
-    ensures slimmed { IfOk result (λ made. IsSlimmed view.now at made.section.items made.functions made.rows) }
+    ensures slimmed { IfOk result (λ made. IsSlimmed (section_bytes view.now) (table_of view.now) at made.section.items made.functions made.rows) }
     // A fault is the first one.
-    ensures fault { IfErr result (IsFirstFault view.now at) }
+    ensures fault { IfErr result (IsFirstFault (section_bytes view.now) (table_of view.now) at) }
 {
     let ordered = in_order(alloc, 0, view)?;
     check_overlap(view, &ordered)?;

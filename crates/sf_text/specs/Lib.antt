@@ -8,3 +8,4 @@ pub mod Found
 pub mod FaultLine
 pub mod Frames
 pub mod Summary
+pub mod Slim

@@ -1,15 +1,15 @@
-//! The texts that a program of this repository prints: the report of a link, the counts of a merge, what a
-//! section says, what a look-up finds, what a walk lists, the summary of a made object's link, the line of a
-//! fault, and the line of an item that is too long.
+//! The texts that a program of this repository prints: the report of a link, the counts of a merge, what
+//! slimming saves, what a section says, what a look-up finds, what a walk lists, the summary of a made object's
+//! link, the line of a fault, and the line of an item that is too long.
 //!
 //! Each text is a definition in `specs/`, and the calls give it byte for byte: [`report`] is `report_text`,
-//! [`merged`] is `merged_text`, [`dump`] is `dump_text` of the table that the view shows, [`found`] is
-//! `found_text`, [`thread_text`] is `walk_text`, [`summary`] is `summary_text`, and [`fault_line`] and
-//! [`file_limit_line`] append `fault_text` and `file_limit_text`. The caller owes a notice that has a line to
-//! `fault_line`, and nothing to the others.
+//! [`merged`] is `merged_text`, [`slim_line`] is `slim_text`, [`dump`] is `dump_text` of the table that the view
+//! shows, [`found`] is `found_text`, [`thread_text`] is `walk_text`, [`summary`] is `summary_text`, and
+//! [`fault_line`] and [`file_limit_line`] append `fault_text` and `file_limit_text`. The caller owes a notice
+//! that has a line to `fault_line`, and nothing to the others.
 //!
-//! `report`, `merged`, `dump`, `found`, `thread_text` and `summary` build their text in one growing buffer, in
-//! the time of its length; they fail for memory alone. `fault_line` and `file_limit_line` take no memory.
+//! `fault_line` and `file_limit_line` take no memory. The others build their text in one growing buffer, in the
+//! time of its length; they fail for memory alone.
 #![tactic(auto)]
 
 mod content;
@@ -26,6 +26,7 @@ mod number;
 mod refusal;
 mod section_dump;
 mod shown;
+mod slim_text;
 
 pub use file_limit::file_limit_line;
 pub use found_row::found;
@@ -35,6 +36,7 @@ pub use link_report::report;
 pub use merge_text::merged;
 pub use refusal::fault_line;
 pub use section_dump::dump;
+pub use slim_text::slim_line;
 
 #[cfg(test)]
 mod tests;

@@ -212,6 +212,16 @@ fn a_merge_has_a_line_with_both_counts(rt: HostRuntime) -> Result<(), Fail> {
 }
 
 #[test]
+fn a_slimmed_section_has_a_line_with_both_lengths_and_counts(rt: HostRuntime) -> Result<(), Fail> {
+    let text = slim_line(rt.alloc(), 536870912, 59, 1, 3)?;
+    assert_eq!(rt;
+        text.as_slice(),
+        b"slim 536870912 59 functions 1 rows 3\n".as_slice()
+    );
+    Ok(())
+}
+
+#[test]
 fn a_made_object_has_a_line_with_counts_and_the_sum_of_the_bytes(
     rt: HostRuntime,
 ) -> Result<(), Fail> {

@@ -6,7 +6,7 @@ use Rattle.std.specs.String.{string_bytes}
 use Rattle.sf_words.specs.declared.command.LinkCommand.{LinkCommand}
 use Rattle.sf_words.specs.declared.command.MergeCommand.{MergeCommand}
 use Rattle.sf_words.specs.Parsed.{AsksLink, AsksMerge}
-use Rattle.sf_words.specs.Words.{CanBeAsked, CommandWords, Link, Merge, Dump, Lookup, Walk, Gen, LinkWords, MergeWords, IsCommand, IsInputWord, IsSectionWord}
+use Rattle.sf_words.specs.Words.{CanBeAsked, CommandWords, Link, Merge, Slim, Dump, Lookup, Walk, Gen, LinkWords, MergeWords, IsCommand, IsInputWord, IsSectionWord}
 
 -- two lists that are joined item by item are as long
 pub as_long : {A B : Type 0} (R : A → B → Type 0) (xs : List A) (ys : List B) → AllZip R xs ys → length xs ≡ length ys
@@ -27,6 +27,7 @@ sections_asked split merge asks = sym (as_long IsSectionWord (map string_bytes s
 pub can_be_asked : (words : List (List ℕ)) (command : CommandWords) → IsCommand words command → CanBeAsked command
 can_be_asked words (Link link) h = subst (λ (n : ℕ). 0 < n) (as_long IsInputWord h.input_words link.inputs h.inputs) h.some
 can_be_asked words (Merge merge) h = subst (λ (n : ℕ). 0 < n) (as_long IsSectionWord h.section_words merge.sections h.sections) h.some
+can_be_asked words (Slim slim) h = tt
 can_be_asked words (Dump section) h = tt
 can_be_asked words (Lookup section pc) h = tt
 can_be_asked words (Walk walk) h = h.within

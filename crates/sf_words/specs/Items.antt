@@ -3,7 +3,7 @@ use Rattle.std.specs.Prelude.{◌^◌, ℕ, List, [], ◌∷◌, map, length}
 use Rattle.sf_words.specs.declared.item.Item.{Item}
 use Rattle.sf_words.specs.declared.item.ItemKind.{ItemKind}
 use Rattle.sf_words.specs.declared.item.ItemKind.TheVariants.{Input, Section, Core}
-use Rattle.sf_words.specs.Words.{CommandWords, Link, Merge, Dump, Lookup, Walk, Gen, InputWords, SectionWords}
+use Rattle.sf_words.specs.Words.{CommandWords, Link, Merge, Slim, Dump, Lookup, Walk, Gen, InputWords, SectionWords}
 
 -- a file that a command reads: its name and its kind
 pub record ItemWords : Type 0 where
@@ -38,6 +38,7 @@ core_item name = record { name = name; kind = Core }
 abbrev pub items_of : CommandWords → List ItemWords
 items_of (Link link) = map input_item link.inputs
 items_of (Merge merge) = map section_item merge.sections
+items_of (Slim slim) = section_item slim.section ∷ []
 items_of (Dump section) = section_item section ∷ []
 items_of (Lookup section pc) = section_item section ∷ []
 items_of (Walk walk) = section_item walk.section ∷ core_item walk.core ∷ []
@@ -47,6 +48,7 @@ items_of (Gen n) = []
 abbrev pub counted_items : CommandWords → ℕ
 counted_items (Link link) = length link.inputs
 counted_items (Merge merge) = length merge.sections
+counted_items (Slim slim) = 1
 counted_items (Dump section) = 1
 counted_items (Lookup section pc) = 1
 counted_items (Walk walk) = 1

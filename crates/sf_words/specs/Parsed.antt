@@ -12,8 +12,9 @@ use Rattle.sf_words.specs.declared.command.MergeCommand.{MergeCommand}
 use Rattle.sf_words.specs.declared.command.Command.{Command}
 use Rattle.sf_words.specs.declared.command.Command.TheVariants as command
 use Rattle.sf_words.specs.declared.words.SectionFile.{SectionFile}
+use Rattle.sf_words.specs.declared.command.SlimFiles.{SlimFiles}
 use Rattle.sf_words.specs.declared.command.WalkFiles.{WalkFiles}
-use Rattle.sf_words.specs.Words.{InputWords, LinkWords, MergeWords, SectionWords, CommandWords, IsInputWord, IsSectionWord, Link as LinkOf, Merge as MergeOf, Dump, Lookup, Walk, Gen, WalkWords}
+use Rattle.sf_words.specs.Words.{InputWords, LinkWords, MergeWords, SectionWords, CommandWords, IsInputWord, IsSectionWord, Link as LinkOf, Merge as MergeOf, Slim, Dump, Lookup, Walk, Gen, SlimWords, WalkWords}
 
 abbrev pub input_of : InputFile → InputWords
 input_of input = record { form = input.form; name = input.name.now; base = input.base }
@@ -27,12 +28,16 @@ link_of link = record { out = section_of link.out; inputs = map input_of link.in
 abbrev pub merge_of : Merge → MergeWords
 merge_of merge = record { out = section_of merge.out; sections = map section_of merge.sections.items }
 
+abbrev pub slim_of : SlimFiles → SlimWords
+slim_of slim = record { out = section_of slim.out; section = section_of slim.section }
+
 abbrev pub walk_of : WalkFiles → WalkWords
 walk_of walk = record { section = section_of walk.section; core = walk.core.now; depth = walk.depth }
 
 abbrev pub words_of : Asked → CommandWords
 words_of (asked.Link link) = LinkOf (link_of link)
 words_of (asked.Merge merge) = MergeOf (merge_of merge)
+words_of (asked.Slim slim) = Slim (slim_of slim)
 words_of (asked.Dump section) = Dump (section_of section)
 words_of (asked.Lookup section pc) = Lookup (section_of section) pc
 words_of (asked.Walk walk) = Walk (walk_of walk)
@@ -50,6 +55,7 @@ pub record AsksMerge (split : MergeCommand) (merge : MergeWords) : Type 0 where
 abbrev pub Asks : Command → CommandWords → Type 0
 Asks (command.Link split) wanted = (link : LinkWords) × (wanted ≡ LinkOf link) × AsksLink split link
 Asks (command.Merge split) wanted = (merge : MergeWords) × (wanted ≡ MergeOf merge) × AsksMerge split merge
+Asks (command.Slim slim) wanted = wanted ≡ Slim (slim_of slim)
 Asks (command.Dump section) wanted = wanted ≡ Dump (section_of section)
 Asks (command.Lookup section pc) wanted = wanted ≡ Lookup (section_of section) pc
 Asks (command.Walk walk) wanted = wanted ≡ Walk (walk_of walk)

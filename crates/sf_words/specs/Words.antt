@@ -1,5 +1,5 @@
--- The words of a command line: `link OUT@AT IN@BASE ..`, `merge OUT@AT FILE@AT ..`, `dump FILE@AT` and `lookup FILE@AT PC`, where the
--- dots stand for any number of further words of the kind.
+-- The words of a command line, such as `link OUT@AT IN@BASE ..` or `dump FILE@AT`. The dots stand for any number of further words of
+-- the kind.
 use Rattle.std.specs.Prelude.{◌≡◌, ℕ, ◌<◌, ◌≤◌, List, [], ◌∷◌, ◌++◌, length, codes, Option, Some, None}
 use Rattle.std.specs.List.{AllZip}
 use Rattle.sf_base.specs.Word.{SpellsDecimal, SpellsHexadecimal}
@@ -76,6 +76,19 @@ pub record IsMerge (words : List (List ℕ)) (merge : MergeWords) : Type 0 where
   pub some : 0 < length section_words
   pub sections : AllZip IsSectionWord section_words merge.sections
 
+-- what is asked of `slim`: the new section's file and address, and the section
+pub record SlimWords : Type 0 where
+  pub out : SectionWords
+  pub section : SectionWords
+
+-- the words ask for this section slimmed
+pub record IsSlim (words : List (List ℕ)) (slim : SlimWords) : Type 0 where
+  pub out_word : List ℕ
+  pub section_word : List ℕ
+  pub words_are : words ≡ codes "slim" ∷ out_word ∷ section_word ∷ []
+  pub out : IsSectionWord out_word slim.out
+  pub section : IsSectionWord section_word slim.section
+
 -- the words ask for what this section says
 pub record IsDump (words : List (List ℕ)) (section : SectionWords) : Type 0 where
   pub section_word : List ℕ
@@ -127,6 +140,7 @@ pub record IsGen (words : List (List ℕ)) (n : ℕ) : Type 0 where
 pub data CommandWords : Type 0 where
   Link : LinkWords → CommandWords
   Merge : MergeWords → CommandWords
+  Slim : SlimWords → CommandWords
   Dump : SectionWords → CommandWords
   Lookup : SectionWords → (pc : ℕ) → CommandWords
   Walk : WalkWords → CommandWords
@@ -136,6 +150,7 @@ pub data CommandWords : Type 0 where
 abbrev pub IsCommand : List (List ℕ) → CommandWords → Type 0
 IsCommand words (Link link) = IsLink words link
 IsCommand words (Merge merge) = IsMerge words merge
+IsCommand words (Slim slim) = IsSlim words slim
 IsCommand words (Dump section) = IsDump words section
 IsCommand words (Lookup section pc) = IsLookup words section pc
 IsCommand words (Walk walk) = IsWalk words walk
@@ -145,6 +160,7 @@ IsCommand words (Gen n) = IsGen words n
 abbrev pub CanBeAsked : CommandWords → Type 0
 CanBeAsked (Link link) = 0 < length link.inputs
 CanBeAsked (Merge merge) = 0 < length merge.sections
+CanBeAsked (Slim slim) = Unit {0}
 CanBeAsked (Dump section) = Unit {0}
 CanBeAsked (Lookup section pc) = Unit {0}
 CanBeAsked (Walk walk) = IsDepth walk.depth
@@ -154,6 +170,7 @@ CanBeAsked (Gen n) = IsFunctionCount n
 abbrev pub out_name : CommandWords → Option (List ℕ)
 out_name (Link link) = Some link.out.name
 out_name (Merge merge) = Some merge.out.name
+out_name (Slim slim) = Some slim.out.name
 out_name (Dump section) = None
 out_name (Lookup section pc) = None
 out_name (Walk walk) = None

@@ -5,7 +5,7 @@ ghost use Rattle.sf_words.specs.Items.{items_of, item_of, core_item, input_item,
 ghost use Rattle.sf_words.specs.Parsed.{Asks, input_of, section_of, words_of};
 ghost use Rattle.sf_words.specs.Words.{CommandWords};
 
-use crate::command::{Command, WalkFiles};
+use crate::command::{Command, SlimFiles, WalkFiles};
 use crate::item::{Item, ItemKind};
 use crate::lists::{inputs_of, sections_of};
 use crate::words::{InputFile, SectionFile};
@@ -33,6 +33,8 @@ pub enum Asked<'a> {
     Link(Link<'a>),
     /// `merge OUT@AT FILE@AT ..`
     Merge(Merge<'a>),
+    /// `slim OUT@AT FILE@AT`
+    Slim(SlimFiles<'a>),
     /// `dump FILE@AT`
     Dump(SectionFile<'a>),
     /// `lookup FILE@AT PC`
@@ -60,6 +62,7 @@ pub fn read_words<'a>(alloc: Global, command: &Command<'a>) -> Result<Asked<'a>,
             out: merge.out,
             sections: sections_of(alloc, merge.sections)?,
         })),
+        Command::Slim(slim) => Ok(Asked::Slim(*slim)),
         Command::Dump(section) => Ok(Asked::Dump(*section)),
         Command::Lookup(section, pc) => Ok(Asked::Lookup(*section, *pc)),
         Command::Walk(walk) => Ok(Asked::Walk(*walk)),
@@ -124,6 +127,7 @@ pub fn items<'a>(alloc: Global, asked: &Asked<'a>) -> Result<Vec<Item<'a>>, NoMe
     match asked {
         Asked::Link(link) => input_items(alloc, &link.inputs),
         Asked::Merge(merge) => section_items(alloc, &merge.sections),
+        Asked::Slim(slim) => section_items(alloc, &[slim.section]),
         Asked::Dump(section) | Asked::Lookup(section, _) => section_items(alloc, &[*section]),
         Asked::Walk(walk) => walk_items(alloc, walk),
         Asked::Gen(_) => Ok(Vec::new(alloc)),

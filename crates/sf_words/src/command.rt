@@ -4,9 +4,9 @@ ghost use Rattle.std.specs.Prelude.{◌≡◌, ◌<◌, ◌≤◌, ℕ, [], ◌�
 ghost use Rattle.std.specs.Option.{option_map};
 ghost use Rattle.std.specs.String.{string_bytes};
 ghost use Rattle.sf_base.specs.Word.{SpellsDecimal};
-ghost use Rattle.sf_words.specs.Words.{IsLink, IsMerge, IsDump, IsLookup, IsWalk, IsGen, IsCommand, LinkWords, MergeWords, SectionWords, WalkWords, CommandWords, out_name};
+ghost use Rattle.sf_words.specs.Words.{IsLink, IsMerge, IsSlim, IsDump, IsLookup, IsWalk, IsGen, IsCommand, LinkWords, MergeWords, SlimWords, SectionWords, WalkWords, CommandWords, out_name};
 ghost use Rattle.sf_words.specs.Items.{counted_items};
-ghost use Rattle.sf_words.specs.Parsed.{section_of, walk_of, Asks, AsksLink, AsksMerge};
+ghost use Rattle.sf_words.specs.Parsed.{section_of, slim_of, walk_of, Asks, AsksLink, AsksMerge};
 
 use crate::lists::{are_inputs, are_sections};
 use crate::words::{SectionFile, section_file};
@@ -34,6 +34,13 @@ pub struct MergeCommand<'a> {
     pub sections: &'a [String],
 }
 
+/// The words of `slim OUT@AT FILE@AT`.
+#[derive(Clone, Copy)]
+pub struct SlimFiles<'a> {
+    pub out: SectionFile<'a>,
+    pub section: SectionFile<'a>,
+}
+
 /// The words of `walk FILE@AT CORE DEPTH`.
 #[derive(Clone, Copy)]
 pub struct WalkFiles<'a> {
@@ -51,6 +58,8 @@ pub enum Command<'a> {
     Link(LinkCommand<'a>),
     /// `merge OUT@AT FILE@AT ..`
     Merge(MergeCommand<'a>),
+    /// `slim OUT@AT FILE@AT`
+    Slim(SlimFiles<'a>),
     /// `dump FILE@AT`
     Dump(SectionFile<'a>),
     /// `lookup FILE@AT PC`
@@ -69,6 +78,7 @@ impl<'a> Command<'a> {
         match self {
             Command::Link(link) => link.inputs.len(),
             Command::Merge(merge) => merge.sections.len(),
+            Command::Slim(_) => 1,
             Command::Dump(_) | Command::Lookup(_, _) | Command::Walk(_) => 1,
             Command::Gen(_) => 0,
         }
@@ -81,6 +91,7 @@ impl<'a> Command<'a> {
         match self {
             Command::Link(link) => Some(link.out.name),
             Command::Merge(merge) => Some(merge.out.name),
+            Command::Slim(slim) => Some(slim.out.name),
             Command::Dump(_) | Command::Lookup(_, _) => None,
             Command::Walk(_) | Command::Gen(_) => None,
         }
@@ -171,6 +182,20 @@ fn merge_words(words: &[String]) -> Option<MergeCommand<'_>>
     Some(MergeCommand { out, sections })
 }
 
+/// Both sections, where the words have the form `slim OUT@AT FILE@AT`.
+fn slim_words(words: &[String]) -> Option<SlimFiles<'_>>
+    ensures found { IfSome result (λ s. IsSlim (map string_bytes words.now) (slim_of s)) }
+    ensures only { (slim : SlimWords) → IsSlim (map string_bytes words.now) slim → IsSomeAnd result (λ s. slim_of s ≡ slim) }
+{
+    let (command, out, section) = three_words(words)?;
+    if command != "slim" {
+        return None;
+    }
+    let out = section_file(out)?;
+    let section = section_file(section)?;
+    Some(SlimFiles { out, section })
+}
+
 /// The section, where the words have the form `dump FILE@AT`.
 fn dump_words(words: &[String]) -> Option<SectionFile<'_>>
     ensures found { IfSome result (λ s. IsDump (map string_bytes words.now) (section_of s)) }
@@ -251,6 +276,9 @@ pub fn command_words(words: &[String]) -> Option<Command<'_>>
     }
     if let Some(merge) = merge_words(words) {
         return Some(Command::Merge(merge));
+    }
+    if let Some(slim) = slim_words(words) {
+        return Some(Command::Slim(slim));
     }
     if let Some(section) = dump_words(words) {
         return Some(Command::Dump(section));

@@ -11,6 +11,6 @@ mod lists;
 mod words;
 
 pub use asked::{Asked, Link, Merge, items, read_words};
-pub use command::{Command, LinkCommand, MergeCommand, WalkFiles, command_words};
+pub use command::{Command, LinkCommand, MergeCommand, SlimFiles, WalkFiles, command_words};
 pub use item::{Item, ItemKind};
 pub use words::{InputFile, SectionFile};

@@ -39,6 +39,7 @@ returns-in-Ok-clause-slimmed c =
     (sym c.in-Ok.section.ok.0 ∙ written.len)
     (c.len.ensures ∙ (c.in_ok-needed.needed.ok.0 ∙ ap length c.in_ok-needed.ensures))
     (c.count_rows.ensures ∙ ap (λ (fs : List Func). row_count fs) (c.deref-in-Ok.ensures.value ∙ c.in_ok-needed.ensures))
+    written.are_bytes
 
 pub returns-in-Err-OutOfReach-clause-fault : goal.returns-in-Err-OutOfReach-clause-fault
 returns-in-Err-OutOfReach-clause-fault c =

@@ -1,6 +1,6 @@
 use Rattle.std.proofs.Common.{refl, sym, subst}
-use Rattle.sf_words.specs.Parsed.{section_of, walk_of}
-use Rattle.sf_words.specs.Words.{Link, Merge, Dump, Lookup, Walk, Gen, IsCommand}
+use Rattle.sf_words.specs.Parsed.{section_of, slim_of, walk_of}
+use Rattle.sf_words.specs.Words.{Link, Merge, Slim, Dump, Lookup, Walk, Gen, IsCommand}
 use Rattle.sf_words.proofs.command.command_words.Goals as goal
 
 pub returns-in-Some-clause-found : goal.returns-in-Some-clause-found
@@ -14,6 +14,12 @@ returns-in-Some-merge_words-clause-found c wanted asks = subst (IsCommand _) (sy
 
 pub returns-in-Some-merge_words-clause-named : goal.returns-in-Some-merge_words-clause-named
 returns-in-Some-merge_words-clause-named c = (Merge c.in-Some-merge_words.ensures.named.0, (c.in-Some-merge_words.ensures.named.0, refl, c.in-Some-merge_words.ensures.named.1))
+
+pub returns-in-Some-slim_words-clause-found : goal.returns-in-Some-slim_words-clause-found
+returns-in-Some-slim_words-clause-found c wanted asks = subst (IsCommand _) (sym asks) c.in-Some-slim_words.ensures.found
+
+pub returns-in-Some-slim_words-clause-named : goal.returns-in-Some-slim_words-clause-named
+returns-in-Some-slim_words-clause-named c = (Slim (slim_of c.in-Some-slim_words.slim), refl)
 
 pub returns-in-Some-dump_words-clause-found : goal.returns-in-Some-dump_words-clause-found
 returns-in-Some-dump_words-clause-found c wanted asks = subst (IsCommand _) (sym asks) c.in-Some-dump_words.ensures.found

@@ -1,0 +1,26 @@
+//! Faults as numbers, for the line that shows them.
+
+ghost use Rattle.std.specs.Prelude.{◌≡◌, IsSome, IsTrue};
+ghost use Rattle.sf_model.specs.Notice.{HasLine};
+ghost use Rattle.sf_model.specs.Told.{told_by};
+ghost use Rattle.sf_slim.specs.Told.{is_refusal, told_of_slimming};
+
+use crate::fault::SlimFault;
+use sf_decode::DecodeFault;
+use sf_merge::MergeFault;
+use sf_model::Notice;
+
+impl SlimFault {
+    /// The fault of this item's section, as its line shows it. The caller owes that it is no want of memory.
+    pub fn notice(&self, item: Option<u32>) -> Notice
+        requires { IsTrue (is_refusal self.now) }
+        ensures shown { told_by result ≡ told_of_slimming item self.now }
+        ensures line { IsSome item → HasLine result }
+    {
+        match *self {
+            SlimFault::Overlap(place) => DecodeFault::Overlap(place).notice(item),
+            SlimFault::OutOfReach(start) => MergeFault::OutOfReach(start).notice(None),
+            SlimFault::NoMemory => unreachable!(),
+        }
+    }
+}
