@@ -1,5 +1,6 @@
 pub mod Accepted
 pub mod Arms
+pub mod Backtraces
 pub mod Limits
 pub mod Linked
 pub mod Merged

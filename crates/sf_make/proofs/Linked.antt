@@ -8,7 +8,7 @@ use Rattle.sf_asm.specs.Functions.{Object, object_of}
 use Rattle.sf_asm.specs.declared.input.Input.{Input}
 use Rattle.sf_words.specs.declared.words.InputFile.{InputFile}
 use Rattle.sf_make.specs.LinkComes.{object_in, objects_in}
-use Rattle.sf_items.specs.Loading.{bytes_limit, items_limit, of_kinds}
+use Rattle.sf_items.specs.Loading.{bytes_limit, of_kinds}
 use Rattle.sf_items.proofs.Loads.{goes_on, within_both}
 use Rattle.sf_words.specs.declared.item.ItemKind.TheVariants as kind
 use Rattle.sf_words.specs.Items.{input_item}
@@ -64,11 +64,11 @@ objects_short item total (i ∷ is) (bytes ∷ items) h =
     let on = sym (goes_on item total kind.Input bytes rest here.0 here.1) ∙ h in
     All-cons IsShort (object_in (i, bytes)) (objects_in is items) here.0 (objects_short (item + 1) (total + length bytes) is items on)
 
--- each input is short
-pub inputs_short : (inputs : List Input) (files : List InputWords) (items : List (List ℕ)) → map object_of inputs ≡ objects_in files items → items_limit (map input_item files) items ≡ None
+-- each input is short, of items that are numbered from `item` on and come after `total` bytes that count
+pub inputs_short : (item total : ℕ) (inputs : List Input) (files : List InputWords) (items : List (List ℕ)) → map object_of inputs ≡ objects_in files items → bytes_limit item total (of_kinds (map input_item files) items) ≡ None
     → All (λ (input : Input). length input.bytes.now < 2 ^ 32) inputs
-inputs_short inputs files items are within =
-    let objects = subst (All IsShort) (sym are) (objects_short 0 0 files items within) in
+inputs_short item total inputs files items are within =
+    let objects = subst (All IsShort) (sym are) (objects_short item total files items within) in
     let each = unmapped object_of IsShort inputs objects in
     λ k d lt. let one = each k d lt in omega (arith, one)
 

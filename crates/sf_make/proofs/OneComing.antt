@@ -1,6 +1,6 @@
 -- A run comes to one thing at most.
 use Rattle.std.specs.List.{AllZip, zip}
-use Rattle.std.proofs.Common.{◌≡◌, ◌<◌, ℕ, List, [], ◌∷◌, map, length, get_or, All, Option, Some, None, Result, Ok, Err, refl, ap, sym, subst, ◌∙◌, arith}
+use Rattle.std.proofs.Common.{◌≡◌, ◌<◌, ℕ, suc, List, [], ◌∷◌, map, length, drop, get_or, All, Option, Some, None, Result, Ok, Err, refl, ap, sym, subst, ◌∙◌, arith}
 use Rattle.sf_model.specs.declared.function.Func.{Func}
 use Rattle.sf_model.specs.declared.machine.Arch.{Arch}
 use Rattle.sf_model.specs.declared.omission.Omitted.{Omitted}
@@ -37,6 +37,7 @@ use Rattle.sf_make.specs.declared.section.Query.{Query}
 use Rattle.sf_make.specs.declared.section.Query.TheVariants.{Whole, RowAt}
 use Rattle.sf_make.specs.declared.made.Outcome.{Outcome}
 use Rattle.sf_make.specs.declared.made.Outcome.TheVariants.{Done}
+use Rattle.sf_make.specs.BacktraceComes.{BacktraceComesFrom, section_and_walks}
 use Rattle.sf_make.specs.Comes.{Comes, CommandComes, AreItems}
 use Rattle.sf_make.specs.Coming.{Coming, Makes, ComesWithin}
 use Rattle.sf_make.specs.GenComes.{made_object, summary_alone}
@@ -48,7 +49,7 @@ use Rattle.sf_make.specs.SlimComes.{MakesSlim, SlimComesFrom, SlimmingComes}
 use Rattle.sf_make.specs.WalkComes.{WalkComesFrom, coming_of_walks, table_walks}
 use Rattle.std.proofs.lemmas.List.{length-map}
 use Rattle.sf_words.specs.Items.{input_item, section_item}
-use Rattle.sf_words.specs.Words.{CommandWords, Link, Merge, Slim, Dump, Lookup, Walk, Gen, SectionWords, InputWords}
+use Rattle.sf_words.specs.Words.{CommandWords, Link, Merge, Slim, Dump, Lookup, Walk, Backtrace, Gen, SectionWords, InputWords}
 
 -- ---- dump and lookup
 shows_one : (query : Query) (table : Table) (a b : Outcome) (s t : List ℕ) → Shows query table a s → Shows query table b t → (a ≡ b) × (s ≡ t)
@@ -186,6 +187,15 @@ one_link before objects at made c d some p q =
     let result = one_result before objects at p.result q.result p.links q.links in
     one_from_links before objects at made q.result c d some (subst (λ (r : Result (List Entry) LinkFault). LinkedComesFrom before objects at made r c) result p.comes) q.comes
 
+-- ---- backtrace
+one_backtrace : (objects : List Object) (at : ℕ) (core : List ℕ) (depth : ℕ) (check : Result (Unit {0}) CoreFault) (c d : Coming) → 0 < length objects → BacktraceComesFrom objects at core depth check c → BacktraceComesFrom objects at core depth check d → c ≡ d
+one_backtrace objects at core depth (Err fault) c d some p q = p ∙ sym q
+one_backtrace objects at core depth (Ok u) c d some p q = one_link (Some (arch_of core)) objects at (section_and_walks objects core depth) c d some p q
+
+behind_first : (items : List (List ℕ)) (n : ℕ) → length items ≡ suc n → length (drop 1 items) ≡ n
+behind_first [] n h = let none : ⊥ = omega (arith, h) in absurd none
+behind_first (i ∷ is) n h = omega (arith, h)
+
 -- ---- each command
 one_command : (command : CommandWords) (items : List (List ℕ)) (c d : Coming) → AreItems command items → CommandComes command items c → CommandComes command items d → c ≡ d
 one_command (Link link) items c d are p q =
@@ -199,6 +209,10 @@ one_command (Dump section) items c d are p q = one_section section.at (get_or it
 one_command (Lookup section pc) items c d are p q = one_section section.at (get_or items 0 []) (RowAt pc) (section_check (get_or items 0 []) section.at) c d p q
 one_command (Walk walk) items c d are p q =
     one_walk walk.section.at (get_or items 0 []) (get_or items 1 []) walk.depth (section_check (get_or items 0 []) walk.section.at) (core_check (get_or items 1 [])) c d p q
+one_command (Backtrace backtrace) items c d are p q =
+    let count = behind_first items (length backtrace.inputs) (are.count ∙ ap (λ (n : ℕ). suc n) (length-map backtrace.inputs input_item)) in
+    let objects = objects_in backtrace.inputs (drop 1 items) in
+    one_backtrace objects backtrace.out.at (get_or items 0 []) backtrace.depth (core_check (get_or items 0 [])) c d (some_objects backtrace.inputs (drop 1 items) are.asked.0 count) p q
 one_command (Gen n) items c d are p q = one_link None (made_object n ∷ []) 0x4000000 (summary_alone n) c d (omega arith) p q
 
 one_within : (limit : Option Limit) (Then : Coming → Type 0) → ((c d : Coming) → Then c → Then d → c ≡ d) → (c d : Coming) → ComesWithin limit Then c → ComesWithin limit Then d → c ≡ d

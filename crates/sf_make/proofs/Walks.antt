@@ -10,7 +10,7 @@ use Rattle.sf_words.specs.Items.{items_of}
 use Rattle.sf_words.specs.Words.{Walk, WalkWords}
 use Rattle.sf_make.specs.WalkComes.{listing_text, walks_text}
 
-walks_on : (walk_of : ThreadState → Listing) (number : ℕ) (thread : Thread) (later : List Thread)
+pub walks_on : (walk_of : ThreadState → Listing) (number : ℕ) (thread : Thread) (later : List Thread)
     → walks_text walk_of number (thread ∷ later) ≡ listing_text number thread (walk_of (thread_state thread)) ++ walks_text walk_of (number + 1) later
 unfolding walks_text
 walks_on walk_of number thread later = refl

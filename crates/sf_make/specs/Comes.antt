@@ -5,8 +5,9 @@ use Rattle.sf_items.specs.declared.refusal.Limit.{Limit}
 use Rattle.sf_items.specs.declared.refusal.Limit.TheVariants.{Inputs}
 use Rattle.sf_items.specs.Loading.{items_limit}
 use Rattle.sf_words.specs.Items.{counted_items, items_of}
-use Rattle.sf_words.specs.Words.{CanBeAsked, CommandWords, Link, Merge, Slim, Dump, Lookup, Walk, Gen}
+use Rattle.sf_words.specs.Words.{CanBeAsked, CommandWords, Link, Merge, Slim, Dump, Lookup, Walk, Backtrace, Gen}
 use Rattle.sf_make.specs.declared.section.Query.TheVariants.{Whole, RowAt}
+use Rattle.sf_make.specs.BacktraceComes.{BacktraceComes}
 use Rattle.sf_make.specs.Coming.{Coming, ComesWithin, Exceeded, Refused}
 use Rattle.sf_make.specs.GenComes.{GenComes}
 use Rattle.sf_make.specs.LinkComes.{LinkComes}
@@ -27,6 +28,7 @@ CommandComes (Slim slim) items coming = SlimComes slim items coming
 CommandComes (Dump section) items coming = SectionComes section.at Whole items coming
 CommandComes (Lookup section pc) items coming = SectionComes section.at (RowAt pc) items coming
 CommandComes (Walk walk) items coming = WalkComes walk.section.at walk.depth items coming
+CommandComes (Backtrace backtrace) items coming = BacktraceComes backtrace.inputs backtrace.out.at backtrace.depth items coming
 CommandComes (Gen n) items coming = GenComes n coming
 
 abbrev pub Comes : CommandWords → (items : List (List ℕ)) → Coming → Type 0

@@ -1,3 +1,4 @@
+pub mod BacktraceComes
 pub mod Coming
 pub mod Comes
 pub mod GenComes

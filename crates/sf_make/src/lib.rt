@@ -5,6 +5,7 @@
 //! command and the bytes of its items come to one thing at most.
 #![tactic(auto)]
 
+mod backtrace;
 mod laws;
 mod link;
 mod made;

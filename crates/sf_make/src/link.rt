@@ -37,7 +37,7 @@ pub fn unlinked<'a>(fault: &LinkFault) -> Refusal<'a>
 }
 
 /// The inputs with their bytes, in order.
-fn inputs_in<'b>(
+pub fn inputs_in<'b>(
     alloc: Global,
     files: &[InputFile<'_>],
     items: &'b [Vec<u8>],

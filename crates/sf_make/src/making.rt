@@ -5,6 +5,7 @@ ghost use Rattle.sf_words.specs.Parsed.{words_of};
 ghost use Rattle.sf_make.specs.Comes.{AreItems, Comes, command_limit};
 ghost use Rattle.sf_make.specs.Making.{ComesTo};
 
+use crate::backtrace::backtrace_made;
 use crate::link::link_made;
 use crate::made::Made;
 use crate::made_object::gen_made;
@@ -34,6 +35,14 @@ pub fn make<'a>(alloc: Global, asked: &Asked<'a>, items: &[Vec<u8>]) -> Result<M
         Asked::Dump(section) => section_made(alloc, &items[0], section.at, Query::Whole),
         Asked::Lookup(section, pc) => section_made(alloc, &items[0], section.at, Query::RowAt(*pc)),
         Asked::Walk(walk) => { walk_made(alloc, &items[0], walk.section.at, &items[1], walk.depth) }
+        Asked::Backtrace(backtrace) => backtrace_made(
+            alloc,
+            &backtrace.inputs,
+            backtrace.out.at,
+            &items[0],
+            backtrace.depth,
+            &items[1..],
+        ),
         Asked::Gen(n) => gen_made(alloc, *n),
     }
 }

@@ -5,8 +5,9 @@ use Rattle.std.proofs.lemmas.List.{length-map}
 use Rattle.std.specs.String.{string_bytes}
 use Rattle.sf_words.specs.declared.command.LinkCommand.{LinkCommand}
 use Rattle.sf_words.specs.declared.command.MergeCommand.{MergeCommand}
-use Rattle.sf_words.specs.Parsed.{AsksLink, AsksMerge}
-use Rattle.sf_words.specs.Words.{CanBeAsked, CommandWords, Link, Merge, Slim, Dump, Lookup, Walk, Gen, LinkWords, MergeWords, IsCommand, IsInputWord, IsSectionWord}
+use Rattle.sf_words.specs.declared.command.BacktraceCommand.{BacktraceCommand}
+use Rattle.sf_words.specs.Parsed.{AsksBacktrace, AsksLink, AsksMerge}
+use Rattle.sf_words.specs.Words.{CanBeAsked, CommandWords, Link, Merge, Slim, Dump, Lookup, Walk, Backtrace, Gen, BacktraceWords, LinkWords, MergeWords, IsCommand, IsInputWord, IsSectionWord}
 
 -- two lists that are joined item by item are as long
 pub as_long : {A B : Type 0} (R : A → B → Type 0) (xs : List A) (ys : List B) → AllZip R xs ys → length xs ≡ length ys
@@ -18,6 +19,9 @@ as_long R (x ∷ xs) (y ∷ ys) h = ap (λ (n : ℕ). suc n) (as_long R xs ys h.
 -- as many inputs as words that name them
 pub inputs_asked : (split : LinkCommand) (link : LinkWords) → AsksLink split link → length link.inputs ≡ length split.inputs.now
 inputs_asked split link asks = sym (as_long IsInputWord (map string_bytes split.inputs.now) link.inputs asks.inputs) ∙ length-map split.inputs.now string_bytes
+
+pub backtrace_inputs_asked : (split : BacktraceCommand) (backtrace : BacktraceWords) → AsksBacktrace split backtrace → length backtrace.inputs ≡ length split.inputs.now
+backtrace_inputs_asked split backtrace asks = sym (as_long IsInputWord (map string_bytes split.inputs.now) backtrace.inputs asks.inputs) ∙ length-map split.inputs.now string_bytes
 
 -- as many sections as words that name them
 pub sections_asked : (split : MergeCommand) (merge : MergeWords) → AsksMerge split merge → length merge.sections ≡ length split.sections.now
@@ -31,4 +35,5 @@ can_be_asked words (Slim slim) h = tt
 can_be_asked words (Dump section) h = tt
 can_be_asked words (Lookup section pc) h = tt
 can_be_asked words (Walk walk) h = h.within
+can_be_asked words (Backtrace backtrace) h = (subst (λ (n : ℕ). 0 < n) (as_long IsInputWord h.input_words backtrace.inputs h.inputs) h.some, h.within)
 can_be_asked words (Gen n) h = h.within

@@ -4,17 +4,19 @@ use Rattle.std.specs.List.{AllZip}
 use Rattle.std.specs.String.{string_bytes}
 use Rattle.sf_words.specs.declared.asked.Link.{Link}
 use Rattle.sf_words.specs.declared.asked.Merge.{Merge}
+use Rattle.sf_words.specs.declared.asked.Backtrace.{Backtrace}
 use Rattle.sf_words.specs.declared.asked.Asked.{Asked}
 use Rattle.sf_words.specs.declared.asked.Asked.TheVariants as asked
 use Rattle.sf_words.specs.declared.words.InputFile.{InputFile}
 use Rattle.sf_words.specs.declared.command.LinkCommand.{LinkCommand}
 use Rattle.sf_words.specs.declared.command.MergeCommand.{MergeCommand}
+use Rattle.sf_words.specs.declared.command.BacktraceCommand.{BacktraceCommand}
 use Rattle.sf_words.specs.declared.command.Command.{Command}
 use Rattle.sf_words.specs.declared.command.Command.TheVariants as command
 use Rattle.sf_words.specs.declared.words.SectionFile.{SectionFile}
 use Rattle.sf_words.specs.declared.command.SlimFiles.{SlimFiles}
 use Rattle.sf_words.specs.declared.command.WalkFiles.{WalkFiles}
-use Rattle.sf_words.specs.Words.{InputWords, LinkWords, MergeWords, SectionWords, CommandWords, IsInputWord, IsSectionWord, Link as LinkOf, Merge as MergeOf, Slim, Dump, Lookup, Walk, Gen, SlimWords, WalkWords}
+use Rattle.sf_words.specs.Words.{InputWords, LinkWords, MergeWords, SectionWords, CommandWords, IsInputWord, IsSectionWord, Link as LinkOf, Merge as MergeOf, Slim, Dump, Lookup, Walk, Backtrace as BacktraceOf, Gen, BacktraceWords, SlimWords, WalkWords}
 
 abbrev pub input_of : InputFile → InputWords
 input_of input = record { form = input.form; name = input.name.now; base = input.base }
@@ -34,6 +36,9 @@ slim_of slim = record { out = section_of slim.out; section = section_of slim.sec
 abbrev pub walk_of : WalkFiles → WalkWords
 walk_of walk = record { section = section_of walk.section; core = walk.core.now; depth = walk.depth }
 
+abbrev pub backtrace_of : Backtrace → BacktraceWords
+backtrace_of backtrace = record { out = section_of backtrace.out; core = backtrace.core.now; depth = backtrace.depth; inputs = map input_of backtrace.inputs.items }
+
 abbrev pub words_of : Asked → CommandWords
 words_of (asked.Link link) = LinkOf (link_of link)
 words_of (asked.Merge merge) = MergeOf (merge_of merge)
@@ -41,6 +46,7 @@ words_of (asked.Slim slim) = Slim (slim_of slim)
 words_of (asked.Dump section) = Dump (section_of section)
 words_of (asked.Lookup section pc) = Lookup (section_of section) pc
 words_of (asked.Walk walk) = Walk (walk_of walk)
+words_of (asked.Backtrace backtrace) = BacktraceOf (backtrace_of backtrace)
 words_of (asked.Gen n) = Gen n
 
 -- words that are split, and what they ask for
@@ -52,6 +58,12 @@ pub record AsksMerge (split : MergeCommand) (merge : MergeWords) : Type 0 where
   pub out : section_of split.out ≡ merge.out
   pub sections : AllZip IsSectionWord (map string_bytes split.sections.now) merge.sections
 
+pub record AsksBacktrace (split : BacktraceCommand) (backtrace : BacktraceWords) : Type 0 where
+  pub out : section_of split.out ≡ backtrace.out
+  pub core : split.core.now ≡ backtrace.core
+  pub depth : split.depth ≡ backtrace.depth
+  pub inputs : AllZip IsInputWord (map string_bytes split.inputs.now) backtrace.inputs
+
 abbrev pub Asks : Command → CommandWords → Type 0
 Asks (command.Link split) wanted = (link : LinkWords) × (wanted ≡ LinkOf link) × AsksLink split link
 Asks (command.Merge split) wanted = (merge : MergeWords) × (wanted ≡ MergeOf merge) × AsksMerge split merge
@@ -59,4 +71,5 @@ Asks (command.Slim slim) wanted = wanted ≡ Slim (slim_of slim)
 Asks (command.Dump section) wanted = wanted ≡ Dump (section_of section)
 Asks (command.Lookup section pc) wanted = wanted ≡ Lookup (section_of section) pc
 Asks (command.Walk walk) wanted = wanted ≡ Walk (walk_of walk)
+Asks (command.Backtrace split) wanted = (backtrace : BacktraceWords) × (wanted ≡ BacktraceOf backtrace) × AsksBacktrace split backtrace
 Asks (command.Gen n) wanted = wanted ≡ Gen n

@@ -124,6 +124,26 @@ pub record IsWalk (words : List (List ℕ)) (walk : WalkWords) : Type 0 where
   pub depth : SpellsDecimal depth_word walk.depth
   pub within : IsDepth walk.depth
 
+-- what is asked of `backtrace`: the section's file and address, the core file's name, the most frames of a thread, and what is linked
+pub record BacktraceWords : Type 0 where
+  pub out : SectionWords
+  pub core : List ℕ
+  pub depth : ℕ
+  pub inputs : List InputWords
+
+-- the words ask for this link and these walks
+pub record IsBacktrace (words : List (List ℕ)) (backtrace : BacktraceWords) : Type 0 where
+  pub out_word : List ℕ
+  pub depth_word : List ℕ
+  pub input_words : List (List ℕ)
+  pub words_are : words ≡ codes "backtrace" ∷ out_word ∷ backtrace.core ∷ depth_word ∷ input_words
+  pub out : IsSectionWord out_word backtrace.out
+  pub named : 0 < length backtrace.core
+  pub depth : SpellsDecimal depth_word backtrace.depth
+  pub within : IsDepth backtrace.depth
+  pub some : 0 < length input_words
+  pub inputs : AllZip IsInputWord input_words backtrace.inputs
+
 -- how many functions a made object may have: 1 to 100000
 pub record IsFunctionCount (n : ℕ) : Type 0 where
   pub some : 0 < n
@@ -144,6 +164,7 @@ pub data CommandWords : Type 0 where
   Dump : SectionWords → CommandWords
   Lookup : SectionWords → (pc : ℕ) → CommandWords
   Walk : WalkWords → CommandWords
+  Backtrace : BacktraceWords → CommandWords
   Gen : (n : ℕ) → CommandWords
 
 -- the words ask for this
@@ -154,6 +175,7 @@ IsCommand words (Slim slim) = IsSlim words slim
 IsCommand words (Dump section) = IsDump words section
 IsCommand words (Lookup section pc) = IsLookup words section pc
 IsCommand words (Walk walk) = IsWalk words walk
+IsCommand words (Backtrace backtrace) = IsBacktrace words backtrace
 IsCommand words (Gen n) = IsGen words n
 
 -- what each form says of the command that it asks for: a list that names one file at least, and a number within its range
@@ -164,6 +186,7 @@ CanBeAsked (Slim slim) = Unit {0}
 CanBeAsked (Dump section) = Unit {0}
 CanBeAsked (Lookup section pc) = Unit {0}
 CanBeAsked (Walk walk) = IsDepth walk.depth
+CanBeAsked (Backtrace backtrace) = (0 < length backtrace.inputs) × IsDepth backtrace.depth
 CanBeAsked (Gen n) = IsFunctionCount n
 
 -- the name of the file that a command makes
@@ -174,6 +197,7 @@ out_name (Slim slim) = Some slim.out.name
 out_name (Dump section) = None
 out_name (Lookup section pc) = None
 out_name (Walk walk) = None
+out_name (Backtrace backtrace) = Some backtrace.out.name
 out_name (Gen n) = None
 
 -- the words have none of the forms

@@ -1,6 +1,6 @@
 //! What a command line asks for, with each of its words read.
 
-ghost use Rattle.std.specs.Prelude.{◌≡◌, List, [], ◌∷◌, map, IfOk};
+ghost use Rattle.std.specs.Prelude.{◌≡◌, List, [], ◌∷◌, ◌++◌, map, IfOk, OnOk};
 ghost use Rattle.sf_words.specs.Items.{items_of, item_of, core_item, input_item, section_item};
 ghost use Rattle.sf_words.specs.Parsed.{Asks, input_of, section_of, words_of};
 ghost use Rattle.sf_words.specs.Words.{CommandWords};
@@ -10,7 +10,7 @@ use crate::item::{Item, ItemKind};
 use crate::lists::{inputs_of, sections_of};
 use crate::words::{InputFile, SectionFile};
 use sf_base::NoMemory;
-use std::alloc::Global;
+use std::alloc::{AllocError, Global};
 
 /// What is linked, and the section that is made of it.
 #[derive(Drop)]
@@ -24,6 +24,17 @@ pub struct Link<'a> {
 pub struct Merge<'a> {
     pub out: SectionFile<'a>,
     pub sections: Vec<SectionFile<'a>>,
+}
+
+/// What is linked and walked, and the section that is made of it.
+#[derive(Drop)]
+pub struct Backtrace<'a> {
+    pub out: SectionFile<'a>,
+    /// The name of the core file.
+    pub core: &'a str,
+    /// The most frames of a thread.
+    pub depth: u32,
+    pub inputs: Vec<InputFile<'a>>,
 }
 
 /// What a command asks for.
@@ -41,6 +52,8 @@ pub enum Asked<'a> {
     Lookup(SectionFile<'a>, u64),
     /// `walk FILE@AT CORE DEPTH`
     Walk(WalkFiles<'a>),
+    /// `backtrace OUT@AT CORE DEPTH IN@BASE ..`
+    Backtrace(Backtrace<'a>),
     /// `gen N`
     Gen(u32),
 }
@@ -66,8 +79,27 @@ pub fn read_words<'a>(alloc: Global, command: &Command<'a>) -> Result<Asked<'a>,
         Command::Dump(section) => Ok(Asked::Dump(*section)),
         Command::Lookup(section, pc) => Ok(Asked::Lookup(*section, *pc)),
         Command::Walk(walk) => Ok(Asked::Walk(*walk)),
+        Command::Backtrace(backtrace) => Ok(Asked::Backtrace(Backtrace {
+            out: backtrace.out,
+            core: backtrace.core,
+            depth: backtrace.depth,
+            inputs: inputs_of(alloc, backtrace.inputs)?,
+        })),
         Command::Gen(n) => Ok(Asked::Gen(*n)),
     }
+}
+
+/// Appends the files to be linked, as items.
+fn push_inputs<'a>(items: &mut Vec<Item<'a>>, inputs: &[InputFile<'a>]) -> Result<(), AllocError>
+    ensures { OnOk result (map item_of items.new.items ≡ map item_of items.old.items ++ map input_item (map input_of inputs.now)) }
+{
+    for input in inputs {
+        items.push(Item {
+            name: input.name,
+            kind: ItemKind::Input,
+        })?;
+    }
+    Ok(())
 }
 
 /// The files to be linked, as items.
@@ -75,12 +107,7 @@ fn input_items<'a>(alloc: Global, inputs: &[InputFile<'a>]) -> Result<Vec<Item<'
     ensures { IfOk result (λ items. map item_of items.items ≡ map input_item (map input_of inputs.now)) }
 {
     let mut items = Vec::new(alloc);
-    for input in inputs {
-        items.push(Item {
-            name: input.name,
-            kind: ItemKind::Input,
-        })?;
-    }
+    push_inputs(&mut items, inputs)?;
     Ok(items)
 }
 
@@ -105,15 +132,34 @@ fn section_items<'a>(alloc: Global, sections: &[SectionFile<'a>]) -> Result<Vec<
     Ok(items)
 }
 
+/// A core file, as an item.
+fn core_item(name: &str) -> Item<'_>
+    ensures { item_of result ≡ core_item name.now }
+{
+    Item {
+        name,
+        kind: ItemKind::Core,
+    }
+}
+
+/// The core file and the files to be linked, as items.
+fn core_and_inputs<'a>(
+    alloc: Global,
+    core: &'a str,
+    inputs: &[InputFile<'a>],
+) -> Result<Vec<Item<'a>>, NoMemory>
+    ensures { IfOk result (λ items. map item_of items.items ≡ core_item core.now ∷ map input_item (map input_of inputs.now)) }
+{
+    let mut items = vec![in alloc; core_item(core)]?;
+    push_inputs(&mut items, inputs)?;
+    Ok(items)
+}
+
 /// The section and the core file, as items.
 fn walk_items<'a>(alloc: Global, walk: &WalkFiles<'a>) -> Result<Vec<Item<'a>>, NoMemory>
     ensures { IfOk result (λ items. map item_of items.items ≡ section_item (section_of walk.now.section) ∷ core_item walk.now.core.now ∷ []) }
 {
-    let core = Item {
-        name: walk.core,
-        kind: ItemKind::Core,
-    };
-    Ok(vec![in alloc; section_item(&walk.section), core]?)
+    Ok(vec![in alloc; section_item(&walk.section), core_item(walk.core)]?)
 }
 
 /// The files that a command reads, in order.
@@ -130,6 +176,7 @@ pub fn items<'a>(alloc: Global, asked: &Asked<'a>) -> Result<Vec<Item<'a>>, NoMe
         Asked::Slim(slim) => section_items(alloc, &[slim.section]),
         Asked::Dump(section) | Asked::Lookup(section, _) => section_items(alloc, &[*section]),
         Asked::Walk(walk) => walk_items(alloc, walk),
+        Asked::Backtrace(backtrace) => { core_and_inputs(alloc, backtrace.core, &backtrace.inputs) }
         Asked::Gen(_) => Ok(Vec::new(alloc)),
     }
 }

@@ -4,9 +4,9 @@ ghost use Rattle.std.specs.Prelude.{◌≡◌, ◌<◌, ◌≤◌, ℕ, [], ◌�
 ghost use Rattle.std.specs.Option.{option_map};
 ghost use Rattle.std.specs.String.{string_bytes};
 ghost use Rattle.sf_base.specs.Word.{SpellsDecimal};
-ghost use Rattle.sf_words.specs.Words.{IsLink, IsMerge, IsSlim, IsDump, IsLookup, IsWalk, IsGen, IsCommand, LinkWords, MergeWords, SlimWords, SectionWords, WalkWords, CommandWords, out_name};
+ghost use Rattle.sf_words.specs.Words.{IsLink, IsMerge, IsSlim, IsDump, IsLookup, IsWalk, IsBacktrace, IsGen, IsCommand, LinkWords, MergeWords, SlimWords, SectionWords, WalkWords, BacktraceWords, CommandWords, out_name};
 ghost use Rattle.sf_words.specs.Items.{counted_items};
-ghost use Rattle.sf_words.specs.Parsed.{section_of, slim_of, walk_of, Asks, AsksLink, AsksMerge};
+ghost use Rattle.sf_words.specs.Parsed.{section_of, slim_of, walk_of, Asks, AsksBacktrace, AsksLink, AsksMerge};
 
 use crate::lists::{are_inputs, are_sections};
 use crate::words::{SectionFile, section_file};
@@ -51,6 +51,18 @@ pub struct WalkFiles<'a> {
     pub depth: u32,
 }
 
+/// The words of `backtrace OUT@AT CORE DEPTH IN@BASE ..`.
+#[derive(Clone, Copy)]
+pub struct BacktraceCommand<'a> {
+    pub out: SectionFile<'a>,
+    /// The name of the core file.
+    pub core: &'a str,
+    /// The most frames of a thread.
+    pub depth: u32,
+    /// The words that name the inputs.
+    pub inputs: &'a [String],
+}
+
 /// A command line that has one of the forms. It lends its words: reading them takes no memory.
 #[derive(Clone, Copy)]
 pub enum Command<'a> {
@@ -66,6 +78,8 @@ pub enum Command<'a> {
     Lookup(SectionFile<'a>, u64),
     /// `walk FILE@AT CORE DEPTH`
     Walk(WalkFiles<'a>),
+    /// `backtrace OUT@AT CORE DEPTH IN@BASE ..`
+    Backtrace(BacktraceCommand<'a>),
     /// `gen N`
     Gen(u32),
 }
@@ -80,6 +94,7 @@ impl<'a> Command<'a> {
             Command::Merge(merge) => merge.sections.len(),
             Command::Slim(_) => 1,
             Command::Dump(_) | Command::Lookup(_, _) | Command::Walk(_) => 1,
+            Command::Backtrace(backtrace) => backtrace.inputs.len(),
             Command::Gen(_) => 0,
         }
     }
@@ -93,6 +108,7 @@ impl<'a> Command<'a> {
             Command::Merge(merge) => Some(merge.out.name),
             Command::Slim(slim) => Some(slim.out.name),
             Command::Dump(_) | Command::Lookup(_, _) => None,
+            Command::Backtrace(backtrace) => Some(backtrace.out.name),
             Command::Walk(_) | Command::Gen(_) => None,
         }
     }
@@ -144,6 +160,24 @@ fn out_and_items(words: &[String]) -> Option<(&str, &str, &[String])>
     match words {
         [_, _] => None,
         [first, second, rest @ ..] => Some((first.as_str(), second.as_str(), rest)),
+        _ => None,
+    }
+}
+
+/// The first four words and the others, where there is a fifth one.
+fn four_and_items(words: &[String]) -> Option<(&str, &str, &str, &str, &[String])>
+    ensures found { IfSome result (λ t. (map string_bytes words.now ≡ t.0.now ∷ t.1.now ∷ t.2.now ∷ t.3.now ∷ map string_bytes t.4.now) × (0 < length t.4.now)) }
+    ensures only { (a b c d : List ℕ) (rest : List (List ℕ)) → map string_bytes words.now ≡ a ∷ b ∷ c ∷ d ∷ rest → 0 < length rest → IsSome result }
+{
+    match words {
+        [_, _, _, _] => None,
+        [first, second, third, fourth, rest @ ..] => Some((
+            first.as_str(),
+            second.as_str(),
+            third.as_str(),
+            fourth.as_str(),
+            rest,
+        )),
         _ => None,
     }
 }
@@ -253,6 +287,32 @@ fn walk_words(words: &[String]) -> Option<WalkFiles<'_>>
     })
 }
 
+/// The parts of the words, where they have the form `backtrace OUT@AT CORE DEPTH IN@BASE ..`.
+fn backtrace_words(words: &[String]) -> Option<BacktraceCommand<'_>>
+    ensures found { IfSome result (λ c. (backtrace : BacktraceWords) → AsksBacktrace c backtrace → IsBacktrace (map string_bytes words.now) backtrace) }
+    ensures named { IfSome result (λ c. (backtrace : BacktraceWords) × AsksBacktrace c backtrace) }
+    ensures only { (backtrace : BacktraceWords) → IsBacktrace (map string_bytes words.now) backtrace → IsSomeAnd result (λ c. AsksBacktrace c backtrace) }
+{
+    let (command, out, core, depth, inputs) = four_and_items(words)?;
+    if command != "backtrace" {
+        return None;
+    }
+    let out = section_file(out)?;
+    if core.is_empty() {
+        return None;
+    }
+    let depth = number_up_to(depth, MOST_FRAMES)?;
+    if !are_inputs(inputs) {
+        return None;
+    }
+    Some(BacktraceCommand {
+        out,
+        core,
+        depth,
+        inputs,
+    })
+}
+
 /// The number of functions, where the words have the form `gen N`.
 fn gen_words(words: &[String]) -> Option<u32>
     ensures found { IfSome result (λ n. IsGen (map string_bytes words.now) n) }
@@ -288,6 +348,9 @@ pub fn command_words(words: &[String]) -> Option<Command<'_>>
     }
     if let Some(walk) = walk_words(words) {
         return Some(Command::Walk(walk));
+    }
+    if let Some(backtrace) = backtrace_words(words) {
+        return Some(Command::Backtrace(backtrace));
     }
     let n = gen_words(words)?;
     Some(Command::Gen(n))

@@ -10,7 +10,7 @@ mod item;
 mod lists;
 mod words;
 
-pub use asked::{Asked, Link, Merge, items, read_words};
-pub use command::{Command, LinkCommand, MergeCommand, SlimFiles, WalkFiles, command_words};
+pub use asked::{Asked, Backtrace, Link, Merge, items, read_words};
+pub use command::{BacktraceCommand, Command, LinkCommand, MergeCommand, SlimFiles, WalkFiles, command_words};
 pub use item::{Item, ItemKind};
 pub use words::{InputFile, SectionFile};

@@ -24,7 +24,7 @@ link-requires-clause-some c =
 pub link-requires-clause-small : goal.link-requires-clause-small
 link-requires-clause-small c =
     subst (All (λ (input : Input). length input.bytes.now < 2 ^ 32)) (sym c.deref.ensures.value)
-    (inputs_short c.in_ok-inputs.inputs.items (map input_of c.args.inputs.now) (bytes_of c.args.items.now) c.in_ok-inputs.ensures c.requires.within)
+    (inputs_short 0 0 c.in_ok-inputs.inputs.items (map input_of c.args.inputs.now) (bytes_of c.args.items.now) c.in_ok-inputs.ensures c.requires.within)
 
 pub returns-in-Ok : goal.returns-in-Ok
 returns-in-Ok c =

@@ -1,13 +1,15 @@
-use Rattle.std.proofs.Common.{Vec, Global, ◌≡◌, ℕ, List, None, length, get_or, map, ap, sym, subst, ◌∙◌, arith}
+use Rattle.std.proofs.Common.{Vec, Global, ◌≡◌, ◌-◌, ℕ, suc, List, ◌∷◌, None, length, get_or, map, take, drop, ap, sym, subst, ◌∙◌, arith}
 use Rattle.std.proofs.Math.ListN.{get_or-map}
 use Rattle.std.proofs.lemmas.List.{length-map}
-use Rattle.sf_items.specs.Loading.{items_limit}
+use Rattle.sf_items.specs.Loading.{bytes_limit, items_limit, of_kinds}
 use Rattle.sf_words.specs.declared.asked.Asked.{Asked}
 use Rattle.sf_words.specs.declared.asked.Asked.TheVariants as asked
+use Rattle.sf_words.specs.declared.item.ItemKind.TheVariants as kind
 use Rattle.sf_words.specs.declared.words.InputFile.{InputFile}
 use Rattle.sf_words.specs.Items.{input_item, items_of, section_item}
 use Rattle.sf_words.specs.Parsed.{input_of, section_of, walk_of, words_of}
 use Rattle.sf_make.specs.Comes.{command_limit}
+use Rattle.sf_make.proofs.Backtraces.{behind_count, within_behind}
 use Rattle.sf_make.proofs.Limits.{within_limits}
 use Rattle.sf_make.proofs.Linked.{bytes_of}
 use Rattle.sf_make.proofs.Walks.{core_short}
@@ -48,3 +50,29 @@ walk_made-requires c =
     c.deref-in-Walk-2.ensures.value ∙ ap (λ (v : Vec ℕ Global). v.items) c.index-items-1.is ∙ sym (get_or-map (λ (v : Vec ℕ Global). v.items) c.args.items.now 1 core) in
     let long = ap length second in
     omega (arith, long, short)
+
+pub backtrace_made-requires-clause-few : goal.backtrace_made-requires-clause-few
+backtrace_made-requires-clause-few c =
+    let inputs = map input_of c.in-Backtrace.backtrace.inputs.items in
+    let within = subst (λ (a : Asked). command_limit (words_of a) (bytes_of c.args.items.now) ≡ None) c.in-Backtrace.is c.requires.within in
+    let limits = within_limits (words_of (asked.Backtrace c.in-Backtrace.backtrace)) (bytes_of c.args.items.now) within in
+    let count = subst (λ (a : Asked). length (bytes_of c.args.items.now) ≡ length (items_of (words_of a))) c.in-Backtrace.is c.requires.items.count in
+    let all = sym (length-map c.args.items.now (λ v. v.items)) ∙ count ∙ ap (λ (n : ℕ). suc n) (length-map inputs input_item) in
+    let behind = behind_count c.args.items.now (length inputs) all in
+    omega (arith, limits.0, behind)
+
+pub backtrace_made-requires-clause-within : goal.backtrace_made-requires-clause-within
+backtrace_made-requires-clause-within c =
+    let backtrace = c.in-Backtrace.backtrace in
+    let inputs = map input_of backtrace.inputs.items in
+    let within = subst (λ (a : Asked). command_limit (words_of a) (bytes_of c.args.items.now) ≡ None) c.in-Backtrace.is c.requires.within in
+    let limits = within_limits (words_of (asked.Backtrace backtrace)) (bytes_of c.args.items.now) within in
+    let count = subst (λ (a : Asked). length (bytes_of c.args.items.now) ≡ length (items_of (words_of a))) c.in-Backtrace.is c.requires.items.count in
+    let all = sym (length-map c.args.items.now (λ v. v.items)) ∙ count in
+    let core = c.index-items-0-in-Backtrace.result in
+    let first : c.deref-in-Backtrace-2.result.now ≡ (get_or c.args.items.now 0 core).items =
+    c.deref-in-Backtrace-2.ensures.value ∙ ap (λ (v : Vec ℕ Global). v.items) c.index-items-0-in-Backtrace.is in
+    let behind = bytes_of (take (length c.args.items.now - 1) (drop 1 c.args.items.now)) in
+    subst (λ (files : List InputFile). bytes_limit 0 0 ((kind.Core, c.deref-in-Backtrace-2.result.now) ∷ of_kinds (map input_item (map input_of files)) behind) ≡ None) (sym c.deref-in-Backtrace.ensures.value)
+    (subst (λ (b : List ℕ). bytes_limit 0 0 ((kind.Core, b) ∷ of_kinds (map input_item inputs) behind) ≡ None) (sym first)
+    (within_behind backtrace.core.now inputs c.args.items.now core (length (map input_item inputs)) all limits.1))

@@ -1,6 +1,6 @@
 use Rattle.std.proofs.Common.{refl, sym, subst}
 use Rattle.sf_words.specs.Parsed.{section_of, slim_of, walk_of}
-use Rattle.sf_words.specs.Words.{Link, Merge, Slim, Dump, Lookup, Walk, Gen, IsCommand}
+use Rattle.sf_words.specs.Words.{Link, Merge, Slim, Dump, Lookup, Walk, Backtrace, Gen, IsCommand}
 use Rattle.sf_words.proofs.command.command_words.Goals as goal
 
 pub returns-in-Some-clause-found : goal.returns-in-Some-clause-found
@@ -38,6 +38,12 @@ returns-in-Some-walk_words-clause-found c wanted asks = subst (IsCommand _) (sym
 
 pub returns-in-Some-walk_words-clause-named : goal.returns-in-Some-walk_words-clause-named
 returns-in-Some-walk_words-clause-named c = (Walk (walk_of c.in-Some-walk_words.walk), refl)
+
+pub returns-in-Some-backtrace_words-clause-found : goal.returns-in-Some-backtrace_words-clause-found
+returns-in-Some-backtrace_words-clause-found c wanted asks = subst (IsCommand _) (sym asks.1) (c.in-Some-backtrace_words.ensures.found asks.0 asks.2)
+
+pub returns-in-Some-backtrace_words-clause-named : goal.returns-in-Some-backtrace_words-clause-named
+returns-in-Some-backtrace_words-clause-named c = (Backtrace c.in-Some-backtrace_words.ensures.named.0, (c.in-Some-backtrace_words.ensures.named.0, refl, c.in-Some-backtrace_words.ensures.named.1))
 
 pub returns-clause-found : goal.returns-clause-found
 returns-clause-found c wanted asks = subst (IsCommand _) (sym asks) c.in_ok-n.ensures.found
