@@ -11,6 +11,8 @@ mod lists;
 mod words;
 
 pub use asked::{Asked, Backtrace, Link, Merge, items, read_words};
-pub use command::{BacktraceCommand, Command, LinkCommand, MergeCommand, SlimFiles, WalkFiles, command_words};
+pub use command::{
+    BacktraceCommand, Command, LinkCommand, MergeCommand, SlimFiles, WalkFiles, command_words,
+};
 pub use item::{Item, ItemKind};
 pub use words::{InputFile, SectionFile};
