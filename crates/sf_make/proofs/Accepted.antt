@@ -17,7 +17,7 @@ use Rattle.sf_make.specs.Linked.{LinkedComesFrom, MakesLinked, coming_of_linking
 use Rattle.sf_make.proofs.SomeComing.{links_some}
 
 -- it is a refusal, or a limit
-abbrev Refuses : Coming → Type 0
+abbrev pub Refuses : Coming → Type 0
 Refuses (Refused shown) = Unit {0}
 Refuses (Exceeded limit) = Unit {0}
 Refuses (Makes outcome section text) = ⊥
@@ -35,7 +35,7 @@ no_limit command items nothing = at_limit (command_limit command items) refl
     at_limit None e = e
     at_limit (Some limit) e = absurd (nothing.within limit (subst (λ (l : Option Limit). ComesWithin l (CommandComes command items) (Exceeded limit)) (sym e) refl))
 
-linking_refuses : (fault : LinkFault) → Refuses (coming_of_linking fault)
+pub linking_refuses : (fault : LinkFault) → Refuses (coming_of_linking fault)
 linking_refuses link.NoMemory = tt
 linking_refuses (link.OutOfReach start) = tt
 linking_refuses (link.Gather gather.NoMemory) = tt

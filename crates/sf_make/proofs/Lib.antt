@@ -7,4 +7,5 @@ pub mod Merged
 pub mod OneComing
 pub mod Order
 pub mod SomeComing
+pub mod WalkedAgain
 pub mod Walks

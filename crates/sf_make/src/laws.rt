@@ -1,6 +1,6 @@
 //! Laws: what runs come to.
 
-ghost use Rattle.std.specs.Prelude.{◌≡◌, ℕ, List, None, Result};
+ghost use Rattle.std.specs.Prelude.{◌≡◌, ℕ, List, [], ◌∷◌, Some, None, Result};
 ghost use Rattle.sf_model.specs.Section.{AreBytes};
 ghost use Rattle.sf_decode.specs.declared.fault.DecodeFault.{DecodeFault};
 ghost use Rattle.sf_decode.specs.Decoding.{section_check};
@@ -9,12 +9,15 @@ ghost use Rattle.sf_asm.specs.declared.entry.Entry.{Entry};
 ghost use Rattle.sf_asm.specs.declared.fault.LinkFault.{LinkFault};
 ghost use Rattle.sf_asm.specs.Functions.{Object};
 ghost use Rattle.sf_asm.specs.Linking.{Links};
-ghost use Rattle.sf_words.specs.Words.{CommandWords, Link, LinkWords};
+ghost use Rattle.sf_words.specs.Words.{CommandWords, InputWords, Link, LinkWords};
+ghost use Rattle.sf_make.specs.declared.made.Outcome.{Outcome as outcome};
 ghost use Rattle.sf_make.specs.declared.section.Query.{Query};
+ghost use Rattle.sf_make.specs.BacktraceComes.{BacktraceComes};
 ghost use Rattle.sf_make.specs.Comes.{AreItems, Comes, RefusesNothing, command_limit};
-ghost use Rattle.sf_make.specs.Coming.{Coming};
+ghost use Rattle.sf_make.specs.Coming.{Coming, Makes};
 ghost use Rattle.sf_make.specs.LinkComes.{objects_in};
 ghost use Rattle.sf_make.specs.SectionComes.{SectionComesFrom};
+ghost use Rattle.sf_make.specs.WalkComes.{WalkComes};
 
 /// A command and the bytes of its items come to one thing at most.
 #[tactic(auto, using(crate::proofs::OneComing::one_coming))]
@@ -26,6 +29,12 @@ pub fn a_run_comes_to_one()
 #[tactic(auto, using(crate::proofs::SomeComing::some_section))]
 pub fn a_shown_section_comes_to_something()
     ensures { (at : ℕ) (bytes : List ℕ) (query : Query) → AreBytes bytes → (check : Result (Unit {0}) DecodeFault) → section_check bytes at ≡ check → (coming : Coming) × SectionComesFrom at bytes query check coming }
+{}
+
+/// A walk by the section that `backtrace` writes comes to the text that `backtrace` prints.
+#[tactic(auto, using(crate::proofs::WalkedAgain::walked_again))]
+pub fn a_backtrace_is_the_walk_by_its_section()
+    ensures { (inputs : List InputWords) (at depth : ℕ) (core : List ℕ) (items : List (List ℕ)) (section text : List ℕ) → BacktraceComes inputs at depth (core ∷ items) (Makes outcome.Done (Some section) text) → WalkComes at depth (section ∷ core ∷ []) (Makes outcome.Done None text) }
 {}
 
 /// Linking inputs comes to a result: the functions in order, or a fault.

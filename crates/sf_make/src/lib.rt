@@ -17,8 +17,8 @@ mod slim;
 mod walk;
 
 pub use laws::{
-    a_run_comes_to_one, a_shown_section_comes_to_something, linking_comes_to_a_result,
-    nothing_is_refused_of_inputs_that_can_be_linked,
+    a_backtrace_is_the_walk_by_its_section, a_run_comes_to_one, a_shown_section_comes_to_something,
+    linking_comes_to_a_result, nothing_is_refused_of_inputs_that_can_be_linked,
 };
 pub use made::{Made, Outcome};
 pub use making::make;
