@@ -6,7 +6,7 @@ ghost use Rattle.sf_gen.specs.Frames as spec;
 use crate::kinds::{instructions_of, kind_of, next};
 use crate::layout::{
     CIE_LEN, DW_CFA_DEF_CFA, DW_CFA_OFFSET, DW_EH_PE_PCREL, DW_EH_PE_SDATA4, FDE_LEN, FUNCTION_LEN,
-    RETURN_ADDRESS, RSP, WORD_LEN,
+    REGISTER_RSP, RETURN_ADDRESS, WORD_LEN,
 };
 use crate::number::push_word;
 use std::alloc::AllocError;
@@ -44,7 +44,7 @@ fn push_cie(bytes: &mut Vec<u8>) -> Result<(), AllocError>
         1,
         DW_EH_PE_PCREL | DW_EH_PE_SDATA4,
         DW_CFA_DEF_CFA,
-        RSP,
+        REGISTER_RSP,
         8,
         DW_CFA_OFFSET + RETURN_ADDRESS,
         1,

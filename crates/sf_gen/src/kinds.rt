@@ -6,7 +6,7 @@ ghost use Rattle.sf_gen.specs.Instruction.{filled, instructions};
 
 use crate::layout::{
     DW_CFA_ADVANCE_LOC, DW_CFA_DEF_CFA, DW_CFA_DEF_CFA_OFFSET, DW_CFA_DEF_CFA_REGISTER,
-    DW_CFA_OFFSET, INSTRUCTIONS_LEN, R10, RBP, RSP,
+    DW_CFA_OFFSET, INSTRUCTIONS_LEN, REGISTER_R10, REGISTER_RBP, REGISTER_RSP,
 };
 
 /// The generator's next state (ISO C, the example of `rand`).
@@ -33,14 +33,14 @@ const FRAME_POINTER: [u8; INSTRUCTIONS_LEN] = [
     DW_CFA_ADVANCE_LOC + 1,
     DW_CFA_DEF_CFA_OFFSET,
     16,
-    DW_CFA_OFFSET + RBP,
+    DW_CFA_OFFSET + REGISTER_RBP,
     2,
     DW_CFA_ADVANCE_LOC + 3,
     DW_CFA_DEF_CFA_REGISTER,
-    RBP,
+    REGISTER_RBP,
     DW_CFA_ADVANCE_LOC + 27,
     DW_CFA_DEF_CFA,
-    RSP,
+    REGISTER_RSP,
     8,
     0,
     0,
@@ -70,7 +70,7 @@ const LOCALS: [u8; INSTRUCTIONS_LEN] = [
 const OTHER_REGISTER: [u8; INSTRUCTIONS_LEN] = [
     DW_CFA_ADVANCE_LOC + 5,
     DW_CFA_DEF_CFA,
-    R10,
+    REGISTER_R10,
     0,
     0,
     0,

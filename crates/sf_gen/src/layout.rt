@@ -86,10 +86,10 @@ pub(crate) const DW_CFA_DEF_CFA_REGISTER: u8 = 0x0d;
 pub(crate) const DW_CFA_DEF_CFA_OFFSET: u8 = 0x0e;
 
 // Registers (x86-64 psABI, "DWARF Register Number Mapping").
-pub(crate) const RBP: u8 = 6;
+pub(crate) const REGISTER_RBP: u8 = 6;
 
-pub(crate) const RSP: u8 = 7;
+pub(crate) const REGISTER_RSP: u8 = 7;
 
-pub(crate) const R10: u8 = 10;
+pub(crate) const REGISTER_R10: u8 = 10;
 /// The return address's column.
 pub(crate) const RETURN_ADDRESS: u8 = 16;
