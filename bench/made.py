@@ -1,8 +1,9 @@
 #!/usr/bin/env python3
-"""Writes an .eh_frame section for AMD64 that lies at 0x40000000.
+"""Writes an .eh_frame section for AMD64 that lies at 0x40000000, or a core file.
 
     made.py OUT functions N     N functions of 16 bytes from 0x1000 on, each with four rows
     made.py OUT rows N          one function at 0x1000 with N rows
+    made.py OUT threads N       a core file of N threads, each deep in calls of the function at 0x1000 of 6 bytes
 """
 
 import struct
@@ -41,7 +42,35 @@ def rows(count):
     yield fde(place, FIRST, count, b"".join(step[it % 2] for it in range(count - 1)))
 
 
+def note(kind, descriptor):
+    return struct.pack("<III5s3x", 5, len(descriptor), kind, b"CORE") + descriptor
+
+
+def status(pid):
+    """The status of a thread at 0x1005, with its stack pointer at 0x7010."""
+    it = bytearray(336)
+    struct.pack_into("<I", it, 32, pid)
+    struct.pack_into("<QQ", it, 240, 0x1005, 0)
+    struct.pack_into("<Q", it, 264, 0x7010)
+    return bytes(it)
+
+
+def threads(count):
+    """A core file: its header, two segments, the threads' notes, and a stack of return addresses."""
+    notes = b"".join(note(1, status(pid)) for pid in range(1, count + 1))
+    stack = struct.pack("<Q", 0x1006) * 8192
+    header = struct.pack("<4sBBB9xHHIQQQIHHHHHH", b"\x7fELF", 2, 1, 1, 4, 62, 1, 0, 64, 0, 0, 64, 56, 2, 0, 0, 0)
+    place = 64 + 2 * 56
+    segments = struct.pack("<IIQQQQQQ", 4, 0, place, 0, 0, len(notes), 0, 4)
+    segments += struct.pack("<IIQQQQQQ", 1, 6, place + len(notes), 0x7000, 0, len(stack), len(stack), 1)
+    return header + segments + notes + stack
+
+
 def main(out, what, count):
+    if what == "threads":
+        with open(out, "wb") as file:
+            file.write(threads(int(count)))
+        return
     made, place = {"functions": functions, "rows": rows}[what](int(count)), 0
     with open(out, "wb") as file:
         piece = next(made)
