@@ -21,3 +21,5 @@ pub mod OneOrder
 pub mod Worked
 pub mod Accepting
 pub mod MadeRows
+pub mod Lending
+pub mod ByStart

@@ -16,9 +16,6 @@ use Rattle.sf_asm.specs.Kept.{entry_of}
 use Rattle.sf_asm.specs.Linking.{start_of, InOrder, link_fault, unless_fault, Links, LinksFrom}
 
 -- ---- ties
-abbrev tied : Entry → Entry → Bool
-tied = ties (λ a b. is_lt (nat_cmp (start_of a) (start_of b)))
-
 by_test : (b equal : Bool) → is_lt (cond b Less (cond equal Equal Greater)) ≡ b
 by_test true equal = refl
 by_test false true = refl
@@ -27,79 +24,97 @@ by_test false false = refl
 less_is : (a b : ℕ) → is_lt (nat_cmp a b) ≡ nat_lt a b
 less_is a b = by_test (nat_lt a b) (eqb a b)
 
-tied_same : (a b : Entry) → start_of a ≡ start_of b → tied a b ≡ true
-tied_same a b e =
-    let one : is_lt (nat_cmp (start_of a) (start_of b)) ≡ false = less_is (start_of a) (start_of b) ∙ le-ltb (start_of a) (start_of b) (omega (arith, e)) in
-    let other : is_lt (nat_cmp (start_of b) (start_of a)) ≡ false = less_is (start_of b) (start_of a) ∙ le-ltb (start_of b) (start_of a) (omega (arith, e)) in
-    rw (one, other) refl
+module _ {X : Type 0} (key : X → ℕ) where
+  abbrev pub tied : X → X → Bool
+  tied = ties (λ a b. is_lt (nat_cmp (key a) (key b)))
 
-tied_apart : (a b : Entry) → start_of a < start_of b → tied a b ≡ false
-tied_apart a b lt =
-    let one : is_lt (nat_cmp (start_of a) (start_of b)) ≡ true = less_is (start_of a) (start_of b) ∙ lt-ltb (start_of a) (start_of b) lt in
-    rw one refl
+  tied_same : (a b : X) → key a ≡ key b → tied a b ≡ true
+  tied_same a b e =
+      let one : is_lt (nat_cmp (key a) (key b)) ≡ false = less_is (key a) (key b) ∙ le-ltb (key a) (key b) (omega (arith, e)) in
+      let other : is_lt (nat_cmp (key b) (key a)) ≡ false = less_is (key b) (key a) ∙ le-ltb (key b) (key a) (omega (arith, e)) in
+      rw (one, other) refl
 
--- ---- rising starts
-NoneBelow : ℕ → List Entry → Type 0
-NoneBelow least [] = Unit {0}
-NoneBelow least (e ∷ es) = (least ≤ start_of e) × NoneBelow least es
+  tied_apart : (a b : X) → key a < key b → tied a b ≡ false
+  tied_apart a b lt =
+      let one : is_lt (nat_cmp (key a) (key b)) ≡ true = less_is (key a) (key b) ∙ lt-ltb (key a) (key b) lt in
+      rw one refl
 
-none_tied : (e : Entry) (least : ℕ) (es : List Entry) → start_of e < least → NoneBelow least es → filter (tied e) es ≡ []
-unfolding NoneBelow
-none_tied e least [] lt h = refl
-none_tied e least (f ∷ es) lt h =
-    ap (λ (b : Bool). cond b (f ∷ filter (tied e) es) (filter (tied e) es)) (tied_apart e f (omega (arith, lt, h.0))) ∙ none_tied e least es lt h.1
+  tied_apart_back : (a b : X) → key b < key a → tied a b ≡ false
+  tied_apart_back a b lt =
+      let one : is_lt (nat_cmp (key a) (key b)) ≡ false = less_is (key a) (key b) ∙ le-ltb (key a) (key b) (omega (arith, lt)) in
+      let other : is_lt (nat_cmp (key b) (key a)) ≡ true = less_is (key b) (key a) ∙ lt-ltb (key b) (key a) lt in
+      rw (one, other) refl
 
-tail_rises : (e : Entry) (es : List Entry) → IsNonDecreasingBy start_of (e ∷ es) → IsNonDecreasingBy start_of es
-tail_rises e es h = λ i j d le lt. h (suc i) (suc j) d (omega (arith, le)) (omega (arith, lt))
-
-none_below : (least : ℕ) (es : List Entry) → ((j : ℕ) (d : Entry) → j < length es → least ≤ start_of (get_or es j d)) → NoneBelow least es
-unfolding NoneBelow
-none_below least [] h = tt
-none_below least (e ∷ es) h = (h 0 e (omega arith), none_below least es (λ j d lt. h (suc j) d (omega (arith, lt))))
-
-first_least : (e : Entry) (es : List Entry) → IsNonDecreasingBy start_of (e ∷ es) → NoneBelow (start_of e) (e ∷ es)
-first_least e es h = none_below (start_of e) (e ∷ es) (λ j d lt. h 0 j d (omega arith) lt)
-
--- ---- the order
-head_is : (e : Entry) (es : List Entry) → filter (tied e) (e ∷ es) ≡ e ∷ filter (tied e) es
-head_is e es = ap (λ (b : Bool). cond b (e ∷ filter (tied e) es) (filter (tied e) es)) (tied_same e e refl)
-
-first_is_not_later : (e f : Entry) (es fs : List Entry) → start_of e < start_of f → IsNonDecreasingBy start_of (f ∷ fs) → filter (tied e) (e ∷ es) ≡ filter (tied e) (f ∷ fs) → ⊥
-first_is_not_later e f es fs lt rise h =
-    let is : e ∷ filter (tied e) es ≡ [] = sym (head_is e es) ∙ h ∙ none_tied e (start_of f) (f ∷ fs) lt (first_least f fs rise) in
-    cc
-
-same_head : (e f : Entry) (es fs : List Entry) → start_of e ≡ start_of f → filter (tied e) (e ∷ es) ≡ filter (tied e) (f ∷ fs) → e ≡ f
-same_head e f es fs same h =
-    let is : e ∷ filter (tied e) es ≡ f ∷ filter (tied e) fs = sym (head_is e es) ∙ h ∙ ap (λ (b : Bool). cond b (f ∷ filter (tied e) fs) (filter (tied e) fs)) (tied_same e f same) in
-    cc
-
-same_behind : (x e : Entry) (es fs : List Entry) → filter (tied x) (e ∷ es) ≡ filter (tied x) (e ∷ fs) → filter (tied x) es ≡ filter (tied x) fs
-same_behind x e es fs h = at_test (tied x e) h
-  where
-    at_test : (b : Bool) → cond b (e ∷ filter (tied x) es) (filter (tied x) es) ≡ cond b (e ∷ filter (tied x) fs) (filter (tied x) fs) → filter (tied x) es ≡ filter (tied x) fs
-    at_test true h = cc
-    at_test false h = h
-
-one_order_of : (es fs : List Entry) → IsNonDecreasingBy start_of es → IsNonDecreasingBy start_of fs → ((x : Entry) → filter (tied x) es ≡ filter (tied x) fs) → es ≡ fs
-one_order_of [] [] rise rise' h = refl
-one_order_of [] (f ∷ fs) rise rise' h = let is : [] ≡ f ∷ filter (tied f) fs = h f ∙ head_is f fs in cc
-one_order_of (e ∷ es) [] rise rise' h = let is : [] ≡ e ∷ filter (tied e) es = sym (h e) ∙ head_is e es in cc
-one_order_of (e ∷ es) (f ∷ fs) rise rise' h =
-    elim (cases_lt (start_of e) (start_of f)) [
-      | inl lt ↦ absurd (first_is_not_later e f es fs lt rise' (h e))
-      | inr not_less ↦ elim (cases_lt (start_of f) (start_of e)) [
-        | inl lt ↦ absurd (first_is_not_later f e fs es lt rise (sym (h f)))
-        | inr not_more ↦
-            let same : e ≡ f = same_head e f es fs (omega (arith, not_less, not_more)) (h e) in
-            let rest = one_order_of es fs (tail_rises e es rise) (tail_rises f fs rise')
-            (λ x. same_behind x e es fs (h x ∙ ap (λ (g : Entry). filter (tied x) (g ∷ fs)) (sym same))) in
-            ap (λ (g : Entry). g ∷ es) same ∙ ap (λ (gs : List Entry). f ∷ gs) rest
+  pub tied_means : (a b : X) → tied a b ≡ true → key a ≡ key b
+  tied_means a b e =
+      elim (cases_lt (key a) (key b)) [
+        | inl lt ↦ let is = sym (tied_apart a b lt) ∙ e in cc
+        | inr not_less ↦ elim (cases_lt (key b) (key a)) [
+          | inl lt ↦ let is = sym (tied_apart_back a b lt) ∙ e in cc
+          | inr not_more ↦ omega (arith, not_less, not_more)
+        ]
       ]
-    ]
+
+  -- ---- rising starts
+  abbrev pub NoneBelow : ℕ → List X → Type 0
+  NoneBelow least [] = Unit {0}
+  NoneBelow least (e ∷ es) = (least ≤ key e) × NoneBelow least es
+
+  none_tied : (e : X) (least : ℕ) (es : List X) → key e < least → NoneBelow least es → filter (tied e) es ≡ []
+  none_tied e least [] lt h = refl
+  none_tied e least (f ∷ es) lt h =
+      ap (λ (b : Bool). cond b (f ∷ filter (tied e) es) (filter (tied e) es)) (tied_apart e f (omega (arith, lt, h.0))) ∙ none_tied e least es lt h.1
+
+  tail_rises : (e : X) (es : List X) → IsNonDecreasingBy key (e ∷ es) → IsNonDecreasingBy key es
+  tail_rises e es h = λ i j d le lt. h (suc i) (suc j) d (omega (arith, le)) (omega (arith, lt))
+
+  none_below : (least : ℕ) (es : List X) → ((j : ℕ) (d : X) → j < length es → least ≤ key (get_or es j d)) → NoneBelow least es
+  none_below least [] h = tt
+  none_below least (e ∷ es) h = (h 0 e (omega arith), none_below least es (λ j d lt. h (suc j) d (omega (arith, lt))))
+
+  first_least : (e : X) (es : List X) → IsNonDecreasingBy key (e ∷ es) → NoneBelow (key e) (e ∷ es)
+  first_least e es h = none_below (key e) (e ∷ es) (λ j d lt. h 0 j d (omega arith) lt)
+
+  -- ---- the order
+  head_is : (e : X) (es : List X) → filter (tied e) (e ∷ es) ≡ e ∷ filter (tied e) es
+  head_is e es = ap (λ (b : Bool). cond b (e ∷ filter (tied e) es) (filter (tied e) es)) (tied_same e e refl)
+
+  first_is_not_later : (e f : X) (es fs : List X) → key e < key f → IsNonDecreasingBy key (f ∷ fs) → filter (tied e) (e ∷ es) ≡ filter (tied e) (f ∷ fs) → ⊥
+  first_is_not_later e f es fs lt rise h =
+      let is : e ∷ filter (tied e) es ≡ [] = sym (head_is e es) ∙ h ∙ none_tied e (key f) (f ∷ fs) lt (first_least f fs rise) in
+      cc
+
+  same_head : (e f : X) (es fs : List X) → key e ≡ key f → filter (tied e) (e ∷ es) ≡ filter (tied e) (f ∷ fs) → e ≡ f
+  same_head e f es fs same h =
+      let is : e ∷ filter (tied e) es ≡ f ∷ filter (tied e) fs = sym (head_is e es) ∙ h ∙ ap (λ (b : Bool). cond b (f ∷ filter (tied e) fs) (filter (tied e) fs)) (tied_same e f same) in
+      cc
+
+  same_behind : (x e : X) (es fs : List X) → filter (tied x) (e ∷ es) ≡ filter (tied x) (e ∷ fs) → filter (tied x) es ≡ filter (tied x) fs
+  same_behind x e es fs h = at_test (tied x e) h
+    where
+      at_test : (b : Bool) → cond b (e ∷ filter (tied x) es) (filter (tied x) es) ≡ cond b (e ∷ filter (tied x) fs) (filter (tied x) fs) → filter (tied x) es ≡ filter (tied x) fs
+      at_test true h = cc
+      at_test false h = h
+
+  pub one_order_of : (es fs : List X) → IsNonDecreasingBy key es → IsNonDecreasingBy key fs → ((x : X) → filter (tied x) es ≡ filter (tied x) fs) → es ≡ fs
+  one_order_of [] [] rise rise' h = refl
+  one_order_of [] (f ∷ fs) rise rise' h = let is : [] ≡ f ∷ filter (tied f) fs = h f ∙ head_is f fs in cc
+  one_order_of (e ∷ es) [] rise rise' h = let is : [] ≡ e ∷ filter (tied e) es = sym (h e) ∙ head_is e es in cc
+  one_order_of (e ∷ es) (f ∷ fs) rise rise' h =
+      elim (cases_lt (key e) (key f)) [
+        | inl lt ↦ absurd (first_is_not_later e f es fs lt rise' (h e))
+        | inr not_less ↦ elim (cases_lt (key f) (key e)) [
+          | inl lt ↦ absurd (first_is_not_later f e fs es lt rise (sym (h f)))
+          | inr not_more ↦
+              let same : e ≡ f = same_head e f es fs (omega (arith, not_less, not_more)) (h e) in
+              let rest = one_order_of es fs (tail_rises e es rise) (tail_rises f fs rise')
+              (λ x. same_behind x e es fs (h x ∙ ap (λ (g : X). filter (tied x) (g ∷ fs)) (sym same))) in
+              ap (λ (g : X). g ∷ es) same ∙ ap (λ (gs : List X). f ∷ gs) rest
+        ]
+      ]
 
 pub one_order : (all es fs : List Entry) → InOrder all es → InOrder all fs → es ≡ fs
-one_order all es fs a b = one_order_of es fs a.rising b.rising (λ x. a.stable x ∙ sym (b.stable x))
+one_order all es fs a b = one_order_of start_of es fs a.rising b.rising (λ x. a.stable x ∙ sym (b.stable x))
 
 -- ---- linking
 result_from : (at : ℕ) (given : Result (List Function) GatherFault) (r r' : Result (List Entry) LinkFault) → LinksFrom at given r → LinksFrom at given r' → r ≡ r'

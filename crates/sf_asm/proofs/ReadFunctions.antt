@@ -46,6 +46,13 @@ reads_function arch item section values f span outcome p q r =
     ∙ ap (λ (x : Option _). seen_as entry_of (named (asm.Machine section.number) (unless x) >>= λ _. Ok (function_at arch item section f span))) q
     ∙ ap (λ (o : Outcome). Ok (record { span = record { start = span.0; size = span.1; origin = record { item = item; section = section.number; place = f.place } }; outcome = o })) (sym r)
 
+pub reads_source : (arch : Arch) (item : ℕ) (section : CallFrames) (values : Values) (f : FdeView) (span : ℕ × ℕ) → Ok span ≡ named (asm.Record section.number) (span_in section values f) → fault_in arch f ≡ None
+    → function_in arch item section values f ≡ Ok (function_at arch item section f span)
+unfolding function_in
+reads_source arch item section values f span p q =
+    ap (λ (s : Result (ℕ × ℕ) AsmFault). s >>= λ span. (named (asm.Machine section.number) (unless (fault_in arch f)) >>= λ _. Ok (function_at arch item section f span))) (sym p)
+    ∙ ap (λ (x : Option _). named (asm.Machine section.number) (unless x) >>= λ _. Ok (function_at arch item section f span)) q
+
 pub span_refused : (arch : Arch) (item : ℕ) (section : CallFrames) (values : Values) (f : FdeView) (fault : AsmFault) → Err fault ≡ named (asm.Record section.number) (span_in section values f) → function_in arch item section values f ≡ Err fault
 unfolding function_in
 span_refused arch item section values f fault p = ap (λ (s : Result (ℕ × ℕ) AsmFault). s >>= λ span. (named (asm.Machine section.number) (unless (fault_in arch f)) >>= λ _. Ok (function_at arch item section f span))) (sym p)
@@ -73,26 +80,39 @@ passed_on : (arch : Arch) (item : ℕ) (section : CallFrames) (values : Values) 
 passed_on arch item section values f fs e =
     ap (λ (b : Bool). cond b (functions_in arch item section values fs) (function_in arch item section values f >>= λ g. functions_in arch item section values fs >>= λ gs. Ok (g ∷ gs))) e
 
-one_more : (before : List Entry) (entry : Entry) (one : Result Function AsmFault) (others : Result (List Function) AsmFault) → seen_as entry_of one ≡ Ok entry
-    → after_read before (seen_as (map entry_of) (one >>= λ g. (others >>= λ gs. Ok (g ∷ gs)))) ≡ after_read (before ++ entry ∷ []) (seen_as (map entry_of) others)
-one_more before entry (Ok g) (Ok gs) e =
-    let is : entry_of g ≡ entry = cc in
-    ap (λ (x : Entry). Ok (before ++ x ∷ map entry_of gs)) is ∙ ap Ok (sym (append_assoc before (entry ∷ []) (map entry_of gs)))
-one_more before entry (Ok g) (Err fault) e = refl
-one_more before entry (Err fault) others e = cc
+-- what is seen of a list is what is seen of its parts
+pub record IsListwise {X : Type 0} (view : List Function → List X) : Type 0 where
+  pub none : view [] ≡ []
+  pub both : (fs gs : List Function) → view (fs ++ gs) ≡ view fs ++ view gs
 
-pub goes_on : (arch : Arch) (item : ℕ) (section : CallFrames) (values : Values) (before : List Entry) (entry : Entry) (f : FdeView) (left after : List FdeView) (all : Result (List Entry) AsmFault) → left ≡ f ∷ after → values.dropped f.begin ≡ false
-    → seen_as entry_of (function_in arch item section values f) ≡ Ok entry → after_read before (read_of arch item section values left) ≡ all → after_read (before ++ entry ∷ []) (read_of arch item section values after) ≡ all
-goes_on arch item section values before entry f left after all p kept q h =
-    sym (one_more before entry (function_in arch item section values f) (functions_in arch item section values after) q)
-    ∙ ap (λ (gs : Result (List Function) AsmFault). after_read before (seen_as (map entry_of) gs)) (sym (kept_on arch item section values f after kept))
-    ∙ ap (λ (fs : List FdeView). after_read before (read_of arch item section values fs)) (sym p) ∙ h
+pub entries_listwise : IsListwise (map entry_of)
+entries_listwise = record { none = refl; both = map-append entry_of }
 
-pub passes_on : (arch : Arch) (item : ℕ) (section : CallFrames) (values : Values) (before : List Entry) (f : FdeView) (left after : List FdeView) (all : Result (List Entry) AsmFault) → left ≡ f ∷ after → values.dropped f.begin ≡ true
-    → after_read before (read_of arch item section values left) ≡ all → after_read before (read_of arch item section values after) ≡ all
-passes_on arch item section values before f left after all p dropped h =
-    ap (λ (gs : Result (List Function) AsmFault). after_read before (seen_as (map entry_of) gs)) (sym (passed_on arch item section values f after dropped))
-    ∙ ap (λ (fs : List FdeView). after_read before (read_of arch item section values fs)) (sym p) ∙ h
+one_more : {X : Type 0} (view : List Function → List X) → IsListwise view → (before more : List X) (one : Result Function AsmFault) (others : Result (List Function) AsmFault) → seen_as (λ g. view (g ∷ [])) one ≡ Ok more
+    → after_read before (seen_as view (one >>= λ g. (others >>= λ gs. Ok (g ∷ gs)))) ≡ after_read (before ++ more) (seen_as view others)
+one_more {X} view parts before more (Ok g) (Ok gs) e =
+    let is : view (g ∷ []) ≡ more = cc in
+    ap (λ (xs : List X). Ok (before ++ xs)) (parts.both (g ∷ []) gs) ∙ ap (λ (xs : List X). Ok (before ++ (xs ++ view gs))) is ∙ ap Ok (sym (append_assoc before more (view gs)))
+one_more view parts before more (Ok g) (Err fault) e = refl
+one_more view parts before more (Err fault) others e = cc
+
+pub one_entry : (one : Result Function AsmFault) (entry : Entry) → seen_as entry_of one ≡ Ok entry → seen_as (λ g. map entry_of (g ∷ [])) one ≡ Ok (entry ∷ [])
+one_entry (Ok g) entry e = let is : entry_of g ≡ entry = cc in ap (λ (x : Entry). Ok (x ∷ [])) is
+one_entry (Err fault) entry e = cc
+
+pub goes_on : {X : Type 0} (view : List Function → List X) → IsListwise view → (arch : Arch) (item : ℕ) (section : CallFrames) (values : Values) (before more : List X) (f : FdeView) (left after : List FdeView) (all : Result (List X) AsmFault) → left ≡ f ∷ after
+    → values.dropped f.begin ≡ false → seen_as (λ g. view (g ∷ [])) (function_in arch item section values f) ≡ Ok more → after_read before (seen_as view (functions_in arch item section values left)) ≡ all
+    → after_read (before ++ more) (seen_as view (functions_in arch item section values after)) ≡ all
+goes_on view parts arch item section values before more f left after all p kept q h =
+    sym (one_more view parts before more (function_in arch item section values f) (functions_in arch item section values after) q)
+    ∙ ap (λ (gs : Result (List Function) AsmFault). after_read before (seen_as view gs)) (sym (kept_on arch item section values f after kept))
+    ∙ ap (λ (fs : List FdeView). after_read before (seen_as view (functions_in arch item section values fs))) (sym p) ∙ h
+
+pub passes_on : {X : Type 0} (view : List Function → List X) (arch : Arch) (item : ℕ) (section : CallFrames) (values : Values) (before : List X) (f : FdeView) (left after : List FdeView) (all : Result (List X) AsmFault) → left ≡ f ∷ after → values.dropped f.begin ≡ true
+    → after_read before (seen_as view (functions_in arch item section values left)) ≡ all → after_read before (seen_as view (functions_in arch item section values after)) ≡ all
+passes_on view arch item section values before f left after all p dropped h =
+    ap (λ (gs : Result (List Function) AsmFault). after_read before (seen_as view gs)) (sym (passed_on arch item section values f after dropped))
+    ∙ ap (λ (fs : List FdeView). after_read before (seen_as view (functions_in arch item section values fs))) (sym p) ∙ h
 
 pub is_done : (arch : Arch) (item : ℕ) (section : CallFrames) (values : Values) (before : List Entry) (left : List FdeView) (all : Result (List Entry) AsmFault) → left ≡ [] → after_read before (read_of arch item section values left) ≡ all → all ≡ Ok before
 is_done arch item section values before left all p h = sym h ∙ ap (λ (fs : List FdeView). after_read before (read_of arch item section values fs)) p ∙ ap Ok (append-nil before)
@@ -158,37 +178,42 @@ pointers_refused arch item section es fixes fault p q r =
     ∙ pointers_fault arch item section es fixes (pointer_check (pointer_fields es) fixes) fault r
 
 -- ---- several sections
-both_read : (before after : List Entry) (one others : Result (List Function) AsmFault) → after_read before (seen_as (map entry_of) one) ≡ Ok after
-    → after_read before (seen_as (map entry_of) (one >>= λ fs. others >>= λ gs. Ok (fs ++ gs))) ≡ after_read after (seen_as (map entry_of) others)
-both_read before after (Ok fs) (Ok gs) e =
-    let is : before ++ map entry_of fs ≡ after = cc in
-    ap Ok (ap (λ (xs : List Entry). before ++ xs) (map-append entry_of fs gs) ∙ sym (append_assoc before (map entry_of fs) (map entry_of gs)) ∙ ap (λ (xs : List Entry). xs ++ map entry_of gs) is)
-both_read before after (Ok fs) (Err fault) e = refl
-both_read before after (Err fault) others e = cc
+both_read : {X : Type 0} (view : List Function → List X) → IsListwise view → (before after : List X) (one others : Result (List Function) AsmFault) → after_read before (seen_as view one) ≡ Ok after
+    → after_read before (seen_as view (one >>= λ fs. others >>= λ gs. Ok (fs ++ gs))) ≡ after_read after (seen_as view others)
+both_read {X} view parts before after (Ok fs) (Ok gs) e =
+    let is : before ++ view fs ≡ after = cc in
+    ap Ok (ap (λ (xs : List X). before ++ xs) (parts.both fs gs) ∙ sym (append_assoc before (view fs) (view gs)) ∙ ap (λ (xs : List X). xs ++ view gs) is)
+both_read view parts before after (Ok fs) (Err fault) e = refl
+both_read view parts before after (Err fault) others e = cc
 
-pub section_read : (arch : Arch) (item : ℕ) (s : CallFrames) (ss : List CallFrames) (before after : List Entry) → after_read before (seen_as (map entry_of) (section_functions arch item s)) ≡ Ok after
-    → after_read before (seen_as (map entry_of) (sections_functions arch item (s ∷ ss))) ≡ after_read after (seen_as (map entry_of) (sections_functions arch item ss))
-section_read arch item s ss before after e = both_read before after (section_functions arch item s) (sections_functions arch item ss) e
+pub section_read : {X : Type 0} (view : List Function → List X) → IsListwise view → (arch : Arch) (item : ℕ) (s : CallFrames) (ss : List CallFrames) (before after : List X) → after_read before (seen_as view (section_functions arch item s)) ≡ Ok after
+    → after_read before (seen_as view (sections_functions arch item (s ∷ ss))) ≡ after_read after (seen_as view (sections_functions arch item ss))
+section_read view parts arch item s ss before after e = both_read view parts before after (section_functions arch item s) (sections_functions arch item ss) e
 
 pub section_refused : (arch : Arch) (item : ℕ) (s : CallFrames) (ss : List CallFrames) (fault : AsmFault) → section_functions arch item s ≡ Err fault → sections_functions arch item (s ∷ ss) ≡ Err fault
 section_refused arch item s ss fault e = ap (λ (one : Result (List Function) AsmFault). one >>= λ fs. sections_functions arch item ss >>= λ gs. Ok (fs ++ gs)) e
 
-pub from_none : {F : Type 0} (given : Result (List Entry) F) → after_read [] given ≡ given
-from_none (Ok entries) = refl
+pub from_none : {X F : Type 0} (given : Result (List X) F) → after_read [] given ≡ given
+from_none (Ok xs) = refl
 from_none (Err fault) = refl
 
+-- of no section
+pub none_left : {X : Type 0} (view : List Function → List X) → IsListwise view → (arch : Arch) (item : ℕ) (before : List X) → after_read before (seen_as view (sections_functions arch item [])) ≡ Ok before
+none_left {X} view parts arch item before = ap (λ (xs : List X). Ok (before ++ xs)) parts.none ∙ ap Ok (append-nil before)
+
 -- of one section
-pub alone : (arch : Arch) (item : ℕ) (s : CallFrames) (after : List Entry) → after_read [] (seen_as (map entry_of) (section_functions arch item s)) ≡ Ok after → seen_as (map entry_of) (sections_functions arch item (s ∷ [])) ≡ Ok after
-alone arch item s after e =
-    sym (from_none (seen_as (map entry_of) (sections_functions arch item (s ∷ [])))) ∙ section_read arch item s [] [] after e ∙ ap Ok (append-nil after)
+pub alone : {X : Type 0} (view : List Function → List X) → IsListwise view → (arch : Arch) (item : ℕ) (s : CallFrames) (after : List X) → after_read [] (seen_as view (section_functions arch item s)) ≡ Ok after
+    → seen_as view (sections_functions arch item (s ∷ [])) ≡ Ok after
+alone view parts arch item s after e =
+    sym (from_none (seen_as view (sections_functions arch item (s ∷ [])))) ∙ section_read view parts arch item s [] [] after e ∙ none_left view parts arch item after
 
 -- the sections from a number on
-pub sections_more : (arch : Arch) (item : ℕ) (section : ℕ → CallFrames) (numbers : List ℕ) (k d : ℕ) (before after : List Entry) → k < length numbers
-    → after_read before (seen_as (map entry_of) (section_functions arch item (section (get_or numbers k d)))) ≡ Ok after
-    → after_read before (seen_as (map entry_of) (sections_functions arch item (map section (drop k numbers)))) ≡ after_read after (seen_as (map entry_of) (sections_functions arch item (map section (drop (suc k) numbers))))
-sections_more arch item section numbers k d before after within e =
-    ap (λ (xs : List ℕ). after_read before (seen_as (map entry_of) (sections_functions arch item (map section xs)))) (drop-cons numbers k d within)
-    ∙ section_read arch item (section (get_or numbers k d)) (map section (drop (suc k) numbers)) before after e
+pub sections_more : {X : Type 0} (view : List Function → List X) → IsListwise view → (arch : Arch) (item : ℕ) (section : ℕ → CallFrames) (numbers : List ℕ) (k d : ℕ) (before after : List X) → k < length numbers
+    → after_read before (seen_as view (section_functions arch item (section (get_or numbers k d)))) ≡ Ok after
+    → after_read before (seen_as view (sections_functions arch item (map section (drop k numbers)))) ≡ after_read after (seen_as view (sections_functions arch item (map section (drop (suc k) numbers))))
+sections_more view parts arch item section numbers k d before after within e =
+    ap (λ (xs : List ℕ). after_read before (seen_as view (sections_functions arch item (map section xs)))) (drop-cons numbers k d within)
+    ∙ section_read view parts arch item (section (get_or numbers k d)) (map section (drop (suc k) numbers)) before after e
 
 pub sections_end : (arch : Arch) (item : ℕ) (section : ℕ → CallFrames) (numbers : List ℕ) (k d : ℕ) (before : List Entry) (fault : AsmFault) (given : Result (List Function) AsmFault) → k < length numbers
     → section_functions arch item (section (get_or numbers k d)) ≡ Err fault

@@ -13,9 +13,10 @@ use Rattle.sf_asm.specs.declared.input.Input.{Input}
 use Rattle.sf_asm.specs.Answers.{after_read, seen_as}
 use Rattle.sf_asm.specs.Fault.{wraps_input}
 use Rattle.sf_asm.specs.Functions.{◌>>=◌, Function, Object, functions_after, functions_of, machine_of, named, object_functions, object_of, seen_behind}
-use Rattle.sf_asm.specs.Kept.{entry_of}
+use Rattle.sf_asm.specs.Kept.{entry_of, omitted_functions}
 use Rattle.sf_asm.specs.Seen.{HasSeen}
-use Rattle.sf_asm.proofs.ReadFunctions.{from_none, refused_unseen}
+use Rattle.sf_asm.proofs.Lending.{omitted_listwise}
+use Rattle.sf_asm.proofs.ReadFunctions.{IsListwise, entries_listwise, from_none, refused_unseen}
 
 -- ---- the fault of one input
 wrapped : (item : ℕ) (given : Result (List Function) AsmFault) (fault : AsmFault) → wraps_input item fault ≡ gather.Input item fault → (fault ≡ asm.NoMemory → ⊥) → (fault ≡ asm.NoMemory) ⊎ (given ≡ Err fault)
@@ -33,22 +34,28 @@ input_wrapped item given (asm.Record section fault) h = wrapped item given (asm.
 input_wrapped item given (asm.Machine section fault) h = wrapped item given (asm.Machine section fault) refl (λ e. cc) h
 
 -- ---- inputs
--- what is left, behind the functions that were read, comes to what all inputs come to
-pub record IsReadUpTo (set : Seen) (entries : List Entry) (item : ℕ) (left : List Object) (given : Result (List Function) GatherFault) : Type 0 where
+-- what is left, behind the functions that were read and lent, comes to what all inputs come to
+pub record IsReadUpTo (set : Seen) (entries : List Entry) (lent : List Function) (item : ℕ) (left : List Object) (given : Result (List Function) GatherFault) : Type 0 where
   pub seen : List (List ℕ)
   pub has : HasSeen set seen
   pub reads : after_read entries (seen_as (map entry_of) (functions_after seen item left)) ≡ seen_as (map entry_of) given
+  pub lends : after_read lent (seen_as omitted_functions (functions_after seen item left)) ≡ seen_as omitted_functions given
 
-pub starts : (set : Seen) (item : ℕ) (objects : List Object) → HasSeen set [] → IsReadUpTo set [] item objects (functions_of item objects)
-starts set item objects h = record { seen = []; has = h; reads = from_none (seen_as (map entry_of) (functions_of item objects)) }
+pub starts : (set : Seen) (item : ℕ) (objects : List Object) → HasSeen set [] → IsReadUpTo set [] [] item objects (functions_of item objects)
+starts set item objects h = record {
+  seen = [];
+  has = h;
+  reads = from_none (seen_as (map entry_of) (functions_of item objects));
+  lends = from_none (seen_as omitted_functions (functions_of item objects));
+}
 
-one_and_left : (before more : List Entry) (item : ℕ) (one : Result (List Function) AsmFault) (left : Result (List Function) GatherFault) → seen_as (map entry_of) one ≡ Ok more
-    → after_read before (seen_as (map entry_of) (named (gather.Input item) one >>= λ fs. left >>= λ gs. Ok (fs ++ gs))) ≡ after_read (before ++ more) (seen_as (map entry_of) left)
-one_and_left before more item (Ok fs) (Ok gs) e =
-    let is : map entry_of fs ≡ more = cc in
-    ap Ok (ap (λ (xs : List Entry). before ++ xs) (map-append entry_of fs gs) ∙ sym (append_assoc before (map entry_of fs) (map entry_of gs)) ∙ ap (λ (xs : List Entry). (before ++ xs) ++ map entry_of gs) is)
-one_and_left before more item (Ok fs) (Err fault) e = refl
-one_and_left before more item (Err fault) left e = cc
+one_and_left : {X : Type 0} (view : List Function → List X) → IsListwise view → (before more : List X) (item : ℕ) (one : Result (List Function) AsmFault) (left : Result (List Function) GatherFault) → seen_as view one ≡ Ok more
+    → after_read before (seen_as view (named (gather.Input item) one >>= λ fs. left >>= λ gs. Ok (fs ++ gs))) ≡ after_read (before ++ more) (seen_as view left)
+one_and_left {X} view parts before more item (Ok fs) (Ok gs) e =
+    let is : view fs ≡ more = cc in
+    ap Ok (ap (λ (xs : List X). before ++ xs) (parts.both fs gs) ∙ sym (append_assoc before (view fs) (view gs)) ∙ ap (λ (xs : List X). (before ++ xs) ++ view gs) is)
+one_and_left view parts before more item (Ok fs) (Err fault) e = refl
+one_and_left view parts before more item (Err fault) left e = cc
 
 pub functions_after-cons : (seen : List (List ℕ)) (item : ℕ) (object : Object) (left : List Object)
     → functions_after seen item (object ∷ left) ≡ (named (gather.Input item) (object_functions item seen object) >>= λ fs. functions_after (seen_behind seen object) (item + 1) left >>= λ gs. Ok (fs ++ gs))
@@ -59,23 +66,25 @@ pub functions_after-nil : (seen : List (List ℕ)) (item : ℕ) → functions_af
 unfolding functions_after
 functions_after-nil seen item = refl
 
-pub goes_on : (set set' : Seen) (entries more : List Entry) (item : ℕ) (object : Object) (left : List Object) (given : Result (List Function) GatherFault) → IsReadUpTo set entries item (object ∷ left) given
-    → ((signatures : List (List ℕ)) → HasSeen set signatures → seen_as (map entry_of) (object_functions item signatures object) ≡ Ok more) → ((signatures : List (List ℕ)) → HasSeen set signatures → HasSeen set' (seen_behind signatures object))
-    → IsReadUpTo set' (entries ++ more) (item + 1) left given
-goes_on set set' entries more item object left given h reads sees = record {
+pub goes_on : (set set' : Seen) (entries more : List Entry) (lent lent' : List Function) (item : ℕ) (object : Object) (left : List Object) (given : Result (List Function) GatherFault) → IsReadUpTo set entries lent item (object ∷ left) given
+    → ((signatures : List (List ℕ)) → HasSeen set signatures → seen_as (map entry_of) (object_functions item signatures object) ≡ Ok more) → ((signatures : List (List ℕ)) → HasSeen set signatures → seen_as omitted_functions (object_functions item signatures object) ≡ Ok lent')
+    → ((signatures : List (List ℕ)) → HasSeen set signatures → HasSeen set' (seen_behind signatures object)) → IsReadUpTo set' (entries ++ more) (lent ++ lent') (item + 1) left given
+goes_on set set' entries more lent lent' item object left given h reads lends sees = record {
   seen = seen_behind h.seen object;
   has = sees h.seen h.has;
-  reads = sym (one_and_left entries more item (object_functions item h.seen object) (functions_after (seen_behind h.seen object) (item + 1) left) (reads h.seen h.has))
+  reads = sym (one_and_left (map entry_of) entries_listwise entries more item (object_functions item h.seen object) (functions_after (seen_behind h.seen object) (item + 1) left) (reads h.seen h.has))
       ∙ ap (λ (r : Result (List Function) GatherFault). after_read entries (seen_as (map entry_of) r)) (sym (functions_after-cons h.seen item object left)) ∙ h.reads;
+  lends = sym (one_and_left omitted_functions omitted_listwise lent lent' item (object_functions item h.seen object) (functions_after (seen_behind h.seen object) (item + 1) left) (lends h.seen h.has))
+      ∙ ap (λ (r : Result (List Function) GatherFault). after_read lent (seen_as omitted_functions r)) (sym (functions_after-cons h.seen item object left)) ∙ h.lends;
 }
 
 first_fault : (item : ℕ) (one : Result (List Function) AsmFault) (left : Result (List Function) GatherFault) (fault : GatherFault) → named (gather.Input item) one ≡ Err fault
     → (named (gather.Input item) one >>= λ fs. left >>= λ gs. Ok (fs ++ gs)) ≡ Err fault
 first_fault item one left fault e = ap (λ (r : Result (List Function) GatherFault). r >>= λ fs. left >>= λ gs. Ok (fs ++ gs)) e
 
-pub stops : (set : Seen) (entries : List Entry) (item : ℕ) (object : Object) (left : List Object) (given : Result (List Function) GatherFault) (fault : GatherFault) → IsReadUpTo set entries item (object ∷ left) given
+pub stops : (set : Seen) (entries : List Entry) (lent : List Function) (item : ℕ) (object : Object) (left : List Object) (given : Result (List Function) GatherFault) (fault : GatherFault) → IsReadUpTo set entries lent item (object ∷ left) given
     → ((signatures : List (List ℕ)) → HasSeen set signatures → (fault ≡ gather.NoMemory) ⊎ (named (gather.Input item) (object_functions item signatures object) ≡ Err fault)) → (fault ≡ gather.NoMemory) ⊎ (given ≡ Err fault)
-stops set entries item object left given fault h refused =
+stops set entries lent item object left given fault h refused =
     elim (refused h.seen h.has) [
       | inl wanting ↦ inl wanting
       | inr e ↦
@@ -84,33 +93,38 @@ stops set entries item object left given fault h refused =
           (from_none (seen_as (map entry_of) given) ∙ sym h.reads ∙ ap (λ (r : Result (List Function) GatherFault). after_read entries (seen_as (map entry_of) r)) first))
     ]
 
-pub ends : (set : Seen) (entries : List Entry) (item : ℕ) (given : Result (List Function) GatherFault) → IsReadUpTo set entries item [] given → seen_as (map entry_of) given ≡ Ok entries
-ends set entries item given h =
-    sym h.reads ∙ ap (λ (r : Result (List Function) GatherFault). after_read entries (seen_as (map entry_of) r)) (functions_after-nil h.seen item) ∙ ap Ok (append-nil entries)
+pub ends : (set : Seen) (entries : List Entry) (lent : List Function) (item : ℕ) (given : Result (List Function) GatherFault) → IsReadUpTo set entries lent item [] given → (seen_as (map entry_of) given ≡ Ok entries) × (seen_as omitted_functions given ≡ Ok lent)
+ends set entries lent item given h = (
+  sym h.reads ∙ ap (λ (r : Result (List Function) GatherFault). after_read entries (seen_as (map entry_of) r)) (functions_after-nil h.seen item) ∙ ap Ok (append-nil entries),
+  sym h.lends ∙ ap (λ (r : Result (List Function) GatherFault). after_read lent (seen_as omitted_functions r)) (functions_after-nil h.seen item) ∙ ap Ok (append-nil lent),
+)
 
 -- ---- the inputs from a place on
 left_is : (inputs : List Input) (k : ℕ) (d : Input) → k < length inputs → map object_of (drop k inputs) ≡ object_of (get_or inputs k d) ∷ map object_of (drop (k + 1) inputs)
 left_is inputs k d lt = ap (map object_of) (drop-cons inputs k d lt) ∙ ap (λ (n : ℕ). object_of (get_or inputs k d) ∷ map object_of (drop n inputs)) (sym (add-one k))
 
-pub goes_on_at : (set set' : Seen) (entries more : List Entry) (first k : ℕ) (inputs : List Input) (d : Input) (given : Result (List Function) GatherFault) → k < length inputs → IsReadUpTo set entries (first + k) (map object_of (drop k inputs)) given
+pub goes_on_at : (set set' : Seen) (entries more : List Entry) (lent lent' : List Function) (first k : ℕ) (inputs : List Input) (d : Input) (given : Result (List Function) GatherFault) → k < length inputs
+    → IsReadUpTo set entries lent (first + k) (map object_of (drop k inputs)) given
     → ((signatures : List (List ℕ)) → HasSeen set signatures → seen_as (map entry_of) (object_functions (first + k) signatures (object_of (get_or inputs k d))) ≡ Ok more)
-    → ((signatures : List (List ℕ)) → HasSeen set signatures → HasSeen set' (seen_behind signatures (object_of (get_or inputs k d)))) → IsReadUpTo set' (entries ++ more) (first + (k + 1)) (map object_of (drop (k + 1) inputs)) given
-goes_on_at set set' entries more first k inputs d given lt h reads sees =
-    subst (λ (item : ℕ). IsReadUpTo set' (entries ++ more) item (map object_of (drop (k + 1) inputs)) given) (omega arith)
-    (goes_on set set' entries more (first + k) (object_of (get_or inputs k d)) (map object_of (drop (k + 1) inputs)) given
-    (subst (λ (left : List Object). IsReadUpTo set entries (first + k) left given) (left_is inputs k d lt) h) reads sees)
+    → ((signatures : List (List ℕ)) → HasSeen set signatures → seen_as omitted_functions (object_functions (first + k) signatures (object_of (get_or inputs k d))) ≡ Ok lent')
+    → ((signatures : List (List ℕ)) → HasSeen set signatures → HasSeen set' (seen_behind signatures (object_of (get_or inputs k d)))) → IsReadUpTo set' (entries ++ more) (lent ++ lent') (first + (k + 1)) (map object_of (drop (k + 1) inputs)) given
+goes_on_at set set' entries more lent lent' first k inputs d given lt h reads lends sees =
+    subst (λ (item : ℕ). IsReadUpTo set' (entries ++ more) (lent ++ lent') item (map object_of (drop (k + 1) inputs)) given) (omega arith)
+    (goes_on set set' entries more lent lent' (first + k) (object_of (get_or inputs k d)) (map object_of (drop (k + 1) inputs)) given
+    (subst (λ (left : List Object). IsReadUpTo set entries lent (first + k) left given) (left_is inputs k d lt) h) reads lends sees)
 
-pub stops_at : (set : Seen) (entries : List Entry) (first k : ℕ) (inputs : List Input) (d : Input) (given : Result (List Function) GatherFault) (fault : GatherFault) → k < length inputs → IsReadUpTo set entries (first + k) (map object_of (drop k inputs)) given
+pub stops_at : (set : Seen) (entries : List Entry) (lent : List Function) (first k : ℕ) (inputs : List Input) (d : Input) (given : Result (List Function) GatherFault) (fault : GatherFault) → k < length inputs
+    → IsReadUpTo set entries lent (first + k) (map object_of (drop k inputs)) given
     → ((signatures : List (List ℕ)) → HasSeen set signatures → (fault ≡ gather.NoMemory) ⊎ (named (gather.Input (first + k)) (object_functions (first + k) signatures (object_of (get_or inputs k d))) ≡ Err fault))
     → (fault ≡ gather.NoMemory) ⊎ (given ≡ Err fault)
-stops_at set entries first k inputs d given fault lt h refused =
-    stops set entries (first + k) (object_of (get_or inputs k d)) (map object_of (drop (k + 1) inputs)) given fault
-    (subst (λ (left : List Object). IsReadUpTo set entries (first + k) left given) (left_is inputs k d lt) h) refused
+stops_at set entries lent first k inputs d given fault lt h refused =
+    stops set entries lent (first + k) (object_of (get_or inputs k d)) (map object_of (drop (k + 1) inputs)) given fault
+    (subst (λ (left : List Object). IsReadUpTo set entries lent (first + k) left given) (left_is inputs k d lt) h) refused
 
-pub ends_at : (set : Seen) (entries : List Entry) (item k : ℕ) (inputs : List Input) (given : Result (List Function) GatherFault) → length inputs ≤ k → IsReadUpTo set entries item (map object_of (drop k inputs)) given
-    → seen_as (map entry_of) given ≡ Ok entries
-ends_at set entries item k inputs given le h =
-    ends set entries item given (subst (λ (left : List Object). IsReadUpTo set entries item left given) (ap (map object_of) (drop_all k inputs le)) h)
+pub ends_at : (set : Seen) (entries : List Entry) (lent : List Function) (item k : ℕ) (inputs : List Input) (given : Result (List Function) GatherFault) → length inputs ≤ k → IsReadUpTo set entries lent item (map object_of (drop k inputs)) given
+    → (seen_as (map entry_of) given ≡ Ok entries) × (seen_as omitted_functions given ≡ Ok lent)
+ends_at set entries lent item k inputs given le h =
+    ends set entries lent item given (subst (λ (left : List Object). IsReadUpTo set entries lent item left given) (ap (map object_of) (drop_all k inputs le)) h)
 
 -- the machines up to a place
 pub machines_more : (inputs : List Input) (k : ℕ) (d : Input) → k < length inputs

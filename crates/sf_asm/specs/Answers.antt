@@ -12,6 +12,7 @@ use Rattle.sf_model.specs.Function.{AreWritable}
 use Rattle.sf_model.specs.Tight.{Narrow, Tight}
 use Rattle.sf_write.specs.Section.{table_of}
 use Rattle.sf_asm.specs.declared.entry.Entry.{Entry}
+use Rattle.sf_asm.specs.declared.entry.OneRead.{OneRead}
 use Rattle.sf_asm.specs.declared.fault.AsmFault.{AsmFault}
 use Rattle.sf_asm.specs.declared.fault.AsmFault.TheVariants as asm
 use Rattle.sf_asm.specs.declared.fault.GatherFault.{GatherFault}
@@ -22,7 +23,7 @@ use Rattle.sf_asm.specs.Entry.{kept_by_item, kept_of, omitted_of, spans_of}
 use Rattle.sf_asm.specs.Faithful.{Faithful}
 use Rattle.sf_asm.specs.Functions.{Function, Object, functions_of, named, unless}
 use Rattle.sf_asm.specs.Inputs.{HaveMachine, first_item}
-use Rattle.sf_asm.specs.Kept.{entry_of}
+use Rattle.sf_asm.specs.Kept.{entry_of, omitted_functions}
 use Rattle.sf_asm.specs.Linking.{Gathers, InOrder, Links, link_fault}
 
 -- a value that is seen as another one
@@ -31,8 +32,8 @@ seen_as view (Ok x) = Ok (view x)
 seen_as view (Err fault) = Err fault
 
 -- what was read of one function is what becomes of it; or its fault was answered, or memory was wanting
-abbrev pub ReadsOne : Result Entry AsmFault → Result Function AsmFault → Type 0
-ReadsOne (Ok entry) given = seen_as entry_of given ≡ Ok entry
+abbrev pub ReadsOne : Result OneRead AsmFault → Result Function AsmFault → Type 0
+ReadsOne (Ok read) given = seen_as entry_of given ≡ Ok read.entry
 ReadsOne (Err fault) given = (fault ≡ asm.NoMemory) ⊎ (given ≡ Err fault)
 
 -- the fault of the first instruction of a section's function that can't be run was answered, or memory was wanting
@@ -51,9 +52,9 @@ IsRecordsFault section fault given = (fault ≡ asm.NoMemory) ⊎ (named (asm.Re
 abbrev pub IsRelocFault : {X : Type 0} → (section : ℕ) → AsmFault → Result X RelocFault → Type 0
 IsRelocFault section fault given = (fault ≡ asm.NoMemory) ⊎ (named (asm.Reloc section) given ≡ Err fault)
 
--- functions that were read before the others
-abbrev pub after_read : {F : Type 0} → List Entry → Result (List Entry) F → Result (List Entry) F
-after_read before (Ok entries) = Ok (before ++ entries)
+-- what was read before the others
+abbrev pub after_read : {X F : Type 0} → List X → Result (List X) F → Result (List X) F
+after_read before (Ok others) = Ok (before ++ others)
 after_read before (Err fault) = Err fault
 
 -- what was read of all functions stands behind what was read before; or the first fault was answered, or memory was wanting
@@ -61,10 +62,18 @@ abbrev pub ReadsMore : {X : Type 0} → Result X AsmFault → (before after : Li
 ReadsMore (Ok x) before after given = after_read before (seen_as (map entry_of) given) ≡ Ok after
 ReadsMore (Err fault) before after given = (fault ≡ asm.NoMemory) ⊎ (given ≡ Err fault)
 
+-- what was lent of all functions is what is left out of them, after what was lent before
+abbrev pub LendsMore : (before after : List Function) → Result (List Function) AsmFault → Type 0
+LendsMore before after given = after_read before (seen_as omitted_functions given) ≡ Ok after
+
 -- the same of all functions of an input
 abbrev pub ReadsAll : {V : Type 0} → (V → List Entry) → Result V AsmFault → Result (List Function) AsmFault → Type 0
 ReadsAll items (Ok entries) given = seen_as (map entry_of) given ≡ Ok (items entries)
 ReadsAll items (Err fault) given = (fault ≡ asm.NoMemory) ⊎ (given ≡ Err fault)
+
+-- and what was lent of them
+abbrev pub LendsAll : {F : Type 0} → (lent : List Function) → Result (List Function) F → Type 0
+LendsAll lent given = seen_as omitted_functions given ≡ Ok lent
 
 -- the functions of all inputs, behind an item of this machine or of none, sorted out in their order
 pub record AreGathered (before : Option Arch) (objects : List Object) (arch : Arch) (kept : List (List Func)) (omitted : List Omitted) (spans : List Span) : Type 0 where

@@ -1,6 +1,6 @@
 -- What becomes of a function: SFrame Version 2 can express each of its rows (GNU SFrame specification, function descriptor entries
 -- and frame row entries), or it is left out with the first reason.
-use Rattle.std.specs.Prelude.{ℕ, Bool, is_none, List, Result, Ok, Err}
+use Rattle.std.specs.Prelude.{ℕ, Bool, is_none, not, List, Result, Ok, Err}
 use Rattle.std.specs.List.{filter}
 use Rattle.sf_model.specs.declared.facts.FdeFacts.{FdeFacts}
 use Rattle.sf_model.specs.declared.function.Func.{Func}
@@ -45,3 +45,7 @@ is_kept f = is_none (omission_of f.arch (facts_of f) (says_of f))
 -- the functions that a section of these functions has
 abbrev pub kept_functions : List Function → List Function
 kept_functions functions = filter is_kept functions
+
+-- the functions that it leaves out
+abbrev pub omitted_functions : List Function → List Function
+omitted_functions functions = filter (λ (f : Function). not (is_kept f)) functions

@@ -16,3 +16,4 @@ pub mod Views
 pub mod Seen
 pub mod Placing
 pub mod Accepted
+pub mod Sources

@@ -7,7 +7,7 @@ ghost use Rattle.elf_read.specs.Views.{file};
 ghost use Rattle.elf_place.specs.Place.{place_check};
 ghost use Rattle.elf_place.specs.Views as placed_views;
 ghost use Rattle.elf_reloc.specs.Reading.{section_address};
-ghost use Rattle.sf_asm.specs.Answers.{ReadsAll};
+ghost use Rattle.sf_asm.specs.Answers.{LendsAll, ReadsAll};
 ghost use Rattle.sf_asm.specs.declared.fault.AsmFault.TheVariants as asm;
 ghost use Rattle.sf_asm.specs.declared.input.Form.TheVariants as Form;
 ghost use Rattle.sf_asm.specs.Entry.{IsSound};
@@ -17,8 +17,9 @@ ghost use Rattle.sf_asm.specs.Groups.{seen_after};
 ghost use Rattle.sf_asm.specs.Placing.{IsPlacing};
 ghost use Rattle.sf_asm.specs.Sections.{dropped_after, linked_check, placed_section};
 ghost use Rattle.sf_asm.specs.Seen.{HasSeen};
+ghost use Rattle.sf_asm.specs.Sources.{functions_lent};
 
-use crate::entry::{Entry, Read};
+use crate::entry::Read;
 use crate::fault::AsmFault;
 use crate::frames::Frames;
 use crate::groups::Seen;
@@ -103,23 +104,25 @@ fn frames_at<'a>(arch: Arch, item: u32, placed: &Placed<'a>, number: u32) -> Fra
 }
 
 /// The functions of all call frame sections of a placed file.
-fn read_sections(
+fn read_sections<'a>(
     alloc: Global,
     arch: Arch,
     item: u32,
-    placed: &Placed<'_>,
-) -> Result<Vec<Entry>, AsmFault>
-    ensures exact { ReadsAll (λ entries. entries.items) result (sections_functions arch item (map (placed_section (placed_views.placing placed.now) (placed_views.shift_in placed.now)) (placed_views.eh_frames placed.now))) }
-    ensures sound { IfOk result (λ entries. All (IsSound arch) entries.items) }
+    placed: &Placed<'a>,
+) -> Result<Read<'a>, AsmFault>
+    ensures exact { ReadsAll (λ read. read.entries.items) result (sections_functions arch item (map (placed_section (placed_views.placing placed.now) (placed_views.shift_in placed.now)) (placed_views.eh_frames placed.now))) }
+    ensures lent { IfOk result (λ read. LendsAll (functions_lent read.sources.items) (sections_functions arch item (map (placed_section (placed_views.placing placed.now) (placed_views.shift_in placed.now)) (placed_views.eh_frames placed.now)))) }
+    ensures arch { IfOk result (λ read. read.arch ≡ arch) }
+    ensures sound { IfOk result (λ read. All (IsSound arch) read.entries.items) }
     ensures answered { IfErr result (λ fault. IsTrue (is_input_answered fault)) }
 {
-    let mut entries = Vec::new(alloc);
+    let mut read = Read::new(alloc, arch);
     let numbers = placed.eh_frames();
     for number in numbers {
         let section = frames_at(arch, item, placed, *number);
-        read_section(alloc, &section, Some(placed), &mut entries)?;
+        read_section(alloc, &section, Some(placed), &mut read)?;
     }
-    Ok(entries)
+    Ok(read)
 }
 
 /// The functions of a file that is loaded at `base`, in the order of its sections and records. The
@@ -130,9 +133,10 @@ pub fn read_elf<'a>(
     bytes: &'a [u8],
     base: u64,
     seen: &mut Seen<'a>,
-) -> Result<Read, AsmFault>
+) -> Result<Read<'a>, AsmFault>
     requires { length bytes.now < 2 ^ 32 }
     ensures exact { (signatures : List (List ℕ)) → HasSeen seen.old signatures → ReadsAll (λ read. read.entries.items) result (object_functions item signatures (record { form = Form.Elf; bytes = bytes.now; base = base })) }
+    ensures lent { IfOk result (λ read. (signatures : List (List ℕ)) → HasSeen seen.old signatures → LendsAll (functions_lent read.sources.items) (object_functions item signatures (record { form = Form.Elf; bytes = bytes.now; base = base }))) }
     ensures seen { OnOk result ((signatures : List (List ℕ)) → HasSeen seen.old signatures → HasSeen seen.new (seen_after signatures bytes.now)) }
     ensures arch { IfOk result (λ read. read.arch ≡ head.arch_of bytes.now) }
     ensures sound { IfOk result (λ read. All (IsSound read.arch) read.entries.items) }
@@ -140,7 +144,5 @@ pub fn read_elf<'a>(
 {
     let elf = parse(bytes)?;
     let placed = place(alloc, &elf, base, seen)?;
-    let arch = elf.arch();
-    let entries = read_sections(alloc, arch, item, &placed)?;
-    Ok(Read { arch, entries })
+    read_sections(alloc, elf.arch(), item, &placed)
 }

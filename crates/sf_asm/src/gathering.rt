@@ -2,20 +2,24 @@
 
 ghost use Rattle.std.specs.Prelude.{◌≡◌, ◌≤◌, ◌<◌, ◌+◌, ◌^◌, All, [], length, map, Ok, None, IfOk, IfErr, IfSome, OnOk, IsTrue};
 ghost use Rattle.std.specs.Option.{option_map};
+ghost use Rattle.std.specs.List.Sorted.{IsNonDecreasingBy, IsStableByKey};
+ghost use Rattle.std.specs.Ordering.{nat_cmp};
 ghost use Rattle.sf_model.specs.Function.{AreWritable};
 ghost use Rattle.sf_asm.specs.Entry.{IsSound, kept_by_item, kept_of, omitted_of, spans_of};
 ghost use Rattle.sf_asm.specs.declared.fault.GatherFault.TheVariants.{NoMemory};
-ghost use Rattle.sf_asm.specs.Answers.{AreGathered, AreTogether, IsFirstGathered};
-ghost use Rattle.sf_asm.specs.Functions.{object_of, unless};
+ghost use Rattle.sf_asm.specs.Answers.{AreGathered, AreTogether, IsFirstGathered, LendsAll};
+ghost use Rattle.sf_asm.specs.Functions.{functions_of, object_of, unless};
 ghost use Rattle.sf_asm.specs.Inputs.{HaveMachine, first_item as item_of_first};
 ghost use Rattle.sf_asm.specs.Linking.{Gathers, InOrder, functions_fault, limits_fault, overlap_fault, overlap_in, overlap_with};
 ghost use Rattle.sf_asm.specs.Order.{rows_of};
+ghost use Rattle.sf_asm.specs.Sources.{AreWithSources, functions_lent, source_start};
 ghost use Rattle.sf_asm.specs.Fault.{is_gather_answered};
 
 use crate::entry::{Entry, Outcome, Read};
 use crate::fault::GatherFault;
 use crate::input::Input;
 use crate::inputs::{one_machine, read_all};
+use crate::source::Source;
 use sf_model::{Arch, Func, Omitted, Span};
 use std::alloc::{AllocError, Global};
 
@@ -47,6 +51,20 @@ pub struct Together {
     pub kept: Vec<Func>,
     /// The functions that it can't, by start and then origin.
     pub omitted: Vec<Omitted>,
+}
+
+/// The functions of the inputs, those of all inputs together, with the omitted ones as their records say
+/// them.
+#[derive(Drop)]
+pub struct WithSources<'a> {
+    /// The machine of all inputs.
+    pub arch: Arch,
+    /// The functions that SFrame can express, by rising start.
+    pub kept: Vec<Func>,
+    /// The functions that it can't, by start and then origin.
+    pub omitted: Vec<Omitted>,
+    /// What the records say of each of these, in the same order.
+    pub sources: Vec<Source<'a>>,
 }
 
 /// Tries the limits: functions first, then rows.
@@ -134,10 +152,15 @@ fn order(entries: &mut Vec<Entry>) -> Result<(), GatherFault>
 }
 
 /// The functions of all inputs, in order.
-fn ordered(alloc: Global, inputs: &[Input<'_>], before: Option<Arch>) -> Result<Read, GatherFault>
+fn ordered<'a>(
+    alloc: Global,
+    inputs: &[Input<'a>],
+    before: Option<Arch>,
+) -> Result<Read<'a>, GatherFault>
     requires some { (0 < length inputs.now) × (length inputs.now ≤ 512) }
     requires small { All (λ input. length input.bytes.now < 2 ^ 32) inputs.now }
     ensures gathered { IfOk result (λ read. Gathers before (map object_of inputs.now) (Ok read.entries.items)) }
+    ensures lent { IfOk result (λ read. LendsAll (functions_lent read.sources.items) (functions_of (item_of_first before) (map object_of inputs.now))) }
     ensures machine { IfOk result (λ read. HaveMachine before (map object_of inputs.now) read.arch) }
     ensures sound { IfOk result (λ read. All (IsSound read.arch) read.entries.items) }
     ensures checked { IfOk result (λ read. functions_fault read.entries.items ≡ None) }
@@ -151,6 +174,7 @@ fn ordered(alloc: Global, inputs: &[Input<'_>], before: Option<Arch>) -> Result<
     Ok(Read {
         arch,
         entries: all.entries,
+        sources: all.sources,
     })
 }
 
@@ -212,6 +236,49 @@ pub fn gather_together(
 {
     let read = ordered(alloc, inputs, before)?;
     Ok(kept_and_omitted(alloc, read.arch, read.entries)?)
+}
+
+/// Brings the sources of functions into order by their starts. Those with one start stay in order.
+fn order_sources(sources: &mut Vec<Source<'_>>) -> Result<(), GatherFault>
+    ensures rising { OnOk result (IsNonDecreasingBy source_start sources.new.items) }
+    ensures stable { OnOk result (IsStableByKey source_start nat_cmp sources.old.items sources.new.items) }
+    ensures refused { IfErr result (λ fault. fault ≡ NoMemory) }
+{
+    sources.sort_by_key(|source| source.facts.start)?;
+    Ok(())
+}
+
+/// Gathers the functions of 1 to 512 inputs as [`gather_together`] does, and lends those that are left out
+/// as their records say them.
+///
+/// # Errors
+///
+/// Those of [`gather`].
+pub fn gather_with_sources<'a>(
+    alloc: Global,
+    inputs: &[Input<'a>],
+    before: Option<Arch>,
+) -> Result<WithSources<'a>, GatherFault>
+    requires some { (0 < length inputs.now) × (length inputs.now ≤ 512) }
+    requires small { All (λ input. length input.bytes.now < 2 ^ 32) inputs.now }
+    // The functions are those of the inputs by rising start, one section can hold the kept ones, and the
+    // sources are the omitted ones, one for each in the same order.
+    ensures gathered { IfOk result (λ g. AreWithSources before (map object_of inputs.now) g.arch g.kept.items g.omitted.items (functions_lent g.sources.items)) }
+    // It's the machine of all items.
+    ensures machine { IfOk result (λ g. HaveMachine before (map object_of inputs.now) g.arch) }
+    // A fault is the first one.
+    ensures fault { IfErr result (IsFirstGathered before (map object_of inputs.now)) }
+    ensures answered { IfErr result (λ fault. IsTrue (is_gather_answered fault)) }
+{
+    let mut read = ordered(alloc, inputs, before)?;
+    order_sources(&mut read.sources)?;
+    let together = kept_and_omitted(alloc, read.arch, read.entries)?;
+    Ok(WithSources {
+        arch: together.arch,
+        kept: together.kept,
+        omitted: together.omitted,
+        sources: read.sources,
+    })
 }
 
 /// So many empty lists.

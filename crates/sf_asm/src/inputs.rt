@@ -2,7 +2,7 @@
 
 ghost use Rattle.std.specs.Prelude.{◌≡◌, ◌⊎◌, ◌≤◌, ◌<◌, ◌^◌, ℕ, List, All, length, map, not, Ok, Err, IfOk, IfErr, OnOk, IsTrue, position};
 ghost use Rattle.sf_model.specs.declared.machine.Arch.{Arch as machine};
-ghost use Rattle.sf_asm.specs.Answers.{seen_as};
+ghost use Rattle.sf_asm.specs.Answers.{LendsAll, seen_as};
 ghost use Rattle.sf_asm.specs.Entry.{IsSound};
 ghost use Rattle.sf_asm.specs.declared.fault.GatherFault.TheVariants.{Input as RefusedInput, NoMemory};
 ghost use Rattle.sf_asm.specs.Fault.{is_gather_answered, is_input_answered, wraps_input};
@@ -10,6 +10,7 @@ ghost use Rattle.sf_asm.specs.Functions.{functions_of, machine_of, named, object
 ghost use Rattle.sf_asm.specs.Inputs.{is_same, mixed_among, with_before};
 ghost use Rattle.sf_asm.specs.Kept.{entry_of};
 ghost use Rattle.sf_asm.specs.Seen.{HasSeen};
+ghost use Rattle.sf_asm.specs.Sources.{functions_lent};
 
 use crate::entry::{AllRead, Read};
 use crate::fault::{AsmFault, GatherFault};
@@ -36,9 +37,10 @@ fn read_item<'a>(
     item: u32,
     input: &Input<'a>,
     seen: &mut Seen<'a>,
-) -> Result<Read, GatherFault>
+) -> Result<Read<'a>, GatherFault>
     requires { length input.now.bytes.now < 2 ^ 32 }
     ensures reads { IfOk result (λ read. (signatures : List (List ℕ)) → HasSeen seen.old signatures → seen_as (map entry_of) (object_functions item signatures (object_of input.now)) ≡ Ok read.entries.items) }
+    ensures lent { IfOk result (λ read. (signatures : List (List ℕ)) → HasSeen seen.old signatures → LendsAll (functions_lent read.sources.items) (object_functions item signatures (object_of input.now))) }
     ensures seen { OnOk result ((signatures : List (List ℕ)) → HasSeen seen.old signatures → HasSeen seen.new (seen_behind signatures (object_of input.now))) }
     ensures arch { IfOk result (λ read. read.arch ≡ machine_of (object_of input.now)) }
     ensures sound { IfOk result (λ read. All (IsSound read.arch) read.entries.items) }
@@ -53,10 +55,15 @@ fn read_item<'a>(
 
 /// The functions of all inputs, as they stand in them, and the machine of each. The inputs are numbered
 /// from `first` on.
-pub fn read_all(alloc: Global, first: u32, inputs: &[Input<'_>]) -> Result<AllRead, GatherFault>
+pub fn read_all<'a>(
+    alloc: Global,
+    first: u32,
+    inputs: &[Input<'a>],
+) -> Result<AllRead<'a>, GatherFault>
     requires few { (first ≤ 1) × (length inputs.now ≤ 512) }
     requires small { All (λ input. length input.bytes.now < 2 ^ 32) inputs.now }
     ensures reads { IfOk result (λ read. seen_as (map entry_of) (functions_of first (map object_of inputs.now)) ≡ Ok read.entries.items) }
+    ensures lent { IfOk result (λ read. LendsAll (functions_lent read.sources.items) (functions_of first (map object_of inputs.now))) }
     ensures machines { IfOk result (λ read. read.machines.items ≡ map machine_of (map object_of inputs.now)) }
     ensures sound { IfOk result (λ read. (arch : machine) → All (λ machine. machine ≡ arch) read.machines.items → All (IsSound arch) read.entries.items) }
     ensures fault { IfErr result (λ fault. (fault ≡ NoMemory) ⊎ (functions_of first (map object_of inputs.now) ≡ Err fault)) }
@@ -66,11 +73,13 @@ pub fn read_all(alloc: Global, first: u32, inputs: &[Input<'_>]) -> Result<AllRe
     let mut all = AllRead {
         machines: Vec::new(alloc),
         entries: Vec::new(alloc),
+        sources: Vec::new(alloc),
     };
     for (index, input) in inputs.iter().enumerate() {
         let mut read = read_item(alloc, first + index as u32, input, &mut seen)?;
         all.machines.push(read.arch)?;
         all.entries.append(&mut read.entries)?;
+        all.sources.append(&mut read.sources)?;
     }
     Ok(all)
 }

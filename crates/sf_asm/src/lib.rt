@@ -3,8 +3,9 @@
 //! [`gather`] reads the records of 1 to 512 inputs, runs the instructions of each frame description entry and
 //! sorts out what SFrame Version 2 can express: the functions that are kept, a list for each input by rising
 //! start, the functions that are left out, with their reasons, and the addresses of all. [`gather_together`]
-//! makes one list of the functions that are kept, and [`assemble`] writes the section of one input. An input
-//! has fewer than 2^32 bytes. All three allocate; no section is copied.
+//! makes one list of the functions that are kept; [`gather_with_sources`] also lends the functions that are left
+//! out as their records say them. [`assemble`] writes the section of one input. An input has fewer than 2^32
+//! bytes. All four allocate; no section is copied.
 //!
 //! [`kept_functions_recover_alike`], [`walks_are_alike`], [`linking_comes_to_one_result`] and
 //! [`accepted_inputs_are_linked`] are laws: the kept functions recover what DWARF recovers, walks over them are
@@ -26,12 +27,16 @@ mod notices;
 mod overlay;
 mod reading;
 mod section;
+mod source;
 
 pub use assembling::{Linked, assemble};
 pub use fault::{AsmFault, GatherFault, LinkFault};
-pub use gathering::{Gathered, Together, gather, gather_together};
+pub use gathering::{
+    Gathered, Together, WithSources, gather, gather_together, gather_with_sources,
+};
 pub use input::{Form, Input};
 pub use laws::{
     accepted_inputs_are_linked, kept_functions_recover_alike, linking_comes_to_one_result,
     walks_are_alike,
 };
+pub use source::Source;

@@ -1,14 +1,15 @@
 //! The functions of one input, in the order of its sections and records.
 
 ghost use Rattle.std.specs.Prelude.{◌≡◌, ◌<◌, ◌^◌, ℕ, List, All, [], ◌∷◌, length, IfOk, IfErr, OnOk, IsTrue};
-ghost use Rattle.sf_asm.specs.Answers.{ReadsAll};
+ghost use Rattle.sf_asm.specs.Answers.{LendsAll, ReadsAll};
 ghost use Rattle.sf_asm.specs.Entry.{IsSound};
 ghost use Rattle.sf_asm.specs.Fault.{is_input_answered};
 ghost use Rattle.sf_asm.specs.Functions.{bare_section, machine_of, object_functions, object_of, sections_functions, seen_behind};
 ghost use Rattle.sf_asm.specs.Seen.{HasSeen};
+ghost use Rattle.sf_asm.specs.Sources.{functions_lent};
 
 use crate::elf::read_elf;
-use crate::entry::{Entry, Read};
+use crate::entry::Read;
 use crate::fault::AsmFault;
 use crate::frames::Frames;
 use crate::groups::Seen;
@@ -21,15 +22,17 @@ use std::alloc::Global;
 const BARE_SECTION: u32 = 0;
 
 /// The functions of a bare input of this machine.
-fn read_bare(
+fn read_bare<'a>(
     alloc: Global,
     arch: Arch,
     item: u32,
-    input: &Input<'_>,
-) -> Result<Vec<Entry>, AsmFault>
+    input: &Input<'a>,
+) -> Result<Read<'a>, AsmFault>
     requires { length input.now.bytes.now < 2 ^ 32 }
-    ensures exact { ReadsAll (λ entries. entries.items) result (sections_functions arch item (bare_section input.now.bytes.now input.now.base ∷ [])) }
-    ensures sound { IfOk result (λ entries. All (IsSound arch) entries.items) }
+    ensures exact { ReadsAll (λ read. read.entries.items) result (sections_functions arch item (bare_section input.now.bytes.now input.now.base ∷ [])) }
+    ensures lent { IfOk result (λ read. LendsAll (functions_lent read.sources.items) (sections_functions arch item (bare_section input.now.bytes.now input.now.base ∷ []))) }
+    ensures arch { IfOk result (λ read. read.arch ≡ arch) }
+    ensures sound { IfOk result (λ read. All (IsSound arch) read.entries.items) }
     ensures answered { IfErr result (λ fault. IsTrue (is_input_answered fault)) }
 {
     let section = Frames {
@@ -40,9 +43,9 @@ fn read_bare(
         address: input.base,
         shift: 0,
     };
-    let mut entries = Vec::new(alloc);
-    read_section(alloc, &section, None, &mut entries)?;
-    Ok(entries)
+    let mut read = Read::new(alloc, arch);
+    read_section(alloc, &section, None, &mut read)?;
+    Ok(read)
 }
 
 /// The functions of an input, in the order of its sections and records. The signatures of its groups are
@@ -52,9 +55,10 @@ pub fn read_input<'a>(
     item: u32,
     input: &Input<'a>,
     seen: &mut Seen<'a>,
-) -> Result<Read, AsmFault>
+) -> Result<Read<'a>, AsmFault>
     requires { length input.now.bytes.now < 2 ^ 32 }
     ensures exact { (signatures : List (List ℕ)) → HasSeen seen.old signatures → ReadsAll (λ read. read.entries.items) result (object_functions item signatures (object_of input.now)) }
+    ensures lent { IfOk result (λ read. (signatures : List (List ℕ)) → HasSeen seen.old signatures → LendsAll (functions_lent read.sources.items) (object_functions item signatures (object_of input.now))) }
     ensures seen { OnOk result ((signatures : List (List ℕ)) → HasSeen seen.old signatures → HasSeen seen.new (seen_behind signatures (object_of input.now))) }
     ensures arch { IfOk result (λ read. read.arch ≡ machine_of (object_of input.now)) }
     ensures sound { IfOk result (λ read. All (IsSound read.arch) read.entries.items) }
@@ -62,9 +66,6 @@ pub fn read_input<'a>(
 {
     match input.form {
         Form::Elf => read_elf(alloc, item, input.bytes, input.base, seen),
-        Form::Bare(arch) => {
-            let entries = read_bare(alloc, arch, item, input)?;
-            Ok(Read { arch, entries })
-        }
+        Form::Bare(arch) => read_bare(alloc, arch, item, input),
     }
 }

@@ -15,19 +15,21 @@ ghost use Rattle.elf_reloc.specs.declared.fault.RelocFault.{RelocFault as reloc_
 ghost use Rattle.elf_reloc.specs.declared.fix.Fix.{Fix};
 ghost use Rattle.sf_express.specs.Expressed.{function_by};
 ghost use Rattle.sf_express.specs.Run.{on_rows};
-ghost use Rattle.sf_asm.specs.Answers.{IsRecordsFault, IsRelocFault, IsRowsFault, ReadsMore, ReadsOne};
+ghost use Rattle.sf_asm.specs.Answers.{IsRecordsFault, IsRelocFault, IsRowsFault, LendsMore, ReadsMore, ReadsOne};
 ghost use Rattle.sf_asm.specs.Entry.{IsSound};
 ghost use Rattle.sf_asm.specs.Fault.{is_input_answered, wraps_record, wraps_reloc, wraps_machine};
 ghost use Rattle.sf_asm.specs.declared.fault.AsmFault.TheVariants.{Record};
 ghost use Rattle.sf_asm.specs.Functions.{function_in, functions_in, named, section_functions, span_in};
 ghost use Rattle.sf_asm.specs.Kept.{outcome_by};
 ghost use Rattle.sf_asm.specs.Relocated.{pointer_check};
+ghost use Rattle.sf_asm.specs.Sources.{function_by_facts, functions_lent, source_function};
 ghost use Rattle.sf_asm.specs.Views.{AreChecked, IsReadFrom, overlaid, relocations_by, seen_section, written_by};
 
-use crate::entry::{Entry, Outcome};
+use crate::entry::{Entry, OneRead, Outcome, Read};
 use crate::fault::AsmFault;
 use crate::frames::Frames;
 use crate::overlay::Overlay;
+use crate::source::Source;
 use cfa_machine::{MachineFault, Runner};
 use eh_records::{Fde, RecordFault, Records};
 use elf_place::Placed;
@@ -173,6 +175,25 @@ fn outcome_of(
     }
 }
 
+/// A function as its records say it.
+#[inline(always)]
+fn source_of<'a>(section: &Frames<'a>, fde: &Fde<'a>, facts: FdeFacts, origin: Origin) -> Source<'a>
+    requires ends { facts.start + facts.size ≤ 2 ^ 64 }
+    requires key { IsTrue (key_fits section.now.arch facts.key) }
+    ensures { source_function result ≡ function_by_facts section.now.arch facts fde.now origin }
+{
+    let cie = fde.cie;
+    Source {
+        arch: section.arch,
+        facts,
+        code: cie.code,
+        factor: cie.factor,
+        initial: cie.insns,
+        own: fde.insns,
+        origin,
+    }
+}
+
 /// The function of one frame description entry.
 #[inline(always)]
 fn read_function<'a>(
@@ -181,10 +202,11 @@ fn read_function<'a>(
     overlay: &Overlay,
     fde: &Fde<'a>,
     run: &mut Runner<'a>,
-) -> Result<Entry, AsmFault>
+) -> Result<OneRead<'a>, AsmFault>
     requires { IsTrue (key_fits section.now.arch fde.now.cie.key) }
     ensures exact { (relocations : Result (List Fix) reloc_fault) → ReadsOne result (function_in section.now.arch section.now.item (seen_section section.now relocations) (overlaid (written_by overlay.now)) (fde_view fde.now)) }
-    ensures sound { IfOk result (IsSound section.now.arch) }
+    ensures source { IfOk result (λ read. (relocations : Result (List Fix) reloc_fault) → function_in section.now.arch section.now.item (seen_section section.now relocations) (overlaid (written_by overlay.now)) (fde_view fde.now) ≡ Ok (source_function read.source)) }
+    ensures sound { IfOk result (λ read. IsSound section.now.arch read.entry) }
     ensures answered { IfErr result (λ fault. IsTrue (is_input_answered fault)) }
 {
     let (start, size) = span_of(section, overlay, fde)?;
@@ -202,28 +224,31 @@ fn read_function<'a>(
         section: section.number,
         place: fde.place,
     };
-    Ok(Entry {
-        span: Span {
-            start,
-            size,
-            origin,
-        },
-        outcome,
+    let span = Span {
+        start,
+        size,
+        origin,
+    };
+    Ok(OneRead {
+        entry: Entry { span, outcome },
+        source: source_of(section, fde, facts, origin),
     })
 }
 
-/// The functions of the records, behind those that were read before.
+/// The functions of the records, after those that were read before.
 fn read_frames<'a>(
     alloc: Global,
     section: &Frames<'a>,
     overlay: &Overlay,
     records: &Records<'a>,
-    entries: &mut Vec<Entry>,
+    read: &mut Read<'a>,
 ) -> Result<(), AsmFault>
     requires machine { machine_of_records records.now ≡ section.now.arch }
-    requires sound { All (IsSound section.now.arch) entries.old.items }
-    ensures exact { (relocations : Result (List Fix) reloc_fault) → ReadsMore result entries.old.items entries.new.items (functions_in section.now.arch section.now.item (seen_section section.now relocations) (overlaid (written_by overlay.now)) (frames (entries_of_records records.now))) }
-    ensures sound { OnOk result (All (IsSound section.now.arch) entries.new.items) }
+    requires sound { All (IsSound section.now.arch) read.old.entries.items }
+    ensures exact { (relocations : Result (List Fix) reloc_fault) → ReadsMore result read.old.entries.items read.new.entries.items (functions_in section.now.arch section.now.item (seen_section section.now relocations) (overlaid (written_by overlay.now)) (frames (entries_of_records records.now))) }
+    ensures lent { OnOk result ((relocations : Result (List Fix) reloc_fault) → LendsMore (functions_lent read.old.sources.items) (functions_lent read.new.sources.items) (functions_in section.now.arch section.now.item (seen_section section.now relocations) (overlaid (written_by overlay.now)) (frames (entries_of_records records.now)))) }
+    ensures arch { read.new.arch ≡ read.old.arch }
+    ensures sound { OnOk result (All (IsSound section.now.arch) read.new.entries.items) }
     ensures answered { IfErr result (λ fault. IsTrue (is_input_answered fault)) }
 {
     let mut run = Runner::new();
@@ -231,25 +256,27 @@ fn read_frames<'a>(
         if overlay.dropped(fde.begin) {
             continue;
         }
-        entries.push(read_function(alloc, section, overlay, &fde, &mut run)?)?;
+        read.push(read_function(alloc, section, overlay, &fde, &mut run)?)?;
     }
     Ok(())
 }
 
-/// The functions of a section of a file, or of none, behind those that were read before.
-pub fn read_section(
+/// The functions of a section of a file, or of none, after those that were read before.
+pub fn read_section<'a>(
     alloc: Global,
-    section: &Frames<'_>,
+    section: &Frames<'a>,
     placed: Option<&Placed<'_>>,
-    entries: &mut Vec<Entry>,
+    read: &mut Read<'a>,
 ) -> Result<(), AsmFault>
-    requires sound { All (IsSound section.now.arch) entries.old.items }
-    ensures exact { ReadsMore result entries.old.items entries.new.items (section_functions section.now.arch section.now.item (seen_section section.now (relocations_by (option_map (λ p. placing p.now) placed.entry) section.now.number))) }
-    ensures sound { OnOk result (All (IsSound section.now.arch) entries.new.items) }
+    requires sound { All (IsSound section.now.arch) read.old.entries.items }
+    ensures exact { ReadsMore result read.old.entries.items read.new.entries.items (section_functions section.now.arch section.now.item (seen_section section.now (relocations_by (option_map (λ p. placing p.now) placed.entry) section.now.number))) }
+    ensures lent { OnOk result (LendsMore (functions_lent read.old.sources.items) (functions_lent read.new.sources.items) (section_functions section.now.arch section.now.item (seen_section section.now (relocations_by (option_map (λ p. placing p.now) placed.entry) section.now.number)))) }
+    ensures arch { read.new.arch ≡ read.old.arch }
+    ensures sound { OnOk result (All (IsSound section.now.arch) read.new.entries.items) }
     ensures answered { IfErr result (λ fault. IsTrue (is_input_answered fault)) }
 {
     let records = records_of(alloc, section)?;
     let overlay = overlay_of(alloc, placed, section.number)?;
     check_overlay(alloc, section.number, &overlay, &records)?;
-    read_frames(alloc, section, &overlay, &records, entries)
+    read_frames(alloc, section, &overlay, &records, read)
 }

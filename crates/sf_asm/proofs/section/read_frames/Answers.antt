@@ -1,4 +1,4 @@
-use Rattle.std.proofs.Common.{◌≡◌, List, [], ◌∷◌, ap, sym, subst, ◌∙◌}
+use Rattle.std.proofs.Common.{◌≡◌, List, [], ◌∷◌, map, refl, ap, sym, subst, ◌∙◌}
 use Rattle.std.specs.List.{All}
 use Rattle.std.proofs.lemmas.List.Elements.{All-append, All-from_recursion, All-tail}
 use Rattle.std.specs.Prelude.{IsTrue}
@@ -8,10 +8,14 @@ use Rattle.eh_records.specs.Fde.{FdeView, fde_view}
 use Rattle.eh_records.specs.Section.{frames}
 use Rattle.eh_records.specs.View.{entries, frames_left}
 use Rattle.sf_asm.specs.declared.entry.Entry.{Entry}
-use Rattle.sf_asm.specs.Answers.{after_read}
+use Rattle.sf_asm.specs.Answers.{after_read, seen_as}
 use Rattle.sf_asm.specs.Entry.{IsSound}
+use Rattle.sf_asm.specs.Functions.{Function, functions_in}
+use Rattle.sf_asm.specs.Kept.{entry_of, omitted_functions}
+use Rattle.sf_asm.specs.Sources.{functions_lent, if_left, source_function}
 use Rattle.sf_asm.specs.Views.{overlaid, seen_section, written_by}
-use Rattle.sf_asm.proofs.ReadFunctions.{read_of, goes_on, passes_on}
+use Rattle.sf_asm.proofs.ReadFunctions.{read_of, goes_on, passes_on, entries_listwise, one_entry}
+use Rattle.sf_asm.proofs.Lending.{omitted_listwise, one_lent}
 use Rattle.sf_asm.proofs.section.read_frames.Goals as goal
 
 pub loop-fde-init : goal.loop-fde-init
@@ -22,7 +26,9 @@ loop-fde-init c =
     record {
       sound = c.requires.sound;
       keys = subst (λ (fs : List FdeView). All (λ (f : FdeView). IsTrue (key_fits c.args.section.now.arch f.cie.key)) fs) (sym left) keys;
-      reads = λ relocations. ap (λ (fs : List FdeView). after_read c.args.entries.now.items (read_of c.args.section.now.arch c.args.section.now.item (seen_section c.args.section.now relocations) (overlaid (written_by c.args.overlay.now)) fs)) left;
+      reads = λ relocations. ap (λ (fs : List FdeView). after_read c.args.read.now.entries.items (read_of c.args.section.now.arch c.args.section.now.item (seen_section c.args.section.now relocations) (overlaid (written_by c.args.overlay.now)) fs)) left;
+      lent = λ relocations. ap (λ (fs : List FdeView). after_read (functions_lent c.args.read.now.sources.items) (seen_as omitted_functions (functions_in c.args.section.now.arch c.args.section.now.item (seen_section c.args.section.now relocations) (overlaid (written_by c.args.overlay.now)) fs))) left;
+      arch = refl;
     }
 
 pub loop-fde-preserved-then-dropped : goal.loop-fde-preserved-then-dropped
@@ -32,17 +38,31 @@ loop-fde-preserved-then-dropped c =
     record {
       sound = c.loop-fde.invariant.sound;
       keys = All-tail (λ (f : FdeView). IsTrue (key_fits c.args.section.now.arch f.cie.key)) (fde_view c.in-Some.fde) (frames_left c.next.new.self) keys;
-      reads = λ relocations. passes_on c.args.section.now.arch c.args.section.now.item (seen_section c.args.section.now relocations) (overlaid (written_by c.args.overlay.now)) c.loop-fde.entries.items (fde_view c.in-Some.fde) (frames_left c.loop-fde.fde-iterator) (frames_left c.next.new.self) _ left (sym c.dropped.ensures ∙ c.if-dropped.true) (c.loop-fde.invariant.reads relocations);
+      reads = λ relocations. passes_on (map entry_of) c.args.section.now.arch c.args.section.now.item (seen_section c.args.section.now relocations) (overlaid (written_by c.args.overlay.now)) c.loop-fde.read.entries.items (fde_view c.in-Some.fde) (frames_left c.loop-fde.fde-iterator) (frames_left c.next.new.self) _ left (sym c.dropped.ensures ∙ c.if-dropped.true) (c.loop-fde.invariant.reads relocations);
+      lent = λ relocations. passes_on omitted_functions c.args.section.now.arch c.args.section.now.item (seen_section c.args.section.now relocations) (overlaid (written_by c.args.overlay.now)) (functions_lent c.loop-fde.read.sources.items) (fde_view c.in-Some.fde) (frames_left c.loop-fde.fde-iterator) (frames_left c.next.new.self) _ left (sym c.dropped.ensures ∙ c.if-dropped.true) (c.loop-fde.invariant.lent relocations);
+      arch = c.loop-fde.invariant.arch;
     }
 
 pub loop-fde-preserved : goal.loop-fde-preserved
 loop-fde-preserved c =
     let left : frames_left c.loop-fde.fde-iterator ≡ fde_view c.in-Some.fde ∷ frames_left c.next.new.self = c.in-Some.ensures.steps in
     let keys : All (λ (f : FdeView). IsTrue (key_fits c.args.section.now.arch f.cie.key)) (fde_view c.in-Some.fde ∷ frames_left c.next.new.self) = rw left at c.loop-fde.invariant.keys in
+    let one = c.in_ok-read_function.field-0 in
     record {
-      sound = subst (All (IsSound c.args.section.now.arch)) (sym c.in_ok-push.ensures.items) (All-append (IsSound c.args.section.now.arch) c.loop-fde.entries.items (c.in_ok-read_function.field-0 ∷ []) c.loop-fde.invariant.sound (All-from_recursion (IsSound c.args.section.now.arch) (c.in_ok-read_function.field-0 ∷ []) (c.in_ok-read_function.ensures.sound, tt)));
+      sound = subst (All (IsSound c.args.section.now.arch)) (sym c.in_ok-push.ensures.entries) (All-append (IsSound c.args.section.now.arch) c.loop-fde.read.entries.items (one.entry ∷ []) c.loop-fde.invariant.sound (All-from_recursion (IsSound c.args.section.now.arch) (one.entry ∷ []) (c.in_ok-read_function.ensures.sound, tt)));
       keys = All-tail (λ (f : FdeView). IsTrue (key_fits c.args.section.now.arch f.cie.key)) (fde_view c.in-Some.fde) (frames_left c.next.new.self) keys;
       reads = λ relocations.
-          ap (λ (before : List Entry). after_read before (read_of c.args.section.now.arch c.args.section.now.item (seen_section c.args.section.now relocations) (overlaid (written_by c.args.overlay.now)) (frames_left c.next.new.self))) c.in_ok-push.ensures.items
-          ∙ goes_on c.args.section.now.arch c.args.section.now.item (seen_section c.args.section.now relocations) (overlaid (written_by c.args.overlay.now)) c.loop-fde.entries.items c.in_ok-read_function.field-0 (fde_view c.in-Some.fde) (frames_left c.loop-fde.fde-iterator) (frames_left c.next.new.self) _ left (sym c.dropped.ensures ∙ c.if-dropped.false) (c.in_ok-read_function.ensures.exact relocations) (c.loop-fde.invariant.reads relocations);
+          let section = seen_section c.args.section.now relocations in
+          let values = overlaid (written_by c.args.overlay.now) in
+          ap (λ (before : List Entry). after_read before (read_of c.args.section.now.arch c.args.section.now.item section values (frames_left c.next.new.self))) c.in_ok-push.ensures.entries
+          ∙ goes_on (map entry_of) entries_listwise c.args.section.now.arch c.args.section.now.item section values c.loop-fde.read.entries.items (one.entry ∷ []) (fde_view c.in-Some.fde) (frames_left c.loop-fde.fde-iterator) (frames_left c.next.new.self) _ left (sym c.dropped.ensures ∙ c.if-dropped.false)
+          (one_entry _ one.entry (c.in_ok-read_function.ensures.exact relocations)) (c.loop-fde.invariant.reads relocations);
+      lent = λ relocations.
+          let section = seen_section c.args.section.now relocations in
+          let values = overlaid (written_by c.args.overlay.now) in
+          ap (λ (before : List Function). after_read before (seen_as omitted_functions (functions_in c.args.section.now.arch c.args.section.now.item section values (frames_left c.next.new.self)))) c.in_ok-push.ensures.lent
+          ∙ goes_on omitted_functions omitted_listwise c.args.section.now.arch c.args.section.now.item section values (functions_lent c.loop-fde.read.sources.items) (if_left one.entry.outcome (source_function one.source)) (fde_view c.in-Some.fde) (frames_left c.loop-fde.fde-iterator) (frames_left c.next.new.self) _ left
+          (sym c.dropped.ensures ∙ c.if-dropped.false)
+          (one_lent _ one.entry (source_function one.source) (c.in_ok-read_function.ensures.exact relocations) (c.in_ok-read_function.ensures.source relocations)) (c.loop-fde.invariant.lent relocations);
+      arch = c.in_ok-push.ensures.arch ∙ c.loop-fde.invariant.arch;
     }

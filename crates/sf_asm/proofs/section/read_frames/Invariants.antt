@@ -9,16 +9,21 @@ use Rattle.elf_reloc.specs.declared.fix.Fix.{Fix}
 use Rattle.sf_asm.specs.Answers.{after_read, seen_as}
 use Rattle.sf_asm.specs.Entry.{IsSound}
 use Rattle.sf_asm.specs.Functions.{functions_in}
-use Rattle.sf_asm.specs.Kept.{entry_of}
+use Rattle.sf_asm.specs.Kept.{entry_of, omitted_functions}
+use Rattle.sf_asm.specs.Sources.{functions_lent}
 use Rattle.sf_asm.specs.Views.{overlaid, seen_section, written_by}
 use Rattle.sf_asm.proofs.ReadFunctions.{read_of}
 use Rattle.sf_asm.proofs.section.read_frames.Given as goal
 
 abbrev pub invariant-loop-fde : goal.invariant-loop-fde
 invariant-loop-fde l = record {
-  sound : All (IsSound l.section.arch) l.entries.items;
+  sound : All (IsSound l.section.arch) l.read.entries.items;
   keys : All (λ (f : FdeView). IsTrue (key_fits l.section.arch f.cie.key)) (frames_left l.fde-iterator);
   reads : (relocations : Result (List Fix) RelocFault)
-      → after_read l.entries.items (read_of l.section.arch l.section.item (seen_section l.section relocations) (overlaid (written_by l.overlay)) (frames_left l.fde-iterator))
-      ≡ after_read l.fn.entries.items (seen_as (map entry_of) (functions_in l.section.arch l.section.item (seen_section l.section relocations) (overlaid (written_by l.overlay)) (frames (entries l.records))));
+      → after_read l.read.entries.items (read_of l.section.arch l.section.item (seen_section l.section relocations) (overlaid (written_by l.overlay)) (frames_left l.fde-iterator))
+      ≡ after_read l.fn.read.entries.items (seen_as (map entry_of) (functions_in l.section.arch l.section.item (seen_section l.section relocations) (overlaid (written_by l.overlay)) (frames (entries l.records))));
+  lent : (relocations : Result (List Fix) RelocFault)
+      → after_read (functions_lent l.read.sources.items) (seen_as omitted_functions (functions_in l.section.arch l.section.item (seen_section l.section relocations) (overlaid (written_by l.overlay)) (frames_left l.fde-iterator)))
+      ≡ after_read (functions_lent l.fn.read.sources.items) (seen_as omitted_functions (functions_in l.section.arch l.section.item (seen_section l.section relocations) (overlaid (written_by l.overlay)) (frames (entries l.records))));
+  arch : l.read.arch ≡ l.fn.read.arch;
 }

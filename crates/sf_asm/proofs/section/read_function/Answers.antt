@@ -1,9 +1,9 @@
-use Rattle.std.proofs.Common.{inl, inr, rules, ◌<◌, ◌^◌, Ok, []}
+use Rattle.std.proofs.Common.{inl, inr, rules, ◌<◌, ◌^◌, ◌∙◌, Ok, [], ap, sym}
 use Rattle.std.proofs.lemmas.Result.{err_from_is_err_and}
 use Rattle.eh_records.specs.Fde.{fde_view}
 use Rattle.sf_asm.specs.Functions.{function_at}
 use Rattle.sf_asm.specs.Views.{overlaid, seen_section, written_by}
-use Rattle.sf_asm.proofs.ReadFunctions.{reads_function, span_refused, run_refused}
+use Rattle.sf_asm.proofs.ReadFunctions.{reads_function, reads_source, span_refused, run_refused}
 use Rattle.sf_asm.proofs.MadeRows.{first_of, made_here, outcome_is_sound, outcome_means, outcome_runs, refused_here, rows_refused}
 use Rattle.sf_asm.proofs.section.read_function.Goals as goal
 
@@ -54,3 +54,13 @@ returns-clause-exact c = λ relocations.
     let small : c.in_ok-start.size < 2 ^ 64 = search rules in
     let made = made_here f _ c.in_ok-outcome.outcome c.in_ok-begin_rows.ensures.begins c.in_ok-outcome.ensures.given in
     reads_function arch c.args.section.now.item section values (fde_view c.args.fde.now) (c.in_ok-start.start, c.in_ok-start.size) c.in_ok-outcome.outcome (c.in_ok-start.ensures.exact relocations) (outcome_runs f _ _ (first_of f) made) (outcome_means f _ small made)
+
+pub returns-clause-source : goal.returns-clause-source
+returns-clause-source c = λ relocations.
+    let arch = c.args.section.now.arch in
+    let section = seen_section c.args.section.now relocations in
+    let values = overlaid (written_by c.args.overlay.now) in
+    let f = function_at arch c.args.section.now.item section (fde_view c.args.fde.now) (c.in_ok-start.start, c.in_ok-start.size) in
+    let made = made_here f _ c.in_ok-outcome.outcome c.in_ok-begin_rows.ensures.begins c.in_ok-outcome.ensures.given in
+    reads_source arch c.args.section.now.item section values (fde_view c.args.fde.now) (c.in_ok-start.start, c.in_ok-start.size) (c.in_ok-start.ensures.exact relocations) (outcome_runs f _ _ (first_of f) made)
+    ∙ ap Ok (sym c.source_of.ensures)

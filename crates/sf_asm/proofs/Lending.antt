@@ -1,0 +1,44 @@
+-- What is lent of the functions that were read is what is left out of them.
+use Rattle.std.specs.Prelude.{is_none, not, OnOk}
+use Rattle.std.proofs.Common.{◌≡◌, ℕ, cond, List, [], ◌∷◌, Option, Some, None, Result, Ok, Err, refl, sym, ap, ◌∙◌}
+use Rattle.std.proofs.lemmas.List.Elements.{filter-append}
+use Rattle.sf_model.specs.declared.omission.Omission.{Omission}
+use Rattle.sf_express.specs.Runs.{expressed, function_of, omission_of, unless_omitted}
+use Rattle.sf_asm.specs.declared.entry.Entry.{Entry}
+use Rattle.sf_asm.specs.declared.fault.AsmFault.{AsmFault}
+use Rattle.sf_asm.specs.Answers.{seen_as}
+use Rattle.sf_asm.specs.Functions.{Function}
+use Rattle.sf_asm.specs.Kept.{entry_of, facts_of, is_kept, omitted_functions, outcome_by, says_of}
+use Rattle.sf_asm.specs.Sources.{if_left}
+use Rattle.sf_asm.proofs.ReadFunctions.{IsListwise}
+
+pub omitted_listwise : IsListwise omitted_functions
+omitted_listwise = record { none = refl; both = filter-append (λ (f : Function). not (is_kept f)) }
+
+-- ---- one function
+by_omission : (f : Function) (omission : Option Omission) → if_left (outcome_by (unless_omitted omission (expressed (facts_of f) (says_of f)))) f ≡ cond (not (is_none omission)) (f ∷ []) []
+by_omission f None = refl
+by_omission f (Some omission) = refl
+
+left_is : (f : Function) → if_left (entry_of f).outcome f ≡ omitted_functions (f ∷ [])
+unfolding function_of
+left_is f = by_omission f (omission_of f.arch (facts_of f) (says_of f))
+
+pub one_lent : (one : Result Function AsmFault) (entry : Entry) (f : Function) → seen_as entry_of one ≡ Ok entry → one ≡ Ok f → seen_as (λ g. omitted_functions (g ∷ [])) one ≡ Ok (if_left entry.outcome f)
+one_lent (Ok g) entry f e is =
+    let same : g ≡ f = cc in
+    let entry_is : entry_of g ≡ entry = cc in
+    ap Ok (sym (left_is g) ∙ ap (λ (x : Function). if_left (entry_of g).outcome x) same ∙ ap (λ (x : Entry). if_left x.outcome f) entry_is)
+one_lent (Err fault) entry f e is = cc
+
+-- what follows from what holds where a call returns a value
+pub on_ok : {A E P Q : Type 0} (r : Result A E) → (P → Q) → OnOk r P → OnOk r Q
+on_ok (Ok x) f h = f h
+on_ok (Err e) f h = h
+
+pub are_lent : {F : Type 0} (given : Result (List Function) F) (functions lent : List Function) → given ≡ Ok functions → seen_as omitted_functions given ≡ Ok lent → lent ≡ omitted_functions functions
+are_lent (Ok fs) functions lent is e =
+    let same : fs ≡ functions = cc in
+    let there : omitted_functions fs ≡ lent = cc in
+    sym there ∙ ap omitted_functions same
+are_lent (Err fault) functions lent is e = cc

@@ -1,0 +1,32 @@
+use Rattle.std.proofs.Common.{List, Result, Ok, map, ap, subst, sym, ◌∙◌}
+use Rattle.sf_model.specs.Function.{AreWritable}
+use Rattle.sf_asm.specs.declared.entry.Entry.{Entry}
+use Rattle.sf_asm.specs.declared.fault.GatherFault.{GatherFault}
+use Rattle.sf_asm.specs.Entry.{kept_of, omitted_of}
+use Rattle.sf_asm.specs.Functions.{object_of}
+use Rattle.sf_asm.specs.Kept.{entry_of}
+use Rattle.sf_asm.specs.Linking.{Gathers}
+use Rattle.sf_asm.proofs.ByStart.{are_by_start, ordered_are, sorted_functions, sources_are}
+use Rattle.sf_asm.proofs.GatheredInputs.{are_read}
+use Rattle.sf_asm.proofs.Kept.{kept_of_checked}
+use Rattle.sf_asm.proofs.Lending.{are_lent}
+use Rattle.sf_asm.proofs.gathering.gather_with_sources.Goals as goal
+
+pub returns-clause-gathered : goal.returns-clause-gathered
+returns-clause-gathered c =
+    let objects = map object_of c.args.inputs.now in
+    let entries = c.in_ok-read.read.entries.items in
+    let read = are_read c.args.before objects entries c.in_ok-read.ensures.gathered in
+    let is = ordered_are read.functions entries read.in_order in
+    let kept = c.in_ok-together.ensures.kept in
+    record {
+      functions = read.functions;
+      are = read.are;
+      sorted = sorted_functions read.functions;
+      by_start = are_by_start read.functions;
+      is = subst (λ (es : List Entry). Gathers c.args.before objects (Ok es)) is c.in_ok-read.ensures.gathered;
+      kept_are = kept ∙ ap kept_of is;
+      writable = rw c.in_ok-together.ensures.arch (subst (AreWritable c.in_ok-read.read.arch) (sym kept) (kept_of_checked c.in_ok-read.read.arch entries c.in_ok-read.ensures.sound c.in_ok-read.ensures.checked));
+      omitted_are = c.in_ok-together.ensures.omitted ∙ ap omitted_of is;
+      sources_are = sources_are read.functions c.in_ok-read.read.sources.items c.order_sources.new.sources.items (are_lent _ read.functions _ read.are c.in_ok-read.ensures.lent) c.in_ok-order_sources.ensures.rising c.in_ok-order_sources.ensures.stable;
+    }
