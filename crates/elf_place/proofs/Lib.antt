@@ -1,3 +1,4 @@
 pub mod Marks
 pub mod Values
 pub mod Cursor
+pub mod WithTarget

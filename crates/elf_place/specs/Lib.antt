@@ -1,4 +1,5 @@
 pub mod Cursor
 pub mod Dropped
 pub mod Place
+pub mod Relocations
 pub mod Views

@@ -1,10 +1,15 @@
 //! A file whose sections are placed.
 
+ghost use Rattle.std.specs.List.Sorted.{IsNonDecreasingBy};
+ghost use Rattle.elf_read.specs.Views.{file as bytes_of_file};
+ghost use Rattle.elf_place.specs.Relocations.{target_of, HasAll};
+
 use crate::addresses::{addresses_of, shift_of};
 use crate::checks::{check_aligns, check_all_bits};
 use crate::dropped::dropped_sections;
 use crate::eh_frames::eh_frames_of;
 use crate::fault::PlaceFault;
+use crate::relocations::{RelocationSection, relocation_sections, with_target};
 use elf_read::Elf;
 use std::alloc::Global;
 
@@ -16,6 +21,9 @@ pub struct Placed<'a> {
     dropped: Vec<bool>,
     addresses: Vec<Option<u64>>,
     eh_frames: Vec<u32>,
+    relocations: Vec<RelocationSection>,
+    ghost rising: { IsNonDecreasingBy target_of relocations.items },
+    ghost whole: { HasAll (bytes_of_file elf) relocations.items },
 }
 
 impl<'a> Placed<'a> {
@@ -25,6 +33,7 @@ impl<'a> Placed<'a> {
     ghost use Rattle.elf_place.specs.Dropped as drops;
     ghost use Rattle.elf_place.specs.Place as spec;
     ghost use Rattle.elf_place.specs.Dropped.{values_below};
+    ghost use Rattle.elf_place.specs.Relocations.{numbers_of, relocation_sections as relocation_sections_of};
     ghost use Rattle.elf_place.specs.Views as seen;
 
     /// Places the sections of a file that is loaded at `base`. `gone` are the numbers of its groups that are
@@ -55,12 +64,14 @@ impl<'a> Placed<'a> {
         let addresses = addresses_of(alloc, elf, base, &dropped, count)?;
         check_all_bits(elf, &dropped, count)?;
         let eh_frames = eh_frames_of(alloc, elf, &dropped, count)?;
+        let relocations = relocation_sections(alloc, elf, count)?;
         Ok(Placed {
             elf: *elf,
             shift: shift_of(elf, base),
             dropped,
             addresses,
             eh_frames,
+            relocations,
         })
     }
 
@@ -86,6 +97,14 @@ impl<'a> Placed<'a> {
         ensures { result.now ≡ seen.eh_frames self.now }
     {
         self.eh_frames.as_slice()
+    }
+
+    /// The sections with relocations of a section, with addends or without, in order of their numbers. They
+    /// are found by halves.
+    pub fn relocation_sections(&self, target: u32) -> &[RelocationSection]
+        ensures { numbers_of result.now ≡ relocation_sections_of (seen.file self.now) target }
+    {
+        with_target(&self.relocations, target)
     }
 
     /// The file.

@@ -2,6 +2,7 @@
 
 mod files;
 mod groups;
+mod relocations;
 
 use super::*;
 use elf_read::Elf;

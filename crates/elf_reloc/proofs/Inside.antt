@@ -1,13 +1,13 @@
 -- What is read of a section lies in its bytes, and its values are numbers of 64 bits.
-use Rattle.std.proofs.Common.{◌≡◌, ℕ, zero, suc, ◌+◌, ◌-◌, ◌%◌, ◌^◌, ◌<◌, ◌≤◌, Bool, true, false, List, [], ◌∷◌, length, Option, Some, None, Result, Ok, Err, refl, sym, ap, ◌∙◌, subst, arith, nat_lt, ltb-false, if◌then◌else◌}
+use Rattle.std.proofs.Common.{◌≡◌, ℕ, suc, ◌+◌, ◌-◌, ◌%◌, ◌^◌, ◌<◌, ◌≤◌, Bool, true, false, List, [], ◌∷◌, length, Option, Some, None, Result, Ok, Err, refl, sym, ap, ◌∙◌, subst, arith, nat_lt, ltb-false, if◌then◌else◌}
 use Rattle.std.specs.List.{All}
 use Rattle.std.specs.List.Sorted.{IsPermutation}
 use Rattle.std.proofs.Math.Nat.{mod-lt}
-use Rattle.std.proofs.lemmas.List.Elements.{All-nil, All-push}
+use Rattle.std.proofs.lemmas.List.Elements.{All-nil, All-cons}
 use Rattle.std.proofs.lemmas.List.Sorted.{All-permutation}
-use Rattle.elf_read.specs.Checking.{each_below}
 use Rattle.elf_read.specs.Header.{is_rel}
-use Rattle.elf_read.specs.Sections.{section_bytes, section_count, entry_count}
+use Rattle.elf_read.specs.Sections.{section_bytes}
+use Rattle.elf_place.specs.Relocations.{relocation_sections}
 use Rattle.elf_place.specs.Views.{Placing}
 use Rattle.elf_reloc.specs.declared.fault.RelocFault.{RelocFault}
 use Rattle.elf_reloc.specs.declared.fault.RelocFault.TheVariants as faults
@@ -19,7 +19,7 @@ use Rattle.elf_reloc.specs.declared.target.Target.{Target}
 use Rattle.elf_reloc.specs.declared.target.Target.TheVariants.{Address, Unresolved, Dropped}
 use Rattle.elf_reloc.specs.Patched.{AreInside}
 use Rattle.elf_reloc.specs.Reading as spec
-use Rattle.elf_reloc.specs.Reading.{◌>>=◌, State, written, aimed, inside, applied, entry_fix, with_fix, after_entry, steps_below, after_section, object_state, section_state, start}
+use Rattle.elf_reloc.specs.Reading.{◌>>=◌, State, Relocation, written, aimed, inside, applied, entry_fix, number_at, with_fix, fixes_from, rel_check, relocations_in, object_fixes, all_fixes, section_state}
 use Rattle.elf_reloc.specs.Table.{width_of, fits, absolute, relative}
 
 -- a value that is known is a number of 64 bits
@@ -108,47 +108,37 @@ entry_inside : (p : Placing) (section index i k : ℕ) (f : Fix) → entry_fix p
 unfolding entry_fix
 entry_inside p section index i k f h = applied_inside _ _ _ _ _ _ _ f h
 
-with_fix_inside : (len : ℕ) (fixes : List Fix) (o : Option Fix) → All (IsInside len) fixes → ((f : Fix) → o ≡ Some f → IsInside len f) → All (IsInside len) (with_fix fixes o)
-with_fix_inside len fixes None all one = all
-with_fix_inside len fixes (Some f) all one = All-push (IsInside len) fixes f all (one f refl)
+with_fix_inside : (len : ℕ) (o : Option Fix) (fixes : List Fix) → ((f : Fix) → o ≡ Some f → IsInside len f) → All (IsInside len) fixes → All (IsInside len) (with_fix o fixes)
+with_fix_inside len None fixes one all = all
+with_fix_inside len (Some f) fixes one all = All-cons (IsInside len) f fixes (one f refl) all
 
-entry_keeps : (p : Placing) (section i k : ℕ) (s t : State) → All (IsInside (length (section_bytes p.file section))) s.fixes → after_entry p section i k s ≡ Ok t → All (IsInside (length (section_bytes p.file section))) t.fixes
-unfolding after_entry
-entry_keeps p section i k s t all h =
-    let q = bound (entry_fix p section s.index i k) (λ f. Ok (record { fixes = with_fix s.fixes f; index = spec.next_index s.index })) t h in
-    let e : with_fix s.fixes q.0 ≡ t.fixes = ap (λ (r : State). r.fixes) (ok_is _ _ q.2) in
-    subst (λ (fs : List Fix). All (IsInside (length (section_bytes p.file section))) fs) e
-    (with_fix_inside (length (section_bytes p.file section)) s.fixes q.0 all (λ f found. entry_inside p section s.index i k f (q.1 ∙ ap (λ (o : Option Fix). Ok o) found)))
+fixes_inside : (p : Placing) (section place : ℕ) (left : List Relocation) (fixes : List Fix) → fixes_from p section place left ≡ Ok fixes → All (IsInside (length (section_bytes p.file section))) fixes
+unfolding fixes_from
+fixes_inside p section place [] fixes h =
+    subst (λ (fs : List Fix). All (IsInside (length (section_bytes p.file section))) fs) (ok_is [] fixes h) (All-nil (IsInside (length (section_bytes p.file section))))
+fixes_inside p section place (r ∷ left) fixes h =
+    let q = bound (entry_fix p section (number_at place) r.table r.entry) (λ f. fixes_from p section (place + 1) left >>= λ others. Ok (with_fix f others)) fixes h in
+    let t = bound (fixes_from p section (place + 1) left) (λ others. Ok (with_fix q.0 others)) fixes q.2 in
+    subst (λ (fs : List Fix). All (IsInside (length (section_bytes p.file section))) fs) (ok_is (with_fix q.0 t.0) fixes t.2)
+    (with_fix_inside (length (section_bytes p.file section)) q.0 t.0
+    (λ f found. entry_inside p section (number_at place) r.table r.entry f (q.1 ∙ ap (λ (o : Option Fix). Ok o) found))
+    (fixes_inside p section (place + 1) left t.0 t.1))
 
-steps_keep : (P : State → Type 0) (step : ℕ → State → Result State RelocFault) → ((i : ℕ) (s t : State) → P s → step i s ≡ Ok t → P t) → (n : ℕ) (s t : State) → P s → steps_below n step s ≡ Ok t → P t
-unfolding steps_below
-steps_keep P step each zero s t h e = subst P (ok_is s t e) h
-steps_keep P step each (suc n) s t h e =
-    let q = bound (steps_below n step s) (step n) t e in
-    each n q.0 t (steps_keep P step each n s q.0 h q.1) q.2
+object_inside : (p : Placing) (section : ℕ) (fixes : List Fix) → object_fixes p section ≡ Ok fixes → All (IsInside (length (section_bytes p.file section))) fixes
+unfolding object_fixes
+object_inside p section fixes h =
+    let q = bound (rel_check p.file (relocation_sections p.file section)) (λ _. fixes_from p section 0 (relocations_in p.file (relocation_sections p.file section))) fixes h in
+    fixes_inside p section 0 (relocations_in p.file (relocation_sections p.file section)) fixes q.2
 
-section_cases : (p : Placing) (section i : ℕ) (s t : State) (b : Bool) → All (IsInside (length (section_bytes p.file section))) s.fixes
-    → (if b then steps_below (entry_count p.file i) (after_entry p section i) s else Ok s) ≡ Ok t → All (IsInside (length (section_bytes p.file section))) t.fixes
-section_cases p section i s t true all h =
-    steps_keep (λ r. All (IsInside (length (section_bytes p.file section))) r.fixes) (after_entry p section i) (λ k u v. entry_keeps p section i k u v) (entry_count p.file i) s t all h
-section_cases p section i s t false all h = subst (λ (r : State). All (IsInside (length (section_bytes p.file section))) r.fixes) (ok_is s t h) all
+state_is : (fixes : List Fix) (t : State) → all_fixes fixes ≡ Ok t → fixes ≡ t.fixes
+state_is fixes t h = ap (λ (s : State). s.fixes) (ok_is (record { fixes = fixes }) t h)
 
-section_keeps : (p : Placing) (section i : ℕ) (s t : State) → All (IsInside (length (section_bytes p.file section))) s.fixes → after_section p section i s ≡ Ok t → All (IsInside (length (section_bytes p.file section))) t.fixes
-unfolding after_section
-section_keeps p section i s t all h = section_cases p section i s t (spec.is_rela_of p.file section i) all h
-
-all_none : (len : ℕ) → All (IsInside len) start.fixes
-all_none len = All-nil (IsInside len)
-
-object_inside : (p : Placing) (section : ℕ) (t : State) → object_state p section ≡ Ok t → All (IsInside (length (section_bytes p.file section))) t.fixes
-unfolding object_state
-object_inside p section t h =
-    let q = bound (each_below (section_count p.file) (spec.rel_check p.file section)) (λ _. steps_below (section_count p.file) (after_section p section) start) t h in
-    steps_keep (λ r. All (IsInside (length (section_bytes p.file section))) r.fixes) (after_section p section) (λ k u v. section_keeps p section k u v) (section_count p.file) start t (all_none (length (section_bytes p.file section))) q.2
-
-state_cases : (p : Placing) (section : ℕ) (t : State) (b : Bool) → (if b then object_state p section else Ok start) ≡ Ok t → All (IsInside (length (section_bytes p.file section))) t.fixes
-state_cases p section t true h = object_inside p section t h
-state_cases p section t false h = subst (λ (r : State). All (IsInside (length (section_bytes p.file section))) r.fixes) (ok_is start t h) (all_none (length (section_bytes p.file section)))
+state_cases : (p : Placing) (section : ℕ) (t : State) (b : Bool) → (if b then (object_fixes p section >>= all_fixes) else all_fixes []) ≡ Ok t → All (IsInside (length (section_bytes p.file section))) t.fixes
+state_cases p section t true h =
+    let q = bound (object_fixes p section) all_fixes t h in
+    subst (λ (fs : List Fix). All (IsInside (length (section_bytes p.file section))) fs) (state_is q.0 t q.2) (object_inside p section q.0 q.1)
+state_cases p section t false h =
+    subst (λ (fs : List Fix). All (IsInside (length (section_bytes p.file section))) fs) (state_is [] t h) (All-nil (IsInside (length (section_bytes p.file section))))
 
 pub read_inside : (p : Placing) (section : ℕ) (t : State) → section_state p section ≡ Ok t → All (IsInside (length (section_bytes p.file section))) t.fixes
 unfolding section_state

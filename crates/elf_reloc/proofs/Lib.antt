@@ -1,4 +1,4 @@
-pub mod Stepping
+pub mod GoingOn
 pub mod Overlaps
 pub mod First
 pub mod Placing

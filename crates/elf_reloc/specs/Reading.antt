@@ -1,12 +1,12 @@
 -- The relocations of a section with call frame information, in order of section and entry (ELF64 gABI,
 -- "Relocation"), and the first fault.
-use Rattle.std.specs.Prelude.{◌≡◌, ℕ, zero, suc, ◌+◌, ◌%◌, ◌^◌, ◌==◌, Bool, true, false, ◌&&◌, List, [], ◌∷◌, ◌++◌, length, min, Option, Some, None, Result, Ok, Err, nat_lt, if◌then◌else◌}
+use Rattle.std.specs.Prelude.{◌≡◌, ℕ, zero, suc, ◌+◌, ◌%◌, ◌^◌, ◌==◌, Bool, true, false, List, [], ◌∷◌, ◌++◌, length, min, Option, Some, None, Result, Ok, Err, nat_lt, if◌then◌else◌}
 use Rattle.std.specs.Option.{unwrap_or}
 use Rattle.std.specs.Int.{w64, cast_unsigned}
-use Rattle.elf_read.specs.Checking.{each_below}
 use Rattle.elf_read.specs.Header.{is_rel, arch_of}
-use Rattle.elf_read.specs.Sections.{sh_type, sh_link, sh_info, section_count, section_bytes, rela_symbol, entry_count}
+use Rattle.elf_read.specs.Sections.{sh_type, sh_link, section_bytes, rela_symbol, entry_count}
 use Rattle.elf_read.specs.Views.{rela_offset, rela_type, rela_addend}
+use Rattle.elf_place.specs.Relocations.{relocation_sections}
 use Rattle.elf_place.specs.Views.{Placing, address_at}
 use Rattle.elf_reloc.specs.declared.fault.RelocFault.{RelocFault}
 use Rattle.elf_reloc.specs.declared.fault.RelocFault.TheVariants.{UnknownType, Range, RelSection, OutOfSection, NoMemory}
@@ -64,52 +64,65 @@ entry_fix p section index i k =
     (rela_offset p.file i k) index (cast_unsigned w64 (rela_addend p.file i k))
     (target_of p (sh_link p.file i) (rela_symbol p.file i k))
 
--- what was read so far: the fields that are written, and how many relocations there were
+-- ---- all relocations of a section
+-- an SHT_RELA section (4), whose relocations have addends
+unfoldable pub has_addends : List ℕ → ℕ → Bool
+has_addends file i = sh_type file i == 4
+
+-- relocations without addends are refused; the first of the sections that has some is named
+unfoldable pub rel_check : List ℕ → (sections : List ℕ) → Result (Unit {0}) RelocFault
+rel_check file [] = Ok tt
+rel_check file (i ∷ sections) = if has_addends file i then rel_check file sections else Err (RelSection i)
+
+-- a relocation: the section that has it, and which of that section's entries it is
+pub record Relocation : Type 0 where
+  pub table : ℕ
+  pub entry : ℕ
+
+-- `count` entries of a section, from this one on
+unfoldable pub entries_from : (table first count : ℕ) → List Relocation
+entries_from table first zero = []
+entries_from table first (suc count) = record { table = table; entry = first } ∷ entries_from table (first + 1) count
+
+-- the relocations of these sections, in order of section and entry
+unfoldable pub relocations_in : List ℕ → (sections : List ℕ) → List Relocation
+relocations_in file [] = []
+relocations_in file (i ∷ sections) = entries_from i 0 (entry_count file i) ++ relocations_in file sections
+
+-- ---- what they write
+-- the number of the relocation at a place of the list is that place; a fault carries 32 bits, and the last number that it can
+-- carry stands for all places from there on
+abbrev pub number_at : (place : ℕ) → ℕ
+number_at place = min place 4294967295
+
+abbrev pub with_fix : Option Fix → List Fix → List Fix
+with_fix None fixes = fixes
+with_fix (Some f) fixes = f ∷ fixes
+
+-- the fields that relocations write, of which the first is at this place of the list; or the first fault
+unfoldable pub fixes_from : Placing → (section place : ℕ) → List Relocation → Result (List Fix) RelocFault
+fixes_from p section place [] = Ok []
+fixes_from p section place (r ∷ relocations) =
+    entry_fix p section (number_at place) r.table r.entry
+    >>= λ f. fixes_from p section (place + 1) relocations
+    >>= λ fixes. Ok (with_fix f fixes)
+
+-- those of an object's section; the section may have none without addends
+unfoldable pub object_fixes : Placing → ℕ → Result (List Fix) RelocFault
+object_fixes p section =
+    rel_check p.file (relocation_sections p.file section)
+    >>= λ _. fixes_from p section 0 (relocations_in p.file (relocation_sections p.file section))
+
+-- what a section's relocations write, in their order
 pub record State : Type 0 where
   pub fixes : List Fix
-  pub index : ℕ
 
--- the next number; it stands still at the last that a fault can carry
-abbrev pub next_index : ℕ → ℕ
-next_index index = min (index + 1) 4294967295
+abbrev pub all_fixes : List Fix → Result State RelocFault
+all_fixes fixes = Ok (record { fixes = fixes })
 
-abbrev pub with_fix : List Fix → Option Fix → List Fix
-with_fix fixes None = fixes
-with_fix fixes (Some f) = fixes ++ f ∷ []
-
-unfoldable pub after_entry : Placing → (section i k : ℕ) → State → Result State RelocFault
-after_entry p section i k state =
-    entry_fix p section state.index i k >>= λ f. Ok (record { fixes = with_fix state.fixes f; index = next_index state.index })
-
--- the same step for each number below n, from 0 on; the first fault ends it
-unfoldable pub steps_below : {S : Type 0} → ℕ → (ℕ → S → Result S RelocFault) → S → Result S RelocFault
-steps_below zero step state = Ok state
-steps_below (suc n) step state = steps_below n step state >>= step n
-
--- an SHT_RELA section (4) whose info is the section's number
-unfoldable pub is_rela_of : List ℕ → ℕ → ℕ → Bool
-is_rela_of file section i = (sh_type file i == 4) && (sh_info file i == section)
-
-unfoldable pub after_section : Placing → (section i : ℕ) → State → Result State RelocFault
-after_section p section i state =
-    if is_rela_of p.file section i then steps_below (entry_count p.file i) (after_entry p section i) state else Ok state
-
-abbrev pub start : State
-start = record { fixes = []; index = 0 }
-
--- an SHT_REL section (9) whose info is the section's number
-unfoldable pub rel_check : List ℕ → (section i : ℕ) → Result (Unit {0}) RelocFault
-rel_check file section i = if (sh_type file i == 9) && (sh_info file i == section) then Err (RelSection i) else Ok tt
-
--- the relocations of an object's section; the section may have none without addends
-unfoldable pub object_state : Placing → ℕ → Result State RelocFault
-object_state p section =
-    each_below (section_count p.file) (rel_check p.file section)
-    >>= λ _. steps_below (section_count p.file) (after_section p section) start
-
--- what a section's relocations write, in their order; only an object's are applied
+-- only an object's relocations are applied
 unfoldable pub section_state : Placing → ℕ → Result State RelocFault
-section_state p section = if is_rel p.file then object_state p section else Ok start
+section_state p section = if is_rel p.file then (object_fixes p section >>= all_fixes) else all_fixes []
 
 -- a fault is what was asked; that memory ran out says nothing of it
 abbrev pub Fails : {X : Type 0} → RelocFault → Result X RelocFault → Type 0
@@ -118,12 +131,21 @@ Fails e given = given ≡ Err e
 
 -- what a call read so far
 abbrev pub state_of : Read → State
-state_of r = record { fixes = r.fixes.items; index = r.next }
+state_of r = record { fixes = r.fixes.items }
 
--- what a call answered, and what it has read then, is what a step gives
-abbrev pub Steps : {X : Type 0} → Result X RelocFault → Read → Result State RelocFault → Type 0
-Steps (Ok x) new given = given ≡ Ok (state_of new)
-Steps (Err e) new given = Fails e given
+-- all fields, where these relocations are left: those so far, and what these write
+abbrev pub going_on : Placing → (section : ℕ) → Read → List Relocation → Result (List Fix) RelocFault
+going_on p section read left = fixes_from p section read.next left >>= λ fixes. Ok (read.fixes.items ++ fixes)
+
+-- a call read on: all fields are those so far and what is left then
+abbrev pub GoesOn : {X : Type 0} → Placing → (section : ℕ) → Result X RelocFault → Read → Result (List Fix) RelocFault → (left : List Relocation) → Type 0
+GoesOn p section (Ok x) new all left = all ≡ going_on p section new left
+GoesOn p section (Err e) new all left = Fails e all
+
+-- a call read all fields
+abbrev pub Holds : {X : Type 0} → Result X RelocFault → Read → Result (List Fix) RelocFault → Type 0
+Holds (Ok x) new all = all ≡ Ok new.fixes.items
+Holds (Err e) new all = Fails e all
 
 -- what a call answered is what is read
 abbrev pub Gives : Result Read RelocFault → Result State RelocFault → Type 0

@@ -1,22 +1,22 @@
 //! The relocations of a section, in order of section and entry.
 
-ghost use Rattle.std.specs.Prelude.{◌≡◌, ◌<◌};
-ghost use Rattle.elf_read.specs.Checking.{each_below};
+ghost use Rattle.std.specs.Prelude.{◌≡◌, ◌<◌, ◌++◌, ◌∷◌, [], List};
 ghost use Rattle.elf_read.specs.Header.{is_rel};
 ghost use Rattle.elf_read.specs.Sections as fields;
+ghost use Rattle.elf_place.specs.Relocations.{numbers_of};
 ghost use Rattle.elf_place.specs.Views.{file, placing};
 ghost use Rattle.elf_reloc.specs.Reading as spec;
-ghost use Rattle.elf_reloc.specs.Reading.{steps_below, state_of};
+ghost use Rattle.elf_reloc.specs.Reading.{Relocation, entries_from, going_on, relocations_in, state_of};
 
 use crate::entry::entry_fix;
 use crate::fault::RelocFault;
 use crate::fix::Fix;
-use elf_place::Placed;
+use elf_place::{Placed, RelocationSection};
 use elf_read::Kind;
-use elf_read::layout::{ENTRY_LEN, SHT_REL, SHT_RELA};
+use elf_read::layout::{ENTRY_LEN, SHT_RELA};
 use std::alloc::Global;
 
-/// What was read so far: the fields that are written, and how many relocations there were.
+/// What was read so far: the fields that are written, and the number of the next relocation.
 #[derive(Debug, Drop)]
 pub struct Read {
     pub fixes: Vec<Fix>,
@@ -24,7 +24,6 @@ pub struct Read {
 }
 
 // Reads entry `k` of relocation section `i`.
-#[tactic(auto, unfolding(crate::specs::Reading::after_entry))]
 fn read_entry(
     placed: &Placed<'_>,
     section: u32,
@@ -32,12 +31,13 @@ fn read_entry(
     k: u32,
     read: &mut Read,
 ) -> Result<(), RelocFault>
-    ensures { spec.Steps result read.new (spec.after_entry (placing placed.now) section i k (state_of read.old)) }
+    ensures { (left : List Relocation) → spec.GoesOn (placing placed.now) section result read.new (going_on (placing placed.now) section read.old (record { table = i; entry = k } ∷ left)) left }
 {
-    if let Some(fix) = entry_fix(placed, section, read.next, i, k)? {
+    let number = read.next;
+    if let Some(fix) = entry_fix(placed, section, number, i, k)? {
         read.fixes.push(fix)?;
     }
-    read.next = read.next.saturating_add(1);
+    read.next = number.saturating_add(1);
     Ok(())
 }
 
@@ -49,21 +49,12 @@ fn read_entries(
     count: u32,
     read: &mut Read,
 ) -> Result<(), RelocFault>
-    ensures { spec.Steps result read.new (steps_below count (spec.after_entry (placing placed.now) section i) (state_of read.old)) }
+    ensures { (left : List Relocation) → spec.GoesOn (placing placed.now) section result read.new (going_on (placing placed.now) section read.old (entries_from i 0 count ++ left)) left }
 {
     for k in 0..count {
         read_entry(placed, section, i, k, read)?;
     }
     Ok(())
-}
-
-// Whether section `i` has relocations with addends for the section.
-#[tactic(auto, unfolding(crate::specs::Reading::is_rela_of))]
-fn is_rela_of(placed: &Placed<'_>, section: u32, i: u32) -> bool
-    ensures { result ≡ spec.is_rela_of (file placed.now) section i }
-{
-    let header = placed.elf().section(i);
-    header.kind == SHT_RELA && header.info == section
 }
 
 // How many relocations with addends section `i` has.
@@ -74,55 +65,43 @@ fn entry_count(placed: &Placed<'_>, i: u32) -> u32
     (placed.elf().bytes(i).len() as u64 / ENTRY_LEN) as u32
 }
 
-// Reads section `i`, where it has relocations for the section.
-#[tactic(auto, unfolding(crate::specs::Reading::after_section))]
-fn read_section(
-    placed: &Placed<'_>,
-    section: u32,
-    i: u32,
-    read: &mut Read,
-) -> Result<(), RelocFault>
-    ensures { spec.Steps result read.new (spec.after_section (placing placed.now) section i (state_of read.old)) }
-{
-    if !is_rela_of(placed, section, i) {
-        return Ok(());
-    }
-    read_entries(placed, section, i, entry_count(placed, i), read)
-}
-
-// Reads the first sections.
+// Reads the relocations of these sections.
 fn read_sections(
     placed: &Placed<'_>,
     section: u32,
-    count: u32,
+    sections: &[RelocationSection],
     read: &mut Read,
 ) -> Result<(), RelocFault>
-    ensures { spec.Steps result read.new (steps_below count (spec.after_section (placing placed.now) section) (state_of read.old)) }
+    ensures { spec.GoesOn (placing placed.now) section result read.new (going_on (placing placed.now) section read.old (relocations_in (file placed.now) (numbers_of sections.now))) [] }
 {
-    for i in 0..count {
-        read_section(placed, section, i, read)?;
+    for it in sections {
+        read_entries(
+            placed,
+            section,
+            it.number,
+            entry_count(placed, it.number),
+            read,
+        )?;
     }
     Ok(())
 }
 
-// Section `i` has no relocations without addends for the section.
-#[tactic(auto, unfolding(crate::specs::Reading::rel_check))]
-fn check_rel(placed: &Placed<'_>, section: u32, i: u32) -> Result<(), RelocFault>
-    ensures { result ≡ spec.rel_check (file placed.now) section i }
+// Whether section `i` has relocations with addends.
+#[tactic(auto, unfolding(crate::specs::Reading::has_addends))]
+fn has_addends(placed: &Placed<'_>, i: u32) -> bool
+    ensures { result ≡ spec.has_addends (file placed.now) i }
 {
-    let header = placed.elf().section(i);
-    if header.kind == SHT_REL && header.info == section {
-        return Err(RelocFault::RelSection(i));
-    }
-    Ok(())
+    placed.elf().section(i).kind == SHT_RELA
 }
 
-// No section has relocations without addends for the section.
-fn check_rels(placed: &Placed<'_>, section: u32, count: u32) -> Result<(), RelocFault>
-    ensures { result ≡ each_below count (spec.rel_check (file placed.now) section) }
+// None of these sections has relocations without addends.
+fn check_rels(placed: &Placed<'_>, sections: &[RelocationSection]) -> Result<(), RelocFault>
+    ensures { result ≡ spec.rel_check (file placed.now) (numbers_of sections.now) }
 {
-    for i in 0..count {
-        check_rel(placed, section, i)?;
+    for it in sections {
+        if !has_addends(placed, it.number) {
+            return Err(RelocFault::RelSection(it.number));
+        }
     }
     Ok(())
 }
@@ -136,14 +115,14 @@ fn is_object(placed: &Placed<'_>) -> bool
 }
 
 // Reads the relocations of an object's section.
-#[tactic(auto, unfolding(crate::specs::Reading::object_state))]
 fn read_object(placed: &Placed<'_>, section: u32, read: &mut Read) -> Result<(), RelocFault>
-    requires { state_of read.old ≡ spec.start }
-    ensures { spec.Steps result read.new (spec.object_state (placing placed.now) section) }
+    requires none { read.old.fixes.items ≡ [] }
+    requires first { read.old.next ≡ 0 }
+    ensures { spec.Holds result read.new (spec.object_fixes (placing placed.now) section) }
 {
-    let count = placed.elf().sections();
-    check_rels(placed, section, count)?;
-    read_sections(placed, section, count, read)
+    let sections = placed.relocation_sections(section);
+    check_rels(placed, sections)?;
+    read_sections(placed, section, sections, read)
 }
 
 /// Reads what a section's relocations write, in their order.

@@ -1,18 +1,13 @@
-use Rattle.std.proofs.Common.{sym}
-use Rattle.std.proofs.lemmas.Result.{err_from_is_err_and}
-use Rattle.elf_read.proofs.Each.{each_below-none, each_below-more, each_below-stop}
+use Rattle.std.proofs.Common.{rules}
 use Rattle.elf_place.specs.Views.{file}
-use Rattle.elf_reloc.specs.Reading.{rel_check}
+use Rattle.elf_reloc.proofs.GoingOn.{rel_stops, rel_goes_on, rel_ends}
 use Rattle.elf_reloc.proofs.reading.check_rels.Goals as goal
 
-pub loop-i-init : goal.loop-i-init
-loop-i-init c = each_below-none (rel_check (file c.args.placed.now) c.args.section)
+pub returns-then-not-has_addends : goal.returns-then-not-has_addends
+returns-then-not-has_addends c = rel_stops (file c.args.placed.now) c.args.sections.now c.loop-it.it-index _ c.loop-it-test.true (search rules) c.loop-it.invariant
 
-pub returns-in_err-check_rel : goal.returns-in_err-check_rel
-returns-in_err-check_rel c =
-    let p = err_from_is_err_and c.from_residual.result c.from_residual.ensures.1 in
-    rw (p.1, p.2)
-    (sym (each_below-stop c.args.count c.loop-i.i (rel_check (file c.args.placed.now) c.args.section) c.in_err-check_rel.field-0.0 c.loop-i-test.true c.loop-i.invariant (sym c.in_err-check_rel.ensures)))
+pub loop-it-preserved : goal.loop-it-preserved
+loop-it-preserved c = rel_goes_on (file c.args.placed.now) c.args.sections.now c.loop-it.it-index record { target = 0; number = 0 } c.loop-it-test.true (search rules) c.loop-it.invariant
 
-pub loop-i-preserved : goal.loop-i-preserved
-loop-i-preserved c = each_below-more c.loop-i.i (rel_check (file c.args.placed.now) c.args.section) c.loop-i.invariant (sym c.in_ok-check_rel.ensures)
+pub returns : goal.returns
+returns c = rel_ends (file c.args.placed.now) c.args.sections.now c.loop-it.it-index c.loop-it-test.false c.loop-it.invariant

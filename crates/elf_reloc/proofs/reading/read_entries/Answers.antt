@@ -1,17 +1,25 @@
+use Rattle.std.proofs.Common.{◌+◌, ◌-◌, ◌++◌, ap, ◌∙◌}
 use Rattle.std.proofs.lemmas.Result.{err_from_is_err_and}
 use Rattle.elf_place.specs.Views.{placing}
-use Rattle.elf_reloc.specs.Reading.{after_entry, state_of}
-use Rattle.elf_reloc.proofs.Stepping.{steps_below-none, steps_below-more, steps_below-fails}
+use Rattle.elf_reloc.specs.Reading.{entries_from, going_on}
+use Rattle.elf_reloc.proofs.GoingOn.{entries-first, entries-none, fails_same}
 use Rattle.elf_reloc.proofs.reading.read_entries.Goals as goal
 
-pub loop-k-init : goal.loop-k-init
-loop-k-init c = steps_below-none (after_entry (placing c.args.placed.now) c.args.section c.args.i) (state_of c.args.read.now)
-
 pub returns-in_err-read_entry : goal.returns-in_err-read_entry
-returns-in_err-read_entry c =
+returns-in_err-read_entry c = λ left.
     let p = err_from_is_err_and c.from_residual.result c.from_residual.ensures.1 in
     rw (p.1, p.2)
-    (steps_below-fails c.args.count c.loop-k.k (after_entry (placing c.args.placed.now) c.args.section c.args.i) (state_of c.args.read.now) (state_of c.loop-k.read) c.in_err-read_entry.field-0.0 c.loop-k-test.true c.loop-k.invariant c.in_err-read_entry.ensures)
+    (fails_same _ _ _
+    (c.loop-k.invariant left ∙ ap (going_on (placing c.args.placed.now) c.args.section c.loop-k.read) (entries-first c.args.i c.loop-k.k c.args.count left c.loop-k-test.true))
+    (c.in_err-read_entry.ensures (entries_from c.args.i (c.loop-k.k + 1) (c.args.count - (c.loop-k.k + 1)) ++ left)))
 
 pub loop-k-preserved : goal.loop-k-preserved
-loop-k-preserved c = steps_below-more c.loop-k.k (after_entry (placing c.args.placed.now) c.args.section c.args.i) (state_of c.args.read.now) (state_of c.loop-k.read) (state_of c.read_entry.new.read) c.loop-k.invariant c.in_ok-read_entry.ensures
+loop-k-preserved c = λ left.
+    c.loop-k.invariant left
+    ∙ ap (going_on (placing c.args.placed.now) c.args.section c.loop-k.read) (entries-first c.args.i c.loop-k.k c.args.count left c.loop-k-test.true)
+    ∙ c.in_ok-read_entry.ensures (entries_from c.args.i (c.loop-k.k + 1) (c.args.count - (c.loop-k.k + 1)) ++ left)
+
+pub returns : goal.returns
+returns c = λ left.
+    c.loop-k.invariant left
+    ∙ ap (going_on (placing c.args.placed.now) c.args.section c.loop-k.read) (entries-none c.args.i c.loop-k.k c.args.count left c.loop-k-test.false)

@@ -1,7 +1,7 @@
-use Rattle.std.proofs.Common.{◌≡◌, Ok}
+use Rattle.std.proofs.Common.{◌≡◌, ◌-◌, ◌++◌, List}
 use Rattle.elf_place.specs.Views.{placing}
-use Rattle.elf_reloc.specs.Reading.{steps_below, after_entry, state_of}
+use Rattle.elf_reloc.specs.Reading.{Relocation, entries_from, going_on}
 use Rattle.elf_reloc.proofs.reading.read_entries.Given as goal
 
 abbrev pub invariant-loop-k : goal.invariant-loop-k
-invariant-loop-k l = steps_below l.k (after_entry (placing l.placed) l.section l.i) (state_of l.fn.read) ≡ Ok (state_of l.read)
+invariant-loop-k l = (left : List Relocation) → going_on (placing l.placed) l.section l.fn.read (entries_from l.i 0 l.count ++ left) ≡ going_on (placing l.placed) l.section l.read (entries_from l.i l.k (l.count - l.k) ++ left)

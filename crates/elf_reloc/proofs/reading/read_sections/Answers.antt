@@ -1,17 +1,31 @@
+use Rattle.std.proofs.Common.{◌+◌, drop, ap, ◌∙◌}
 use Rattle.std.proofs.lemmas.Result.{err_from_is_err_and}
-use Rattle.elf_place.specs.Views.{placing}
-use Rattle.elf_reloc.specs.Reading.{after_section, state_of}
-use Rattle.elf_reloc.proofs.Stepping.{steps_below-none, steps_below-more, steps_below-fails}
+use Rattle.elf_place.specs.Relocations.{numbers_of}
+use Rattle.elf_place.specs.Views.{file, placing}
+use Rattle.elf_reloc.specs.Reading.{going_on, relocations_in}
+use Rattle.elf_reloc.proofs.GoingOn.{sections-first, sections-none, fails_same}
 use Rattle.elf_reloc.proofs.reading.read_sections.Goals as goal
 
-pub loop-i-init : goal.loop-i-init
-loop-i-init c = steps_below-none (after_section (placing c.args.placed.now) c.args.section) (state_of c.args.read.now)
-
-pub returns-in_err-read_section : goal.returns-in_err-read_section
-returns-in_err-read_section c =
+pub returns-in_err-read_entries : goal.returns-in_err-read_entries
+returns-in_err-read_entries c =
     let p = err_from_is_err_and c.from_residual.result c.from_residual.ensures.1 in
     rw (p.1, p.2)
-    (steps_below-fails c.args.count c.loop-i.i (after_section (placing c.args.placed.now) c.args.section) (state_of c.args.read.now) (state_of c.loop-i.read) c.in_err-read_section.field-0.0 c.loop-i-test.true c.loop-i.invariant c.in_err-read_section.ensures)
+    (fails_same _ _ _
+    (
+    c.loop-it.invariant
+    ∙ ap (going_on (placing c.args.placed.now) c.args.section c.loop-it.read)
+    (sections-first (file c.args.placed.now) c.args.sections.now c.loop-it.it-index record { target = 0; number = 0 } c.entry_count.result c.loop-it-test.true c.entry_count.ensures)
+    )
+    (c.in_err-read_entries.ensures (relocations_in (file c.args.placed.now) (numbers_of (drop (c.loop-it.it-index + 1) c.args.sections.now)))))
 
-pub loop-i-preserved : goal.loop-i-preserved
-loop-i-preserved c = steps_below-more c.loop-i.i (after_section (placing c.args.placed.now) c.args.section) (state_of c.args.read.now) (state_of c.loop-i.read) (state_of c.read_section.new.read) c.loop-i.invariant c.in_ok-read_section.ensures
+pub loop-it-preserved : goal.loop-it-preserved
+loop-it-preserved c =
+    c.loop-it.invariant
+    ∙ ap (going_on (placing c.args.placed.now) c.args.section c.loop-it.read)
+    (sections-first (file c.args.placed.now) c.args.sections.now c.loop-it.it-index record { target = 0; number = 0 } c.entry_count.result c.loop-it-test.true c.entry_count.ensures)
+    ∙ c.in_ok-read_entries.ensures (relocations_in (file c.args.placed.now) (numbers_of (drop (c.loop-it.it-index + 1) c.args.sections.now)))
+
+pub returns : goal.returns
+returns c =
+    c.loop-it.invariant
+    ∙ ap (going_on (placing c.args.placed.now) c.args.section c.loop-it.read) (sections-none (file c.args.placed.now) c.args.sections.now c.loop-it.it-index c.loop-it-test.false)

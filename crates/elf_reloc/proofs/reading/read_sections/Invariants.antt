@@ -1,7 +1,8 @@
-use Rattle.std.proofs.Common.{◌≡◌, Ok}
-use Rattle.elf_place.specs.Views.{placing}
-use Rattle.elf_reloc.specs.Reading.{steps_below, after_section, state_of}
+use Rattle.std.proofs.Common.{◌≡◌, drop}
+use Rattle.elf_place.specs.Relocations.{numbers_of}
+use Rattle.elf_place.specs.Views.{file, placing}
+use Rattle.elf_reloc.specs.Reading.{going_on, relocations_in}
 use Rattle.elf_reloc.proofs.reading.read_sections.Given as goal
 
-abbrev pub invariant-loop-i : goal.invariant-loop-i
-invariant-loop-i l = steps_below l.i (after_section (placing l.placed) l.section) (state_of l.fn.read) ≡ Ok (state_of l.read)
+abbrev pub invariant-loop-it : goal.invariant-loop-it
+invariant-loop-it l = going_on (placing l.placed) l.section l.fn.read (relocations_in (file l.placed) (numbers_of l.sections)) ≡ going_on (placing l.placed) l.section l.read (relocations_in (file l.placed) (numbers_of (drop l.it-index l.sections)))

@@ -1,0 +1,84 @@
+//! The sections with relocations of each section.
+
+ghost use Rattle.std.specs.Prelude.{◌≡◌, ◌<◌, length, IfOk, OnOk};
+ghost use Rattle.std.specs.List.Sorted.{IsNonDecreasingBy, IsStableByKey};
+ghost use Rattle.std.specs.Ordering.{nat_cmp};
+ghost use Rattle.elf_read.specs.Sections.{section_count};
+ghost use Rattle.elf_read.specs.Views.{file};
+ghost use Rattle.elf_place.specs.Relocations as spec;
+
+use elf_read::Elf;
+use elf_read::layout::{SHT_REL, SHT_RELA};
+use std::alloc::{AllocError, Global};
+
+/// A section with relocations (`SHT_RELA` or `SHT_REL`), and the one that they are applied to.
+#[derive(Clone, Copy, Debug)]
+pub struct RelocationSection {
+    /// The number of the section that the relocations are applied to, which its info says.
+    pub target: u32,
+    /// Its own number.
+    pub number: u32,
+}
+
+// Whether a section has relocations.
+#[tactic(auto, unfolding(crate::specs::Relocations::has_relocations))]
+fn has_relocations(elf: &Elf<'_>, i: u32) -> bool
+    ensures { result ≡ spec.has_relocations (file elf.now) i }
+{
+    let kind = elf.section(i).kind;
+    kind == SHT_RELA || kind == SHT_REL
+}
+
+// The first `count` sections that have relocations, in order of their numbers.
+fn list_sections(
+    alloc: Global,
+    elf: &Elf<'_>,
+    count: u32,
+) -> Result<Vec<RelocationSection>, AllocError>
+    ensures { IfOk result (λ v. v.items ≡ spec.listed_below (file elf.now) count) }
+{
+    let mut list = Vec::new(alloc);
+    for i in 0..count {
+        if has_relocations(elf, i) {
+            let target = elf.section(i).info;
+            list.push(RelocationSection { target, number: i })?;
+        }
+    }
+    Ok(list)
+}
+
+// Brings them into the order of their targets. Those of one target stay in order.
+fn sort_by_target(list: &mut Vec<RelocationSection>) -> Result<(), AllocError>
+    ensures rising { OnOk result (IsNonDecreasingBy spec.target_of list.new.items) }
+    ensures stable { OnOk result (IsStableByKey spec.target_of nat_cmp list.old.items list.new.items) }
+{
+    list.sort_by_key(|section| section.target)?;
+    Ok(())
+}
+
+/// The sections with relocations, by rising target; those of one target in order of their numbers.
+pub fn relocation_sections(
+    alloc: Global,
+    elf: &Elf<'_>,
+    count: u32,
+) -> Result<Vec<RelocationSection>, AllocError>
+    requires { count ≡ section_count (file elf.now) }
+    ensures rising { IfOk result (λ v. IsNonDecreasingBy spec.target_of v.items) }
+    ensures all { IfOk result (λ v. spec.HasAll (file elf.now) v.items) }
+{
+    let mut list = list_sections(alloc, elf, count)?;
+    sort_by_target(&mut list)?;
+    Ok(list)
+}
+
+/// Those of a list by rising target that have this target.
+pub fn with_target(list: &[RelocationSection], target: u32) -> &[RelocationSection]
+    requires { IsNonDecreasingBy spec.target_of list.now }
+    ensures { result.now ≡ spec.with_target target list.now }
+{
+    let start = list.partition_point(|section| section.target < target);
+    let (_, rest) = list.split_at(start);
+    let count = rest.partition_point(|section| section.target <= target);
+    let (found, _) = rest.split_at(count);
+    found
+}
