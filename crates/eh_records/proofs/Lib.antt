@@ -15,3 +15,6 @@ pub mod Rising
 pub mod SaidLoop
 pub mod Stands
 pub mod Widths
+pub mod FieldsStand
+pub mod EntriesStand
+pub mod Given

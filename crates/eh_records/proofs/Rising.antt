@@ -9,13 +9,14 @@ use Rattle.sf_bytes.proofs.Fields.{past-passes}
 use Rattle.sf_bytes.proofs.Inside.{end_of}
 use Rattle.sf_model.specs.declared.machine.Arch.{Arch}
 use Rattle.eh_records.specs.Cut.{Piece}
-use Rattle.eh_records.specs.Cutting.{Stands, AreCut, AreRead, start}
+use Rattle.eh_records.specs.Cutting.{Stands, AreCut, start}
 use Rattle.eh_records.specs.Raw.{HoldsRaw, HoldRaw, StandApart}
 use Rattle.eh_records.specs.Section.{EntryView, cuts_of, with_place, entry_fields, pointer_fields, entries_of, entries_before}
 use Rattle.eh_records.specs.Step.{PointerField}
 use Rattle.eh_records.proofs.Between.{Between, LieIn, AreRawIn, lower, not_above, both_between, both_raw, lie_wider, none_lies, stand_apart}
-use Rattle.eh_records.proofs.Entries.{read_entries}
+use Rattle.eh_records.proofs.Entries.{given_entries}
 use Rattle.eh_records.proofs.Faults.{here, read_again}
+use Rattle.eh_records.proofs.Given.{AreGiven}
 use Rattle.eh_records.proofs.Lie.{entry_lies}
 use Rattle.eh_records.proofs.Parts.{IsPart, part-part, rest-part, run-part}
 
@@ -70,7 +71,7 @@ then_lie at p after fs gs s h k = record {
   raw = both_raw at fs gs (lie_wider p.body at fs (body_part at p after s) h).raw (lie_wider after at gs (after_part at p after s) k).raw;
 }
 
-all_lie : (arch : Arch) (section cies : List ℕ) (ps : List Piece) (es : List EntryView) (at : Cursor) → AreCut ps at → AreRead arch section cies ps es → LieIn at (pointer_fields es)
+all_lie : (arch : Arch) (section cies : List ℕ) (ps : List Piece) (es : List EntryView) (at : Cursor) → AreCut ps at → AreGiven arch section cies ps es → LieIn at (pointer_fields es)
 all_lie arch section cies [] [] at cut read = none_lies at
 all_lie arch section cies [] (e ∷ es) at cut read = absurd read
 all_lie arch section cies (p ∷ ps) [] at cut read = absurd read
@@ -81,8 +82,8 @@ all_lie arch section cies (p ∷ ps) (e ∷ es) at (after, stands, rest) read =
 
 fields_lie : (arch : Arch) (section : List ℕ) (es : List EntryView) → entries_of arch section ≡ Ok es → LieIn (start section) (pointer_fields es)
 fields_lie arch section es whole =
-    let e = read_entries arch section es whole in
-    all_lie arch section [] e.0 es (start section) e.1 e.2
+    let e = given_entries arch section es whole in
+    all_lie arch section [] e.pieces es (start section) e.cut e.given
 
 -- once no entry is left, what was listed are all fields, so they lie in the section
 pub listed_lie : (arch : Arch) (section : List ℕ) (fs : List PointerField) (left : List EntryView) → is_ok (entries_of arch section) ≡ true

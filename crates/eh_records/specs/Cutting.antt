@@ -1,11 +1,13 @@
 -- The cut of a section in the standard's words (LSB Core, "The .eh_frame section"): records that stand one behind
 -- the other from the first byte on, each a length word and as many bytes, and then nothing or a length word of 0.
-use Rattle.std.specs.Prelude.{◌≡◌, ◌≢◌, ◌⊎◌, ℕ, ◌+◌, ◌≤◌, List, [], ◌∷◌, length, take, drop, Ok}
+use Rattle.std.specs.Prelude.{◌≡◌, ◌≢◌, ◌⊎◌, ℕ, ◌+◌, ◌≤◌, List, [], ◌∷◌, ◌++◌, length, take, drop, Ok}
 use Rattle.sf_model.specs.declared.machine.Arch.{Arch}
 use Rattle.byteorder.specs.Endian.{little_number}
 use Rattle.sf_bytes.specs.Cursor.{Cursor, past}
 use Rattle.eh_records.specs.Cut.{Piece}
-use Rattle.eh_records.specs.Section.{Cutting, EntryView, entry_at, with_place}
+use Rattle.eh_records.specs.Cie.{SharedView}
+use Rattle.eh_records.specs.Fields.{EntryStands}
+use Rattle.eh_records.specs.Section.{Cutting, EntryView, Common, Frame}
 
 -- a record stands at the front: its length, the word behind that, and the bytes to its end
 pub record Stands (at : Cursor) (p : Piece) (after : Cursor) : Type 0 where
@@ -40,13 +42,18 @@ all_cut (p ∷ ps) = Ok p ∷ all_cut ps
 abbrev pub start : List ℕ → Cursor
 start section = record { place = 0; left = section }
 
--- these are the entries of the records, where common information entries stand before them at these places
-abbrev pub AreRead : Arch → List ℕ → List ℕ → List Piece → List EntryView → Type 0
-AreRead arch section cies [] [] = Unit {0}
-AreRead arch section cies [] (e ∷ es) = ⊥
-AreRead arch section cies (p ∷ ps) [] = ⊥
-AreRead arch section cies (p ∷ ps) (e ∷ es) = (entry_at arch section cies p ≡ Ok e) × AreRead arch section (with_place cies p) ps es
+-- the common information entries before a record, with this entry where it is one
+abbrev pub with_common : List SharedView → EntryView → List SharedView
+with_common before (Common c) = before ++ c ∷ []
+with_common before (Frame f) = before
+
+-- these are the entries of the records, field by field, where these common information entries stand before them
+abbrev pub AreRead : Arch → (before : List SharedView) → List Piece → List EntryView → Type 0
+AreRead arch before [] [] = Unit {0}
+AreRead arch before [] (e ∷ es) = ⊥
+AreRead arch before (p ∷ ps) [] = ⊥
+AreRead arch before (p ∷ ps) (e ∷ es) = EntryStands arch before p e × AreRead arch (with_common before e) ps es
 
 -- these are the entries of a section: those of the records of its cut
 abbrev pub AreEntries : Arch → List ℕ → List EntryView → Type 0
-AreEntries arch section es = (ps : List Piece) × AreCut ps (start section) × AreRead arch section [] ps es
+AreEntries arch section es = (ps : List Piece) × AreCut ps (start section) × AreRead arch [] ps es

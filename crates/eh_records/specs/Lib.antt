@@ -4,6 +4,7 @@ pub mod Cut
 pub mod Cutting
 pub mod Entry
 pub mod Fde
+pub mod Fields
 pub mod Iter
 pub mod Kept
 pub mod Places

@@ -1,0 +1,168 @@
+-- The fields inside a record, in their order, each by the bytes that stand for it (LSB Core, "The .eh_frame section"; DWARF 5,
+-- sections 6.4.1 and 7.6). A record's length word and the word behind it are in Cutting.antt.
+use Rattle.std.specs.Prelude.{◌≡◌, ◌≢◌, ◌⊎◌, ℕ, ℤ, ◌+◌, ◌%◌, ◌<◌, Bool, true, false, List, [], ◌∷◌, length, Option, Some, None, is_some}
+use Rattle.std.specs.List.{Contains}
+use Rattle.sf_bytes.specs.Cursor.{Cursor}
+use Rattle.sf_bytes.specs.Leb.{Uleb, Sleb}
+use Rattle.sf_bytes.specs.Standing.{Stands, Number, Bytes, Text}
+use Rattle.sf_model.specs.declared.machine.Arch.{Arch}
+use Rattle.sf_model.specs.declared.machine.Key.TheVariants as keys
+use Rattle.eh_pointer.specs.Pointer.{pointer_width, usable_width, format_of, above_format}
+use Rattle.eh_records.specs.Augmentation.{Form, Said, said_plain, are_letters}
+use Rattle.eh_records.specs.Cie.{Numbers, SharedView, shared_of}
+use Rattle.eh_records.specs.Cut.{Piece}
+use Rattle.eh_records.specs.Fde.{FdeView}
+use Rattle.eh_records.specs.Section.{EntryView, Common, Frame}
+use Rattle.eh_records.specs.Step.{PointerField}
+
+-- ---- pointers
+-- a pointer field of this width: its place, its width and the number that stands there
+pub record PointerStands (width : ℕ) (field : PointerField) (from to : Cursor) : Type 0 where
+  pub place : field.place ≡ from.place
+  pub width_is : field.width ≡ width
+  pub number : Stands (Number width) field.raw from to
+
+-- a pointer that is passed over: a field where the format fixes its width, or a LEB128 number
+abbrev pub PassedStands : Option ℕ → (encoding : ℕ) → Option PointerField → (from to : Cursor) → Type 0
+PassedStands (Some width) encoding None from to = ⊥
+PassedStands (Some width) encoding (Some field) from to = PointerStands width field from to
+PassedStands None encoding (Some field) from to = ⊥
+PassedStands None encoding None from to =
+    ((format_of encoding ≡ 1) × ((n : ℕ) × Stands Uleb n from to)) ⊎ ((format_of encoding ≡ 9) × ((z : ℤ) × Stands Sleb z from to))
+
+-- ---- the augmentation
+-- the string is empty, or a `z` (122) and letters, each of which is known and none of which stands twice
+abbrev pub StringStands : Arch → Option (List ℕ) → (from to : Cursor) → Type 0
+StringStands arch None from to = Stands Text [] from to
+StringStands arch (Some letters) from to = Stands Text (122 ∷ letters) from to × (are_letters arch [] letters ≡ true)
+
+-- what a letter says: the form of function pointers, the personality pointer, the encoding of the pointer to a language-specific
+-- data area, that the frame is a signal frame's, or that return addresses are signed with key B
+pub data Saying : Type 0 where
+  pointers : Form → Saying
+  personality : Option PointerField → Saying
+  lsda : ℕ → Saying
+  signal : Saying
+  key_b : Saying
+
+-- an encoding, and the pointer in it; 0xff means that there is none. Aligned pointers (application 5) are refused
+pub record PersonalityStands (field : Option PointerField) (from to : Cursor) : Type 0 where
+  pub encoding : ℕ
+  pub after : Cursor
+  pub encoding_stands : Stands (Number 1) encoding from after
+  pub pointer_stands :
+      ((encoding ≡ 255) × (field ≡ None) × (to ≡ after))
+      ⊎ ((encoding ≢ 255) × (above_format encoding % 8 ≢ 5) × PassedStands (pointer_width encoding) encoding field after to)
+
+-- what `R` (82), `P` (80), `L` (76), `S` (83) and `B` (66) have in the augmentation data
+abbrev pub SayingStands : (letter : ℕ) → Saying → (from to : Cursor) → Type 0
+SayingStands letter (pointers form) from to = (letter ≡ 82) × Stands (Number 1) form.encoding from to × (usable_width form.encoding ≡ Some form.width)
+SayingStands letter (personality field) from to = (letter ≡ 80) × PersonalityStands field from to
+SayingStands letter (lsda encoding) from to = (letter ≡ 76) × Stands (Number 1) encoding from to
+SayingStands letter signal from to = (letter ≡ 83) × (to ≡ from)
+SayingStands letter key_b from to = (letter ≡ 66) × (to ≡ from)
+
+-- each letter has its part of the data, in the order of the letters; what is left over says nothing
+abbrev pub SayingsStand : (letters : List ℕ) → List Saying → Cursor → Type 0
+SayingsStand [] [] from = Unit {0}
+SayingsStand [] (s ∷ sayings) from = ⊥
+SayingsStand (b ∷ letters) [] from = ⊥
+SayingsStand (b ∷ letters) (s ∷ sayings) from = (to : Cursor) × SayingStands b s from to × SayingsStand letters sayings to
+
+abbrev pub with_saying : Said → Saying → Said
+with_saying said (pointers form) = record said { pointers = form }
+with_saying said (personality field) = record said { personality = field }
+with_saying said (lsda encoding) = record said { lsda = Some encoding }
+with_saying said signal = record said { signal = true }
+with_saying said key_b = record said { key = keys.B }
+
+-- all that is said, where a letter that isn't there says what `said` has
+abbrev pub all_said : Said → List Saying → Said
+all_said said [] = said
+all_said said (s ∷ sayings) = all_said (with_saying said s) sayings
+
+-- the augmentation data: its length, and as many bytes
+pub record DataStands (data_ : Cursor) (from to : Cursor) : Type 0 where
+  pub len : ℕ
+  pub after : Cursor
+  pub len_stands : Stands Uleb len from after
+  pub bytes_stand : Stands (Bytes len) data_.left after to
+  pub place : data_.place ≡ after.place
+
+-- what the augmentation data says; without a string there is none
+pub record LettersStand (letters : List ℕ) (said : Said) (from to : Cursor) : Type 0 where
+  pub data_ : Cursor
+  pub sayings : List Saying
+  pub data_stands : DataStands data_ from to
+  pub sayings_stand : SayingsStand letters sayings data_
+  pub together : said ≡ all_said said_plain sayings
+
+abbrev pub AugmentationStands : Option (List ℕ) → Said → (from to : Cursor) → Type 0
+AugmentationStands None said from to = (said ≡ said_plain) × (to ≡ from)
+AugmentationStands (Some letters) said from to = LettersStand letters said from to
+
+-- ---- common information entries
+-- the return address column: a byte in version 1, a LEB128 number in version 3
+abbrev pub ColumnStands : (version column : ℕ) → (from to : Cursor) → Type 0
+ColumnStands version column from to = ((version ≡ 1) × Stands (Number 1) column from to) ⊎ ((version ≡ 3) × Stands Uleb column from to)
+
+-- version, augmentation string, code and data alignment factors, return address column, augmentation data; the initial
+-- instructions are the rest of the record
+pub record CieStands (arch : Arch) (p : Piece) (c : SharedView) : Type 0 where
+  pub version : ℕ
+  pub letters : Option (List ℕ)
+  pub numbers : Numbers
+  pub said : Said
+  pub after_version : Cursor
+  pub after_string : Cursor
+  pub after_code : Cursor
+  pub after_factor : Cursor
+  pub after_column : Cursor
+  pub insns : Cursor
+  pub version_stands : Stands (Number 1) version p.body after_version
+  pub string_stands : StringStands arch letters after_version after_string
+  pub code_stands : Stands Uleb numbers.code after_string after_code
+  pub factor_stands : Stands Sleb numbers.factor after_code after_factor
+  pub column_stands : ColumnStands version numbers.column after_factor after_column
+  pub augmentation_stands : AugmentationStands letters said after_column insns
+  pub entry : c ≡ shared_of p.place numbers (is_some letters) said insns
+
+-- ---- frame description entries
+-- the pointer to the language-specific data area stands at the front of the data, where its encoding fixes a width and the data is
+-- that long
+abbrev pub LsdaStands : (encoding : Option ℕ) → Option PointerField → Cursor → Type 0
+LsdaStands encoding (Some field) at = (e : ℕ) × (width : ℕ) × (rest : Cursor) × (encoding ≡ Some e) × (pointer_width e ≡ Some width) × PointerStands width field at rest
+LsdaStands encoding None at = (e width : ℕ) → encoding ≡ Some e → pointer_width e ≡ Some width → length at.left < width
+
+pub record FrameData (encoding : Option ℕ) (field : Option PointerField) (from to : Cursor) : Type 0 where
+  pub data_ : Cursor
+  pub data_stands : DataStands data_ from to
+  pub lsda_stands : LsdaStands encoding field data_
+
+-- there is augmentation data where the common information entry has a string
+abbrev pub FrameDataStands : (augmented : Bool) → (encoding : Option ℕ) → Option PointerField → (from to : Cursor) → Type 0
+FrameDataStands true encoding field from to = FrameData encoding field from to
+FrameDataStands false encoding field from to = (field ≡ None) × (to ≡ from)
+
+-- start, size, augmentation data; the instructions are the rest of the record
+pub record FdeStands (shared : SharedView) (p : Piece) (f : FdeView) : Type 0 where
+  pub after_begin : Cursor
+  pub after_range : Cursor
+  pub begin_stands : PointerStands shared.width f.begin p.body after_begin
+  pub range_stands : PointerStands shared.width f.range after_begin after_range
+  pub data_stands : FrameDataStands shared.augmented shared.lsda f.lsda after_range f.insns
+  pub place : f.place ≡ p.place
+  pub cie : f.cie ≡ shared.cie
+
+-- one of the common information entries before it is at the place that it names: so far before the word as the word says
+pub record FrameStands (before : List SharedView) (p : Piece) (f : FdeView) : Type 0 where
+  pub shared : SharedView
+  pub among : Contains before shared
+  pub named : shared.cie.place + p.id ≡ p.id_place
+  pub fields : FdeStands shared p f
+
+-- ---- entries
+-- the word behind the length is 0 in a common information entry
+abbrev pub EntryStands : Arch → (before : List SharedView) → Piece → EntryView → Type 0
+EntryStands arch before p (Common c) = (p.id ≡ 0) × CieStands arch p c
+EntryStands arch before p (Frame f) = (p.id ≢ 0) × FrameStands before p f
