@@ -2,3 +2,4 @@ pub mod Instruction
 pub mod Table
 pub mod Listing
 pub mod Remaining
+pub mod Spelling

@@ -8,11 +8,13 @@
 mod fault;
 mod insn;
 mod insns;
+mod laws;
 mod read;
 
 pub use fault::InsnFault;
 pub use insn::Insn;
 pub use insns::Insns;
+pub use laws::listing_law;
 
 #[cfg(test)]
 mod tests;

@@ -1,0 +1,70 @@
+-- Call frame instructions by the bytes that spell them (DWARF 5, sections 6.4.2 and 7.24, table 7.29; DWARF for the Arm 64-bit
+-- Architecture; GNU): an opcode byte and the operands of its row, in their order.
+use Rattle.std.specs.Prelude.{◌≡◌, ◌≢◌, ◌⊎◌, ℕ, ℤ, ◌%◌, ◌<◌, ◌≤◌, List, [], ◌∷◌, length, Ok, Err}
+use Rattle.sf_bytes.specs.Cursor.{Cursor}
+use Rattle.sf_bytes.specs.Leb.{Uleb, Sleb}
+use Rattle.sf_bytes.specs.Standing.{Stands, Number, Bytes}
+use Rattle.cfa_insn.specs.declared.fault.InsnFault.{InsnFault}
+use Rattle.cfa_insn.specs.Instruction.{Instruction, advance_loc, offset, restore, nop, advance_loc_n, offset_extended, restore_extended, undefined, same_value, in_register, remember_state, restore_state, def_cfa, def_cfa_register, def_cfa_offset, def_cfa_expression, expression, offset_extended_sf, def_cfa_sf, def_cfa_offset_sf, val_offset, val_offset_sf, val_expression, negate_ra_state, args_size}
+use Rattle.cfa_insn.specs.Listing.{Item}
+use Rattle.cfa_insn.specs.Table.{instruction_at}
+
+-- a block: its length, and as many bytes
+abbrev pub Block : (block : List ℕ) → (from to : Cursor) → Type 0
+Block block from to = (between : Cursor) × Stands Uleb (length block) from between × Stands (Bytes (length block)) block between to
+
+-- a register, and another unsigned number, a signed number or a block after it
+abbrev pub WithUleb : (register n : ℕ) → (from to : Cursor) → Type 0
+WithUleb register n from to = (between : Cursor) × Stands Uleb register from between × Stands Uleb n between to
+
+abbrev pub WithSleb : (register : ℕ) → ℤ → (from to : Cursor) → Type 0
+WithSleb register z from to = (between : Cursor) × Stands Uleb register from between × Stands Sleb z between to
+
+abbrev pub WithBlock : (register : ℕ) → (block : List ℕ) → (from to : Cursor) → Type 0
+WithBlock register block from to = (between : Cursor) × Stands Uleb register from between × Block block between to
+
+-- the table: each instruction's opcode, and its operands between two cursors; from 0x40 on the low six bits are the first operand
+abbrev pub OperandsStand : (opcode : ℕ) → Instruction → (from to : Cursor) → Type 0
+OperandsStand opcode (advance_loc delta) from to = (0x40 ≤ opcode) × (opcode < 0x80) × (delta ≡ opcode % 64) × (to ≡ from)
+OperandsStand opcode (offset register factored) from to = (0x80 ≤ opcode) × (opcode < 0xc0) × (register ≡ opcode % 64) × Stands Uleb factored from to
+OperandsStand opcode (restore register) from to = (0xc0 ≤ opcode) × (register ≡ opcode % 64) × (to ≡ from)
+OperandsStand opcode nop from to = (opcode ≡ 0x00) × (to ≡ from)
+OperandsStand opcode (advance_loc_n delta) from to =
+    ((opcode ≡ 0x02) × Stands (Number 1) delta from to)
+    ⊎ (((opcode ≡ 0x03) × Stands (Number 2) delta from to) ⊎ ((opcode ≡ 0x04) × Stands (Number 4) delta from to))
+OperandsStand opcode (offset_extended register factored) from to = (opcode ≡ 0x05) × WithUleb register factored from to
+OperandsStand opcode (restore_extended register) from to = (opcode ≡ 0x06) × Stands Uleb register from to
+OperandsStand opcode (undefined register) from to = (opcode ≡ 0x07) × Stands Uleb register from to
+OperandsStand opcode (same_value register) from to = (opcode ≡ 0x08) × Stands Uleb register from to
+OperandsStand opcode (in_register register other) from to = (opcode ≡ 0x09) × WithUleb register other from to
+OperandsStand opcode remember_state from to = (opcode ≡ 0x0a) × (to ≡ from)
+OperandsStand opcode restore_state from to = (opcode ≡ 0x0b) × (to ≡ from)
+OperandsStand opcode (def_cfa register n) from to = (opcode ≡ 0x0c) × WithUleb register n from to
+OperandsStand opcode (def_cfa_register register) from to = (opcode ≡ 0x0d) × Stands Uleb register from to
+OperandsStand opcode (def_cfa_offset n) from to = (opcode ≡ 0x0e) × Stands Uleb n from to
+OperandsStand opcode (def_cfa_expression block) from to = (opcode ≡ 0x0f) × Block block from to
+OperandsStand opcode (expression register block) from to = (opcode ≡ 0x10) × WithBlock register block from to
+OperandsStand opcode (offset_extended_sf register factored) from to = (opcode ≡ 0x11) × WithSleb register factored from to
+OperandsStand opcode (def_cfa_sf register factored) from to = (opcode ≡ 0x12) × WithSleb register factored from to
+OperandsStand opcode (def_cfa_offset_sf factored) from to = (opcode ≡ 0x13) × Stands Sleb factored from to
+OperandsStand opcode (val_offset register factored) from to = (opcode ≡ 0x14) × WithUleb register factored from to
+OperandsStand opcode (val_offset_sf register factored) from to = (opcode ≡ 0x15) × WithSleb register factored from to
+OperandsStand opcode (val_expression register block) from to = (opcode ≡ 0x16) × WithBlock register block from to
+OperandsStand opcode negate_ra_state from to = (opcode ≡ 0x2d) × (to ≡ from)
+OperandsStand opcode (args_size n) from to = (opcode ≡ 0x2e) × Stands Uleb n from to
+
+-- an instruction between two cursors
+abbrev pub InstructionStands : Instruction → (from to : Cursor) → Type 0
+InstructionStands i from to = (opcode : ℕ) × (between : Cursor) × Stands (Number 1) opcode from between × OperandsStand opcode i between to
+
+-- bytes at whose front no instruction is, and why
+pub record NoInstruction (at : Cursor) (e : InsnFault) : Type 0 where
+  pub more : at.left ≢ []
+  pub none : (i : Instruction) (to : Cursor) → InstructionStands i at to → ⊥
+  pub fault : instruction_at at ≡ Err e
+
+-- instructions with their places, whose bytes are all that is left; or those before the first that can't be read, and its fault
+abbrev pub AreInstructions : List Item → Cursor → Type 0
+AreInstructions [] at = at.left ≡ []
+AreInstructions (Ok x ∷ items) at = (x.0 ≡ at.place) × ((to : Cursor) × InstructionStands x.1 at to × AreInstructions items to)
+AreInstructions (Err e ∷ items) at = (items ≡ []) × NoInstruction at e
