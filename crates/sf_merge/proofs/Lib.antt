@@ -10,3 +10,7 @@ pub mod Merged
 pub mod Joined
 pub mod OneOrder
 pub mod Lookups
+pub mod Insertion
+pub mod SomeResult
+pub mod OneRising
+pub mod InParts

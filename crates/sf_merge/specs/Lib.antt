@@ -5,3 +5,4 @@ pub mod Views
 pub mod Answers
 pub mod Fault
 pub mod Told
+pub mod Parts

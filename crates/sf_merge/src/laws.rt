@@ -1,6 +1,6 @@
 //! Laws: what merging comes to, and what is looked up in the section that is made.
 
-ghost use Rattle.std.specs.Prelude.{◌≡◌, ℕ, All, List, Some, None, Result};
+ghost use Rattle.std.specs.Prelude.{◌≡◌, ◌<◌, ℕ, All, List, Some, None, Result, length};
 ghost use Rattle.std.specs.List.{Contains};
 ghost use Rattle.sf_model.specs.declared.machine.Arch.{Arch};
 ghost use Rattle.sf_model.specs.declared.function.Func.{Func};
@@ -9,10 +9,17 @@ ghost use Rattle.sf_model.specs.Table.{Table};
 ghost use Rattle.sf_model.specs.Union.{IsUnion};
 ghost use Rattle.sf_merge.specs.declared.fault.MergeFault.{MergeFault};
 ghost use Rattle.sf_merge.specs.Merging.{Merges};
+ghost use Rattle.sf_merge.specs.Parts.{AreMerged, AreMergedInParts, Part};
 
 /// Merging sections comes to one result: the functions that are written, or the first fault.
 pub fn merging_comes_to_one_result()
     ensures { (tables : List Table) (at : ℕ) (one other : Result (List Func) MergeFault) → Merges tables at one → Merges tables at other → one ≡ other }
+{}
+
+/// Merging sections comes to a result: the functions that are written, or the first fault.
+#[tactic(auto, using(crate::proofs::SomeResult::some_result))]
+pub fn merging_comes_to_a_result()
+    ensures { (tables : List Table) (at : ℕ) → (result : Result (List Func) MergeFault) × Merges tables at result }
 {}
 
 /// What the union of tables has at an address is what the one table has that has a row there; where none
@@ -20,4 +27,10 @@ pub fn merging_comes_to_one_result()
 pub fn merged_sections_answer_alike()
     ensures answered { (arch : Arch) (tables : List Table) (functions : List Func) → IsUnion arch tables functions → (pc : ℕ) (table : Table) (found : FoundRow) → Contains tables table → found_at table.functions pc ≡ Some found → found_at functions pc ≡ Some found }
     ensures unanswered { (arch : Arch) (tables : List Table) (functions : List Func) → IsUnion arch tables functions → (pc : ℕ) → All (λ (table : Table). found_at table.functions pc ≡ None) tables → found_at functions pc ≡ None }
+{}
+
+/// Sections that are merged in parts, in any groups and any order, come to the bytes that they come to
+/// where they are merged at once. Each partial section is read at the address that it was written for.
+pub fn merging_in_parts()
+    ensures { (sections : List Part) (between : List (List Part)) (once parts : Part) → 0 < length sections → once.at ≡ parts.at → AreMerged sections once → AreMergedInParts between sections parts → once.bytes ≡ parts.bytes }
 {}

@@ -26,7 +26,10 @@ mod reading;
 
 pub use fault::MergeFault;
 pub use joining::join;
-pub use laws::{merged_sections_answer_alike, merging_comes_to_one_result};
+pub use laws::{
+    merged_sections_answer_alike, merging_comes_to_a_result, merging_comes_to_one_result,
+    merging_in_parts,
+};
 pub use located::{Located, Rank};
 pub use merging::{MergedSection, merge};
 pub use reading::in_order;

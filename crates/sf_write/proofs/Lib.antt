@@ -3,6 +3,7 @@ pub mod EntryWritten
 pub mod FunctionsWritten
 pub mod LastStart
 pub mod Lengths
+pub mod NumbersFit
 pub mod Places
 pub mod RowsWritten
 pub mod SectionWritten

@@ -1,4 +1,5 @@
 pub mod Number
+pub mod Numbers
 pub mod Row
 pub mod Room
 pub mod Entry

@@ -14,6 +14,7 @@
 mod entry;
 mod fault;
 mod header;
+mod laws;
 mod layout;
 mod number;
 mod reach;
@@ -22,6 +23,7 @@ mod section;
 mod totals;
 
 pub use fault::WriteFault;
+pub use laws::functions_that_fit_have_a_section;
 pub use section::write;
 
 #[cfg(test)]
