@@ -9,7 +9,7 @@ use Rattle.sf_asm.specs.Linking.{Links}
 use Rattle.sf_asm.proofs.Accepting.{accepted_links, links_accepted}
 use Rattle.sf_asm.proofs.OneOrder.{one_result}
 use Rattle.sf_items.specs.declared.refusal.Limit.{Limit}
-use Rattle.sf_words.specs.Words.{CommandWords, InputWords, Link, LinkWords}
+use Rattle.sf_words.specs.Words.{CommandWords, InputWords, Link, SectionAndInputs}
 use Rattle.sf_make.specs.Comes.{Comes, CommandComes, RefusesNothing, command_limit}
 use Rattle.sf_make.specs.Coming.{Coming, ComesWithin, Exceeded, Makes, Refused}
 use Rattle.sf_make.specs.LinkComes.{LinkComes, objects_in, section_and_report}
@@ -52,25 +52,25 @@ makes_of inputs at items ordered links coming h =
 no_refusal : (inputs : List InputWords) (at : ℕ) (items : List (List ℕ)) (coming : Coming) → Refuses coming → MakesLinked None (objects_in inputs items) at section_and_report coming → ⊥
 no_refusal inputs at items coming is made = subst Refuses made.is is
 
-pub accepted_refuse_nothing : (link : LinkWords) (items : List (List ℕ)) → command_limit (Link link) items ≡ None → IsAccepted None (objects_in link.inputs items) link.out.at → RefusesNothing (Link link) items
+pub accepted_refuse_nothing : (link : SectionAndInputs) (items : List (List ℕ)) → command_limit (Link link) items ≡ None → IsAccepted None (objects_in link.inputs items) link.section.at → RefusesNothing (Link link) items
 accepted_refuse_nothing link items within h = record {
-  within = λ limit comes. no_refusal link.inputs link.out.at items (Exceeded limit) tt (made (Exceeded limit) comes);
-  accepted = λ shown comes. no_refusal link.inputs link.out.at items (Refused shown) tt (made (Refused shown) comes);
+  within = λ limit comes. no_refusal link.inputs link.section.at items (Exceeded limit) tt (made (Exceeded limit) comes);
+  accepted = λ shown comes. no_refusal link.inputs link.section.at items (Refused shown) tt (made (Refused shown) comes);
 }
   where
-    made : (coming : Coming) → Comes (Link link) items coming → MakesLinked None (objects_in link.inputs items) link.out.at section_and_report coming
+    made : (coming : Coming) → Comes (Link link) items coming → MakesLinked None (objects_in link.inputs items) link.section.at section_and_report coming
     made coming comes =
-        makes_of link.inputs link.out.at items h.ordered (accepted_links None (objects_in link.inputs items) link.out.at h) coming
+        makes_of link.inputs link.section.at items h.ordered (accepted_links None (objects_in link.inputs items) link.section.at h) coming
         (subst (λ (l : Option Limit). ComesWithin l (CommandComes (Link link) items) coming) within comes)
 
-pub nothing_refused_is_accepted : (link : LinkWords) (items : List (List ℕ)) → RefusesNothing (Link link) items → (command_limit (Link link) items ≡ None) × IsAccepted None (objects_in link.inputs items) link.out.at
-nothing_refused_is_accepted link items nothing = (within, accepted (links_some (objects_in link.inputs items) link.out.at))
+pub nothing_refused_is_accepted : (link : SectionAndInputs) (items : List (List ℕ)) → RefusesNothing (Link link) items → (command_limit (Link link) items ≡ None) × IsAccepted None (objects_in link.inputs items) link.section.at
+nothing_refused_is_accepted link items nothing = (within, accepted (links_some (objects_in link.inputs items) link.section.at))
   where
     within : command_limit (Link link) items ≡ None
     within = no_limit (Link link) items nothing
 
-    accepted : (result : Result (List Entry) LinkFault) × Links None (objects_in link.inputs items) link.out.at result → IsAccepted None (objects_in link.inputs items) link.out.at
-    accepted (Ok ordered, links) = links_accepted None (objects_in link.inputs items) link.out.at ordered links
+    accepted : (result : Result (List Entry) LinkFault) × Links None (objects_in link.inputs items) link.section.at result → IsAccepted None (objects_in link.inputs items) link.section.at
+    accepted (Ok ordered, links) = links_accepted None (objects_in link.inputs items) link.section.at ordered links
     accepted (Err fault, links) =
         absurd (refuted (Link link) items nothing (coming_of_linking fault) (linking_refuses fault)
         (subst (λ (l : Option Limit). ComesWithin l (CommandComes (Link link) items) (coming_of_linking fault)) (sym within) record { result = Err fault; links = links; comes = refl }))

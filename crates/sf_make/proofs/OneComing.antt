@@ -199,7 +199,7 @@ behind_first (i ∷ is) n h = omega (arith, h)
 -- ---- each command
 one_command : (command : CommandWords) (items : List (List ℕ)) (c d : Coming) → AreItems command items → CommandComes command items c → CommandComes command items d → c ≡ d
 one_command (Link link) items c d are p q =
-    one_link None (objects_in link.inputs items) link.out.at section_and_report c d (some_objects link.inputs items are.asked (are.count ∙ length-map link.inputs input_item)) p q
+    one_link None (objects_in link.inputs items) link.section.at section_and_report c d (some_objects link.inputs items are.asked (are.count ∙ length-map link.inputs input_item)) p q
 one_command (Merge merge) items c d are p q =
     let count = are.count ∙ length-map merge.sections section_item in
     one_merge_coming merge.out.at merge.sections items (sections_fault 0 (zip merge.sections items)) c d (omega (arith, count, are.asked)) count p q

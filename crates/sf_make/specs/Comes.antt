@@ -22,7 +22,7 @@ command_limit command items = if nat_lt 512 (counted_items command) then Some In
 
 -- what items within the limits come to
 abbrev pub CommandComes : CommandWords → (items : List (List ℕ)) → Coming → Type 0
-CommandComes (Link link) items coming = LinkComes link.inputs link.out.at items coming
+CommandComes (Link link) items coming = LinkComes link.inputs link.section.at items coming
 CommandComes (Merge merge) items coming = MergeComes merge.sections merge.out.at items coming
 CommandComes (Slim slim) items coming = SlimComes slim items coming
 CommandComes (Dump section) items coming = SectionComes section.at Whole items coming

@@ -9,7 +9,7 @@ ghost use Rattle.sf_asm.specs.declared.entry.Entry.{Entry};
 ghost use Rattle.sf_asm.specs.declared.fault.LinkFault.{LinkFault};
 ghost use Rattle.sf_asm.specs.Functions.{Object};
 ghost use Rattle.sf_asm.specs.Linking.{Links};
-ghost use Rattle.sf_words.specs.Words.{CommandWords, InputWords, Link, LinkWords};
+ghost use Rattle.sf_words.specs.Words.{CommandWords, InputWords, Link, SectionAndInputs};
 ghost use Rattle.sf_make.specs.declared.made.Outcome.{Outcome as outcome};
 ghost use Rattle.sf_make.specs.declared.section.Query.{Query};
 ghost use Rattle.sf_make.specs.BacktraceComes.{BacktraceComes};
@@ -45,6 +45,6 @@ pub fn linking_comes_to_a_result()
 
 /// A run of `link` refuses nothing exactly where its inputs are within the limits of loading and can be linked.
 pub fn nothing_is_refused_of_inputs_that_can_be_linked()
-    ensures accepted { (link : LinkWords) (items : List (List ℕ)) → command_limit (Link link) items ≡ None → IsAccepted None (objects_in link.inputs items) link.out.at → RefusesNothing (Link link) items }
-    ensures only { (link : LinkWords) (items : List (List ℕ)) → RefusesNothing (Link link) items → (command_limit (Link link) items ≡ None) × IsAccepted None (objects_in link.inputs items) link.out.at }
+    ensures accepted { (link : SectionAndInputs) (items : List (List ℕ)) → command_limit (Link link) items ≡ None → IsAccepted None (objects_in link.inputs items) link.section.at → RefusesNothing (Link link) items }
+    ensures only { (link : SectionAndInputs) (items : List (List ℕ)) → RefusesNothing (Link link) items → (command_limit (Link link) items ≡ None) × IsAccepted None (objects_in link.inputs items) link.section.at }
 {}

@@ -29,7 +29,7 @@ pub fn make<'a>(alloc: Global, asked: &Asked<'a>, items: &[Vec<u8>]) -> Result<M
     ensures comes { ComesTo (Comes (words_of asked.now) (map (λ v. v.items) items.now)) result }
 {
     match asked {
-        Asked::Link(link) => link_made(alloc, &link.inputs, link.out.at, items),
+        Asked::Link(link) => link_made(alloc, &link.inputs, link.section.at, items),
         Asked::Merge(merge) => merge_made(alloc, &merge.sections, merge.out.at, items),
         Asked::Slim(slim) => slim_made(alloc, &items[0], slim.section.at, slim.out.at),
         Asked::Dump(section) => section_made(alloc, &items[0], section.at, Query::Whole),

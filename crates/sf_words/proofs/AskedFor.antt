@@ -3,11 +3,11 @@ use Rattle.std.specs.List.{AllZip}
 use Rattle.std.proofs.Common.{◌≡◌, ◌<◌, ℕ, suc, List, [], ◌∷◌, map, length, refl, ap, sym, subst, ◌∙◌}
 use Rattle.std.proofs.lemmas.List.{length-map}
 use Rattle.std.specs.String.{string_bytes}
-use Rattle.sf_words.specs.declared.command.LinkCommand.{LinkCommand}
+use Rattle.sf_words.specs.declared.command.SectionAndInputWords.{SectionAndInputWords}
 use Rattle.sf_words.specs.declared.command.MergeCommand.{MergeCommand}
 use Rattle.sf_words.specs.declared.command.BacktraceCommand.{BacktraceCommand}
-use Rattle.sf_words.specs.Parsed.{AsksBacktrace, AsksLink, AsksMerge}
-use Rattle.sf_words.specs.Words.{CanBeAsked, CommandWords, Link, Merge, Slim, Dump, Lookup, Walk, Backtrace, Gen, BacktraceWords, LinkWords, MergeWords, IsCommand, IsInputWord, IsSectionWord}
+use Rattle.sf_words.specs.Parsed.{AsksBacktrace, AsksInputs, AsksMerge}
+use Rattle.sf_words.specs.Words.{CanBeAsked, CommandWords, Link, Merge, Slim, Dump, Lookup, Walk, Backtrace, Gen, BacktraceWords, MergeWords, SectionAndInputs, IsCommand, IsInputWord, IsSectionWord}
 
 -- two lists that are joined item by item are as long
 pub as_long : {A B : Type 0} (R : A → B → Type 0) (xs : List A) (ys : List B) → AllZip R xs ys → length xs ≡ length ys
@@ -17,8 +17,8 @@ as_long R (x ∷ xs) [] h = absurd h
 as_long R (x ∷ xs) (y ∷ ys) h = ap (λ (n : ℕ). suc n) (as_long R xs ys h.1)
 
 -- as many inputs as words that name them
-pub inputs_asked : (split : LinkCommand) (link : LinkWords) → AsksLink split link → length link.inputs ≡ length split.inputs.now
-inputs_asked split link asks = sym (as_long IsInputWord (map string_bytes split.inputs.now) link.inputs asks.inputs) ∙ length-map split.inputs.now string_bytes
+pub inputs_asked : (split : SectionAndInputWords) (named : SectionAndInputs) → AsksInputs split named → length named.inputs ≡ length split.inputs.now
+inputs_asked split named asks = sym (as_long IsInputWord (map string_bytes split.inputs.now) named.inputs asks.inputs) ∙ length-map split.inputs.now string_bytes
 
 pub backtrace_inputs_asked : (split : BacktraceCommand) (backtrace : BacktraceWords) → AsksBacktrace split backtrace → length backtrace.inputs ≡ length split.inputs.now
 backtrace_inputs_asked split backtrace asks = sym (as_long IsInputWord (map string_bytes split.inputs.now) backtrace.inputs asks.inputs) ∙ length-map split.inputs.now string_bytes

@@ -2,13 +2,13 @@
 use Rattle.std.specs.Prelude.{◌≡◌, map}
 use Rattle.std.specs.List.{AllZip}
 use Rattle.std.specs.String.{string_bytes}
-use Rattle.sf_words.specs.declared.asked.Link.{Link}
+use Rattle.sf_words.specs.declared.asked.SectionAndInputFiles.{SectionAndInputFiles}
 use Rattle.sf_words.specs.declared.asked.Merge.{Merge}
 use Rattle.sf_words.specs.declared.asked.Backtrace.{Backtrace}
 use Rattle.sf_words.specs.declared.asked.Asked.{Asked}
 use Rattle.sf_words.specs.declared.asked.Asked.TheVariants as asked
 use Rattle.sf_words.specs.declared.words.InputFile.{InputFile}
-use Rattle.sf_words.specs.declared.command.LinkCommand.{LinkCommand}
+use Rattle.sf_words.specs.declared.command.SectionAndInputWords.{SectionAndInputWords}
 use Rattle.sf_words.specs.declared.command.MergeCommand.{MergeCommand}
 use Rattle.sf_words.specs.declared.command.BacktraceCommand.{BacktraceCommand}
 use Rattle.sf_words.specs.declared.command.Command.{Command}
@@ -16,7 +16,7 @@ use Rattle.sf_words.specs.declared.command.Command.TheVariants as command
 use Rattle.sf_words.specs.declared.words.SectionFile.{SectionFile}
 use Rattle.sf_words.specs.declared.command.SlimFiles.{SlimFiles}
 use Rattle.sf_words.specs.declared.command.WalkFiles.{WalkFiles}
-use Rattle.sf_words.specs.Words.{InputWords, LinkWords, MergeWords, SectionWords, CommandWords, IsInputWord, IsSectionWord, Link as LinkOf, Merge as MergeOf, Slim, Dump, Lookup, Walk, Backtrace as BacktraceOf, Gen, BacktraceWords, SlimWords, WalkWords}
+use Rattle.sf_words.specs.Words.{InputWords, MergeWords, SectionAndInputs, SectionWords, CommandWords, IsInputWord, IsSectionWord, Link as LinkOf, Merge as MergeOf, Slim, Dump, Lookup, Walk, Backtrace as BacktraceOf, Gen, BacktraceWords, SlimWords, WalkWords}
 
 abbrev pub input_of : InputFile → InputWords
 input_of input = record { form = input.form; name = input.name.now; base = input.base }
@@ -24,8 +24,8 @@ input_of input = record { form = input.form; name = input.name.now; base = input
 abbrev pub section_of : SectionFile → SectionWords
 section_of section = record { name = section.name.now; at = section.at }
 
-abbrev pub link_of : Link → LinkWords
-link_of link = record { out = section_of link.out; inputs = map input_of link.inputs.items }
+abbrev pub inputs_named : SectionAndInputFiles → SectionAndInputs
+inputs_named files = record { section = section_of files.section; inputs = map input_of files.inputs.items }
 
 abbrev pub merge_of : Merge → MergeWords
 merge_of merge = record { out = section_of merge.out; sections = map section_of merge.sections.items }
@@ -40,7 +40,7 @@ abbrev pub backtrace_of : Backtrace → BacktraceWords
 backtrace_of backtrace = record { out = section_of backtrace.out; core = backtrace.core.now; depth = backtrace.depth; inputs = map input_of backtrace.inputs.items }
 
 abbrev pub words_of : Asked → CommandWords
-words_of (asked.Link link) = LinkOf (link_of link)
+words_of (asked.Link link) = LinkOf (inputs_named link)
 words_of (asked.Merge merge) = MergeOf (merge_of merge)
 words_of (asked.Slim slim) = Slim (slim_of slim)
 words_of (asked.Dump section) = Dump (section_of section)
@@ -50,9 +50,9 @@ words_of (asked.Backtrace backtrace) = BacktraceOf (backtrace_of backtrace)
 words_of (asked.Gen n) = Gen n
 
 -- words that are split, and what they ask for
-pub record AsksLink (split : LinkCommand) (link : LinkWords) : Type 0 where
-  pub out : section_of split.out ≡ link.out
-  pub inputs : AllZip IsInputWord (map string_bytes split.inputs.now) link.inputs
+pub record AsksInputs (split : SectionAndInputWords) (named : SectionAndInputs) : Type 0 where
+  pub section : section_of split.section ≡ named.section
+  pub inputs : AllZip IsInputWord (map string_bytes split.inputs.now) named.inputs
 
 pub record AsksMerge (split : MergeCommand) (merge : MergeWords) : Type 0 where
   pub out : section_of split.out ≡ merge.out
@@ -65,7 +65,7 @@ pub record AsksBacktrace (split : BacktraceCommand) (backtrace : BacktraceWords)
   pub inputs : AllZip IsInputWord (map string_bytes split.inputs.now) backtrace.inputs
 
 abbrev pub Asks : Command → CommandWords → Type 0
-Asks (command.Link split) wanted = (link : LinkWords) × (wanted ≡ LinkOf link) × AsksLink split link
+Asks (command.Link split) wanted = (link : SectionAndInputs) × (wanted ≡ LinkOf link) × AsksInputs split link
 Asks (command.Merge split) wanted = (merge : MergeWords) × (wanted ≡ MergeOf merge) × AsksMerge split merge
 Asks (command.Slim slim) wanted = wanted ≡ Slim (slim_of slim)
 Asks (command.Dump section) wanted = wanted ≡ Dump (section_of section)

@@ -48,19 +48,19 @@ pub record IsSectionWord (word : List ℕ) (section : SectionWords) : Type 0 whe
   pub placed : IsPlaced word section.name section.at
   pub named : 0 < length section.name
 
--- what is asked of `link`: the section's file and address, and what is linked
-pub record LinkWords : Type 0 where
-  pub out : SectionWords
+-- what is asked of a command such as `link`: the section's file and address, and the inputs
+pub record SectionAndInputs : Type 0 where
+  pub section : SectionWords
   pub inputs : List InputWords
 
--- the words ask for this link
-pub record IsLink (words : List (List ℕ)) (link : LinkWords) : Type 0 where
-  pub out_word : List ℕ
+-- the words are a command with this name, this section and these inputs, of which there is one at least
+pub record NameInputs (command : List ℕ) (words : List (List ℕ)) (named : SectionAndInputs) : Type 0 where
+  pub section_word : List ℕ
   pub input_words : List (List ℕ)
-  pub words_are : words ≡ codes "link" ∷ out_word ∷ input_words
-  pub out : IsSectionWord out_word link.out
+  pub words_are : words ≡ command ∷ section_word ∷ input_words
+  pub section : IsSectionWord section_word named.section
   pub some : 0 < length input_words
-  pub inputs : AllZip IsInputWord input_words link.inputs
+  pub inputs : AllZip IsInputWord input_words named.inputs
 
 -- what is asked of `merge`: the merged section's file and address, and the sections
 pub record MergeWords : Type 0 where
@@ -158,7 +158,7 @@ pub record IsGen (words : List (List ℕ)) (n : ℕ) : Type 0 where
 
 -- what a command line asks for
 pub data CommandWords : Type 0 where
-  Link : LinkWords → CommandWords
+  Link : SectionAndInputs → CommandWords
   Merge : MergeWords → CommandWords
   Slim : SlimWords → CommandWords
   Dump : SectionWords → CommandWords
@@ -169,7 +169,7 @@ pub data CommandWords : Type 0 where
 
 -- the words ask for this
 abbrev pub IsCommand : List (List ℕ) → CommandWords → Type 0
-IsCommand words (Link link) = IsLink words link
+IsCommand words (Link link) = NameInputs (codes "link") words link
 IsCommand words (Merge merge) = IsMerge words merge
 IsCommand words (Slim slim) = IsSlim words slim
 IsCommand words (Dump section) = IsDump words section
@@ -191,7 +191,7 @@ CanBeAsked (Gen n) = IsFunctionCount n
 
 -- the name of the file that a command makes
 abbrev pub out_name : CommandWords → Option (List ℕ)
-out_name (Link link) = Some link.out.name
+out_name (Link link) = Some link.section.name
 out_name (Merge merge) = Some merge.out.name
 out_name (Slim slim) = Some slim.out.name
 out_name (Dump section) = None

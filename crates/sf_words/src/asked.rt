@@ -2,20 +2,20 @@
 
 ghost use Rattle.std.specs.Prelude.{◌≡◌, List, [], ◌∷◌, ◌++◌, map, IfOk, OnOk};
 ghost use Rattle.sf_words.specs.Items.{items_of, item_of, core_item, input_item, section_item};
-ghost use Rattle.sf_words.specs.Parsed.{Asks, input_of, section_of, words_of};
-ghost use Rattle.sf_words.specs.Words.{CommandWords};
+ghost use Rattle.sf_words.specs.Parsed.{Asks, AsksInputs, input_of, inputs_named, section_of, words_of};
+ghost use Rattle.sf_words.specs.Words.{CommandWords, SectionAndInputs};
 
-use crate::command::{Command, SlimFiles, WalkFiles};
+use crate::command::{Command, SectionAndInputWords, SlimFiles, WalkFiles};
 use crate::item::{Item, ItemKind};
 use crate::lists::{inputs_of, sections_of};
 use crate::words::{InputFile, SectionFile};
 use sf_base::NoMemory;
 use std::alloc::{AllocError, Global};
 
-/// What is linked, and the section that is made of it.
+/// A section and inputs.
 #[derive(Drop)]
-pub struct Link<'a> {
-    pub out: SectionFile<'a>,
+pub struct SectionAndInputFiles<'a> {
+    pub section: SectionFile<'a>,
     pub inputs: Vec<InputFile<'a>>,
 }
 
@@ -41,7 +41,7 @@ pub struct Backtrace<'a> {
 #[derive(Drop)]
 pub enum Asked<'a> {
     /// `link OUT@AT IN@BASE ..`
-    Link(Link<'a>),
+    Link(SectionAndInputFiles<'a>),
     /// `merge OUT@AT FILE@AT ..`
     Merge(Merge<'a>),
     /// `slim OUT@AT FILE@AT`
@@ -58,6 +58,19 @@ pub enum Asked<'a> {
     Gen(u32),
 }
 
+/// Reads the words that name a section and inputs.
+fn read_inputs<'a>(
+    alloc: Global,
+    words: &SectionAndInputWords<'a>,
+) -> Result<SectionAndInputFiles<'a>, NoMemory>
+    ensures { (wanted : SectionAndInputs) → AsksInputs words.now wanted → IfOk result (λ files. inputs_named files ≡ wanted) }
+{
+    Ok(SectionAndInputFiles {
+        section: words.section,
+        inputs: inputs_of(alloc, words.inputs)?,
+    })
+}
+
 /// Reads the words of a command.
 ///
 /// # Errors
@@ -67,10 +80,7 @@ pub fn read_words<'a>(alloc: Global, command: &Command<'a>) -> Result<Asked<'a>,
     ensures { (wanted : CommandWords) → Asks command.now wanted → IfOk result (λ asked. words_of asked ≡ wanted) }
 {
     match command {
-        Command::Link(link) => Ok(Asked::Link(Link {
-            out: link.out,
-            inputs: inputs_of(alloc, link.inputs)?,
-        })),
+        Command::Link(link) => Ok(Asked::Link(read_inputs(alloc, link)?)),
         Command::Merge(merge) => Ok(Asked::Merge(Merge {
             out: merge.out,
             sections: sections_of(alloc, merge.sections)?,

@@ -4,9 +4,9 @@ ghost use Rattle.std.specs.Prelude.{◌≡◌, ◌<◌, ◌≤◌, ℕ, [], ◌�
 ghost use Rattle.std.specs.Option.{option_map};
 ghost use Rattle.std.specs.String.{string_bytes};
 ghost use Rattle.sf_base.specs.Word.{SpellsDecimal};
-ghost use Rattle.sf_words.specs.Words.{IsLink, IsMerge, IsSlim, IsDump, IsLookup, IsWalk, IsBacktrace, IsGen, IsCommand, LinkWords, MergeWords, SlimWords, SectionWords, WalkWords, BacktraceWords, CommandWords, out_name};
+ghost use Rattle.sf_words.specs.Words.{IsMerge, IsSlim, IsDump, IsLookup, IsWalk, IsBacktrace, IsGen, IsCommand, MergeWords, NameInputs, SectionAndInputs, SlimWords, SectionWords, WalkWords, BacktraceWords, CommandWords, out_name};
 ghost use Rattle.sf_words.specs.Items.{counted_items};
-ghost use Rattle.sf_words.specs.Parsed.{section_of, slim_of, walk_of, Asks, AsksBacktrace, AsksLink, AsksMerge};
+ghost use Rattle.sf_words.specs.Parsed.{section_of, slim_of, walk_of, Asks, AsksBacktrace, AsksInputs, AsksMerge};
 
 use crate::lists::{are_inputs, are_sections};
 use crate::words::{SectionFile, section_file};
@@ -18,10 +18,10 @@ const MOST_FUNCTIONS: u32 = 100_000;
 /// The most frames of a thread.
 const MOST_FRAMES: u32 = 1024;
 
-/// The words of `link OUT@AT IN@BASE ..`.
+/// The words of a command such as `link OUT@AT IN@BASE ..`.
 #[derive(Clone, Copy)]
-pub struct LinkCommand<'a> {
-    pub out: SectionFile<'a>,
+pub struct SectionAndInputWords<'a> {
+    pub section: SectionFile<'a>,
     /// The words that name the inputs.
     pub inputs: &'a [String],
 }
@@ -67,7 +67,7 @@ pub struct BacktraceCommand<'a> {
 #[derive(Clone, Copy)]
 pub enum Command<'a> {
     /// `link OUT@AT IN@BASE ..`
-    Link(LinkCommand<'a>),
+    Link(SectionAndInputWords<'a>),
     /// `merge OUT@AT FILE@AT ..`
     Merge(MergeCommand<'a>),
     /// `slim OUT@AT FILE@AT`
@@ -104,7 +104,7 @@ impl<'a> Command<'a> {
         ensures { (wanted : CommandWords) → Asks self.now wanted → option_map (λ name. name.now) result ≡ out_name wanted }
     {
         match self {
-            Command::Link(link) => Some(link.out.name),
+            Command::Link(link) => Some(link.section.name),
             Command::Merge(merge) => Some(merge.out.name),
             Command::Slim(slim) => Some(slim.out.name),
             Command::Dump(_) | Command::Lookup(_, _) => None,
@@ -182,21 +182,21 @@ fn four_and_items(words: &[String]) -> Option<(&str, &str, &str, &str, &[String]
     }
 }
 
-/// The parts of the words, where they have the form `link OUT@AT IN@BASE ..`.
-fn link_words(words: &[String]) -> Option<LinkCommand<'_>>
-    ensures found { IfSome result (λ c. (link : LinkWords) → AsksLink c link → IsLink (map string_bytes words.now) link) }
-    ensures named { IfSome result (λ c. (link : LinkWords) × AsksLink c link) }
-    ensures only { (link : LinkWords) → IsLink (map string_bytes words.now) link → IsSomeAnd result (λ c. AsksLink c link) }
+/// The parts of the words, where they are a command with this name, a section and inputs, such as `link OUT@AT IN@BASE ..`.
+fn section_and_inputs<'a>(words: &'a [String], name: &str) -> Option<SectionAndInputWords<'a>>
+    ensures found { IfSome result (λ c. (named : SectionAndInputs) → AsksInputs c named → NameInputs name.now (map string_bytes words.now) named) }
+    ensures named { IfSome result (λ c. (named : SectionAndInputs) × AsksInputs c named) }
+    ensures only { (named : SectionAndInputs) → NameInputs name.now (map string_bytes words.now) named → IsSomeAnd result (λ c. AsksInputs c named) }
 {
-    let (command, out, inputs) = out_and_items(words)?;
-    if command != "link" {
+    let (command, section, inputs) = out_and_items(words)?;
+    if command != name {
         return None;
     }
-    let out = section_file(out)?;
+    let section = section_file(section)?;
     if !are_inputs(inputs) {
         return None;
     }
-    Some(LinkCommand { out, inputs })
+    Some(SectionAndInputWords { section, inputs })
 }
 
 /// The parts of the words, where they have the form `merge OUT@AT FILE@AT ..`.
@@ -331,7 +331,7 @@ pub fn command_words(words: &[String]) -> Option<Command<'_>>
     ensures named { IfSome result (λ c. (command : CommandWords) × Asks c command) }
     ensures only { (command : CommandWords) → IsCommand (map string_bytes words.now) command → IsSomeAnd result (λ c. Asks c command) }
 {
-    if let Some(link) = link_words(words) {
+    if let Some(link) = section_and_inputs(words, "link") {
         return Some(Command::Link(link));
     }
     if let Some(merge) = merge_words(words) {

@@ -10,9 +10,10 @@ mod item;
 mod lists;
 mod words;
 
-pub use asked::{Asked, Backtrace, Link, Merge, items, read_words};
+pub use asked::{Asked, Backtrace, Merge, SectionAndInputFiles, items, read_words};
 pub use command::{
-    BacktraceCommand, Command, LinkCommand, MergeCommand, SlimFiles, WalkFiles, command_words,
+    BacktraceCommand, Command, MergeCommand, SectionAndInputWords, SlimFiles, WalkFiles,
+    command_words,
 };
 pub use item::{Item, ItemKind};
 pub use words::{InputFile, SectionFile};

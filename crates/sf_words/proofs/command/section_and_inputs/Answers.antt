@@ -1,20 +1,19 @@
 use Rattle.std.proofs.Common.{rules, ◌≡◌, ℕ, List, ◌∷◌, ◌<◌, map, refl, ap, sym, subst, ◌∙◌}
 use Rattle.std.proofs.lemmas.List.{length-map}
-use Rattle.std.specs.Prelude.{codes}
 use Rattle.std.specs.String.{string_bytes}
 use Rattle.sf_words.specs.Parsed.{section_of}
 use Rattle.sf_words.specs.Words.{IsInputWord, IsSectionWord}
 use Rattle.sf_words.proofs.NamedWords.{all_named}
-use Rattle.sf_words.proofs.command.link_words.Goals as goal
+use Rattle.sf_words.proofs.command.section_and_inputs.Goals as goal
 
 pub returns-clause-found : goal.returns-clause-found
-returns-clause-found c link asks =
-    let command : c.in_ok-command.command.now ≡ codes "link" = search rules in
+returns-clause-found c named asks =
+    let command : c.in_ok-command.command.now ≡ c.args.name.now = search rules in
     record {
-      out_word = c.in_ok-command.out.now;
+      section_word = c.in_ok-command.section.now;
       input_words = map string_bytes c.in_ok-command.inputs.now;
-      words_are = c.in_ok-command.ensures.found.0 ∙ ap (λ (w : List ℕ). w ∷ c.in_ok-command.out.now ∷ map string_bytes c.in_ok-command.inputs.now) command;
-      out = subst (IsSectionWord c.in_ok-command.out.now) asks.out c.in_ok-out.ensures.found;
+      words_are = c.in_ok-command.ensures.found.0 ∙ ap (λ (w : List ℕ). w ∷ c.in_ok-command.section.now ∷ map string_bytes c.in_ok-command.inputs.now) command;
+      section = subst (IsSectionWord c.in_ok-command.section.now) asks.section c.in_ok-section.ensures.found;
       some = subst (λ (n : ℕ). 0 < n) (sym (length-map c.in_ok-command.inputs.now string_bytes)) c.in_ok-command.ensures.found.1;
       inputs = asks.inputs;
     }
@@ -22,4 +21,4 @@ returns-clause-found c link asks =
 pub returns-clause-named : goal.returns-clause-named
 returns-clause-named c =
     let named = all_named string_bytes IsInputWord c.in_ok-command.inputs.now (c.if-not-are_inputs.ensures.all refl) in
-    (record { out = section_of c.in_ok-out.out; inputs = named.0 }, record { out = refl; inputs = named.1 })
+    (record { section = section_of c.in_ok-section.section; inputs = named.0 }, record { section = refl; inputs = named.1 })
