@@ -7,7 +7,7 @@ use Rattle.sf_words.specs.declared.command.SectionAndInputWords.{SectionAndInput
 use Rattle.sf_words.specs.declared.command.MergeCommand.{MergeCommand}
 use Rattle.sf_words.specs.declared.command.BacktraceCommand.{BacktraceCommand}
 use Rattle.sf_words.specs.Parsed.{AsksBacktrace, AsksInputs, AsksMerge}
-use Rattle.sf_words.specs.Words.{CanBeAsked, CommandWords, Link, Merge, Slim, Dump, Lookup, Walk, Backtrace, Gen, BacktraceWords, MergeWords, SectionAndInputs, IsCommand, IsInputWord, IsSectionWord}
+use Rattle.sf_words.specs.Words.{CanBeAsked, CommandWords, Link, LinkPlt, Merge, Slim, Dump, Lookup, Walk, Backtrace, Gen, BacktraceWords, MergeWords, SectionAndInputs, IsCommand, IsInputWord, IsSectionWord}
 
 -- two lists that are joined item by item are as long
 pub as_long : {A B : Type 0} (R : A → B → Type 0) (xs : List A) (ys : List B) → AllZip R xs ys → length xs ≡ length ys
@@ -30,6 +30,7 @@ sections_asked split merge asks = sym (as_long IsSectionWord (map string_bytes s
 -- a command that has a form keeps what the form says of it
 pub can_be_asked : (words : List (List ℕ)) (command : CommandWords) → IsCommand words command → CanBeAsked command
 can_be_asked words (Link link) h = subst (λ (n : ℕ). 0 < n) (as_long IsInputWord h.input_words link.inputs h.inputs) h.some
+can_be_asked words (LinkPlt link) h = subst (λ (n : ℕ). 0 < n) (as_long IsInputWord h.input_words link.inputs h.inputs) h.some
 can_be_asked words (Merge merge) h = subst (λ (n : ℕ). 0 < n) (as_long IsSectionWord h.section_words merge.sections h.sections) h.some
 can_be_asked words (Slim slim) h = tt
 can_be_asked words (Dump section) h = tt

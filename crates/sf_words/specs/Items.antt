@@ -3,7 +3,7 @@ use Rattle.std.specs.Prelude.{◌^◌, ℕ, List, [], ◌∷◌, map, length}
 use Rattle.sf_words.specs.declared.item.Item.{Item}
 use Rattle.sf_words.specs.declared.item.ItemKind.{ItemKind}
 use Rattle.sf_words.specs.declared.item.ItemKind.TheVariants.{Input, Section, Core}
-use Rattle.sf_words.specs.Words.{CommandWords, Link, Merge, Slim, Dump, Lookup, Walk, Backtrace, Gen, InputWords, SectionWords}
+use Rattle.sf_words.specs.Words.{CommandWords, Link, LinkPlt, Merge, Slim, Dump, Lookup, Walk, Backtrace, Gen, InputWords, SectionWords}
 
 -- a file that a command reads: its name and its kind
 pub record ItemWords : Type 0 where
@@ -37,6 +37,7 @@ core_item name = record { name = name; kind = Core }
 -- the files that a command reads, in order
 abbrev pub items_of : CommandWords → List ItemWords
 items_of (Link link) = map input_item link.inputs
+items_of (LinkPlt link) = map input_item link.inputs
 items_of (Merge merge) = map section_item merge.sections
 items_of (Slim slim) = section_item slim.section ∷ []
 items_of (Dump section) = section_item section ∷ []
@@ -48,6 +49,7 @@ items_of (Gen n) = []
 -- how many files a command's list names, for the limit of 512
 abbrev pub counted_items : CommandWords → ℕ
 counted_items (Link link) = length link.inputs
+counted_items (LinkPlt link) = length link.inputs
 counted_items (Merge merge) = length merge.sections
 counted_items (Slim slim) = 1
 counted_items (Dump section) = 1

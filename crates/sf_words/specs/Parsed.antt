@@ -16,7 +16,7 @@ use Rattle.sf_words.specs.declared.command.Command.TheVariants as command
 use Rattle.sf_words.specs.declared.words.SectionFile.{SectionFile}
 use Rattle.sf_words.specs.declared.command.SlimFiles.{SlimFiles}
 use Rattle.sf_words.specs.declared.command.WalkFiles.{WalkFiles}
-use Rattle.sf_words.specs.Words.{InputWords, MergeWords, SectionAndInputs, SectionWords, CommandWords, IsInputWord, IsSectionWord, Link as LinkOf, Merge as MergeOf, Slim, Dump, Lookup, Walk, Backtrace as BacktraceOf, Gen, BacktraceWords, SlimWords, WalkWords}
+use Rattle.sf_words.specs.Words.{InputWords, MergeWords, SectionAndInputs, SectionWords, CommandWords, IsInputWord, IsSectionWord, Link as LinkOf, LinkPlt as LinkPltOf, Merge as MergeOf, Slim, Dump, Lookup, Walk, Backtrace as BacktraceOf, Gen, BacktraceWords, SlimWords, WalkWords}
 
 abbrev pub input_of : InputFile → InputWords
 input_of input = record { form = input.form; name = input.name.now; base = input.base }
@@ -41,6 +41,7 @@ backtrace_of backtrace = record { out = section_of backtrace.out; core = backtra
 
 abbrev pub words_of : Asked → CommandWords
 words_of (asked.Link link) = LinkOf (inputs_named link)
+words_of (asked.LinkPlt link) = LinkPltOf (inputs_named link)
 words_of (asked.Merge merge) = MergeOf (merge_of merge)
 words_of (asked.Slim slim) = Slim (slim_of slim)
 words_of (asked.Dump section) = Dump (section_of section)
@@ -66,6 +67,7 @@ pub record AsksBacktrace (split : BacktraceCommand) (backtrace : BacktraceWords)
 
 abbrev pub Asks : Command → CommandWords → Type 0
 Asks (command.Link split) wanted = (link : SectionAndInputs) × (wanted ≡ LinkOf link) × AsksInputs split link
+Asks (command.LinkPlt split) wanted = (link : SectionAndInputs) × (wanted ≡ LinkPltOf link) × AsksInputs split link
 Asks (command.Merge split) wanted = (merge : MergeWords) × (wanted ≡ MergeOf merge) × AsksMerge split merge
 Asks (command.Slim slim) wanted = wanted ≡ Slim (slim_of slim)
 Asks (command.Dump section) wanted = wanted ≡ Dump (section_of section)

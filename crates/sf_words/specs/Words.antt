@@ -159,6 +159,7 @@ pub record IsGen (words : List (List ℕ)) (n : ℕ) : Type 0 where
 -- what a command line asks for
 pub data CommandWords : Type 0 where
   Link : SectionAndInputs → CommandWords
+  LinkPlt : SectionAndInputs → CommandWords
   Merge : MergeWords → CommandWords
   Slim : SlimWords → CommandWords
   Dump : SectionWords → CommandWords
@@ -170,6 +171,7 @@ pub data CommandWords : Type 0 where
 -- the words ask for this
 abbrev pub IsCommand : List (List ℕ) → CommandWords → Type 0
 IsCommand words (Link link) = NameInputs (codes "link") words link
+IsCommand words (LinkPlt link) = NameInputs (codes "linkplt") words link
 IsCommand words (Merge merge) = IsMerge words merge
 IsCommand words (Slim slim) = IsSlim words slim
 IsCommand words (Dump section) = IsDump words section
@@ -181,6 +183,7 @@ IsCommand words (Gen n) = IsGen words n
 -- what each form says of the command that it asks for: a list that names one file at least, and a number within its range
 abbrev pub CanBeAsked : CommandWords → Type 0
 CanBeAsked (Link link) = 0 < length link.inputs
+CanBeAsked (LinkPlt link) = 0 < length link.inputs
 CanBeAsked (Merge merge) = 0 < length merge.sections
 CanBeAsked (Slim slim) = Unit {0}
 CanBeAsked (Dump section) = Unit {0}
@@ -192,6 +195,7 @@ CanBeAsked (Gen n) = IsFunctionCount n
 -- the name of the file that a command makes
 abbrev pub out_name : CommandWords → Option (List ℕ)
 out_name (Link link) = Some link.section.name
+out_name (LinkPlt link) = Some link.section.name
 out_name (Merge merge) = Some merge.out.name
 out_name (Slim slim) = Some slim.out.name
 out_name (Dump section) = None

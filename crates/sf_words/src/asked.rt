@@ -42,6 +42,8 @@ pub struct Backtrace<'a> {
 pub enum Asked<'a> {
     /// `link OUT@AT IN@BASE ..`
     Link(SectionAndInputFiles<'a>),
+    /// `linkplt OUT@AT IN@BASE ..`
+    LinkPlt(SectionAndInputFiles<'a>),
     /// `merge OUT@AT FILE@AT ..`
     Merge(Merge<'a>),
     /// `slim OUT@AT FILE@AT`
@@ -81,6 +83,7 @@ pub fn read_words<'a>(alloc: Global, command: &Command<'a>) -> Result<Asked<'a>,
 {
     match command {
         Command::Link(link) => Ok(Asked::Link(read_inputs(alloc, link)?)),
+        Command::LinkPlt(link) => Ok(Asked::LinkPlt(read_inputs(alloc, link)?)),
         Command::Merge(merge) => Ok(Asked::Merge(Merge {
             out: merge.out,
             sections: sections_of(alloc, merge.sections)?,
@@ -181,7 +184,7 @@ pub fn items<'a>(alloc: Global, asked: &Asked<'a>) -> Result<Vec<Item<'a>>, NoMe
     ensures { IfOk result (λ items. map item_of items.items ≡ items_of (words_of asked.now)) }
 {
     match asked {
-        Asked::Link(link) => input_items(alloc, &link.inputs),
+        Asked::Link(link) | Asked::LinkPlt(link) => input_items(alloc, &link.inputs),
         Asked::Merge(merge) => section_items(alloc, &merge.sections),
         Asked::Slim(slim) => section_items(alloc, &[slim.section]),
         Asked::Dump(section) | Asked::Lookup(section, _) => section_items(alloc, &[*section]),

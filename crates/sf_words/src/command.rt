@@ -68,6 +68,8 @@ pub struct BacktraceCommand<'a> {
 pub enum Command<'a> {
     /// `link OUT@AT IN@BASE ..`
     Link(SectionAndInputWords<'a>),
+    /// `linkplt OUT@AT IN@BASE ..`
+    LinkPlt(SectionAndInputWords<'a>),
     /// `merge OUT@AT FILE@AT ..`
     Merge(MergeCommand<'a>),
     /// `slim OUT@AT FILE@AT`
@@ -91,6 +93,7 @@ impl<'a> Command<'a> {
     {
         match self {
             Command::Link(link) => link.inputs.len(),
+            Command::LinkPlt(link) => link.inputs.len(),
             Command::Merge(merge) => merge.sections.len(),
             Command::Slim(_) => 1,
             Command::Dump(_) | Command::Lookup(_, _) | Command::Walk(_) => 1,
@@ -104,7 +107,7 @@ impl<'a> Command<'a> {
         ensures { (wanted : CommandWords) → Asks self.now wanted → option_map (λ name. name.now) result ≡ out_name wanted }
     {
         match self {
-            Command::Link(link) => Some(link.section.name),
+            Command::Link(link) | Command::LinkPlt(link) => Some(link.section.name),
             Command::Merge(merge) => Some(merge.out.name),
             Command::Slim(slim) => Some(slim.out.name),
             Command::Dump(_) | Command::Lookup(_, _) => None,
@@ -333,6 +336,9 @@ pub fn command_words(words: &[String]) -> Option<Command<'_>>
 {
     if let Some(link) = section_and_inputs(words, "link") {
         return Some(Command::Link(link));
+    }
+    if let Some(link) = section_and_inputs(words, "linkplt") {
+        return Some(Command::LinkPlt(link));
     }
     if let Some(merge) = merge_words(words) {
         return Some(Command::Merge(merge));

@@ -1,6 +1,6 @@
 use Rattle.std.proofs.Common.{refl, sym, subst}
 use Rattle.sf_words.specs.Parsed.{section_of, slim_of, walk_of}
-use Rattle.sf_words.specs.Words.{Link, Merge, Slim, Dump, Lookup, Walk, Backtrace, Gen, IsCommand}
+use Rattle.sf_words.specs.Words.{Link, LinkPlt, Merge, Slim, Dump, Lookup, Walk, Backtrace, Gen, IsCommand}
 use Rattle.sf_words.proofs.command.command_words.Goals as goal
 
 pub returns-in-Some-clause-found : goal.returns-in-Some-clause-found
@@ -8,6 +8,12 @@ returns-in-Some-clause-found c wanted asks = subst (IsCommand _) (sym asks.1) (c
 
 pub returns-in-Some-clause-named : goal.returns-in-Some-clause-named
 returns-in-Some-clause-named c = (Link c.in-Some.ensures.named.0, (c.in-Some.ensures.named.0, refl, c.in-Some.ensures.named.1))
+
+pub returns-in-Some-section_and_inputs-clause-found : goal.returns-in-Some-section_and_inputs-clause-found
+returns-in-Some-section_and_inputs-clause-found c wanted asks = subst (IsCommand _) (sym asks.1) (c.in-Some-section_and_inputs.ensures.found asks.0 asks.2)
+
+pub returns-in-Some-section_and_inputs-clause-named : goal.returns-in-Some-section_and_inputs-clause-named
+returns-in-Some-section_and_inputs-clause-named c = (LinkPlt c.in-Some-section_and_inputs.ensures.named.0, (c.in-Some-section_and_inputs.ensures.named.0, refl, c.in-Some-section_and_inputs.ensures.named.1))
 
 pub returns-in-Some-merge_words-clause-found : goal.returns-in-Some-merge_words-clause-found
 returns-in-Some-merge_words-clause-found c wanted asks = subst (IsCommand _) (sym asks.1) (c.in-Some-merge_words.ensures.found asks.0 asks.2)

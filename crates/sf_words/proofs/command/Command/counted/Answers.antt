@@ -12,6 +12,11 @@ returns-in-Link c wanted asks =
     let link : Asks (command.Link c.in-Link.link) wanted = subst (λ (split : Command). Asks split wanted) c.in-Link.is asks in
     sym (inputs_asked c.in-Link.link link.0 link.2) ∙ sym (ap (λ (w : CommandWords). counted_items w) link.1)
 
+pub returns-in-LinkPlt : goal.returns-in-LinkPlt
+returns-in-LinkPlt c wanted asks =
+    let link : Asks (command.LinkPlt c.in-LinkPlt.link) wanted = subst (λ (split : Command). Asks split wanted) c.in-LinkPlt.is asks in
+    sym (inputs_asked c.in-LinkPlt.link link.0 link.2) ∙ sym (ap (λ (w : CommandWords). counted_items w) link.1)
+
 pub returns-in-Merge : goal.returns-in-Merge
 returns-in-Merge c wanted asks =
     let merge : Asks (command.Merge c.in-Merge.merge) wanted = subst (λ (split : Command). Asks split wanted) c.in-Merge.is asks in
