@@ -3,7 +3,7 @@ use Rattle.std.specs.Prelude.{◌^◌, ℕ, List, [], ◌∷◌, map, length}
 use Rattle.sf_words.specs.declared.item.Item.{Item}
 use Rattle.sf_words.specs.declared.item.ItemKind.{ItemKind}
 use Rattle.sf_words.specs.declared.item.ItemKind.TheVariants.{Input, Section, Core}
-use Rattle.sf_words.specs.Words.{CommandWords, Link, LinkPlt, Merge, Slim, Dump, Lookup, Walk, Backtrace, Gen, InputWords, SectionWords}
+use Rattle.sf_words.specs.Words.{CommandWords, Link, LinkPlt, Merge, Slim, Dump, Lookup, Verify, Walk, Backtrace, Gen, InputWords, SectionWords}
 
 -- a file that a command reads: its name and its kind
 pub record ItemWords : Type 0 where
@@ -42,6 +42,7 @@ items_of (Merge merge) = map section_item merge.sections
 items_of (Slim slim) = section_item slim.section ∷ []
 items_of (Dump section) = section_item section ∷ []
 items_of (Lookup section pc) = section_item section ∷ []
+items_of (Verify verify) = section_item verify.section ∷ map input_item verify.inputs
 items_of (Walk walk) = section_item walk.section ∷ core_item walk.core ∷ []
 items_of (Backtrace backtrace) = core_item backtrace.core ∷ map input_item backtrace.inputs
 items_of (Gen n) = []
@@ -54,6 +55,7 @@ counted_items (Merge merge) = length merge.sections
 counted_items (Slim slim) = 1
 counted_items (Dump section) = 1
 counted_items (Lookup section pc) = 1
+counted_items (Verify verify) = length verify.inputs
 counted_items (Walk walk) = 1
 counted_items (Backtrace backtrace) = length backtrace.inputs
 counted_items (Gen n) = 0

@@ -16,7 +16,7 @@ use Rattle.sf_words.specs.declared.command.Command.TheVariants as command
 use Rattle.sf_words.specs.declared.words.SectionFile.{SectionFile}
 use Rattle.sf_words.specs.declared.command.SlimFiles.{SlimFiles}
 use Rattle.sf_words.specs.declared.command.WalkFiles.{WalkFiles}
-use Rattle.sf_words.specs.Words.{InputWords, MergeWords, SectionAndInputs, SectionWords, CommandWords, IsInputWord, IsSectionWord, Link as LinkOf, LinkPlt as LinkPltOf, Merge as MergeOf, Slim, Dump, Lookup, Walk, Backtrace as BacktraceOf, Gen, BacktraceWords, SlimWords, WalkWords}
+use Rattle.sf_words.specs.Words.{InputWords, MergeWords, SectionAndInputs, SectionWords, CommandWords, IsInputWord, IsSectionWord, Link as LinkOf, LinkPlt as LinkPltOf, Merge as MergeOf, Slim, Dump, Lookup, Verify as VerifyOf, Walk, Backtrace as BacktraceOf, Gen, BacktraceWords, SlimWords, WalkWords}
 
 abbrev pub input_of : InputFile → InputWords
 input_of input = record { form = input.form; name = input.name.now; base = input.base }
@@ -46,6 +46,7 @@ words_of (asked.Merge merge) = MergeOf (merge_of merge)
 words_of (asked.Slim slim) = Slim (slim_of slim)
 words_of (asked.Dump section) = Dump (section_of section)
 words_of (asked.Lookup section pc) = Lookup (section_of section) pc
+words_of (asked.Verify verify) = VerifyOf (inputs_named verify)
 words_of (asked.Walk walk) = Walk (walk_of walk)
 words_of (asked.Backtrace backtrace) = BacktraceOf (backtrace_of backtrace)
 words_of (asked.Gen n) = Gen n
@@ -72,6 +73,7 @@ Asks (command.Merge split) wanted = (merge : MergeWords) × (wanted ≡ MergeOf 
 Asks (command.Slim slim) wanted = wanted ≡ Slim (slim_of slim)
 Asks (command.Dump section) wanted = wanted ≡ Dump (section_of section)
 Asks (command.Lookup section pc) wanted = wanted ≡ Lookup (section_of section) pc
+Asks (command.Verify split) wanted = (verify : SectionAndInputs) × (wanted ≡ VerifyOf verify) × AsksInputs split verify
 Asks (command.Walk walk) wanted = wanted ≡ Walk (walk_of walk)
 Asks (command.Backtrace split) wanted = (backtrace : BacktraceWords) × (wanted ≡ BacktraceOf backtrace) × AsksBacktrace split backtrace
 Asks (command.Gen n) wanted = wanted ≡ Gen n

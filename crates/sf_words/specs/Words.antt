@@ -164,6 +164,7 @@ pub data CommandWords : Type 0 where
   Slim : SlimWords → CommandWords
   Dump : SectionWords → CommandWords
   Lookup : SectionWords → (pc : ℕ) → CommandWords
+  Verify : SectionAndInputs → CommandWords
   Walk : WalkWords → CommandWords
   Backtrace : BacktraceWords → CommandWords
   Gen : (n : ℕ) → CommandWords
@@ -176,6 +177,7 @@ IsCommand words (Merge merge) = IsMerge words merge
 IsCommand words (Slim slim) = IsSlim words slim
 IsCommand words (Dump section) = IsDump words section
 IsCommand words (Lookup section pc) = IsLookup words section pc
+IsCommand words (Verify verify) = NameInputs (codes "verify") words verify
 IsCommand words (Walk walk) = IsWalk words walk
 IsCommand words (Backtrace backtrace) = IsBacktrace words backtrace
 IsCommand words (Gen n) = IsGen words n
@@ -188,6 +190,7 @@ CanBeAsked (Merge merge) = 0 < length merge.sections
 CanBeAsked (Slim slim) = Unit {0}
 CanBeAsked (Dump section) = Unit {0}
 CanBeAsked (Lookup section pc) = Unit {0}
+CanBeAsked (Verify verify) = 0 < length verify.inputs
 CanBeAsked (Walk walk) = IsDepth walk.depth
 CanBeAsked (Backtrace backtrace) = (0 < length backtrace.inputs) × IsDepth backtrace.depth
 CanBeAsked (Gen n) = IsFunctionCount n
@@ -200,6 +203,7 @@ out_name (Merge merge) = Some merge.out.name
 out_name (Slim slim) = Some slim.out.name
 out_name (Dump section) = None
 out_name (Lookup section pc) = None
+out_name (Verify verify) = None
 out_name (Walk walk) = None
 out_name (Backtrace backtrace) = Some backtrace.out.name
 out_name (Gen n) = None

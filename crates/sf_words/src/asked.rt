@@ -52,6 +52,8 @@ pub enum Asked<'a> {
     Dump(SectionFile<'a>),
     /// `lookup FILE@AT PC`
     Lookup(SectionFile<'a>, u64),
+    /// `verify FILE@AT IN@BASE ..`
+    Verify(SectionAndInputFiles<'a>),
     /// `walk FILE@AT CORE DEPTH`
     Walk(WalkFiles<'a>),
     /// `backtrace OUT@AT CORE DEPTH IN@BASE ..`
@@ -91,6 +93,7 @@ pub fn read_words<'a>(alloc: Global, command: &Command<'a>) -> Result<Asked<'a>,
         Command::Slim(slim) => Ok(Asked::Slim(*slim)),
         Command::Dump(section) => Ok(Asked::Dump(*section)),
         Command::Lookup(section, pc) => Ok(Asked::Lookup(*section, *pc)),
+        Command::Verify(verify) => Ok(Asked::Verify(read_inputs(alloc, verify)?)),
         Command::Walk(walk) => Ok(Asked::Walk(*walk)),
         Command::Backtrace(backtrace) => Ok(Asked::Backtrace(Backtrace {
             out: backtrace.out,
@@ -168,6 +171,18 @@ fn core_and_inputs<'a>(
     Ok(items)
 }
 
+/// The section and the inputs, as items.
+fn section_and_inputs<'a>(
+    alloc: Global,
+    files: &SectionAndInputFiles<'a>,
+) -> Result<Vec<Item<'a>>, NoMemory>
+    ensures { IfOk result (λ items. map item_of items.items ≡ section_item (section_of files.now.section) ∷ map input_item (map input_of files.now.inputs.items)) }
+{
+    let mut items = vec![in alloc; section_item(&files.section)]?;
+    push_inputs(&mut items, &files.inputs)?;
+    Ok(items)
+}
+
 /// The section and the core file, as items.
 fn walk_items<'a>(alloc: Global, walk: &WalkFiles<'a>) -> Result<Vec<Item<'a>>, NoMemory>
     ensures { IfOk result (λ items. map item_of items.items ≡ section_item (section_of walk.now.section) ∷ core_item walk.now.core.now ∷ []) }
@@ -188,6 +203,7 @@ pub fn items<'a>(alloc: Global, asked: &Asked<'a>) -> Result<Vec<Item<'a>>, NoMe
         Asked::Merge(merge) => section_items(alloc, &merge.sections),
         Asked::Slim(slim) => section_items(alloc, &[slim.section]),
         Asked::Dump(section) | Asked::Lookup(section, _) => section_items(alloc, &[*section]),
+        Asked::Verify(verify) => section_and_inputs(alloc, verify),
         Asked::Walk(walk) => walk_items(alloc, walk),
         Asked::Backtrace(backtrace) => { core_and_inputs(alloc, backtrace.core, &backtrace.inputs) }
         Asked::Gen(_) => Ok(Vec::new(alloc)),

@@ -78,6 +78,8 @@ pub enum Command<'a> {
     Dump(SectionFile<'a>),
     /// `lookup FILE@AT PC`
     Lookup(SectionFile<'a>, u64),
+    /// `verify FILE@AT IN@BASE ..`
+    Verify(SectionAndInputWords<'a>),
     /// `walk FILE@AT CORE DEPTH`
     Walk(WalkFiles<'a>),
     /// `backtrace OUT@AT CORE DEPTH IN@BASE ..`
@@ -97,6 +99,7 @@ impl<'a> Command<'a> {
             Command::Merge(merge) => merge.sections.len(),
             Command::Slim(_) => 1,
             Command::Dump(_) | Command::Lookup(_, _) | Command::Walk(_) => 1,
+            Command::Verify(verify) => verify.inputs.len(),
             Command::Backtrace(backtrace) => backtrace.inputs.len(),
             Command::Gen(_) => 0,
         }
@@ -110,7 +113,7 @@ impl<'a> Command<'a> {
             Command::Link(link) | Command::LinkPlt(link) => Some(link.section.name),
             Command::Merge(merge) => Some(merge.out.name),
             Command::Slim(slim) => Some(slim.out.name),
-            Command::Dump(_) | Command::Lookup(_, _) => None,
+            Command::Dump(_) | Command::Lookup(_, _) | Command::Verify(_) => None,
             Command::Backtrace(backtrace) => Some(backtrace.out.name),
             Command::Walk(_) | Command::Gen(_) => None,
         }
@@ -351,6 +354,9 @@ pub fn command_words(words: &[String]) -> Option<Command<'_>>
     }
     if let Some((section, pc)) = lookup_words(words) {
         return Some(Command::Lookup(section, pc));
+    }
+    if let Some(verify) = section_and_inputs(words, "verify") {
+        return Some(Command::Verify(verify));
     }
     if let Some(walk) = walk_words(words) {
         return Some(Command::Walk(walk));

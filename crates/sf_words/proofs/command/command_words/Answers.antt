@@ -1,6 +1,6 @@
 use Rattle.std.proofs.Common.{refl, sym, subst}
 use Rattle.sf_words.specs.Parsed.{section_of, slim_of, walk_of}
-use Rattle.sf_words.specs.Words.{Link, LinkPlt, Merge, Slim, Dump, Lookup, Walk, Backtrace, Gen, IsCommand}
+use Rattle.sf_words.specs.Words.{Link, LinkPlt, Merge, Slim, Dump, Lookup, Verify, Walk, Backtrace, Gen, IsCommand}
 use Rattle.sf_words.proofs.command.command_words.Goals as goal
 
 pub returns-in-Some-clause-found : goal.returns-in-Some-clause-found
@@ -38,6 +38,12 @@ returns-in-Some-lookup_words-clause-found c wanted asks = subst (IsCommand _) (s
 
 pub returns-in-Some-lookup_words-clause-named : goal.returns-in-Some-lookup_words-clause-named
 returns-in-Some-lookup_words-clause-named c = (Lookup (section_of c.in-Some-lookup_words.section) c.in-Some-lookup_words.pc, refl)
+
+pub returns-in-Some-section_and_inputs-2-clause-found : goal.returns-in-Some-section_and_inputs-2-clause-found
+returns-in-Some-section_and_inputs-2-clause-found c wanted asks = subst (IsCommand _) (sym asks.1) (c.in-Some-section_and_inputs-2.ensures.found asks.0 asks.2)
+
+pub returns-in-Some-section_and_inputs-2-clause-named : goal.returns-in-Some-section_and_inputs-2-clause-named
+returns-in-Some-section_and_inputs-2-clause-named c = (Verify c.in-Some-section_and_inputs-2.ensures.named.0, (c.in-Some-section_and_inputs-2.ensures.named.0, refl, c.in-Some-section_and_inputs-2.ensures.named.1))
 
 pub returns-in-Some-walk_words-clause-found : goal.returns-in-Some-walk_words-clause-found
 returns-in-Some-walk_words-clause-found c wanted asks = subst (IsCommand _) (sym asks) c.in-Some-walk_words.ensures.found

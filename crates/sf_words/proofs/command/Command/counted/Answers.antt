@@ -17,6 +17,11 @@ returns-in-LinkPlt c wanted asks =
     let link : Asks (command.LinkPlt c.in-LinkPlt.link) wanted = subst (λ (split : Command). Asks split wanted) c.in-LinkPlt.is asks in
     sym (inputs_asked c.in-LinkPlt.link link.0 link.2) ∙ sym (ap (λ (w : CommandWords). counted_items w) link.1)
 
+pub returns-in-Verify : goal.returns-in-Verify
+returns-in-Verify c wanted asks =
+    let verify : Asks (command.Verify c.in-Verify.verify) wanted = subst (λ (split : Command). Asks split wanted) c.in-Verify.is asks in
+    sym (inputs_asked c.in-Verify.verify verify.0 verify.2) ∙ sym (ap (λ (w : CommandWords). counted_items w) verify.1)
+
 pub returns-in-Merge : goal.returns-in-Merge
 returns-in-Merge c wanted asks =
     let merge : Asks (command.Merge c.in-Merge.merge) wanted = subst (λ (split : Command). Asks split wanted) c.in-Merge.is asks in
