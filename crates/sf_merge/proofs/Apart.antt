@@ -10,7 +10,7 @@ use Rattle.sf_model.specs.declared.function.Func.{Func}
 use Rattle.sf_model.specs.Union.{is_of_use, IsApart}
 use Rattle.sf_merge.specs.declared.located.Located.{Located}
 use Rattle.sf_merge.specs.Merging.{neighbours, overlap, overlap_fault, shared_by, written}
-use Rattle.sf_merge.proofs.Permutations.{pairs_head, pairs_tail}
+use Rattle.sf_model.proofs.Unions.{pairs_head, pairs_tail}
 
 -- the one ends where the other begins, or before
 abbrev pub EndsBy : Func → Func → Type 0

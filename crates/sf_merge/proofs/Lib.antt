@@ -9,7 +9,6 @@ pub mod Sound
 pub mod Merged
 pub mod Joined
 pub mod OneOrder
-pub mod Lookups
 pub mod Insertion
 pub mod SomeResult
 pub mod OneRising

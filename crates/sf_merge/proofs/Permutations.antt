@@ -5,6 +5,7 @@ use Rattle.std.proofs.Common.{◌≡◌, ℕ, zero, suc, ◌<◌, Bool, true, fa
 use Rattle.std.proofs.lemmas.List.Elements.{All-cons, All-head, All-tail}
 use Rattle.std.proofs.lemmas.List.Kept.{AllPairs-cons}
 use Rattle.std.proofs.lemmas.List.Sorted.{IsPermutation-refl, IsPermutation-trans, IsPermutation-cons, IsPermutation-keeps, IsPermutation-append_left, IsPermutation-append_right, IsPermutation-append_comm, All-permutation}
+use Rattle.sf_model.proofs.Unions.{pairs_head, pairs_tail}
 
 -- A relation that is reflexive and transitive, and goes under a head and over an exchange of two heads, holds of lists with the
 -- same elements.
@@ -59,12 +60,6 @@ pub filter_permuted : {X : Type 0} (p : X → Bool) (xs ys : List X) → IsPermu
 filter_permuted p xs ys h = rw (← filter_as_flat_map p xs, ← filter_as_flat_map p ys) (flat_map_permuted (λ x. cond (p x) (x ∷ []) []) xs ys h)
 
 -- ---- pairs
-pub pairs_head : {X : Type 0} (R : X → X → Type 0) (x : X) (xs : List X) → AllPairs R (x ∷ xs) → All (R x) xs
-pairs_head R x xs h = λ k d lt. h 0 (suc k) d (omega arith) (omega (lt, arith))
-
-pub pairs_tail : {X : Type 0} (R : X → X → Type 0) (x : X) (xs : List X) → AllPairs R (x ∷ xs) → AllPairs R xs
-pairs_tail R x xs h = λ i j d lt within. h (suc i) (suc j) d (omega (lt, arith)) (omega (within, arith))
-
 -- a relation that goes both ways holds of each two elements in any order of them
 record KeepsPairs {X : Type 0} (R : X → X → Type 0) (xs ys : List X) : Type 0 where
   moved : IsPermutation xs ys

@@ -16,7 +16,8 @@ use Rattle.sf_merge.specs.declared.located.Located.{Located}
 use Rattle.sf_merge.specs.Located.{at_entry, located, all_located, has_bytes, sized, InOrder}
 use Rattle.sf_merge.specs.Merging.{overlap_fault, written}
 use Rattle.sf_merge.proofs.Apart.{EndsBy, function_of, none_share, pairs_map, pairs_none, pairs_weaker, written_apart, adjacent, rises, turned, useful}
-use Rattle.sf_merge.proofs.Permutations.{filter_permuted, pairs_head, pairs_tail, pairs_permuted}
+use Rattle.sf_merge.proofs.Permutations.{filter_permuted, pairs_permuted}
+use Rattle.sf_model.proofs.Unions.{pairs_head, pairs_tail}
 
 -- ---- the functions of all sections are those of all tables
 entries_functions : (item number : ℕ) (fs : List Func) → map function_of (map (at_entry item) (enumerate_from number fs)) ≡ fs

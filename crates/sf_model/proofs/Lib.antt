@@ -9,3 +9,4 @@ pub mod TightOne
 pub mod Worked
 pub mod WorkedSection
 pub mod WorkedSigned
+pub mod Unions

@@ -17,7 +17,7 @@ use Rattle.sf_model.specs.Memory.{Region}
 use Rattle.sf_model.specs.Recovery.{Recovery, recovery}
 use Rattle.sf_model.specs.Table.{Table}
 use Rattle.sf_model.specs.Walk.{recover_by_rows}
-use Rattle.sf_merge.proofs.Lookups.{IsFound, Member, OnePasses, found, found_alone, found_by, from_filter, in_filter, moved, one_contains, some_found, within}
+use Rattle.sf_model.proofs.Unions.{IsFound, Member, OnePasses, found, found_alone, found_by, from_filter, in_filter, moved, one_contains, some_found, within}
 use Rattle.sf_slim.specs.Slim.{answers_at, content_at, is_live, slim_function, slim_rows_of, IsSlim}
 use Rattle.sf_slim.proofs.Live.{some_offset}
 use Rattle.sf_slim.proofs.Sweep.{slim_says}

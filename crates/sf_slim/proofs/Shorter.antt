@@ -32,7 +32,7 @@ use Rattle.sf_sizes.specs.RowLength.{offset_width, row_len}
 use Rattle.sf_write.specs.Row.{rows_len}
 use Rattle.sf_write.specs.Section.{row_section_len, section_len}
 use Rattle.sf_merge.proofs.Apart.{EndsBy, pairs_none, pairs_weaker}
-use Rattle.sf_merge.proofs.Lookups.{Member, found_alone, found_by, one_contains}
+use Rattle.sf_model.proofs.Unions.{Member, found_alone, found_by, one_contains}
 use Rattle.sf_merge.proofs.Sound.{IsSound, functions_sound}
 use Rattle.sf_slim.specs.Slim.{content_at, slim_function, slim_rows, slim_rows_of, IsSlim}
 use Rattle.sf_slim.specs.Shortest.{HoldsStarts, IsPlain, SaysTheSame, StandsFor, row_bytes, span}

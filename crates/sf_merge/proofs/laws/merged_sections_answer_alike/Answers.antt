@@ -1,4 +1,4 @@
-use Rattle.sf_merge.proofs.Lookups.{answered, unanswered}
+use Rattle.sf_model.proofs.Unions.{answered, unanswered}
 use Rattle.sf_merge.proofs.laws.merged_sections_answer_alike.Goals as goal
 
 pub returns-clause-answered : goal.returns-clause-answered

@@ -13,19 +13,25 @@ use Rattle.sf_model.specs.declared.function.Func.{Func}
 use Rattle.sf_model.specs.Lookup.{FoundRow, contains, found_at, row_at, row_in, row_in_first}
 use Rattle.sf_model.specs.Table.{Table}
 use Rattle.sf_model.specs.Union.{all_functions, is_of_use, IsApart, IsUnion}
-use Rattle.sf_merge.proofs.Permutations.{pairs_head, pairs_tail}
+
+-- ---- pairs
+pub pairs_head : {X : Type 0} (R : X → X → Type 0) (x : X) (xs : List X) → AllPairs R (x ∷ xs) → All (R x) xs
+pairs_head R x xs h = λ k d lt. h 0 (suc k) d (omega arith) (omega (lt, arith))
+
+pub pairs_tail : {X : Type 0} (R : X → X → Type 0) (x : X) (xs : List X) → AllPairs R (x ∷ xs) → AllPairs R xs
+pairs_tail R x xs h = λ i j d lt within. h (suc i) (suc j) d (omega (lt, arith)) (omega (within, arith))
 
 -- ---- elements
 abbrev pub Member : {X : Type 0} → List X → X → Type 0
 Member [] x = ⊥
 Member (y ∷ ys) x = (y ≡ x) ⊎ Member ys x
 
-member : {X : Type 0} (xs : List X) (x : X) → Contains xs x → Member xs x
+pub member : {X : Type 0} (xs : List X) (x : X) → Contains xs x → Member xs x
 member [] x c = absurd (omega (arith, c.1))
 member (y ∷ ys) x (zero, lt, is) = inl is
 member (y ∷ ys) x (suc k, lt, is) = inr (member ys x (k, omega (arith, lt), is))
 
-contained : {X : Type 0} (xs : List X) (x : X) → Member xs x → Contains xs x
+pub contained : {X : Type 0} (xs : List X) (x : X) → Member xs x → Contains xs x
 contained [] x m = absurd m
 contained (y ∷ ys) x (inl is) = (zero, omega arith, is)
 contained (y ∷ ys) x (inr m) = let later = contained ys x m in (suc later.0, omega (arith, later.1), later.2)
