@@ -60,6 +60,12 @@ core_check file =
     >> unless (lies_in (length file) (e_phoff file) (segment_total file) 56) (OutOfFile 32)
     >> each_below (segment_total file) (segment_check file)
 
+-- the program headers of a file of any kind have the format's length, and lie in the file
+unfoldable pub program_headers_check : List ℕ → Check
+program_headers_check file =
+    unless (e_phentsize file == 56) (EntrySize 54)
+    >> unless (lies_in (length file) (e_phoff file) (segment_total file) 56) (OutOfFile 32)
+
 -- a section's bytes lie in the file
 unfoldable pub bytes_check : List ℕ → ℕ → Check
 bytes_check file i =

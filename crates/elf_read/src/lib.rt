@@ -38,6 +38,7 @@ mod view;
 pub use entry::{GroupHead, Rela, Section, Segment, Symbol};
 pub use fault::ElfFault;
 pub use kind::Kind;
+pub use number::u64_at;
 pub use view::Elf;
 
 #[cfg(test)]

@@ -45,6 +45,7 @@ fn check_content(file: &[u8]) -> Result<(), ElfFault>
     requires { length file.now < 2 ^ 32 }
     ensures check { result ≡ spec.content_check file.now }
     ensures count { OnOk result (fields.section_count file.now < 2 ^ 32) }
+    ensures headers { OnOk result (0 < fields.section_count file.now → shoff file.now < 2 ^ 32) }
 {
     if is_core_file(file) {
         return check_core(file);
@@ -61,6 +62,7 @@ pub fn check_file(file: &[u8]) -> Result<(), ElfFault>
     requires { length file.now < 2 ^ 32 }
     ensures check { result ≡ spec.file_check file.now }
     ensures count { OnOk result (fields.section_count file.now < 2 ^ 32) }
+    ensures headers { OnOk result (0 < fields.section_count file.now → shoff file.now < 2 ^ 32) }
 {
     check_identity(file)?;
     check_purpose(file)?;

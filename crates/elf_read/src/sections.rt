@@ -123,9 +123,9 @@ pub fn is_compressed(file: &[u8], i: u32) -> bool
     flag_is_set(sh_flags(file, i), SHF_COMPRESSED)
 }
 
-// Whether a section has this name.
+/// Whether a section has this name.
 #[tactic(auto, unfolding(crate::specs::Sections::section_name))]
-fn is_named(file: &[u8], i: u32, name: &[u8]) -> bool
+pub fn is_named(file: &[u8], i: u32, name: &[u8]) -> bool
     requires { length name.now < 2 ^ 32 }
     ensures { result ≡ pointwise (λ (a b : ℕ). a == b) (spec.section_name file.now i) name.now }
 {

@@ -1,9 +1,11 @@
-//! Checks of a core file.
+//! Checks of program headers, and of the segments of a core file.
 
-ghost use Rattle.std.specs.Prelude.{◌≡◌, ◌<◌, ◌^◌, length};
+ghost use Rattle.std.specs.Prelude.{◌≡◌, ◌<◌, ◌^◌, IfOk, length};
 ghost use Rattle.elf_read.specs.Checks as spec;
 ghost use Rattle.elf_read.specs.Checking.{each_below};
 ghost use Rattle.elf_read.specs.Header.{e_phoff as phoff};
+ghost use Rattle.elf_read.specs.Parsing.{verdict};
+ghost use Rattle.elf_read.specs.Sections.{segment_total as total};
 
 use crate::check::require;
 use crate::fault::ElfFault;
@@ -56,4 +58,22 @@ pub fn check_core(file: &[u8]) -> Result<(), ElfFault>
         ElfFault::OutOfFile(E_PHOFF),
     )?;
     check_segments(file, count)
+}
+
+/// The length and the place of the program headers of a file of any kind, and how many there are.
+#[tactic(auto, unfolding(crate::specs::Checks::program_headers_check))]
+pub fn check_program_headers(file: &[u8]) -> Result<u32, ElfFault>
+    ensures check { verdict result ≡ spec.program_headers_check file.now }
+    ensures count { IfOk result (λ count. count ≡ total file.now) }
+{
+    let count = segment_total(file);
+    require(
+        u64::from(e_phentsize(file)) == PROGRAM_HEADER_LEN,
+        ElfFault::EntrySize(E_PHENTSIZE),
+    )?;
+    require(
+        lies(file.len() as u64, e_phoff(file), u64::from(count), 56),
+        ElfFault::OutOfFile(E_PHOFF),
+    )?;
+    Ok(count)
 }

@@ -1,6 +1,7 @@
 //! A file that was checked.
 
 ghost use Rattle.std.specs.Prelude.{◌<◌, ◌^◌, length, IsTrue, is_ok};
+ghost use Rattle.elf_read.specs.Header.{e_shoff as shoff};
 ghost use Rattle.elf_read.specs.Parsing.{file_check};
 ghost use Rattle.elf_read.specs.Sections.{section_count as count_of};
 
@@ -9,7 +10,8 @@ use crate::fault::ElfFault;
 use crate::kind::Kind;
 use crate::number::bytes_at;
 use crate::parsing::check_file;
-use crate::{entries, header, program_header, reading, sections};
+use crate::segments::check_program_headers;
+use crate::{entries, header, program_header, reading, section_header, sections};
 use sf_model::Arch;
 
 /// An ELF file that was checked. It lends the file's bytes, of which there are fewer than 2^32.
@@ -18,12 +20,15 @@ pub struct Elf<'a> {
     bytes: &'a [u8],
     ghost small: { length bytes.now < 2 ^ 32 },
     ghost counted: { count_of bytes.now < 2 ^ 32 },
+    ghost headers: { 0 < count_of bytes.now → shoff bytes.now < 2 ^ 32 },
     ghost checked: { IsTrue (is_ok (file_check bytes.now)) },
 }
 
 impl<'a> Elf<'a> {
-    ghost use Rattle.std.specs.Prelude.{◌≡◌, IfOk};
+    ghost use Rattle.std.specs.Prelude.{◌≡◌, ◌==◌, ℕ, IfOk};
+    ghost use Rattle.std.specs.Cmp.Lexicographic.{pointwise};
     ghost use Rattle.std.specs.Option.{option_map};
+    ghost use Rattle.elf_read.specs.Checks.{program_headers_check};
     ghost use Rattle.elf_read.specs.Header as head;
     ghost use Rattle.elf_read.specs.Parsing.{verdict};
     ghost use Rattle.elf_read.specs.Sections as fields;
@@ -84,6 +89,36 @@ impl<'a> Elf<'a> {
         sections::section_name(self.bytes, i)
     }
 
+    /// Whether a section has this name. Of its own name at most one byte more than this one has is read.
+    pub fn is_named(&self, i: u32, name: &[u8]) -> bool
+        requires { length name.now < 2 ^ 32 }
+        ensures { result ≡ pointwise (λ (a b : ℕ). a == b) (fields.section_name (file self.now) i) name.now }
+    {
+        sections::is_named(self.bytes, i, name)
+    }
+
+    /// Whether a section is loaded: it has the flag SHF_ALLOC.
+    pub fn is_allocated(&self, i: u32) -> bool
+        ensures { result ≡ fields.is_allocated (file self.now) i }
+    {
+        sections::is_allocated(self.bytes, i)
+    }
+
+    /// Whether a section's bytes are compressed: it has the flag SHF_COMPRESSED.
+    pub fn is_compressed(&self, i: u32) -> bool
+        ensures { result ≡ fields.is_compressed (file self.now) i }
+    {
+        sections::is_compressed(self.bytes, i)
+    }
+
+    /// The place of a section's header in the file.
+    pub fn header_place(&self, i: u32) -> u64
+        requires { i < fields.section_count (file self.now) }
+        ensures { result ≡ fields.section_header (file self.now) i }
+    {
+        section_header::header_place(self.bytes, i)
+    }
+
     /// Whether a section holds call frame information: it is loaded and has the name `.eh_frame`.
     pub fn is_eh_frame(&self, i: u32) -> bool
         ensures { result ≡ fields.is_eh_frame (file self.now) i }
@@ -99,7 +134,16 @@ impl<'a> Elf<'a> {
         sections::section_bytes(self.bytes, i)
     }
 
-    /// A segment.
+    /// Checks the program headers of a file of any kind: their length, and that they lie in the file. How many there
+    /// are. `parse` checks those of a core file alone.
+    pub fn program_headers(&self) -> Result<u32, ElfFault>
+        ensures exact { verdict result ≡ program_headers_check (file self.now) }
+        ensures count { IfOk result (λ count. count ≡ fields.segment_total (file self.now)) }
+    {
+        check_program_headers(self.bytes)
+    }
+
+    /// The segment of a program header's number, in a file of any kind.
     pub fn segment(&self, i: u32) -> Segment<'a>
         ensures kind { result.kind ≡ head.p_type (file self.now) i }
         ensures vaddr { result.vaddr ≡ head.p_vaddr (file self.now) i }
