@@ -2,7 +2,7 @@
 use Rattle.std.specs.Prelude.{◌≡◌, ℕ, Bool, true, false, ◌&&◌, nat_le, ◌==◌, if◌then◌else◌, Option, Some, None, is_some, IsTrue}
 use Rattle.arrayvec.specs.ArrayVec.{array_vec_len}
 use Rattle.sf_model.specs.declared.notice.Group.{Group}
-use Rattle.sf_model.specs.declared.notice.Group.TheVariants.{Elf, Place, Reloc, Record, Insn, Machine, Section, Core, Link}
+use Rattle.sf_model.specs.declared.notice.Group.TheVariants.{Elf, Place, Reloc, Record, Insn, Machine, Section, Core, Module, Link}
 use Rattle.sf_model.specs.declared.notice.Notice.{Notice}
 
 -- the number is 1 or more and at most this
@@ -20,6 +20,9 @@ values_shown Machine number = if up_to 4 number then Some 2 else None
 values_shown Section number = if up_to 17 number then Some 1 else None
 values_shown Core number =
     if number == 2 then Some 0 else (if number == 3 then Some 1 else (if number == 4 then Some 1 else (if number == 5 then Some 0 else None)))
+values_shown Module number =
+    if number == 1 then Some 0 else (if number == 2 then Some 1 else (if number == 4 then Some 0 else (if number == 5 then Some 1 else (
+    if number == 6 then Some 0 else (if number == 7 then Some 0 else None)))))
 values_shown Link number =
     if number == 1 then Some 2 else (if number == 2 then Some 4 else (if number == 3 then Some 1 else None))
 
@@ -33,6 +36,7 @@ shows_item Insn = true
 shows_item Machine = true
 shows_item Section = true
 shows_item Core = true
+shows_item Module = true
 shows_item Link = false
 
 -- the notice has a line: its group has the number, with as many values, and it has an item where the line shows one

@@ -21,6 +21,8 @@ pub enum Group {
     Section,
     /// Reading a core file.
     Core,
+    /// Finding the modules of a process.
+    Module,
     /// Putting functions together.
     Link,
 }

@@ -1,7 +1,7 @@
 -- The names that lines show: of the reasons for leaving a function out, of the groups of faults and of each group's faults.
 use Rattle.std.specs.Prelude.{◌==◌, ℕ, List, codes, if◌then◌else◌}
 use Rattle.sf_model.specs.declared.notice.Group.{Group}
-use Rattle.sf_model.specs.declared.notice.Group.TheVariants.{Elf, Place, Reloc, Record, Insn, Machine, Section, Core, Link}
+use Rattle.sf_model.specs.declared.notice.Group.TheVariants.{Elf, Place, Reloc, Record, Insn, Machine, Section, Core, Module, Link}
 use Rattle.sf_model.specs.declared.omission.Reason.{Reason}
 use Rattle.sf_model.specs.declared.omission.Reason.TheVariants.{EmptyRange, SizeTooLarge, ReturnColumn, SignalFrame, NoCfa, CfaExpression, CfaRegister, CfaOffset, SpRule, RaRule, RaOffset, FpRule, FpOffset, FpWithoutRa, SignState}
 
@@ -31,6 +31,7 @@ group_name Insn = codes "insn"
 group_name Machine = codes "machine"
 group_name Section = codes "section"
 group_name Core = codes "core"
+group_name Module = codes "module"
 group_name Link = codes "link"
 
 -- the faults of reading an ELF file, 1 to 12
@@ -83,6 +84,12 @@ abbrev pub core_name : ℕ → List ℕ
 core_name n =
     if n == 2 then codes "NotCore" else (if n == 3 then codes "Note" else (if n == 4 then codes "StatusSize" else codes "NoThread"))
 
+-- of finding the modules of a process, 1, 2 and 4 to 7
+abbrev pub module_name : ℕ → List ℕ
+module_name n =
+    if n == 1 then codes "NoFileNote" else (if n == 2 then codes "FileNote" else (if n == 4 then codes "NoSection" else (
+    if n == 5 then codes "Segments" else (if n == 6 then codes "NotMapped" else codes "Mapping"))))
+
 -- of putting functions together, 1 to 3
 abbrev pub link_name : ℕ → List ℕ
 link_name n = if n == 1 then codes "MixedArch" else (if n == 2 then codes "Overlap" else codes "OutOfReach")
@@ -96,4 +103,5 @@ fault_name Insn n = insn_name n
 fault_name Machine n = machine_name n
 fault_name Section n = section_name n
 fault_name Core n = core_name n
+fault_name Module n = module_name n
 fault_name Link n = link_name n

@@ -2,7 +2,7 @@
 
 ghost use Rattle.std.specs.Prelude.{◌≡◌, ◌≤◌, length, IsTrue, IsSome};
 ghost use Rattle.sf_model.specs.Notice.{up_to, values_shown};
-ghost use Rattle.sf_text.specs.Names.{reason_name, group_name, elf_name, place_name, reloc_name, record_name, insn_name, machine_name, section_name, core_name, link_name, fault_name as name_of_fault};
+ghost use Rattle.sf_text.specs.Names.{reason_name, group_name, elf_name, place_name, reloc_name, record_name, insn_name, machine_name, section_name, core_name, module_name, link_name, fault_name as name_of_fault};
 
 use sf_model::{Group, Reason};
 
@@ -43,6 +43,7 @@ pub(crate) fn name_of_group(group: Group) -> &'static str
         Group::Machine => "machine",
         Group::Section => "section",
         Group::Core => "core",
+        Group::Module => "module",
         Group::Link => "link",
     }
 }
@@ -62,6 +63,7 @@ pub(crate) fn name_of_fault(group: Group, number: u8) -> &'static str
         Group::Machine => name_of_machine(number),
         Group::Section => name_of_section(number),
         Group::Core => name_of_core(number),
+        Group::Module => name_of_module(number),
         Group::Link => name_of_link(number),
     }
 }
@@ -201,6 +203,22 @@ fn name_of_core(number: u8) -> &'static str
         3 => "Note",
         4 => "StatusSize",
         _ => "NoThread",
+    }
+}
+
+/// The faults of finding the modules of a process.
+fn name_of_module(number: u8) -> &'static str
+    requires { (1 ≤ number) × (number ≤ 7) }
+    ensures value { result.now ≡ module_name number }
+    ensures short { length result.now ≤ 15 }
+{
+    match number {
+        1 => "NoFileNote",
+        2 => "FileNote",
+        4 => "NoSection",
+        5 => "Segments",
+        6 => "NotMapped",
+        _ => "Mapping",
     }
 }
 

@@ -146,6 +146,15 @@ fn a_fault_between_functions_has_no_item(rt: HostRuntime) -> Result<(), Fail> {
         &[],
         "refused 7 core NotCore\n",
     )?;
+    shows(
+        &rt,
+        alloc,
+        Some(2),
+        Group::Module,
+        5,
+        &[0x20],
+        "refused 2 module Segments 0x20\n",
+    )?;
     Ok(())
 }
 
