@@ -2,12 +2,11 @@
 use Rattle.std.specs.Prelude.{◌++◌}
 use Rattle.std.proofs.Common.{◌≡◌, ℕ, suc, ◌+◌, ◌-◌, ◌<◌, List, [], ◌∷◌, Option, Result, Ok, Err, refl, sym, ap, ◌∙◌, arith, append_assoc, append-nil}
 use Rattle.sf_model.specs.declared.recovery.Regs.{Regs}
-use Rattle.sf_model.specs.declared.function.Func.{Func}
 use Rattle.sf_model.specs.declared.walk.Frame.{Frame}
 use Rattle.sf_model.specs.declared.walk.Stop.{Stop}
 use Rattle.sf_model.specs.declared.walk.Stop.TheVariants.{Depth}
 use Rattle.sf_model.specs.Memory.{Region}
-use Rattle.sf_model.specs.Walk.{Going, Listing, Recovering, ThreadState, address_before, behind, frame_by, frames_from, recover_by_rows, section_walk, stopped, walk_by}
+use Rattle.sf_model.specs.Walk.{Going, Listing, LookUp, Recovering, ThreadState, address_before, behind, frame_by, frames_from, look_up_walk, recover_by, stopped, walk_by}
 use Rattle.core_walk.specs.declared.step.Caller.{Caller}
 use Rattle.core_walk.specs.Step.{Steps, on_with}
 
@@ -62,12 +61,12 @@ pub ends : (recovering : Recovering) (mask : Option ℕ) (left asked : ℕ) (at 
 ends recovering mask left asked at frames whole none so_far =
     ap (after_frames frames) (sym (ap (λ (n : ℕ). frames_from recovering mask n asked at.pc at.regs) none ∙ frames-zero recovering mask asked at.pc at.regs)) ∙ so_far
 
-pub starts : (functions : List Func) (thread : ThreadState) (memory : List Region) (depth left : ℕ) (frames : List Frame) → left ≡ depth → frames ≡ []
-    → IsWalk (recover_by_rows functions memory) thread.mask left thread.pc (record { pc = thread.pc; regs = thread.regs }) frames (section_walk functions thread memory depth)
-unfolding section_walk walk_by
-starts functions thread memory depth left frames all none =
-    ap (λ (n : ℕ). after_frames frames (frames_from (recover_by_rows functions memory) thread.mask n thread.pc thread.pc thread.regs)) all
-    ∙ ap (λ (fs : List Frame). after_frames fs (frames_from (recover_by_rows functions memory) thread.mask depth thread.pc thread.pc thread.regs)) none
+pub starts : (look_up : LookUp) (thread : ThreadState) (memory : List Region) (depth left : ℕ) (frames : List Frame) → left ≡ depth → frames ≡ []
+    → IsWalk (recover_by look_up memory) thread.mask left thread.pc (record { pc = thread.pc; regs = thread.regs }) frames (look_up_walk look_up thread memory depth)
+unfolding walk_by
+starts look_up thread memory depth left frames all none =
+    ap (λ (n : ℕ). after_frames frames (frames_from (recover_by look_up memory) thread.mask n thread.pc thread.pc thread.regs)) all
+    ∙ ap (λ (fs : List Frame). after_frames fs (frames_from (recover_by look_up memory) thread.mask depth thread.pc thread.pc thread.regs)) none
 
 -- frames and a stop, as frames before nothing
 pub whole_list : (frames : List Frame) (stop : Stop) (whole : Listing) → after_frames frames (stopped stop) ≡ whole → record { frames = frames; stop = stop } ≡ whole

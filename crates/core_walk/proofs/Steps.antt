@@ -6,11 +6,11 @@ use Rattle.sf_model.specs.declared.recovery.Recovered.{Recovered}
 use Rattle.sf_model.specs.declared.content.Content.{Content}
 use Rattle.sf_model.specs.declared.machine.Key.{Key}
 use Rattle.sf_model.specs.declared.walk.Stop.TheVariants.{Unreadable}
-use Rattle.sf_model.specs.declared.function.Func.{Func}
-use Rattle.sf_model.specs.Lookup.{FoundRow, found_at}
+use Rattle.sf_model.specs.declared.machine.Arch.{Arch}
+use Rattle.sf_model.specs.Lookup.{FoundRow}
 use Rattle.sf_model.specs.Memory.{Region, read_eight}
 use Rattle.sf_model.specs.Recovery.{Recovery, Value, Known, frame_address_of, known, pointer_place, recovered, recovery, return_place, saved_or_kept, saved_value}
-use Rattle.sf_model.specs.Walk.{Going, on_by, on_by_address, on_by_pointer, recover_by_rows, stopped, unsigned_address}
+use Rattle.sf_model.specs.Walk.{Going, LookUp, on_by, on_by_address, on_by_pointer, recover_by, stopped, unsigned_address}
 use Rattle.sf_lookup.specs.declared.lookup.Found.{Found}
 use Rattle.sf_lookup.specs.Lookup.{shown}
 
@@ -23,10 +23,9 @@ same_recovery : (memory : List Region) (regs : Regs) (o : Option FoundRow)
 same_recovery memory regs None = refl
 same_recovery memory regs (Some found) = refl
 
-pub recovered_by : (functions : List Func) (memory : List Region) (asked : ℕ) (regs : Regs) (o : Option Found) → o ≡ option_map shown (found_at functions asked)
-    → recover_by_rows functions memory asked regs ≡ option_map (recover_found memory regs) o
-unfolding recover_by_rows
-recovered_by functions memory asked regs o e = same_recovery memory regs (found_at functions asked) ∙ ap (option_map (recover_found memory regs)) (sym e)
+pub recovered_by : (look_up : LookUp) (memory : List Region) (asked : ℕ) (regs : Regs) (o : Option (Arch × Found)) → option_map (λ (f : Arch × Found). f.1) o ≡ option_map shown (look_up asked)
+    → recover_by look_up memory asked regs ≡ option_map (recover_found memory regs) (option_map (λ (f : Arch × Found). f.1) o)
+recovered_by look_up memory asked regs o e = same_recovery memory regs (look_up asked) ∙ ap (option_map (recover_found memory regs)) (sym e)
 
 -- ---- a value of the caller's, by what is known of it
 pub known_is : (v : Value) (x : ℕ) → Some x ≡ known v → v ≡ Known x

@@ -1,16 +1,19 @@
-//! Walks of a thread's stack by the rows of an SFrame section.
+//! Walks of a thread's stack by the rows of SFrame sections.
 //!
 //! [`walk`] lists the frames of a thread of a core file, from the innermost on, and why it stops: `section_walk` of
-//! `sf_model`, over the functions of the view's table and any [`sf_model::Memory`]. It serves each section, thread, memory
-//! and depth, and owes nothing to its caller.
+//! `sf_model`, over the functions of the view's table and any [`sf_model::Memory`]. [`walk_by`] is the same over any
+//! [`LookUp`], `look_up_walk` of `sf_model`. They serve each section, thread, memory and depth, and owe nothing to their
+//! caller.
 //!
 //! A step looks the row up and recovers the caller's frame, and allocates nothing; the list of frames is what grows.
 #![tactic(auto)]
 
+mod look_up;
 mod step;
 mod walking;
 
-pub use walking::walk;
+pub use look_up::LookUp;
+pub use walking::{walk, walk_by};
 
 #[cfg(test)]
 mod tests;

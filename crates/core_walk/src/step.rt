@@ -2,12 +2,10 @@
 
 ghost use Rattle.std.specs.Prelude.{◌≡◌, Some, ℕ};
 ghost use Rattle.sf_model.specs.Recovery as recovering;
-ghost use Rattle.sf_model.specs.Walk.{address_before, recover_by_rows, unsigned_address};
-ghost use Rattle.sf_decode.specs.View.{table_of};
+ghost use Rattle.sf_model.specs.Walk.{address_before, recover_by, unsigned_address};
 ghost use Rattle.core_walk.specs.Step.{GoesOnBy, Steps};
 
-use sf_decode::View;
-use sf_lookup::find;
+use crate::look_up::LookUp;
 use sf_model::{Content, Frame, Key, Memory, Ra, Recovered, Regs, Stop, moved, recover};
 
 /// Where the walk goes on.
@@ -83,21 +81,21 @@ fn caller_of(content: &Content, mask: Option<u64>, recovered: &Recovered) -> Res
 }
 
 /// The frame at a program counter, and its caller or why the walk stops. The row is looked up at the asked address.
-pub fn step<M: Memory>(
-    view: &View<'_>,
+pub fn step<L: LookUp, M: Memory>(
+    rows: &L,
     mask: Option<u64>,
     mem: &M,
     asked: u64,
     at: &Caller,
 ) -> (Frame, Result<Caller, Stop>)
-    ensures { Steps (recover_by_rows (table_of view.now).functions (M.regions mem.now)) mask asked at.now result.0 result.1 }
+    ensures { Steps (recover_by (L.found_at rows.now) (M.regions mem.now)) mask asked at.now result.0 result.1 }
 {
     let pc = at.pc;
-    let Some(found) = find(view, asked) else {
+    let Some((arch, found)) = rows.look_up(asked) else {
         return (Frame { pc, cfa: None }, Err(Stop::Outside(asked)));
     };
     let content = &found.row.content;
-    let recovered = recover(view.arch(), content, found.func.key, &at.regs, mem);
+    let recovered = recover(arch, content, found.func.key, &at.regs, mem);
     let frame = Frame {
         pc,
         cfa: Some(recovered.cfa),

@@ -54,6 +54,6 @@ recover_alike fs ordered order apart memory asked regs =
 
 pub walks_by_dwarf : (fs : List Function) (ordered : List Entry) → InOrder (map entry_of fs) ordered → overlap_in (spans_of ordered) ≡ None → (thread : ThreadState) (memory : List Region) (depth : ℕ)
     → section_walk (kept_of ordered) thread memory depth ≡ dwarf_walk fs thread memory depth
-unfolding section_walk dwarf_walk walk_by
+unfolding section_walk dwarf_walk walk_by recover_by_rows
 walks_by_dwarf fs ordered order apart thread memory depth =
     frames_alike (recover_by_rows (kept_of ordered) memory) (recover_by_dwarf fs memory) (recover_alike fs ordered order apart memory) thread.mask depth thread.pc thread.pc thread.regs

@@ -83,11 +83,22 @@ frames_from recover_at mask (suc depth) asked pc regs =
 unfoldable pub walk_by : Recovering → ThreadState → (depth : ℕ) → Listing
 walk_by recover_at thread depth = frames_from recover_at thread.mask depth thread.pc thread.pc thread.regs
 
+-- what is found at an address: a function, and the row of it that holds there
+abbrev pub LookUp : Type 0
+LookUp = (pc : ℕ) → Option FoundRow
+
+-- what the rows that are found recover at an address
+abbrev pub recover_by : LookUp → List Region → Recovering
+recover_by look_up memory asked regs = option_map (λ (found : FoundRow). recovery found.row.content found.func.key regs memory) (look_up asked)
+
+-- the walk of a thread by the rows that are found
+abbrev pub look_up_walk : LookUp → ThreadState → List Region → (depth : ℕ) → Listing
+look_up_walk look_up thread memory depth = walk_by (recover_by look_up memory) thread depth
+
 -- what the rows of these functions recover at an address
 unfoldable pub recover_by_rows : List Func → List Region → Recovering
-recover_by_rows functions memory asked regs =
-    option_map (λ (found : FoundRow). recovery found.row.content found.func.key regs memory) (found_at functions asked)
+recover_by_rows functions memory asked regs = recover_by (found_at functions) memory asked regs
 
 -- the walk of a thread by the rows of a section's functions
 unfoldable pub section_walk : List Func → ThreadState → List Region → (depth : ℕ) → Listing
-section_walk functions thread memory depth = walk_by (recover_by_rows functions memory) thread depth
+section_walk functions thread memory depth = look_up_walk (found_at functions) thread memory depth
