@@ -1,0 +1,39 @@
+use Rattle.std.specs.Prelude.{map, OnOk}
+use Rattle.std.specs.Borrow.{Bor}
+use Rattle.std.specs.List.{find}
+use Rattle.std.proofs.Common.{◌≡◌, ◌++◌, ◌/◌, ◌-◌, ◌<◌, ℕ, List, Option, length, sym, ap, subst, ◌∙◌, arith}
+use Rattle.sf_modules.specs.declared.mapped.Module.{Module}
+use Rattle.sf_modules.specs.declared.spans.Span.{Span}
+use Rattle.sf_modules.specs.Span.{answer_of, covers}
+use Rattle.sf_modules.proofs.Points.{halves, has_one, whole}
+use Rattle.sf_modules.proofs.spans.+push_answers.Goals as goal
+
+abbrev Answered : Type 0
+Answered = List (Option (Bor Module))
+
+pub returns-then-covers-2 : goal.returns-then-covers-2
+returns-then-covers-2 t c =
+    let r = c.push_same-then-covers-2.result in
+    let new = c.push_same-then-covers-2.new.answers.items in
+    subst (λ (xs : Answered). OnOk r (new ≡ c.args.answers.now.items ++ xs))
+    (whole c.in-Some.front.now c.args.spans.now c.args.points.now c.in-Some-Some.first.now c.in-Some-Some.last.now c.requires c.in-Some-Some.ensures.value c.in-Some-Some.ensures'.value c.in-Some.ensures.value
+    c.if-covers.ensures c.if-covers-2.ensures)
+    c.push_same-then-covers-2.ensures
+
+pub returns : goal.returns
+returns t c =
+    let r = c.push_answers-2.result in
+    let new = c.push_answers-2.new.answers.items in
+    let points = c.args.points.now in
+    let middle = length points / 2 in
+    let some = has_one points c.in-Some-Some.first.now c.in-Some-Some.ensures.value in
+    let not_one = c.if-points-eq1.false in
+    let pos : 0 < middle = omega (some, not_one, arith) in
+    let short : middle < length points = omega (some, arith) in
+    subst (λ (xs : Answered). OnOk r (new ≡ xs))
+    (halves c.args.spans.now c.deref.result.now c.deref-2.result.now points c.split_at.result.0.now c.split_at.result.1.now middle c.in-Some-Some.first.now c.in-Some-Some.last.now c.args.answers.now.items _ c.requires
+    pos short c.split_at.ensures.front c.split_at.ensures.back c.in-Some-Some.ensures.value c.in-Some-Some.ensures'.value
+    (λ pc low high. ap (find (covers pc)) c.deref.ensures.value ∙ c.in_ok-before.ensures pc low high)
+    (λ pc low high. ap (find (covers pc)) c.deref-2.ensures.value ∙ c.in_ok-after.ensures pc low high)
+    c.in_ok-push_answers.ensures)
+    c.push_answers-2.ensures

@@ -1,0 +1,12 @@
+pub mod Name
+pub mod Fault
+pub mod Entry
+pub mod Note
+pub mod File
+pub mod Module
+pub mod Reading
+pub mod Found
+pub mod Union
+pub mod Told
+pub mod Span
+pub mod Views

@@ -1,0 +1,84 @@
+//! Why a process's modules aren't found.
+
+use elf_read::ElfFault;
+use sf_base::NoMemory;
+use sf_decode::DecodeFault;
+use std::alloc::{AllocError, AllocFailed};
+
+/// Why the mapped files of a core file, or the module of a file, aren't found.
+#[derive(Clone, Copy, Debug, PartialEq, Eq)]
+pub enum ModuleFault {
+    /// The core file has no note on mapped files.
+    NoFileNote,
+    /// The note on mapped files is cut or has a number out of range; the place is in the core file.
+    FileNote(u64),
+    /// The module's ELF file is refused.
+    Elf(ElfFault),
+    /// The file has no SFrame section that is loaded.
+    NoSection,
+    /// The file has no program headers that can be read, or none of a loaded segment; the place is in the file header.
+    Segments(u64),
+    /// The process had no file of this name.
+    NotMapped,
+    /// The file was mapped first from another place than where its first loaded segment begins.
+    Mapping,
+    /// The file's SFrame section is refused.
+    Section(DecodeFault),
+    /// Out of memory.
+    NoMemory,
+}
+
+impl From<ElfFault> for ModuleFault {
+    ghost use Rattle.std.specs.Prelude.{◌≡◌};
+    ghost use Rattle.sf_modules.specs.declared.fault.ModuleFault.TheVariants.{Elf};
+
+    ghost from_gives = { λ fault e. e ≡ Elf fault };
+
+    fn from(fault: ElfFault) -> ModuleFault {
+        ModuleFault::Elf(fault)
+    }
+}
+
+impl From<DecodeFault> for ModuleFault {
+    ghost use Rattle.std.specs.Prelude.{◌≡◌};
+    ghost use Rattle.sf_modules.specs.declared.fault.ModuleFault.TheVariants.{Section};
+
+    ghost from_gives = { λ fault e. e ≡ Section fault };
+
+    fn from(fault: DecodeFault) -> ModuleFault {
+        ModuleFault::Section(fault)
+    }
+}
+
+impl From<NoMemory> for ModuleFault {
+    ghost use Rattle.std.specs.Prelude.{◌≡◌};
+    ghost use Rattle.sf_modules.specs.declared.fault.ModuleFault.TheVariants as fault;
+
+    ghost from_gives = { λ _ e. e ≡ fault.NoMemory };
+
+    fn from(_: NoMemory) -> ModuleFault {
+        ModuleFault::NoMemory
+    }
+}
+
+impl From<AllocError> for ModuleFault {
+    ghost use Rattle.std.specs.Prelude.{◌≡◌};
+    ghost use Rattle.sf_modules.specs.declared.fault.ModuleFault.TheVariants as fault;
+
+    ghost from_gives = { λ _ e. e ≡ fault.NoMemory };
+
+    fn from(_: AllocError) -> ModuleFault {
+        ModuleFault::NoMemory
+    }
+}
+
+impl<T: Drop> From<AllocFailed<T>> for ModuleFault {
+    ghost use Rattle.std.specs.Prelude.{◌≡◌};
+    ghost use Rattle.sf_modules.specs.declared.fault.ModuleFault.TheVariants as fault;
+
+    ghost from_gives = { λ _ e. e ≡ fault.NoMemory };
+
+    fn from(_: AllocFailed<T>) -> ModuleFault {
+        ModuleFault::NoMemory
+    }
+}

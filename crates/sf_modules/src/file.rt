@@ -1,0 +1,105 @@
+//! The SFrame section of a file, and its first loaded segment.
+
+ghost use Rattle.std.specs.Prelude.{◌≡◌, ◌<◌, ◌-◌, ◌%◌, IfOk, IfSome, Some};
+ghost use Rattle.elf_read.specs.Checks.{program_headers_check};
+ghost use Rattle.elf_read.specs.Header.{kind_of};
+ghost use Rattle.elf_read.specs.Sections.{section_count, segment_total};
+ghost use Rattle.elf_read.specs.Views.{file};
+ghost use Rattle.sf_modules.specs.Fault.{verdict};
+ghost use Rattle.sf_modules.specs.File as spec;
+ghost use Rattle.sf_modules.specs.Reading.{headers_part, kind_part, section_part, segments_part};
+
+use crate::fault::ModuleFault;
+use crate::layout::{PT_LOAD, SFRAME};
+use elf_read::layout::{E_PHNUM, E_PHOFF, E_TYPE, SHT_NOBITS};
+use elf_read::{Elf, ElfFault, Kind};
+
+/// Where the page of a number begins.
+pub fn page_floor(page: u64, n: u64) -> u64
+    requires { 0 < page }
+    ensures { result ≡ spec.page_floor page n }
+{
+    n - n % page
+}
+
+/// An executable or a shared object.
+pub fn check_kind(elf: &Elf<'_>) -> Result<(), ModuleFault>
+    ensures { result ≡ kind_part (file elf.now) }
+{
+    match elf.kind() {
+        Kind::Exec | Kind::Dyn => Ok(()),
+        Kind::Rel | Kind::Core => Err(ModuleFault::Elf(ElfFault::Kind(E_TYPE))),
+    }
+}
+
+// Whether a section is an SFrame section that is loaded from the file.
+#[tactic(auto, unfolding(crate::specs::File::is_sframe))]
+fn is_sframe(elf: &Elf<'_>, i: u32) -> bool
+    ensures { result ≡ spec.is_sframe (file elf.now) i }
+{
+    elf.is_allocated(i) && elf.is_named(i, SFRAME) && elf.section(i).kind != SHT_NOBITS
+}
+
+// The number of the first of them.
+fn sframe_section(elf: &Elf<'_>) -> Option<u32>
+    ensures found { result ≡ spec.sframe_section (file elf.now) }
+    ensures within { IfSome result (λ i. i < section_count (file elf.now)) }
+{
+    for i in 0..elf.sections() {
+        if is_sframe(elf, i) {
+            return Some(i);
+        }
+    }
+    None
+}
+
+/// The number of a file's SFrame section.
+pub fn section_of(elf: &Elf<'_>) -> Result<u32, ModuleFault>
+    ensures check { verdict result ≡ section_part (file elf.now) (spec.sframe_section (file elf.now)) }
+    ensures value { IfOk result (λ i. spec.sframe_section (file elf.now) ≡ Some i) }
+{
+    let Some(i) = sframe_section(elf) else {
+        return Err(ModuleFault::NoSection);
+    };
+    if elf.is_compressed(i) {
+        return Err(ModuleFault::Elf(ElfFault::Compressed(elf.header_place(i))));
+    }
+    Ok(i)
+}
+
+// How many program headers a file has.
+fn header_count(elf: &Elf<'_>) -> Result<u32, ModuleFault>
+    ensures check { verdict result ≡ headers_part (program_headers_check (file elf.now)) }
+    ensures value { IfOk result (λ count. count ≡ segment_total (file elf.now)) }
+{
+    match elf.program_headers() {
+        Ok(count) => Ok(count),
+        Err(ElfFault::EntrySize(place)) => Err(ModuleFault::Segments(place)),
+        Err(_) => Err(ModuleFault::Segments(E_PHOFF)),
+    }
+}
+
+// The number of the first program header of a loaded segment.
+fn first_load(elf: &Elf<'_>, count: u32) -> Option<u32>
+    requires { count ≡ segment_total (file elf.now) }
+    ensures { result ≡ spec.first_load (file elf.now) }
+{
+    for i in 0..count {
+        if elf.segment(i).kind == PT_LOAD {
+            return Some(i);
+        }
+    }
+    None
+}
+
+/// The number of the program header of a file's first loaded segment.
+pub fn load_of(elf: &Elf<'_>) -> Result<u32, ModuleFault>
+    ensures check { verdict result ≡ segments_part (file elf.now) }
+    ensures value { IfOk result (λ i. spec.first_load (file elf.now) ≡ Some i) }
+{
+    let count = header_count(elf)?;
+    match first_load(elf, count) {
+        Some(i) => Ok(i),
+        None => Err(ModuleFault::Segments(E_PHNUM)),
+    }
+}

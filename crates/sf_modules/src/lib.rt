@@ -1,0 +1,37 @@
+//! The modules of a process: the executables and shared objects that it had mapped, each with its SFrame section, and
+//! walks by them (Linux core files, NT_FILE; ELF64 gABI, "Program Header").
+//!
+//! [`entries`] reads the note on mapped files of a core file. [`read_module`] finds a file among its entries by the last
+//! part of its name, and reads its SFrame section at the address at which it was. [`Modules::new`] puts entries and
+//! modules in order, once for all threads, and [`Modules::walk`] lists a thread's frames; [`walk_modules`] is both for one
+//! thread.
+//!
+//! The meaning is a list of entries and a list of modules: at an address the first entry that holds it says which file is
+//! there, and the first module of that last part answers by its own table (`found_in` of `specs/Found.antt`). A walk is
+//! `look_up_walk` of `sf_model` over that. [`modules_answer_as_their_union`] is a law: where each address of a function
+//! leads to the function's own module, it is the answer of one table that has the functions of all.
+//!
+//! The caller owes files of fewer than 2^32 bytes, and a page size that isn't 0, as `entries` returns. `read_module`
+//! allocates nothing, and goes once over the file's headers and once over the entries. For n entries `Modules::new` takes
+//! the time of a sort of them; an address is then found by two searches by halves.
+#![tactic(auto)]
+
+mod entry;
+mod fault;
+mod file;
+mod laws;
+mod layout;
+mod mapped;
+mod modules;
+mod name;
+mod note;
+mod notice;
+mod parts;
+mod spans;
+
+pub use entry::Entry;
+pub use fault::ModuleFault;
+pub use laws::modules_answer_as_their_union;
+pub use mapped::{Module, read_module};
+pub use modules::{Modules, walk_modules};
+pub use note::entries;

@@ -1,0 +1,185 @@
+//! The note on mapped files of a core file (Linux core files, NT_FILE).
+
+ghost use Rattle.std.specs.Prelude.{◌≡◌, ◌+◌, ◌*◌, ◌<◌, ◌≤◌, IfOk, OnOk, drop, length, map, is_some, true};
+ghost use Rattle.std.specs.List.{position};
+ghost use Rattle.std.specs.Option.{option_map};
+ghost use Rattle.sf_bytes.specs.Cursor.{cursor};
+ghost use Rattle.elf_read.specs.Checking.{each_below};
+ghost use Rattle.core_notes.specs.Views.{notes_of};
+ghost use Rattle.sf_modules.specs.Entry.{entry_view};
+ghost use Rattle.sf_modules.specs.Fault.{Answers, verdict};
+ghost use Rattle.sf_modules.specs.Note as spec;
+
+use crate::entry::Entry;
+use crate::fault::ModuleFault;
+use crate::layout::{
+    FILE_COUNT, FILE_END, FILE_ENTRY_LEN, FILE_NOTE_HEADER_LEN, FILE_OFFSET, FILE_PAGE_SIZE,
+};
+use core_notes::Core;
+use elf_read::u64_at;
+use sf_bytes::Part;
+use std::alloc::Global;
+
+// The place of the first zero byte.
+fn text_len(bytes: &[u8]) -> Option<usize>
+    ensures { result ≡ position spec.is_zero bytes.now }
+{
+    bytes.iter().position(|byte| *byte == 0)
+}
+
+// The text up to the first zero byte, and what is after that.
+#[tactic(auto, unfolding(crate::specs::Note::text_front))]
+fn text_front(bytes: &[u8]) -> Option<(&[u8], &[u8])>
+    ensures { option_map (λ t. (t.0.now, t.1.now)) result ≡ spec.text_front bytes.now }
+{
+    let len = text_len(bytes)?;
+    let (text, _) = bytes.split_at(len);
+    let (_, later) = bytes.split_at(len + 1);
+    Some((text, later))
+}
+
+// Whether there are as many texts.
+fn has_texts(bytes: &[u8], count: u64) -> bool
+    ensures { result ≡ is_some (spec.texts_in count bytes.now) }
+{
+    let mut rest = bytes;
+    for passed in 0..count {
+        let Some((_, later)) = text_front(rest) else {
+            return false;
+        };
+        rest = later;
+    }
+    true
+}
+
+// What is after the numbers of as many entries.
+fn names_part(note: &[u8], count: u64) -> &[u8]
+    requires { 24 * count + 16 ≤ length note.now }
+    ensures { result.now ≡ drop (24 * count + 16) note.now }
+{
+    let (_, names) = note.split_at((FILE_ENTRY_LEN * count + FILE_NOTE_HEADER_LEN) as usize);
+    names
+}
+
+/// What a note says before its entries.
+#[derive(Clone, Copy)]
+struct Header {
+    // How many entries there are.
+    count: u64,
+    page: u64,
+}
+
+// What a note says before its entries, where it has the bytes and the names of as many.
+#[tactic(auto, unfolding(crate::specs::Note::header_check))]
+fn read_header(note: &Part<'_>) -> Result<Header, ModuleFault>
+    ensures check { verdict result ≡ spec.header_check (cursor note.now) }
+    ensures count { IfOk result (λ h. h.count ≡ spec.entry_count note.now.bytes.now) }
+    ensures page { IfOk result (λ h. h.page ≡ spec.page_size note.now.bytes.now) }
+    ensures some { IfOk result (λ h. 0 < h.page) }
+    ensures within { IfOk result (λ h. 24 * h.count + 16 ≤ length note.now.bytes.now) }
+    ensures names { OnOk result (is_some (spec.texts_in (spec.entry_count note.now.bytes.now) (spec.names_part note.now.bytes.now)) ≡ true) }
+{
+    let len = note.bytes.len() as u64;
+    if len < FILE_NOTE_HEADER_LEN {
+        return Err(ModuleFault::FileNote(note.place));
+    }
+    let count = u64_at(note.bytes, FILE_COUNT);
+    if count > (len - FILE_NOTE_HEADER_LEN) / FILE_ENTRY_LEN {
+        return Err(ModuleFault::FileNote(note.place));
+    }
+    if !has_texts(names_part(note.bytes, count), count) {
+        return Err(ModuleFault::FileNote(note.place));
+    }
+    let page = u64_at(note.bytes, FILE_PAGE_SIZE);
+    if !page.is_power_of_two() {
+        return Err(ModuleFault::FileNote(note.place + FILE_PAGE_SIZE));
+    }
+    Ok(Header { count, page })
+}
+
+// The entry of a number, of this name.
+#[tactic(auto, unfolding(crate::specs::Note::entry_check))]
+fn entry_at<'a>(
+    note: &Part<'_>,
+    k: u64,
+    page: u64,
+    name: &'a [u8],
+) -> Result<Entry<'a>, ModuleFault>
+    requires within { 24 * k + 40 ≤ length note.now.bytes.now }
+    requires page { page ≡ spec.page_size note.now.bytes.now }
+    ensures check { verdict result ≡ spec.entry_check (cursor note.now) k }
+    ensures value { IfOk result (λ e. entry_view e ≡ spec.entry_at note.now.bytes.now k name.now) }
+{
+    let place = FILE_ENTRY_LEN * k + FILE_NOTE_HEADER_LEN;
+    let start = u64_at(note.bytes, place);
+    let end = u64_at(note.bytes, place + FILE_END);
+    let pages = u64_at(note.bytes, place + FILE_OFFSET);
+    match pages.checked_mul(page) {
+        Some(offset) if start <= end => Ok(Entry {
+            start,
+            end,
+            offset,
+            name,
+        }),
+        _ => Err(ModuleFault::FileNote(note.place + place)),
+    }
+}
+
+// The entries, each in its turn.
+fn take_entries<'a>(
+    alloc: Global,
+    note: &Part<'a>,
+    header: &Header,
+) -> Result<Vec<Entry<'a>>, ModuleFault>
+    requires count { header.now.count ≡ spec.entry_count note.now.bytes.now }
+    requires page { header.now.page ≡ spec.page_size note.now.bytes.now }
+    requires within { 24 * header.now.count + 16 ≤ length note.now.bytes.now }
+    requires names { is_some (spec.texts_in (spec.entry_count note.now.bytes.now) (spec.names_part note.now.bytes.now)) ≡ true }
+    ensures check { Answers (each_below (spec.entry_count note.now.bytes.now) (spec.entry_check (cursor note.now))) result }
+    ensures value { IfOk result (λ entries. spec.AreEntries note.now.bytes.now (spec.page_size note.now.bytes.now) (map entry_view entries.items)) }
+{
+    let mut entries = Vec::new(alloc);
+    let mut rest = names_part(note.bytes, header.count);
+    for k in 0..header.count {
+        let (name, later) = match text_front(rest) {
+            Some(text) => text,
+            None => unreachable!(),
+        };
+        let entry = entry_at(note, k, header.page, name)?;
+        entries.push(entry)?;
+        rest = later;
+    }
+    Ok(entries)
+}
+
+// The page size and the entries of a note.
+#[tactic(auto, unfolding(crate::specs::Note::note_check))]
+fn read_note<'a>(alloc: Global, note: &Part<'a>) -> Result<(u64, Vec<Entry<'a>>), ModuleFault>
+    ensures sound { IfOk result (λ r. spec.AreEntries note.now.bytes.now r.0 (map entry_view r.1.items)) }
+    ensures exact { Answers (spec.note_check (cursor note.now)) result }
+    ensures page { IfOk result (λ r. 0 < r.0) }
+{
+    let header = read_header(note)?;
+    let entries = take_entries(alloc, note, &header)?;
+    Ok((header.page, entries))
+}
+
+/// The page size, and the files that a core file's process had mapped, in the order of its first note on them.
+///
+/// # Errors
+///
+/// `NoFileNote` where there is no such note. `FileNote` where it is cut, its page size is no power of two, or an entry ends
+/// before it starts or has an offset that is no number of eight bytes: the first of these, with its place in the core
+/// file. `NoMemory` where memory ran out.
+pub fn entries<'a>(alloc: Global, core: &Core<'a>) -> Result<(u64, Vec<Entry<'a>>), ModuleFault>
+    // What was read is what the note says.
+    ensures sound { IfOk result (λ r. spec.HasEntries (spec.file_note_in (notes_of core.now)) r.0 (map entry_view r.1.items)) }
+    // It is read where no check fails; else the fault is that of the first that does.
+    ensures exact { Answers (spec.entries_check (spec.file_note_in (notes_of core.now))) result }
+    ensures page { IfOk result (λ r. 0 < r.0) }
+{
+    match core.file_note() {
+        Some(note) => read_note(alloc, &note),
+        None => Err(ModuleFault::NoFileNote),
+    }
+}
