@@ -5,3 +5,4 @@ pub mod Entry
 pub mod Header
 pub mod Decoding
 pub mod View
+pub mod Kept

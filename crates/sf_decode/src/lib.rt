@@ -9,6 +9,10 @@
 //! say is another (`table_in`). `parse` answers Ok exactly where no check fails, and that is exactly where
 //! the bytes are a `Section` of some table, by `sf_model`'s definition: the one that the view shows.
 //!
+//! A section that is kept is checked once, and lends its view in constant time from then on: [`OwnedSection`]
+//! owns its bytes, and [`LentSection`] is one whose bytes lie with the caller, as C programs have them. What
+//! they lend is what `parse` gives of the bytes.
+//!
 //! The caller owes nothing to `parse`, and a number of a function to `start`, `func` and `rows`. Nothing
 //! takes memory. The checks go once over the entries for their numbers of rows, and once over the entries
 //! and their rows; `rows` reads a row when it is asked for the next.
@@ -19,6 +23,7 @@ mod entry;
 mod fault;
 mod header;
 mod iter;
+mod kept;
 mod laws;
 mod layout;
 mod notice;
@@ -31,5 +36,6 @@ mod view;
 
 pub use fault::DecodeFault;
 pub use iter::RowIter;
+pub use kept::{LentSection, OwnedSection};
 pub use laws::{functions_are_numbered, view_is_a_section};
 pub use view::View;

@@ -37,6 +37,20 @@ fn number_and_place_of(fault: DecodeFault) -> (u8, u64)
 }
 
 impl DecodeFault {
+    /// Its number, from 1 on.
+    pub fn number(&self) -> u8
+        ensures { result ≡ (number_and_place self.now).0 }
+    {
+        number_and_place_of(*self).0
+    }
+
+    /// The place of what is wrong, in bytes from the section's start.
+    pub fn place(&self) -> u64
+        ensures { result ≡ (number_and_place self.now).1 }
+    {
+        number_and_place_of(*self).1
+    }
+
     /// The fault of this item's section, as its line shows it. The caller owes that it is no limit.
     pub fn notice(&self, item: Option<u32>) -> Notice
         requires { IsTrue (is_refusal self.now) }

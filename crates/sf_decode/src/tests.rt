@@ -308,3 +308,19 @@ fn machines_and_flags(rt: HostRuntime) -> Result<(), Fail> {
     assert_eq!(rt; falling.flags(), 0);
     Ok(())
 }
+
+#[test]
+fn kept_sections_lend_their_view(rt: HostRuntime) -> Result<(), Fail> {
+    let bytes = PUSHING.to_vec(rt.alloc())?;
+    let owned = OwnedSection::parse(bytes, 0x3000).ok().ok_or("a section")?;
+    assert_eq!(rt; owned.view().len(), 1);
+    assert_eq!(rt; owned.into_bytes().len(), 63);
+    let lent = LentSection::open(&PUSHING, 0x3000).ok().ok_or("a section")?;
+    assert_eq!(rt; lent.view().map(|view| view.len()), Some(1));
+    assert!(rt; LentSection::closed().view().is_none());
+    let fault = LentSection::open(&PUSHING, 0x1fff)
+        .err()
+        .ok_or("no section")?;
+    assert_eq!(rt; (fault.number(), fault.place()), (17, 28));
+    Ok(())
+}

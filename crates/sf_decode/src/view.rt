@@ -41,9 +41,22 @@ impl<'a> View<'a> {
         ensures exact { verdict result ≡ section_check bytes.now at }
         ensures table { IfOk result (λ view. table_of view ≡ table_in bytes.now at) }
         ensures bytes { IfOk result (λ view. section_bytes view ≡ bytes.now) }
+        ensures address { IfOk result (λ view. section_address view ≡ at) }
     {
         check_section(bytes, at)?;
         Ok(View { bytes, at })
+    }
+
+    /// The view of bytes that were checked at this address before: what [`View::parse`] gives of them, in
+    /// constant time. The caller owes that no check fails.
+    #[inline(always)]
+    pub fn of_checked(bytes: &'a [u8], at: u64) -> View<'a>
+        requires { IsTrue (is_ok (section_check bytes.now at)) }
+        ensures table { table_of result ≡ table_in bytes.now at }
+        ensures bytes { section_bytes result ≡ bytes.now }
+        ensures address { section_address result ≡ at }
+    {
+        View { bytes, at }
     }
 
     /// The section's bytes.
