@@ -5,11 +5,13 @@
 //! [`LookUp`], `look_up_walk` of `sf_model`. They serve each section, thread, memory and depth, and owe nothing to their
 //! caller.
 //!
+//! [`step`] has one step of a walk, for walks whose frames lie elsewhere.
+//!
 //! A step looks the row up and recovers the caller's frame, and allocates nothing; the list of frames is what grows.
 #![tactic(auto)]
 
 mod look_up;
-mod step;
+pub mod step;
 mod walking;
 
 pub use look_up::LookUp;
