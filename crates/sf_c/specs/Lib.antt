@@ -1,0 +1,6 @@
+pub mod Opening
+pub mod Row
+pub mod Sample
+pub mod Caller
+pub mod Modules
+pub mod Walk

@@ -1,0 +1,23 @@
+-- The modules of a process (a program and its shared objects): each has a range of addresses and a section of its own.
+use Rattle.std.specs.Prelude.{◌+◌, ◌≤◌, ◌&&◌, ℕ, Bool, nat_le, nat_lt, List, [], length, Option, Some, None}
+use Rattle.std.specs.List.{AllAdjacentBelow, find}
+use Rattle.sf_model.specs.declared.function.Func.{Func}
+use Rattle.sf_decode.specs.Kept.{functions_lent}
+use Rattle.sf_c.specs.declared.modules.KiblawenModule.{KiblawenModule}
+
+-- the module's range has the address
+abbrev pub holds : (address : ℕ) → KiblawenModule → Bool
+holds address m = nat_le m.start address && nat_lt address (m.start + m.size)
+
+-- each module ends where the next one starts, or before
+abbrev pub AreInOrder : List KiblawenModule → Type 0
+AreInOrder modules = AllAdjacentBelow (λ (m : KiblawenModule) (n : KiblawenModule). m.start + m.size ≤ n.start) modules (length modules)
+
+-- the functions of a module's section, if there is a module
+abbrev pub functions_if_found : Option KiblawenModule → List Func
+functions_if_found (Some m) = functions_lent m.section
+functions_if_found None = []
+
+-- the functions that answer at an address: those of the section of the module that has the address in its range
+abbrev pub functions_at : List KiblawenModule → (address : ℕ) → List Func
+functions_at modules address = functions_if_found (find (holds address) modules)

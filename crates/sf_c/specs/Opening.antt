@@ -1,0 +1,21 @@
+-- What opening answers: the number of the first fault and its place (the numbers are those of the line of a refused section).
+use Rattle.std.specs.Prelude.{ℕ, List, Option, Some, None, Ok, Err}
+use Rattle.sf_model.specs.Table.{Table}
+use Rattle.sf_decode.specs.Checking.{Check}
+use Rattle.sf_decode.specs.Decoding.{table_in}
+use Rattle.sf_decode.specs.Fault.{number_and_place}
+
+-- the number of a fault, 0 where nothing is wrong
+abbrev pub fault_number : Check → ℕ
+fault_number (Ok x) = 0
+fault_number (Err fault) = (number_and_place fault).0
+
+-- its place in the section, 0 where nothing is wrong
+abbrev pub fault_place : Check → ℕ
+fault_place (Ok x) = 0
+fault_place (Err fault) = (number_and_place fault).1
+
+-- what bytes at an address say where nothing is wrong with them
+abbrev pub table_if_sound : Check → List ℕ → (at : ℕ) → Option Table
+table_if_sound (Ok x) bytes at = Some (table_in bytes at)
+table_if_sound (Err fault) bytes at = None

@@ -1,0 +1,59 @@
+-- GNU SFrame specification, Version 2, function descriptor entries and frame row entries: a row that was found, as C has it.
+use Rattle.std.specs.Prelude.{ℕ, ℤ, pos, negsuc, zero, Bool, true, false, Option, Some, None, is_some, unwrap_or}
+use Rattle.std.specs.Bool.{then_some}
+use Rattle.sf_model.specs.declared.machine.Base.{Base}
+use Rattle.sf_model.specs.declared.machine.Base.TheVariants.{Fp, Sp}
+use Rattle.sf_model.specs.declared.machine.Key.{Key}
+use Rattle.sf_model.specs.declared.machine.Key.TheVariants.{A, B}
+use Rattle.sf_model.specs.declared.content.Ra.{Ra}
+use Rattle.sf_model.specs.declared.content.Ra.TheVariants.{Fixed, Link, At}
+use Rattle.sf_model.specs.declared.function.Shape.{Shape}
+use Rattle.sf_model.specs.declared.function.Shape.TheVariants.{Plain, Repeat}
+use Rattle.sf_lookup.specs.declared.lookup.Found.{Found}
+use Rattle.sf_c.specs.declared.finding.KiblawenRow.{KiblawenRow}
+
+-- the numbers of the header's constants: a test, the base of the canonical frame address, the key of a signed return address
+abbrev pub flag : Bool → ℕ
+flag false = 0
+flag true = 1
+
+abbrev pub base_number : Base → ℕ
+base_number Fp = 0
+base_number Sp = 1
+
+abbrev pub key_number : Option Key → ℕ
+key_number None = 0
+key_number (Some A) = 1
+key_number (Some B) = 2
+
+-- the bytes after which a function's rows repeat, 0 where they don't
+abbrev pub block_size : Shape → ℕ
+block_size Plain = 0
+block_size (Repeat size) = size
+
+-- the offset from the canonical frame address at which the return address is saved, none where it is in the link register
+abbrev pub return_offset : Ra → Option ℤ
+return_offset Fixed = Some (negsuc 7)
+return_offset Link = None
+return_offset (At offset) = Some offset
+
+-- a function and its row
+abbrev pub row_shown : Found → KiblawenRow
+row_shown found = let content = found.row.content in record {
+  function_start = found.func.start;
+  function_size = found.func.size;
+  block_size = block_size found.func.shape;
+  row_start = found.row.start;
+  base = base_number content.base;
+  cfa_offset = content.cfa;
+  ra_saved = flag (is_some (return_offset content.ra));
+  ra_offset = unwrap_or (return_offset content.ra) (pos zero);
+  fp_saved = flag (is_some content.fp);
+  fp_offset = unwrap_or content.fp (pos zero);
+  key = key_number (then_some content.signed found.func.key);
+}
+
+-- what was found, and what stood there before where nothing was
+abbrev pub row_or : (before : KiblawenRow) → Option Found → KiblawenRow
+row_or before (Some found) = row_shown found
+row_or before None = before

@@ -1,0 +1,26 @@
+-- A sample of a thread: its registers, the mask of its return addresses, and one run of bytes that was copied of its stack.
+use Rattle.std.specs.Prelude.{ℕ, List, [], ◌∷◌, Option, Some, None, ◌==◌, if◌then◌else◌}
+use Rattle.sf_model.specs.declared.recovery.Regs.{Regs}
+use Rattle.sf_model.specs.Memory.{Region}
+use Rattle.sf_model.specs.Walk.{ThreadState}
+use Rattle.sf_c.specs.declared.sample.KiblawenSample.{KiblawenSample}
+use Rattle.sf_c.specs.declared.sample.Stack.{Stack}
+
+-- the registers that a row reads
+abbrev pub registers_of : KiblawenSample → Regs
+registers_of sample = record { sp = sample.sp; fp = sample.fp; lr = sample.lr }
+
+-- the mask, where the sample says that it has one
+abbrev pub mask_of : KiblawenSample → Option ℕ
+mask_of sample = if sample.has_mask == 0 then None else Some sample.mask
+
+-- the thread
+abbrev pub thread_of : KiblawenSample → ThreadState
+thread_of sample = record { pc = sample.pc; regs = registers_of sample; mask = mask_of sample }
+
+-- the memory is one run of bytes
+abbrev pub one_region : Stack → List Region
+one_region stack = record { start = stack.start; bytes = stack.bytes.now } ∷ []
+
+abbrev pub memory_of : KiblawenSample → List Region
+memory_of sample = record { start = sample.stack_start; bytes = sample.stack.now } ∷ []
