@@ -6,3 +6,5 @@ pub mod Refusing
 pub mod Patching
 pub mod Inside
 pub mod Checked
+pub mod SortedFixes
+pub mod Applying

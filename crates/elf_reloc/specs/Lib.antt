@@ -5,3 +5,4 @@ pub mod Order
 pub mod Fields
 pub mod Patched
 pub mod Views
+pub mod Applied

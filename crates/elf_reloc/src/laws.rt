@@ -1,6 +1,6 @@
 //! What the values of fields have to do with a patched section.
 
-ghost use Rattle.std.specs.Prelude.{◌≡◌, ◌↔◌, ℕ, true, List, drop, Some, Ok};
+ghost use Rattle.std.specs.Prelude.{◌≡◌, ◌⊎◌, ◌↔◌, ℕ, true, List, drop, map, Some, Ok, Err};
 ghost use Rattle.std.specs.List.{All};
 ghost use Rattle.byteorder.specs.Endian.{little_number};
 ghost use Rattle.elf_place.specs.Views.{Placing as placing};
@@ -13,7 +13,10 @@ ghost use Rattle.elf_reloc.specs.Order.{first_at, place_of, place_check};
 ghost use Rattle.elf_reloc.specs.Patched.{patched, AreRaw, Holds, IsFree, IsDropped, IsUnresolved};
 ghost use Rattle.elf_reloc.specs.Reading.{section_state};
 ghost use Rattle.elf_reloc.specs.Table.{width_of};
-ghost use Rattle.elf_reloc.specs.Views.{Reads};
+ghost use Rattle.elf_reloc.specs.Views.{Reads, Refuses};
+ghost use Rattle.elf_reloc.specs.Applied.{Slot, applied_of, applied_to, slot_of};
+ghost use Rattle.elf_reloc.specs.declared.fault.RelocFault.{RelocFault as refusal};
+ghost use Rattle.elf_reloc.specs.declared.fault.RelocFault.TheVariants.{NoMemory};
 
 /// What a section's relocations write, in a copy of the section in which all known values are written.
 pub fn fields_hold_what_is_patched()
@@ -28,4 +31,15 @@ pub fn fields_hold_what_is_patched()
     ensures written { (p : placing) (section : ℕ) (fixes : List written) (place : ℕ) (f : written) (bits : ℕ) → Reads (section_state p section) fixes → first_at place_of place fixes ≡ Some f → fix_bits f ≡ Some bits → little_number (width_of f.range) (drop place (patched fixes (section_bytes p.file section))) ≡ bits }
     // A field that no relocation covers holds its raw number.
     ensures free { (p : placing) (section : ℕ) (fixes : List written) (place width : ℕ) → Reads (section_state p section) fixes → IsFree place width fixes → little_number width (drop place (patched fixes (section_bytes p.file section))) ≡ little_number width (drop place (section_bytes p.file section)) }
+{}
+
+/// Reading a section's relocations and checking them against its pointer fields comes to what applying them is
+/// defined to be: the patched section, or the first fault.
+pub fn relocations_are_applied()
+    // Read, and on pointer fields all.
+    ensures applied { (p : placing) (section : ℕ) (fixes : List written) (fields : List pointer) → Reads (section_state p section) fixes → place_check fields fixes ≡ Ok tt → applied_to p section (map slot_of fields) ≡ Ok (applied_of fixes (section_bytes p.file section) (map slot_of fields)) }
+    // Read, and one on none.
+    ensures misplaced { (p : placing) (section : ℕ) (fixes : List written) (fields : List pointer) (e : refusal) → Reads (section_state p section) fixes → place_check fields fixes ≡ Err e → applied_to p section (map slot_of fields) ≡ Err e }
+    // Refused as they were read, whatever the pointer fields are.
+    ensures refused { (p : placing) (section : ℕ) (slots : List Slot) (e : refusal) → Refuses e (section_state p section) → (e ≡ NoMemory) ⊎ (applied_to p section slots ≡ Err e) }
 {}

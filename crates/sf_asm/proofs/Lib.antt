@@ -6,7 +6,6 @@ pub mod Machines
 pub mod Items
 pub mod HandedOut
 pub mod GatheredInputs
-pub mod SortedFixes
 pub mod Relocating
 pub mod Patching
 pub mod Signatures
@@ -15,6 +14,7 @@ pub mod Gone
 pub mod Limits
 pub mod Finding
 pub mod Agreeing
+pub mod Applying
 pub mod Walking
 pub mod FaithfulSections
 pub mod OneOrder

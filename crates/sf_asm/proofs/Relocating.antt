@@ -18,7 +18,7 @@ use Rattle.elf_reloc.specs.Views.{Reads, Overlaps, Refuses, Relocated, fixes_in}
 use Rattle.sf_asm.specs.Steps.{◌>>=◌}
 use Rattle.sf_asm.specs.Relocated.{by_place, without_overlap, relocations_of, pointer_place, has_width_of, is_pointer, pointer_check}
 use Rattle.sf_asm.specs.Views.{AreChecked}
-use Rattle.sf_asm.proofs.SortedFixes.{is_by_place}
+use Rattle.elf_reloc.proofs.SortedFixes.{is_by_place}
 
 -- ---- reading
 abbrev from_state : Result State RelocFault → Result (List Fix) RelocFault

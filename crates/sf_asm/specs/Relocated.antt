@@ -1,30 +1,22 @@
 -- What the relocations of a call frame section write (ELF64 gABI, "Relocation"), the first fault of theirs, and what the section's
 -- pointer fields hold then.
-use Rattle.std.specs.Prelude.{ℕ, Bool, false, ◌==◌, ◌&&◌, nat_le, List, [], ◌∷◌, drop, Option, Some, None, is_none, Result, Ok, Err, if◌then◌else◌}
-use Rattle.std.specs.List.{list_any}
+use Rattle.std.specs.Prelude.{ℕ, Bool, false, ◌==◌, List, [], ◌∷◌, drop, map, Option, Some, None, Result, Ok, Err, if◌then◌else◌}
 use Rattle.byteorder.specs.Endian.{little_number}
 use Rattle.eh_records.specs.Step.{PointerField}
 use Rattle.elf_place.specs.Views.{Placing}
+use Rattle.elf_read.specs.Sections.{section_bytes}
 use Rattle.elf_reloc.specs.declared.fault.RelocFault.{RelocFault}
 use Rattle.elf_reloc.specs.declared.fault.RelocFault.TheVariants.{Place}
 use Rattle.elf_reloc.specs.declared.fix.Fix.{Fix}
+use Rattle.elf_reloc.specs.Applied.{Slot, Applied, applied_of}
 use Rattle.elf_reloc.specs.Order.{first_at, overlap_check}
 use Rattle.elf_reloc.specs.Patched.{patched}
 use Rattle.elf_reloc.specs.Reading.{section_state}
 use Rattle.elf_reloc.specs.Table.{width_of}
+pub use Rattle.elf_reloc.specs.Applied.{placed_among, by_place, is_unresolved_at, names_dropped_at}
 use Rattle.sf_asm.specs.Steps.{◌>>=◌}
 
--- ---- what is written, by rising place
--- a field before those that stand at its place or behind
-abbrev pub placed_among : Fix → List Fix → List Fix
-placed_among f [] = f ∷ []
-placed_among f (g ∷ gs) = if nat_le f.place g.place then f ∷ g ∷ gs else g ∷ placed_among f gs
-
--- those at one place stay in their order
-abbrev pub by_place : List Fix → List Fix
-by_place [] = []
-by_place (f ∷ fs) = placed_among f (by_place fs)
-
+-- ---- what is written, by rising place (`by_place`)
 -- no two of them overlap
 abbrev pub without_overlap : List Fix → Result (List Fix) RelocFault
 without_overlap fixes = overlap_check 0 fixes >>= λ _. Ok fixes
@@ -53,18 +45,14 @@ pointer_check fields (f ∷ fs) = if is_pointer fields f then pointer_check fiel
 abbrev pub on_pointers : List PointerField → List Fix → Result (List Fix) RelocFault
 on_pointers fields fixes = pointer_check fields fixes >>= λ _. Ok fixes
 
+-- its place and width alone
+abbrev pub pointer_slot : PointerField → Slot
+pointer_slot g = record { place = g.place; width = g.width }
+
 -- what the pointer fields of a section hold, where that is known, and which of them name a dropped section
 pub record Values : Type 0 where
   pub bits : PointerField → Option ℕ
   pub dropped : PointerField → Bool
-
--- a relocation at this place has no value yet
-abbrev pub is_unresolved_at : List Fix → (place : ℕ) → Bool
-is_unresolved_at fixes place = list_any (λ f. (f.place == place) && is_none f.value) fixes
-
--- a relocation at this place names a section that is dropped
-abbrev pub names_dropped_at : List Fix → (place : ℕ) → Bool
-names_dropped_at fixes place = list_any (λ f. (f.place == place) && f.dropped) fixes
 
 -- the numbers of a copy of the section in which the low bits of each known value stand in the place of its field; a field on
 -- which a relocation without a value lies holds none
@@ -73,3 +61,10 @@ patched_values fixes section = record {
   bits = λ g. if is_unresolved_at fixes g.place then None else Some (little_number g.width (drop g.place (patched fixes section)));
   dropped = λ g. names_dropped_at fixes g.place;
 }
+
+-- the section to which its relocations are applied, by what is written over its pointer fields
+abbrev pub applied_by : Placing → (section : ℕ) → List PointerField → Result Applied RelocFault
+applied_by p section fields =
+    relocations_of p section
+    >>= on_pointers fields
+    >>= λ fixes. Ok (applied_of fixes (section_bytes p.file section) (map pointer_slot fields))

@@ -11,6 +11,10 @@ ghost use Rattle.sf_asm.specs.declared.entry.Entry.{Entry};
 ghost use Rattle.sf_asm.specs.declared.fault.LinkFault.{LinkFault};
 ghost use Rattle.sf_asm.specs.Accepted.{IsAccepted};
 ghost use Rattle.sf_asm.specs.Entry.{kept_of, spans_of};
+ghost use Rattle.eh_records.specs.Step.{PointerField};
+ghost use Rattle.elf_place.specs.Views.{Placing};
+ghost use Rattle.elf_reloc.specs.Applied.{applied_to};
+ghost use Rattle.sf_asm.specs.Relocated.{applied_by, pointer_slot};
 ghost use Rattle.sf_asm.specs.Faithful.{dwarf_walk, recovered_at};
 ghost use Rattle.sf_asm.specs.Functions.{Function, Object};
 ghost use Rattle.sf_asm.specs.Kept.{entry_of};
@@ -37,4 +41,10 @@ pub fn linking_comes_to_one_result()
 pub fn accepted_inputs_are_linked()
     ensures links { (before : Option Arch) (objects : List Object) (at : ℕ) (h : IsAccepted before objects at) → Links before objects at (Ok h.ordered) }
     ensures only { (before : Option Arch) (objects : List Object) (at : ℕ) (ordered : List Entry) → Links before objects at (Ok ordered) → IsAccepted before objects at }
+{}
+
+/// What the relocations of a section write over its pointer fields is what applying them to it comes to: the
+/// patched bytes, and the fields that are unresolved or dropped; or the first fault.
+pub fn relocations_of_sections_are_applied()
+    ensures { (p : Placing) (section : ℕ) (fields : List PointerField) → applied_to p section (map pointer_slot fields) ≡ applied_by p section fields }
 {}

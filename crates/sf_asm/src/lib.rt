@@ -37,6 +37,6 @@ pub use gathering::{
 pub use input::{Form, Input};
 pub use laws::{
     accepted_inputs_are_linked, kept_functions_recover_alike, linking_comes_to_one_result,
-    walks_are_alike,
+    relocations_of_sections_are_applied, walks_are_alike,
 };
 pub use source::Source;

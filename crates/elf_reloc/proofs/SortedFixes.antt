@@ -8,7 +8,7 @@ use Rattle.std.proofs.Common.{◌≡◌, ℕ, suc, ◌<◌, ◌≤◌, Bool, tru
 use Rattle.std.proofs.lemmas.Bool.{cases_lt, lt-ltb, le-ltb, leb-true, leb-false}
 use Rattle.elf_reloc.specs.declared.fix.Fix.{Fix}
 use Rattle.elf_reloc.specs.Order.{InOrder, place_of}
-use Rattle.sf_asm.specs.Relocated.{placed_among, by_place}
+use Rattle.elf_reloc.specs.Applied.{placed_among, by_place}
 
 abbrev tied : Fix → Fix → Bool
 tied = ties (λ a b. is_lt (nat_cmp (place_of a) (place_of b)))

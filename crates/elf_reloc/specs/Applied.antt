@@ -1,0 +1,83 @@
+-- A section to which its relocations are applied (ELF64 gABI, "Relocation"): the patched bytes, and those of its pointer fields whose
+-- values can't be known yet or are places in a dropped section; or the first fault.
+use Rattle.std.specs.Prelude.{ℕ, Bool, false, ◌==◌, ◌&&◌, nat_le, List, [], ◌∷◌, Option, Some, None, is_none, Result, Ok, Err, if◌then◌else◌}
+use Rattle.std.specs.List.{filter, list_any}
+use Rattle.sf_bytes.specs.declared.field.Field.{Field}
+use Rattle.elf_read.specs.Sections.{section_bytes}
+use Rattle.elf_place.specs.Views.{Placing}
+use Rattle.elf_reloc.specs.declared.fault.RelocFault.{RelocFault}
+use Rattle.elf_reloc.specs.declared.fault.RelocFault.TheVariants.{Place}
+use Rattle.elf_reloc.specs.declared.fix.Fix.{Fix}
+use Rattle.elf_reloc.specs.Order.{first_at, overlap_check}
+use Rattle.elf_reloc.specs.Patched.{patched}
+use Rattle.elf_reloc.specs.Reading.{◌>>=◌, section_state}
+use Rattle.elf_reloc.specs.Table.{width_of}
+
+-- ---- the fields that are written, by rising place
+-- a field before those that are at its place or after it
+abbrev pub placed_among : Fix → List Fix → List Fix
+placed_among f [] = f ∷ []
+placed_among f (g ∷ gs) = if nat_le f.place g.place then f ∷ g ∷ gs else g ∷ placed_among f gs
+
+-- those at one place stay in their order
+abbrev pub by_place : List Fix → List Fix
+by_place [] = []
+by_place (f ∷ fs) = placed_among f (by_place fs)
+
+-- ---- pointer fields
+-- a pointer field: its place in the section, and its width in bytes
+pub record Slot : Type 0 where
+  pub place : ℕ
+  pub width : ℕ
+
+abbrev pub slot_of : Field → Slot
+slot_of g = record { place = g.place; width = g.width }
+
+abbrev pub slot_place : Slot → ℕ
+slot_place g = g.place
+
+abbrev pub has_slot_width : Fix → Option Slot → Bool
+has_slot_width f None = false
+has_slot_width f (Some g) = g.width == width_of f.range
+
+-- what is written is a pointer field, at its place and of its width
+abbrev pub is_slot : List Slot → Fix → Bool
+is_slot slots f = has_slot_width f (first_at slot_place f.place slots)
+
+-- the first by place that isn't
+unfoldable pub slot_check : List Slot → List Fix → Result (Unit {0}) RelocFault
+slot_check slots [] = Ok tt
+slot_check slots (f ∷ fs) = if is_slot slots f then slot_check slots fs else Err (Place f.index)
+
+-- a relocation at this place has no value yet
+abbrev pub is_unresolved_at : List Fix → (place : ℕ) → Bool
+is_unresolved_at fixes place = list_any (λ f. (f.place == place) && is_none f.value) fixes
+
+-- a relocation at this place names a section that is dropped
+abbrev pub names_dropped_at : List Fix → (place : ℕ) → Bool
+names_dropped_at fixes place = list_any (λ f. (f.place == place) && f.dropped) fixes
+
+-- ---- the section
+pub record Applied : Type 0 where
+  -- a copy of the section's bytes in which the low bits of each known value are in the place of its field
+  pub bytes : List ℕ
+  -- the pointer fields whose value is not known
+  pub unresolved : List Slot
+  -- those whose symbol is in a dropped section
+  pub dropped : List Slot
+
+abbrev pub applied_of : List Fix → (section : List ℕ) → List Slot → Applied
+applied_of fixes section slots = record {
+  bytes = patched fixes section;
+  unresolved = filter (λ (g : Slot). is_unresolved_at fixes g.place) slots;
+  dropped = filter (λ (g : Slot). names_dropped_at fixes g.place) slots;
+}
+
+-- first come the faults of each relocation by itself, in their order; then the later of the first two fields by place that overlap;
+-- then the first by place that is no pointer field
+unfoldable pub applied_to : Placing → (section : ℕ) → List Slot → Result Applied RelocFault
+applied_to p section slots = do
+  state ← section_state p section
+  _ ← overlap_check 0 (by_place state.fixes)
+  _ ← slot_check slots (by_place state.fixes)
+  Ok (applied_of (by_place state.fixes) (section_bytes p.file section) slots)
