@@ -5,7 +5,8 @@ pub mod Limits
 pub mod Linked
 pub mod Merged
 pub mod OneComing
-pub mod Order
 pub mod SomeComing
 pub mod WalkedAgain
 pub mod Walks
+pub mod SectionsFit
+pub mod KeptFit

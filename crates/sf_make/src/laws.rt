@@ -1,6 +1,6 @@
 //! Laws: what runs come to.
 
-ghost use Rattle.std.specs.Prelude.{◌≡◌, ℕ, List, [], ◌∷◌, Some, None, Result};
+ghost use Rattle.std.specs.Prelude.{◌≡◌, ℕ, All, List, [], ◌∷◌, Some, None, Result};
 ghost use Rattle.sf_model.specs.Section.{AreBytes};
 ghost use Rattle.sf_decode.specs.declared.fault.DecodeFault.{DecodeFault};
 ghost use Rattle.sf_decode.specs.Decoding.{section_check};
@@ -25,8 +25,14 @@ pub fn a_run_comes_to_one()
     ensures { (command : CommandWords) (items : List (List ℕ)) (one other : Coming) → AreItems command items → Comes command items one → Comes command items other → one ≡ other }
 {}
 
+/// A command and the bytes of its items come to something: a refusal, a limit, or what is made.
+#[tactic(auto, using(crate::proofs::SomeComing::some_coming))]
+pub fn a_run_comes_to_something()
+    ensures { (command : CommandWords) (items : List (List ℕ)) → AreItems command items → All AreBytes items → (coming : Coming) × Comes command items coming }
+{}
+
 /// Showing the section of bytes comes to something: what is shown, or a refusal.
-#[tactic(auto, using(crate::proofs::SomeComing::some_section))]
+#[tactic(auto, using(crate::proofs::SomeComing::some_section_shown))]
 pub fn a_shown_section_comes_to_something()
     ensures { (at : ℕ) (bytes : List ℕ) (query : Query) → AreBytes bytes → (check : Result (Unit {0}) DecodeFault) → section_check bytes at ≡ check → (coming : Coming) × SectionComesFrom at bytes query check coming }
 {}
