@@ -152,9 +152,12 @@ from_order tables at ordered said none order clear =
     let writable = are_writable machine.0 tables ordered (all_sound machine.0 tables said machine.1) order functions.0 sections.1 in
     let fit = All-permutation NumbersFit (filter is_of_use (all_functions tables)) (written ordered) (taken tables ordered order)
     (All-filter is_of_use NumbersFit (all_functions tables) (all_fit tables said)) in
-    let is = some_section machine.0 at (written ordered) writable fit near in
-    (section_bytes machine.0 at (written ordered), length (written ordered), row_count (written ordered),
-    merged machine.0 tables at (section_bytes machine.0 at (written ordered)) ordered machine.1 sections.0 sections.1 order functions.0 near is.1 is.2 is.0)
+    let is = some_section machine.0 at (written ordered) writable fit near in (
+      section_bytes machine.0 at (written ordered),
+      length (written ordered),
+      row_count (written ordered),
+      merged machine.0 tables at (section_bytes machine.0 at (written ordered)) ordered machine.1 sections.0 sections.1 order functions.0 near is.1 is.2 is.0,
+    )
 
 from_result : (tables : List Table) (at : ℕ) (functions : List Func) → All IsSaid tables → (fault : Option MergeFault) → sections_fault tables ≡ fault → MergesUnless fault tables at (Ok functions)
     → (section : List ℕ) × (count : ℕ) × (rows : ℕ) × IsMerged tables at section count rows
@@ -230,6 +233,9 @@ some_slimmed bytes from at functions all passed (ordered, order, result) =
     let writable = needed_writable view ordered is order clear.0 in
     let of_table = functions_fit table.arch bytes table.flags from (functions_place bytes) table.functions all is.functions in
     let fit = needed_fit (map function_of ordered) (ordered_fit table ordered order of_table) in
-    let made = some_section table.arch at taken writable fit near in
-    (section_bytes table.arch at taken, length taken, row_count taken,
-    is_slimmed view at (section_bytes table.arch at taken) (length taken) (row_count taken) ordered is order clear.0 near made.1 made.2 (length-section table.arch at taken) refl refl made.0)
+    let made = some_section table.arch at taken writable fit near in (
+      section_bytes table.arch at taken,
+      length taken,
+      row_count taken,
+      is_slimmed view at (section_bytes table.arch at taken) (length taken) (row_count taken) ordered is order clear.0 near made.1 made.2 (length-section table.arch at taken) refl refl made.0,
+    )

@@ -22,10 +22,10 @@ use Rattle.sf_merge.proofs.OneRising.{one_rising}
 use Rattle.sf_merge.proofs.Permutations.{filter_permuted, flat_map_permuted}
 
 -- ---- the functions that are of use
-abbrev used : List Table → List Func
+abbrev pub used : List Table → List Func
 used tables = filter is_of_use (all_functions tables)
 
-used_permuted : (xs ys : List Table) → IsPermutation xs ys → IsPermutation (used xs) (used ys)
+pub used_permuted : (xs ys : List Table) → IsPermutation xs ys → IsPermutation (used xs) (used ys)
 used_permuted xs ys h = filter_permuted is_of_use (all_functions xs) (all_functions ys) (flat_map_permuted (λ (table : Table). table.functions) xs ys h)
 
 used_append : (xs ys : List Table) → used (xs ++ ys) ≡ used xs ++ used ys
@@ -70,56 +70,54 @@ of_merged tables whole count rows h = record {
 }
 
 -- ---- one step
-module _ (sections next : List Part) (last : Part) (step : SomeAreMerged sections next) (later : IsOf (tables_of next) last) where
-  abbrev some : List Table
+module _ (sections next : List Part) (step : SomeAreMerged sections next) where
+  abbrev pub some : List Table
   some = tables_of step.some
 
-  abbrev others : List Table
+  abbrev pub others : List Table
   others = tables_of step.others
 
-  abbrev merged : IsMerged some step.whole.at step.whole.bytes step.merged.count step.merged.rows
+  abbrev pub merged : IsMerged some step.whole.at step.whole.bytes step.merged.count step.merged.rows
   merged = step.merged.is
 
-  said : step.whole.table ≡ table_of merged.arch merged.functions
+  pub said : step.whole.table ≡ table_of merged.arch merged.functions
   said = table_same step.whole.bytes step.whole.at step.whole.table (table_of merged.arch merged.functions) step.whole.says merged.tight.section
 
-  next_tables : tables_of next ≡ step.whole.table ∷ others
+  pub next_tables : tables_of next ≡ step.whole.table ∷ others
   next_tables = ap tables_of step.left
 
-  chosen : IsPermutation (tables_of sections) (some ++ others)
+  pub chosen : IsPermutation (tables_of sections) (some ++ others)
   chosen =
       subst (IsPermutation (tables_of sections)) (map-append (λ (part : Part). part.table) step.some step.others)
       (IsPermutation-map (λ (part : Part). part.table) sections (step.some ++ step.others) step.chosen)
 
-  abbrev Has : Table → Type 0
-  Has table = table.arch ≡ later.arch
-
-  machines : All Has (tables_of sections)
-  machines =
-      let after : All Has (step.whole.table ∷ others) = subst (All Has) next_tables later.machines in
-      let machine : merged.arch ≡ later.arch = sym (ap (λ (t : Table). t.arch) said) ∙ All-head Has step.whole.table others after in
-      let of_some : All Has some = All-weaker (λ (table : Table). table.arch ≡ merged.arch) Has (λ table e. e ∙ machine) some merged.union.one_machine in
-      All-permutation Has (some ++ others) (tables_of sections) (IsPermutation-sym (tables_of sections) (some ++ others) chosen)
-      (All-append Has some others of_some (All-tail Has step.whole.table others after))
-
-  taken : IsPermutation (used (tables_of sections)) later.functions
-  taken =
+  -- the functions of use are the same
+  pub used_stay : IsPermutation (used (tables_of sections)) (used (tables_of next))
+  used_stay =
       let before : IsPermutation (used (tables_of sections)) (used some ++ used others) =
       subst (IsPermutation (used (tables_of sections))) (used_append some others) (used_permuted (tables_of sections) (some ++ others) chosen) in
       let over : IsPermutation (used some ++ used others) (merged.functions ++ used others) =
       IsPermutation-append_left (used others) (used some) merged.functions merged.union.taken in
       let whole : used (tables_of next) ≡ merged.functions ++ used others =
       ap used next_tables ∙ used_of_whole merged.functions some others step.whole.table merged.union.taken (ap (λ (t : Table). t.functions) said) in
-      let after : IsPermutation (merged.functions ++ used others) later.functions = subst (λ fs. IsPermutation fs later.functions) whole later.taken in
-      IsPermutation-trans (used (tables_of sections)) (used some ++ used others) later.functions before
-      (IsPermutation-trans (used some ++ used others) (merged.functions ++ used others) later.functions over after)
+      subst (IsPermutation (used (tables_of sections))) (sym whole) (IsPermutation-trans (used (tables_of sections)) (used some ++ used others) (merged.functions ++ used others) before over)
 
-  stepped : IsOf (tables_of sections) last
-  stepped = record {
+  -- and so is the machine, where all that are there after the step have one
+  machines_before : (arch : Arch) → All (λ (table : Table). table.arch ≡ arch) (tables_of next) → All (λ (table : Table). table.arch ≡ arch) (tables_of sections)
+  machines_before arch machines =
+      let Has : Table → Type 0 = λ (table : Table). table.arch ≡ arch in
+      let after : All Has (step.whole.table ∷ others) = subst (All Has) next_tables machines in
+      let machine : merged.arch ≡ arch = sym (ap (λ (t : Table). t.arch) said) ∙ All-head Has step.whole.table others after in
+      let of_some : All Has some = All-weaker (λ (table : Table). table.arch ≡ merged.arch) Has (λ table e. e ∙ machine) some merged.union.one_machine in
+      All-permutation Has (some ++ others) (tables_of sections) (IsPermutation-sym (tables_of sections) (some ++ others) chosen)
+      (All-append Has some others of_some (All-tail Has step.whole.table others after))
+
+  stepped : (last : Part) → IsOf (tables_of next) last → IsOf (tables_of sections) last
+  stepped last later = record {
     arch = later.arch;
     functions = later.functions;
-    machines = machines;
-    taken = taken;
+    machines = machines_before later.arch later.machines;
+    taken = IsPermutation-trans (used (tables_of sections)) (used (tables_of next)) later.functions used_stay later.taken;
     rising = later.rising;
     tight = later.tight;
     narrow = later.narrow;
@@ -154,9 +152,10 @@ last_step sections last step =
       are_bytes = h.are_bytes;
     }
 
-of_parts : (between : List (List Part)) (sections : List Part) (last : Part) → AreMergedInParts between sections last → IsOf (tables_of sections) last
-of_parts [] sections last step = last_step sections last step
-of_parts (next ∷ later) sections last (step, steps) = stepped sections next last step (of_parts later next last steps)
+of_parts : (steps : List (List Part)) (sections : List Part) (last : Part) → 0 < length steps → AreMergedInParts steps sections (last ∷ []) → IsOf (tables_of sections) last
+of_parts [] sections last some h = absurd (omega (some, arith))
+of_parts (next ∷ []) sections last some (step, is) = last_step sections last (subst (SomeAreMerged sections) is step)
+of_parts (next ∷ after ∷ later) sections last some (step, steps) = stepped sections next step last (of_parts (after ∷ later) next last (omega arith) steps)
 
 -- ---- one section
 one_section : (tables : List Table) (one other : Part) → 0 < length tables → one.at ≡ other.at → IsOf tables one → IsOf tables other → one.bytes ≡ other.bytes
@@ -170,7 +169,7 @@ one_section (table ∷ tables) one other some at h k =
     subst (λ (a : ℕ). Tight other.bytes a (table_of h.arch h.functions)) (sym at) (subst (Tight other.bytes other.at) is k.tight) in
     tight_one one.bytes other.bytes one.at (table_of h.arch h.functions) h.are_bytes k.are_bytes h.tight tight h.narrow (subst (Narrow other.bytes) is k.narrow)
 
-pub in_parts : (sections : List Part) (between : List (List Part)) (once parts : Part) → 0 < length sections → once.at ≡ parts.at → AreMerged sections once → AreMergedInParts between sections parts → once.bytes ≡ parts.bytes
-in_parts sections between once parts some at h k =
+pub in_parts : (sections : List Part) (steps : List (List Part)) (once parts : Part) → 0 < length sections → 0 < length steps → once.at ≡ parts.at → AreMerged sections once → AreMergedInParts steps sections (parts ∷ []) → once.bytes ≡ parts.bytes
+in_parts sections steps once parts some any at h k =
     let count : length (tables_of sections) ≡ length sections = length-map sections (λ (part : Part). part.table) in
-    one_section (tables_of sections) once parts (omega (some, count, arith)) at (of_merged (tables_of sections) once h.count h.rows h.is) (of_parts between sections parts k)
+    one_section (tables_of sections) once parts (omega (some, count, arith)) at (of_merged (tables_of sections) once h.count h.rows h.is) (of_parts steps sections parts any k)

@@ -9,7 +9,7 @@ use Rattle.sf_merge.specs.Joining.{RisesStrictly}
 use Rattle.sf_merge.proofs.Apart.{EndsBy, rises, turned}
 use Rattle.sf_merge.proofs.Permutations.{pairs_permuted}
 
-apart_by : (f g : Func) → 0 < f.size → 0 < g.size → f.start ≤ g.start → IsApart f g → EndsBy f g
+pub apart_by : (f g : Func) → 0 < f.size → 0 < g.size → f.start ≤ g.start → IsApart f g → EndsBy f g
 apart_by f g some other le (inl none) = absurd (omega (none, some, arith))
 apart_by f g some other le (inr (inl none)) = absurd (omega (none, other, arith))
 apart_by f g some other le (inr (inr (inl ends))) = ends

@@ -13,3 +13,4 @@ pub mod Insertion
 pub mod SomeResult
 pub mod OneRising
 pub mod InParts
+pub mod PartsCan

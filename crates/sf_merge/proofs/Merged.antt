@@ -43,13 +43,13 @@ all_writable arch functions sound =
 rows_of : Func → ℕ
 rows_of f = length f.rows
 
-few_in_filter : (p : Func → Bool) (functions : List Func) → length (filter p functions) ≤ length functions
+pub few_in_filter : (p : Func → Bool) (functions : List Func) → length (filter p functions) ≤ length functions
 few_in_filter p functions = let sum = length-filter_both p (λ f. not (p f)) (λ f. refl) functions in omega (sum, arith)
 
-few_rows_in_filter : (p : Func → Bool) (functions : List Func) → row_count (filter p functions) ≤ row_count functions
+pub few_rows_in_filter : (p : Func → Bool) (functions : List Func) → row_count (filter p functions) ≤ row_count functions
 few_rows_in_filter p functions = let sum = sum_by-filter_both p (λ f. not (p f)) (λ f. refl) (λ (f : Func). length f.rows) functions in omega (sum, arith)
 
-rows_in_tables : (tables : List Table) → row_count (all_functions tables) ≡ rows_in_all tables
+pub rows_in_tables : (tables : List Table) → row_count (all_functions tables) ≡ rows_in_all tables
 rows_in_tables [] = refl
 rows_in_tables (t ∷ ts) =
     let split = sum_by-append (λ (f : Func). length f.rows) t.functions (all_functions ts) in

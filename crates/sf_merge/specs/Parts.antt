@@ -1,9 +1,11 @@
--- Sections merged in parts, as several machines do it (GNU SFrame specification, Version 2): some of the sections are merged into one, which
--- takes their place, until one is left.
-use Rattle.std.specs.Prelude.{◌≡◌, ◌++◌, ℕ, List, [], ◌∷◌, map}
+-- Sections that are merged in parts, as several machines do it (GNU SFrame specification, Version 2): some of the sections are merged into one,
+-- which takes their place, again and again.
+use Rattle.std.specs.Prelude.{◌≡◌, ◌<◌, ◌++◌, ℕ, List, [], ◌∷◌, length, map}
 use Rattle.std.specs.List.Sorted.{IsPermutation}
 use Rattle.sf_model.specs.Section.{Section}
 use Rattle.sf_model.specs.Table.{Table}
+use Rattle.sf_merge.specs.declared.fault.MergeFault.{MergeFault}
+use Rattle.sf_merge.specs.declared.fault.MergeFault.TheVariants.{OutOfReach}
 use Rattle.sf_merge.specs.Answers.{IsMerged}
 
 -- a section: its bytes, the address that it is for, and the table that it says there
@@ -22,16 +24,21 @@ pub record AreMerged (parts : List Part) (whole : Part) : Type 0 where
   pub rows : ℕ
   pub is : IsMerged (tables_of parts) whole.at whole.bytes count rows
 
--- some of the sections, any of them in any order, are merged into one, which takes their place beside the others
+-- some of the sections, one at least and in any order, are merged into one, which takes their place beside the others
 pub record SomeAreMerged (sections next : List Part) : Type 0 where
   pub some : List Part
   pub others : List Part
   pub whole : Part
+  pub any : 0 < length some
   pub chosen : IsPermutation sections (some ++ others)
   pub merged : AreMerged some whole
   pub left : next ≡ whole ∷ others
 
--- they are merged step by step: the sections that there are after each step but the last, and the one that is left
-abbrev pub AreMergedInParts : (between : List (List Part)) → (sections : List Part) → (whole : Part) → Type 0
-AreMergedInParts [] sections whole = SomeAreMerged sections (whole ∷ [])
-AreMergedInParts (next ∷ later) sections whole = SomeAreMerged sections next × AreMergedInParts later next whole
+-- step by step, each step with the sections that there are after it; these are left after the last one
+abbrev pub AreMergedInParts : (steps : List (List Part)) → (sections left : List Part) → Type 0
+AreMergedInParts [] sections left = sections ≡ left
+AreMergedInParts (next ∷ later) sections left = SomeAreMerged sections next × AreMergedInParts later next left
+
+-- the fault is a function that is too far from the section
+abbrev pub IsTooFar : MergeFault → Type 0
+IsTooFar fault = (start : ℕ) × (fault ≡ OutOfReach start)

@@ -1,7 +1,8 @@
 //! Laws: what merging comes to, and what is looked up in the section that is made.
 
-ghost use Rattle.std.specs.Prelude.{◌≡◌, ◌<◌, ℕ, All, List, Some, None, Result, length};
+ghost use Rattle.std.specs.Prelude.{◌≡◌, ◌<◌, ◌++◌, ℕ, All, List, [], ◌∷◌, Some, None, Result, Err, length};
 ghost use Rattle.std.specs.List.{Contains};
+ghost use Rattle.std.specs.List.Sorted.{IsPermutation};
 ghost use Rattle.sf_model.specs.declared.machine.Arch.{Arch};
 ghost use Rattle.sf_model.specs.declared.function.Func.{Func};
 ghost use Rattle.sf_model.specs.Lookup.{FoundRow, found_at};
@@ -9,7 +10,7 @@ ghost use Rattle.sf_model.specs.Table.{Table};
 ghost use Rattle.sf_model.specs.Union.{IsUnion};
 ghost use Rattle.sf_merge.specs.declared.fault.MergeFault.{MergeFault};
 ghost use Rattle.sf_merge.specs.Merging.{Merges};
-ghost use Rattle.sf_merge.specs.Parts.{AreMerged, AreMergedInParts, Part};
+ghost use Rattle.sf_merge.specs.Parts.{AreMerged, AreMergedInParts, IsTooFar, Part, tables_of};
 
 /// Merging sections comes to one result: the functions that are written, or the first fault.
 pub fn merging_comes_to_one_result()
@@ -31,6 +32,10 @@ pub fn merged_sections_answer_alike()
 
 /// Sections that are merged in parts, in any groups and any order, come to the bytes that they come to
 /// where they are merged at once. Each partial section is read at the address that it was written for.
+/// Where all can be merged at once, any of those that are left after some steps can be merged, unless a
+/// function is too far from the partial section; and all that are left can be, for the address of the whole.
 pub fn merging_in_parts()
-    ensures { (sections : List Part) (between : List (List Part)) (once parts : Part) → 0 < length sections → once.at ≡ parts.at → AreMerged sections once → AreMergedInParts between sections parts → once.bytes ≡ parts.bytes }
+    ensures same { (sections : List Part) (steps : List (List Part)) (once parts : Part) → 0 < length sections → 0 < length steps → once.at ≡ parts.at → AreMerged sections once → AreMergedInParts steps sections (parts ∷ []) → once.bytes ≡ parts.bytes }
+    ensures partial { (sections left some others : List Part) (steps : List (List Part)) (once : Part) → AreMerged sections once → AreMergedInParts steps sections left → IsPermutation left (some ++ others) → (at : ℕ) (fault : MergeFault) → Merges (tables_of some) at (Err fault) → IsTooFar fault }
+    ensures whole { (sections left : List Part) (steps : List (List Part)) (once : Part) → AreMerged sections once → AreMergedInParts steps sections left → (fault : MergeFault) → Merges (tables_of left) once.at (Err fault) → ⊥ }
 {}

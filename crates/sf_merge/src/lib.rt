@@ -7,8 +7,10 @@
 //! union (`IsUnion`). [`join`] makes lists of functions into one list by rising start. [`in_order`] reads the
 //! functions of one section, by start.
 //!
-//! [`merging_comes_to_one_result`] and [`merged_sections_answer_alike`] are laws: so the answer is Ok exactly
-//! where the definition has no fault, and a look-up in the union finds what the one section had.
+//! Laws: merging comes to one result ([`merging_comes_to_one_result`], [`merging_comes_to_a_result`]), so the
+//! answer is Ok exactly where the definition has no fault; a look-up in the union finds what the one section
+//! had ([`merged_sections_answer_alike`]); sections that are merged in parts, on several machines, come to the
+//! bytes of all merged at once ([`merging_in_parts`]).
 //!
 //! The caller owes `merge` from 1 to 512 sections, and `join` lists that rise, of functions with bytes that
 //! share no address. Both allocate. All functions are sorted once: n functions cost about n log n steps, and

@@ -6,6 +6,9 @@
 //! is `Tight` and `Narrow`, by the definitions of `sf_model`, for the table of the functions
 //! (`table_of`); `section_bytes` of `specs/Section.antt` spells it.
 //!
+//! A law: functions that one section can hold, whose numbers fit and whose starts are in reach, have such a
+//! section ([`functions_that_fit_have_a_section`]).
+//!
 //! The caller owes functions that one section can hold, by rising start, with rows that the machine has
 //! (`AreWritable` of `sf_model`). Memory is taken once, and a start that lies too far from its field is
 //! refused.
