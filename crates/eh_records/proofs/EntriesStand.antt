@@ -21,7 +21,7 @@ use Rattle.eh_records.proofs.Given.{AreGiven}
 use Rattle.eh_records.proofs.Moves.{through, ok_same, past-past}
 use Rattle.eh_records.proofs.Stands.{stands_is}
 
-abbrev place_of : SharedView → ℕ
+abbrev pub place_of : SharedView → ℕ
 place_of c = c.cie.place
 
 -- an entry that can be read again at its place
@@ -35,16 +35,16 @@ IsAt section at = at ≡ past at.place (start section)
 pub at_start : (section : List ℕ) → IsAt section (start section)
 at_start section = refl
 
-at_after : (section : List ℕ) (at : Cursor) (p : Piece) (after : Cursor) → IsAt section at → Stands at p after → IsAt section after
+pub at_after : (section : List ℕ) (at : Cursor) (p : Piece) (after : Cursor) → IsAt section at → Stands at p after → IsAt section after
 at_after section at p after is s =
     let place : after.place ≡ at.place + (4 + s.len) = ap (λ (c : Cursor). c.place) s.behind in
     s.behind ∙ ap (past (4 + s.len)) is ∙ past-past at.place (4 + s.len) (start section) ∙ ap (λ (n : ℕ). past n (start section)) (sym place)
 
 -- ---- places among these
-abbrev Found : (place : ℕ) → List SharedView → Type 0
+abbrev pub Found : (place : ℕ) → List SharedView → Type 0
 Found place cs = (d : SharedView) × Contains cs d × (d.cie.place ≡ place)
 
-abbrev is_among : (place : ℕ) → List SharedView → Bool
+abbrev pub is_among : (place : ℕ) → List SharedView → Bool
 is_among place cs = list_any (λ q. q == place) (map place_of cs)
 
 found_by : (b : Bool) (place : ℕ) (c : SharedView) (cs : List SharedView) → (c.cie.place == place) ≡ b → (b || is_among place cs) ≡ true → (is_among place cs ≡ true → Found place cs) → Found place (c ∷ cs)
@@ -54,7 +54,7 @@ found_by false place c cs t h rest =
     let within : r.1.0 < length cs = r.1.1 in
     (r.0, (suc r.1.0, omega (arith, within), r.1.2), r.2)
 
-found : (place : ℕ) (cs : List SharedView) → is_among place cs ≡ true → Found place cs
+pub found : (place : ℕ) (cs : List SharedView) → is_among place cs ≡ true → Found place cs
 found place [] h = absurd cc
 found place (c ∷ cs) h = found_by (c.cie.place == place) place c cs refl h (found place cs)
 
@@ -62,7 +62,7 @@ or_true : (b : Bool) → (b || true) ≡ true
 or_true true = refl
 or_true false = refl
 
-among : (place : ℕ) (cs : List SharedView) (d : SharedView) (k : ℕ) → k < length cs → get_or cs k d ≡ d → d.cie.place ≡ place → is_among place cs ≡ true
+pub among : (place : ℕ) (cs : List SharedView) (d : SharedView) (k : ℕ) → k < length cs → get_or cs k d ≡ d → d.cie.place ≡ place → is_among place cs ≡ true
 among place [] d k within is at = absurd (omega (arith, within))
 among place (c ∷ cs) d zero within is at =
     let here : (c.cie.place == place) ≡ true = eq-eqb _ _ (ap place_of is ∙ at) in
@@ -90,7 +90,7 @@ again arch section at p after c is s fields =
     ap (λ (r : Result (Option (Piece × Cursor)) RecordFault). r >>= cie_in arch c.cie.place) (ap piece_at here ∙ stands_is at p after s) ∙ cie_read arch p c fields
 
 -- ---- a frame description entry
-named_is : (p : Piece) (place : ℕ) → place + p.id ≡ p.id_place → named_place p ≡ Ok place
+pub named_is : (p : Piece) (place : ℕ) → place + p.id ≡ p.id_place → named_place p ≡ Ok place
 unfolding named_place
 named_is p place sum =
     let low : nat_lt p.id_place p.id ≡ false = le-ltb p.id_place p.id (omega (arith, sum)) in
@@ -104,7 +104,7 @@ named_by false p place t e =
     let is : p.id_place - p.id ≡ place = cc in
     omega (arith, low, is)
 
-named_back : (p : Piece) (place : ℕ) → named_place p ≡ Ok place → place + p.id ≡ p.id_place
+pub named_back : (p : Piece) (place : ℕ) → named_place p ≡ Ok place → place + p.id ≡ p.id_place
 unfolding named_place
 named_back p place e = named_by (nat_lt p.id_place p.id) p place refl e
 
@@ -126,7 +126,7 @@ among_by : (b : Bool) (place id_place got : ℕ) → (if b then Ok place else Er
 among_by true place id_place got e = refl
 among_by false place id_place got e = absurd cc
 
-frame_stands : (arch : Arch) (section : List ℕ) (before : List SharedView) (p : Piece) (f : FdeView) (got : ℕ) → All (IsAgain arch section) before → (named_place p >>= place_among (map place_of before) p) ≡ Ok got → fde_of arch section p ≡ Ok f → FrameStands before p f
+pub frame_stands : (arch : Arch) (section : List ℕ) (before : List SharedView) (p : Piece) (f : FdeView) (got : ℕ) → All (IsAgain arch section) before → (named_place p >>= place_among (map place_of before) p) ≡ Ok got → fde_of arch section p ≡ Ok f → FrameStands before p f
 unfolding fde_of
 frame_stands arch section before p f got known named e =
     let one = through (named_place p) (place_among (map place_of before) p) got named in
@@ -155,7 +155,7 @@ entry_by false arch section before p e known t h =
     let one = through (fde_of arch section p) (λ f. Ok (Frame f)) e named.rest in
     subst (EntryStands arch before p) (ok_same (Frame one.first) e one.rest) (eqb-false _ _ t, frame_stands arch section before p one.first named.first known named.read one.read)
 
-entry_stands : (arch : Arch) (section : List ℕ) (before : List SharedView) (p : Piece) (e : EntryView) → All (IsAgain arch section) before → entry_at arch section (map place_of before) p ≡ Ok e → EntryStands arch before p e
+pub entry_stands : (arch : Arch) (section : List ℕ) (before : List SharedView) (p : Piece) (e : EntryView) → All (IsAgain arch section) before → entry_at arch section (map place_of before) p ≡ Ok e → EntryStands arch before p e
 unfolding entry_at entry_here shared_place
 entry_stands arch section before p e known h = entry_by (p.id == 0) arch section before p e known refl h
 
@@ -164,7 +164,7 @@ entry_given arch section before p (Common c) known s = common_given arch section
 entry_given arch section before p (Frame f) known s = frame_given arch section before p f known s.0 s.1
 
 -- ---- all records
-places_by : (cies : List ℕ) (before : List SharedView) (arch : Arch) (p : Piece) (e : EntryView) → cies ≡ map place_of before → EntryStands arch before p e → with_place cies p ≡ map place_of (with_common before e)
+pub places_by : (cies : List ℕ) (before : List SharedView) (arch : Arch) (p : Piece) (e : EntryView) → cies ≡ map place_of before → EntryStands arch before p e → with_place cies p ≡ map place_of (with_common before e)
 places_by cies before arch p (Common c) is s =
     ap (λ (b : Bool). if b then cies ++ p.place ∷ [] else cies) (eq-eqb p.id 0 s.0)
     ∙ ap (λ (xs : List ℕ). xs ++ p.place ∷ []) is
@@ -172,7 +172,7 @@ places_by cies before arch p (Common c) is s =
     ∙ sym (map-append place_of before (c ∷ []))
 places_by cies before arch p (Frame f) is s = ap (λ (b : Bool). if b then cies ++ p.place ∷ [] else cies) (ne_eqb p.id 0 s.0) ∙ is
 
-known_by : (arch : Arch) (section : List ℕ) (before : List SharedView) (at : Cursor) (p : Piece) (after : Cursor) (e : EntryView) → IsAt section at → Stands at p after → All (IsAgain arch section) before → EntryStands arch before p e
+pub known_by : (arch : Arch) (section : List ℕ) (before : List SharedView) (at : Cursor) (p : Piece) (after : Cursor) (e : EntryView) → IsAt section at → Stands at p after → All (IsAgain arch section) before → EntryStands arch before p e
     → All (IsAgain arch section) (with_common before e)
 known_by arch section before at p after (Common c) is stands known s = All-push (IsAgain arch section) before c known (again arch section at p after c is stands s.1)
 known_by arch section before at p after (Frame f) is stands known s = known

@@ -59,11 +59,11 @@ pub sleb_read : (at : Cursor) (z : ℤ) (after : Cursor) → Stands Sleb z at af
 unfolding sleb_field
 sleb_read at z after s = placed_ok at.place (sleb_at at) (z, after) (sleb_again at z after s)
 
-text_stands : (at : Cursor) (x : List ℕ × Cursor) → text_field at ≡ Ok x → Stands Text x.0 at x.1
+pub text_stands : (at : Cursor) (x : List ℕ × Cursor) → text_field at ≡ Ok x → Stands Text x.0 at x.1
 unfolding text_field
 text_stands at x e = text_takes at x.0 x.1 (placed_is at.place (text_at at) x e)
 
-text_read : (at : Cursor) (text : List ℕ) (after : Cursor) → Stands Text text at after → text_field at ≡ Ok (text, after)
+pub text_read : (at : Cursor) (text : List ℕ) (after : Cursor) → Stands Text text at after → text_field at ≡ Ok (text, after)
 unfolding text_field
 text_read at text after s = placed_ok at.place (text_at at) (text, after) (text_again at text after s)
 
@@ -265,10 +265,10 @@ saying_read letter (lsda encoding) said from to h =
 saying_read letter signal said from to h = ap (λ (l : ℕ). letter_at l said from) h.0 ∙ ap (λ (c : Cursor). Ok (record said { signal = true }, c)) (sym h.1)
 saying_read letter key_b said from to h = ap (λ (l : ℕ). letter_at l said from) h.0 ∙ ap (λ (c : Cursor). Ok (record said { key = keys.B }, c)) (sym h.1)
 
-record Says (letter : ℕ) (said : Said) (at : Cursor) (x : Said × Cursor) : Type 0 where
-  saying : Saying
-  stands : SayingStands letter saying at x.1
-  is : x.0 ≡ with_saying said saying
+pub record Says (letter : ℕ) (said : Said) (at : Cursor) (x : Said × Cursor) : Type 0 where
+  pub saying : Saying
+  pub stands : SayingStands letter saying at x.1
+  pub is : x.0 ≡ with_saying said saying
 
 letter_by : (r p l s : Bool) (letter : ℕ) (said : Said) (at : Cursor) (x : Said × Cursor) → (letter == 82) ≡ r → (letter == 80) ≡ p → (letter == 76) ≡ l → (letter == 83) ≡ s
     → (p ≡ false → l ≡ false → s ≡ false → r ≡ false → letter ≡ 66)
@@ -308,7 +308,7 @@ last_letter false false false true b k h ep el es er = absurd cc
 last_letter false false false false true k h ep el es er = refl
 last_letter false false false false false k h ep el es er = absurd cc
 
-saying_stands : (arch : Arch) (letter : ℕ) (said : Said) (at : Cursor) (x : Said × Cursor) → is_letter arch letter ≡ true → letter_at letter said at ≡ Ok x → Says letter said at x
+pub saying_stands : (arch : Arch) (letter : ℕ) (said : Said) (at : Cursor) (x : Said × Cursor) → is_letter arch letter ≡ true → letter_at letter said at ≡ Ok x → Says letter said at x
 unfolding letter_at
 saying_stands arch letter said at x known e =
     letter_by (letter == 82) (letter == 80) (letter == 76) (letter == 83) letter said at x refl refl refl refl
@@ -316,7 +316,7 @@ saying_stands arch letter said at x known e =
     e
 
 -- each letter is one that may stand
-AreKnown : Arch → List ℕ → Type 0
+abbrev pub AreKnown : Arch → List ℕ → Type 0
 AreKnown arch [] = Unit {0}
 AreKnown arch (b ∷ bs) = (is_letter arch b ≡ true) × AreKnown arch bs
 
@@ -325,7 +325,7 @@ both true b h = (refl, h)
 both false b h = absurd cc
 
 are_known : (arch : Arch) (before letters : List ℕ) → are_letters arch before letters ≡ true → AreKnown arch letters
-unfolding are_letters AreKnown
+unfolding are_letters
 are_known arch before [] h = tt
 are_known arch before (b ∷ bs) h =
     let p = both (is_new arch before b) (are_letters arch (before ++ b ∷ []) bs) h in
@@ -346,7 +346,7 @@ record SayAll (letters : List ℕ) (said : Said) (at : Cursor) (result : Said) :
   is : result ≡ all_said said sayings
 
 sayings_stand : (arch : Arch) (letters : List ℕ) (said : Said) (at : Cursor) (result : Said) → AreKnown arch letters → said_by letters said at ≡ Ok result → SayAll letters said at result
-unfolding said_by AreKnown
+unfolding said_by
 sayings_stand arch [] said at result known e = record { sayings = []; stand = tt; is = sym (ok_same said result e) }
 sayings_stand arch (b ∷ letters) said at result known e =
     let t = through (letter_at b said at) _ result e in
@@ -381,13 +381,13 @@ string_by arch place [] at after x s e =
     subst (λ (y : Option (List ℕ) × Cursor). StringStands arch y.0 at y.1) same s
 string_by arch place (b ∷ bs) at after x s e = letters_by arch place b bs at after x (b == 122) (are_letters arch [] bs) refl refl s e
 
-string_stands : (arch : Arch) (at : Cursor) (x : Option (List ℕ) × Cursor) → letters_at arch at ≡ Ok x → StringStands arch x.0 at x.1
+pub string_stands : (arch : Arch) (at : Cursor) (x : Option (List ℕ) × Cursor) → letters_at arch at ≡ Ok x → StringStands arch x.0 at x.1
 unfolding letters_at
 string_stands arch at x e =
     let t = through (text_field at) _ x e in
     string_by arch at.place t.first.0 at t.first.1 x (text_stands at t.first t.read) t.rest
 
-string_known : (arch : Arch) (letters : List ℕ) (from to : Cursor) → StringStands arch (Some letters) from to → AreKnown arch letters
+pub string_known : (arch : Arch) (letters : List ℕ) (from to : Cursor) → StringStands arch (Some letters) from to → AreKnown arch letters
 string_known arch letters from to s = are_known arch [] letters s.1
 
 -- ---- what the augmentation says
@@ -436,7 +436,7 @@ column_by true three version at x t1 t3 known e = inl (eqb-true _ _ t1, number_s
 column_by false true version at x t1 t3 known e = inr (eqb-true _ _ t3, uleb_stands at x e)
 column_by false false version at x t1 t3 known e = absurd cc
 
-column_stands : (version : ℕ) (at : Cursor) (x : ℕ × Cursor) → ((version == 1) || (version == 3)) ≡ true → column_at version at ≡ Ok x → ColumnStands version x.0 at x.1
+pub column_stands : (version : ℕ) (at : Cursor) (x : ℕ × Cursor) → ((version == 1) || (version == 3)) ≡ true → column_at version at ≡ Ok x → ColumnStands version x.0 at x.1
 unfolding column_at
 column_stands version at x known e = column_by (version == 1) (version == 3) version at x refl refl known e
 

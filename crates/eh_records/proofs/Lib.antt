@@ -18,3 +18,5 @@ pub mod Widths
 pub mod FieldsStand
 pub mod EntriesStand
 pub mod Given
+pub mod FieldsFail
+pub mod EntriesFail

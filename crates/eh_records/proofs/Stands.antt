@@ -133,12 +133,12 @@ ends_empty at e (Ok None) h = refl
 ends_empty at e (Ok (Some x)) h = absurd (some_more x.0 (cuts x.1) (sym (starts_with_record at x.0 x.1 h) ∙ e))
 ends_empty at e (Err f) h = absurd (some_fault f (sym (faults at f h) ∙ e))
 
-record Next (at : Cursor) (p : Piece) (xs : List Cutting) : Type 0 where
-  after : Cursor
-  stands : Stands at p after
-  rest : cuts after ≡ xs
+pub record Next (at : Cursor) (p : Piece) (xs : List Cutting) : Type 0 where
+  pub after : Cursor
+  pub stands : Stands at p after
+  pub rest : cuts after ≡ xs
 
-next_of : (at : Cursor) (p : Piece) (xs : List Cutting) → cuts at ≡ Ok p ∷ xs → (r : Found) → piece_at at ≡ r → Next at p xs
+pub next_of : (at : Cursor) (p : Piece) (xs : List Cutting) → cuts at ≡ Ok p ∷ xs → (r : Found) → piece_at at ≡ r → Next at p xs
 next_of at p xs e (Ok None) h = absurd (some_more p xs (sym e ∙ stops at h))
 next_of at p xs e (Ok (Some x)) h =
     let same : first x.0 (cuts x.1) ≡ first p xs = sym (starts_with_record at x.0 x.1 h) ∙ e in

@@ -9,6 +9,7 @@ pub mod Iter
 pub mod Kept
 pub mod Places
 pub mod Raw
+pub mod Refused
 pub mod Section
 pub mod Span
 pub mod Step

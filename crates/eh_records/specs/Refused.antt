@@ -1,0 +1,153 @@
+-- The first fault of a section's records (LSB Core, "The .eh_frame section"): records with their entries are before it, and the next
+-- one can't be cut, or one of its fields isn't there. All fields before that one are, and the fault is named by it.
+use Rattle.std.specs.Prelude.{◌≡◌, ◌≢◌, ◌⊎◌, ℕ, ℤ, ◌+◌, ◌%◌, ◌<◌, ◌≤◌, Bool, true, false, List, [], ◌∷◌, length, take, Option, Some, None}
+use Rattle.std.specs.List.{Contains}
+use Rattle.byteorder.specs.Endian.{little_number}
+use Rattle.sf_bytes.specs.Cursor.{Cursor}
+use Rattle.sf_bytes.specs.Leb.{Uleb, Sleb}
+use Rattle.sf_bytes.specs.Standing.{Stands as FieldStands, Number, Text}
+use Rattle.sf_model.specs.declared.machine.Arch.{Arch}
+use Rattle.eh_pointer.specs.Pointer.{pointer_width, usable_width, format_of, above_format}
+use Rattle.eh_records.specs.declared.fault.RecordFault.{RecordFault}
+use Rattle.eh_records.specs.declared.fault.RecordFault.TheVariants.{Short, Extended, CieVersion, Augmentation, Encoding, CiePointer, Leb}
+use Rattle.eh_records.specs.Augmentation.{are_letters}
+use Rattle.eh_records.specs.Cie.{SharedView}
+use Rattle.eh_records.specs.Cut.{Piece}
+use Rattle.eh_records.specs.Cutting.{Stands, with_common, start}
+use Rattle.eh_records.specs.Fields.{PointerStands, StringStands, Saying, SayingStands, ColumnStands, DataStands, EntryStands}
+use Rattle.eh_records.specs.Section.{EntryView}
+use Rattle.eh_records.specs.Step.{PointerField}
+
+-- ---- a field that isn't there; each fault has the place of the field's first byte
+-- fewer than n bytes are left
+abbrev pub Lacks : (n : ℕ) → Cursor → RecordFault → Type 0
+Lacks n at e = (length at.left < n) × (e ≡ Short at.place)
+
+-- no byte is zero
+abbrev pub LacksText : Cursor → RecordFault → Type 0
+LacksText at e = ((text : List ℕ) (to : Cursor) → FieldStands Text text at to → ⊥) × (e ≡ Short at.place)
+
+-- each byte says that the number goes on
+abbrev pub GoOn : List ℕ → Type 0
+GoOn [] = Unit {0}
+GoOn (b ∷ bs) = (128 ≤ b) × GoOn bs
+
+-- no LEB128 number is there: Short where fewer than ten bytes are left and all go on, else Leb
+abbrev pub IsLebFault : Cursor → RecordFault → Type 0
+IsLebFault at e = ((length at.left < 10) × GoOn at.left × (e ≡ Short at.place)) ⊎ ((GoOn at.left → 10 ≤ length at.left) × (e ≡ Leb at.place))
+
+abbrev pub LacksUleb : Cursor → RecordFault → Type 0
+LacksUleb at e = ((v : ℕ) (to : Cursor) → FieldStands Uleb v at to → ⊥) × IsLebFault at e
+
+abbrev pub LacksSleb : Cursor → RecordFault → Type 0
+LacksSleb at e = ((z : ℤ) (to : Cursor) → FieldStands Sleb z at to → ⊥) × IsLebFault at e
+
+-- ---- cutting
+-- a length word that is cut itself; of the 64-bit form; less than the word after it, or more than what is left
+abbrev pub CutFails : Cursor → RecordFault → Type 0
+CutFails at e =
+    (at.left ≢ []) × (
+    Lacks 4 at e
+    ⊎ ((4 ≤ length at.left) × (
+    ((little_number 4 (take 4 at.left) ≡ 4294967295) × (e ≡ Extended at.place))
+    ⊎ ((little_number 4 (take 4 at.left) ≢ 0) × (little_number 4 (take 4 at.left) ≢ 4294967295)
+    × ((little_number 4 (take 4 at.left) < 4) ⊎ (length at.left < 4 + little_number 4 (take 4 at.left)))
+    × (e ≡ Short at.place))
+    ))
+    )
+
+-- ---- common information entries
+-- a length that isn't there, or more than what is left
+abbrev pub DataFails : Cursor → RecordFault → Type 0
+DataFails at e = LacksUleb at e ⊎ ((len : ℕ) × (after : Cursor) × FieldStands Uleb len at after × Lacks len after e)
+
+-- no text, or one that is neither empty nor a `z` (122) and known letters, none of them twice
+abbrev pub StringFails : Arch → Cursor → RecordFault → Type 0
+StringFails arch at e =
+    LacksText at e
+    ⊎ ((text : List ℕ) × (after : Cursor) × FieldStands Text text at after
+    × (text ≢ []) × ((letters : List ℕ) → text ≡ 122 ∷ letters → are_letters arch [] letters ≡ false) × (e ≡ Augmentation at.place))
+
+-- an encoding that isn't there, or that function pointers can't have
+abbrev pub FormFails : Cursor → RecordFault → Type 0
+FormFails at e = Lacks 1 at e ⊎ ((encoding : ℕ) × (after : Cursor) × FieldStands (Number 1) encoding at after × (usable_width encoding ≡ None) × (e ≡ Encoding at.place))
+
+-- no pointer of this format: a field that is cut, a LEB128 number that isn't there, or a format that there isn't
+abbrev pub PassedFails : Option ℕ → (encoding encoding_place : ℕ) → Cursor → RecordFault → Type 0
+PassedFails (Some width) encoding encoding_place at e = Lacks width at e
+PassedFails None encoding encoding_place at e =
+    ((format_of encoding ≡ 1) × LacksUleb at e)
+    ⊎ (((format_of encoding ≡ 9) × LacksSleb at e)
+    ⊎ ((format_of encoding ≢ 1) × (format_of encoding ≢ 9) × (e ≡ Encoding encoding_place)))
+
+abbrev pub PersonalityFails : Cursor → RecordFault → Type 0
+PersonalityFails at e =
+    Lacks 1 at e
+    ⊎ ((encoding : ℕ) × (after : Cursor) × FieldStands (Number 1) encoding at after × (encoding ≢ 255)
+    × (((above_format encoding % 8 ≡ 5) × (e ≡ Encoding at.place))
+    ⊎ ((above_format encoding % 8 ≢ 5) × PassedFails (pointer_width encoding) encoding at.place after e)))
+
+abbrev pub SayingFails : (letter : ℕ) → Cursor → RecordFault → Type 0
+SayingFails letter at e = ((letter ≡ 82) × FormFails at e) ⊎ (((letter ≡ 80) × PersonalityFails at e) ⊎ ((letter ≡ 76) × Lacks 1 at e))
+
+-- the first letter whose part of the data isn't there
+abbrev pub SayingsFail : (letters : List ℕ) → Cursor → RecordFault → Type 0
+SayingsFail [] at e = ⊥
+SayingsFail (b ∷ letters) at e = SayingFails b at e ⊎ ((s : Saying) × (to : Cursor) × SayingStands b s at to × SayingsFail letters to e)
+
+abbrev pub AugmentationFails : Option (List ℕ) → Cursor → RecordFault → Type 0
+AugmentationFails None at e = ⊥
+AugmentationFails (Some letters) at e = DataFails at e ⊎ ((data_ : Cursor) × (to : Cursor) × DataStands data_ at to × SayingsFail letters data_ e)
+
+abbrev pub ColumnFails : (version : ℕ) → Cursor → RecordFault → Type 0
+ColumnFails version at e = ((version ≡ 1) × Lacks 1 at e) ⊎ ((version ≡ 3) × LacksUleb at e)
+
+-- the first of the fields that isn't there: version, augmentation string, code and data alignment factors, column, augmentation data
+pub data CieFails (arch : Arch) (p : Piece) (e : RecordFault) : Type 0 where
+  no_version : Lacks 1 p.body e → CieFails arch p e
+  other_version : (version : ℕ) (after : Cursor) → FieldStands (Number 1) version p.body after → version ≢ 1 → version ≢ 3 → e ≡ CieVersion p.body.place → CieFails arch p e
+  no_string : (version : ℕ) (a1 : Cursor) → FieldStands (Number 1) version p.body a1 → (version ≡ 1) ⊎ (version ≡ 3) → StringFails arch a1 e → CieFails arch p e
+  no_code : (version : ℕ) (letters : Option (List ℕ)) (a1 a2 : Cursor) → FieldStands (Number 1) version p.body a1 → (version ≡ 1) ⊎ (version ≡ 3) → StringStands arch letters a1 a2 → LacksUleb a2 e → CieFails arch p e
+  no_factor : (version code : ℕ) (letters : Option (List ℕ)) (a1 a2 a3 : Cursor) → FieldStands (Number 1) version p.body a1 → (version ≡ 1) ⊎ (version ≡ 3) → StringStands arch letters a1 a2 → FieldStands Uleb code a2 a3
+      → LacksSleb a3 e → CieFails arch p e
+  no_column : (version code : ℕ) (factor : ℤ) (letters : Option (List ℕ)) (a1 a2 a3 a4 : Cursor) → FieldStands (Number 1) version p.body a1 → (version ≡ 1) ⊎ (version ≡ 3) → StringStands arch letters a1 a2
+      → FieldStands Uleb code a2 a3 → FieldStands Sleb factor a3 a4 → ColumnFails version a4 e → CieFails arch p e
+  no_data : (version code column : ℕ) (factor : ℤ) (letters : Option (List ℕ)) (a1 a2 a3 a4 a5 : Cursor) → FieldStands (Number 1) version p.body a1 → (version ≡ 1) ⊎ (version ≡ 3) → StringStands arch letters a1 a2
+      → FieldStands Uleb code a2 a3 → FieldStands Sleb factor a3 a4 → ColumnStands version column a4 a5 → AugmentationFails letters a5 e → CieFails arch p e
+
+-- ---- frame description entries
+abbrev pub FrameDataFails : (augmented : Bool) → Cursor → RecordFault → Type 0
+FrameDataFails true at e = DataFails at e
+FrameDataFails false at e = ⊥
+
+-- the first of the fields that isn't there: start, size, augmentation data
+abbrev pub FdeFails : SharedView → Piece → RecordFault → Type 0
+FdeFails shared p e =
+    Lacks shared.width p.body e
+    ⊎ ((begin : PointerField) × (a1 : Cursor) × PointerStands shared.width begin p.body a1
+    × (Lacks shared.width a1 e
+    ⊎ ((range : PointerField) × (a2 : Cursor) × PointerStands shared.width range a1 a2 × FrameDataFails shared.augmented a2 e)))
+
+-- no common information entry before it is where it says
+abbrev pub NamesNone : (before : List SharedView) → Piece → Type 0
+NamesNone before p = (shared : SharedView) → Contains before shared → shared.cie.place + p.id ≢ p.id_place
+
+abbrev pub FrameFails : (before : List SharedView) → Piece → RecordFault → Type 0
+FrameFails before p e =
+    (NamesNone before p × (e ≡ CiePointer p.id_place))
+    ⊎ ((shared : SharedView) × Contains before shared × (shared.cie.place + p.id ≡ p.id_place) × FdeFails shared p e)
+
+-- ---- sections
+abbrev pub EntryFails : Arch → (before : List SharedView) → Piece → RecordFault → Type 0
+EntryFails arch before p e = ((p.id ≡ 0) × CieFails arch p e) ⊎ ((p.id ≢ 0) × FrameFails before p e)
+
+-- records and their entries from a cursor on, and then the fault of the next record
+abbrev pub FailsFrom : Arch → (before : List SharedView) → List Piece → List EntryView → Cursor → RecordFault → Type 0
+FailsFrom arch before [] [] at e = CutFails at e ⊎ ((p : Piece) × (after : Cursor) × Stands at p after × EntryFails arch before p e)
+FailsFrom arch before [] (v ∷ vs) at e = ⊥
+FailsFrom arch before (p ∷ ps) [] at e = ⊥
+FailsFrom arch before (p ∷ ps) (v ∷ vs) at e = (after : Cursor) × Stands at p after × EntryStands arch before p v × FailsFrom arch (with_common before v) ps vs after e
+
+-- the first fault of a section
+abbrev pub IsRefused : Arch → List ℕ → RecordFault → Type 0
+IsRefused arch section e = (ps : List Piece) × (vs : List EntryView) × FailsFrom arch [] ps vs (start section) e
