@@ -4,8 +4,8 @@
  * Open the bytes of a section once; then look addresses up, recover a caller's frame, or walk a sample: registers and
  * a copy of a part of the stack. Link with libkiblawen.a (pkg-config --cflags --libs kiblawen). C11 and C++.
  *
- * Nothing allocates and no function calls itself. What each call answers is proved, for all sections, registers and
- * memory, as long as the caller keeps what stands beside the call, and these four:
+ * Nothing allocates and no function calls itself. What each call returns and writes is proved, for all sections,
+ * registers and memory, as long as the caller keeps what is said beside the call, and these four:
  *
  *   1. Pointers are not null (of an array of no elements too: KIBLAWEN_NOTHING serves), are aligned as C aligns their
  *      type, and point to as many elements as are said.
@@ -194,7 +194,7 @@ bool kiblawen_in_order(const struct kiblawen_module *modules, size_t count) KIBL
 /*
  * Walks a sample by the sections of modules: each frame is looked up in the section of the module that has its address.
  *
- * The caller keeps: the modules are in order, as kiblawen_in_order answers it.
+ * The caller keeps: the modules are in order, as kiblawen_in_order says.
  */
 size_t kiblawen_walk_modules(const struct kiblawen_module *modules, size_t count, const struct kiblawen_sample *sample,
                              struct kiblawen_frame *frames, size_t room, struct kiblawen_stop *stop) KIBLAWEN_NONNULL;

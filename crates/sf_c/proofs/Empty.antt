@@ -1,20 +1,23 @@
--- What no functions recover, and the walk by one section's functions.
+-- What no functions recover, and the walk by one section.
 use Rattle.std.proofs.Common.{◌≡◌, ℕ, List, [], None, refl, sym, ap}
 use Rattle.sf_model.specs.declared.recovery.Regs.{Regs}
 use Rattle.sf_model.specs.declared.function.Func.{Func}
 use Rattle.sf_model.specs.Lookup.{found_at}
 use Rattle.sf_model.specs.Memory.{Region}
 use Rattle.sf_model.specs.Walk.{recover_by_rows, section_walk}
+use Rattle.sf_decode.specs.declared.kept.LentSection.{LentSection}
+use Rattle.sf_decode.specs.Kept.{functions_lent}
 use Rattle.sf_c.specs.declared.sample.KiblawenSample.{KiblawenSample}
 use Rattle.sf_c.specs.Sample.{memory_of, thread_of}
+use Rattle.sf_c.specs.Section.{section_row}
 use Rattle.sf_c.specs.Walk.{sample_walk}
 
 pub nothing_recovered : (functions : List Func) (memory : List Region) (asked : ℕ) (regs : Regs) → [] ≡ functions → recover_by_rows functions memory asked regs ≡ None
 unfolding recover_by_rows found_at
 nothing_recovered functions memory asked regs e = ap (λ (fs : List Func). recover_by_rows fs memory asked regs) (sym e)
 
--- where the same functions answer at each address, the walk is that of a section
-pub section_answers : (functions : List Func) (sample : KiblawenSample) (room : ℕ)
-    → sample_walk (λ (address : ℕ). functions) sample room ≡ section_walk functions (thread_of sample) (memory_of sample) room
-unfolding section_walk recover_by_rows
-section_answers functions sample room = refl
+-- the walk by the rows of one section
+pub section_walked : (section : LentSection) (sample : KiblawenSample) (room : ℕ)
+    → sample_walk (section_row section) sample room ≡ section_walk (functions_lent section) (thread_of sample) (memory_of sample) room
+unfolding section_walk
+section_walked section sample room = refl

@@ -7,14 +7,14 @@ use Rattle.sf_model.specs.declared.walk.Frame.{Frame}
 use Rattle.sf_model.specs.declared.walk.Stop.{Stop}
 use Rattle.sf_model.specs.declared.walk.Stop.TheVariants.{Depth}
 use Rattle.sf_model.specs.Memory.{Region}
-use Rattle.sf_model.specs.Walk.{Listing, Recovering, ThreadState, address_before, frames_from, stopped, walk_by}
+use Rattle.sf_model.specs.Walk.{Listing, LookUp, Recovering, ThreadState, address_before, frames_from, recover_by, stopped, walk_by}
 use Rattle.core_walk.specs.declared.step.Caller.{Caller}
 use Rattle.core_walk.specs.Step.{Steps}
 use Rattle.core_walk.proofs.Frames.{IsWalk, after_frames, ends, goes_on, stops, whole_list}
 use Rattle.sf_c.specs.declared.walking.KiblawenFrame.{KiblawenFrame}
 use Rattle.sf_c.specs.declared.sample.KiblawenSample.{KiblawenSample}
 use Rattle.sf_c.specs.Sample.{mask_of, memory_of}
-use Rattle.sf_c.specs.Walk.{Answering, frame_shown, listed, recover_by_those}
+use Rattle.sf_c.specs.Walk.{frame_shown, listed}
 
 -- the frames so far are in the room from its first place on, and what lies after them is as it was
 pub record Shown (frames : List Frame) (count : ℕ) (now before : List KiblawenFrame) : Type 0 where
@@ -115,10 +115,10 @@ fills recovering mask count asked at now before whole none h =
     record { room = end.room; frames = omega (none, h.shown.within, h.shown.room, end.frames, arith); reason = end.reason }
 
 -- a step by what a sample is read as
-pub of_sample : (answering : Answering) (sample : KiblawenSample) (memory : List Region) (mask : Option ℕ) (asked : ℕ) (at : Caller) (frame : Frame) (next so : Result Caller Stop)
-    → memory ≡ memory_of sample → mask ≡ mask_of sample → next ≡ so → Steps (recover_by_those answering memory) mask asked at frame next
-    → Steps (recover_by_those answering (memory_of sample)) (mask_of sample) asked at frame so
-of_sample answering sample memory mask asked at frame next so m k e step =
-    subst (λ (n : Result Caller Stop). Steps (recover_by_those answering (memory_of sample)) (mask_of sample) asked at frame n) e
-    (subst (λ (o : Option ℕ). Steps (recover_by_those answering (memory_of sample)) o asked at frame next) k
-    (subst (λ (r : List Region). Steps (recover_by_those answering r) mask asked at frame next) m step))
+pub of_sample : (look_up : LookUp) (sample : KiblawenSample) (memory : List Region) (mask : Option ℕ) (asked : ℕ) (at : Caller) (frame : Frame) (next so : Result Caller Stop)
+    → memory ≡ memory_of sample → mask ≡ mask_of sample → next ≡ so → Steps (recover_by look_up memory) mask asked at frame next
+    → Steps (recover_by look_up (memory_of sample)) (mask_of sample) asked at frame so
+of_sample look_up sample memory mask asked at frame next so m k e step =
+    subst (λ (n : Result Caller Stop). Steps (recover_by look_up (memory_of sample)) (mask_of sample) asked at frame n) e
+    (subst (λ (o : Option ℕ). Steps (recover_by look_up (memory_of sample)) o asked at frame next) k
+    (subst (λ (r : List Region). Steps (recover_by look_up r) mask asked at frame next) m step))

@@ -1,4 +1,5 @@
 pub mod Opening
+pub mod Section
 pub mod Row
 pub mod Sample
 pub mod Caller

@@ -2,6 +2,7 @@
 use Rattle.std.specs.Prelude.{◌+◌, ◌≤◌, ◌&&◌, ℕ, Bool, nat_le, nat_lt, List, [], length, Option, Some, None}
 use Rattle.std.specs.List.{AllAdjacentBelow, find}
 use Rattle.sf_model.specs.declared.function.Func.{Func}
+use Rattle.sf_model.specs.Lookup.{FoundRow, found_at}
 use Rattle.sf_decode.specs.Kept.{functions_lent}
 use Rattle.sf_c.specs.declared.modules.KiblawenModule.{KiblawenModule}
 
@@ -21,3 +22,7 @@ functions_if_found None = []
 -- the functions that answer at an address: those of the section of the module that has the address in its range
 abbrev pub functions_at : List KiblawenModule → (address : ℕ) → List Func
 functions_at modules address = functions_if_found (find (holds address) modules)
+
+-- the row that holds at an address by them
+abbrev pub module_row : List KiblawenModule → (address : ℕ) → Option FoundRow
+module_row modules address = found_at (functions_at modules address) address

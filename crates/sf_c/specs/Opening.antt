@@ -1,4 +1,4 @@
--- What opening answers: the number of the first fault and its place (the numbers are those of the line of a refused section).
+-- What opening returns: the number of the first fault and its place (the numbers are those of the line of a refused section).
 use Rattle.std.specs.Prelude.{ℕ, List, Option, Some, None, Ok, Err}
 use Rattle.sf_model.specs.Table.{Table}
 use Rattle.sf_decode.specs.Checking.{Check}

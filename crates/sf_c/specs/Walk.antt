@@ -1,28 +1,18 @@
 -- The walk of a sample, as C has it: the walk by rows (GNU SFrame specification, Version 2: what an SFrame section is for), in a
 -- room for some frames.
 use Rattle.std.specs.Prelude.{ℕ, List, ◌++◌, length, map, drop, unwrap_or}
-use Rattle.sf_model.specs.declared.function.Func.{Func}
 use Rattle.sf_model.specs.declared.walk.Frame.{Frame}
 use Rattle.sf_model.specs.declared.walk.Stop.{Stop}
 use Rattle.sf_model.specs.declared.walk.Stop.TheVariants.{Depth, Outside, Unreadable, Signed}
-use Rattle.sf_model.specs.Memory.{Region}
-use Rattle.sf_model.specs.Walk.{Listing, Recovering, recover_by_rows, walk_by}
+use Rattle.sf_model.specs.Walk.{Listing, LookUp, look_up_walk}
 use Rattle.sf_c.specs.declared.sample.KiblawenSample.{KiblawenSample}
 use Rattle.sf_c.specs.declared.walking.KiblawenFrame.{KiblawenFrame}
 use Rattle.sf_c.specs.declared.walking.KiblawenStop.{KiblawenStop}
 use Rattle.sf_c.specs.Sample.{memory_of, thread_of}
 
--- which functions answer at an address
-abbrev pub Answering : Type 0
-Answering = (address : ℕ) → List Func
-
--- what is recovered at an asked address, by the functions that answer there
-abbrev pub recover_by_those : Answering → List Region → Recovering
-recover_by_those answering memory asked regs = recover_by_rows (answering asked) memory asked regs
-
--- the walk of a sample by the functions that answer, of so many frames at most
-abbrev pub sample_walk : Answering → KiblawenSample → (room : ℕ) → Listing
-sample_walk answering sample room = walk_by (recover_by_those answering (memory_of sample)) (thread_of sample) room
+-- the walk of a sample by the rows that are found, of so many frames at most
+abbrev pub sample_walk : LookUp → KiblawenSample → (room : ℕ) → Listing
+sample_walk look_up sample room = look_up_walk look_up (thread_of sample) (memory_of sample) room
 
 -- a frame; one without a row, which is the last, has no canonical frame address
 abbrev pub frame_shown : Frame → KiblawenFrame

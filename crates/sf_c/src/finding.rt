@@ -7,8 +7,9 @@ ghost use Rattle.sf_decode.specs.Kept.{functions_lent};
 ghost use Rattle.sf_lookup.specs.Lookup.{shown};
 ghost use Rattle.sf_c.specs.Row as spec;
 
+use crate::section::row_in;
 use sf_decode::LentSection;
-use sf_lookup::{Found, find};
+use sf_lookup::Found;
 use sf_model::{Base, Key, Ra, Shape};
 
 /// A function, and its row that holds at an address (SFrame Version 2, function descriptor entries and frame row
@@ -107,17 +108,6 @@ fn row_shown(found: &Found) -> KiblawenRow
     }
 }
 
-// What the functions of a section have at an address.
-#[tactic(auto, unfolding(sf_model::specs::Lookup::found_at))]
-fn found_in(section: &LentSection<'_>, pc: u64) -> Option<Found>
-    ensures { result ≡ option_map shown (found_at (functions_lent section.now) pc) }
-{
-    match section.view() {
-        Some(view) => find(&view, pc),
-        None => None,
-    }
-}
-
 /// Looks an address up: whether a row holds there, and then the function and the row. Where none does, as in a closed
 /// section, `row` stays as it was.
 #[unsafe(no_mangle)]
@@ -125,7 +115,7 @@ pub extern "C" fn kiblawen_find(section: &LentSection<'_>, pc: u64, row: &mut Ki
     ensures found { result ≡ is_some (found_at (functions_lent section.now) pc) }
     ensures row { row.new ≡ spec.row_or row.old (option_map shown (found_at (functions_lent section.now) pc)) }
 {
-    match found_in(section, pc) {
+    match row_in(section, pc) {
         Some(found) => {
             *row = row_shown(&found);
             true

@@ -7,7 +7,7 @@
 //! section or by the sections of a process's [`modules`].
 //!
 //! Each export states what the Rust call that it stands on states: `section_check` of `sf_decode`, `found_at` of
-//! `sf_model`, `recover_by_rows` and `walk_by` of `sf_model`. Nothing allocates and no function calls itself. What C has
+//! `sf_model`, `recover_by_rows` and `look_up_walk` of `sf_model`. Nothing allocates and no function calls itself. What C has
 //! to keep is what Rust's references ask (a pointer that is not null, aligned, to as many values as are said, which no
 //! one writes meanwhile), what the section's fields say, and that modules are in order.
 #![tactic(auto)]
@@ -17,5 +17,5 @@ mod modules;
 mod opening;
 mod recovering;
 mod sample;
-mod sections;
+mod section;
 mod walking;

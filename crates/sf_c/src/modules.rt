@@ -4,8 +4,10 @@ ghost use Rattle.std.specs.Prelude.{◌≡◌, ◌↔◌, IsTrue};
 ghost use Rattle.sf_c.specs.Modules as spec;
 ghost use Rattle.sf_c.specs.Modules.{AreInOrder};
 
-use crate::sections::Sections;
+use core_walk::LookUp;
 use sf_decode::{LentSection, View};
+use sf_lookup::Found;
+use sf_model::Arch;
 
 /// A module: `size` addresses from `start` on, and the section that has their functions.
 #[repr(C)]
@@ -33,13 +35,15 @@ pub struct Modules<'m, 'a> {
     ghost in_order: { AreInOrder modules.now },
 }
 
-/// The section of the module that has the address in its range answers.
-impl<'m, 'a> Sections for Modules<'m, 'a> {
+impl<'m, 'a> Modules<'m, 'a> {
+    ghost use Rattle.std.specs.Prelude.{◌≡◌};
+    ghost use Rattle.sf_decode.specs.Kept.{functions_shown};
     ghost use Rattle.sf_c.specs.Modules.{functions_at};
 
-    ghost answering = { λ m. functions_at m.modules.now };
-
-    fn view_at(&self, address: u64) -> Option<View<'_>> {
+    // The view of the section of the module that has the address in its range, if there is one and its section is open.
+    fn view_at(&self, address: u64) -> Option<View<'a>>
+        ensures { functions_shown result ≡ functions_at self.now.modules.now address }
+    {
         let reached = self
             .modules
             .partition_point(|module| module.start <= address);
@@ -51,6 +55,21 @@ impl<'m, 'a> Sections for Modules<'m, 'a> {
             module.section.view()
         } else {
             None
+        }
+    }
+}
+
+/// Modules, by which a walk looks rows up: the section of the module that has the address in its range answers.
+impl<'m, 'a> LookUp for Modules<'m, 'a> {
+    ghost use Rattle.sf_c.specs.Modules.{module_row};
+
+    ghost found_at = { λ m. module_row m.modules.now };
+
+    #[tactic(auto, unfolding(sf_model::specs::Lookup::found_at))]
+    fn look_up(&self, address: u64) -> Option<(Arch, Found)> {
+        match self.view_at(address) {
+            Some(view) => view.look_up(address),
+            None => None,
         }
     }
 }

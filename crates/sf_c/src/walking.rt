@@ -3,14 +3,14 @@
 ghost use Rattle.std.specs.Prelude.{◌≡◌, length};
 ghost use Rattle.sf_decode.specs.Kept.{functions_lent};
 ghost use Rattle.sf_model.specs.Walk.{section_walk};
-ghost use Rattle.core_walk.specs.Step.{Steps};
-ghost use Rattle.sf_c.specs.Modules.{AreInOrder, functions_at};
-ghost use Rattle.sf_c.specs.Sample.{memory_of, one_region, thread_of};
+ghost use Rattle.sf_c.specs.Modules.{AreInOrder, module_row};
+ghost use Rattle.sf_c.specs.Sample.{memory_of, thread_of};
 ghost use Rattle.sf_c.specs.Walk as spec;
 
 use crate::modules::{KiblawenModule, Modules};
-use crate::sample::{KiblawenSample, Stack};
-use crate::sections::Sections;
+use crate::sample::KiblawenSample;
+use crate::section::OneSection;
+use core_walk::LookUp;
 use core_walk::step::{Caller, address_before, step};
 use sf_decode::LentSection;
 use sf_model::{Frame, Stop};
@@ -59,36 +59,16 @@ fn stop_shown(stop: Stop) -> KiblawenStop
     KiblawenStop { kind, value }
 }
 
-// The frame at a program counter, by the functions that answer at the asked address, and its caller or why the walk
-// stops.
-fn frame_at<S: Sections>(
-    sections: &S,
-    mask: Option<u64>,
-    stack: &Stack<'_>,
-    asked: u64,
-    at: &Caller,
-) -> (Frame, Result<Caller, Stop>)
-    ensures { Steps (spec.recover_by_those (S.answering sections.now) (one_region stack.now)) mask asked at.now result.0 result.1 }
-{
-    match sections.view_at(asked) {
-        Some(view) => step(&view, mask, stack, asked, at),
-        None => {
-            let pc = at.pc;
-            (Frame { pc, cfa: None }, Err(Stop::Outside(asked)))
-        }
-    }
-}
-
 // Lists the frames of a sample from the first place of the room on, and returns how many.
-fn walk_into<S: Sections>(
-    sections: &S,
+fn walk_into<L: LookUp>(
+    rows: &L,
     sample: &KiblawenSample<'_>,
     frames: &mut [KiblawenFrame],
     stop: &mut KiblawenStop,
 ) -> usize
-    ensures frames { frames.new ≡ spec.listed (spec.sample_walk (S.answering sections.now) sample.now (length frames.old)).frames frames.old }
-    ensures count { result ≡ length (spec.sample_walk (S.answering sections.now) sample.now (length frames.old)).frames }
-    ensures stop { stop.new ≡ spec.stop_shown (spec.sample_walk (S.answering sections.now) sample.now (length frames.old)).stop }
+    ensures frames { frames.new ≡ spec.listed (spec.sample_walk (L.found_at rows.now) sample.now (length frames.old)).frames frames.old }
+    ensures count { result ≡ length (spec.sample_walk (L.found_at rows.now) sample.now (length frames.old)).frames }
+    ensures stop { stop.new ≡ spec.stop_shown (spec.sample_walk (L.found_at rows.now) sample.now (length frames.old)).stop }
 {
     let stack = sample.memory();
     let mask = sample.known_mask();
@@ -98,7 +78,7 @@ fn walk_into<S: Sections>(
     };
     let mut asked = sample.pc;
     for count in 0..frames.len() {
-        let (frame, next) = frame_at(sections, mask, &stack, asked, &at);
+        let (frame, next) = step(rows, mask, &stack, asked, &at);
         frames[count] = frame_shown(&frame);
         at = match next {
             Ok(caller) => caller,
@@ -126,7 +106,7 @@ pub extern "C" fn kiblawen_walk(
     ensures count { result ≡ length (section_walk (functions_lent section.now) (thread_of sample.now) (memory_of sample.now) (length frames.old)).frames }
     ensures stop { stop.new ≡ spec.stop_shown (section_walk (functions_lent section.now) (thread_of sample.now) (memory_of sample.now) (length frames.old)).stop }
 {
-    walk_into(section, sample, frames, stop)
+    walk_into(&OneSection { section }, sample, frames, stop)
 }
 
 /// The same by the sections of modules: each frame is looked up in the section of the module that has its address in its
@@ -139,9 +119,9 @@ pub extern "C" fn kiblawen_walk_modules(
     stop: &mut KiblawenStop,
 ) -> usize
     requires { AreInOrder modules.now }
-    ensures frames { frames.new ≡ spec.listed (spec.sample_walk (functions_at modules.now) sample.now (length frames.old)).frames frames.old }
-    ensures count { result ≡ length (spec.sample_walk (functions_at modules.now) sample.now (length frames.old)).frames }
-    ensures stop { stop.new ≡ spec.stop_shown (spec.sample_walk (functions_at modules.now) sample.now (length frames.old)).stop }
+    ensures frames { frames.new ≡ spec.listed (spec.sample_walk (module_row modules.now) sample.now (length frames.old)).frames frames.old }
+    ensures count { result ≡ length (spec.sample_walk (module_row modules.now) sample.now (length frames.old)).frames }
+    ensures stop { stop.new ≡ spec.stop_shown (spec.sample_walk (module_row modules.now) sample.now (length frames.old)).stop }
 {
     walk_into(&Modules { modules }, sample, frames, stop)
 }

@@ -2,7 +2,7 @@ use Rattle.std.proofs.Common.{rules, ◌<◌, nat_le, arith, sym, ◌∙◌}
 use Rattle.std.proofs.lemmas.List.Sorted.{IsPartitionPoint-from_clause}
 use Rattle.sf_c.specs.declared.modules.KiblawenModule.{KiblawenModule}
 use Rattle.sf_c.proofs.Reached.{Reaches, answers_last, answers_none, answers_not, starts_parted}
-use Rattle.sf_c.proofs.modules.ModulesSections.view_at.Goals as goal
+use Rattle.sf_c.proofs.modules.Modules.view_at.Goals as goal
 
 pub returns-then-reached-eq0 : goal.returns-then-reached-eq0
 returns-then-reached-eq0 c =
