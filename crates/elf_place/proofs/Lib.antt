@@ -2,3 +2,4 @@ pub mod Marks
 pub mod Values
 pub mod Cursor
 pub mod WithTarget
+pub mod InMemory

@@ -1,6 +1,6 @@
 -- Where the sections of a file lie (ELF64 gABI, "Sections", sh_addr and sh_addralign). `dropped` says of
 -- each section whether it is dropped.
-use Rattle.std.specs.Prelude.{◌≡◌, ℕ, zero, suc, ◌+◌, ◌-◌, ◌*◌, ◌/◌, ◌^◌, ◌==◌, Bool, false, ◌&&◌, ◌||◌, not, List, [], ◌∷◌, ◌++◌, Option, Some, None, Result, Ok, Err, nat_le, nat_lt, slice_index_or, if◌then◌else◌}
+use Rattle.std.specs.Prelude.{◌≡◌, ℕ, zero, suc, ◌+◌, ◌-◌, ◌*◌, ◌/◌, ◌^◌, ◌==◌, ◌<◌, ◌≤◌, Bool, false, ◌&&◌, ◌||◌, not, List, [], ◌∷◌, ◌++◌, Option, Some, None, Result, Ok, Err, nat_le, nat_lt, slice_index_or, if◌then◌else◌}
 use Rattle.std.specs.Int.{is_power_of_two}
 use Rattle.elf_read.specs.Checking.{unless, where_so, ◌>>◌, each_below}
 use Rattle.elf_read.specs.Header.{is_rel}
@@ -52,6 +52,11 @@ is_in_memory start size = nat_lt start (2 ^ 64) && nat_le (start + size) (2 ^ 64
 unfoldable pub overflow_check : List ℕ → List Bool → (base i : ℕ) → Result (Unit {0}) PlaceFault
 overflow_check file dropped base i =
     where_so (is_placed file dropped i) (unless (is_in_memory (start_of file dropped base i) (sh_size file i)) (AddressOverflow i))
+
+-- a section that has an address starts below 2^64, and ends there or before
+abbrev pub LiesInMemory : Option ℕ → (size : ℕ) → Type 0
+LiesInMemory None size = Unit {0}
+LiesInMemory (Some start) size = (start < 2 ^ 64) × (start + size ≤ 2 ^ 64)
 
 -- the sections with call frame information that are not dropped
 unfoldable pub is_kept_eh_frame : List ℕ → List Bool → ℕ → Bool

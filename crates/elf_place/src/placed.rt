@@ -27,8 +27,8 @@ pub struct Placed<'a> {
 }
 
 impl<'a> Placed<'a> {
-    ghost use Rattle.std.specs.Prelude.{◌≡◌, ◌<◌, IfOk, length};
-    ghost use Rattle.elf_read.specs.Sections.{section_count};
+    ghost use Rattle.std.specs.Prelude.{◌≡◌, ◌<◌, ℕ, IfOk, length};
+    ghost use Rattle.elf_read.specs.Sections.{section_count, sh_size};
     ghost use Rattle.elf_read.specs.Views.{file as file_of};
     ghost use Rattle.elf_place.specs.Dropped as drops;
     ghost use Rattle.elf_place.specs.Place as spec;
@@ -55,6 +55,8 @@ impl<'a> Placed<'a> {
         ensures dropped { IfOk result (λ p. seen.dropped p ≡ drops.dropped_sections (file_of elf.now) gone.now) }
         ensures addresses { IfOk result (λ p. seen.addresses p ≡ values_below (section_count (file_of elf.now)) (spec.address_of (file_of elf.now) (drops.dropped_sections (file_of elf.now) gone.now) base)) }
         ensures eh_frames { IfOk result (λ p. seen.eh_frames p ≡ spec.eh_frames_below (file_of elf.now) (drops.dropped_sections (file_of elf.now) gone.now) (section_count (file_of elf.now))) }
+        // Each address is below 2^64, and so is each section's last byte.
+        ensures memory { IfOk result (λ p. (i : ℕ) → spec.LiesInMemory (seen.address_in p i) (sh_size (file_of elf.now) i)) }
         // It is placed exactly where no check fails; else the fault is the first, unless memory ran out.
         ensures exact { spec.Answers result (spec.place_check (file_of elf.now) (drops.dropped_sections (file_of elf.now) gone.now) base) }
     {
