@@ -9,3 +9,4 @@ pub mod FaultLine
 pub mod Frames
 pub mod Summary
 pub mod Slim
+pub mod PltReport

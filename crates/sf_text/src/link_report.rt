@@ -35,7 +35,7 @@ fn push_omitted(text: &mut String, omitted: &[Omitted]) -> Result<(), AllocError
 
 /// Appends the line of an omitted function.
 #[tactic(auto, unfolding(crate::specs::Report::omitted_line))]
-fn push_line(text: &mut String, function: &Omitted) -> Result<(), AllocError>
+pub fn push_line(text: &mut String, function: &Omitted) -> Result<(), AllocError>
     ensures { OnOk result (string_bytes text.new ≡ string_bytes text.old ++ omitted_line function.now) }
 {
     push_span(text, function.start, function.size)?;
@@ -54,7 +54,7 @@ fn push_span(text: &mut String, start: u64, size: u64) -> Result<(), AllocError>
 
 /// Appends where it came from.
 #[tactic(auto, unfolding(crate::specs::Report::origin_text))]
-fn push_origin(text: &mut String, origin: Origin) -> Result<(), AllocError>
+pub fn push_origin(text: &mut String, origin: Origin) -> Result<(), AllocError>
     ensures { OnOk result (string_bytes text.new ≡ string_bytes text.old ++ origin_text origin) }
 {
     let place = Hexadecimal(u64::from(origin.place));

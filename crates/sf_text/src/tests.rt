@@ -7,7 +7,7 @@ mod walks;
 use super::*;
 use arrayvec::ArrayVec;
 use sf_base::MemSink;
-use sf_model::{Group, Notice, Omission, Omitted, Origin, Reason};
+use sf_model::{Group, Notice, Omission, Omitted, Origin, Reason, Span};
 use std::alloc::Global;
 use std::process::Abort;
 use std::test::Fail;
@@ -206,6 +206,36 @@ omit 0x1000 size 48 input 0 section 0 fde 0x18 CfaExpression at 16\n\
 omit 0x1000 size 0 input 0 section 0 fde 0x18 EmptyRange\n\
 omit 0x1000 size 4294967296 input 0 section 0 fde 0x18 SizeTooLarge\n\
 kept 3 omitted 4\n";
+    assert_eq!(rt; text.as_slice(), expected.as_slice());
+    Ok(())
+}
+
+/// A procedure linkage table of the first input.
+fn table(start: u64, size: u64, place: u32) -> Span {
+    Span {
+        start,
+        size,
+        origin: Origin {
+            item: 0,
+            section: 0,
+            place,
+        },
+    }
+}
+
+#[test]
+fn a_table_has_its_line_between_those_of_omitted_functions(rt: HostRuntime) -> Result<(), Fail> {
+    let functions = [
+        omitted(6, Reason::RaRule, Some(0)),
+        omitted(48, Reason::CfaExpression, Some(16)),
+    ];
+    let plts = [table(4080, 32, 96), table(4096, 48, 25)];
+    let text = report_plt(rt.alloc(), 3, &functions, &plts)?;
+    let expected = b"plt 0xff0 size 32 input 0 section 0 fde 0x60\n\
+omit 0x1000 size 6 input 0 section 0 fde 0x18 RaRule at 0\n\
+omit 0x1000 size 48 input 0 section 0 fde 0x18 CfaExpression at 16\n\
+plt 0x1000 size 48 input 0 section 0 fde 0x19\n\
+kept 3 omitted 2 plt 2\n";
     assert_eq!(rt; text.as_slice(), expected.as_slice());
     Ok(())
 }
