@@ -221,7 +221,7 @@ is_kept_none : (omission : Option Omission) → is_none omission ≡ true → om
 is_kept_none None e = refl
 is_kept_none (Some omission) e = cc
 
-function_recovers : (f : Function) (pc : ℕ) (regs : Regs) (memory : List Region) → is_kept f ≡ true → holds_address pc f ≡ true
+pub function_recovers : (f : Function) (pc : ℕ) (regs : Regs) (memory : List Region) → is_kept f ≡ true → holds_address pc f ≡ true
     → option_map defined (option_map (λ (x : FoundRow). recovery x.row.content x.func.key regs memory) (row_in pc (expressed_of f))) ≡ Some (recovered_in memory pc regs f)
 function_recovers f pc regs memory kept holds =
     let w = within pc f.start f.size holds in

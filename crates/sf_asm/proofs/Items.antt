@@ -17,12 +17,12 @@ use Rattle.sf_asm.specs.Relocated.{Values, on_pointers, patched_values}
 use Rattle.sf_asm.proofs.ReadInputs.{functions_after-cons, functions_after-nil}
 
 -- the value behind a step
-record IsBehind {A B F : Type 0} (first : Result A F) (next : A → Result B F) (end : B) : Type 0 where
-  value : A
-  first_is : first ≡ Ok value
-  next_is : next value ≡ Ok end
+pub record IsBehind {A B F : Type 0} (first : Result A F) (next : A → Result B F) (end : B) : Type 0 where
+  pub value : A
+  pub first_is : first ≡ Ok value
+  pub next_is : next value ≡ Ok end
 
-behind : {A B F : Type 0} (first : Result A F) (next : A → Result B F) (end : B) → (first >>= next) ≡ Ok end → IsBehind first next end
+pub behind : {A B F : Type 0} (first : Result A F) (next : A → Result B F) (end : B) → (first >>= next) ≡ Ok end → IsBehind first next end
 behind (Ok x) next end e = record { value = x; first_is = refl; next_is = e }
 behind (Err fault) next end e = cc
 
@@ -38,7 +38,7 @@ abbrev item_in : (other : ℕ) → Result Function AsmFault → ℕ
 item_in other (Ok f) = f.origin.item
 item_in other (Err fault) = other
 
-abbrev list_in : {F : Type 0} → Result (List Function) F → List Function
+abbrev pub list_in : {F : Type 0} → Result (List Function) F → List Function
 list_in (Ok fs) = fs
 list_in (Err fault) = []
 
@@ -82,7 +82,7 @@ object_of_item item seen object fs e =
     let sections = behind (sections_of seen object) (sections_functions (machine_of object) item) fs e in
     sections_of_item (machine_of object) item sections.value fs sections.next_is
 
-unnamed : (item : ℕ) (given : Result (List Function) AsmFault) (fs : List Function) → named (gather.Input item) given ≡ Ok fs → given ≡ Ok fs
+pub unnamed : (item : ℕ) (given : Result (List Function) AsmFault) (fs : List Function) → named (gather.Input item) given ≡ Ok fs → given ≡ Ok fs
 unnamed item (Ok gs) fs e = ap Ok (let is : gs ≡ fs = cc in is)
 unnamed item (Err fault) fs e = cc
 

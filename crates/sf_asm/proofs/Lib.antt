@@ -23,3 +23,4 @@ pub mod Accepting
 pub mod MadeRows
 pub mod Lending
 pub mod ByStart
+pub mod OneMachine

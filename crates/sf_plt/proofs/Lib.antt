@@ -1,0 +1,13 @@
+pub mod Form
+pub mod TextFollows
+pub mod Rows
+pub mod Values
+pub mod Initial
+pub mod Recovers
+pub mod Cases
+pub mod Apart
+pub mod Found
+pub mod Writable
+pub mod Sorted
+pub mod Faults
+pub mod Worked

@@ -1,0 +1,168 @@
+-- Omitted functions, sorted out as far as they were gone over.
+use Rattle.std.specs.Prelude.{All, not}
+use Rattle.std.specs.List.{cons_option, filter, flat_map}
+use Rattle.std.proofs.Common.{◌≡◌, ℕ, zero, suc, ◌+◌, ◌<◌, Bool, true, false, cond, List, [], ◌∷◌, ◌++◌, length, get_or, take, map, Option, Some, None, refl, sym, ap, ◌∙◌, append_assoc, arith}
+use Rattle.std.proofs.Math.ListN.{get_or-map}
+use Rattle.std.proofs.lemmas.List.{map-append, take_more, append-nil, length-map}
+use Rattle.std.proofs.lemmas.List.Concat.{flat_map-append}
+use Rattle.std.proofs.lemmas.List.Elements.{filter-append, filter_map-append}
+use Rattle.sf_model.specs.declared.content.Content.{Content}
+use Rattle.sf_model.specs.declared.function.Func.{Func}
+use Rattle.sf_model.specs.declared.omission.Omission.{Omission}
+use Rattle.sf_model.specs.declared.omission.Omitted.{Omitted}
+use Rattle.sf_model.specs.declared.machine.Arch.{Arch}
+use Rattle.sf_model.specs.declared.omission.Span.{Span}
+use Rattle.sf_asm.specs.declared.entry.Entry.{Entry}
+use Rattle.sf_asm.specs.declared.entry.Outcome.{Outcome}
+use Rattle.sf_asm.specs.declared.source.Source.{Source}
+use Rattle.sf_asm.specs.Entry.{omitted_in, omitted_of}
+use Rattle.sf_asm.specs.Functions.{Function}
+use Rattle.sf_asm.specs.Kept.{entry_of, is_kept, omitted_functions}
+use Rattle.sf_asm.specs.Sources.{functions_lent, source_function}
+use Rattle.sf_plt.specs.Answers.{others_in, span_of}
+use Rattle.sf_plt.specs.Plt.{is_plt, initial_content}
+use Rattle.sf_plt.specs.Sorting.{AreOmitted}
+use Rattle.sf_plt.specs.Written.{plt_pair}
+use Rattle.sf_plt.proofs.Form.{plt_form}
+use Rattle.sf_plt.proofs.Cases.{Case, kept_case, table_case, other_case, case_of}
+
+-- ---- functions that are omitted
+not_kept : (f : Function) (fs : List Function) (b : Bool) → is_kept f ≡ b → AreOmitted fs → AreOmitted (cond (not b) (f ∷ fs) fs)
+not_kept f fs true e h = h
+not_kept f fs false e h = (e, h)
+
+pub are_omitted : (fs : List Function) → AreOmitted (omitted_functions fs)
+are_omitted [] = tt
+are_omitted (f ∷ fs) = not_kept f (omitted_functions fs) (is_kept f) refl (are_omitted fs)
+
+-- one line for each
+record OneOmitted (f : Function) (fs : List Function) : Type 0 where
+  line : Omitted
+  alone : omitted_of (map entry_of (f ∷ [])) ≡ line ∷ []
+  front : omitted_of (map entry_of (f ∷ fs)) ≡ line ∷ omitted_of (map entry_of fs)
+
+abbrev omitted_by : Function → Outcome → List Function → List Omitted
+omitted_by f o fs = cons_option (omitted_in (entry_of f).span o) (omitted_of (map entry_of fs))
+
+one_omitted : (f : Function) (fs : List Function) → is_kept f ≡ false → OneOmitted f fs
+one_omitted f fs e = at_case (case_of f)
+  where
+    at_case : Case f → OneOmitted f fs
+    at_case (kept_case k) = let is : true ≡ false = sym k.kept ∙ e in absurd cc
+    at_case (table_case t) = record {
+      line = record { start = f.start; size = f.size; origin = f.origin; omission = t.omission };
+      alone = ap (λ (o : Outcome). omitted_by f o []) t.outcome_is;
+      front = ap (λ (o : Outcome). omitted_by f o fs) t.outcome_is;
+    }
+    at_case (other_case t) = record {
+      line = record { start = f.start; size = f.size; origin = f.origin; omission = t.omission };
+      alone = ap (λ (o : Outcome). omitted_by f o []) t.outcome_is;
+      front = ap (λ (o : Outcome). omitted_by f o fs) t.outcome_is;
+    }
+
+pub omitted_count : (fs : List Function) → AreOmitted fs → length (omitted_of (map entry_of fs)) ≡ length fs
+omitted_count [] h = refl
+omitted_count (f ∷ fs) h = let one = one_omitted f fs h.0 in ap length one.front ∙ ap suc (omitted_count fs h.1)
+
+pub omitted_at : (fs : List Function) → AreOmitted fs → (k : ℕ) (d : Function) (e : Omitted) → k < length fs → omitted_of (map entry_of (get_or fs k d ∷ [])) ≡ get_or (omitted_of (map entry_of fs)) k e ∷ []
+omitted_at [] h k d e lt = absurd (omega (arith, lt))
+omitted_at (f ∷ fs) h zero d e lt = let one = one_omitted f fs h.0 in one.alone ∙ sym (ap (λ (os : List Omitted). get_or os 0 e ∷ []) one.front)
+omitted_at (f ∷ fs) h (suc k) d e lt = let one = one_omitted f fs h.0 in omitted_at fs h.1 k d e (omega (arith, lt)) ∙ sym (ap (λ (os : List Omitted). get_or os (suc k) e ∷ []) one.front)
+
+-- the omitted functions' lines are those of all
+pub lines_alone : (fs : List Function) → omitted_of (map entry_of fs) ≡ omitted_of (map entry_of (omitted_functions fs))
+lines_alone [] = refl
+lines_alone (f ∷ fs) = at_case (case_of f) (lines_alone fs)
+  where
+    left : (omission : Omission) → is_kept f ≡ false → omitted_of (map entry_of fs) ≡ omitted_of (map entry_of (omitted_functions fs)) → omitted_of (map entry_of (f ∷ fs)) ≡ omitted_of (map entry_of (omitted_functions (f ∷ fs)))
+    left omission e h =
+        let one = one_omitted f fs e in
+        let other = one_omitted f (omitted_functions fs) e in
+        ap (cons_option (omitted_in (entry_of f).span (entry_of f).outcome)) h
+        ∙ sym (ap (λ (b : Bool). omitted_of (map entry_of (cond (not b) (f ∷ omitted_functions fs) (omitted_functions fs)))) e)
+
+    at_case : Case f → omitted_of (map entry_of fs) ≡ omitted_of (map entry_of (omitted_functions fs)) → omitted_of (map entry_of (f ∷ fs)) ≡ omitted_of (map entry_of (omitted_functions (f ∷ fs)))
+    at_case (kept_case k) h =
+        ap (λ (o : Outcome). omitted_by f o fs) k.outcome_is ∙ h ∙ sym (ap (λ (b : Bool). omitted_of (map entry_of (cond (not b) (f ∷ omitted_functions fs) (omitted_functions fs)))) k.kept)
+    at_case (table_case t) h = left t.omission t.kept h
+    at_case (other_case o) h = left o.omission o.kept h
+
+-- ---- one function more
+pub lent_more : (sources : List Source) (k : ℕ) (d : Source) → k < length sources → functions_lent (take (k + 1) sources) ≡ functions_lent (take k sources) ++ source_function (get_or sources k d) ∷ []
+lent_more sources k d lt = ap functions_lent (take_more sources k d lt) ∙ map-append source_function (take k sources) (get_or sources k d ∷ [])
+
+pub pairs_more : (fs : List Function) (f : Function) → is_plt f ≡ true → flat_map plt_pair (filter is_plt (fs ++ f ∷ [])) ≡ flat_map plt_pair (filter is_plt fs) ++ plt_pair f
+pairs_more fs f e =
+    ap (flat_map plt_pair) (filter-append is_plt fs (f ∷ []) ∙ ap (λ (b : Bool). filter is_plt fs ++ cond b (f ∷ []) []) e)
+    ∙ flat_map-append plt_pair (filter is_plt fs) (f ∷ []) ∙ ap (λ (gs : List Func). flat_map plt_pair (filter is_plt fs) ++ gs) (append-nil (plt_pair f))
+
+pub spans_more : (fs : List Function) (f : Function) → is_plt f ≡ true → map span_of (filter is_plt (fs ++ f ∷ [])) ≡ map span_of (filter is_plt fs) ++ span_of f ∷ []
+spans_more fs f e =
+    ap (map span_of) (filter-append is_plt fs (f ∷ []) ∙ ap (λ (b : Bool). filter is_plt fs ++ cond b (f ∷ []) []) e) ∙ map-append span_of (filter is_plt fs) (f ∷ [])
+
+pub others_same : (fs : List Function) (f : Function) → is_plt f ≡ true → others_in (fs ++ f ∷ []) ≡ others_in fs
+others_same fs f e =
+    filter-append (λ (g : Function). not (is_plt g)) fs (f ∷ []) ∙ ap (λ (b : Bool). others_in fs ++ cond (not b) (f ∷ []) []) e ∙ append-nil (others_in fs)
+
+pub tables_same : (fs : List Function) (f : Function) → is_plt f ≡ false → filter is_plt (fs ++ f ∷ []) ≡ filter is_plt fs
+tables_same fs f e = filter-append is_plt fs (f ∷ []) ∙ ap (λ (b : Bool). filter is_plt fs ++ cond b (f ∷ []) []) e ∙ append-nil (filter is_plt fs)
+
+pub others_more : (fs : List Function) (f : Function) → is_plt f ≡ false → omitted_of (map entry_of (others_in (fs ++ f ∷ []))) ≡ omitted_of (map entry_of (others_in fs)) ++ omitted_of (map entry_of (f ∷ []))
+others_more fs f e =
+    ap (λ (gs : List Function). omitted_of (map entry_of gs)) (filter-append (λ (g : Function). not (is_plt g)) fs (f ∷ []) ∙ ap (λ (b : Bool). others_in fs ++ cond (not b) (f ∷ []) []) e)
+    ∙ ap omitted_of (map-append entry_of (others_in fs) (f ∷ [])) ∙ filter_map-append (λ (x : Entry). omitted_in x.span x.outcome) (map entry_of (others_in fs)) (map entry_of (f ∷ []))
+
+-- ---- the step of a source
+pub lent_step : (sources : List Source) (k : ℕ) (s : Source) → k < length sources → s ≡ get_or sources k s → functions_lent (take (k + 1) sources) ≡ functions_lent (take k sources) ++ source_function s ∷ []
+lent_step sources k s lt is = lent_more sources k s lt ∙ ap (λ (x : Source). functions_lent (take k sources) ++ source_function x ∷ []) (sym is)
+
+pub lent_is : (sources : List Source) (k : ℕ) (s : Source) → s ≡ get_or sources k s → get_or (functions_lent sources) k (source_function s) ≡ source_function s
+lent_is sources k s is = get_or-map source_function sources k s ∙ ap source_function (sym is)
+
+pub lent_arch : (arch : Arch) (sources : List Source) (k : ℕ) (s : Source) → k < length sources → s ≡ get_or sources k s → All (λ (f : Function). f.arch ≡ arch) (functions_lent sources) → s.arch ≡ arch
+lent_arch arch sources k s lt is h =
+    let long = length-map sources source_function in
+    ap (λ (f : Function). f.arch) (sym (lent_is sources k s is)) ∙ h k (source_function s) (omega (arith, lt, long))
+
+pub lent_omitted : (sources : List Source) (omitted : List Omitted) (k : ℕ) (s : Source) (e : Omitted) → k < length sources → s ≡ get_or sources k s → AreOmitted (functions_lent sources) → omitted ≡ omitted_of (map entry_of (functions_lent sources))
+    → omitted_of (map entry_of (source_function s ∷ [])) ≡ get_or omitted k e ∷ []
+lent_omitted sources omitted k s e lt is left are =
+    let long = length-map sources source_function in
+    ap (λ (f : Function). omitted_of (map entry_of (f ∷ []))) (sym (lent_is sources k s is)) ∙ omitted_at (functions_lent sources) left k (source_function s) e (omega (arith, lt, long))
+    ∙ sym (ap (λ (os : List Omitted). get_or os k e ∷ []) are)
+
+pub table_chosen : (f : Function) (content : Content) (given : Option Content) → given ≡ Some content → given ≡ cond (is_plt f) (initial_content f) None → is_plt f ≡ true
+table_chosen f content given e is = at_test (is_plt f) (sym e ∙ is)
+  where
+    at_test : (b : Bool) → Some content ≡ cond b (initial_content f) None → b ≡ true
+    at_test true h = refl
+    at_test false h = cc
+
+pub none_chosen : (f : Function) (given : Option Content) → given ≡ None → given ≡ cond (is_plt f) (initial_content f) None → is_plt f ≡ false
+none_chosen f given e is = at_test (is_plt f) refl (sym e ∙ is)
+  where
+    at_test : (b : Bool) → is_plt f ≡ b → None ≡ cond b (initial_content f) None → b ≡ false
+    at_test true t h = let form = plt_form f t in let there = h ∙ form.initial.is in cc
+    at_test false t h = refl
+
+-- what is written, what is a table, and what is omitted, one source on
+pub written_on : (kept before after : List Func) (fs gs : List Function) (f : Function) → gs ≡ fs ++ f ∷ [] → is_plt f ≡ true → after ≡ before ++ plt_pair f → before ≡ kept ++ flat_map plt_pair (filter is_plt fs) → after ≡ kept ++ flat_map plt_pair (filter is_plt gs)
+written_on kept before after fs gs f on t e is =
+    e ∙ ap (λ (l : List Func). l ++ plt_pair f) is ∙ append_assoc kept (flat_map plt_pair (filter is_plt fs)) (plt_pair f)
+    ∙ ap (λ (l : List Func). kept ++ l) (sym (pairs_more fs f t) ∙ sym (ap (λ (hs : List Function). flat_map plt_pair (filter is_plt hs)) on))
+
+pub written_stays : (kept before : List Func) (fs gs : List Function) (f : Function) → gs ≡ fs ++ f ∷ [] → is_plt f ≡ false → before ≡ kept ++ flat_map plt_pair (filter is_plt fs) → before ≡ kept ++ flat_map plt_pair (filter is_plt gs)
+written_stays kept before fs gs f on t is = is ∙ ap (λ (hs : List Function). kept ++ flat_map plt_pair hs) (sym (tables_same fs f t) ∙ sym (ap (filter is_plt) on))
+
+pub plts_on : (before after : List Span) (fs gs : List Function) (f : Function) → gs ≡ fs ++ f ∷ [] → is_plt f ≡ true → after ≡ before ++ span_of f ∷ [] → before ≡ map span_of (filter is_plt fs) → after ≡ map span_of (filter is_plt gs)
+plts_on before after fs gs f on t e is = e ∙ ap (λ (l : List Span). l ++ span_of f ∷ []) is ∙ sym (spans_more fs f t) ∙ sym (ap (λ (hs : List Function). map span_of (filter is_plt hs)) on)
+
+pub plts_stay : (before : List Span) (fs gs : List Function) (f : Function) → gs ≡ fs ++ f ∷ [] → is_plt f ≡ false → before ≡ map span_of (filter is_plt fs) → before ≡ map span_of (filter is_plt gs)
+plts_stay before fs gs f on t is = is ∙ ap (map span_of) (sym (tables_same fs f t) ∙ sym (ap (filter is_plt) on))
+
+pub omitted_on : (before after : List Omitted) (line : Omitted) (fs gs : List Function) (f : Function) → gs ≡ fs ++ f ∷ [] → is_plt f ≡ false → after ≡ before ++ line ∷ [] → omitted_of (map entry_of (f ∷ [])) ≡ line ∷ [] → before ≡ omitted_of (map entry_of (others_in fs)) → after ≡ omitted_of (map entry_of (others_in gs))
+omitted_on before after line fs gs f on t e one is =
+    e ∙ ap (λ (l : List Omitted). l ++ line ∷ []) is ∙ ap (λ (l : List Omitted). omitted_of (map entry_of (others_in fs)) ++ l) (sym one) ∙ sym (others_more fs f t) ∙ sym (ap (λ (hs : List Function). omitted_of (map entry_of (others_in hs))) on)
+
+pub omitted_stay : (before : List Omitted) (fs gs : List Function) (f : Function) → gs ≡ fs ++ f ∷ [] → is_plt f ≡ true → before ≡ omitted_of (map entry_of (others_in fs)) → before ≡ omitted_of (map entry_of (others_in gs))
+omitted_stay before fs gs f on t is = is ∙ ap (λ (hs : List Function). omitted_of (map entry_of hs)) (sym (others_same fs f t) ∙ sym (ap others_in on))

@@ -1,0 +1,61 @@
+-- What linking with procedure linkage tables answers, by the definitions of what it comes to.
+use Rattle.std.specs.Prelude.{◌≡◌, ◌⊎◌, ℕ, not, List, length, map, Option, None, Ok, Err}
+use Rattle.std.specs.Option.{option_map}
+use Rattle.std.specs.List.{filter}
+use Rattle.sf_model.specs.declared.function.Func.{Func}
+use Rattle.sf_model.specs.declared.machine.Arch.{Arch}
+use Rattle.sf_model.specs.declared.omission.Omitted.{Omitted}
+use Rattle.sf_model.specs.declared.omission.Span.{Span}
+use Rattle.sf_model.specs.declared.recovery.Regs.{Regs}
+use Rattle.sf_model.specs.Memory.{Region}
+use Rattle.sf_model.specs.Section.{Section}
+use Rattle.sf_model.specs.Tight.{Narrow, Tight}
+use Rattle.sf_model.specs.Walk.{recover_by_rows}
+use Rattle.sf_write.specs.Section.{table_of}
+use Rattle.sf_express.specs.Alike.{defined}
+use Rattle.sf_asm.specs.declared.fault.LinkFault.{LinkFault}
+use Rattle.sf_asm.specs.declared.fault.LinkFault.TheVariants.{NoMemory}
+use Rattle.sf_asm.specs.Entry.{omitted_of}
+use Rattle.sf_asm.specs.Functions.{Function, Object, functions_of}
+use Rattle.sf_asm.specs.Inputs.{HaveMachine, first_item}
+use Rattle.sf_asm.specs.Kept.{entry_of, kept_functions, omitted_functions}
+use Rattle.sf_asm.specs.Sources.{AreByStart}
+use Rattle.sf_plt.specs.Linking.{LinksPlts, plt_link_fault}
+use Rattle.sf_plt.specs.Plt.{is_plt, plt_functions}
+use Rattle.sf_plt.specs.Written.{recovered_with_plts, written_functions}
+
+-- At each address, with all registers and all memory, these functions recover what is recovered with procedure linkage tables, where what
+-- can't be read has the same address.
+abbrev pub RecoversWithPlts : List Func → List Function → Type 0
+RecoversWithPlts written functions = (address : ℕ) (regs : Regs) (memory : List Region)
+    → option_map defined (recover_by_rows written memory address regs) ≡ recovered_with_plts functions memory address regs
+
+abbrev pub span_of : Function → Span
+span_of f = record { start = f.start; size = f.size; origin = f.origin }
+
+-- those that are no procedure linkage tables
+abbrev pub others_in : List Function → List Function
+others_in functions = filter (λ (f : Function). not (is_plt f)) functions
+
+-- These bytes are the section of inputs after an item of this machine or of none: their functions are read and none is refused, all items
+-- have one machine, the bytes are a section of what is written of the functions by rising start, without gaps and with the least widths,
+-- which recovers what it should, and so many functions are kept, these are omitted, and these are procedure linkage tables.
+pub record IsPltLinked (before : Option Arch) (objects : List Object) (at : ℕ) (section : List ℕ) (kept : ℕ) (omitted : List Omitted) (plts : List Span) : Type 0 where
+  pub functions : List Function
+  pub are : functions_of (first_item before) objects ≡ Ok functions
+  pub arch : Arch
+  pub machine : HaveMachine before objects arch
+  pub sorted : List Function
+  pub by_start : AreByStart functions sorted
+  pub accepted : plt_link_fault at sorted ≡ None
+  pub is : Section section at (table_of arch (written_functions sorted))
+  pub recovers : RecoversWithPlts (written_functions sorted) functions
+  pub tight : Tight section at (table_of arch (written_functions sorted))
+  pub narrow : Narrow section (table_of arch (written_functions sorted))
+  pub kept_is : kept ≡ length (kept_functions sorted)
+  pub omitted_are : omitted ≡ omitted_of (map entry_of (others_in (omitted_functions sorted)))
+  pub plts_are : plts ≡ map span_of (plt_functions sorted)
+
+-- a fault is the first one, or memory ran out
+abbrev pub IsFirstPltLinked : (before : Option Arch) → List Object → (at : ℕ) → LinkFault → Type 0
+IsFirstPltLinked before objects at fault = (fault ≡ NoMemory) ⊎ LinksPlts before objects at (Err fault)

@@ -1,0 +1,51 @@
+-- What linking comes to where procedure linkage tables are written: the functions in order, or the first fault.
+use Rattle.std.specs.Prelude.{◌≡◌, ◌+◌, ◌*◌, ◌^◌, ℕ, nat_lt, List, length, map, sum_by, Option, Some, None, Result, Ok, Err, if◌then◌else◌}
+use Rattle.std.specs.Option.{option_map}
+use Rattle.sf_model.specs.declared.machine.Arch.{Arch}
+use Rattle.sf_write.specs.Reach.{first_out_of_reach}
+use Rattle.sf_asm.specs.declared.fault.GatherFault.{GatherFault}
+use Rattle.sf_asm.specs.declared.fault.GatherFault.TheVariants.{TooManyFunctions, TooManyRows, NoMemory as GatherNoMemory}
+use Rattle.sf_asm.specs.declared.fault.LinkFault.{LinkFault}
+use Rattle.sf_asm.specs.declared.fault.LinkFault.TheVariants.{Gather, OutOfReach, NoMemory}
+use Rattle.sf_asm.specs.Functions.{Function, Object}
+use Rattle.sf_asm.specs.Inputs.{all_functions}
+use Rattle.sf_asm.specs.Kept.{entry_of}
+use Rattle.sf_asm.specs.Linking.{functions_fault, or_later}
+use Rattle.sf_asm.specs.Order.{entry_rows}
+use Rattle.sf_asm.specs.Sources.{AreByStart}
+use Rattle.sf_plt.specs.Plt.{plt_functions}
+use Rattle.sf_plt.specs.Written.{written_functions}
+
+-- the most functions and rows, where each procedure linkage table counts as one function more and as 4 rows
+abbrev pub further_fault : (most_functions most_rows functions rows plts : ℕ) → Option GatherFault
+further_fault most_functions most_rows functions rows plts =
+    if nat_lt most_functions (functions + plts) then Some TooManyFunctions else
+    if nat_lt most_rows (rows + 4 * plts) then Some TooManyRows else None
+
+-- at most 2^21 functions, omitted ones included, and 2^24 rows
+unfoldable pub plts_fault : List Function → Option GatherFault
+plts_fault sorted = further_fault (2 ^ 21) (2 ^ 24) (length sorted) (sum_by entry_rows (map entry_of sorted)) (length (plt_functions sorted))
+
+-- of functions by rising start: what is tried in all links; then the same limits with procedure linkage tables; then a function that is
+-- written out of reach
+abbrev pub plt_link_fault : (at : ℕ) → List Function → Option LinkFault
+plt_link_fault at sorted =
+    or_later (option_map Gather (or_later (functions_fault (map entry_of sorted)) (plts_fault sorted)))
+    (option_map OutOfReach (first_out_of_reach at 0 (written_functions sorted)))
+
+abbrev pub unless_fault : {F : Type 0} → Option F → List Function → Result (List Function) F
+unless_fault None sorted = Ok sorted
+unless_fault (Some fault) sorted = Err fault
+
+abbrev pub LinksPltsFrom : (at : ℕ) → Result (List Function) GatherFault → Result (List Function) LinkFault → Type 0
+LinksPltsFrom at (Ok functions) result = (sorted : List Function) × AreByStart functions sorted × (result ≡ unless_fault (plt_link_fault at sorted) sorted)
+LinksPltsFrom at (Err fault) result = result ≡ Err (Gather fault)
+
+-- linking inputs, after an item of this machine or of none, for this address comes to this
+abbrev pub LinksPlts : (before : Option Arch) → List Object → (at : ℕ) → Result (List Function) LinkFault → Type 0
+LinksPlts before objects at result = LinksPltsFrom at (all_functions before objects) result
+
+-- a fault of gathering, where out of memory stands alone
+abbrev pub wraps_gathering : GatherFault → LinkFault
+wraps_gathering GatherNoMemory = NoMemory
+wraps_gathering fault = Gather fault

@@ -1,0 +1,94 @@
+-- The plain lazy procedure linkage table of AMD64: which functions are one, and what is recovered in them (DWARF 5, section 6.4). The
+-- text of its instructions is this project's own choice: no claim is made which linkers write it.
+use Rattle.std.specs.Prelude.{◌+◌, ◌-◌, ◌%◌, ◌==◌, ◌&&◌, ℕ, ℤ, Bool, true, false, is_none, not, nat_lt, bytes_eq, List, [], ◌∷◌, Option, Some, None, Result, Ok, Err}
+use Rattle.std.specs.List.{filter}
+use Rattle.sf_model.specs.declared.content.Content.{Content}
+use Rattle.sf_model.specs.declared.machine.Arch.{Arch}
+use Rattle.sf_model.specs.declared.machine.Arch.TheVariants.{Amd64, Aarch64}
+use Rattle.sf_model.specs.declared.machine.Base.TheVariants.{Sp}
+use Rattle.sf_model.specs.declared.omission.Reason.{Reason}
+use Rattle.sf_model.specs.declared.recovery.Regs.{Regs}
+use Rattle.sf_model.specs.Memory.{Region}
+use Rattle.cfa_insn.specs.Instruction.{advance_loc, nop, def_cfa_offset, def_cfa_expression}
+use Rattle.cfa_insn.specs.Listing.{Item, listing}
+use Rattle.cfa_machine.specs.declared.fault.MachineFault.{MachineFault}
+use Rattle.cfa_machine.specs.declared.rule.CfaRule.{CfaRule}
+use Rattle.cfa_machine.specs.declared.rule.CfaRule.TheVariants as cfa
+use Rattle.cfa_machine.specs.At.{row_at_offset}
+use Rattle.cfa_machine.specs.Columns.{row_from}
+use Rattle.cfa_machine.specs.FirstFault.{first_fault}
+use Rattle.cfa_machine.specs.FullRow.{columns_of}
+use Rattle.cfa_machine.specs.Recovery.{RuleRecovery, frame_address_by, recovery_at}
+use Rattle.sf_express.specs.Expressed.{reason_of, same_base}
+use Rattle.sf_express.specs.Parts.{content_of}
+use Rattle.sf_asm.specs.Functions.{Function}
+use Rattle.sf_asm.specs.Kept.{facts_of, full_row, omitted_functions}
+use Rattle.sf_plt.specs.Expression.{expression_value, plt_expression}
+
+-- ---- which functions
+abbrev pub is_amd64 : Arch → Bool
+is_amd64 Amd64 = true
+is_amd64 Aarch64 = false
+
+abbrev pub is_nop : Item → Bool
+is_nop (Ok (place, nop)) = true
+is_nop (Ok (place, other)) = false
+is_nop (Err fault) = false
+
+-- the instructions but for DW_CFA_nop
+abbrev pub without_nops : List Item → List Item
+without_nops items = filter (λ (x : Item). not (is_nop x)) items
+
+-- DW_CFA_def_cfa_offset 16, DW_CFA_advance_loc 6, DW_CFA_def_cfa_offset 24, DW_CFA_advance_loc 10, and DW_CFA_def_cfa_expression with
+-- the one expression; nothing else
+abbrev pub is_plt_text : List Item → Bool
+is_plt_text (Ok (p, def_cfa_offset a) ∷ Ok (q, advance_loc b) ∷ Ok (r, def_cfa_offset c) ∷ Ok (s, advance_loc d) ∷ Ok (t, def_cfa_expression e) ∷ []) =
+    (a == 16) && (b == 6) && (c == 24) && (d == 10) && bytes_eq e plt_expression
+is_plt_text others = false
+
+abbrev pub content_unless : Option MachineFault → Result Content Reason → Option Content
+content_unless None (Ok content) = Some content
+content_unless None (Err reason) = None
+content_unless (Some fault) said = None
+
+-- what SFrame says of the row that the instructions of a common information entry give, where they can be run and it can be said
+unfoldable pub content_before : Arch → (code : ℕ) → (factor : ℤ) → List Item → Option Content
+content_before arch code factor initial =
+    content_unless (first_fault arch factor initial []) (content_of arch (row_from 0 (columns_of arch (row_at_offset code factor initial [] 0))))
+
+-- of the row before a function's own instructions
+unfoldable pub initial_content : Function → Option Content
+initial_content f = content_before f.arch f.code f.factor (listing f.initial)
+
+-- there its canonical frame address counts from the stack pointer
+abbrev pub counts_from_stack : Option Content → Bool
+counts_from_stack None = false
+counts_from_stack (Some content) = same_base content.base Sp
+
+-- The function is a plain lazy procedure linkage table: of AMD64, without a reason against it as a whole, from a multiple of 16 on and of
+-- more than 16 bytes, with advances in bytes, with that row before its own instructions, and with these instructions.
+unfoldable pub is_plt : Function → Bool
+is_plt f =
+    is_amd64 f.arch && is_none (reason_of f.arch (facts_of f)) && (f.start % 16 == 0) && nat_lt 16 f.size && (f.code == 1)
+    && is_plt_text (without_nops (listing f.own)) && counts_from_stack (initial_content f)
+
+-- those among functions that SFrame can't express
+abbrev pub plt_functions : List Function → List Function
+plt_functions functions = filter is_plt (omitted_functions functions)
+
+-- ---- what is recovered there
+-- the canonical frame address by the rule at an offset, with the value of the expression
+abbrev pub plt_frame_address : Function → (offset : ℕ) → Regs → CfaRule → Option ℕ
+plt_frame_address f offset regs cfa.Expression = expression_value regs.sp (f.start + offset)
+plt_frame_address f offset regs cfa.Missing = frame_address_by f.arch cfa.Missing regs
+plt_frame_address f offset regs (cfa.Reg register distance) = frame_address_by f.arch (cfa.Reg register distance) regs
+
+-- what the rules of the row at an offset recover
+unfoldable pub plt_recovery : Function → (offset : ℕ) → Regs → List Region → RuleRecovery
+plt_recovery f offset regs memory =
+    let columns = columns_of f.arch (full_row f offset) in
+    recovery_at f.arch columns f.key regs memory (plt_frame_address f offset regs columns.cfa)
+
+-- the same at an address of the function
+abbrev pub recovered_in_plt : List Region → (address : ℕ) → Regs → Function → RuleRecovery
+recovered_in_plt memory address regs f = plt_recovery f (address - f.start) regs memory

@@ -1,0 +1,13 @@
+-- Functions in the order of their starts, and functions that are omitted, for the code that sorts them.
+use Rattle.std.specs.Prelude.{◌≡◌, ℕ, false, List, [], ◌∷◌}
+use Rattle.sf_model.specs.declared.function.Func.{Func}
+use Rattle.sf_asm.specs.Functions.{Function}
+use Rattle.sf_asm.specs.Kept.{is_kept}
+
+abbrev pub func_start : Func → ℕ
+func_start f = f.start
+
+-- SFrame can express none of them
+abbrev pub AreOmitted : List Function → Type 0
+AreOmitted [] = Unit {0}
+AreOmitted (f ∷ fs) = (is_kept f ≡ false) × AreOmitted fs

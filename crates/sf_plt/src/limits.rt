@@ -1,0 +1,55 @@
+//! The limits of functions and rows with procedure linkage tables.
+
+ghost use Rattle.std.specs.Prelude.{◌≡◌, ◌≤◌, ◌^◌, IfErr, IsTrue};
+ghost use Rattle.sf_model.specs.Table.{row_count};
+ghost use Rattle.sf_asm.specs.Fault.{is_gather_answered};
+ghost use Rattle.sf_asm.specs.Functions.{unless};
+ghost use Rattle.sf_plt.specs.Linking.{further_fault};
+
+use sf_asm::GatherFault;
+use sf_model::Func;
+
+/// The most functions and rows of one run.
+#[derive(Clone, Copy, Debug)]
+pub struct Limits {
+    pub functions: usize,
+    pub rows: usize,
+}
+
+/// How many functions, rows of those that are kept, and procedure linkage tables there are.
+#[derive(Clone, Copy, Debug)]
+pub struct Counts {
+    pub functions: usize,
+    pub rows: usize,
+    pub tables: usize,
+}
+
+/// The rows that a procedure linkage table adds.
+const TABLE_ROWS: usize = 4;
+
+/// Tries the limits, where each table counts as one function more and as 4 rows: functions first, then rows.
+pub fn check_tables(limits: Limits, counts: Counts) -> Result<(), GatherFault>
+    requires { (counts.functions ≤ 2 ^ 32) × (counts.rows ≤ 2 ^ 32) × (counts.tables ≤ 2 ^ 32) }
+    ensures exact { result ≡ unless (further_fault limits.functions limits.rows counts.functions counts.rows counts.tables) }
+    ensures answered { IfErr result (λ fault. IsTrue (is_gather_answered fault)) }
+{
+    if counts.functions + counts.tables > limits.functions {
+        return Err(GatherFault::TooManyFunctions);
+    }
+    if counts.rows + TABLE_ROWS * counts.tables > limits.rows {
+        return Err(GatherFault::TooManyRows);
+    }
+    Ok(())
+}
+
+/// The number of all rows.
+pub fn count_rows(functions: &[Func]) -> usize
+    requires { row_count functions.now ≤ 2 ^ 24 }
+    ensures { result ≡ row_count functions.now }
+{
+    let mut rows = 0;
+    for func in functions {
+        rows += func.rows.as_slice().len();
+    }
+    rows
+}

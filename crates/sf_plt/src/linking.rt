@@ -1,0 +1,126 @@
+//! The section of several inputs, with their procedure linkage tables.
+
+ghost use Rattle.std.specs.Prelude.{◌≡◌, ◌≤◌, ◌<◌, ◌^◌, All, length, map, IfOk, IfErr, OnOk, IsTrue};
+ghost use Rattle.std.specs.List.Sorted.{IsNonDecreasingBy, IsStableByKey, IsPermutation};
+ghost use Rattle.std.specs.Ordering.{nat_cmp};
+ghost use Rattle.sf_model.specs.Section.{AreBytes};
+ghost use Rattle.sf_asm.specs.Fault.{is_answered, is_gather_answered};
+ghost use Rattle.sf_asm.specs.Functions.{object_of};
+ghost use Rattle.sf_plt.specs.Answers.{IsFirstPltLinked, IsPltLinked};
+ghost use Rattle.sf_plt.specs.Linking.{wraps_gathering};
+ghost use Rattle.sf_plt.specs.Sorting.{func_start};
+
+use crate::limits::{Counts, Limits, check_tables, count_rows};
+use crate::sorting::sort_out;
+use sf_asm::{GatherFault, Input, LinkFault, WithSources, gather_with_sources};
+use sf_base::NoMemory;
+use sf_model::{Arch, Func, Omitted, Span};
+use sf_write::{WriteFault, write};
+use std::alloc::Global;
+
+/// The most functions, omitted ones included, and rows of one run.
+const LIMITS: Limits = Limits {
+    functions: 1 << 21,
+    rows: 1 << 24,
+};
+
+/// A section, and what it holds.
+#[derive(Drop)]
+pub struct PltLinked {
+    /// The section's bytes.
+    pub section: Vec<u8>,
+    /// How many functions are kept as they are.
+    pub kept: u32,
+    /// The functions that are omitted, by start and then origin.
+    pub omitted: Vec<Omitted>,
+    /// The procedure linkage tables, by start and then origin: each is two functions of the section.
+    pub plts: Vec<Span>,
+}
+
+/// A fault of gathering, where out of memory stands alone.
+fn not_gathered(fault: GatherFault) -> LinkFault
+    ensures is { result ≡ wraps_gathering fault }
+    ensures answered { IsTrue (is_gather_answered fault) → IsTrue (is_answered result) }
+{
+    match fault {
+        GatherFault::NoMemory => LinkFault::NoMemory,
+        _ => LinkFault::Gather(fault),
+    }
+}
+
+/// Brings functions into order by their starts.
+fn order(functions: &mut Vec<Func>) -> Result<(), NoMemory>
+    ensures rising { OnOk result (IsNonDecreasingBy func_start functions.new.items) }
+    ensures stable { OnOk result (IsStableByKey func_start nat_cmp functions.old.items functions.new.items) }
+    ensures moved { OnOk result (IsPermutation functions.old.items functions.new.items) }
+{
+    functions.sort_by_key(|func| func.start)?;
+    Ok(())
+}
+
+/// Makes the SFrame section of 1 to 512 inputs, for the address `at`, as `sf_link::link` does, with two functions
+/// for each plain lazy procedure linkage table. `before` is the machine of an item that stands before the inputs;
+/// they are numbered from 1 on then, and else from 0 on.
+///
+/// # Errors
+///
+/// The first fault of the first faulty input; then two machines, the limits of functions and rows, two functions
+/// that share an address, the limits with each table as one function more and as 4 rows, and a function that is
+/// written too far from the section, in this order; out of memory at any time.
+pub fn link_plt(
+    alloc: Global,
+    inputs: &[Input<'_>],
+    at: u64,
+    before: Option<Arch>,
+) -> Result<PltLinked, LinkFault>
+    requires some { (0 < length inputs.now) × (length inputs.now ≤ 512) }
+    requires small { All (λ input. length input.bytes.now < 2 ^ 32) inputs.now }
+    // The section is that of the inputs' kept functions and procedure linkage tables, and these are omitted.
+    ensures linked { IfOk result (λ linked. IsPltLinked before (map object_of inputs.now) at linked.section.items linked.kept linked.omitted.items linked.plts.items) }
+    ensures are_bytes { IfOk result (λ linked. AreBytes linked.section.items) }
+    // A fault is the first one.
+    ensures fault { IfErr result (IsFirstPltLinked before (map object_of inputs.now) at) }
+    ensures answered { IfErr result (λ fault. IsTrue (is_answered fault)) }
+{
+    let gathered = match gather_with_sources(alloc, inputs, before) {
+        Ok(gathered) => gathered,
+        Err(fault) => return Err(not_gathered(fault)),
+    };
+    let WithSources {
+        arch,
+        kept,
+        omitted,
+        sources,
+    } = gathered;
+    let count = kept.len();
+    let functions = count + omitted.len();
+    let rows = count_rows(&kept);
+    let mut sorted = match sort_out(alloc, arch, kept, &omitted, &sources) {
+        Ok(sorted) => sorted,
+        Err(NoMemory) => return Err(LinkFault::NoMemory),
+    };
+    let tables = sorted.plts.len();
+    let counts = Counts {
+        functions,
+        rows,
+        tables,
+    };
+    match check_tables(LIMITS, counts) {
+        Ok(()) => (),
+        Err(fault) => return Err(LinkFault::Gather(fault)),
+    }
+    match order(&mut sorted.written) {
+        Ok(()) => (),
+        Err(NoMemory) => return Err(LinkFault::NoMemory),
+    }
+    match write(alloc, arch, at, &sorted.written) {
+        Ok(section) => Ok(PltLinked {
+            section,
+            kept: count as u32,
+            omitted: sorted.omitted,
+            plts: sorted.plts,
+        }),
+        Err(WriteFault::OutOfReach(start)) => Err(LinkFault::OutOfReach(start)),
+        Err(WriteFault::NoMemory) => Err(LinkFault::NoMemory),
+    }
+}

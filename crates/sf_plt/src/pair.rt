@@ -1,0 +1,69 @@
+//! The two functions that are made of a procedure linkage table.
+
+ghost use Rattle.std.specs.Prelude.{◌≡◌, ◌<◌, ◌^◌, [], ◌∷◌, IfOk};
+ghost use Rattle.sf_asm.specs.Sources.{source_function};
+ghost use Rattle.sf_plt.specs.Written as written;
+
+use sf_asm::Source;
+use sf_base::NoMemory;
+use sf_model::{Content, Func, Row, Rows, Shape};
+use std::alloc::Global;
+
+/// The bytes of an entry.
+const ENTRY_LEN: u8 = 16;
+
+/// Two rows that say what the content says, the canonical frame address `first` bytes from the stack pointer,
+/// and from the offset `next` on `second` bytes.
+fn two_rows(
+    alloc: Global,
+    content: Content,
+    first: u8,
+    next: u8,
+    second: u8,
+) -> Result<Rows, NoMemory>
+    ensures { IfOk result (λ rows. rows ≡ written.row_saying 0 first content ∷ written.row_saying next second content ∷ []) }
+{
+    let mut rows = Rows::new(alloc);
+    rows.push(Row {
+        start: 0,
+        content: Content {
+            cfa: i32::from(first),
+            ..content
+        },
+    })?;
+    rows.push(Row {
+        start: u32::from(next),
+        content: Content {
+            cfa: i32::from(second),
+            ..content
+        },
+    })?;
+    Ok(rows)
+}
+
+/// The function of the first entry, whose rows are those of a table with this content.
+pub fn first_entry(alloc: Global, source: &Source<'_>, content: Content) -> Result<Func, NoMemory>
+    ensures { IfOk result (λ func. func ≡ written.first_entry (source_function source.now) content) }
+{
+    Ok(Func {
+        start: source.facts.start,
+        size: u32::from(ENTRY_LEN),
+        shape: Shape::Plain,
+        key: source.facts.key,
+        rows: two_rows(alloc, content, 16, 6, 24)?,
+    })
+}
+
+/// The function of the entries after it, each a block of 16 bytes.
+pub fn later_entries(alloc: Global, source: &Source<'_>, content: Content) -> Result<Func, NoMemory>
+    requires { (16 < source.now.facts.size) × (source.now.facts.size < 2 ^ 32) }
+    ensures { IfOk result (λ func. func ≡ written.later_entries (source_function source.now) content) }
+{
+    Ok(Func {
+        start: source.facts.start + u64::from(ENTRY_LEN),
+        size: (source.facts.size - u64::from(ENTRY_LEN)) as u32,
+        shape: Shape::Repeat(ENTRY_LEN),
+        key: source.facts.key,
+        rows: two_rows(alloc, content, 8, 11, 16)?,
+    })
+}

@@ -1,0 +1,92 @@
+//! Omitted functions sorted out: procedure linkage tables, and the others.
+
+ghost use Rattle.std.specs.Prelude.{◌≡◌, ◌++◌, ◌∷◌, [], All, Some, true, map, IfOk, OnOk};
+ghost use Rattle.std.specs.List.{filter, flat_map};
+ghost use Rattle.sf_model.specs.Function.{IsWritable};
+ghost use Rattle.sf_asm.specs.Entry.{omitted_of};
+ghost use Rattle.sf_asm.specs.Kept.{entry_of};
+ghost use Rattle.sf_asm.specs.Sources.{functions_lent, source_function};
+ghost use Rattle.sf_plt.specs.Answers.{others_in, span_of};
+ghost use Rattle.sf_plt.specs.Plt.{initial_content, is_plt};
+ghost use Rattle.sf_plt.specs.Sorting.{AreOmitted};
+ghost use Rattle.sf_plt.specs.Written.{plt_pair};
+
+use crate::pair::{first_entry, later_entries};
+use crate::table::table_content;
+use sf_asm::Source;
+use sf_base::NoMemory;
+use sf_model::{Arch, Content, Func, Omitted, Span};
+use std::alloc::Global;
+
+/// Functions that are written, and omitted functions sorted out.
+#[derive(Drop)]
+pub struct Sorted {
+    /// The functions that are written.
+    pub written: Vec<Func>,
+    /// The procedure linkage tables.
+    pub plts: Vec<Span>,
+    /// The other omitted functions.
+    pub omitted: Vec<Omitted>,
+}
+
+impl Sorted {
+    /// Adds a procedure linkage table with this content.
+    fn add_table(
+        &mut self,
+        alloc: Global,
+        arch: Arch,
+        source: &Source<'_>,
+        content: Content,
+    ) -> Result<(), NoMemory>
+        requires table { is_plt (source_function source.now) ≡ true }
+        requires content { initial_content (source_function source.now) ≡ Some content }
+        requires machine { source.now.arch ≡ arch }
+        requires sound { All (IsWritable arch) self.old.written.items }
+        ensures written { OnOk result (self.new.written.items ≡ self.old.written.items ++ plt_pair (source_function source.now)) }
+        ensures plts { OnOk result (self.new.plts.items ≡ self.old.plts.items ++ span_of (source_function source.now) ∷ []) }
+        ensures omitted { OnOk result (self.new.omitted ≡ self.old.omitted) }
+        ensures sound { OnOk result (All (IsWritable arch) self.new.written.items) }
+    {
+        let facts = source.facts;
+        self.written.push(first_entry(alloc, source, content)?)?;
+        self.written.push(later_entries(alloc, source, content)?)?;
+        self.plts.push(Span {
+            start: facts.start,
+            size: facts.size,
+            origin: source.origin,
+        })?;
+        Ok(())
+    }
+}
+
+/// Adds the omitted functions, of which these are the sources, to those that are written: two functions of each
+/// procedure linkage table.
+pub fn sort_out(
+    alloc: Global,
+    arch: Arch,
+    kept: Vec<Func>,
+    omitted: &[Omitted],
+    sources: &[Source<'_>],
+) -> Result<Sorted, NoMemory>
+    requires left { AreOmitted (functions_lent sources.now) }
+    requires omitted { omitted.now ≡ omitted_of (map entry_of (functions_lent sources.now)) }
+    requires machine { All (λ f. f.arch ≡ arch) (functions_lent sources.now) }
+    requires sound { All (IsWritable arch) kept.items }
+    ensures written { IfOk result (λ sorted. sorted.written.items ≡ kept.items ++ flat_map plt_pair (filter is_plt (functions_lent sources.now))) }
+    ensures plts { IfOk result (λ sorted. sorted.plts.items ≡ map span_of (filter is_plt (functions_lent sources.now))) }
+    ensures omitted { IfOk result (λ sorted. sorted.omitted.items ≡ omitted_of (map entry_of (others_in (functions_lent sources.now)))) }
+    ensures sound { IfOk result (λ sorted. All (IsWritable arch) sorted.written.items) }
+{
+    let mut sorted = Sorted {
+        written: kept,
+        plts: Vec::new(alloc),
+        omitted: Vec::new(alloc),
+    };
+    for (index, source) in sources.iter().enumerate() {
+        match table_content(alloc, source)? {
+            Some(content) => sorted.add_table(alloc, arch, source, content)?,
+            None => sorted.omitted.push(omitted[index])?,
+        }
+    }
+    Ok(sorted)
+}
