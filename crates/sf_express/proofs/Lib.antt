@@ -8,3 +8,4 @@ pub mod Runs
 pub mod Means
 pub mod Found
 pub mod Running
+pub mod Said

@@ -61,7 +61,7 @@ ra_fits Aarch64 (rule.Register r) = tt
 ra_fits Aarch64 rule.Expression = tt
 ra_fits Aarch64 rule.ValExpression = tt
 
-abbrev ContentFits : Arch → Result Content Reason → Type 0
+abbrev pub ContentFits : Arch → Result Content Reason → Type 0
 ContentFits arch (Ok c) = IsTrue (content_fits arch c)
 ContentFits arch (Err e) = Unit {0}
 
@@ -88,7 +88,7 @@ parts_fit arch (Ok x) (Ok u) (Err e) fp sign signed h g = tt
 parts_fit arch (Ok x) (Ok u) (Ok ra) (Err e) sign signed h g = tt
 parts_fit arch (Ok x) (Ok u) (Ok ra) (Ok fp) sign signed h g = pair_fits arch x ra fp sign signed h g
 
-content_of-fits : (arch : Arch) (r : DwRow) → IsTrue (sign_fits arch r.signed) → ContentFits arch (content_of arch r)
+pub content_of-fits : (arch : Arch) (r : DwRow) → IsTrue (sign_fits arch r.signed) → ContentFits arch (content_of arch r)
 unfolding content_of
 content_of-fits arch r h = parts_fit arch (cfa_part arch r.cfa) (sp_part r.sp) (ra_part arch r.ra) (fp_part r.fp) (sign_part arch r.sign) r.signed (ra_fits arch r.ra) h
 

@@ -17,9 +17,9 @@ use std::alloc::{AllocError, Global};
 /// The first size that doesn't fit a function descriptor entry, in bytes.
 const SIZE_LIMIT: u64 = 0x1_0000_0000;
 
-// Whether two contents are the same.
+/// Whether two contents are the same.
 #[inline(always)]
-fn is_same(last: Content, content: Content) -> bool
+pub fn is_same(last: Content, content: Content) -> bool
     ensures { result ≡ same_content last content }
 {
     last.base == content.base

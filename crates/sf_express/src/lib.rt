@@ -14,12 +14,14 @@
 mod fault;
 mod function;
 mod part;
+mod pieces;
 mod recovery;
 mod row;
 mod run;
 
 pub use fault::ExpressFault;
 pub use function::express;
+pub use pieces::{Piece, piece_at, pieces_run};
 pub use recovery::{functions_recover_alike, rows_recover_alike};
 pub use row::content;
 pub use run::express_run;

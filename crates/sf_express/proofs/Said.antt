@@ -1,0 +1,203 @@
+-- Pieces say at each offset what the rows say.
+use Rattle.std.specs.Prelude.{nat_le}
+use Rattle.std.specs.List.{All}
+use Rattle.std.specs.Option.{option_map}
+use Rattle.std.proofs.Common.{◌≡◌, ℕ, zero, suc, ◌+◌, ◌-◌, ◌<◌, ◌≤◌, Bool, true, false, cond, List, [], ◌∷◌, ◌++◌, get_or, length, Option, Some, None, Result, Ok, Err, refl, sym, ap, subst, ◌∙◌, arith, add-one, inl, inr}
+use Rattle.std.proofs.lemmas.Bool.{cases_lt, lt-leb, le-leb}
+use Rattle.std.proofs.lemmas.List.{append-nil}
+use Rattle.std.proofs.lemmas.List.Elements.{All-nil, All-cons, All-head, All-tail}
+use Rattle.sf_model.specs.declared.machine.Arch.{Arch}
+use Rattle.sf_model.specs.declared.content.Content.{Content}
+use Rattle.sf_model.specs.declared.omission.Reason.{Reason}
+use Rattle.cfa_machine.specs.declared.columns.Columns.{Columns}
+use Rattle.cfa_machine.specs.declared.fault.MachineFault.{MachineFault}
+use Rattle.cfa_machine.specs.declared.row.DwRow.{DwRow}
+use Rattle.cfa_machine.specs.At.{latest_at}
+use Rattle.cfa_machine.specs.Columns.{row_from}
+use Rattle.cfa_machine.specs.Left.{behind_row}
+use Rattle.cfa_machine.specs.RowList.{AreRows, BeginAtZero, RiseFrom}
+use Rattle.sf_express.specs.declared.pieces.Piece.{Piece}
+use Rattle.sf_express.specs.Expressed.{same_content}
+use Rattle.sf_express.specs.Offsets.{said, said_at}
+use Rattle.sf_express.specs.Parts.{content_of}
+use Rattle.sf_express.specs.Pieces.{ArePieces, PiecesBegin, PiecesRise, PiecesSay, content_in, piece_of, pieces_of, said_by, same_saying, says_again, unless_again}
+use Rattle.sf_express.specs.Run.{on_rows}
+use Rattle.sf_express.specs.Runs.{AreSaid, Saying}
+use Rattle.sf_express.proofs.Same.{content_same}
+
+-- ---- made one after the other
+abbrev pub pieces_and_left : Arch → List Piece → Option (Option Content) → Result (List DwRow) MachineFault → Result (List Piece) MachineFault
+pieces_and_left arch before last left = on_rows (λ rows. before ++ pieces_of arch last rows) left
+
+regroup : (before : List Piece) (last : Option (Option Content)) (p : Piece) (rest : List Piece) → before ++ unless_again last p rest ≡ (before ++ unless_again last p []) ++ rest
+regroup before last p rest = at_test (says_again last p.content)
+  where
+    again : (before : List Piece) → before ++ rest ≡ (before ++ []) ++ rest
+    again before = ap (λ (ps : List Piece). ps ++ rest) (sym (append-nil before))
+
+    new : (before : List Piece) → before ++ (p ∷ rest) ≡ (before ++ (p ∷ [])) ++ rest
+    new [] = refl
+    new (x ∷ xs) = ap (λ (ps : List Piece). x ∷ ps) (new xs)
+
+    at_test : (b : Bool) → before ++ cond b rest (p ∷ rest) ≡ (before ++ cond b [] (p ∷ [])) ++ rest
+    at_test true = again before
+    at_test false = new before
+
+row_goes_on : (arch : Arch) (before now : List Piece) (last : Option (Option Content)) (start : ℕ) (c : Columns) (content : Option Content) (after : Result (List DwRow) MachineFault)
+    → content_in (content_of arch (row_from start c)) ≡ content → now ≡ before ++ unless_again last (record { start = start; content = content }) []
+    → pieces_and_left arch before last (behind_row start c after) ≡ pieces_and_left arch now (Some content) after
+unfolding pieces_of
+row_goes_on arch before now last start c content (Ok rows) said grown =
+    rw (said, grown) (ap (λ (ps : List Piece). Ok ps) (regroup before last (record { start = start; content = content }) (pieces_of arch (Some content) rows)))
+row_goes_on arch before now last start c content (Err e) said grown = refl
+
+pub goes_on : (arch : Arch) (before now : List Piece) (last : Option (Option Content)) (start : ℕ) (c : Columns) (content : Option Content) (left after : Result (List DwRow) MachineFault) (whole : Result (List Piece) MachineFault)
+    → left ≡ behind_row start c after → content ≡ content_in (content_of arch (row_from start c)) → now ≡ before ++ unless_again last (record { start = start; content = content }) []
+    → pieces_and_left arch before last left ≡ whole → pieces_and_left arch now (Some content) after ≡ whole
+goes_on arch before now last start c content left after whole next said grown so_far =
+    sym (row_goes_on arch before now last start c content after (sym said) grown) ∙ (ap (pieces_and_left arch before last) (sym next) ∙ so_far)
+
+pub is_done : (arch : Arch) (before : List Piece) (last : Option (Option Content)) (left : Result (List DwRow) MachineFault) (whole : Result (List Piece) MachineFault) → left ≡ Ok []
+    → pieces_and_left arch before last left ≡ whole → whole ≡ Ok before
+unfolding pieces_of
+is_done arch before last left whole none so_far =
+    let here : pieces_and_left arch before last left ≡ Ok before = rw none (ap (λ (ps : List Piece). Ok ps) (append-nil before)) in
+    sym so_far ∙ here
+
+-- ---- what they say
+rise_lower : (low high : ℕ) (pieces : List Piece) → low ≤ high → PiecesRise high pieces → PiecesRise low pieces
+rise_lower low high [] le h = tt
+rise_lower low high (p ∷ pieces) le h = (omega (arith, le, h.0), h.1)
+
+unless_rises : (b : Bool) (least : ℕ) (p : Piece) (rest : List Piece) → least ≤ p.start → PiecesRise (p.start + 1) rest → PiecesRise least (cond b rest (p ∷ rest))
+unless_rises true least p rest le h = rise_lower least (p.start + 1) rest (omega (arith, le)) h
+unless_rises false least p rest le h = (le, h)
+
+pub pieces_rise : (arch : Arch) (least : ℕ) (last : Option (Option Content)) (rows : List DwRow) → RiseFrom least rows → PiecesRise least (pieces_of arch last rows)
+unfolding pieces_of
+pieces_rise arch least last [] h = tt
+pieces_rise arch least last (r ∷ rows) h =
+    unless_rises (says_again last (content_in (content_of arch r))) least (piece_of arch r) (pieces_of arch (Some (content_in (content_of arch r))) rows) h.0
+    (pieces_rise arch (r.start + 1) (Some (content_in (content_of arch r))) rows h.1)
+
+-- pieces that begin after an offset say nothing there
+said_past : (o least : ℕ) (found : Option (Option Content)) (pieces : List Piece) → o < least → PiecesRise least pieces → said_by o found pieces ≡ found
+said_past o least found [] lt h = refl
+said_past o least found (p ∷ pieces) lt h = rw (lt-leb p.start o (omega (arith, lt, h.0))) refl
+
+row_past : (o least : ℕ) (found : Option DwRow) (rows : List DwRow) → o < least → RiseFrom least rows → latest_at o found rows ≡ found
+row_past o least found [] lt h = refl
+row_past o least found (r ∷ rows) lt h =
+    let after : o < r.start = omega (arith, lt, h.0) in
+    ap (λ (b : Bool). latest_at o (cond b (Some r) found) rows) (lt-leb r.start o after) ∙ row_past o (r.start + 1) found rows (omega (arith, after)) h.1
+
+abbrev saying_of : Arch → Option DwRow → Option (Option Content)
+saying_of arch found = option_map (λ (r : DwRow). content_in (content_of arch r)) found
+
+-- a test that holds is an equation
+same_is : (a b : Option Content) → same_saying a b ≡ true → a ≡ b
+same_is None None e = refl
+same_is None (Some c) e = cc
+same_is (Some c) None e = cc
+same_is (Some c) (Some d) e = ap (λ (x : Content). Some x) (content_same c d e)
+
+again_is : (last : Option (Option Content)) (content : Option Content) → says_again last content ≡ true → last ≡ Some content
+again_is None content e = cc
+again_is (Some last) content e = ap (λ (x : Option Content). Some x) (same_is last content e)
+
+pub pieces_said : (arch : Arch) (o least : ℕ) (found : Option DwRow) (last : Option (Option Content)) (rows : List DwRow) → RiseFrom least rows → last ≡ saying_of arch found
+    → said_by o last (pieces_of arch last rows) ≡ saying_of arch (latest_at o found rows)
+unfolding pieces_of
+pieces_said arch o least found last [] h e = e
+pieces_said arch o least found last (r ∷ rows) h e = elim (cases_lt o r.start) [
+  | inl after ↦
+      let past = said_past o r.start last (pieces_of arch last (r ∷ rows)) after
+      (unless_rises (says_again last (content_in (content_of arch r))) r.start (piece_of arch r) (pieces_of arch (Some (content_in (content_of arch r))) rows) (omega arith) (pieces_rise arch (r.start + 1) (Some (content_in (content_of arch r))) rows h.1)) in
+      let nothing : latest_at o found (r ∷ rows) ≡ found =
+      ap (λ (b : Bool). latest_at o (cond b (Some r) found) rows) (lt-leb r.start o after) ∙ row_past o (r.start + 1) found rows (omega (arith, after)) h.1 in
+      past ∙ e ∙ sym (ap (saying_of arch) nothing)
+  | inr not_after ↦
+      let by : r.start ≤ o = omega (arith, not_after) in
+      let here : latest_at o found (r ∷ rows) ≡ latest_at o (Some r) rows = ap (λ (b : Bool). latest_at o (cond b (Some r) found) rows) (le-leb r.start o by) in
+      at_test (says_again last (content_in (content_of arch r))) refl by (pieces_said arch o (r.start + 1) (Some r) (Some (content_in (content_of arch r))) rows h.1 refl)
+      ∙ sym (ap (saying_of arch) here)
+]
+  where
+    rest : List Piece
+    rest = pieces_of arch (Some (content_in (content_of arch r))) rows
+
+    at_test : (b : Bool) → says_again last (content_in (content_of arch r)) ≡ b → r.start ≤ o
+        → said_by o (Some (content_in (content_of arch r))) (pieces_of arch (Some (content_in (content_of arch r))) rows) ≡ saying_of arch (latest_at o (Some r) rows)
+        → said_by o last (cond b (pieces_of arch (Some (content_in (content_of arch r))) rows) (piece_of arch r ∷ pieces_of arch (Some (content_in (content_of arch r))) rows)) ≡ saying_of arch (latest_at o (Some r) rows)
+    at_test true t by later =
+        ap (λ (x : Option (Option Content)). said_by o x (pieces_of arch (Some (content_in (content_of arch r))) rows)) (again_is last (content_in (content_of arch r)) t) ∙ later
+    at_test false t by later = rw (le-leb r.start o by) later
+
+saying_said : (arch : Arch) (found : Option DwRow) (says : Result Content Reason) → said arch found ≡ Some says → saying_of arch found ≡ Some (content_in says)
+saying_said arch None says e = cc
+saying_said arch (Some r) says e = let is : content_of arch r ≡ says = cc in ap (λ (x : Result Content Reason). Some (content_in x)) is
+
+pub pieces_say : (arch : Arch) (size : ℕ) (rows : List DwRow) (says : Saying) → RiseFrom 0 rows → AreSaid arch size rows says → PiecesSay size (pieces_of arch None rows) (λ o. content_in (says o))
+pieces_say arch size rows says h are = λ o lt. pieces_said arch o 0 None None rows h refl ∙ saying_said arch (latest_at o None rows) (says o) (are o lt)
+
+-- ---- which pieces they are
+pieces_begin : (arch : Arch) (rows : List DwRow) → 0 < length rows → BeginAtZero rows → PiecesBegin (pieces_of arch None rows)
+unfolding pieces_of
+pieces_begin arch [] some h = absurd (omega (arith, some))
+pieces_begin arch (r ∷ rows) some h = h
+
+unless_below : (b : Bool) (size : ℕ) (p : Piece) (rest : List Piece) → p.start < size → All (λ (p : Piece). p.start < size) rest → All (λ (p : Piece). p.start < size) (cond b rest (p ∷ rest))
+unless_below true size p rest lt h = h
+unless_below false size p rest lt h = All-cons (λ (p : Piece). p.start < size) p rest lt h
+
+pieces_below : (arch : Arch) (size : ℕ) (last : Option (Option Content)) (rows : List DwRow) → All (λ (r : DwRow). r.start < size) rows → All (λ (p : Piece). p.start < size) (pieces_of arch last rows)
+unfolding pieces_of
+pieces_below arch size last [] h = All-nil (λ (p : Piece). p.start < size)
+pieces_below arch size last (r ∷ rows) h =
+    unless_below (says_again last (content_in (content_of arch r))) size (piece_of arch r) (pieces_of arch (Some (content_in (content_of arch r))) rows)
+    (All-head (λ (x : DwRow). x.start < size) r rows h) (pieces_below arch size (Some (content_in (content_of arch r))) rows (All-tail (λ (x : DwRow). x.start < size) r rows h))
+
+pub are_pieces : (arch : Arch) (size : ℕ) (rows : List DwRow) → 0 < size → AreRows arch size rows → ArePieces size (pieces_of arch None rows)
+are_pieces arch size rows some h = record {
+  first = pieces_begin arch rows (h.some some) h.first;
+  rise = pieces_rise arch 0 None rows h.rise;
+  below = pieces_below arch size None rows h.below;
+}
+
+-- ---- the piece at a place
+first_least : (least : ℕ) (pieces : List Piece) (i : ℕ) (d : Piece) → PiecesRise least pieces → i < length pieces → least ≤ (get_or pieces i d).start
+first_least least [] i d h lt = absurd (omega (arith, lt))
+first_least least (p ∷ pieces) zero d h lt = h.0
+first_least least (p ∷ pieces) (suc i) d h lt = let later = first_least (p.start + 1) pieces i d h.1 (omega (arith, lt)) in omega (arith, later, h.0)
+
+pub said_at_place : (o least i : ℕ) (found : Option (Option Content)) (pieces : List Piece) (d : Piece) → PiecesRise least pieces → i < length pieces → (get_or pieces i d).start ≤ o
+    → (i + 1 < length pieces → o < (get_or pieces (i + 1) d).start) → said_by o found pieces ≡ Some (get_or pieces i d).content
+said_at_place o least i found [] d h lt by before = absurd (omega (arith, lt))
+said_at_place o least zero found (p ∷ []) d h lt by before = rw (le-leb p.start o by) refl
+said_at_place o least zero found (p ∷ q ∷ pieces) d h lt by before =
+    let after : o < q.start = before (omega arith) in
+    rw (le-leb p.start o by, lt-leb q.start o after) refl
+said_at_place o least (suc i) found (p ∷ pieces) d h lt by before =
+    let there = first_least (p.start + 1) pieces i d h.1 (omega (arith, lt)) in
+    let here : p.start ≤ o = omega (arith, there, by) in
+    let same : suc i + 1 ≡ suc (i + 1) = omega arith in
+    rw (le-leb p.start o here) (said_at_place o (p.start + 1) i (Some p.content) pieces d h.1 (omega (arith, lt)) by
+    (λ more. subst (λ (k : ℕ). o < (get_or (p ∷ pieces) k d).start) same (before (omega (arith, more)))))
+
+pub first_begins : (pieces : List Piece) (d : Piece) → PiecesBegin pieces → (get_or pieces 0 d).start ≡ 0
+first_begins [] d h = absurd h
+first_begins (p ∷ pieces) d h = h
+
+pub some_pieces : (pieces : List Piece) → PiecesBegin pieces → 0 < length pieces
+some_pieces [] h = absurd h
+some_pieces (p ∷ pieces) h = omega arith
+
+pub next_after : (pieces : List Piece) (i : ℕ) (d : Piece) → PiecesRise 0 pieces → i + 1 < length pieces → (get_or pieces i d).start < (get_or pieces (i + 1) d).start
+next_after pieces i d h lt = go 0 pieces i h lt
+  where
+    go : (least : ℕ) (pieces : List Piece) (i : ℕ) → PiecesRise least pieces → i + 1 < length pieces → (get_or pieces i d).start < (get_or pieces (i + 1) d).start
+    go least [] i h lt = absurd (omega (arith, lt))
+    go least (p ∷ pieces) zero h lt = let next = first_least (p.start + 1) pieces 0 d h.1 (omega (arith, lt)) in omega (arith, next)
+    go least (p ∷ pieces) (suc i) h lt =
+        let same : suc (i + 1) ≡ suc i + 1 = omega arith in
+        subst (λ (k : ℕ). (get_or pieces i d).start < (get_or (p ∷ pieces) k d).start) same (go (p.start + 1) pieces i h.1 (omega (arith, lt)))
