@@ -1,0 +1,131 @@
+-- The function that has an address, and what it says there.
+use Rattle.std.specs.Prelude.{IsTrue}
+use Rattle.std.specs.List.{All}
+use Rattle.std.specs.Option.{option_and_then, option_map}
+use Rattle.std.proofs.Common.{◌≡◌, ℕ, zero, suc, ◌+◌, ◌-◌, ◌^◌, ◌<◌, ◌≤◌, Bool, true, false, cond, List, [], ◌∷◌, get_or, length, map, Option, Some, None, refl, sym, ap, subst, ◌∙◌, arith, inl, inr}
+use Rattle.std.specs.Prelude.{nat_le}
+use Rattle.std.proofs.lemmas.Bool.{cases_lt}
+use Rattle.std.proofs.lemmas.List.{get_or_default}
+use Rattle.std.proofs.lemmas.List.Elements.{All-head, All-tail}
+use Rattle.sf_model.specs.declared.content.Content.{Content}
+use Rattle.sf_model.specs.declared.function.Func.{Func}
+use Rattle.sf_model.specs.declared.function.Shape.{Shape}
+use Rattle.sf_model.specs.declared.function.Shape.TheVariants.{Plain}
+use Rattle.sf_model.specs.declared.machine.Arch.{Arch}
+use Rattle.sf_model.specs.declared.rows.Row.{Row}
+use Rattle.sf_model.specs.Lookup.{FoundRow, offset_in_block, row_at, row_in}
+use Rattle.sf_express.specs.declared.pieces.Piece.{Piece}
+use Rattle.sf_express.specs.Pieces.{ArePieces, PiecesSay, said_by}
+use Rattle.sf_asm.specs.declared.source.Source.{Source}
+use Rattle.sf_asm.specs.Sources.{source_function}
+use Rattle.sf_verify.specs.declared.dwarf.Held.{Held}
+use Rattle.sf_verify.specs.Asking.{AllFit, AreHolders, IfFits, IsHeld, IsKnown, IsRowed, KeptPassed, OmittedPassed, piece_of_row}
+use Rattle.sf_verify.specs.Comparing.{func_says}
+use Rattle.sf_verify.specs.Said.{Answers, by_row, form_content, said_in, with_key}
+use Rattle.sf_verify.proofs.Rows.{as_pieces, as_pieces_are, as_pieces_fit, content_of_row, pieces_as_rows}
+
+-- ---- what is known
+said_fits : (arch : Arch) (o : ℕ) (found : Option (Option Content)) (pieces : List Piece) (content : Option Content) → ((c : Option Content) → found ≡ Some c → IfFits arch c) → AllFit arch pieces → said_by o found pieces ≡ Some content → IfFits arch content
+said_fits arch o found [] content before h e = before content e
+said_fits arch o found (p ∷ pieces) content before h e =
+    let P : Piece → Type 0 = λ (q : Piece). IfFits arch q.content in
+    at_test (nat_le p.start o) e
+    (said_fits arch o (Some p.content) pieces content (λ c same. let is : p.content ≡ c = cc in subst (IfFits arch) is (All-head P p pieces h)) (All-tail P p pieces h))
+  where
+    at_test : (b : Bool) → cond b (said_by o (Some p.content) pieces) found ≡ Some content → (said_by o (Some p.content) pieces ≡ Some content → IfFits arch content) → IfFits arch content
+    at_test true e later = later e
+    at_test false e later = before content e
+
+pub known_is : (arch : Arch) (answers : Answers) (h : Held) (pc last : ℕ) (content : Content) → IsHeld arch answers h → h.start ≤ pc → pc < h.start + h.size → pc - h.start ≤ last → last < h.size
+    → ((o : ℕ) → pc - h.start ≤ o → o ≤ last → said_by o None h.pieces.items ≡ Some (Some content))
+    → IsKnown arch answers pc (record { said = record { content = content; key = h.key }; last = h.start + last })
+known_is arch answers h pc last content held from to low within said = record {
+  from_here = omega (arith, from, low);
+  steady = λ p le high.
+      held.says p (Some content) (omega (arith, from, le)) (omega (arith, high, within)) (said (p - h.start) (omega (arith, from, le)) (omega (arith, high, from, le)));
+  fits = said_fits arch (pc - h.start) None h.pieces.items (Some content) (λ c same. cc) held.fits (said (pc - h.start) (omega arith) low);
+}
+
+pub nothing_known : (arch : Arch) (answers : Answers) (h : Held) (pc : ℕ) → IsHeld arch answers h → h.start ≤ pc → pc < h.start + h.size → said_by (pc - h.start) None h.pieces.items ≡ Some None → answers pc ≡ None
+nothing_known arch answers h pc held from to said = held.says pc None from to said
+
+-- ---- a kept function
+by_plain : (f : Func) (shape : Shape) (found : Option Row) → shape ≡ Plain → f.shape ≡ shape → option_and_then by_row (option_map (λ (row : Row). record { func = f; row = row }) found) ≡ option_map (with_key f.key) (option_map (λ (r : Row). r.content) found)
+by_plain f shape None plain is = refl
+by_plain f shape (Some r) plain is = let same : f.shape ≡ Plain = is ∙ plain in rw same refl
+
+pub plain_says : (f : Func) (pc : ℕ) → f.shape ≡ Plain → func_says f pc ≡ option_map (with_key f.key) (option_map (λ (r : Row). r.content) (row_at (pc - f.start) f.rows))
+plain_says f pc plain =
+    ap (λ (s : Shape). option_and_then by_row (option_map (λ (row : Row). record { func = f; row = row }) (row_at (offset_in_block s (pc - f.start)) f.rows))) plain
+    ∙ by_plain f f.shape (row_at (pc - f.start) f.rows) plain refl
+
+row_content : (found : Option Row) (content : Option Content) → content_of_row found ≡ Some content → option_map (λ (r : Row). r.content) found ≡ content
+row_content None content e = cc
+row_content (Some r) content e = let is : Some r.content ≡ content = cc in is
+
+record IsTaken (h : Held) (f : Func) : Type 0 where
+  start : h.start ≡ f.start
+  size : h.size ≡ f.size
+  key : h.key ≡ f.key
+  pieces : h.pieces.items ≡ as_pieces f.rows
+
+taken_held : (arch : Arch) (answers : Answers) (h : Held) (f : Func) → IsTaken h f → IsRowed arch f → ((pc : ℕ) → f.start ≤ pc → pc < f.start + f.size → answers pc ≡ func_says f pc) → IsHeld arch answers h
+taken_held arch answers h f t rowed holds = record {
+  end = rw (t.start, t.size) rowed.end;
+  pieces = λ some. rw (t.size, t.pieces) (as_pieces_are f.size f.rows rowed.first rowed.rise rowed.below);
+  says = λ pc content from to said.
+      let from' : f.start ≤ pc = omega (arith, from, t.start) in
+      let to' : pc < f.start + f.size = omega (arith, to, t.start, t.size) in
+      let said' : said_by (pc - f.start) None (as_pieces f.rows) ≡ Some content = subst (λ (k : ℕ). said_by (pc - k) None (as_pieces f.rows) ≡ Some content) t.start (subst (λ (ps : List Piece). said_by (pc - h.start) None ps ≡ Some content) t.pieces said) in
+      let row : content_of_row (row_at (pc - f.start) f.rows) ≡ Some content = sym (pieces_as_rows (pc - f.start) f.rows rowed.rise) ∙ said' in
+      holds pc from' to' ∙ plain_says f pc rowed.plain ∙ ap (option_map (with_key f.key)) (row_content (row_at (pc - f.start) f.rows) content row) ∙ ap (λ k. option_map (with_key k) content) (sym t.key);
+  fits = subst (AllFit arch) (sym t.pieces) (as_pieces_fit arch f.rows rowed.fits);
+}
+
+pub kept_held : (arch : Arch) (answers : Answers) (kept : List Func) (omitted : List Source) (place : ℕ) (f : Func) (h : Held) → AreHolders arch answers kept omitted → place < length kept → f ≡ get_or kept place f
+    → h.start ≡ f.start → h.size ≡ f.size → h.key ≡ f.key → h.pieces.items ≡ as_pieces f.rows → IsHeld arch answers h
+kept_held arch answers kept omitted place f h holders lt is start size key pieces =
+    let taken : IsTaken h f = record { start = start; size = size; key = key; pieces = pieces } in
+    taken_held arch answers h f taken (subst (IsRowed arch) (sym is) (holders.kept_rowed place f lt))
+    (λ pc from to. subst (λ (g : Func). g.start ≤ pc → pc < g.start + g.size → answers pc ≡ func_says g pc) (sym is) (holders.kept_says place f lt pc) from to)
+
+-- ---- an omitted function
+pub omitted_held : (arch : Arch) (answers : Answers) (kept : List Func) (omitted : List Source) (place : ℕ) (s : Source) (h : Held) → AreHolders arch answers kept omitted → place < length omitted → s ≡ get_or omitted place s → s.facts.start + s.facts.size ≤ 2 ^ 64
+    → h.start ≡ s.facts.start → h.size ≡ s.facts.size → h.key ≡ s.facts.key → ArePieces s.facts.size h.pieces.items → PiecesSay s.facts.size h.pieces.items (form_content (source_function s)) → AllFit s.arch h.pieces.items → IsHeld arch answers h
+omitted_held arch answers kept omitted place s h holders lt is end start size key pieces say fit = record {
+  end = rw (start, size) end;
+  pieces = λ some. rw size pieces;
+  says = λ pc content from to said.
+      let from' : s.facts.start ≤ pc = omega (arith, from, start) in
+      let to' : pc < s.facts.start + s.facts.size = omega (arith, to, start, size) in
+      let here = subst (λ (g : Source). g.facts.start ≤ pc → pc < g.facts.start + g.facts.size → answers pc ≡ said_in pc (source_function g)) (sym is) (holders.omitted_says place s lt pc) from' to' in
+      let there : said_by (pc - h.start) None h.pieces.items ≡ Some (form_content (source_function s) (pc - h.start)) = say (pc - h.start) (omega (arith, from, to, size)) in
+      let same : form_content (source_function s) (pc - h.start) ≡ content = let e = sym there ∙ said in cc in
+      here ∙ ap (λ (k : ℕ). option_map (with_key s.facts.key) (form_content (source_function s) (pc - k))) (sym start) ∙ ap (option_map (with_key s.facts.key)) same ∙ ap (λ k. option_map (with_key k) content) (sym key);
+  fits = subst (λ (a : Arch). AllFit a h.pieces.items) (ap (λ (g : Source). g.arch) is ∙ holders.omitted_here place s lt) fit;
+}
+
+-- ---- none has the address
+pub none_kept : (kept : List Func) (next pc : ℕ) (d : Func) → KeptPassed kept next pc → ((i j : ℕ) (d : Func) → i ≤ j → j < length kept → (get_or kept i d).start ≤ (get_or kept j d).start) → (next < length kept → pc < (get_or kept next d).start)
+    → (i : ℕ) (f : Func) → i < length kept → (get_or kept i f).start ≤ pc → pc < (get_or kept i f).start + (get_or kept i f).size → ⊥
+none_kept kept next pc d passed rise after i f lt from to = elim (cases_lt i next) [
+  | inl before ↦ let ends = passed i f before lt in omega (arith, ends, to)
+  | inr not_before ↦
+      let low : next ≤ i = omega (arith, not_before) in
+      let here : next < length kept = omega (arith, low, lt) in
+      let first : pc < (get_or kept next f).start = subst (λ (g : Func). pc < g.start) (get_or_default kept next d f here) (after here) in
+      let up = rise next i f low lt in
+      omega (arith, first, up, from)
+]
+
+pub none_omitted : (omitted : List Source) (next pc : ℕ) (d : Source) → OmittedPassed omitted next pc → ((i j : ℕ) (d : Source) → i ≤ j → j < length omitted → (get_or omitted i d).facts.start ≤ (get_or omitted j d).facts.start) → (next < length omitted → pc < (get_or omitted next d).facts.start)
+    → (i : ℕ) (s : Source) → i < length omitted → (get_or omitted i s).facts.start ≤ pc → pc < (get_or omitted i s).facts.start + (get_or omitted i s).facts.size → ⊥
+none_omitted omitted next pc d passed rise after i s lt from to = elim (cases_lt i next) [
+  | inl before ↦ let ends = passed i s before lt in omega (arith, ends, to)
+  | inr not_before ↦
+      let low : next ≤ i = omega (arith, not_before) in
+      let here : next < length omitted = omega (arith, low, lt) in
+      let first : pc < (get_or omitted next s).facts.start = subst (λ (g : Source). pc < g.facts.start) (get_or_default omitted next d s here) (after here) in
+      let up = rise next i s low lt in
+      omega (arith, first, up, from)
+]

@@ -1,0 +1,114 @@
+-- Rows by their places, and as pieces.
+use Rattle.std.specs.Prelude.{IsTrue, nat_le}
+use Rattle.std.specs.List.{All}
+use Rattle.std.specs.Option.{option_map}
+use Rattle.std.proofs.Common.{◌≡◌, ℕ, zero, suc, ◌+◌, ◌-◌, ◌<◌, ◌≤◌, Bool, true, false, cond, List, [], ◌∷◌, get_or, length, map, Option, Some, None, refl, sym, ap, subst, ◌∙◌, arith}
+use Rattle.std.proofs.lemmas.Bool.{lt-leb, le-leb}
+use Rattle.std.proofs.lemmas.List.Elements.{All-nil, All-cons, All-head, All-tail}
+use Rattle.sf_model.specs.declared.content.Content.{Content}
+use Rattle.sf_model.specs.declared.machine.Arch.{Arch}
+use Rattle.sf_model.specs.declared.rows.Row.{Row}
+use Rattle.sf_model.specs.Content.{content_fits}
+use Rattle.sf_model.specs.Function.{RowsRise}
+use Rattle.sf_model.specs.Lookup.{row_at}
+use Rattle.sf_lookup.proofs.Rows.{latest, latest_holds, latest_stops}
+use Rattle.sf_express.specs.declared.pieces.Piece.{Piece}
+use Rattle.sf_express.specs.Pieces.{ArePieces, PiecesBegin, PiecesRise, said_by}
+use Rattle.sf_verify.specs.Asking.{AllFit, IfFits, RowsBegin, piece_of_row}
+
+-- each start is above the one before, and the first at least this
+abbrev pub Rise : (least : ℕ) → List Row → Type 0
+Rise least [] = Unit {0}
+Rise least (r ∷ rows) = (least ≤ r.start) × Rise (r.start + 1) rows
+
+later_rise : (r : Row) (rows : List Row) → RowsRise (r ∷ rows) → RowsRise rows
+later_rise r rows h k d lt =
+    let same : suc k + 1 ≡ suc (k + 1) = omega arith in
+    subst (λ j. (get_or rows k d).start < (get_or (r ∷ rows) j d).start) same (h (suc k) d (omega (lt, arith)))
+
+rises_on : (r : Row) (rows : List Row) → RowsRise (r ∷ rows) → Rise (r.start + 1) rows
+rises_on r [] h = tt
+rises_on r (s ∷ rows) h =
+    let first : r.start < s.start = h 0 r (omega arith) in
+    (omega (first, arith), rises_on s rows (later_rise r (s ∷ rows) h))
+
+pub rises : (rows : List Row) → RowsRise rows → Rise 0 rows
+rises [] h = tt
+rises (r ∷ rows) h = (omega arith, rises_on r rows h)
+
+first_least : (least : ℕ) (rows : List Row) (i : ℕ) (d : Row) → Rise least rows → i < length rows → least ≤ (get_or rows i d).start
+first_least least [] i d h lt = absurd (omega (arith, lt))
+first_least least (r ∷ rows) zero d h lt = h.0
+first_least least (r ∷ rows) (suc i) d h lt = let later = first_least (r.start + 1) rows i d h.1 (omega (arith, lt)) in omega (arith, later, h.0)
+
+-- the row that begins last by an offset
+latest_at_place : (o least i : ℕ) (found : Option Row) (rows : List Row) (d : Row) → Rise least rows → i < length rows → (get_or rows i d).start ≤ o
+    → (i + 1 < length rows → o < (get_or rows (i + 1) d).start) → latest o found rows ≡ Some (get_or rows i d)
+latest_at_place o least i found [] d h lt by before = absurd (omega (arith, lt))
+latest_at_place o least zero found (r ∷ []) d h lt by before = rw (le-leb r.start o by) refl
+latest_at_place o least zero found (r ∷ s ∷ rows) d h lt by before =
+    let after : o < s.start = before (omega arith) in
+    rw (le-leb r.start o by) (latest_stops o (Some r) s rows after)
+latest_at_place o least (suc i) found (r ∷ rows) d h lt by before =
+    let there = first_least (r.start + 1) rows i d h.1 (omega (arith, lt)) in
+    let here : r.start ≤ o = omega (arith, there, by) in
+    let same : suc i + 1 ≡ suc (i + 1) = omega arith in
+    rw (le-leb r.start o here) (latest_at_place o (r.start + 1) i (Some r) rows d h.1 (omega (arith, lt)) by
+    (λ more. subst (λ (k : ℕ). o < (get_or (r ∷ rows) k d).start) same (before (omega (arith, more)))))
+
+pub row_at_place : (o i : ℕ) (rows : List Row) (d : Row) → RowsRise rows → i < length rows → (get_or rows i d).start ≤ o → (i + 1 < length rows → o < (get_or rows (i + 1) d).start)
+    → row_at o rows ≡ Some (get_or rows i d)
+row_at_place o i rows d h lt by before = sym (latest_holds o rows h) ∙ latest_at_place o 0 i None rows d (rises rows h) lt by before
+
+-- before the first row nothing is said
+latest_before : (o : ℕ) (rows : List Row) (d : Row) → (0 < length rows → o < (get_or rows 0 d).start) → latest o None rows ≡ None
+latest_before o [] d h = refl
+latest_before o (r ∷ rows) d h = latest_stops o None r rows (h (omega arith))
+
+pub no_row_before : (o : ℕ) (rows : List Row) (d : Row) → RowsRise rows → (0 < length rows → o < (get_or rows 0 d).start) → row_at o rows ≡ None
+no_row_before o rows d h before = sym (latest_holds o rows h) ∙ latest_before o rows d before
+
+pub no_row_at_all : (o : ℕ) → row_at o [] ≡ None
+unfolding row_at
+no_row_at_all o = refl
+
+-- ---- as pieces
+abbrev pub as_pieces : List Row → List Piece
+as_pieces rows = map piece_of_row rows
+
+abbrev pub content_of_row : Option Row → Option (Option Content)
+content_of_row found = option_map (λ (r : Row). Some r.content) found
+
+said_latest : (o : ℕ) (found : Option Row) (rows : List Row) → said_by o (content_of_row found) (as_pieces rows) ≡ content_of_row (latest o found rows)
+said_latest o found [] = refl
+said_latest o found (r ∷ rows) = at_test (nat_le r.start o) refl (said_latest o (Some r) rows)
+  where
+    at_test : (b : Bool) → nat_le r.start o ≡ b → said_by o (Some (Some r.content)) (as_pieces rows) ≡ content_of_row (latest o (Some r) rows)
+        → said_by o (content_of_row found) (piece_of_row r ∷ as_pieces rows) ≡ content_of_row (latest o found (r ∷ rows))
+    at_test true e later = rw e later
+    at_test false e later = rw e refl
+
+pub pieces_as_rows : (o : ℕ) (rows : List Row) → RowsRise rows → said_by o None (as_pieces rows) ≡ content_of_row (row_at o rows)
+pieces_as_rows o rows h = said_latest o None rows ∙ ap content_of_row (latest_holds o rows h)
+
+as_pieces_rise : (least : ℕ) (rows : List Row) → Rise least rows → PiecesRise least (as_pieces rows)
+as_pieces_rise least [] h = tt
+as_pieces_rise least (r ∷ rows) h = (h.0, as_pieces_rise (r.start + 1) rows h.1)
+
+as_pieces_begin : (rows : List Row) → RowsBegin rows → PiecesBegin (as_pieces rows)
+as_pieces_begin [] h = absurd h
+as_pieces_begin (r ∷ rows) h = h
+
+as_pieces_below : (size : ℕ) (rows : List Row) → All (λ (r : Row). r.start < size) rows → All (λ (p : Piece). p.start < size) (as_pieces rows)
+as_pieces_below size [] h = All-nil (λ (p : Piece). p.start < size)
+as_pieces_below size (r ∷ rows) h =
+    All-cons (λ (p : Piece). p.start < size) (piece_of_row r) (as_pieces rows) (All-head (λ (r : Row). r.start < size) r rows h) (as_pieces_below size rows (All-tail (λ (r : Row). r.start < size) r rows h))
+
+pub as_pieces_are : (size : ℕ) (rows : List Row) → RowsBegin rows → RowsRise rows → All (λ (r : Row). r.start < size) rows → ArePieces size (as_pieces rows)
+as_pieces_are size rows begin rise below = record { first = as_pieces_begin rows begin; rise = as_pieces_rise 0 rows (rises rows rise); below = as_pieces_below size rows below }
+
+pub as_pieces_fit : (arch : Arch) (rows : List Row) → All (λ (r : Row). IsTrue (content_fits arch r.content)) rows → AllFit arch (as_pieces rows)
+as_pieces_fit arch [] h = All-nil (λ (p : Piece). IfFits arch p.content)
+as_pieces_fit arch (r ∷ rows) h =
+    let P : Row → Type 0 = λ (r : Row). IsTrue (content_fits arch r.content) in
+    All-cons (λ (p : Piece). IfFits arch p.content) (piece_of_row r) (as_pieces rows) (All-head P r rows h) (as_pieces_fit arch rows (All-tail P r rows h))

@@ -1,0 +1,157 @@
+-- The functions of a section, in the order of their addresses.
+use Rattle.std.specs.Prelude.{nat_le, nat_lt, ◌&&◌, ◌||◌}
+use Rattle.std.specs.List.{All, AllPairs, enumerate_from, filter, find, list_any}
+use Rattle.std.specs.List.Sorted.{IsPermutation}
+use Rattle.std.specs.Option.{option_and_then, option_map}
+use Rattle.std.proofs.Common.{◌≡◌, ℕ, zero, suc, ◌+◌, ◌<◌, ◌≤◌, Bool, true, false, cond, List, [], ◌∷◌, get_or, length, map, Option, Some, None, refl, sym, ap, subst, ◌∙◌, arith, inl, inr}
+use Rattle.std.proofs.lemmas.Bool.{cases_lt, leb-true, ltb-true, lt-ltb}
+use Rattle.std.proofs.lemmas.List.{append-nil}
+use Rattle.std.proofs.lemmas.List.Elements.{All-nil, All-cons, All-head, All-tail, All-filter, filter_passes}
+use Rattle.std.proofs.lemmas.List.Sorted.{All-permutation, IsPermutation-map, list_any-IsPermutation}
+use Rattle.sf_model.specs.declared.function.Func.{Func}
+use Rattle.sf_model.specs.declared.machine.Arch.{Arch}
+use Rattle.sf_model.specs.Lookup.{contains, found_at, row_in_first}
+use Rattle.sf_model.specs.Table.{Table}
+use Rattle.sf_model.specs.Union.{all_functions}
+use Rattle.sf_decode.specs.declared.view.View.{View}
+use Rattle.sf_decode.specs.View.{section_bytes, table_of}
+use Rattle.sf_merge.specs.declared.located.Located.{Located}
+use Rattle.sf_merge.specs.Located.{InOrder, has_bytes, located}
+use Rattle.sf_merge.specs.Merging.{neighbours, overlap, overlap_fault, shared_by}
+use Rattle.sf_merge.specs.Views.{IsRead}
+use Rattle.sf_merge.proofs.Apart.{EndsBy, function_of, none_share}
+use Rattle.sf_merge.proofs.Sound.{IsSound, all_sound}
+use Rattle.sf_merge.proofs.United.{functions_are}
+use Rattle.sf_asm.proofs.Finding.{Member, OnePasses, found_alike}
+use Rattle.sf_verify.specs.declared.fault.VerifyFault.{VerifyFault}
+use Rattle.sf_verify.specs.Comparing.{AreComparable, IsComparable, functions_in}
+use Rattle.sf_verify.specs.Counting.{StartsRise}
+use Rattle.sf_verify.specs.Said.{by_row, section_at}
+use Rattle.sf_verify.specs.Verifying as verifying
+use Rattle.sf_verify.specs.Verifying.{section_fault, sized}
+use Rattle.sf_verify.proofs.Gathered.{mapped, placed}
+
+-- ---- all functions of a table
+located_functions : (table : Table) → functions_in (located 0 table) ≡ table.functions
+located_functions table = ap functions_in (sym (append-nil (located 0 table))) ∙ functions_are (table ∷ []) ∙ append-nil table.functions
+
+all_back : {X Y : Type 0} (P : Y → Type 0) (f : X → Y) (xs : List X) → All P (map f xs) → All (λ x. P (f x)) xs
+all_back P f [] h = All-nil (λ x. P (f x))
+all_back P f (x ∷ xs) h = All-cons (λ x. P (f x)) x xs (All-head P (f x) (map f xs) h) (all_back P f xs (All-tail P (f x) (map f xs) h))
+
+located_sound : (view : View) → IsRead view → All (λ (l : Located). IsSound (table_of view).arch l.func) (located 0 (table_of view))
+located_sound view read =
+    let table = table_of view in
+    let arch = table.arch in
+    let sound : All (IsSound arch) (all_functions (table ∷ [])) =
+    all_sound arch (view ∷ []) (All-cons IsRead view [] read (All-nil IsRead)) (All-cons (λ (t : Table). t.arch ≡ arch) table [] refl (All-nil (λ (t : Table). t.arch ≡ arch))) in
+    all_back (IsSound arch) (λ (l : Located). l.func) (located 0 table) (subst (All (IsSound arch)) (append-nil table.functions ∙ sym (located_functions table)) sound)
+
+ordered_sound : (view : View) (ordered : List Located) → IsRead view → InOrder (sized (table_of view)) ordered → All (λ (l : Located). IsSound (table_of view).arch l.func) ordered
+ordered_sound view ordered read order =
+    let arch = (table_of view).arch in
+    All-permutation (λ (l : Located). IsSound arch l.func) (sized (table_of view)) ordered order.moved (All-filter has_bytes (λ (l : Located). IsSound arch l.func) (located 0 (table_of view)) (located_sound view read))
+
+ordered_bytes : (table : Table) (ordered : List Located) → InOrder (sized table) ordered → All (λ (l : Located). has_bytes l ≡ true) ordered
+ordered_bytes table ordered order = All-permutation (λ (l : Located). has_bytes l ≡ true) (sized table) ordered order.moved (filter_passes has_bytes (located 0 table))
+
+-- ---- they share no address
+none_found : (bytes : List ℕ) (o : Option (Located × Located)) → option_map (verifying.shared_by bytes) o ≡ None → option_map shared_by o ≡ None
+none_found bytes None e = refl
+none_found bytes (Some pair) e = cc
+
+none_shared : (bytes : List ℕ) (ls : List Located) → section_fault bytes ls ≡ None → overlap_fault ls ≡ None
+unfolding section_fault overlap_fault
+none_shared bytes ls e = none_found bytes (find overlap (neighbours ls)) e
+
+apart : (bytes : List ℕ) (ls : List Located) → section_fault bytes ls ≡ None → (i j : ℕ) (d : Located) → i < j → j < length ls → (get_or ls i d).func.start + (get_or ls i d).func.size ≤ (get_or ls j d).func.start
+apart bytes ls e = none_share ls (none_shared bytes ls e)
+
+pub comparable : (view : View) (ordered : List Located) → IsRead view → InOrder (sized (table_of view)) ordered → section_fault (section_bytes view) ordered ≡ None → AreComparable (table_of view).arch ordered
+comparable view ordered read order e = record {
+  each = λ k d lt. let s = ordered_sound view ordered read order k d lt in record { end = s.end; rise = s.rise; fits = s.fits };
+  apart = apart (section_bytes view) ordered e;
+}
+
+pub starts_rise : (bytes : List ℕ) (table : Table) (ordered : List Located) → InOrder (sized table) ordered → section_fault bytes ordered ≡ None → StartsRise ordered
+starts_rise bytes table ordered order e i j d lt within =
+    let ends = apart bytes ordered e i j d lt within in
+    let some = ltb-true 0 (get_or ordered i d).func.size (ordered_bytes table ordered order i d (omega (arith, lt, within))) in
+    omega (arith, ends, some)
+
+-- ---- look-ups
+both : (a b : Bool) → (a && b) ≡ true → (a ≡ true) × (b ≡ true)
+both true b e = (refl, e)
+both false b e = cc
+
+contained : (pc : ℕ) (f : Func) → contains pc f ≡ true → (f.start ≤ pc) × (pc < f.start + f.size)
+contained pc f e = let two = both (nat_le f.start pc) (nat_lt pc (f.start + f.size)) e in (leb-true f.start pc two.0, ltb-true pc (f.start + f.size) two.1)
+
+one_contains : (pc : ℕ) (ls : List Located) → ((i j : ℕ) (d : Located) → i < j → j < length ls → (get_or ls i d).func.start + (get_or ls i d).func.size ≤ (get_or ls j d).func.start) → OnePasses (contains pc) (functions_in ls)
+one_contains pc ls h = λ x y m n s t.
+    let p = placed (functions_in ls) x m in
+    let q = placed (functions_in ls) y n in
+    let d : Located = record { func = x; item = 0; number = 0 } in
+    let p_lt : p.place < length ls = subst (λ (k : ℕ). p.place < k) (length_in ls) p.within in
+    let q_lt : q.place < length ls = subst (λ (k : ℕ). q.place < k) (length_in ls) q.within in
+    let x_is : (get_or ls p.place d).func ≡ x = sym (mapped (λ (l : Located). l.func) ls p.place x d p_lt) ∙ p.is x in
+    let y_is : (get_or ls q.place d).func ≡ y = sym (mapped (λ (l : Located). l.func) ls q.place x d q_lt) ∙ q.is x in
+    by_places x y d p.place q.place p_lt q_lt x_is y_is (contained pc x s) (contained pc y t)
+  where
+    length_in : (ls : List Located) → length (functions_in ls) ≡ length ls
+    length_in [] = refl
+    length_in (l ∷ ls) = ap suc (length_in ls)
+
+    never : (i j : ℕ) (d : Located) → i < j → j < length ls → pc < (get_or ls i d).func.start + (get_or ls i d).func.size → (get_or ls j d).func.start ≤ pc → ⊥
+    never i j d lt within to from = let ends = h i j d lt within in omega (arith, ends, to, from)
+
+    by_places : (x y : Func) (d : Located) (i j : ℕ) → i < length ls → j < length ls → (get_or ls i d).func ≡ x → (get_or ls j d).func ≡ y → (x.start ≤ pc) × (pc < x.start + x.size) → (y.start ≤ pc) × (pc < y.start + y.size) → x ≡ y
+    by_places x y d i j i_lt j_lt x_is y_is a b = elim (cases_lt i j) [
+      | inl lt ↦ absurd (never i j d lt j_lt (subst (λ (f : Func). pc < f.start + f.size) (sym x_is) a.1) (subst (λ (f : Func). f.start ≤ pc) (sym y_is) b.0))
+      | inr not_lt ↦ elim (cases_lt j i) [
+        | inl gt ↦ absurd (never j i d gt i_lt (subst (λ (f : Func). pc < f.start + f.size) (sym y_is) b.1) (subst (λ (f : Func). f.start ≤ pc) (sym x_is) a.0))
+        | inr not_gt ↦ let same : i ≡ j = omega (arith, not_lt, not_gt) in sym x_is ∙ ap (λ (k : ℕ). (get_or ls k d).func) same ∙ y_is
+      ]
+    ]
+
+-- functions without bytes have no address
+find_sized : (pc : ℕ) (ls : List Located) → find (contains pc) (functions_in (filter has_bytes ls)) ≡ find (contains pc) (functions_in ls)
+find_sized pc [] = refl
+find_sized pc (l ∷ ls) = at_size (has_bytes l) refl (find_sized pc ls)
+  where
+    not_there : (b : Bool) → contains pc l.func ≡ b → has_bytes l ≡ false → b ≡ false
+    not_there true e none = let two = contained pc l.func e in let some = lt-ltb 0 l.func.size (omega (arith, two.0, two.1)) in cc
+    not_there false e none = refl
+
+    at_size : (b : Bool) → has_bytes l ≡ b → find (contains pc) (functions_in (filter has_bytes ls)) ≡ find (contains pc) (functions_in ls)
+        → find (contains pc) (functions_in (cond b (l ∷ filter has_bytes ls) (filter has_bytes ls))) ≡ find (contains pc) (functions_in (l ∷ ls))
+    at_size true e others = ap (λ o. cond (contains pc l.func) (Some l.func) o) others
+    at_size false e others = others ∙ sym (ap (λ (b : Bool). cond b (Some l.func) (find (contains pc) (functions_in ls))) (not_there (contains pc l.func) refl e))
+
+-- what the section says, by its functions in order
+pub section_says : (bytes : List ℕ) (table : Table) (ordered : List Located) → InOrder (sized table) ordered → section_fault bytes ordered ≡ None → (pc : ℕ) → section_at (functions_in ordered) pc ≡ section_at table.functions pc
+unfolding section_at found_at
+section_says bytes table ordered order e pc =
+    let found : find (contains pc) table.functions ≡ find (contains pc) (functions_in ordered) =
+    ap (find (contains pc)) (sym (located_functions table)) ∙ sym (find_sized pc (located 0 table))
+    ∙ found_alike (contains pc) (functions_in (sized table)) (functions_in ordered) (IsPermutation-map (λ (l : Located). l.func) (sized table) ordered order.moved) (one_contains pc ordered (apart bytes ordered e)) in
+    sym (ap (λ (f : Option Func). option_and_then by_row (row_in_first pc f)) found)
+
+-- a test that only functions with bytes pass
+pub any_sized : (p : Func → Bool) (table : Table) (ordered : List Located) → InOrder (sized table) ordered → ((f : Func) → p f ≡ true → 0 < f.size) → list_any p (functions_in ordered) ≡ list_any p table.functions
+any_sized p table ordered order some =
+    sym (list_any-IsPermutation p (functions_in (sized table)) (functions_in ordered) (IsPermutation-map (λ (l : Located). l.func) (sized table) ordered order.moved))
+    ∙ any_of (located 0 table) ∙ ap (list_any p) (located_functions table)
+  where
+    not_there : (l : Located) (b : Bool) → p l.func ≡ b → has_bytes l ≡ false → b ≡ false
+    not_there l true e none = let there = lt-ltb 0 l.func.size (some l.func e) in cc
+    not_there l false e none = refl
+
+    any_of : (ls : List Located) → list_any p (functions_in (filter has_bytes ls)) ≡ list_any p (functions_in ls)
+    any_of [] = refl
+    any_of (l ∷ ls) = at_size (has_bytes l) refl (any_of ls)
+      where
+        at_size : (b : Bool) → has_bytes l ≡ b → list_any p (functions_in (filter has_bytes ls)) ≡ list_any p (functions_in ls)
+            → list_any p (functions_in (cond b (l ∷ filter has_bytes ls) (filter has_bytes ls))) ≡ list_any p (functions_in (l ∷ ls))
+        at_size true e others = ap (λ (b : Bool). p l.func || b) others
+        at_size false e others = others ∙ sym (ap (λ (b : Bool). b || list_any p (functions_in ls)) (not_there l (p l.func) refl e))

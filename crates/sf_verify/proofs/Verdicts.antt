@@ -1,0 +1,177 @@
+-- What verifying comes to, by what the code found.
+use Rattle.std.specs.Prelude.{IsTrue, not, ◌&&◌, ◌==◌, nat_lt}
+use Rattle.std.specs.List.{All, AllAdjacentBelow, filter, list_any}
+use Rattle.std.specs.List.Sorted.{IsPermutation, IsSorted}
+use Rattle.std.specs.Option.{option_map}
+use Rattle.std.proofs.Common.{◌≡◌, ℕ, zero, suc, ◌+◌, ◌-◌, ◌<◌, ◌≤◌, Bool, true, false, cond, List, [], ◌∷◌, get_or, length, map, Option, Some, None, Result, Ok, Err, refl, sym, ap, subst, ◌∙◌, arith, inl, inr}
+use Rattle.std.proofs.lemmas.Bool.{eqb-true, ltb-true}
+use Rattle.std.proofs.lemmas.List.Elements.{All-head, All-tail}
+use Rattle.sf_model.specs.declared.function.Func.{Func}
+use Rattle.sf_model.specs.declared.machine.Arch.{Arch}
+use Rattle.sf_model.specs.declared.omission.Omitted.{Omitted}
+use Rattle.sf_model.specs.declared.verdict.Verdict.{Verdict}
+use Rattle.sf_model.specs.declared.verdict.Verdict.TheVariants.{Agrees, Differs}
+use Rattle.sf_model.specs.Function.{AreWritable}
+use Rattle.sf_model.specs.Table.{Table}
+use Rattle.sf_decode.specs.declared.view.View.{View}
+use Rattle.sf_decode.specs.View.{section_bytes, table_of}
+use Rattle.sf_merge.specs.declared.located.Located.{Located}
+use Rattle.sf_merge.specs.Located.{InOrder, compared}
+use Rattle.sf_merge.specs.Views.{IsRead}
+use Rattle.sf_asm.specs.declared.entry.Entry.{Entry}
+use Rattle.sf_asm.specs.declared.fault.GatherFault.{GatherFault}
+use Rattle.sf_asm.specs.declared.fault.GatherFault.TheVariants as gather
+use Rattle.sf_asm.specs.declared.source.Source.{Source}
+use Rattle.sf_asm.specs.Answers.{IsFirstGathered}
+use Rattle.sf_asm.specs.Functions.{Function, Object, functions_of, machine_of}
+use Rattle.sf_asm.specs.Inputs.{HaveMachine}
+use Rattle.sf_asm.specs.Kept.{entry_of, is_kept}
+use Rattle.sf_asm.specs.Linking.{Gathers, functions_fault, limits_fault, or_later, overlap_fault, overlap_in}
+use Rattle.sf_asm.specs.Entry.{spans_of}
+use Rattle.sf_asm.specs.Sources.{AreWithSources, functions_lent}
+use Rattle.sf_asm.proofs.GatheredInputs.{are_read}
+use Rattle.sf_asm.proofs.Kept.{not_overlapping_apart}
+use Rattle.sf_verify.specs.declared.fault.VerifyFault.{VerifyFault}
+use Rattle.sf_verify.specs.declared.fault.VerifyFault.TheVariants as verify
+use Rattle.sf_verify.specs.Agreement.{Agree, AgreeEverywhere, DifferFirst, IsVerdict, content_said, is_plain, stands_for}
+use Rattle.sf_verify.specs.Asking.{AreHolders, answers_of}
+use Rattle.sf_verify.specs.Comparing.{AreComparable, functions_in}
+use Rattle.sf_verify.specs.Concluding.{IsVerdictBy}
+use Rattle.sf_verify.specs.Counting.{KeptRise, StartsRise, covers, is_absent}
+use Rattle.sf_verify.specs.Said.{Answers, dwarf_at, section_at}
+use Rattle.sf_verify.specs.Verifying.{IsFirstFault, Verifies, VerdictUnless, first_fault, refused, section_fault, sized}
+use Rattle.sf_verify.proofs.Counted.{missing_are}
+use Rattle.sf_verify.proofs.Gathered.{expressed_of, holders, holders_of_both, kept_are, kept_size, same_answers}
+use Rattle.sf_verify.proofs.OneMachine.{functions_of_one}
+use Rattle.sf_verify.proofs.Sections.{any_sized, comparable, section_says, starts_rise}
+
+-- ---- the same at each address
+agree_alike : (s t d e : Option _) → s ≡ t → d ≡ e → Agree s d → Agree t e
+agree_alike s t d e p q h = subst (λ x. Agree x e) p (subst (λ y. Agree s y) q h)
+
+first_alike : (section other dwarf real : Answers) (pc : ℕ) (ours : _) (theirs : _) → ((pc : ℕ) → section pc ≡ other pc) → ((pc : ℕ) → dwarf pc ≡ real pc) → DifferFirst section dwarf pc ours theirs → DifferFirst other real pc ours theirs
+first_alike section other dwarf real pc ours theirs p q h = record {
+  section_says = ap content_said (sym (p pc)) ∙ h.section_says;
+  dwarf_says = ap content_said (sym (q pc)) ∙ h.dwarf_says;
+  differ = λ agree. h.differ (agree_alike (other pc) (section pc) (real pc) (dwarf pc) (sym (p pc)) (sym (q pc)) agree);
+  before = λ least lt. agree_alike (section least) (other least) (dwarf least) (real least) (p least) (q least) (h.before least lt);
+}
+
+verdict_is : (section ordered kept : List Func) (functions sorted : List Function) (answers : Answers) (verdict : Verdict) → ((pc : ℕ) → section_at ordered pc ≡ section_at section pc) → ((pc : ℕ) → answers pc ≡ dwarf_at functions pc)
+    → kept ≡ map expressed_of (filter is_kept sorted) → IsPermutation functions sorted → ((f : Function) → is_kept f ≡ true → list_any (covers (expressed_of f)) ordered ≡ list_any (stands_for f) section)
+    → IsVerdictBy section ordered kept answers verdict → IsVerdict section functions verdict
+verdict_is section ordered kept functions sorted answers (Agrees checked missing repeats) p q kept_is moved same h = record {
+  agree = λ pc. agree_alike (section_at ordered pc) (section_at section pc) (answers pc) (dwarf_at functions pc) (p pc) (q pc) (h.agree pc);
+  checked_are = h.checked_are;
+  missing_are = h.missing_are ∙ ap (λ (ks : List Func). length (filter (is_absent ordered) ks)) kept_is ∙ missing_are section ordered functions sorted moved same;
+  repeats_are = h.repeats_are;
+}
+verdict_is section ordered kept functions sorted answers (Differs pc ours theirs) p q kept_is moved same h = first_alike (section_at ordered) (section_at section) answers (dwarf_at functions) pc ours theirs p q h
+
+-- ---- kept functions rise
+later_pairs : (fs : List Func) → AllAdjacentBelow (λ (f : Func) (g : Func). f.start + f.size ≤ g.start) fs (length fs) → (i k : ℕ) (d : Func) → i + k + 1 < length fs → (get_or fs i d).start + (get_or fs i d).size ≤ (get_or fs (i + k + 1) d).start
+later_pairs fs h i zero d lt = let same : i + 0 + 1 ≡ i + 1 = omega arith in subst (λ (n : ℕ). (get_or fs i d).start + (get_or fs i d).size ≤ (get_or fs n d).start) (sym same) (h i d (omega (arith, lt)))
+later_pairs fs h i (suc k) d lt =
+    let before = later_pairs fs h i k d (omega (arith, lt)) in
+    let next = h (i + k + 1) d (omega (arith, lt)) in
+    let same : i + suc k + 1 ≡ i + k + 1 + 1 = omega arith in
+    subst (λ (n : ℕ). (get_or fs i d).start + (get_or fs i d).size ≤ (get_or fs n d).start) (sym same) (omega (arith, before, next))
+
+pub kept_rise : (arch : Arch) (kept : List Func) → AreWritable arch kept → KeptRise kept
+kept_rise arch kept h i j d lt within =
+    go (j - (i + 1)) (omega (arith, lt))
+  where
+    go : (k : ℕ) → j ≡ i + k + 1 → (get_or kept i d).start < (get_or kept j d).start
+    go k e =
+        let ends = later_pairs kept h.apart i k d (subst (λ (n : ℕ). n < length kept) e within) in
+        let some = (h.each i d (omega (arith, lt, within))).size in
+        subst (λ (n : ℕ). (get_or kept i d).start < (get_or kept n d).start) (sym e) (omega (arith, ends, some))
+
+-- ---- gathered functions
+no_overlap : (limits : Option GatherFault) (pair : Option _) → or_later limits (option_map overlap_fault pair) ≡ None → pair ≡ None
+no_overlap None None e = refl
+no_overlap None (Some pair) e = cc
+no_overlap (Some fault) pair e = cc
+
+pub have_holders : (before : Arch) (objects : List Object) (arch : Arch) (kept : List Func) (omitted : List Omitted) (sources : List Source) (h : AreWithSources (Some before) objects arch kept omitted (functions_lent sources)) → HaveMachine (Some before) objects arch
+    → AreHolders arch (dwarf_at h.functions) kept sources
+have_holders before objects arch kept omitted sources h machine =
+    let read = are_read (Some before) objects (map entry_of h.sorted) h.is in
+    let apart = not_overlapping_apart (map entry_of h.sorted) (no_overlap (limits_fault (map entry_of h.sorted)) (overlap_in (spans_of (map entry_of h.sorted))) read.checked) in
+    let machines = functions_of_one arch 1 objects h.functions (All-tail (λ (m : Arch). m ≡ arch) before (map machine_of objects) machine) h.are in
+    holders arch h.functions h.sorted kept sources h.by_start.moved apart h.kept_are h.sources_are h.by_start.rising h.writable.each machines
+
+-- ---- the results
+both : (a b : Bool) → (a && b) ≡ true → (a ≡ true) × (b ≡ true)
+both true b e = (refl, e)
+both false b e = cc
+
+pub same_machine : (before arch : Arch) (objects : List Object) → HaveMachine (Some before) objects arch → before ≡ arch
+same_machine before arch objects machine = All-head (λ (m : Arch). m ≡ arch) before (map machine_of objects) machine
+
+-- a function that is covered holds an address
+covered_size : (f : Function) (g : Func) → is_kept f ≡ true → 0 < f.size → covers (expressed_of f) g ≡ true → 0 < g.size
+covered_size f g kept some e =
+    let two = both (is_plain g && (g.start == f.start)) (g.size == f.size) e in
+    let same = eqb-true g.size f.size two.1 in
+    omega (arith, same, some)
+
+pub is_verified : (view : View) (objects : List Object) (arch : Arch) (kept : List Func) (omitted : List Omitted) (sources : List Source) (ordered : List Located) (verdict : Verdict)
+    → (h : AreWithSources (Some (table_of view).arch) objects arch kept omitted (functions_lent sources)) → HaveMachine (Some (table_of view).arch) objects arch → InOrder (sized (table_of view)) ordered → section_fault (section_bytes view) ordered ≡ None
+    → IsVerdictBy (table_of view).functions (functions_in ordered) kept (answers_of kept (functions_lent sources)) verdict → Verifies (section_bytes view) (table_of view) objects (Ok verdict)
+is_verified view objects arch kept omitted sources ordered verdict h machine order none is =
+    let table = table_of view in
+    let hold = have_holders table.arch objects arch kept omitted sources h machine in
+    let verdict' = verdict_is table.functions (functions_in ordered) kept h.functions h.sorted (answers_of kept (functions_lent sources)) verdict
+    (section_says (section_bytes view) table ordered order none) (same_answers arch (dwarf_at h.functions) kept sources hold) (h.kept_are ∙ kept_are h.sorted) h.by_start.moved
+    (λ f k. any_sized (covers (expressed_of f)) table ordered order (λ g e. covered_size f g k (kept_size f k) e)) is in
+    (Ok (map entry_of h.sorted), h.is, ordered, order, subst (λ (fault : Option VerifyFault). VerdictUnless fault table objects (Ok verdict)) (sym none) (h.functions, h.are, verdict, verdict', refl))
+
+pub is_refused : (view : View) (objects : List Object) (ordered : List Located) (fault : GatherFault) → InOrder (sized (table_of view)) ordered → IsFirstGathered (Some (table_of view).arch) objects fault
+    → IsFirstFault (section_bytes view) (table_of view) objects (refused (section_fault (section_bytes view) ordered) fault)
+is_refused view objects ordered fault order (inl none) = inl (subst (λ (f : GatherFault). refused (section_fault (section_bytes view) ordered) f ≡ verify.NoMemory) (sym none) (no_memory (section_fault (section_bytes view) ordered)))
+  where
+    no_memory : (section : Option VerifyFault) → refused section gather.NoMemory ≡ verify.NoMemory
+    no_memory None = refl
+    no_memory (Some fault) = refl
+is_refused view objects ordered fault order (inr is) = inr (Err fault, is, ordered, order, refl)
+
+pub is_shared : (view : View) (objects : List Object) (arch : Arch) (kept : List Func) (omitted : List Omitted) (sources : List Function) (ordered : List Located) (fault : VerifyFault) → AreWithSources (Some (table_of view).arch) objects arch kept omitted sources → InOrder (sized (table_of view)) ordered
+    → section_fault (section_bytes view) ordered ≡ Some fault → IsFirstFault (section_bytes view) (table_of view) objects fault
+is_shared view objects arch kept omitted sources ordered fault h order is =
+    inr (Ok (map entry_of h.sorted), h.is, ordered, order, subst (λ (f : Option VerifyFault). VerdictUnless f (table_of view) objects (Err fault)) (sym is) refl)
+
+-- ---- what the comparison asks for
+pub record ArePrepared (view : View) (arch : Arch) (kept : List Func) (sources : List Source) (ordered : List Located) : Type 0 where
+  pub machine : arch ≡ (table_of view).arch
+  pub order : InOrder (sized (table_of view)) ordered
+  pub none : section_fault (section_bytes view) ordered ≡ None
+  pub comparable : AreComparable arch ordered
+  pub rise : StartsRise ordered
+  pub holders : AreHolders arch (answers_of kept (functions_lent sources)) kept sources
+  pub kept_rises : KeptRise kept
+
+pub prepared : (view : View) (objects : List Object) (before arch : Arch) (kept : List Func) (omitted : List Omitted) (sources : List Source) (ordered asked : List Located) (shared : Option VerifyFault) → before ≡ (table_of view).arch
+    → AreWithSources (Some before) objects arch kept omitted (functions_lent sources) → HaveMachine (Some before) objects arch → IsRead view → IsPermutation (sized (table_of view)) ordered → IsSorted compared ordered
+    → asked ≡ ordered → shared ≡ section_fault (section_bytes view) asked → shared ≡ None → ArePrepared view arch kept sources ordered
+prepared view objects before arch kept omitted sources ordered asked shared before_is h machine read moved sorted asked_is shared_is none =
+    let order : InOrder (sized (table_of view)) ordered = record { moved = moved; rising = sorted } in
+    let no_fault : section_fault (section_bytes view) ordered ≡ None = subst (λ (ls : List Located). section_fault (section_bytes view) ls ≡ None) asked_is (sym shared_is ∙ none) in
+    let arch_is : arch ≡ (table_of view).arch = sym (same_machine before arch objects machine) ∙ before_is in
+    record {
+      machine = arch_is;
+      order = order;
+      none = no_fault;
+      comparable = subst (λ (a : Arch). AreComparable a ordered) (sym arch_is) (comparable view ordered read order no_fault);
+      rise = starts_rise (section_bytes view) (table_of view) ordered order no_fault;
+      holders = holders_of_both arch (dwarf_at h.functions) kept sources (have_holders before objects arch kept omitted sources h machine);
+      kept_rises = kept_rise arch kept h.writable;
+    }
+
+pub has_verdict : (view : View) (objects : List Object) (before arch : Arch) (kept : List Func) (omitted : List Omitted) (sources : List Source) (ordered asked : List Located) (verdict : Verdict) → before ≡ (table_of view).arch
+    → AreWithSources (Some before) objects arch kept omitted (functions_lent sources) → HaveMachine (Some before) objects arch → ArePrepared view arch kept sources ordered → asked ≡ ordered
+    → IsVerdictBy (table_of view).functions (functions_in asked) kept (answers_of kept (functions_lent sources)) verdict → Verifies (section_bytes view) (table_of view) objects (Ok verdict)
+has_verdict view objects before arch kept omitted sources ordered asked verdict before_is h machine p asked_is is =
+    is_verified view objects arch kept omitted sources ordered verdict
+    (subst (λ (a : Arch). AreWithSources (Some a) objects arch kept omitted (functions_lent sources)) before_is h) (subst (λ (a : Arch). HaveMachine (Some a) objects arch) before_is machine) p.order p.none
+    (subst (λ (ls : List Located). IsVerdictBy (table_of view).functions (functions_in ls) kept (answers_of kept (functions_lent sources)) verdict) asked_is is)

@@ -1,0 +1,129 @@
+-- Call frame information from the two lists in which the functions of the inputs are gathered, asked by rising address.
+use Rattle.std.specs.Prelude.{◌≡◌, ◌<◌, ◌≤◌, ◌+◌, ◌-◌, ◌^◌, ℕ, Bool, true, false, List, [], ◌∷◌, length, get_or, IsTrue, Option, Some, None, ⊤}
+use Rattle.std.specs.List.{All, find}
+use Rattle.std.specs.Option.{option_and_then, option_map}
+use Rattle.sf_model.specs.declared.content.Content.{Content}
+use Rattle.sf_model.specs.declared.function.Func.{Func}
+use Rattle.sf_model.specs.declared.function.Shape.TheVariants.{Plain}
+use Rattle.sf_model.specs.declared.machine.Arch.{Arch}
+use Rattle.sf_model.specs.declared.rows.Row.{Row}
+use Rattle.sf_model.specs.Content.{content_fits}
+use Rattle.sf_model.specs.Function.{RowsRise}
+use Rattle.sf_model.specs.Lookup.{contains}
+use Rattle.sf_express.specs.declared.pieces.Piece.{Piece}
+use Rattle.sf_express.specs.Pieces.{ArePieces, said_by}
+use Rattle.sf_asm.specs.Faithful.{holds_address}
+use Rattle.sf_asm.specs.declared.source.Source.{Source}
+use Rattle.sf_asm.specs.Functions.{Function}
+use Rattle.sf_asm.specs.Sources.{functions_lent, source_function}
+use Rattle.sf_verify.specs.declared.dwarf.Dwarf.{Dwarf}
+use Rattle.sf_verify.specs.declared.dwarf.Held.{Held}
+use Rattle.sf_verify.specs.declared.dwarf.Known.{Known}
+use Rattle.sf_verify.specs.declared.said.Said.{Said}
+use Rattle.sf_verify.specs.Comparing.{func_says}
+use Rattle.sf_verify.specs.Said.{Answers, said_in, with_key}
+
+-- ---- what both lists say
+abbrev pub by_holder : (pc : ℕ) → (kept : Option Func) → (omitted : Option Function) → Option Said
+by_holder pc (Some f) omitted = func_says f pc
+by_holder pc None omitted = option_and_then (said_in pc) omitted
+
+-- the kept function that has the address decides, or the omitted one
+unfoldable pub answers_of : (kept : List Func) → (omitted : List Function) → Answers
+answers_of kept omitted pc = by_holder pc (find (contains pc) kept) (find (holds_address pc) omitted)
+
+abbrev pub says : Dwarf → Answers
+says d = answers_of d.kept.now (functions_lent d.omitted.now)
+
+-- the first row begins at 0
+abbrev pub RowsBegin : List Row → Type 0
+RowsBegin [] = ⊥
+RowsBegin (r ∷ rows) = r.start ≡ 0
+
+-- a kept function, as it is gathered: it has a row from its first address on, and its rows rise
+pub record IsRowed (arch : Arch) (f : Func) : Type 0 where
+  pub plain : f.shape ≡ Plain
+  pub end : f.start + f.size ≤ 2 ^ 64
+  pub first : RowsBegin f.rows
+  pub below : All (λ (r : Row). r.start < f.size) f.rows
+  pub rise : RowsRise f.rows
+  pub fits : All (λ (r : Row). IsTrue (content_fits arch r.content)) f.rows
+
+-- What the two lists say, where at most one of their functions has an address.
+pub record AreHolders (arch : Arch) (answers : Answers) (kept : List Func) (omitted : List Source) : Type 0 where
+  pub kept_says : (i : ℕ) (d : Func) → i < length kept → (pc : ℕ) → (get_or kept i d).start ≤ pc → pc < (get_or kept i d).start + (get_or kept i d).size → answers pc ≡ func_says (get_or kept i d) pc
+  pub omitted_says : (i : ℕ) (d : Source) → i < length omitted → (pc : ℕ) → (get_or omitted i d).facts.start ≤ pc → pc < (get_or omitted i d).facts.start + (get_or omitted i d).facts.size
+      → answers pc ≡ said_in pc (source_function (get_or omitted i d))
+  pub none_says : (pc : ℕ) → ((i : ℕ) (d : Func) → i < length kept → (get_or kept i d).start ≤ pc → pc < (get_or kept i d).start + (get_or kept i d).size → ⊥)
+      → ((i : ℕ) (d : Source) → i < length omitted → (get_or omitted i d).facts.start ≤ pc → pc < (get_or omitted i d).facts.start + (get_or omitted i d).facts.size → ⊥) → answers pc ≡ None
+  -- both lists are by rising start, of functions of this machine
+  pub kept_rowed : All (IsRowed arch) kept
+  pub kept_rise : (i j : ℕ) (d : Func) → i ≤ j → j < length kept → (get_or kept i d).start ≤ (get_or kept j d).start
+  pub omitted_rise : (i j : ℕ) (d : Source) → i ≤ j → j < length omitted → (get_or omitted i d).facts.start ≤ (get_or omitted j d).facts.start
+  pub omitted_here : All (λ (s : Source). s.arch ≡ arch) omitted
+
+-- ---- the function that was found last
+-- a row as a piece
+abbrev pub piece_of_row : Row → Piece
+piece_of_row r = record { start = r.start; content = Some r.content }
+
+-- a content fits the machine, where there is one
+abbrev pub IfFits : Arch → Option Content → Type 0
+IfFits arch None = ⊤
+IfFits arch (Some content) = IsTrue (content_fits arch content)
+
+abbrev pub AllFit : Arch → List Piece → Type 0
+AllFit arch pieces = All (λ (p : Piece). IfFits arch p.content) pieces
+
+-- its pieces say at each of its addresses what is answered there
+pub record IsHeld (arch : Arch) (answers : Answers) (h : Held) : Type 0 where
+  pub end : h.start + h.size ≤ 2 ^ 64
+  pub pieces : 0 < h.size → ArePieces h.size h.pieces.items
+  pub says : (pc : ℕ) (content : Option Content) → h.start ≤ pc → pc < h.start + h.size → said_by (pc - h.start) None h.pieces.items ≡ Some content
+      → answers pc ≡ option_map (with_key h.key) content
+  pub fits : AllFit arch h.pieces.items
+
+-- functions before a place end by an address
+abbrev pub KeptPassed : List Func → (next pc : ℕ) → Type 0
+KeptPassed kept next pc = (i : ℕ) (d : Func) → i < next → i < length kept → (get_or kept i d).start + (get_or kept i d).size ≤ pc
+
+abbrev pub OmittedPassed : List Source → (next pc : ℕ) → Type 0
+OmittedPassed omitted next pc = (i : ℕ) (d : Source) → i < next → i < length omitted → (get_or omitted i d).facts.start + (get_or omitted i d).facts.size ≤ pc
+
+-- what is asked from an address on is found
+pub record IsReady (d : Dwarf) (pc : ℕ) : Type 0 where
+  pub holders : AreHolders d.arch (says d) d.kept.now d.omitted.now
+  pub held : IsHeld d.arch (says d) d.held
+  pub kept_passed : KeptPassed d.kept.now d.next_kept pc
+  pub omitted_passed : OmittedPassed d.omitted.now d.next_omitted pc
+
+-- the same lists are asked
+pub record IsSame (d e : Dwarf) : Type 0 where
+  pub arch : e.arch ≡ d.arch
+  pub kept : e.kept.now ≡ d.kept.now
+  pub omitted : e.omitted.now ≡ d.omitted.now
+  pub says : says e ≡ says d
+
+-- the function that is held has the address, or none of the list has it
+abbrev pub FindsKept : Dwarf → (pc : ℕ) → Bool → Type 0
+FindsKept d pc true = (d.held.start ≤ pc) × (pc < d.held.start + d.held.size)
+FindsKept d pc false = (i : ℕ) (f : Func) → i < length d.kept.now → (get_or d.kept.now i f).start ≤ pc → pc < (get_or d.kept.now i f).start + (get_or d.kept.now i f).size → ⊥
+
+abbrev pub FindsOmitted : Dwarf → (pc : ℕ) → Bool → Type 0
+FindsOmitted d pc true = (d.held.start ≤ pc) × (pc < d.held.start + d.held.size)
+FindsOmitted d pc false = (i : ℕ) (s : Source) → i < length d.omitted.now → (get_or d.omitted.now i s).facts.start ≤ pc → pc < (get_or d.omitted.now i s).facts.start + (get_or d.omitted.now i s).facts.size → ⊥
+
+-- the function that is held has the address, or nothing is said there
+abbrev pub Finds : Dwarf → (pc : ℕ) → Bool → Type 0
+Finds d pc true = (d.held.start ≤ pc) × (pc < d.held.start + d.held.size)
+Finds d pc false = says d pc ≡ None
+
+-- what is known at an address is what is answered there, and up to the last address to which it goes
+pub record IsKnown (arch : Arch) (answers : Answers) (pc : ℕ) (known : Known) : Type 0 where
+  pub from_here : pc ≤ known.last
+  pub steady : (p : ℕ) → pc ≤ p → p ≤ known.last → answers p ≡ Some known.said
+  pub fits : IsTrue (content_fits arch known.said.content)
+
+abbrev pub Knows : Arch → Answers → (pc : ℕ) → Option Known → Type 0
+Knows arch answers pc None = answers pc ≡ None
+Knows arch answers pc (Some known) = IsKnown arch answers pc known

@@ -1,0 +1,61 @@
+-- What is found by comparing a section with call frame information over some addresses, by rising address.
+use Rattle.std.specs.Prelude.{◌≡◌, ◌<◌, ◌≤◌, ◌+◌, ◌^◌, ℕ, Bool, min, IsTrue, List, map, length, get_or, slice_get, Option, Some, None}
+use Rattle.std.specs.List.{All}
+use Rattle.std.specs.Option.{option_and_then}
+use Rattle.sf_model.specs.declared.function.Func.{Func}
+use Rattle.sf_model.specs.declared.machine.Arch.{Arch}
+use Rattle.sf_model.specs.declared.rows.Row.{Row}
+use Rattle.sf_model.specs.Content.{content_fits}
+use Rattle.sf_model.specs.Function.{RowsRise}
+use Rattle.sf_model.specs.Lookup.{row_in}
+use Rattle.sf_merge.specs.declared.located.Located.{Located}
+use Rattle.sf_verify.specs.declared.said.Said.{Said}
+use Rattle.sf_verify.specs.declared.sweep.Difference.{Difference}
+use Rattle.sf_verify.specs.Agreement.{Agree, DifferFirst, content_said}
+use Rattle.sf_verify.specs.Said.{Answers, by_row}
+
+-- the least address at which they differ, from an address on and below an end, and what they say there
+pub record DifferWithin (section dwarf : Answers) (from end : ℕ) (d : Difference) : Type 0 where
+  pub from_here : from ≤ d.pc
+  pub below : d.pc < end
+  pub section_says : content_said (section d.pc) ≡ Some d.section
+  pub dwarf_says : content_said (dwarf d.pc) ≡ d.dwarf
+  pub differ : Agree (section d.pc) (dwarf d.pc) → ⊥
+  pub before : (pc : ℕ) → from ≤ pc → pc < d.pc → Agree (section pc) (dwarf pc)
+
+-- they agree there, or differ first as said
+abbrev pub Compares : (section dwarf : Answers) → (from end : ℕ) → Option Difference → Type 0
+Compares section dwarf from end None = (pc : ℕ) → from ≤ pc → pc < end → Agree (section pc) (dwarf pc)
+Compares section dwarf from end (Some d) = DifferWithin section dwarf from end d
+
+-- what a function of a section says at each of its addresses
+abbrev pub func_says : Func → Answers
+func_says f pc = option_and_then by_row (row_in pc f)
+
+-- the whole of both: they agree at every address, or this is the least at which they don't
+abbrev pub ComparesAll : (section dwarf : Answers) → Option Difference → Type 0
+ComparesAll section dwarf None = (pc : ℕ) → Agree (section pc) (dwarf pc)
+ComparesAll section dwarf (Some d) = DifferFirst section dwarf d.pc d.section d.dwarf
+
+-- ---- functions of a section
+-- where a row begins, or where the function ends
+abbrev pub edge_of : Option Row → (size : ℕ) → ℕ
+edge_of (Some r) size = min r.start size
+edge_of None size = size
+
+abbrev pub edge : List Row → (place size : ℕ) → ℕ
+edge rows place size = edge_of (slice_get rows place) size
+
+-- its rows rise, and their contents are those of the machine
+pub record IsComparable (arch : Arch) (f : Func) : Type 0 where
+  pub end : f.start + f.size ≤ 2 ^ 64
+  pub rise : RowsRise f.rows
+  pub fits : All (λ (r : Row). IsTrue (content_fits arch r.content)) f.rows
+
+-- each ends where a later one starts, or before
+pub record AreComparable (arch : Arch) (functions : List Located) : Type 0 where
+  pub each : All (λ (l : Located). IsComparable arch l.func) functions
+  pub apart : (i j : ℕ) (d : Located) → i < j → j < length functions → (get_or functions i d).func.start + (get_or functions i d).func.size ≤ (get_or functions j d).func.start
+
+abbrev pub functions_in : List Located → List Func
+functions_in located = map (λ (l : Located). l.func) located

@@ -1,0 +1,8 @@
+pub mod Said
+pub mod Agreement
+pub mod Verifying
+pub mod Comparing
+pub mod Asking
+pub mod Counting
+pub mod Concluding
+pub mod Told

@@ -1,0 +1,59 @@
+-- What verifying a section against inputs comes to: the verdict, or the first fault. The section is item 0, and the inputs are numbered
+-- from 1 on.
+use Rattle.std.specs.Prelude.{◌≡◌, ◌⊎◌, ℕ, List, Option, Some, None, Result, Ok, Err}
+use Rattle.std.specs.List.{filter, find}
+use Rattle.std.specs.Option.{option_map}
+use Rattle.sf_model.specs.declared.verdict.Verdict.{Verdict}
+use Rattle.sf_model.specs.Table.{Table}
+use Rattle.sf_decode.specs.Entry.{entry_place}
+use Rattle.sf_merge.specs.declared.located.Located.{Located}
+use Rattle.sf_merge.specs.Located.{InOrder, has_bytes, located}
+use Rattle.sf_merge.specs.Merging.{neighbours, overlap}
+use Rattle.sf_asm.specs.declared.entry.Entry.{Entry}
+use Rattle.sf_asm.specs.declared.fault.GatherFault.{GatherFault}
+use Rattle.sf_asm.specs.declared.fault.GatherFault.TheVariants as gather
+use Rattle.sf_asm.specs.Functions.{Function, Object, functions_of}
+use Rattle.sf_asm.specs.Linking.{Gathers}
+use Rattle.sf_verify.specs.declared.fault.VerifyFault.{VerifyFault}
+use Rattle.sf_verify.specs.declared.fault.VerifyFault.TheVariants.{Gather, Overlap, NoMemory}
+use Rattle.sf_verify.specs.Agreement.{IsVerdict}
+
+-- the functions of a table that hold an address, each with the number of its entry
+abbrev pub sized : Table → List Located
+sized table = filter has_bytes (located 0 table)
+
+-- the place of the entry of the second
+abbrev pub shared_by : (bytes : List ℕ) → Located × Located → VerifyFault
+shared_by bytes pair = Overlap (entry_place bytes pair.1.number)
+
+-- the first two neighbours of the section that share an address
+unfoldable pub section_fault : (bytes : List ℕ) → List Located → Option VerifyFault
+section_fault bytes ordered = option_map (shared_by bytes) (find overlap (neighbours ordered))
+
+-- a fault of the inputs; where two of their functions share an address, the section was tried before
+abbrev pub refused : (section : Option VerifyFault) → GatherFault → VerifyFault
+refused section gather.NoMemory = NoMemory
+refused (Some shared) (gather.Overlap start item other second) = shared
+refused section fault = Gather fault
+
+abbrev pub first_fault : Result (List Entry) GatherFault → (section : Option VerifyFault) → Option VerifyFault
+first_fault (Ok ordered) section = section
+first_fault (Err fault) section = Some (refused section fault)
+
+-- the fault, or the verdict by the functions of the inputs
+abbrev pub VerdictUnless : Option VerifyFault → Table → List Object → Result Verdict VerifyFault → Type 0
+VerdictUnless (Some fault) table objects result = result ≡ Err fault
+VerdictUnless None table objects result =
+    (functions : List Function) × (functions_of 1 objects ≡ Ok functions) × (verdict : Verdict) × IsVerdict table.functions functions verdict × (result ≡ Ok verdict)
+
+-- verifying the section of these bytes, which says this table, against these inputs comes to this: the functions of the section that
+-- hold an address are taken by start and then by entry
+abbrev pub Verifies : (bytes : List ℕ) → Table → List Object → Result Verdict VerifyFault → Type 0
+Verifies bytes table objects result =
+    (inputs : Result (List Entry) GatherFault) × Gathers (Some table.arch) objects inputs
+    × (ordered : List Located) × InOrder (sized table) ordered
+    × VerdictUnless (first_fault inputs (section_fault bytes ordered)) table objects result
+
+-- a fault is the first one, or memory ran out
+abbrev pub IsFirstFault : (bytes : List ℕ) → Table → List Object → VerifyFault → Type 0
+IsFirstFault bytes table objects fault = (fault ≡ NoMemory) ⊎ Verifies bytes table objects (Err fault)

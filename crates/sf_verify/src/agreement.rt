@@ -1,0 +1,100 @@
+//! Whether a section and call frame information recover the same caller's frame.
+
+ghost use Rattle.std.specs.Prelude.{◌≡◌, IsTrue, FitsSigned, false};
+ghost use Rattle.std.specs.Int.{w32};
+ghost use Rattle.sf_express.specs.Expressed.{same_content};
+ghost use Rattle.sf_model.specs.Content.{OffsetsInRange, PointerInRange, ReturnInRange, content_fits};
+ghost use Rattle.sf_verify.specs.Agreement as spec;
+ghost use Rattle.sf_verify.specs.Agreement.{RecoverAlike};
+
+use crate::said::Said;
+use sf_model::{Arch, Content, Key, Ra};
+
+/// Whether two contents are the same.
+#[inline(always)]
+fn is_same(ours: Content, theirs: Content) -> bool
+    ensures { result ≡ same_content ours theirs }
+{
+    ours.base == theirs.base
+        && ours.cfa == theirs.cfa
+        && ours.ra == theirs.ra
+        && ours.fp == theirs.fp
+        && ours.signed == theirs.signed
+}
+
+/// Whether two keys are the same.
+#[inline(always)]
+fn same_key(ours: Key, theirs: Key) -> bool
+    ensures { result ≡ spec.same_key ours theirs }
+{
+    match ours {
+        Key::A => match theirs {
+            Key::A => true,
+            Key::B => false,
+        },
+        Key::B => match theirs {
+            Key::A => false,
+            Key::B => true,
+        },
+    }
+}
+
+/// Whether the contents are the same, and the keys too where the return address is signed.
+#[inline(always)]
+fn agree(ours: Said, theirs: Said) -> bool
+    ensures { result ≡ spec.agree ours theirs }
+{
+    is_same(ours.content, theirs.content)
+        && (!ours.content.signed || same_key(ours.key, theirs.key))
+}
+
+/// An offset is a number of 32 signed bits.
+#[inline(always)]
+fn number_in_range(_number: i32)
+    ensures { FitsSigned w32 _number }
+{}
+
+/// So is that of a return address.
+#[inline(always)]
+fn return_in_range(ra: Ra)
+    ensures { ReturnInRange ra }
+{
+    match ra {
+        Ra::Fixed => (),
+        Ra::Link => (),
+        Ra::At(offset) => number_in_range(offset),
+    }
+}
+
+/// So is that of a frame pointer.
+#[inline(always)]
+fn pointer_in_range(fp: Option<i32>)
+    ensures { PointerInRange fp }
+{
+    match fp {
+        None => (),
+        Some(offset) => number_in_range(offset),
+    }
+}
+
+/// All offsets are.
+#[inline(always)]
+fn offsets_in_range(content: &Content)
+    ensures { OffsetsInRange content.now }
+{
+    number_in_range(content.cfa);
+    return_in_range(content.ra);
+    pointer_in_range(content.fp);
+}
+
+/// Whether both recover the same caller's frame, for all registers and memory.
+pub fn recover_alike(arch: Arch, ours: Said, theirs: Said) -> bool
+    requires ours { IsTrue (content_fits arch ours.content) }
+    requires theirs { IsTrue (content_fits arch theirs.content) }
+    ensures alike { IsTrue result → RecoverAlike ours theirs }
+    ensures differ { result ≡ false → RecoverAlike ours theirs → ⊥ }
+{
+    offsets_in_range(&ours.content);
+    offsets_in_range(&theirs.content);
+    agree(ours, theirs)
+}

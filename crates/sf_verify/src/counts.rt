@@ -1,0 +1,75 @@
+//! How many functions are compared, and how many a section lacks.
+
+ghost use Rattle.std.specs.Prelude.{◌≡◌, ◌≤◌, ◌<◌, ◌^◌, ◌&&◌, ◌==◌, ℕ, IsTrue, get_or, length, map, false};
+ghost use Rattle.std.specs.List.{filter};
+ghost use Rattle.sf_decode.specs.View.{table_of};
+ghost use Rattle.sf_merge.specs.declared.located.Located.{Located as located};
+ghost use Rattle.sf_verify.specs.Comparing.{functions_in};
+ghost use Rattle.sf_verify.specs.Agreement as spec;
+ghost use Rattle.sf_verify.specs.Counting.{KeptRise, StartBefore, StartsRise, covers, is_absent};
+
+use crate::sweep::{is_plain, is_plain_shape};
+use sf_decode::{View, functions_are_numbered};
+use sf_merge::Located;
+use sf_model::Func;
+
+/// The number of plain functions of a section.
+pub fn count_plain(view: &View<'_>) -> u32
+    ensures { result ≡ length (filter spec.is_plain (table_of view.now).functions) }
+{
+    functions_are_numbered(view);
+    let mut count = 0;
+    for number in 0..view.len() {
+        if is_plain_shape(view.func(number).shape) {
+            count += 1;
+        }
+    }
+    count
+}
+
+/// The place of the first function from a place on that doesn't start before an address.
+fn pass(functions: &[Located], passed: usize, start: u64) -> usize
+    requires { StartBefore functions.now passed start }
+    ensures passed { StartBefore functions.now result start }
+    ensures here { (d : located) → result < length functions.now → start ≤ (get_or functions.now result d).func.start }
+{
+    let mut next = passed;
+    while next < functions.len() && functions[next].func.start < start {
+        next += 1;
+    }
+    next
+}
+
+/// Whether the function at a place is a plain one with the start and size of a kept one.
+fn is_there(functions: &[Located], place: usize, kept: &Func) -> bool
+    ensures within { IsTrue result → place < length functions.now }
+    ensures there { (d : located) → place < length functions.now → result ≡ covers kept.now (get_or functions.now place d).func }
+{
+    place < functions.len() && covers(&functions[place].func, kept)
+}
+
+/// Whether a function is a plain one with the start and size of a kept one.
+fn covers(func: &Func, kept: &Func) -> bool
+    ensures { result ≡ covers kept.now func.now }
+{
+    is_plain(func) && func.start == kept.start && func.size == kept.size
+}
+
+/// The number of kept functions for which there is no plain function of the same start and size. Both lists
+/// are by rising start, and are passed once.
+pub fn count_missing(kept: &[Func], functions: &[Located]) -> u32
+    requires few { length kept.now ≤ 2 ^ 21 }
+    requires kept { KeptRise kept.now }
+    requires functions { StartsRise functions.now }
+    ensures { result ≡ length (filter (is_absent (functions_in functions.now)) kept.now) }
+{
+    let mut missing = 0;
+    let mut next = 0;
+    for func in kept {
+        next = pass(functions, next, func.start);
+        if !is_there(functions, next, func) {
+            missing += 1;
+        }
+    }
+    missing
+}

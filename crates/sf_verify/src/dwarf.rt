@@ -1,0 +1,349 @@
+//! What call frame information says, asked by rising address.
+
+ghost use Rattle.std.specs.Prelude.{◌≡◌, ◌≤◌, ◌<◌, ◌+◌, ◌^◌, ℕ, [], ◌∷◌, map, length, get_or, None, OnOk, IfOk, IsTrue, false};
+ghost use Rattle.sf_model.specs.declared.function.Func.{Func as function};
+ghost use Rattle.sf_model.specs.declared.machine.Arch.{Arch as machine};
+ghost use Rattle.sf_bytes.specs.Cursor.{cursor};
+ghost use Rattle.cfa_insn.specs.Listing.{listing};
+ghost use Rattle.cfa_machine.specs.Left.{rows_left};
+ghost use Rattle.cfa_machine.specs.Pass.{rows_by};
+ghost use Rattle.sf_express.specs.Pieces.{ArePieces, PiecesSay, content_in};
+ghost use Rattle.sf_asm.specs.declared.source.Source.{Source as source_of};
+ghost use Rattle.sf_asm.specs.Kept.{says_of};
+ghost use Rattle.sf_asm.specs.Sources.{functions_lent, source_function};
+ghost use Rattle.sf_verify.specs.Asking.{AllFit, AreHolders, Finds, FindsKept, FindsOmitted, IsHeld, IsReady, IsSame, KeptPassed, Knows, OmittedPassed, answers_of, piece_of_row, says};
+ghost use Rattle.sf_verify.specs.Said.{Answers, form_content, has_form};
+
+use crate::said::Said;
+use cfa_machine::Runner;
+use sf_asm::Source;
+use sf_base::NoMemory;
+use sf_express::{Piece, piece_at, pieces_run};
+use sf_model::{Arch, Func, Key};
+use std::alloc::Global;
+
+/// What is said at an address, and the last address up to which the same is said.
+#[derive(Clone, Copy, Debug, PartialEq, Eq)]
+pub struct Known {
+    pub said: Said,
+    pub last: u64,
+}
+
+/// A function, and what it says from offset to offset.
+#[derive(Drop)]
+pub struct Held {
+    start: u64,
+    size: u64,
+    key: Key,
+    pieces: Vec<Piece>,
+}
+
+/// The functions of the inputs by rising start, kept and omitted ones, and how far they were passed.
+#[derive(Drop)]
+pub struct Dwarf<'a> {
+    arch: Arch,
+    kept: &'a [Func],
+    omitted: &'a [Source<'a>],
+    // Functions before these end by the address asked last.
+    next_kept: usize,
+    next_omitted: usize,
+    run: Runner<'a>,
+    // The function that was found last.
+    held: Held,
+}
+
+/// The place of the first kept function from a place on that ends after an address.
+fn pass_kept(kept: &[Func], passed: usize, pc: u64) -> usize
+    requires passed { KeptPassed kept.now passed pc }
+    requires ends { (i : ℕ) (d : function) → i < length kept.now → (get_or kept.now i d).start + (get_or kept.now i d).size ≤ 2 ^ 64 }
+    ensures passed { KeptPassed kept.now result pc }
+    ensures after { (d : function) → result < length kept.now → pc < (get_or kept.now result d).start + (get_or kept.now result d).size }
+{
+    let mut next = passed;
+    while next < kept.len() && ends_by(kept[next].start, u64::from(kept[next].size), pc) {
+        next += 1;
+    }
+    next
+}
+
+/// Whether a function ends by an address.
+#[inline(always)]
+fn ends_by(start: u64, size: u64, pc: u64) -> bool
+    ensures by { IsTrue result → start + size ≤ pc }
+    ensures after { result ≡ false → pc < start + size }
+{
+    start <= pc && size <= pc - start
+}
+
+/// Whether there is a kept function at a place, and it starts by an address.
+#[inline(always)]
+fn kept_starts(kept: &[Func], place: usize, pc: u64) -> bool
+    ensures within { IsTrue result → place < length kept.now }
+    ensures starts { (d : function) → IsTrue result → (get_or kept.now place d).start ≤ pc }
+    ensures after { (d : function) → result ≡ false → place < length kept.now → pc < (get_or kept.now place d).start }
+{
+    place < kept.len() && kept[place].start <= pc
+}
+
+/// Whether there is an omitted function at a place, and it starts by an address.
+#[inline(always)]
+fn omitted_starts(omitted: &[Source<'_>], place: usize, pc: u64) -> bool
+    ensures within { IsTrue result → place < length omitted.now }
+    ensures starts { (d : source_of) → IsTrue result → (get_or omitted.now place d).facts.start ≤ pc }
+    ensures after { (d : source_of) → result ≡ false → place < length omitted.now → pc < (get_or omitted.now place d).facts.start }
+{
+    place < omitted.len() && omitted[place].facts.start <= pc
+}
+
+/// The place of the first omitted function from a place on that ends after an address.
+fn pass_omitted(omitted: &[Source<'_>], passed: usize, pc: u64) -> usize
+    requires passed { OmittedPassed omitted.now passed pc }
+    ensures passed { OmittedPassed omitted.now result pc }
+    ensures after { (d : source_of) → result < length omitted.now → pc < (get_or omitted.now result d).facts.start + (get_or omitted.now result d).facts.size }
+{
+    let mut next = passed;
+    while next < omitted.len() && ends_by(omitted[next].facts.start, omitted[next].facts.size, pc) {
+        next += 1;
+    }
+    next
+}
+
+/// Takes the rows of a kept function as pieces.
+fn hold_kept(held: &mut Held, func: &Func) -> Result<(), NoMemory>
+    ensures start { OnOk result (held.new.start ≡ func.now.start) }
+    ensures size { OnOk result (held.new.size ≡ func.now.size) }
+    ensures key { OnOk result (held.new.key ≡ func.now.key) }
+    ensures pieces { OnOk result (held.new.pieces.items ≡ map piece_of_row func.now.rows) }
+{
+    held.start = func.start;
+    held.size = u64::from(func.size);
+    held.key = func.key;
+    held.pieces.clear();
+    for row in func.rows.as_slice() {
+        held.pieces.push(Piece {
+            start: u64::from(row.start),
+            content: Some(row.content),
+        })?;
+    }
+    Ok(())
+}
+
+/// Whether SFrame has a form for the frames of a function.
+fn is_sayable(source: &Source<'_>) -> bool
+    ensures { result ≡ has_form (source_function source.now) }
+{
+    let column = match source.arch {
+        Arch::Amd64 => 16,
+        Arch::Aarch64 => 30,
+    };
+    source.facts.column == column && !source.facts.signal
+}
+
+/// Starts the runner on the instructions of an omitted function. They were run when it was read, so that no
+/// fault comes.
+fn begin<'a>(source: &Source<'a>, run: &mut Runner<'a>) -> Result<(), NoMemory>
+    ensures small { source.now.facts.size < 2 ^ 64 }
+    ensures begun { OnOk result (rows_left run.new ≡ rows_by source.now.arch source.now.code source.now.factor source.now.facts.size (listing (cursor source.now.initial)) (listing (cursor source.now.own))) }
+{
+    let begun = run.start(
+        source.arch,
+        source.code,
+        source.factor,
+        source.initial,
+        source.own,
+        source.facts.size,
+    );
+    match begun {
+        Ok(()) => Ok(()),
+        Err(_) => Err(NoMemory),
+    }
+}
+
+/// What an omitted function says whose frames SFrame has a form for.
+fn pieces_of<'a>(
+    alloc: Global,
+    source: &Source<'a>,
+    run: &mut Runner<'a>,
+) -> Result<Vec<Piece>, NoMemory>
+    requires { 0 < source.now.facts.size }
+    ensures pieces { IfOk result (λ pieces. ArePieces source.now.facts.size pieces.items) }
+    ensures says { IfOk result (λ pieces. PiecesSay source.now.facts.size pieces.items (λ offset. content_in (says_of (source_function source.now) offset))) }
+    ensures fits { IfOk result (λ pieces. AllFit source.now.arch pieces.items) }
+{
+    begin(source, run)?;
+    match pieces_run(alloc, source.arch, run) {
+        Ok(pieces) => Ok(pieces),
+        Err(_) => Err(NoMemory),
+    }
+}
+
+/// One piece that says nothing.
+fn nothing_said(alloc: Global) -> Result<Vec<Piece>, NoMemory>
+    ensures { IfOk result (λ pieces. pieces.items ≡ record { start = 0; content = None } ∷ []) }
+{
+    let mut pieces = Vec::new(alloc);
+    pieces.push(Piece {
+        start: 0,
+        content: None,
+    })?;
+    Ok(pieces)
+}
+
+/// An omitted function, with what it says.
+fn hold_omitted<'a>(
+    alloc: Global,
+    source: &Source<'a>,
+    run: &mut Runner<'a>,
+) -> Result<Held, NoMemory>
+    requires { 0 < source.now.facts.size }
+    ensures start { IfOk result (λ held. held.start ≡ source.now.facts.start) }
+    ensures size { IfOk result (λ held. held.size ≡ source.now.facts.size) }
+    ensures key { IfOk result (λ held. held.key ≡ source.now.facts.key) }
+    ensures pieces { IfOk result (λ held. ArePieces source.now.facts.size held.pieces.items) }
+    ensures says { IfOk result (λ held. PiecesSay source.now.facts.size held.pieces.items (form_content (source_function source.now))) }
+    ensures fits { IfOk result (λ held. AllFit source.now.arch held.pieces.items) }
+{
+    let pieces = if is_sayable(source) {
+        pieces_of(alloc, source, run)?
+    } else {
+        nothing_said(alloc)?
+    };
+    Ok(Held {
+        start: source.facts.start,
+        size: source.facts.size,
+        key: source.facts.key,
+        pieces,
+    })
+}
+
+impl Held {
+    /// No function.
+    fn new(alloc: Global) -> Held
+        ensures size { result.size ≡ 0 }
+        ensures none { result.pieces.items ≡ [] }
+        ensures start { result.start ≡ 0 }
+    {
+        Held {
+            start: 0,
+            size: 0,
+            key: Key::A,
+            pieces: Vec::new(alloc),
+        }
+    }
+
+    /// Whether the function has an address.
+    #[inline(always)]
+    fn has(&self, pc: u64) -> bool
+        ensures has { IsTrue result → (self.now.start ≤ pc) × (pc < self.now.start + self.now.size) }
+    {
+        self.start <= pc && pc - self.start < self.size
+    }
+
+    /// What the function says at one of its addresses.
+    fn known(&self, pc: u64) -> Option<Known>
+        requires from { self.now.start ≤ pc }
+        requires to { pc < self.now.start + self.now.size }
+        requires end { self.now.start + self.now.size ≤ 2 ^ 64 }
+        requires pieces { ArePieces self.now.size self.now.pieces.items }
+        ensures { (arch : machine) (answers : Answers) → IsHeld arch answers self.now → Knows arch answers pc result }
+    {
+        let (content, last) = piece_at(&self.pieces, self.size, pc - self.start);
+        let content = content?;
+        Some(Known {
+            said: Said {
+                content,
+                key: self.key,
+            },
+            last: self.start + last,
+        })
+    }
+}
+
+impl<'a> Dwarf<'a> {
+    /// The functions of inputs, before anything is asked.
+    pub fn new(alloc: Global, arch: Arch, kept: &'a [Func], omitted: &'a [Source<'a>]) -> Dwarf<'a>
+        requires { AreHolders arch (answers_of kept.now (functions_lent omitted.now)) kept.now omitted.now }
+        ensures ready { IsReady result 0 }
+        ensures says { says result ≡ answers_of kept.now (functions_lent omitted.now) }
+        ensures arch { result.arch ≡ arch }
+    {
+        Dwarf {
+            arch,
+            kept,
+            omitted,
+            next_kept: 0,
+            next_omitted: 0,
+            run: Runner::new(),
+            held: Held::new(alloc),
+        }
+    }
+
+    /// The machine of all functions.
+    #[inline(always)]
+    pub fn arch(&self) -> Arch
+        ensures { result ≡ self.now.arch }
+    {
+        self.arch
+    }
+
+    /// Finds the kept function that has an address.
+    fn find_kept(&mut self, pc: u64) -> Result<bool, NoMemory>
+        requires { IsReady self.old pc }
+        ensures same { OnOk result (IsSame self.old self.new) }
+        ensures ready { OnOk result (IsReady self.new pc) }
+        ensures found { IfOk result (FindsKept self.new pc) }
+    {
+        self.next_kept = pass_kept(self.kept, self.next_kept, pc);
+        if !kept_starts(self.kept, self.next_kept, pc) {
+            return Ok(false);
+        }
+        let kept = self.kept;
+        hold_kept(&mut self.held, &kept[self.next_kept])?;
+        Ok(true)
+    }
+
+    /// Finds the omitted function that has an address, and runs its instructions.
+    fn find_omitted(&mut self, alloc: Global, pc: u64) -> Result<bool, NoMemory>
+        requires { IsReady self.old pc }
+        ensures same { OnOk result (IsSame self.old self.new) }
+        ensures ready { OnOk result (IsReady self.new pc) }
+        ensures found { IfOk result (FindsOmitted self.new pc) }
+    {
+        self.next_omitted = pass_omitted(self.omitted, self.next_omitted, pc);
+        if !omitted_starts(self.omitted, self.next_omitted, pc) {
+            return Ok(false);
+        }
+        let omitted = self.omitted;
+        self.held = hold_omitted(alloc, &omitted[self.next_omitted], &mut self.run)?;
+        Ok(true)
+    }
+
+    /// Finds the function that has an address.
+    fn find(&mut self, alloc: Global, pc: u64) -> Result<bool, NoMemory>
+        requires { IsReady self.old pc }
+        ensures same { OnOk result (IsSame self.old self.new) }
+        ensures ready { OnOk result (IsReady self.new pc) }
+        ensures found { IfOk result (Finds self.new pc) }
+    {
+        if self.held.has(pc) {
+            return Ok(true);
+        }
+        if self.find_kept(pc)? {
+            return Ok(true);
+        }
+        self.find_omitted(alloc, pc)
+    }
+
+    /// What is said at an address that is not below the one asked last.
+    pub fn ask(&mut self, alloc: Global, pc: u64) -> Result<Option<Known>, NoMemory>
+        requires { IsReady self.old pc }
+        ensures same { OnOk result (IsSame self.old self.new) }
+        ensures ready { OnOk result (IsReady self.new pc) }
+        ensures known { IfOk result (Knows self.old.arch (says self.old) pc) }
+    {
+        if !self.find(alloc, pc)? {
+            return Ok(None);
+        }
+        Ok(self.held.known(pc))
+    }
+}

@@ -1,0 +1,105 @@
+//! A section against the inputs that it was made from.
+
+ghost use Rattle.std.specs.Prelude.{◌≡◌, ◌≤◌, ◌<◌, ◌^◌, All, length, map, Ok, IfOk, IfErr, IfSome, IsTrue};
+ghost use Rattle.sf_asm.specs.Functions.{object_of};
+ghost use Rattle.sf_decode.specs.View.{section_bytes, table_of};
+ghost use Rattle.sf_asm.specs.Sources.{functions_lent};
+ghost use Rattle.sf_verify.specs.Asking.{AreHolders, answers_of};
+ghost use Rattle.sf_verify.specs.Comparing.{AreComparable, functions_in};
+ghost use Rattle.sf_verify.specs.Concluding.{IsVerdictBy};
+ghost use Rattle.sf_verify.specs.Counting.{KeptRise, StartsRise};
+ghost use Rattle.sf_verify.specs.Told.{is_answered};
+ghost use Rattle.sf_asm.specs.Fault.{is_gather_answered};
+ghost use Rattle.sf_verify.specs.Verifying.{IsFirstFault, Verifies, refused};
+
+use crate::counts::{count_missing, count_plain};
+use crate::dwarf::Dwarf;
+use crate::fault::VerifyFault;
+use crate::overlap::shared_address;
+use crate::sweep::compare;
+use sf_asm::{GatherFault, Input, WithSources, gather_with_sources};
+use sf_base::NoMemory;
+use sf_decode::View;
+use sf_merge::{Located, in_order};
+use sf_model::Verdict;
+use std::alloc::Global;
+
+/// A fault of the inputs, before which an overlap in the section comes where it is one of them.
+fn refused(section: Option<VerifyFault>, fault: GatherFault) -> VerifyFault
+    requires section { IfSome section (λ shared. IsTrue (is_answered shared)) }
+    requires fault { IsTrue (is_gather_answered fault) }
+    ensures is { result ≡ refused section fault }
+    ensures answered { IsTrue (is_answered result) }
+{
+    match fault {
+        GatherFault::NoMemory => VerifyFault::NoMemory,
+        GatherFault::Overlap(start, item, other, second) => match section {
+            Some(shared) => shared,
+            None => VerifyFault::Gather(GatherFault::Overlap(start, item, other, second)),
+        },
+        _ => VerifyFault::Gather(fault),
+    }
+}
+
+/// The verdict on a section whose functions are given in order, by the functions of the inputs.
+fn verdict_on(
+    alloc: Global,
+    view: &View<'_>,
+    ordered: &[Located],
+    gathered: &WithSources<'_>,
+) -> Result<Verdict, NoMemory>
+    requires machine { gathered.now.arch ≡ (table_of view.now).arch }
+    requires comparable { AreComparable gathered.now.arch ordered.now }
+    requires rise { StartsRise ordered.now }
+    requires holders { AreHolders gathered.now.arch (answers_of gathered.now.kept.items (functions_lent gathered.now.sources.items)) gathered.now.kept.items gathered.now.sources.items }
+    requires few { length gathered.now.kept.items ≤ 2 ^ 21 }
+    requires kept { KeptRise gathered.now.kept.items }
+    ensures { IfOk result (IsVerdictBy (table_of view.now).functions (functions_in ordered.now) gathered.now.kept.items (answers_of gathered.now.kept.items (functions_lent gathered.now.sources.items))) }
+{
+    let mut dwarf = Dwarf::new(alloc, gathered.arch, &gathered.kept, &gathered.sources);
+    if let Some(difference) = compare(alloc, ordered, &mut dwarf)? {
+        return Ok(Verdict::Differs {
+            pc: difference.pc,
+            section: difference.section,
+            dwarf: difference.dwarf,
+        });
+    }
+    let checked = count_plain(view);
+    Ok(Verdict::Agrees {
+        checked,
+        missing: count_missing(&gathered.kept, ordered),
+        repeats: view.len() - checked,
+    })
+}
+
+/// Compares a section with 1 to 512 inputs, each of fewer than 2^32 bytes, at each address at which a plain
+/// function of the section has a row. They agree exactly where the call frame information says something at
+/// each of these addresses that recovers the same for all registers and any memory; else the verdict has the
+/// least address at which they don't, and both contents there. The section is item 0, and the inputs are
+/// numbered from 1 on.
+///
+/// # Errors
+///
+/// The first fault of the first faulty input; then two machines, the limits of functions and rows, two
+/// functions of the section that share an address, and two functions of the inputs that do, in this order;
+/// `NoMemory` at any time.
+pub fn verify(alloc: Global, view: &View<'_>, inputs: &[Input<'_>]) -> Result<Verdict, VerifyFault>
+    requires some { (0 < length inputs.now) × (length inputs.now ≤ 512) }
+    requires small { All (λ input. length input.bytes.now < 2 ^ 32) inputs.now }
+    // The verdict is that of the definition.
+    ensures verdict { IfOk result (λ verdict. Verifies (section_bytes view.now) (table_of view.now) (map object_of inputs.now) (Ok verdict)) }
+    // A fault is the first one.
+    ensures fault { IfErr result (IsFirstFault (section_bytes view.now) (table_of view.now) (map object_of inputs.now)) }
+    ensures answered { IfErr result (λ fault. IsTrue (is_answered fault)) }
+{
+    let gathered = gather_with_sources(alloc, inputs, Some(view.arch()));
+    let ordered = in_order(alloc, 0, view)?;
+    let shared = shared_address(view, &ordered);
+    match gathered {
+        Err(fault) => Err(refused(shared, fault)),
+        Ok(gathered) => match shared {
+            Some(fault) => Err(fault),
+            None => Ok(verdict_on(alloc, view, &ordered, &gathered)?),
+        },
+    }
+}
