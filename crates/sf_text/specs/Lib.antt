@@ -10,3 +10,4 @@ pub mod Frames
 pub mod Summary
 pub mod Slim
 pub mod PltReport
+pub mod Verdict

@@ -20,7 +20,7 @@ pub(crate) fn push_row(text: &mut Vec<u8>, row: &Row) -> Result<(), AllocError>
 
 /// Appends what a row says.
 #[tactic(auto, unfolding(crate::specs::Content::content_text))]
-fn push_content(text: &mut Vec<u8>, content: &Content) -> Result<(), AllocError>
+pub(crate) fn push_content(text: &mut Vec<u8>, content: &Content) -> Result<(), AllocError>
     ensures { OnOk result (text.new.items ≡ text.old.items ++ content_text content.now) }
 {
     push_frame(text, content.base, content.cfa)?;

@@ -1,10 +1,11 @@
 //! The texts that a program of this repository prints: the reports of links, the counts of a merge, what
-//! slimming saves, what a section says, what a look-up finds, what a walk lists, the summary of a made object's
-//! link, the line of a fault, and the line of an item that is too long.
+//! slimming saves, what a section says, what a look-up finds, a verdict, what a walk lists, the summary of a
+//! made object's link, the line of a fault, and the line of an item that is too long.
 //!
 //! Each text is a definition in `specs/`, and the calls give it byte for byte: [`report`] is `report_text`,
-//! [`report_plt`] is `plt_report_text`, [`merged`] is `merged_text`, [`slim_line`] is `slim_text`, [`dump`] is `dump_text` of the table that the view
-//! shows, [`found`] is `found_text`, [`thread_text`] is `walk_text`, [`summary`] is `summary_text`, and
+//! [`report_plt`] is `plt_report_text`, [`merged`] is `merged_text`, [`slim_line`] is `slim_text`, [`dump`] is
+//! `dump_text` of the table that the view shows, [`found`] is `found_text`, [`verdict`] is `verdict_text`,
+//! [`thread_text`] is `walk_text`, [`summary`] is `summary_text`, and
 //! [`fault_line`] and [`file_limit_line`] append `fault_text` and `file_limit_text`. The caller owes a notice
 //! that has a line to `fault_line`, and nothing to the others.
 //!
@@ -28,6 +29,7 @@ mod refusal;
 mod section_dump;
 mod shown;
 mod slim_text;
+mod verdict_text;
 
 pub use file_limit::file_limit_line;
 pub use found_row::found;
@@ -39,6 +41,7 @@ pub use plt_report::report_plt;
 pub use refusal::fault_line;
 pub use section_dump::dump;
 pub use slim_text::slim_line;
+pub use verdict_text::verdict;
 
 #[cfg(test)]
 mod tests;
