@@ -20,3 +20,4 @@ pub mod EntriesStand
 pub mod Given
 pub mod FieldsFail
 pub mod EntriesFail
+pub mod OfRecords

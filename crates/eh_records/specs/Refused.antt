@@ -9,7 +9,7 @@ use Rattle.sf_bytes.specs.Standing.{Stands as FieldStands, Number, Text}
 use Rattle.sf_model.specs.declared.machine.Arch.{Arch}
 use Rattle.eh_pointer.specs.Pointer.{pointer_width, usable_width, format_of, above_format}
 use Rattle.eh_records.specs.declared.fault.RecordFault.{RecordFault}
-use Rattle.eh_records.specs.declared.fault.RecordFault.TheVariants.{Short, Extended, CieVersion, Augmentation, Encoding, CiePointer, Leb}
+use Rattle.eh_records.specs.declared.fault.RecordFault.TheVariants.{Short, Extended, CieVersion, Augmentation, Encoding, CiePointer, Leb, Unresolved, FunctionEnd, NoMemory}
 use Rattle.eh_records.specs.Augmentation.{are_letters}
 use Rattle.eh_records.specs.Cie.{SharedView}
 use Rattle.eh_records.specs.Cut.{Piece}
@@ -151,3 +151,11 @@ FailsFrom arch before (p ∷ ps) (v ∷ vs) at e = (after : Cursor) × Stands at
 -- the first fault of a section
 abbrev pub IsRefused : Arch → List ℕ → RecordFault → Type 0
 IsRefused arch section e = (ps : List Piece) × (vs : List EntryView) × FailsFrom arch [] ps vs (start section) e
+
+-- ---- which faults there are
+-- all but those of a function's values, and memory
+abbrev pub IsOfRecords : RecordFault → Type 0
+IsOfRecords (Unresolved place) = ⊥
+IsOfRecords (FunctionEnd place) = ⊥
+IsOfRecords NoMemory = ⊥
+IsOfRecords e = Unit {0}

@@ -60,7 +60,7 @@ impl<'a> Records<'a> {
 
     /// Cuts a section into records, and checks each. The fault is the first from the left.
     ///
-    /// `Unresolved` and `FunctionEnd` are never answered.
+    /// `Unresolved` and `FunctionEnd` are never returned (`named` of the law [`entries_law`](crate::entries_law)).
     pub fn parse(alloc: Global, bytes: &'a [u8], arch: Arch) -> Result<Records<'a>, RecordFault>
         requires { length bytes.now < 2 ^ 32 }
         ensures exact { IsParsed arch bytes.now result }

@@ -1,6 +1,7 @@
 use Rattle.eh_records.specs.Cutting.{start}
 use Rattle.eh_records.proofs.Entries.{entries_read, read_entries}
 use Rattle.eh_records.proofs.EntriesFail.{is_refused}
+use Rattle.eh_records.proofs.OfRecords.{of_records}
 use Rattle.eh_records.proofs.Stands.{one_cut}
 use Rattle.eh_records.proofs.laws.entries_law.Goals as goal
 
@@ -10,4 +11,5 @@ returns c = record {
   only = read_entries c.args.arch c.args.section.now;
   one = λ ps qs. one_cut ps qs (start c.args.section.now);
   refused = is_refused c.args.arch c.args.section.now;
+  named = λ e h. of_records c.args.arch c.args.section.now e (is_refused c.args.arch c.args.section.now e h);
 }
