@@ -4,6 +4,7 @@ use Rattle.std.proofs.Common.{◌≡◌, ℕ, List, [], ◌∷◌, length, Optio
 use Rattle.std.proofs.lemmas.List.{append-nil}
 use Rattle.sf_model.specs.declared.machine.Arch.{Arch}
 use Rattle.sf_model.specs.declared.omission.Omitted.{Omitted}
+use Rattle.sf_model.specs.declared.omission.Span.{Span}
 use Rattle.sf_model.specs.Section.{AreBytes, Section}
 use Rattle.sf_model.specs.Table.{Table}
 use Rattle.sf_decode.specs.declared.fault.DecodeFault.{DecodeFault}
@@ -27,13 +28,17 @@ use Rattle.sf_slim.specs.Answers as slim
 use Rattle.sf_slim.specs.Answers.{IsSlimmed}
 use Rattle.sf_slim.specs.Slimming.{Slims}
 use Rattle.sf_slim.specs.Told.{told_of_slimming}
+use Rattle.sf_plt.specs.Answers.{IsPltLinked}
+use Rattle.sf_plt.specs.Linking.{LinksPlts, LinksPltsFrom, unless_fault as unless_plt_fault}
 use Rattle.sf_text.specs.Merged.{merged_text}
+use Rattle.sf_text.specs.PltReport.{plt_report_text}
 use Rattle.sf_text.specs.Slim.{slim_text}
 use Rattle.sf_items.specs.declared.refusal.Refusal.{Refusal}
 use Rattle.sf_items.specs.declared.refusal.Refusal.TheVariants as refusal
 use Rattle.sf_make.specs.declared.made.Outcome.TheVariants.{Done}
 use Rattle.sf_make.specs.Coming.{Coming, Makes, Refused}
 use Rattle.sf_make.specs.Making.{ComesAs}
+use Rattle.sf_make.specs.LinkPltComes.{ObjectsCome}
 use Rattle.sf_make.specs.MergeComes.{Item, IsSectionOf, MergeComesAt, coming_of_merging, sections_fault}
 use Rattle.sf_make.specs.SectionComes.{coming_of_decoding}
 use Rattle.sf_make.specs.SlimComes.{SlimComesFrom}
@@ -123,4 +128,19 @@ linked_comes before objects at made section kept omitted h bytes = record {
   result = Ok h.ordered;
   links = links_of before objects at section kept omitted h;
   comes = record { section = section; kept = kept; omitted = omitted; are_bytes = bytes; linked = h; is = refl };
+}
+
+-- ---- linkplt
+plt_links_of : (objects : List Object) (at : ℕ) (section : List ℕ) (kept : ℕ) (omitted : List Omitted) (plts : List Span) → (h : IsPltLinked None objects at section kept omitted plts) → LinksPlts None objects at (Ok h.sorted)
+plt_links_of objects at section kept omitted plts h =
+    let given = by_parts_are (functions_of (first_item None) objects) (mixed_fault None objects) h.functions h.are (one_is_unmixed h.arch (machines_of None objects) h.machine) in
+    subst (λ (g : Result (List Function) GatherFault). LinksPltsFrom at g (Ok h.sorted)) (sym given)
+    (h.sorted, h.by_start, sym (ap (λ (fault : Option LinkFault). unless_plt_fault fault h.sorted) h.accepted))
+
+pub plt_linked_comes : (objects : List Object) (at : ℕ) (section : List ℕ) (kept : ℕ) (omitted : List Omitted) (plts : List Span) → IsPltLinked None objects at section kept omitted plts → AreBytes section
+    → ObjectsCome objects at (Makes Done (Some section) (plt_report_text kept omitted plts))
+plt_linked_comes objects at section kept omitted plts h bytes = record {
+  result = Ok h.sorted;
+  links = plt_links_of objects at section kept omitted plts h;
+  comes = record { section = section; kept = kept; omitted = omitted; plts = plts; are_bytes = bytes; linked = h; is = refl };
 }

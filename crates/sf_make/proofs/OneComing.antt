@@ -4,6 +4,7 @@ use Rattle.std.proofs.Common.{◌≡◌, ◌<◌, ℕ, suc, List, [], ◌∷◌,
 use Rattle.sf_model.specs.declared.function.Func.{Func}
 use Rattle.sf_model.specs.declared.machine.Arch.{Arch}
 use Rattle.sf_model.specs.declared.omission.Omitted.{Omitted}
+use Rattle.sf_model.specs.declared.omission.Span.{Span}
 use Rattle.sf_model.specs.Section.{AreBytes}
 use Rattle.sf_model.specs.Table.{Table, row_count}
 use Rattle.sf_model.specs.Tight.{Narrow, Tight}
@@ -21,9 +22,14 @@ use Rattle.sf_asm.specs.Answers.{IsLinked}
 use Rattle.sf_asm.specs.Entry.{kept_of, omitted_of}
 use Rattle.sf_asm.specs.Functions.{Function, Object}
 use Rattle.sf_asm.specs.Inputs.{HaveMachine, is_same}
-use Rattle.sf_asm.specs.Kept.{entry_of}
+use Rattle.sf_asm.specs.Kept.{entry_of, kept_functions, omitted_functions}
 use Rattle.sf_asm.specs.Linking.{InOrder}
+use Rattle.sf_asm.specs.Sources.{AreByStart}
 use Rattle.sf_asm.proofs.OneOrder.{one_order, one_result}
+use Rattle.sf_plt.specs.Answers.{IsPltLinked, others_in, span_of}
+use Rattle.sf_plt.specs.Plt.{plt_functions}
+use Rattle.sf_plt.specs.Written.{written_functions}
+use Rattle.sf_plt.proofs.Faults.{one_sorted, one_result as one_plt_result}
 use Rattle.sf_merge.specs.declared.fault.MergeFault.{MergeFault}
 use Rattle.sf_merge.specs.Merging.{Merges}
 use Rattle.sf_merge.proofs.OneOrder.{one_result as one_merge}
@@ -31,6 +37,7 @@ use Rattle.sf_slim.specs.declared.fault.SlimFault.{SlimFault}
 use Rattle.sf_slim.specs.Slimming.{Slims}
 use Rattle.sf_slim.proofs.OneResult.{one_result as one_slim}
 use Rattle.sf_text.specs.Merged.{merged_text}
+use Rattle.sf_text.specs.PltReport.{plt_report_text}
 use Rattle.sf_text.specs.Slim.{slim_text}
 use Rattle.sf_items.specs.declared.refusal.Limit.{Limit}
 use Rattle.sf_make.specs.declared.section.Query.{Query}
@@ -42,6 +49,7 @@ use Rattle.sf_make.specs.Comes.{Comes, CommandComes, AreItems}
 use Rattle.sf_make.specs.Coming.{Coming, Makes, ComesWithin}
 use Rattle.sf_make.specs.GenComes.{made_object, summary_alone}
 use Rattle.sf_make.specs.LinkComes.{objects_in, section_and_report}
+use Rattle.sf_make.specs.LinkPltComes.{MakesPltLinked, ObjectsCome, PltLinkedComes}
 use Rattle.sf_make.specs.Linked.{LinkedComes, LinkedComesFrom, Makings, MakesLinked}
 use Rattle.sf_make.specs.MergeComes.{Item, IsSectionOf, MergeComesAt, MergeComesFrom, MakesMerge, TablesCome, sections_fault}
 use Rattle.sf_make.specs.SectionComes.{SectionComesFrom, MakesShown, Shows}
@@ -49,7 +57,7 @@ use Rattle.sf_make.specs.SlimComes.{MakesSlim, SlimComesFrom, SlimmingComes}
 use Rattle.sf_make.specs.WalkComes.{WalkComesFrom, coming_of_walks, table_walks}
 use Rattle.std.proofs.lemmas.List.{length-map}
 use Rattle.sf_words.specs.Items.{input_item, section_item}
-use Rattle.sf_words.specs.Words.{CommandWords, Link, Merge, Slim, Dump, Lookup, Walk, Backtrace, Gen, SectionWords, InputWords}
+use Rattle.sf_words.specs.Words.{CommandWords, Link, LinkPlt, Merge, Slim, Dump, Lookup, Walk, Backtrace, Gen, SectionWords, InputWords}
 
 -- ---- dump and lookup
 shows_one : (query : Query) (table : Table) (a b : Outcome) (s t : List ℕ) → Shows query table a s → Shows query table b t → (a ≡ b) × (s ≡ t)
@@ -187,6 +195,36 @@ one_link before objects at made c d some p q =
     let result = one_result before objects at p.result q.result p.links q.links in
     one_from_links before objects at made q.result c d some (subst (λ (r : Result (List Entry) LinkFault). LinkedComesFrom before objects at made r c) result p.comes) q.comes
 
+-- ---- linkplt
+one_plt_linked : (objects : List Object) (at : ℕ) (s t : List ℕ) (j k : ℕ) (m n : List Omitted) (u v : List Span) → 0 < length objects → AreBytes s → AreBytes t → IsPltLinked None objects at s j m u → IsPltLinked None objects at t k n v
+    → (s ≡ t) × (j ≡ k) × (m ≡ n) × (u ≡ v)
+one_plt_linked objects at s t j k m n u v some x y p q =
+    let both : Ok p.functions ≡ Ok q.functions = sym p.are ∙ q.are in
+    let functions : p.functions ≡ q.functions = cc in
+    let sorted : p.sorted ≡ q.sorted = one_sorted q.functions p.sorted q.sorted (subst (λ (fs : List Function). AreByStart fs p.sorted) functions p.by_start) q.by_start in
+    let arch = one_machine None objects some p.arch q.arch p.machine q.machine in
+    let table : table_of p.arch (written_functions p.sorted) ≡ table_of q.arch (written_functions q.sorted) = ap (λ (a : Arch). table_of a (written_functions p.sorted)) arch ∙ ap (λ (fs : List Function). table_of q.arch (written_functions fs)) sorted in (
+      tight_one s t at (table_of q.arch (written_functions q.sorted)) x y (subst (Tight s at) table p.tight) q.tight (subst (Narrow s) table p.narrow) q.narrow,
+      p.kept_is ∙ ap (λ (fs : List Function). length (kept_functions fs)) sorted ∙ sym q.kept_is,
+      p.omitted_are ∙ ap (λ (fs : List Function). omitted_of (map entry_of (others_in (omitted_functions fs)))) sorted ∙ sym q.omitted_are,
+      p.plts_are ∙ ap (λ (fs : List Function). map span_of (plt_functions fs)) sorted ∙ sym q.plts_are,
+    )
+
+one_plt_made : (objects : List Object) (at : ℕ) (c d : Coming) → 0 < length objects → MakesPltLinked objects at c → MakesPltLinked objects at d → c ≡ d
+one_plt_made objects at c d some p q =
+    let same = one_plt_linked objects at p.section q.section p.kept q.kept p.omitted q.omitted p.plts q.plts some p.are_bytes q.are_bytes p.linked q.linked in
+    p.is ∙ ap (λ (s : List ℕ). Makes Done (Some s) (plt_report_text p.kept p.omitted p.plts)) same.0 ∙ ap (λ (k : ℕ). Makes Done (Some q.section) (plt_report_text k p.omitted p.plts)) same.1
+    ∙ ap (λ (m : List Omitted). Makes Done (Some q.section) (plt_report_text q.kept m p.plts)) same.2 ∙ ap (λ (u : List Span). Makes Done (Some q.section) (plt_report_text q.kept q.omitted u)) same.3 ∙ sym q.is
+
+one_plt_from : (objects : List Object) (at : ℕ) (result : Result (List Function) LinkFault) (c d : Coming) → 0 < length objects → PltLinkedComes objects at result c → PltLinkedComes objects at result d → c ≡ d
+one_plt_from objects at (Err fault) c d some p q = p ∙ sym q
+one_plt_from objects at (Ok functions) c d some p q = one_plt_made objects at c d some p q
+
+one_plt_link : (objects : List Object) (at : ℕ) (c d : Coming) → 0 < length objects → ObjectsCome objects at c → ObjectsCome objects at d → c ≡ d
+one_plt_link objects at c d some p q =
+    let result = one_plt_result None objects at p.result q.result p.links q.links in
+    one_plt_from objects at q.result c d some (subst (λ (r : Result (List Function) LinkFault). PltLinkedComes objects at r c) result p.comes) q.comes
+
 -- ---- backtrace
 one_backtrace : (objects : List Object) (at : ℕ) (core : List ℕ) (depth : ℕ) (check : Result (Unit {0}) CoreFault) (c d : Coming) → 0 < length objects → BacktraceComesFrom objects at core depth check c → BacktraceComesFrom objects at core depth check d → c ≡ d
 one_backtrace objects at core depth (Err fault) c d some p q = p ∙ sym q
@@ -200,6 +238,8 @@ behind_first (i ∷ is) n h = omega (arith, h)
 one_command : (command : CommandWords) (items : List (List ℕ)) (c d : Coming) → AreItems command items → CommandComes command items c → CommandComes command items d → c ≡ d
 one_command (Link link) items c d are p q =
     one_link None (objects_in link.inputs items) link.section.at section_and_report c d (some_objects link.inputs items are.asked (are.count ∙ length-map link.inputs input_item)) p q
+one_command (LinkPlt link) items c d are p q =
+    one_plt_link (objects_in link.inputs items) link.section.at c d (some_objects link.inputs items are.asked (are.count ∙ length-map link.inputs input_item)) p q
 one_command (Merge merge) items c d are p q =
     let count = are.count ∙ length-map merge.sections section_item in
     one_merge_coming merge.out.at merge.sections items (sections_fault 0 (zip merge.sections items)) c d (omega (arith, count, are.asked)) count p q

@@ -5,12 +5,13 @@ use Rattle.sf_items.specs.declared.refusal.Limit.{Limit}
 use Rattle.sf_items.specs.declared.refusal.Limit.TheVariants.{Inputs}
 use Rattle.sf_items.specs.Loading.{items_limit}
 use Rattle.sf_words.specs.Items.{counted_items, items_of}
-use Rattle.sf_words.specs.Words.{CanBeAsked, CommandWords, Link, Merge, Slim, Dump, Lookup, Walk, Backtrace, Gen}
+use Rattle.sf_words.specs.Words.{CanBeAsked, CommandWords, Link, LinkPlt, Merge, Slim, Dump, Lookup, Walk, Backtrace, Gen}
 use Rattle.sf_make.specs.declared.section.Query.TheVariants.{Whole, RowAt}
 use Rattle.sf_make.specs.BacktraceComes.{BacktraceComes}
 use Rattle.sf_make.specs.Coming.{Coming, ComesWithin, Exceeded, Refused}
 use Rattle.sf_make.specs.GenComes.{GenComes}
 use Rattle.sf_make.specs.LinkComes.{LinkComes}
+use Rattle.sf_make.specs.LinkPltComes.{LinkPltComes}
 use Rattle.sf_make.specs.MergeComes.{MergeComes}
 use Rattle.sf_make.specs.SectionComes.{SectionComes}
 use Rattle.sf_make.specs.SlimComes.{SlimComes}
@@ -23,6 +24,7 @@ command_limit command items = if nat_lt 512 (counted_items command) then Some In
 -- what items within the limits come to
 abbrev pub CommandComes : CommandWords → (items : List (List ℕ)) → Coming → Type 0
 CommandComes (Link link) items coming = LinkComes link.inputs link.section.at items coming
+CommandComes (LinkPlt link) items coming = LinkPltComes link.inputs link.section.at items coming
 CommandComes (Merge merge) items coming = MergeComes merge.sections merge.out.at items coming
 CommandComes (Slim slim) items coming = SlimComes slim items coming
 CommandComes (Dump section) items coming = SectionComes section.at Whole items coming

@@ -3,6 +3,7 @@ pub mod Coming
 pub mod Comes
 pub mod GenComes
 pub mod LinkComes
+pub mod LinkPltComes
 pub mod Linked
 pub mod Making
 pub mod MergeComes

@@ -9,6 +9,7 @@
 mod backtrace;
 mod laws;
 mod link;
+mod link_plt;
 mod made;
 mod made_object;
 mod making;

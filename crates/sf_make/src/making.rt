@@ -7,6 +7,7 @@ ghost use Rattle.sf_make.specs.Making.{ComesTo};
 
 use crate::backtrace::backtrace_made;
 use crate::link::link_made;
+use crate::link_plt::link_plt_made;
 use crate::made::Made;
 use crate::made_object::gen_made;
 use crate::merge::merge_made;
@@ -30,6 +31,7 @@ pub fn make<'a>(alloc: Global, asked: &Asked<'a>, items: &[Vec<u8>]) -> Result<M
 {
     match asked {
         Asked::Link(link) => link_made(alloc, &link.inputs, link.section.at, items),
+        Asked::LinkPlt(link) => link_plt_made(alloc, &link.inputs, link.section.at, items),
         Asked::Merge(merge) => merge_made(alloc, &merge.sections, merge.out.at, items),
         Asked::Slim(slim) => slim_made(alloc, &items[0], slim.section.at, slim.out.at),
         Asked::Dump(section) => section_made(alloc, &items[0], section.at, Query::Whole),

@@ -30,6 +30,21 @@ link_made-requires-clause-within c =
     let limits = within_limits (words_of (asked.Link c.in-Link.link)) (bytes_of c.args.items.now) within in
     subst (λ (files : List InputFile). items_limit (map input_item (map input_of files)) (bytes_of c.args.items.now) ≡ None) (sym c.deref.ensures.value) limits.1
 
+pub link_plt_made-requires-clause-few : goal.link_plt_made-requires-clause-few
+link_plt_made-requires-clause-few c =
+    let within = subst (λ (a : Asked). command_limit (words_of a) (bytes_of c.args.items.now) ≡ None) c.in-LinkPlt.is c.requires.within in
+    let limits = within_limits (words_of (asked.LinkPlt c.in-LinkPlt.link)) (bytes_of c.args.items.now) within in
+    let count = subst (λ (a : Asked). length (bytes_of c.args.items.now) ≡ length (items_of (words_of a))) c.in-LinkPlt.is c.requires.items.count in
+    let inputs = length-map (map input_of c.in-LinkPlt.link.inputs.items) input_item in
+    let items = length-map c.args.items.now (λ v. v.items) in
+    omega (arith, limits.0, count, inputs, items)
+
+pub link_plt_made-requires-clause-within : goal.link_plt_made-requires-clause-within
+link_plt_made-requires-clause-within c =
+    let within = subst (λ (a : Asked). command_limit (words_of a) (bytes_of c.args.items.now) ≡ None) c.in-LinkPlt.is c.requires.within in
+    let limits = within_limits (words_of (asked.LinkPlt c.in-LinkPlt.link)) (bytes_of c.args.items.now) within in
+    subst (λ (files : List InputFile). items_limit (map input_item (map input_of files)) (bytes_of c.args.items.now) ≡ None) (sym c.deref-in-LinkPlt.ensures.value) limits.1
+
 pub merge_made-requires-clause-few : goal.merge_made-requires-clause-few
 merge_made-requires-clause-few c =
     let within = subst (λ (a : Asked). command_limit (words_of a) (bytes_of c.args.items.now) ≡ None) c.in-Merge.is c.requires.within in
