@@ -10,3 +10,4 @@ pub mod Counted
 pub mod Overlaps
 pub mod Sections
 pub mod Verdicts
+pub mod OneVerdict

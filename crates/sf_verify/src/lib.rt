@@ -13,6 +13,6 @@ mod sweep;
 mod verifying;
 
 pub use fault::VerifyFault;
-pub use laws::the_test_of_agreement_is_exact;
+pub use laws::{the_test_of_agreement_is_exact, verifying_comes_to_one_result};
 pub use said::Said;
 pub use verifying::verify;
