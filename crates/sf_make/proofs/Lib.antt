@@ -6,6 +6,7 @@ pub mod Linked
 pub mod Merged
 pub mod OneComing
 pub mod SomeComing
+pub mod Verified
 pub mod WalkedAgain
 pub mod Walks
 pub mod SectionsFit

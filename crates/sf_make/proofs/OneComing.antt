@@ -36,6 +36,8 @@ use Rattle.sf_merge.proofs.OneOrder.{one_result as one_merge}
 use Rattle.sf_slim.specs.declared.fault.SlimFault.{SlimFault}
 use Rattle.sf_slim.specs.Slimming.{Slims}
 use Rattle.sf_slim.proofs.OneResult.{one_result as one_slim}
+use Rattle.sf_verify.specs.Verifying.{Verifies}
+use Rattle.sf_verify.proofs.OneVerdict.{one_result as one_verdict}
 use Rattle.sf_text.specs.Merged.{merged_text}
 use Rattle.sf_text.specs.PltReport.{plt_report_text}
 use Rattle.sf_text.specs.Slim.{slim_text}
@@ -54,10 +56,11 @@ use Rattle.sf_make.specs.Linked.{LinkedComes, LinkedComesFrom, Makings, MakesLin
 use Rattle.sf_make.specs.MergeComes.{Item, IsSectionOf, MergeComesAt, MergeComesFrom, MakesMerge, TablesCome, sections_fault}
 use Rattle.sf_make.specs.SectionComes.{SectionComesFrom, MakesShown, Shows}
 use Rattle.sf_make.specs.SlimComes.{MakesSlim, SlimComesFrom, SlimmingComes}
+use Rattle.sf_make.specs.VerifyComes.{VerifyComesFrom, coming_of_verdict}
 use Rattle.sf_make.specs.WalkComes.{WalkComesFrom, coming_of_walks, table_walks}
 use Rattle.std.proofs.lemmas.List.{length-map}
 use Rattle.sf_words.specs.Items.{input_item, section_item}
-use Rattle.sf_words.specs.Words.{CommandWords, Link, LinkPlt, Merge, Slim, Dump, Lookup, Walk, Backtrace, Gen, SectionWords, InputWords}
+use Rattle.sf_words.specs.Words.{CommandWords, Link, LinkPlt, Merge, Slim, Dump, Lookup, Verify, Walk, Backtrace, Gen, SectionWords, InputWords}
 
 -- ---- dump and lookup
 shows_one : (query : Query) (table : Table) (a b : Outcome) (s t : List ℕ) → Shows query table a s → Shows query table b t → (a ≡ b) × (s ≡ t)
@@ -234,6 +237,14 @@ behind_first : (items : List (List ℕ)) (n : ℕ) → length items ≡ suc n �
 behind_first [] n h = let none : ⊥ = omega (arith, h) in absurd none
 behind_first (i ∷ is) n h = omega (arith, h)
 
+-- ---- verify
+one_verified : (at : ℕ) (bytes : List ℕ) (objects : List Object) (check : Result (Unit {0}) DecodeFault) (c d : Coming) → VerifyComesFrom at bytes objects check c → VerifyComesFrom at bytes objects check d → c ≡ d
+one_verified at bytes objects (Err fault) c d p q = p ∙ sym q
+one_verified at bytes objects (Ok u) c d p q =
+    let tables = table_same bytes at p.table q.table p.of_bytes q.of_bytes in
+    let result = one_verdict bytes q.table objects p.result q.result (subst (λ (t : Table). Verifies bytes t objects p.result) tables p.verifies) q.verifies in
+    p.is ∙ ap coming_of_verdict result ∙ sym q.is
+
 -- ---- each command
 one_command : (command : CommandWords) (items : List (List ℕ)) (c d : Coming) → AreItems command items → CommandComes command items c → CommandComes command items d → c ≡ d
 one_command (Link link) items c d are p q =
@@ -247,6 +258,8 @@ one_command (Slim slim) items c d are p q =
     one_slim_coming slim.section.at (get_or items 0 []) slim.out.at (section_check (get_or items 0 []) slim.section.at) c d p q
 one_command (Dump section) items c d are p q = one_section section.at (get_or items 0 []) Whole (section_check (get_or items 0 []) section.at) c d p q
 one_command (Lookup section pc) items c d are p q = one_section section.at (get_or items 0 []) (RowAt pc) (section_check (get_or items 0 []) section.at) c d p q
+one_command (Verify verify) items c d are p q =
+    one_verified verify.section.at (get_or items 0 []) (objects_in verify.inputs (drop 1 items)) (section_check (get_or items 0 []) verify.section.at) c d p q
 one_command (Walk walk) items c d are p q =
     one_walk walk.section.at (get_or items 0 []) (get_or items 1 []) walk.depth (section_check (get_or items 0 []) walk.section.at) (core_check (get_or items 1 [])) c d p q
 one_command (Backtrace backtrace) items c d are p q =

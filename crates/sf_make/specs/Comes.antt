@@ -5,7 +5,7 @@ use Rattle.sf_items.specs.declared.refusal.Limit.{Limit}
 use Rattle.sf_items.specs.declared.refusal.Limit.TheVariants.{Inputs}
 use Rattle.sf_items.specs.Loading.{items_limit}
 use Rattle.sf_words.specs.Items.{counted_items, items_of}
-use Rattle.sf_words.specs.Words.{CanBeAsked, CommandWords, Link, LinkPlt, Merge, Slim, Dump, Lookup, Walk, Backtrace, Gen}
+use Rattle.sf_words.specs.Words.{CanBeAsked, CommandWords, Link, LinkPlt, Merge, Slim, Dump, Lookup, Verify, Walk, Backtrace, Gen}
 use Rattle.sf_make.specs.declared.section.Query.TheVariants.{Whole, RowAt}
 use Rattle.sf_make.specs.BacktraceComes.{BacktraceComes}
 use Rattle.sf_make.specs.Coming.{Coming, ComesWithin, Exceeded, Refused}
@@ -15,6 +15,7 @@ use Rattle.sf_make.specs.LinkPltComes.{LinkPltComes}
 use Rattle.sf_make.specs.MergeComes.{MergeComes}
 use Rattle.sf_make.specs.SectionComes.{SectionComes}
 use Rattle.sf_make.specs.SlimComes.{SlimComes}
+use Rattle.sf_make.specs.VerifyComes.{VerifyComes}
 use Rattle.sf_make.specs.WalkComes.{WalkComes}
 
 -- the first limit of loading: the list names more than 512 files, or the bytes exceed one
@@ -29,6 +30,7 @@ CommandComes (Merge merge) items coming = MergeComes merge.sections merge.out.at
 CommandComes (Slim slim) items coming = SlimComes slim items coming
 CommandComes (Dump section) items coming = SectionComes section.at Whole items coming
 CommandComes (Lookup section pc) items coming = SectionComes section.at (RowAt pc) items coming
+CommandComes (Verify verify) items coming = VerifyComes verify items coming
 CommandComes (Walk walk) items coming = WalkComes walk.section.at walk.depth items coming
 CommandComes (Backtrace backtrace) items coming = BacktraceComes backtrace.inputs backtrace.out.at backtrace.depth items coming
 CommandComes (Gen n) items coming = GenComes n coming

@@ -10,3 +10,4 @@ pub mod MergeComes
 pub mod SectionComes
 pub mod SlimComes
 pub mod WalkComes
+pub mod VerifyComes

@@ -16,6 +16,7 @@ mod making;
 mod merge;
 mod section;
 mod slim;
+mod verify;
 mod walk;
 
 pub use laws::{

@@ -13,6 +13,7 @@ use crate::made_object::gen_made;
 use crate::merge::merge_made;
 use crate::section::{Query, section_made};
 use crate::slim::slim_made;
+use crate::verify::verify_made;
 use crate::walk::walk_made;
 use sf_items::Refusal;
 use sf_words::Asked;
@@ -36,6 +37,13 @@ pub fn make<'a>(alloc: Global, asked: &Asked<'a>, items: &[Vec<u8>]) -> Result<M
         Asked::Slim(slim) => slim_made(alloc, &items[0], slim.section.at, slim.out.at),
         Asked::Dump(section) => section_made(alloc, &items[0], section.at, Query::Whole),
         Asked::Lookup(section, pc) => section_made(alloc, &items[0], section.at, Query::RowAt(*pc)),
+        Asked::Verify(verify) => verify_made(
+            alloc,
+            &items[0],
+            verify.section.at,
+            &verify.inputs,
+            &items[1..],
+        ),
         Asked::Walk(walk) => { walk_made(alloc, &items[0], walk.section.at, &items[1], walk.depth) }
         Asked::Backtrace(backtrace) => backtrace_made(
             alloc,

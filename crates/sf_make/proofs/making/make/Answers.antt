@@ -12,6 +12,7 @@ use Rattle.sf_make.specs.Comes.{command_limit}
 use Rattle.sf_make.proofs.Backtraces.{behind_count, within_behind}
 use Rattle.sf_make.proofs.Limits.{within_limits}
 use Rattle.sf_make.proofs.Linked.{bytes_of}
+use Rattle.sf_make.proofs.Verified.{within_after}
 use Rattle.sf_make.proofs.Walks.{core_short}
 use Rattle.sf_make.proofs.making.make.Goals as goal
 
@@ -91,3 +92,29 @@ backtrace_made-requires-clause-within c =
     subst (λ (files : List InputFile). bytes_limit 0 0 ((kind.Core, c.deref-in-Backtrace-2.result.now) ∷ of_kinds (map input_item (map input_of files)) behind) ≡ None) (sym c.deref-in-Backtrace.ensures.value)
     (subst (λ (b : List ℕ). bytes_limit 0 0 ((kind.Core, b) ∷ of_kinds (map input_item inputs) behind) ≡ None) (sym first)
     (within_behind backtrace.core.now inputs c.args.items.now core (length (map input_item inputs)) all limits.1))
+
+pub verify_made-requires-clause-few : goal.verify_made-requires-clause-few
+verify_made-requires-clause-few c =
+    let inputs = map input_of c.in-Verify.verify.inputs.items in
+    let within = subst (λ (a : Asked). command_limit (words_of a) (bytes_of c.args.items.now) ≡ None) c.in-Verify.is c.requires.within in
+    let limits = within_limits (words_of (asked.Verify c.in-Verify.verify)) (bytes_of c.args.items.now) within in
+    let count = subst (λ (a : Asked). length (bytes_of c.args.items.now) ≡ length (items_of (words_of a))) c.in-Verify.is c.requires.items.count in
+    let all = sym (length-map c.args.items.now (λ v. v.items)) ∙ count ∙ ap (λ (n : ℕ). suc n) (length-map inputs input_item) in
+    let behind = behind_count c.args.items.now (length inputs) all in
+    omega (arith, limits.0, behind)
+
+pub verify_made-requires-clause-within : goal.verify_made-requires-clause-within
+verify_made-requires-clause-within c =
+    let verify = c.in-Verify.verify in
+    let inputs = map input_of verify.inputs.items in
+    let within = subst (λ (a : Asked). command_limit (words_of a) (bytes_of c.args.items.now) ≡ None) c.in-Verify.is c.requires.within in
+    let limits = within_limits (words_of (asked.Verify verify)) (bytes_of c.args.items.now) within in
+    let count = subst (λ (a : Asked). length (bytes_of c.args.items.now) ≡ length (items_of (words_of a))) c.in-Verify.is c.requires.items.count in
+    let all = sym (length-map c.args.items.now (λ v. v.items)) ∙ count in
+    let core = c.index-items-0-in-Verify.result in
+    let first : c.deref-in-Verify.result.now ≡ (get_or c.args.items.now 0 core).items =
+    c.deref-in-Verify.ensures.value ∙ ap (λ (v : Vec ℕ Global). v.items) c.index-items-0-in-Verify.is in
+    let behind = bytes_of (take (length c.args.items.now - 1) (drop 1 c.args.items.now)) in
+    subst (λ (files : List InputFile). bytes_limit 0 0 ((kind.Section, c.deref-in-Verify.result.now) ∷ of_kinds (map input_item (map input_of files)) behind) ≡ None) (sym c.deref-in-Verify-2.ensures.value)
+    (subst (λ (b : List ℕ). bytes_limit 0 0 ((kind.Section, b) ∷ of_kinds (map input_item inputs) behind) ≡ None) (sym first)
+    (within_after (section_of verify.section) inputs c.args.items.now core (length (map input_item inputs)) all limits.1))
