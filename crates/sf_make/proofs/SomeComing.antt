@@ -48,13 +48,13 @@ use Rattle.sf_text.specs.Found.{found_text}
 use Rattle.sf_text.specs.Merged.{merged_text}
 use Rattle.sf_text.specs.Slim.{slim_text}
 use Rattle.sf_items.specs.declared.refusal.Limit.{Limit}
-use Rattle.sf_words.specs.Words.{CommandWords, SectionWords, Link, Merge, Slim, Dump, Lookup, Walk, Backtrace, Gen}
+use Rattle.sf_words.specs.Words.{CommandWords, SectionWords, Link, LinkPlt, Merge, Slim, Dump, Lookup, Verify, Walk, Backtrace, Gen}
 use Rattle.sf_make.specs.declared.section.Query.{Query}
 use Rattle.sf_make.specs.declared.section.Query.TheVariants.{Whole, RowAt}
 use Rattle.sf_make.specs.declared.made.Outcome.{Outcome}
 use Rattle.sf_make.specs.declared.made.Outcome.TheVariants.{Done}
 use Rattle.sf_make.specs.BacktraceComes.{BacktraceComesFrom, section_and_walks}
-use Rattle.sf_make.specs.Comes.{AreItems, CommandComes, Comes, command_limit}
+use Rattle.sf_make.specs.Comes.{AreItems, CommandComes, Comes, ComesToSomething, command_limit}
 use Rattle.sf_make.specs.Coming.{Coming, ComesWithin, Exceeded, Makes, Refused}
 use Rattle.sf_make.specs.GenComes.{made_object, summary_alone}
 use Rattle.sf_make.specs.LinkComes.{objects_in, section_and_report}
@@ -255,27 +255,29 @@ some_backtrace objects at core depth (Ok u) = some_linked (Some (arch_of core)) 
 first_bytes : (items : List (List ℕ)) (i : ℕ) → All AreBytes items → i < length items → AreBytes (get_or items i [])
 first_bytes items i h lt = h i [] lt
 
-some_command : (command : CommandWords) (items : List (List ℕ)) → AreItems command items → All AreBytes items → (coming : Coming) × CommandComes command items coming
-some_command (Link link) items are bytes = some_linked None (objects_in link.inputs items) link.out.at section_and_report
-some_command (Merge merge) items are bytes = some_merge merge.out.at (zip merge.sections items) (all_items merge.sections items bytes) (sections_fault 0 (zip merge.sections items)) refl
-some_command (Slim slim) items are bytes =
+some_command : (command : CommandWords) (items : List (List ℕ)) → AreItems command items → All AreBytes items → ComesToSomething command → (coming : Coming) × CommandComes command items coming
+some_command (Link link) items are bytes of = some_linked None (objects_in link.inputs items) link.section.at section_and_report
+some_command (LinkPlt link) items are bytes of = absurd of
+some_command (Merge merge) items are bytes of = some_merge merge.out.at (zip merge.sections items) (all_items merge.sections items bytes) (sections_fault 0 (zip merge.sections items)) refl
+some_command (Slim slim) items are bytes of =
     let count : length items ≡ 1 = are.count in
     some_slim slim.section.at slim.out.at (get_or items 0 []) (first_bytes items 0 bytes (omega (count, arith))) (section_check (get_or items 0 []) slim.section.at) refl
-some_command (Dump section) items are bytes =
+some_command (Dump section) items are bytes of =
     let count : length items ≡ 1 = are.count in
     some_section_shown section.at (get_or items 0 []) Whole (first_bytes items 0 bytes (omega (count, arith))) (section_check (get_or items 0 []) section.at) refl
-some_command (Lookup section pc) items are bytes =
+some_command (Lookup section pc) items are bytes of =
     let count : length items ≡ 1 = are.count in
     some_section_shown section.at (get_or items 0 []) (RowAt pc) (first_bytes items 0 bytes (omega (count, arith))) (section_check (get_or items 0 []) section.at) refl
-some_command (Walk walk) items are bytes =
+some_command (Verify verify) items are bytes of = absurd of
+some_command (Walk walk) items are bytes of =
     let count : length items ≡ 2 = are.count in
     some_walks walk.section.at (get_or items 0 []) (get_or items 1 []) walk.depth (first_bytes items 0 bytes (omega (count, arith))) (section_check (get_or items 0 []) walk.section.at) refl (core_check (get_or items 1 []))
-some_command (Backtrace backtrace) items are bytes = some_backtrace _ backtrace.out.at (get_or items 0 []) backtrace.depth (core_check (get_or items 0 []))
-some_command (Gen n) items are bytes = some_linked None (made_object n ∷ []) 0x4000000 (summary_alone n)
+some_command (Backtrace backtrace) items are bytes of = some_backtrace _ backtrace.out.at (get_or items 0 []) backtrace.depth (core_check (get_or items 0 []))
+some_command (Gen n) items are bytes of = some_linked None (made_object n ∷ []) 0x4000000 (summary_alone n)
 
 within : (command : CommandWords) (items : List (List ℕ)) → (coming : Coming) × CommandComes command items coming → (limit : Option Limit) → (coming : Coming) × ComesWithin limit (CommandComes command items) coming
 within command items some (Some limit) = (Exceeded limit, refl)
 within command items some None = some
 
-pub some_coming : (command : CommandWords) (items : List (List ℕ)) → AreItems command items → All AreBytes items → (coming : Coming) × Comes command items coming
-some_coming command items are bytes = within command items (some_command command items are bytes) (command_limit command items)
+pub some_coming : (command : CommandWords) (items : List (List ℕ)) → AreItems command items → All AreBytes items → ComesToSomething command → (coming : Coming) × Comes command items coming
+some_coming command items are bytes of = within command items (some_command command items are bytes of) (command_limit command items)

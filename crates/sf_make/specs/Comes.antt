@@ -47,3 +47,16 @@ pub record AreItems (command : CommandWords) (items : List (List ℕ)) : Type 0 
 pub record RefusesNothing (command : CommandWords) (items : List (List ℕ)) : Type 0 where
   pub within : (limit : Limit) → Comes command items (Exceeded limit) → ⊥
   pub accepted : (shown : Told) → Comes command items (Refused shown) → ⊥
+
+-- the commands of which a law says that they come to something, whatever the bytes of their items are
+abbrev pub ComesToSomething : CommandWords → Type 0
+ComesToSomething (Link link) = Unit {0}
+ComesToSomething (LinkPlt link) = ⊥
+ComesToSomething (Merge merge) = Unit {0}
+ComesToSomething (Slim slim) = Unit {0}
+ComesToSomething (Dump section) = Unit {0}
+ComesToSomething (Lookup section pc) = Unit {0}
+ComesToSomething (Verify verify) = ⊥
+ComesToSomething (Walk walk) = Unit {0}
+ComesToSomething (Backtrace backtrace) = Unit {0}
+ComesToSomething (Gen n) = Unit {0}
