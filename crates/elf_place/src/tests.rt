@@ -1,12 +1,11 @@
 //! Where the sections of whole files are. Files that cannot be placed are cases in files.
 
-mod files;
 mod groups;
 mod relocations;
 
 use super::*;
 use elf_read::Elf;
-use files::{GROUPED, SHARED};
+use elf_samples::{GROUPED, SHARED};
 use std::alloc::Global;
 use std::test::*;
 

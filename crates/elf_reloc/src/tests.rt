@@ -2,7 +2,6 @@
 //! files.
 
 mod fields;
-mod files;
 
 ghost use Rattle.std.specs.Prelude.{◌≡◌};
 

@@ -3,7 +3,6 @@
 ghost use Rattle.std.specs.Prelude.{◌<◌, ◌^◌, IfOk, length};
 
 mod cases;
-mod files;
 
 use super::*;
 use cases::{CASES, HIGH, LOW, OMITTED};

@@ -1,9 +1,9 @@
 //! An object with a section group whose members are dropped.
 
 use super::bytes_of;
-use super::files::GROUPED;
 use crate::Placed;
 use elf_read::Elf;
+use elf_samples::GROUPED;
 use std::test::*;
 
 #[test]

@@ -1,9 +1,9 @@
 //! The sections with relocations of a section.
 
 use super::bytes_of;
-use super::files::GROUPED;
 use crate::Placed;
 use elf_read::Elf;
+use elf_samples::GROUPED;
 use std::test::*;
 
 #[test]

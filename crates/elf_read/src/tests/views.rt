@@ -1,8 +1,8 @@
 //! What is seen of whole files.
 
 use super::bytes_of;
-use super::files::{AARCH64, GROUPED};
 use crate::{Elf, Kind, Rela, Symbol};
+use elf_samples::{AARCH64, GROUPED};
 use sf_model::Arch;
 use std::test::*;
 
@@ -67,37 +67,9 @@ fn names_and_bytes_of_sections(rt: HostRuntime) -> Result<(), Fail> {
     Ok(())
 }
 
-/// A file, a relocation section, an entry, and what it says.
-type Entry = (&'static str, u32, u32, Rela);
-
-fn rela(offset: u64, symbol: u32, kind: u32, addend: i64) -> Rela {
-    Rela {
-        offset,
-        symbol,
-        kind,
-        addend,
-    }
-}
-
 #[test]
-fn entries_of_relocation_sections(rt: HostRuntime) -> Result<(), Fail> {
-    let cases: [Entry; 4] = [
-        (GROUPED, 5, 0, rela(0x13, 1, 10, 0)),
-        (GROUPED, 5, 1, rela(0x28, 2, 2, 0)),
-        (GROUPED, 5, 2, rela(0x31, 3, 10, 0)),
-        (AARCH64, 3, 0, rela(0x20, 1, 261, 0)),
-    ];
-    for (file, section, entry, expected) in cases {
-        let bytes = bytes_of(rt.alloc(), file, &[])?;
-        assert!(rt; bytes.len() < 4096);
-        let elf = Elf::parse(&bytes).ok().ok_or("the file is sound")?;
-        assert_eq!(rt; elf.rela(section, entry), expected);
-    }
-    Ok(())
-}
-
-#[test]
-fn an_addend_below_zero(rt: HostRuntime) -> Result<(), Fail> {
+fn entries_of_an_object(rt: HostRuntime) -> Result<(), Fail> {
+    // The addend of the second relocation is -2.
     let edits = [
         (240, 0xfe),
         (241, 255),
@@ -111,50 +83,25 @@ fn an_addend_below_zero(rt: HostRuntime) -> Result<(), Fail> {
     let bytes = bytes_of(rt.alloc(), GROUPED, &edits)?;
     assert!(rt; bytes.len() < 4096);
     let elf = Elf::parse(&bytes).ok().ok_or("the file is sound")?;
-    assert_eq!(rt; elf.rela(5, 1), rela(0x28, 2, 2, -2));
-    Ok(())
-}
-
-#[test]
-fn symbols(rt: HostRuntime) -> Result<(), Fail> {
-    let cases: [(&'static str, u32, u32, u32, u16); 2] = [
-        (GROUPED, 6, 5, 22, 2),
-        (AARCH64, 4, 1, 0, 1),
-    ];
-    for (file, table, k, name, section) in cases {
-        let bytes = bytes_of(rt.alloc(), file, &[])?;
-        assert!(rt; bytes.len() < 4096);
-        let elf = Elf::parse(&bytes).ok().ok_or("the file is sound")?;
-        let expected = Symbol {
-            name,
-            section,
-            value: 0,
-        };
-        assert_eq!(rt; elf.symbol(table, k), expected);
-    }
-    Ok(())
-}
-
-#[test]
-fn an_object_with_a_group(rt: HostRuntime) -> Result<(), Fail> {
-    // A group that is COMDAT; one that isn't; one that is named by the section of its symbol.
-    let cases: [(&[(u16, u8)], bool, &'static str); 3] = [
-        (&[], true, "_Z1fv"),
-        (&[(64, 0)], false, "_Z1fv"),
-        (&[(644, 3)], true, ".gcc_except_table"),
-    ];
-    for (edits, comdat, signature) in cases {
-        let bytes = bytes_of(rt.alloc(), GROUPED, edits)?;
-        assert!(rt; bytes.len() < 4096);
-        let elf = Elf::parse(&bytes).ok().ok_or("the file is sound")?;
-        let group = elf.group(1).ok_or("section 1 is a group")?;
-        assert_eq!(rt; group.comdat, comdat);
-        assert_eq!(rt; group.signature, signature.as_bytes());
-        assert_eq!(rt; group.count, 2);
-        assert_eq!(rt; elf.member(1, 0), 2);
-        assert_eq!(rt; elf.member(1, 1), 3);
-        assert!(rt; elf.group(2).is_none());
-    }
+    let rela = Rela {
+        offset: 0x28,
+        symbol: 2,
+        kind: 2,
+        addend: -2,
+    };
+    assert_eq!(rt; elf.rela(5, 1), rela);
+    let symbol = Symbol {
+        name: 22,
+        section: 2,
+        value: 0,
+    };
+    assert_eq!(rt; elf.symbol(6, 5), symbol);
+    let group = elf.group(1).ok_or("section 1 is a group")?;
+    assert!(rt; group.comdat);
+    assert_eq!(rt; group.signature, b"_Z1fv".as_slice());
+    assert_eq!(rt; group.count, 2);
+    assert_eq!(rt; elf.member(1, 1), 3);
+    assert!(rt; elf.group(2).is_none());
     Ok(())
 }
 

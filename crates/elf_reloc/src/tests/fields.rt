@@ -2,11 +2,11 @@
 
 ghost use Rattle.sf_bytes.specs.Rising.{AreRising};
 
-use super::files::{AARCH64, GROUPED};
 use super::{Edits, bytes_of, four_bytes};
 use crate::{RelocFault, Relocs};
 use elf_place::Placed;
 use elf_read::Elf;
+use elf_samples::{AARCH64, GROUPED};
 use sf_bytes::{Field, Values};
 use std::test::*;
 

@@ -1,7 +1,7 @@
 //! Inputs of one small function each, and what linking two of them comes to.
 
-use super::files::GROUPED;
 use super::{Case, Given};
+use elf_samples::GROUPED;
 use sf_asm::Form;
 use sf_model::Arch;
 
