@@ -14,7 +14,7 @@ use Rattle.elf_reloc.specs.declared.fix.Fix.{Fix}
 use Rattle.elf_reloc.specs.Reading.{section_address}
 use Rattle.sf_asm.specs.declared.fault.AsmFault.{AsmFault}
 use Rattle.sf_asm.specs.declared.fault.AsmFault.TheVariants as asm
-use Rattle.sf_asm.specs.declared.input.Form.TheVariants.{Elf}
+use Rattle.sf_model.specs.declared.form.Form.TheVariants.{Elf}
 use Rattle.sf_asm.specs.Fault.{wraps_place}
 use Rattle.sf_asm.specs.Functions.{◌>>=◌, Function, CallFrames, named, object_functions, sections_functions}
 use Rattle.sf_asm.specs.Groups.{gone_groups}

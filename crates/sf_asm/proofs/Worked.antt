@@ -15,7 +15,7 @@ use Rattle.sf_asm.specs.declared.fault.AsmFault.{AsmFault}
 use Rattle.sf_asm.specs.declared.fault.AsmFault.TheVariants as asm
 use Rattle.sf_asm.specs.declared.fault.GatherFault.{GatherFault}
 use Rattle.sf_asm.specs.declared.fault.GatherFault.TheVariants as gather
-use Rattle.sf_asm.specs.declared.input.Form.TheVariants.{Bare}
+use Rattle.sf_model.specs.declared.form.Form.TheVariants.{Bare}
 use Rattle.sf_asm.specs.Answers.{seen_as}
 use Rattle.sf_asm.specs.Kept.{entry_of}
 use Rattle.sf_bytes.specs.Cursor.{number_at, part_at, signed_at}

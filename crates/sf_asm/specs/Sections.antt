@@ -15,8 +15,8 @@ use Rattle.elf_reloc.specs.declared.fix.Fix.{Fix}
 use Rattle.elf_reloc.specs.Reading.{section_address}
 use Rattle.sf_asm.specs.declared.fault.AsmFault.{AsmFault}
 use Rattle.sf_asm.specs.declared.fault.AsmFault.TheVariants as asm
-use Rattle.sf_asm.specs.declared.input.Form.{Form}
-use Rattle.sf_asm.specs.declared.input.Form.TheVariants.{Elf, Bare}
+use Rattle.sf_model.specs.declared.form.Form.{Form}
+use Rattle.sf_model.specs.declared.form.Form.TheVariants.{Elf, Bare}
 use Rattle.sf_asm.specs.declared.input.Input.{Input}
 use Rattle.sf_asm.specs.Groups.{gone_groups, seen_after}
 use Rattle.sf_asm.specs.Relocated.{relocations_of}

@@ -9,7 +9,7 @@ ghost use Rattle.elf_place.specs.Views as placed_views;
 ghost use Rattle.elf_reloc.specs.Reading.{section_address};
 ghost use Rattle.sf_asm.specs.Answers.{LendsAll, ReadsAll};
 ghost use Rattle.sf_asm.specs.declared.fault.AsmFault.TheVariants as asm;
-ghost use Rattle.sf_asm.specs.declared.input.Form.TheVariants as Form;
+ghost use Rattle.sf_model.specs.declared.form.Form.TheVariants as Form;
 ghost use Rattle.sf_asm.specs.Entry.{IsSound};
 ghost use Rattle.sf_asm.specs.Fault.{is_input_answered, wraps_place};
 ghost use Rattle.sf_asm.specs.Functions.{named, object_functions, sections_functions};

@@ -1,15 +1,6 @@
 //! What is linked.
 
-use sf_model::Arch;
-
-/// What an input's bytes are.
-#[derive(Clone, Copy, Debug, PartialEq, Eq)]
-pub enum Form {
-    /// An ELF file (ELF64 gABI): an object, a program or a shared object.
-    Elf,
-    /// A bare `.eh_frame` section of this machine (LSB Core), as it lies in a linked program.
-    Bare(Arch),
-}
+use sf_model::Form;
 
 /// An input at its load address.
 #[derive(Clone, Copy, Debug)]

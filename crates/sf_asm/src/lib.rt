@@ -34,7 +34,8 @@ pub use fault::{AsmFault, GatherFault, LinkFault};
 pub use gathering::{
     Gathered, Together, WithSources, gather, gather_together, gather_with_sources,
 };
-pub use input::{Form, Input};
+pub use input::Input;
+pub use sf_model::Form;
 pub use laws::{
     accepted_inputs_are_linked, kept_functions_recover_alike, linking_comes_to_one_result,
     relocations_of_sections_are_applied, walks_are_alike,

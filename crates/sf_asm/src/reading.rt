@@ -13,9 +13,9 @@ use crate::entry::Read;
 use crate::fault::AsmFault;
 use crate::frames::Frames;
 use crate::groups::Seen;
-use crate::input::{Form, Input};
+use crate::input::Input;
 use crate::section::read_section;
-use sf_model::Arch;
+use sf_model::{Arch, Form};
 use std::alloc::Global;
 
 /// The section number of a bare input.

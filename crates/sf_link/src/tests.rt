@@ -6,8 +6,8 @@ mod cases;
 
 use super::*;
 use cases::{CASES, HIGH, LOW, OMITTED};
-use sf_asm::{Form, Gathered, Input, LinkFault, Linked, gather};
-use sf_model::Arch;
+use sf_asm::{Gathered, Input, LinkFault, Linked, gather};
+use sf_model::{Arch, Form};
 use std::alloc::Global;
 use std::process::Abort;
 use std::test::*;

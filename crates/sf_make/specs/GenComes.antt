@@ -2,7 +2,7 @@
 use Rattle.std.specs.Prelude.{ℕ, List, [], ◌∷◌, length, None}
 use Rattle.sf_model.specs.declared.omission.Omitted.{Omitted}
 use Rattle.sf_gen.specs.Object.{object_bytes}
-use Rattle.sf_asm.specs.declared.input.Form.TheVariants.{Elf}
+use Rattle.sf_model.specs.declared.form.Form.TheVariants.{Elf}
 use Rattle.sf_asm.specs.Functions.{Object}
 use Rattle.sf_text.specs.Summary.{summary_text}
 use Rattle.sf_make.specs.declared.made.Outcome.TheVariants.{Done}

@@ -6,10 +6,11 @@ ghost use Rattle.sf_make.specs.Making.{ComesTo};
 
 use crate::link::unlinked;
 use crate::made::{Made, Outcome};
-use sf_asm::{Form, Input};
+use sf_asm::Input;
 use sf_gen::object;
 use sf_items::Refusal;
 use sf_link::link;
+use sf_model::Form;
 use sf_text::summary;
 use std::alloc::Global;
 

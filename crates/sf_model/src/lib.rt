@@ -1,6 +1,6 @@
-//! The public types that the crates share: machines, rows and functions of an SFrame section, what is
-//! read of a call frame description, why a function is left out, what a walk lists, and how a fault is
-//! told; and what a row recovers of the caller's frame.
+//! The public types that the crates share: machines, what an input is, rows and functions of an SFrame
+//! section, what is read of a call frame description, why a function is left out, what a walk lists, and how
+//! a fault is told; and what a row recovers of the caller's frame.
 //!
 //! `specs/` says what sections, look-up, recovery and walks are: `Section` when bytes at an address say
 //! what a `Table` does, `Tight` and `Narrow` the one layout without gaps and with the least widths,
@@ -15,6 +15,7 @@
 
 mod content;
 mod facts;
+mod form;
 mod function;
 mod laws;
 mod machine;
@@ -28,6 +29,7 @@ mod walk;
 
 pub use content::{Content, Ra, fits};
 pub use facts::FdeFacts;
+pub use form::Form;
 pub use function::{Func, FuncHead, Shape};
 pub use laws::{
     equal_recoveries_mean_equal_contents, section_has_one_table, tight_section_is_the_only_one,

@@ -4,8 +4,8 @@ ghost use Rattle.std.specs.Prelude.{◌≤◌};
 
 use super::*;
 use crate::limits::{Counts, Limits, check_tables};
-use sf_asm::{Form, GatherFault, Input};
-use sf_model::Arch;
+use sf_asm::{GatherFault, Input};
+use sf_model::{Arch, Form};
 use std::process::Abort;
 use std::test::Fail;
 

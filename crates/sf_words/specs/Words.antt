@@ -5,8 +5,8 @@ use Rattle.std.specs.List.{AllZip}
 use Rattle.sf_base.specs.Word.{SpellsDecimal, SpellsHexadecimal}
 use Rattle.sf_model.specs.declared.machine.Arch.{Arch}
 use Rattle.sf_model.specs.declared.machine.Arch.TheVariants.{Amd64, Aarch64}
-use Rattle.sf_asm.specs.declared.input.Form.{Form}
-use Rattle.sf_asm.specs.declared.input.Form.TheVariants.{Elf, Bare}
+use Rattle.sf_model.specs.declared.form.Form.{Form}
+use Rattle.sf_model.specs.declared.form.Form.TheVariants.{Elf, Bare}
 
 -- NAME@ADDRESS: a name, an `@`, and an address as `0x` and 1 to 16 lower-case digits of base 16
 pub record IsPlaced (word name : List ℕ) (address : ℕ) : Type 0 where

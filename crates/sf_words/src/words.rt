@@ -2,13 +2,12 @@
 
 ghost use Rattle.std.specs.Prelude.{◌≡◌, ℕ, ◌++◌, List, IfSome, IsSomeAnd};
 ghost use Rattle.sf_model.specs.declared.machine.Arch.{Arch as machine};
-ghost use Rattle.sf_asm.specs.declared.input.Form.{Form as input_form};
+ghost use Rattle.sf_model.specs.declared.form.Form.{Form as input_form};
 ghost use Rattle.sf_words.specs.Words.{IsPlaced, IsInputWord, IsSectionWord, InputWords, SectionWords, Spells, prefix_of};
 ghost use Rattle.sf_words.specs.Parsed.{input_of, section_of};
 
-use sf_asm::Form;
 use sf_base::hex_word;
-use sf_model::Arch;
+use sf_model::{Arch, Form};
 
 /// A name and the address behind its last `@`.
 #[derive(Clone, Copy)]

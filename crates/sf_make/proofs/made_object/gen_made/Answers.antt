@@ -1,5 +1,5 @@
 use Rattle.std.proofs.Common.{◌≡◌, ℕ, List, [], ◌∷◌, length, None, ap, sym, subst, ◌∙◌, arith}
-use Rattle.sf_asm.specs.declared.input.Form.TheVariants.{Elf}
+use Rattle.sf_model.specs.declared.form.Form.TheVariants.{Elf}
 use Rattle.sf_asm.specs.Answers.{IsLinked}
 use Rattle.sf_text.specs.Summary.{summary_text}
 use Rattle.sf_make.specs.declared.made.Outcome.TheVariants.{Done}
