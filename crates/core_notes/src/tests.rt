@@ -1,5 +1,4 @@
-//! Whole core files: their threads and memory, and where they are refused.
+//! What is seen of whole core files. What is wrong with one is a clause, and whole runs over faulty files are cases in files.
 
-mod faults;
 mod files;
 mod views;

@@ -9,9 +9,6 @@ pub type Header = (u8, u16, u16, u16);
 /// A place, and the bytes from it on in hexadecimal.
 pub type Piece = (u16, &'static str);
 
-/// Places of bytes, and what they are changed to.
-pub type Edits = &'static [(u16, u8)];
-
 /// A file of this many bytes; those that no header or piece has are 0. Two program headers are after the file header, more
 /// after the file.
 #[derive(Clone, Copy)]

@@ -1,6 +1,6 @@
 //! What is seen of whole files.
 
-use super::files::{Edits, File, Header, MASKED, TWO_THREADS, bytes_of};
+use super::files::{File, Header, MASKED, TWO_THREADS, bytes_of};
 use crate::{Core, Thread};
 use sf_model::{Arch, Memory, Regs};
 use std::test::*;
@@ -14,46 +14,14 @@ fn thread(pid: u32, pc: u64, sp: u64, fp: u64, mask: Option<u64>) -> Thread {
     }
 }
 
-// The status notes of each machine's file in a PT_NOTE segment of their own.
-const TWO_SEGMENTS: [Header; 3] = [(4, 176, 0, 356), (1, 888, 0x7000, 32), (4, 532, 0, 356)];
-
-const MASK_APART: [Header; 2] = [(4, 176, 0, 412), (4, 588, 0, 36)];
-
-const MASK_FIRST: [Header; 2] = [(4, 588, 0, 36), (4, 176, 0, 412)];
-
 #[test]
 fn threads_of_both_machines(rt: HostRuntime) -> Result<(), Fail> {
     let first = thread(100, 0x1004, 0x6ff0, 0x7000, None);
     let second = thread(101, 0x1000, 0x9000, 0, None);
     let masked = thread(7, 0x1008, 0x7000, 0, Some(0x7e_0000_0000_0000));
-    let bare = thread(7, 0x1008, 0x7000, 0, None);
-    let cases: [(File, Arch, &[Thread]); 5] = [
+    let cases: [(File, Arch, &[Thread]); 2] = [
         (TWO_THREADS, Arch::Amd64, &[first, second]),
-        (
-            File {
-                headers: &TWO_SEGMENTS,
-                ..TWO_THREADS
-            },
-            Arch::Amd64,
-            &[first, second],
-        ),
         (MASKED, Arch::Aarch64, &[masked]),
-        (
-            File {
-                headers: &MASK_APART,
-                ..MASKED
-            },
-            Arch::Aarch64,
-            &[masked],
-        ),
-        (
-            File {
-                headers: &MASK_FIRST,
-                ..MASKED
-            },
-            Arch::Aarch64,
-            &[bare],
-        ),
     ];
     for (file, arch, threads) in cases {
         let bytes = bytes_of(rt.alloc(), &file, &[])?;
@@ -75,31 +43,24 @@ fn threads_of_both_machines(rt: HostRuntime) -> Result<(), Fail> {
 
 #[test]
 fn memory_of_segments(rt: HostRuntime) -> Result<(), Fail> {
-    // Addresses that rise; that fall; and that overlap, where the first segment counts.
-    let falling: &[Header] = &[(1, 888, 0x7000, 32), (4, 176, 0, 712)];
-    let overlapping: &[Header] = &[(4, 176, 0, 712), (1, 896, 0x7004, 16), (1, 888, 0x7000, 32)];
-    let cases: [(&'static [Header], u64, Option<u64>); 12] = [
-        (TWO_THREADS.headers, 0x7000, Some(0x7010)),
-        (TWO_THREADS.headers, 0x7008, Some(0x1005)),
-        (TWO_THREADS.headers, 0x7018, Some(0)),
-        (TWO_THREADS.headers, 0x7019, None),
-        (TWO_THREADS.headers, 0x6fff, None),
-        (TWO_THREADS.headers, 0x7020, None),
-        (TWO_THREADS.headers, u64::MAX, None),
-        (falling, 0x7008, Some(0x1005)),
-        (falling, 0x7019, None),
-        (overlapping, 0x7000, Some(0x7010)),
-        (overlapping, 0x7004, Some(0x1005)),
-        (overlapping, 0x7010, Some(0)),
+    // The first segment that holds an address counts.
+    let headers: &'static [Header] = &[
+        (4, 176, 0, 712),
+        (1, 896, 0x7004, 16),
+        (1, 888, 0x7000, 32),
     ];
-    for (headers, address, expected) in cases {
-        let file = File {
-            headers,
-            ..TWO_THREADS
-        };
-        let bytes = bytes_of(rt.alloc(), &file, &[])?;
-        assert!(rt; bytes.len() < 4096);
-        let core = Core::parse(&bytes).ok().ok_or("the file is sound")?;
+    let file = File {
+        headers,
+        ..TWO_THREADS
+    };
+    let bytes = bytes_of(rt.alloc(), &file, &[])?;
+    assert!(rt; bytes.len() < 4096);
+    let core = Core::parse(&bytes).ok().ok_or("the file is sound")?;
+    for (address, expected) in [
+        (0x7000, Some(0x7010)),
+        (0x7004, Some(0x1005)),
+        (0x7019, None),
+    ] {
         assert_eq!(rt; core.read8(address), expected, "at {address:x}");
     }
     Ok(())
@@ -107,30 +68,12 @@ fn memory_of_segments(rt: HostRuntime) -> Result<(), Fail> {
 
 #[test]
 fn the_note_on_mapped_files(rt: HostRuntime) -> Result<(), Fail> {
-    // The second note is one; it has another name.
-    let cases: [(Edits, Option<u64>); 3] = [
-        (&[], None),
-        (
-            &[(540, 0x45), (541, 0x4c), (542, 0x49), (543, 0x46)],
-            Some(552),
-        ),
-        (
-            &[
-                (540, 0x45),
-                (541, 0x4c),
-                (542, 0x49),
-                (543, 0x46),
-                (544, 0x63),
-            ],
-            None,
-        ),
-    ];
-    for (edits, expected) in cases {
-        let bytes = bytes_of(rt.alloc(), &TWO_THREADS, edits)?;
-        assert!(rt; bytes.len() < 4096);
-        let core = Core::parse(&bytes).ok().ok_or("the file is sound")?;
-        let place = core.file_note().map(|part| part.place);
-        assert_eq!(rt; place, expected);
-    }
+    // The second note is one.
+    let edits = &[(540, 0x45), (541, 0x4c), (542, 0x49), (543, 0x46)];
+    let bytes = bytes_of(rt.alloc(), &TWO_THREADS, edits)?;
+    assert!(rt; bytes.len() < 4096);
+    let core = Core::parse(&bytes).ok().ok_or("the file is sound")?;
+    let place = core.file_note().map(|part| part.place);
+    assert_eq!(rt; place, Some(552));
     Ok(())
 }
