@@ -7,7 +7,7 @@ use Rattle.sf_words.specs.declared.command.SectionAndInputWords.{SectionAndInput
 use Rattle.sf_words.specs.declared.command.MergeCommand.{MergeCommand}
 use Rattle.sf_words.specs.declared.command.BacktraceCommand.{BacktraceCommand}
 use Rattle.sf_words.specs.Parsed.{AsksBacktrace, AsksInputs, AsksMerge}
-use Rattle.sf_words.specs.Words.{CanBeAsked, CommandWords, Link, LinkPlt, Merge, Slim, Dump, Lookup, Verify, Walk, Backtrace, Gen, BacktraceWords, MergeWords, SectionAndInputs, IsCommand, IsInputWord, IsSectionWord}
+use Rattle.sf_words.specs.Words.{CanBeAsked, CommandWords, Link, LinkPlt, Merge, Slim, Dump, Lookup, Verify, Walk, Backtrace, Procwalk, Gen, BacktraceWords, MergeWords, SectionAndInputs, IsCommand, IsInputWord, IsSectionWord}
 
 -- two lists that are joined item by item are as long
 pub as_long : {A B : Type 0} (R : A → B → Type 0) (xs : List A) (ys : List B) → AllZip R xs ys → length xs ≡ length ys
@@ -38,4 +38,5 @@ can_be_asked words (Lookup section pc) h = tt
 can_be_asked words (Verify verify) h = subst (λ (n : ℕ). 0 < n) (as_long IsInputWord h.input_words verify.inputs h.inputs) h.some
 can_be_asked words (Walk walk) h = h.within
 can_be_asked words (Backtrace backtrace) h = (subst (λ (n : ℕ). 0 < n) (as_long IsInputWord h.input_words backtrace.inputs h.inputs) h.some, h.within)
+can_be_asked words (Procwalk procwalk) h = (h.some, h.within)
 can_be_asked words (Gen n) h = h.within

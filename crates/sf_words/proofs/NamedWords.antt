@@ -4,7 +4,7 @@ use Rattle.std.specs.Prelude.{IfSome, IsSomeAnd}
 use Rattle.std.specs.Option.{is_some}
 use Rattle.std.proofs.lemmas.List.{drop_more}
 use Rattle.std.specs.List.{All, AllZip}
-use Rattle.std.proofs.lemmas.List.Elements.{All-head, All-tail}
+use Rattle.std.proofs.lemmas.List.Elements.{All-nil, All-cons, All-head, All-tail}
 
 -- a word among words that name things names one
 pub named_at : {A X : Type 0} (text : A → List ℕ) (Is : List ℕ → X → Type 0) (words : List A) (things : List X) (k : ℕ) (d : A)
@@ -22,6 +22,11 @@ all_named {A} {X} text Is (w ∷ ws) h =
     let first = All-head (λ (v : A). (thing : X) × Is (text v) thing) w ws h in
     let rest = all_named text Is ws (All-tail (λ (v : A). (thing : X) × Is (text v) thing) w ws h) in
     (first.0 ∷ rest.0, (first.1, rest.1))
+
+-- what holds of the text of each word, as a list of texts or as a list of words
+pub all_seen : {A X : Type 0} (text : A → X) (P : X → Type 0) (words : List A) → All P (map text words) → All (λ (w : A). P (text w)) words
+all_seen text P [] h = All-nil (λ w. P (text w))
+all_seen {A} text P (w ∷ ws) h = All-cons (λ (v : A). P (text v)) w ws (All-head P (text w) (map text ws) h) (all_seen text P ws (All-tail P (text w) (map text ws) h))
 
 -- the thing that the word at a place names, before those of the words behind it
 pub record Turn {A X : Type 0} (text : A → List ℕ) (Is : List ℕ → X → Type 0) (words : List A) (k : ℕ) (d : A) (things : List X) : Type 0 where

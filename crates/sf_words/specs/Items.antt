@@ -3,7 +3,7 @@ use Rattle.std.specs.Prelude.{◌^◌, ℕ, List, [], ◌∷◌, map, length}
 use Rattle.sf_words.specs.declared.item.Item.{Item}
 use Rattle.sf_words.specs.declared.item.ItemKind.{ItemKind}
 use Rattle.sf_words.specs.declared.item.ItemKind.TheVariants.{Input, Section, Core}
-use Rattle.sf_words.specs.Words.{CommandWords, Link, LinkPlt, Merge, Slim, Dump, Lookup, Verify, Walk, Backtrace, Gen, InputWords, SectionWords}
+use Rattle.sf_words.specs.Words.{CommandWords, Link, LinkPlt, Merge, Slim, Dump, Lookup, Verify, Walk, Backtrace, Procwalk, Gen, InputWords, SectionWords}
 
 -- a file that a command reads: its name and its kind
 pub record ItemWords : Type 0 where
@@ -34,6 +34,10 @@ section_item section = record { name = section.name; kind = Section }
 abbrev pub core_item : (name : List ℕ) → ItemWords
 core_item name = record { name = name; kind = Core }
 
+-- a file that was mapped: an ELF file, as an input to be linked is
+abbrev pub file_item : (name : List ℕ) → ItemWords
+file_item name = record { name = name; kind = Input }
+
 -- the files that a command reads, in order
 abbrev pub items_of : CommandWords → List ItemWords
 items_of (Link link) = map input_item link.inputs
@@ -45,6 +49,7 @@ items_of (Lookup section pc) = section_item section ∷ []
 items_of (Verify verify) = section_item verify.section ∷ map input_item verify.inputs
 items_of (Walk walk) = section_item walk.section ∷ core_item walk.core ∷ []
 items_of (Backtrace backtrace) = core_item backtrace.core ∷ map input_item backtrace.inputs
+items_of (Procwalk procwalk) = core_item procwalk.core ∷ map file_item procwalk.files
 items_of (Gen n) = []
 
 -- how many files a command's list names, for the limit of 512
@@ -58,6 +63,7 @@ counted_items (Lookup section pc) = 1
 counted_items (Verify verify) = length verify.inputs
 counted_items (Walk walk) = 1
 counted_items (Backtrace backtrace) = length backtrace.inputs
+counted_items (Procwalk procwalk) = length procwalk.files
 counted_items (Gen n) = 0
 
 -- the names of these files

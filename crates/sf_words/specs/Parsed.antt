@@ -16,7 +16,8 @@ use Rattle.sf_words.specs.declared.command.Command.TheVariants as command
 use Rattle.sf_words.specs.declared.words.SectionFile.{SectionFile}
 use Rattle.sf_words.specs.declared.command.SlimFiles.{SlimFiles}
 use Rattle.sf_words.specs.declared.command.WalkFiles.{WalkFiles}
-use Rattle.sf_words.specs.Words.{InputWords, MergeWords, SectionAndInputs, SectionWords, CommandWords, IsInputWord, IsSectionWord, Link as LinkOf, LinkPlt as LinkPltOf, Merge as MergeOf, Slim, Dump, Lookup, Verify as VerifyOf, Walk, Backtrace as BacktraceOf, Gen, BacktraceWords, SlimWords, WalkWords}
+use Rattle.sf_words.specs.declared.command.ProcwalkFiles.{ProcwalkFiles}
+use Rattle.sf_words.specs.Words.{InputWords, MergeWords, SectionAndInputs, SectionWords, CommandWords, IsInputWord, IsSectionWord, Link as LinkOf, LinkPlt as LinkPltOf, Merge as MergeOf, Slim, Dump, Lookup, Verify as VerifyOf, Walk, Backtrace as BacktraceOf, Procwalk, Gen, BacktraceWords, ProcwalkWords, SlimWords, WalkWords}
 
 abbrev pub input_of : InputFile → InputWords
 input_of input = record { form = input.form; name = input.name.now; base = input.base }
@@ -36,6 +37,9 @@ slim_of slim = record { out = section_of slim.out; section = section_of slim.sec
 abbrev pub walk_of : WalkFiles → WalkWords
 walk_of walk = record { section = section_of walk.section; core = walk.core.now; depth = walk.depth }
 
+abbrev pub procwalk_of : ProcwalkFiles → ProcwalkWords
+procwalk_of procwalk = record { core = procwalk.core.now; depth = procwalk.depth; files = map string_bytes procwalk.files.now }
+
 abbrev pub backtrace_of : Backtrace → BacktraceWords
 backtrace_of backtrace = record { out = section_of backtrace.out; core = backtrace.core.now; depth = backtrace.depth; inputs = map input_of backtrace.inputs.items }
 
@@ -49,6 +53,7 @@ words_of (asked.Lookup section pc) = Lookup (section_of section) pc
 words_of (asked.Verify verify) = VerifyOf (inputs_named verify)
 words_of (asked.Walk walk) = Walk (walk_of walk)
 words_of (asked.Backtrace backtrace) = BacktraceOf (backtrace_of backtrace)
+words_of (asked.Procwalk procwalk) = Procwalk (procwalk_of procwalk)
 words_of (asked.Gen n) = Gen n
 
 -- words that are split, and what they ask for
@@ -76,4 +81,5 @@ Asks (command.Lookup section pc) wanted = wanted ≡ Lookup (section_of section)
 Asks (command.Verify split) wanted = (verify : SectionAndInputs) × (wanted ≡ VerifyOf verify) × AsksInputs split verify
 Asks (command.Walk walk) wanted = wanted ≡ Walk (walk_of walk)
 Asks (command.Backtrace split) wanted = (backtrace : BacktraceWords) × (wanted ≡ BacktraceOf backtrace) × AsksBacktrace split backtrace
+Asks (command.Procwalk procwalk) wanted = wanted ≡ Procwalk (procwalk_of procwalk)
 Asks (command.Gen n) wanted = wanted ≡ Gen n

@@ -1,7 +1,7 @@
 -- The words of a command line, such as `link OUT@AT IN@BASE ..` or `dump FILE@AT`. The dots stand for any number of further words of
 -- the kind.
 use Rattle.std.specs.Prelude.{◌≡◌, ℕ, ◌<◌, ◌≤◌, List, [], ◌∷◌, ◌++◌, length, codes, Option, Some, None}
-use Rattle.std.specs.List.{AllZip}
+use Rattle.std.specs.List.{All, AllZip}
 use Rattle.sf_base.specs.Word.{SpellsDecimal, SpellsHexadecimal}
 use Rattle.sf_model.specs.declared.machine.Arch.{Arch}
 use Rattle.sf_model.specs.declared.machine.Arch.TheVariants.{Amd64, Aarch64}
@@ -144,6 +144,22 @@ pub record IsBacktrace (words : List (List ℕ)) (backtrace : BacktraceWords) : 
   pub some : 0 < length input_words
   pub inputs : AllZip IsInputWord input_words backtrace.inputs
 
+-- what is asked of `procwalk`: the core file's name, the most frames of a thread, and the names of the files that were mapped
+pub record ProcwalkWords : Type 0 where
+  pub core : List ℕ
+  pub depth : ℕ
+  pub files : List (List ℕ)
+
+-- the words ask for these walks: each name is a whole word that is not empty, and one file at least is named
+pub record IsProcwalk (words : List (List ℕ)) (procwalk : ProcwalkWords) : Type 0 where
+  pub depth_word : List ℕ
+  pub words_are : words ≡ codes "procwalk" ∷ procwalk.core ∷ depth_word ∷ procwalk.files
+  pub named : 0 < length procwalk.core
+  pub depth : SpellsDecimal depth_word procwalk.depth
+  pub within : IsDepth procwalk.depth
+  pub some : 0 < length procwalk.files
+  pub files_named : All (λ (name : List ℕ). 0 < length name) procwalk.files
+
 -- how many functions a made object may have: 1 to 100000
 pub record IsFunctionCount (n : ℕ) : Type 0 where
   pub some : 0 < n
@@ -167,6 +183,7 @@ pub data CommandWords : Type 0 where
   Verify : SectionAndInputs → CommandWords
   Walk : WalkWords → CommandWords
   Backtrace : BacktraceWords → CommandWords
+  Procwalk : ProcwalkWords → CommandWords
   Gen : (n : ℕ) → CommandWords
 
 -- the words ask for this
@@ -180,6 +197,7 @@ IsCommand words (Lookup section pc) = IsLookup words section pc
 IsCommand words (Verify verify) = NameInputs (codes "verify") words verify
 IsCommand words (Walk walk) = IsWalk words walk
 IsCommand words (Backtrace backtrace) = IsBacktrace words backtrace
+IsCommand words (Procwalk procwalk) = IsProcwalk words procwalk
 IsCommand words (Gen n) = IsGen words n
 
 -- what each form says of the command that it asks for: a list that names one file at least, and a number within its range
@@ -193,6 +211,7 @@ CanBeAsked (Lookup section pc) = Unit {0}
 CanBeAsked (Verify verify) = 0 < length verify.inputs
 CanBeAsked (Walk walk) = IsDepth walk.depth
 CanBeAsked (Backtrace backtrace) = (0 < length backtrace.inputs) × IsDepth backtrace.depth
+CanBeAsked (Procwalk procwalk) = (0 < length procwalk.files) × IsDepth procwalk.depth
 CanBeAsked (Gen n) = IsFunctionCount n
 
 -- the name of the file that a command makes
@@ -206,6 +225,7 @@ out_name (Lookup section pc) = None
 out_name (Verify verify) = None
 out_name (Walk walk) = None
 out_name (Backtrace backtrace) = Some backtrace.out.name
+out_name (Procwalk procwalk) = None
 out_name (Gen n) = None
 
 -- the words have none of the forms

@@ -1,11 +1,12 @@
 //! What a command line asks for, with each of its words read.
 
 ghost use Rattle.std.specs.Prelude.{◌≡◌, List, [], ◌∷◌, ◌++◌, map, IfOk, OnOk};
-ghost use Rattle.sf_words.specs.Items.{items_of, item_of, core_item, input_item, section_item};
+ghost use Rattle.sf_words.specs.Items.{items_of, item_of, core_item, file_item, input_item, section_item};
+ghost use Rattle.std.specs.String.{string_bytes};
 ghost use Rattle.sf_words.specs.Parsed.{Asks, AsksInputs, input_of, inputs_named, section_of, words_of};
 ghost use Rattle.sf_words.specs.Words.{CommandWords, SectionAndInputs};
 
-use crate::command::{Command, SectionAndInputWords, SlimFiles, WalkFiles};
+use crate::command::{Command, ProcwalkFiles, SectionAndInputWords, SlimFiles, WalkFiles};
 use crate::item::{Item, ItemKind};
 use crate::lists::{inputs_of, sections_of};
 use crate::words::{InputFile, SectionFile};
@@ -58,6 +59,8 @@ pub enum Asked<'a> {
     Walk(WalkFiles<'a>),
     /// `backtrace OUT@AT CORE DEPTH IN@BASE ..`
     Backtrace(Backtrace<'a>),
+    /// `procwalk CORE DEPTH FILE ..`
+    Procwalk(ProcwalkFiles<'a>),
     /// `gen N`
     Gen(u32),
 }
@@ -101,6 +104,7 @@ pub fn read_words<'a>(alloc: Global, command: &Command<'a>) -> Result<Asked<'a>,
             depth: backtrace.depth,
             inputs: inputs_of(alloc, backtrace.inputs)?,
         })),
+        Command::Procwalk(procwalk) => Ok(Asked::Procwalk(*procwalk)),
         Command::Gen(n) => Ok(Asked::Gen(*n)),
     }
 }
@@ -171,6 +175,23 @@ fn core_and_inputs<'a>(
     Ok(items)
 }
 
+/// The core file and the files that were mapped, as items.
+fn core_and_files<'a>(
+    alloc: Global,
+    procwalk: &ProcwalkFiles<'a>,
+) -> Result<Vec<Item<'a>>, NoMemory>
+    ensures { IfOk result (λ items. map item_of items.items ≡ core_item procwalk.now.core.now ∷ map file_item (map string_bytes procwalk.now.files.now)) }
+{
+    let mut items = vec![in alloc; core_item(procwalk.core)]?;
+    for name in procwalk.files {
+        items.push(Item {
+            name,
+            kind: ItemKind::Input,
+        })?;
+    }
+    Ok(items)
+}
+
 /// The section and the inputs, as items.
 fn section_and_inputs<'a>(
     alloc: Global,
@@ -206,6 +227,7 @@ pub fn items<'a>(alloc: Global, asked: &Asked<'a>) -> Result<Vec<Item<'a>>, NoMe
         Asked::Verify(verify) => section_and_inputs(alloc, verify),
         Asked::Walk(walk) => walk_items(alloc, walk),
         Asked::Backtrace(backtrace) => { core_and_inputs(alloc, backtrace.core, &backtrace.inputs) }
+        Asked::Procwalk(procwalk) => core_and_files(alloc, procwalk),
         Asked::Gen(_) => Ok(Vec::new(alloc)),
     }
 }

@@ -4,11 +4,11 @@ ghost use Rattle.std.specs.Prelude.{◌≡◌, ◌<◌, ◌≤◌, ℕ, [], ◌�
 ghost use Rattle.std.specs.Option.{option_map};
 ghost use Rattle.std.specs.String.{string_bytes};
 ghost use Rattle.sf_base.specs.Word.{SpellsDecimal};
-ghost use Rattle.sf_words.specs.Words.{IsMerge, IsSlim, IsDump, IsLookup, IsWalk, IsBacktrace, IsGen, IsCommand, MergeWords, NameInputs, SectionAndInputs, SlimWords, SectionWords, WalkWords, BacktraceWords, CommandWords, out_name};
+ghost use Rattle.sf_words.specs.Words.{IsMerge, IsSlim, IsDump, IsLookup, IsWalk, IsBacktrace, IsProcwalk, IsGen, IsCommand, MergeWords, NameInputs, SectionAndInputs, SlimWords, SectionWords, WalkWords, BacktraceWords, ProcwalkWords, CommandWords, out_name};
 ghost use Rattle.sf_words.specs.Items.{counted_items};
-ghost use Rattle.sf_words.specs.Parsed.{section_of, slim_of, walk_of, Asks, AsksBacktrace, AsksInputs, AsksMerge};
+ghost use Rattle.sf_words.specs.Parsed.{procwalk_of, section_of, slim_of, walk_of, Asks, AsksBacktrace, AsksInputs, AsksMerge};
 
-use crate::lists::{are_inputs, are_sections};
+use crate::lists::{are_inputs, are_named, are_sections};
 use crate::words::{SectionFile, section_file};
 use sf_base::{dec_word, hex_word};
 
@@ -63,6 +63,17 @@ pub struct BacktraceCommand<'a> {
     pub inputs: &'a [String],
 }
 
+/// The words of `procwalk CORE DEPTH FILE ..`.
+#[derive(Clone, Copy)]
+pub struct ProcwalkFiles<'a> {
+    /// The name of the core file.
+    pub core: &'a str,
+    /// The most frames of a thread.
+    pub depth: u32,
+    /// The names of the files that were mapped.
+    pub files: &'a [String],
+}
+
 /// A command line that has one of the forms. It lends its words: reading them takes no memory.
 #[derive(Clone, Copy)]
 pub enum Command<'a> {
@@ -84,6 +95,8 @@ pub enum Command<'a> {
     Walk(WalkFiles<'a>),
     /// `backtrace OUT@AT CORE DEPTH IN@BASE ..`
     Backtrace(BacktraceCommand<'a>),
+    /// `procwalk CORE DEPTH FILE ..`
+    Procwalk(ProcwalkFiles<'a>),
     /// `gen N`
     Gen(u32),
 }
@@ -101,6 +114,7 @@ impl<'a> Command<'a> {
             Command::Dump(_) | Command::Lookup(_, _) | Command::Walk(_) => 1,
             Command::Verify(verify) => verify.inputs.len(),
             Command::Backtrace(backtrace) => backtrace.inputs.len(),
+            Command::Procwalk(procwalk) => procwalk.files.len(),
             Command::Gen(_) => 0,
         }
     }
@@ -115,7 +129,7 @@ impl<'a> Command<'a> {
             Command::Slim(slim) => Some(slim.out.name),
             Command::Dump(_) | Command::Lookup(_, _) | Command::Verify(_) => None,
             Command::Backtrace(backtrace) => Some(backtrace.out.name),
-            Command::Walk(_) | Command::Gen(_) => None,
+            Command::Walk(_) | Command::Procwalk(_) | Command::Gen(_) => None,
         }
     }
 }
@@ -166,6 +180,20 @@ fn out_and_items(words: &[String]) -> Option<(&str, &str, &[String])>
     match words {
         [_, _] => None,
         [first, second, rest @ ..] => Some((first.as_str(), second.as_str(), rest)),
+        _ => None,
+    }
+}
+
+/// The first three words and the others, where there is a fourth one.
+fn three_and_items(words: &[String]) -> Option<(&str, &str, &str, &[String])>
+    ensures found { IfSome result (λ t. (map string_bytes words.now ≡ t.0.now ∷ t.1.now ∷ t.2.now ∷ map string_bytes t.3.now) × (0 < length t.3.now)) }
+    ensures only { (a b c : List ℕ) (rest : List (List ℕ)) → map string_bytes words.now ≡ a ∷ b ∷ c ∷ rest → 0 < length rest → IsSome result }
+{
+    match words {
+        [_, _, _] => None,
+        [first, second, third, rest @ ..] => {
+            Some((first.as_str(), second.as_str(), third.as_str(), rest))
+        }
         _ => None,
     }
 }
@@ -319,6 +347,22 @@ fn backtrace_words(words: &[String]) -> Option<BacktraceCommand<'_>>
     })
 }
 
+/// The core file, the depth and the files, where the words have the form `procwalk CORE DEPTH FILE ..`.
+fn procwalk_words(words: &[String]) -> Option<ProcwalkFiles<'_>>
+    ensures found { IfSome result (λ p. IsProcwalk (map string_bytes words.now) (procwalk_of p)) }
+    ensures only { (procwalk : ProcwalkWords) → IsProcwalk (map string_bytes words.now) procwalk → IsSomeAnd result (λ p. procwalk_of p ≡ procwalk) }
+{
+    let (command, core, depth, files) = three_and_items(words)?;
+    if command != "procwalk" || core.is_empty() {
+        return None;
+    }
+    let depth = number_up_to(depth, MOST_FRAMES)?;
+    if !are_named(files) {
+        return None;
+    }
+    Some(ProcwalkFiles { core, depth, files })
+}
+
 /// The number of functions, where the words have the form `gen N`.
 fn gen_words(words: &[String]) -> Option<u32>
     ensures found { IfSome result (λ n. IsGen (map string_bytes words.now) n) }
@@ -363,6 +407,9 @@ pub fn command_words(words: &[String]) -> Option<Command<'_>>
     }
     if let Some(backtrace) = backtrace_words(words) {
         return Some(Command::Backtrace(backtrace));
+    }
+    if let Some(procwalk) = procwalk_words(words) {
+        return Some(Command::Procwalk(procwalk));
     }
     let n = gen_words(words)?;
     Some(Command::Gen(n))

@@ -12,8 +12,8 @@ mod words;
 
 pub use asked::{Asked, Backtrace, Merge, SectionAndInputFiles, items, read_words};
 pub use command::{
-    BacktraceCommand, Command, MergeCommand, SectionAndInputWords, SlimFiles, WalkFiles,
-    command_words,
+    BacktraceCommand, Command, MergeCommand, ProcwalkFiles, SectionAndInputWords, SlimFiles,
+    WalkFiles, command_words,
 };
 pub use item::{Item, ItemKind};
 pub use words::{InputFile, SectionFile};

@@ -1,6 +1,6 @@
 //! Lists of words that name files of one kind.
 
-ghost use Rattle.std.specs.Prelude.{◌≡◌, List, map, IfOk, IsTrue, All};
+ghost use Rattle.std.specs.Prelude.{◌≡◌, ◌<◌, List, map, length, IfOk, IsTrue, All};
 ghost use Rattle.std.specs.List.{AllZip};
 ghost use Rattle.std.specs.String.{string_bytes};
 ghost use Rattle.sf_words.specs.Words.{IsInputWord, IsSectionWord, InputWords, SectionWords};
@@ -30,6 +30,19 @@ pub fn are_sections(words: &[String]) -> bool
 {
     for word in words {
         if section_file(word).is_none() {
+            return false;
+        }
+    }
+    true
+}
+
+/// Whether no word is empty.
+pub fn are_named(words: &[String]) -> bool
+    ensures all { IsTrue result → All (λ word. 0 < length (string_bytes word)) words.now }
+    ensures only { All (λ word. 0 < length (string_bytes word)) words.now → IsTrue result }
+{
+    for word in words {
+        if word.is_empty() {
             return false;
         }
     }

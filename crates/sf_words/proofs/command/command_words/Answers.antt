@@ -1,6 +1,6 @@
 use Rattle.std.proofs.Common.{refl, sym, subst}
-use Rattle.sf_words.specs.Parsed.{section_of, slim_of, walk_of}
-use Rattle.sf_words.specs.Words.{Link, LinkPlt, Merge, Slim, Dump, Lookup, Verify, Walk, Backtrace, Gen, IsCommand}
+use Rattle.sf_words.specs.Parsed.{procwalk_of, section_of, slim_of, walk_of}
+use Rattle.sf_words.specs.Words.{Link, LinkPlt, Merge, Slim, Dump, Lookup, Verify, Walk, Backtrace, Procwalk, Gen, IsCommand}
 use Rattle.sf_words.proofs.command.command_words.Goals as goal
 
 pub returns-in-Some-clause-found : goal.returns-in-Some-clause-found
@@ -56,6 +56,12 @@ returns-in-Some-backtrace_words-clause-found c wanted asks = subst (IsCommand _)
 
 pub returns-in-Some-backtrace_words-clause-named : goal.returns-in-Some-backtrace_words-clause-named
 returns-in-Some-backtrace_words-clause-named c = (Backtrace c.in-Some-backtrace_words.ensures.named.0, (c.in-Some-backtrace_words.ensures.named.0, refl, c.in-Some-backtrace_words.ensures.named.1))
+
+pub returns-in-Some-procwalk_words-clause-found : goal.returns-in-Some-procwalk_words-clause-found
+returns-in-Some-procwalk_words-clause-found c wanted asks = subst (IsCommand _) (sym asks) c.in-Some-procwalk_words.ensures.found
+
+pub returns-in-Some-procwalk_words-clause-named : goal.returns-in-Some-procwalk_words-clause-named
+returns-in-Some-procwalk_words-clause-named c = (Procwalk (procwalk_of c.in-Some-procwalk_words.procwalk), refl)
 
 pub returns-clause-found : goal.returns-clause-found
 returns-clause-found c wanted asks = subst (IsCommand _) (sym asks) c.in_ok-n.ensures.found
