@@ -1,11 +1,11 @@
 -- The first fault of a section is that of what is left of it.
-use Rattle.std.specs.Prelude.{is_ok}
+use Rattle.std.specs.Prelude.{◌&&◌, is_ok}
 use Rattle.std.proofs.Common.{true, ◌≡◌, ℕ, List, [], ◌∷◌, Option, Some, None, Result, Ok, Err, refl, sym, ap, ◌∙◌}
 use Rattle.sf_bytes.specs.Cursor.{Cursor}
 use Rattle.sf_model.specs.declared.machine.Arch.{Arch}
 use Rattle.eh_records.specs.declared.fault.RecordFault.{RecordFault}
 use Rattle.eh_records.specs.Cut.{Piece, piece_at}
-use Rattle.eh_records.specs.Section.{EntryView, Cutting, cuts, cuts_of, entry_here, entry_at, shared_place, with_place, entries_in, entries_of, entry_before, entries_before, fault_in}
+use Rattle.eh_records.specs.Section.{EntryView, Cutting, are_read, cuts, cuts_of, entry_here, entry_at, shared_place, with_place, entries_in, entries_of, entry_before, entries_before, fault_in}
 use Rattle.eh_records.specs.Step.{◌>>=◌}
 use Rattle.eh_records.proofs.Moves.{through, ok_same}
 use Rattle.eh_records.proofs.Cuts.{starts_with_record, stops, faults}
@@ -97,3 +97,18 @@ none_if_ok (Err x) h = absurd cc
 -- a section that was read once can be read again
 pub read_again : (arch : Arch) (section : List ℕ) → is_ok (entries_of arch section) ≡ true → entries_of arch section ≡ Ok (entries_before arch section (cuts_of section))
 read_again arch section h = whole arch section (none_if_ok (entries_of arch section) h)
+
+reads_all : (arch : Arch) (section cies : List ℕ) (xs : List Cutting) (es : List EntryView) → entries_in arch section cies xs ≡ Ok es → are_read arch section xs ≡ true
+unfolding entries_in are_read
+reads_all arch section cies [] es h = refl
+reads_all arch section cies (Err x ∷ others) es h = absurd cc
+reads_all arch section cies (Ok p ∷ others) es h =
+    let first = through (entry_at arch section cies p) _ es h in
+    let rest = through (entries_in arch section (with_place cies p) others) _ es first.rest in
+    ap (λ (r : Result EntryView RecordFault). is_ok r && are_read arch section others) (here arch section cies p first.first first.read)
+    ∙ reads_all arch section (with_place cies p) others rest.first rest.read
+
+-- each record of a section that has entries is read
+pub each_read : (arch : Arch) (section : List ℕ) → is_ok (entries_of arch section) ≡ true → are_read arch section (cuts_of section) ≡ true
+unfolding entries_of
+each_read arch section h = reads_all arch section [] (cuts_of section) _ (read_again arch section h)

@@ -1,6 +1,6 @@
 -- A whole section (LSB Core, "The .eh_frame section"): records one behind the other, up to the section's end or
 -- to a length word of 0. A frame description entry names a common information entry that stands before it.
-use Rattle.std.specs.Prelude.{ℕ, zero, suc, ◌+◌, ◌-◌, ◌==◌, List, [], ◌∷◌, ◌++◌, length, Option, Some, None, Result, Ok, Err, if◌then◌else◌}
+use Rattle.std.specs.Prelude.{ℕ, zero, suc, ◌+◌, ◌-◌, ◌==◌, ◌&&◌, Bool, true, false, is_ok, List, [], ◌∷◌, ◌++◌, length, Option, Some, None, Result, Ok, Err, if◌then◌else◌}
 use Rattle.std.specs.List.{list_any}
 use Rattle.sf_bytes.specs.Cursor.{Cursor}
 use Rattle.sf_model.specs.declared.machine.Arch.{Arch}
@@ -109,6 +109,12 @@ unfoldable pub entries_before : Arch → List ℕ → List Cutting → List Entr
 entries_before arch section [] = []
 entries_before arch section (Err e ∷ others) = []
 entries_before arch section (Ok p ∷ others) = entry_before (entry_here arch section p) (entries_before arch section others)
+
+-- each of these records is read
+unfoldable pub are_read : Arch → List ℕ → List Cutting → Bool
+are_read arch section [] = true
+are_read arch section (Err e ∷ others) = false
+are_read arch section (Ok p ∷ others) = is_ok (entry_here arch section p) && are_read arch section others
 
 -- the fault of a section, if there is one
 abbrev pub fault_in : {X : Type 0} → Result X RecordFault → Option RecordFault

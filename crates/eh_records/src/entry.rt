@@ -1,11 +1,11 @@
 //! The entries of a section, of both kinds.
 
-ghost use Rattle.std.specs.Prelude.{◌<◌, ◌^◌, length};
+ghost use Rattle.std.specs.Prelude.{◌≡◌, ◌<◌, ◌^◌, length, true};
 ghost use Rattle.eh_records.specs.Cut.{Is, piece};
 ghost use Rattle.eh_records.specs.Entry.{entry_view, GivesFirst};
 ghost use Rattle.eh_records.specs.Kept.{IsKept};
 ghost use Rattle.eh_records.specs.Places.{IsRising};
-ghost use Rattle.eh_records.specs.Section.{entry_here, entry_at, entries_before, cuts};
+ghost use Rattle.eh_records.specs.Section.{are_read, cuts, entries_before, entry_here, entry_at};
 ghost use Rattle.eh_records.specs.Step.{reader_cursor};
 
 use crate::cie::Shared;
@@ -70,7 +70,7 @@ pub fn read_after<'a>(
     read_here(kept, section, cut, arch)
 }
 
-/// The first entry of what is left of a section that was parsed, or none at its end.
+/// The first entry of what is left of a section, each of whose records is read, or none at its end.
 #[inline(always)]
 pub fn next_entry<'a>(
     kept: &mut Option<CommonAt<'a>>,
@@ -80,7 +80,9 @@ pub fn next_entry<'a>(
 ) -> Option<Entry<'a>>
     requires small { length section.now < 2 ^ 32 }
     requires kept { IsKept arch section.now kept.old }
+    requires read { are_read arch section.now (cuts (reader_cursor rest.old)) ≡ true }
     ensures kept { IsKept arch section.now kept.new }
+    ensures read { are_read arch section.now (cuts (reader_cursor rest.new)) ≡ true }
     ensures gives { GivesFirst result (entries_before arch section.now (cuts (reader_cursor rest.old))) (entries_before arch section.now (cuts (reader_cursor rest.new))) }
 {
     let mut after = *rest;
@@ -90,9 +92,9 @@ pub fn next_entry<'a>(
                 *rest = after;
                 Some(entry)
             }
-            Err(_) => None,
+            Err(_) => unreachable!(),
         },
         Ok(None) => None,
-        Err(_) => None,
+        Err(_) => unreachable!(),
     }
 }
