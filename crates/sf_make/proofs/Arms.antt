@@ -51,7 +51,7 @@ comes_as P Q on refusal.Memory h = tt
 comes_as P Q on (refusal.Limit limit) h = on _ h
 comes_as P Q on (refusal.Input notice) h = (h.0, on _ h.1)
 
-memory_comes : (P : Coming → Type 0) (refused : Refusal) → refused ≡ refusal.Memory → ComesAs P refused
+pub memory_comes : (P : Coming → Type 0) (refused : Refusal) → refused ≡ refusal.Memory → ComesAs P refused
 memory_comes P refused e = subst (ComesAs P) (sym e) tt
 
 -- ---- merge

@@ -16,8 +16,9 @@ use Rattle.sf_asm.specs.declared.input.Input.{Input}
 use Rattle.sf_asm.specs.Functions.{Function, Object, object_of}
 use Rattle.sf_items.specs.Loading.{bytes_limit, items_limit, of_kinds}
 use Rattle.sf_items.proofs.Loads.{goes_on, within_both}
+use Rattle.sf_words.specs.declared.item.ItemKind.{ItemKind}
 use Rattle.sf_words.specs.declared.item.ItemKind.TheVariants as kind
-use Rattle.sf_words.specs.Items.{core_item, input_item}
+use Rattle.sf_words.specs.Items.{ItemWords, core_item, input_item}
 use Rattle.sf_words.specs.Words.{InputWords}
 use Rattle.sf_make.specs.BacktraceComes.{dwarf_walks, functions_behind, or_none}
 use Rattle.sf_make.specs.LinkComes.{objects_in}
@@ -46,8 +47,8 @@ linked_walks arch objects at section kept omitted h core depth =
 
 -- ---- how long files are
 -- the core file, and the files behind it, are within the limits
-pub first_short : (core : List ℕ) (inputs : List InputWords) (items : List (List ℕ)) → bytes_limit 0 0 ((kind.Core, core) ∷ of_kinds (map input_item inputs) items) ≡ None → length core < 2 ^ 32
-first_short core inputs items h = let here = within_both 0 0 kind.Core core (of_kinds (map input_item inputs) items) h in omega (arith, here.0)
+pub first_short : (core : List ℕ) (later : List (ItemKind × List ℕ)) → bytes_limit 0 0 ((kind.Core, core) ∷ later) ≡ None → length core < 2 ^ 32
+first_short core later h = let here = within_both 0 0 kind.Core core later h in omega (arith, here.0)
 
 pub inputs_behind_short : (core : List ℕ) (inputs : List Input) (files : List InputWords) (items : List (List ℕ)) → map object_of inputs ≡ objects_in files items
     → bytes_limit 0 0 ((kind.Core, core) ∷ of_kinds (map input_item files) items) ≡ None → All (λ (input : Input). length input.bytes.now < 2 ^ 32) inputs
@@ -66,10 +67,10 @@ pub behind_count : {A : Type 0} (items : List A) (n : ℕ) → length items ≡ 
 behind_count [] n h = let none : ⊥ = omega (arith, h) in absurd none
 behind_count (i ∷ is) n h = let same = ap length (all_behind i is) in omega (arith, same, h)
 
--- the limits of a core file and inputs, as those of the first item and of the others
-pub within_behind : (name : List ℕ) (inputs : List InputWords) (items : List (Vec ℕ Global)) (d : Vec ℕ Global) (n : ℕ) → length items ≡ suc n
-    → items_limit (core_item name ∷ map input_item inputs) (bytes_of items) ≡ None
-    → bytes_limit 0 0 ((kind.Core, (get_or items 0 d).items) ∷ of_kinds (map input_item inputs) (bytes_of (take (length items - 1) (drop 1 items)))) ≡ None
-within_behind name inputs [] d n some h = let none : ⊥ = omega (arith, some) in absurd none
-within_behind name inputs (i ∷ is) d n some h =
-    subst (λ (vs : List (Vec ℕ Global)). bytes_limit 0 0 ((kind.Core, i.items) ∷ of_kinds (map input_item inputs) (bytes_of vs)) ≡ None) (sym (all_behind i is)) h
+-- the limits of a core file and other items, as those of the first item and of the others
+pub within_behind : (name : List ℕ) (later : List ItemWords) (items : List (Vec ℕ Global)) (d : Vec ℕ Global) (n : ℕ) → length items ≡ suc n
+    → items_limit (core_item name ∷ later) (bytes_of items) ≡ None
+    → bytes_limit 0 0 ((kind.Core, (get_or items 0 d).items) ∷ of_kinds later (bytes_of (take (length items - 1) (drop 1 items)))) ≡ None
+within_behind name later [] d n some h = let none : ⊥ = omega (arith, some) in absurd none
+within_behind name later (i ∷ is) d n some h =
+    subst (λ (vs : List (Vec ℕ Global)). bytes_limit 0 0 ((kind.Core, i.items) ∷ of_kinds later (bytes_of vs)) ≡ None) (sym (all_behind i is)) h

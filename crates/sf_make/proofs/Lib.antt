@@ -5,7 +5,12 @@ pub mod Limits
 pub mod Linked
 pub mod Merged
 pub mod OneComing
+pub mod OneProcwalk
+pub mod Procwalks
+pub mod Reading
 pub mod SomeComing
+pub mod SomeProcwalk
+pub mod Sums
 pub mod Verified
 pub mod WalkedAgain
 pub mod Walks

@@ -60,7 +60,8 @@ use Rattle.sf_make.specs.VerifyComes.{VerifyComesFrom, coming_of_verdict}
 use Rattle.sf_make.specs.WalkComes.{WalkComesFrom, coming_of_walks, table_walks}
 use Rattle.std.proofs.lemmas.List.{length-map}
 use Rattle.sf_words.specs.Items.{input_item, section_item}
-use Rattle.sf_words.specs.Words.{CommandWords, Link, LinkPlt, Merge, Slim, Dump, Lookup, Verify, Walk, Backtrace, Gen, SectionWords, InputWords}
+use Rattle.sf_make.proofs.OneProcwalk.{one_procwalk}
+use Rattle.sf_words.specs.Words.{CommandWords, Link, LinkPlt, Merge, Slim, Dump, Lookup, Verify, Walk, Backtrace, Procwalk, Gen, SectionWords, InputWords}
 
 -- ---- dump and lookup
 shows_one : (query : Query) (table : Table) (a b : Outcome) (s t : List ℕ) → Shows query table a s → Shows query table b t → (a ≡ b) × (s ≡ t)
@@ -266,6 +267,8 @@ one_command (Backtrace backtrace) items c d are p q =
     let count = behind_first items (length backtrace.inputs) (are.count ∙ ap (λ (n : ℕ). suc n) (length-map backtrace.inputs input_item)) in
     let objects = objects_in backtrace.inputs (drop 1 items) in
     one_backtrace objects backtrace.out.at (get_or items 0 []) backtrace.depth (core_check (get_or items 0 [])) c d (some_objects backtrace.inputs (drop 1 items) are.asked.0 count) p q
+one_command (Procwalk procwalk) items c d are p q =
+    one_procwalk (get_or items 0 []) procwalk.depth (zip procwalk.files (drop 1 items)) (core_check (get_or items 0 [])) c d p q
 one_command (Gen n) items c d are p q = one_link None (made_object n ∷ []) 0x4000000 (summary_alone n) c d (omega arith) p q
 
 one_within : (limit : Option Limit) (Then : Coming → Type 0) → ((c d : Coming) → Then c → Then d → c ≡ d) → (c d : Coming) → ComesWithin limit Then c → ComesWithin limit Then d → c ≡ d

@@ -3,7 +3,7 @@ use Rattle.std.specs.Cmp.{nat_cmp_total}
 use Rattle.std.specs.Ordering.{is_lt, nat_cmp}
 use Rattle.std.specs.Option.{option_map}
 use Rattle.std.specs.List.{AllZip, zip}
-use Rattle.std.proofs.Common.{◌≡◌, ◌+◌, ◌<◌, ℕ, Bool, List, [], ◌∷◌, All, length, map, get_or, Option, Some, None, Result, Ok, Err, refl, subst, arith}
+use Rattle.std.proofs.Common.{◌≡◌, ◌+◌, ◌<◌, ℕ, Bool, List, [], ◌∷◌, All, length, map, drop, get_or, Option, Some, None, Result, Ok, Err, refl, subst, arith}
 use Rattle.std.proofs.lemmas.List.Elements.{All-nil, All-cons, All-head, All-map, All-tail}
 use Rattle.std.proofs.lemmas.List.Sorted.{All-permutation, IsNonDecreasingBy-from_sort, ranks_by}
 use Rattle.sf_model.specs.declared.machine.Arch.{Arch}
@@ -48,7 +48,7 @@ use Rattle.sf_text.specs.Found.{found_text}
 use Rattle.sf_text.specs.Merged.{merged_text}
 use Rattle.sf_text.specs.Slim.{slim_text}
 use Rattle.sf_items.specs.declared.refusal.Limit.{Limit}
-use Rattle.sf_words.specs.Words.{CommandWords, SectionWords, Link, LinkPlt, Merge, Slim, Dump, Lookup, Verify, Walk, Backtrace, Gen}
+use Rattle.sf_words.specs.Words.{CommandWords, SectionWords, Link, LinkPlt, Merge, Slim, Dump, Lookup, Verify, Walk, Backtrace, Procwalk, Gen}
 use Rattle.sf_make.specs.declared.section.Query.{Query}
 use Rattle.sf_make.specs.declared.section.Query.TheVariants.{Whole, RowAt}
 use Rattle.sf_make.specs.declared.made.Outcome.{Outcome}
@@ -64,6 +64,7 @@ use Rattle.sf_make.specs.SectionComes.{SectionComesFrom, Shows, coming_of_decodi
 use Rattle.sf_make.specs.SlimComes.{SlimComesFrom, SlimmingComes}
 use Rattle.sf_make.specs.WalkComes.{WalkComesFrom, coming_of_core}
 use Rattle.sf_make.proofs.KeptFit.{OutcomeFits, all_kept_fit, entry_fits, entry_sound, functions_read}
+use Rattle.sf_make.proofs.SomeProcwalk.{files_have_bytes, later_bytes, some_procwalk}
 use Rattle.sf_make.proofs.SectionsFit.{IsSaid, some_merged, some_slimmed}
 
 -- ---- dump and lookup
@@ -273,6 +274,8 @@ some_command (Walk walk) items are bytes of =
     let count : length items ≡ 2 = are.count in
     some_walks walk.section.at (get_or items 0 []) (get_or items 1 []) walk.depth (first_bytes items 0 bytes (omega (count, arith))) (section_check (get_or items 0 []) walk.section.at) refl (core_check (get_or items 1 []))
 some_command (Backtrace backtrace) items are bytes of = some_backtrace _ backtrace.out.at (get_or items 0 []) backtrace.depth (core_check (get_or items 0 []))
+some_command (Procwalk procwalk) items are bytes of =
+    some_procwalk (get_or items 0 []) procwalk.depth (zip procwalk.files (drop 1 items)) (files_have_bytes procwalk.files (drop 1 items) (later_bytes items bytes)) (core_check (get_or items 0 []))
 some_command (Gen n) items are bytes of = some_linked None (made_object n ∷ []) 0x4000000 (summary_alone n)
 
 within : (command : CommandWords) (items : List (List ℕ)) → (coming : Coming) × CommandComes command items coming → (limit : Option Limit) → (coming : Coming) × ComesWithin limit (CommandComes command items) coming

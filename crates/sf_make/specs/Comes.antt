@@ -5,7 +5,7 @@ use Rattle.sf_items.specs.declared.refusal.Limit.{Limit}
 use Rattle.sf_items.specs.declared.refusal.Limit.TheVariants.{Inputs}
 use Rattle.sf_items.specs.Loading.{items_limit}
 use Rattle.sf_words.specs.Items.{counted_items, items_of}
-use Rattle.sf_words.specs.Words.{CanBeAsked, CommandWords, Link, LinkPlt, Merge, Slim, Dump, Lookup, Verify, Walk, Backtrace, Gen}
+use Rattle.sf_words.specs.Words.{CanBeAsked, CommandWords, Link, LinkPlt, Merge, Slim, Dump, Lookup, Verify, Walk, Backtrace, Procwalk, Gen}
 use Rattle.sf_make.specs.declared.section.Query.TheVariants.{Whole, RowAt}
 use Rattle.sf_make.specs.BacktraceComes.{BacktraceComes}
 use Rattle.sf_make.specs.Coming.{Coming, ComesWithin, Exceeded, Refused}
@@ -13,6 +13,7 @@ use Rattle.sf_make.specs.GenComes.{GenComes}
 use Rattle.sf_make.specs.LinkComes.{LinkComes}
 use Rattle.sf_make.specs.LinkPltComes.{LinkPltComes}
 use Rattle.sf_make.specs.MergeComes.{MergeComes}
+use Rattle.sf_make.specs.ProcwalkComes.{ProcwalkComes}
 use Rattle.sf_make.specs.SectionComes.{SectionComes}
 use Rattle.sf_make.specs.SlimComes.{SlimComes}
 use Rattle.sf_make.specs.VerifyComes.{VerifyComes}
@@ -33,6 +34,7 @@ CommandComes (Lookup section pc) items coming = SectionComes section.at (RowAt p
 CommandComes (Verify verify) items coming = VerifyComes verify items coming
 CommandComes (Walk walk) items coming = WalkComes walk.section.at walk.depth items coming
 CommandComes (Backtrace backtrace) items coming = BacktraceComes backtrace.inputs backtrace.out.at backtrace.depth items coming
+CommandComes (Procwalk procwalk) items coming = ProcwalkComes procwalk items coming
 CommandComes (Gen n) items coming = GenComes n coming
 
 abbrev pub Comes : CommandWords → (items : List (List ℕ)) → Coming → Type 0
@@ -59,4 +61,5 @@ ComesToSomething (Lookup section pc) = Unit {0}
 ComesToSomething (Verify verify) = ⊥
 ComesToSomething (Walk walk) = Unit {0}
 ComesToSomething (Backtrace backtrace) = Unit {0}
+ComesToSomething (Procwalk procwalk) = Unit {0}
 ComesToSomething (Gen n) = Unit {0}

@@ -1,12 +1,14 @@
 pub mod BacktraceComes
 pub mod Coming
 pub mod Comes
+pub mod FirstFault
 pub mod GenComes
 pub mod LinkComes
 pub mod LinkPltComes
 pub mod Linked
 pub mod Making
 pub mod MergeComes
+pub mod ProcwalkComes
 pub mod SectionComes
 pub mod SlimComes
 pub mod WalkComes

@@ -17,7 +17,7 @@ ghost use Rattle.sf_make.specs.WalkComes as spec;
 
 use crate::link::{inputs_in, unlinked};
 use crate::made::{Made, Outcome};
-use crate::walk::{unread_core, walks_text};
+use crate::walk::{unread_core, view_walks};
 use core_notes::Core;
 use sf_base::NoMemory;
 use sf_decode::View;
@@ -39,7 +39,7 @@ fn section_walks(
     ensures { (table : Table) → Section section.now at table → IfOk result (λ text. text.items ≡ spec.walks_text (λ thread. section_walk table.functions thread (memory_of core.now) depth) 0 (threads_of core.now)) }
 {
     match View::parse(section, at) {
-        Ok(view) => walks_text(alloc, &view, core, depth),
+        Ok(view) => view_walks(alloc, &view, core, depth),
         Err(_) => unreachable!(),
     }
 }

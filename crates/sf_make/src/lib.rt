@@ -14,6 +14,7 @@ mod made;
 mod made_object;
 mod making;
 mod merge;
+mod procwalk;
 mod section;
 mod slim;
 mod verify;

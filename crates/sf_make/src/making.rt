@@ -11,6 +11,7 @@ use crate::link_plt::link_plt_made;
 use crate::made::Made;
 use crate::made_object::gen_made;
 use crate::merge::merge_made;
+use crate::procwalk::procwalk_made;
 use crate::section::{Query, section_made};
 use crate::slim::slim_made;
 use crate::verify::verify_made;
@@ -51,6 +52,13 @@ pub fn make<'a>(alloc: Global, asked: &Asked<'a>, items: &[Vec<u8>]) -> Result<M
             backtrace.out.at,
             &items[0],
             backtrace.depth,
+            &items[1..],
+        ),
+        Asked::Procwalk(procwalk) => procwalk_made(
+            alloc,
+            &items[0],
+            procwalk.depth,
+            procwalk.files,
             &items[1..],
         ),
         Asked::Gen(n) => gen_made(alloc, *n),

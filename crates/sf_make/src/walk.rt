@@ -1,21 +1,22 @@
 //! What `walk` makes.
 
-ghost use Rattle.std.specs.Prelude.{◌≡◌, ◌<◌, ◌≤◌, ◌^◌, false, [], IfOk, length};
-ghost use Rattle.sf_model.specs.Walk.{section_walk};
+ghost use Rattle.std.specs.Prelude.{◌≡◌, ◌<◌, ◌≤◌, ◌^◌, None, IfOk, length};
+ghost use Rattle.sf_model.specs.Walk.{look_up_walk, section_walk};
 ghost use Rattle.sf_decode.specs.Decoding.{section_check};
 ghost use Rattle.sf_decode.specs.View.{table_of};
 ghost use Rattle.core_notes.specs.Checks.{core_check};
 ghost use Rattle.core_notes.specs.Views.{memory_of, threads_of};
 ghost use Rattle.sf_asm.specs.Inputs.{is_same};
-ghost use Rattle.sf_make.specs.Coming.{Coming};
+ghost use Rattle.sf_asm.specs.Told.{told_of_gathering};
+ghost use Rattle.sf_make.specs.Coming.{Coming, Refused};
 ghost use Rattle.sf_make.specs.Making.{ComesAs, ComesTo};
 ghost use Rattle.sf_make.specs.WalkComes as spec;
-ghost use Rattle.sf_make.specs.WalkComes.{WalkComesFrom, coming_of_core, coming_of_walks};
+ghost use Rattle.sf_make.specs.WalkComes.{WalkComesFrom, coming_of_core};
 
 use crate::made::{Made, Outcome};
 use crate::section::undecoded;
 use core_notes::{Core, CoreFault};
-use core_walk::walk;
+use core_walk::{LookUp, walk_by};
 use sf_asm::GatherFault;
 use sf_base::NoMemory;
 use sf_decode::View;
@@ -34,22 +35,43 @@ pub fn unread_core<'a>(fault: &CoreFault, item: u32) -> Refusal<'a>
     }
 }
 
-/// That the section and the core file have different machines, as a refusal of the run.
-fn mixed<'a>() -> Refusal<'a>
-    ensures { ComesAs (λ (coming : Coming). coming ≡ coming_of_walks false []) result }
+/// That item 0 and this one have different machines, as a refusal of the run.
+pub fn mixed<'a>(item: u32) -> Refusal<'a>
+    ensures { ComesAs (λ (coming : Coming). coming ≡ Refused (told_of_gathering None (GatherFault.MixedArch 0 item))) result }
 {
-    Refusal::Input(GatherFault::MixedArch(0, 1).notice(None))
+    Refusal::Input(GatherFault::MixedArch(0, item).notice(None))
 }
 
 /// Whether two machines are the same.
-fn same_machine(one: Arch, other: Arch) -> bool
+pub fn same_machine(one: Arch, other: Arch) -> bool
     ensures { result ≡ is_same one other }
 {
     one == other
 }
 
-/// The texts of the walks of all threads, of so many frames each at most.
-pub fn walks_text(
+/// The texts of the walks of all threads, of so many frames each at most, by what rows are looked up in.
+pub fn walks_text<L: LookUp>(
+    alloc: Global,
+    rows: &L,
+    core: &Core<'_>,
+    depth: u32,
+) -> Result<Vec<u8>, NoMemory>
+    requires { length (threads_of core.now) ≤ 4096 }
+    ensures { IfOk result (λ text. text.items ≡ spec.walks_text (λ thread. look_up_walk (L.found_at rows.now) thread (memory_of core.now) depth) 0 (threads_of core.now)) }
+{
+    let mut text = Vec::new(alloc);
+    let mut number = 0;
+    for thread in core.threads_iter() {
+        let walked = walk_by(alloc, rows, &thread, core, depth)?;
+        text.extend_from_slice(&thread_text(alloc, number, thread.pid, &walked)?)?;
+        number += 1;
+    }
+    Ok(text)
+}
+
+/// The same by the rows of a section.
+#[tactic(auto, unfolding(sf_model::specs::Walk::section_walk))]
+pub fn view_walks(
     alloc: Global,
     view: &View<'_>,
     core: &Core<'_>,
@@ -58,14 +80,7 @@ pub fn walks_text(
     requires { length (threads_of core.now) ≤ 4096 }
     ensures { IfOk result (λ text. text.items ≡ spec.walks_text (λ thread. section_walk (table_of view.now).functions thread (memory_of core.now) depth) 0 (threads_of core.now)) }
 {
-    let mut text = Vec::new(alloc);
-    let mut number = 0;
-    for thread in core.threads_iter() {
-        let walked = walk(alloc, view, &thread, core, depth)?;
-        text.extend_from_slice(&thread_text(alloc, number, thread.pid, &walked)?)?;
-        number += 1;
-    }
-    Ok(text)
+    walks_text(alloc, view, core, depth)
 }
 
 /// The walks of the threads of a core file by the section of these bytes.
@@ -88,9 +103,9 @@ pub fn walk_made<'a>(
         Err(fault) => return Err(unread_core(&fault, 1)),
     };
     if !same_machine(view.arch(), core.arch()) {
-        return Err(mixed());
+        return Err(mixed(1));
     }
-    let text = walks_text(alloc, &view, &core, depth)?;
+    let text = view_walks(alloc, &view, &core, depth)?;
     Ok(Made {
         outcome: Outcome::Done,
         section: None,

@@ -23,7 +23,7 @@ use Rattle.sf_make.proofs.Linked.{bytes_of, as_many_inputs}
 use Rattle.sf_make.proofs.backtrace.backtrace_made.Goals as goal
 
 pub parse-requires : goal.parse-requires
-parse-requires c = first_short c.args.core.now (map input_of c.args.inputs.now) (bytes_of c.args.items.now) c.requires.within
+parse-requires c = first_short c.args.core.now _ c.requires.within
 
 pub link-requires-clause-some : goal.link-requires-clause-some
 link-requires-clause-some c =

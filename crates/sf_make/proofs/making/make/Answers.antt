@@ -1,4 +1,4 @@
-use Rattle.std.proofs.Common.{Vec, Global, ◌≡◌, ◌-◌, ℕ, suc, List, ◌∷◌, None, length, get_or, map, take, drop, ap, sym, subst, ◌∙◌, arith}
+use Rattle.std.proofs.Common.{Vec, Global, ◌≡◌, ◌-◌, ℕ, suc, List, ◌∷◌, None, length, get_or, string_bytes, map, take, drop, ap, sym, subst, ◌∙◌, arith}
 use Rattle.std.proofs.Math.ListN.{get_or-map}
 use Rattle.std.proofs.lemmas.List.{length-map}
 use Rattle.sf_items.specs.Loading.{bytes_limit, items_limit, of_kinds}
@@ -6,7 +6,7 @@ use Rattle.sf_words.specs.declared.asked.Asked.{Asked}
 use Rattle.sf_words.specs.declared.asked.Asked.TheVariants as asked
 use Rattle.sf_words.specs.declared.item.ItemKind.TheVariants as kind
 use Rattle.sf_words.specs.declared.words.InputFile.{InputFile}
-use Rattle.sf_words.specs.Items.{input_item, items_of, section_item}
+use Rattle.sf_words.specs.Items.{file_item, input_item, items_of, section_item}
 use Rattle.sf_words.specs.Parsed.{input_of, section_of, walk_of, words_of}
 use Rattle.sf_make.specs.Comes.{command_limit}
 use Rattle.sf_make.proofs.Backtraces.{behind_count, within_behind}
@@ -91,7 +91,32 @@ backtrace_made-requires-clause-within c =
     let behind = bytes_of (take (length c.args.items.now - 1) (drop 1 c.args.items.now)) in
     subst (λ (files : List InputFile). bytes_limit 0 0 ((kind.Core, c.deref-in-Backtrace-2.result.now) ∷ of_kinds (map input_item (map input_of files)) behind) ≡ None) (sym c.deref-in-Backtrace.ensures.value)
     (subst (λ (b : List ℕ). bytes_limit 0 0 ((kind.Core, b) ∷ of_kinds (map input_item inputs) behind) ≡ None) (sym first)
-    (within_behind backtrace.core.now inputs c.args.items.now core (length (map input_item inputs)) all limits.1))
+    (within_behind backtrace.core.now (map input_item inputs) c.args.items.now core (length (map input_item inputs)) all limits.1))
+
+pub procwalk_made-requires-clause-few : goal.procwalk_made-requires-clause-few
+procwalk_made-requires-clause-few c =
+    let files = map string_bytes c.in-Procwalk.procwalk.files.now in
+    let within = subst (λ (a : Asked). command_limit (words_of a) (bytes_of c.args.items.now) ≡ None) c.in-Procwalk.is c.requires.within in
+    let limits = within_limits (words_of (asked.Procwalk c.in-Procwalk.procwalk)) (bytes_of c.args.items.now) within in
+    let count = subst (λ (a : Asked). length (bytes_of c.args.items.now) ≡ length (items_of (words_of a))) c.in-Procwalk.is c.requires.items.count in
+    let all = sym (length-map c.args.items.now (λ v. v.items)) ∙ count ∙ ap (λ (n : ℕ). suc n) (length-map files file_item) in
+    let behind = behind_count c.args.items.now (length files) all in
+    omega (arith, limits.0, behind)
+
+pub procwalk_made-requires-clause-within : goal.procwalk_made-requires-clause-within
+procwalk_made-requires-clause-within c =
+    let procwalk = c.in-Procwalk.procwalk in
+    let later = map file_item (map string_bytes procwalk.files.now) in
+    let within = subst (λ (a : Asked). command_limit (words_of a) (bytes_of c.args.items.now) ≡ None) c.in-Procwalk.is c.requires.within in
+    let limits = within_limits (words_of (asked.Procwalk procwalk)) (bytes_of c.args.items.now) within in
+    let count = subst (λ (a : Asked). length (bytes_of c.args.items.now) ≡ length (items_of (words_of a))) c.in-Procwalk.is c.requires.items.count in
+    let all = sym (length-map c.args.items.now (λ v. v.items)) ∙ count in
+    let core = c.index-items-0-in-Procwalk.result in
+    let first : c.deref-in-Procwalk.result.now ≡ (get_or c.args.items.now 0 core).items =
+    c.deref-in-Procwalk.ensures.value ∙ ap (λ (v : Vec ℕ Global). v.items) c.index-items-0-in-Procwalk.is in
+    let behind = bytes_of (take (length c.args.items.now - 1) (drop 1 c.args.items.now)) in
+    subst (λ (b : List ℕ). bytes_limit 0 0 ((kind.Core, b) ∷ of_kinds later behind) ≡ None) (sym first)
+    (within_behind procwalk.core.now later c.args.items.now core (length later) all limits.1)
 
 pub verify_made-requires-clause-few : goal.verify_made-requires-clause-few
 verify_made-requires-clause-few c =

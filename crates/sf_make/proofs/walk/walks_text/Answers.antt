@@ -1,7 +1,6 @@
 use Rattle.std.proofs.Common.{◌≡◌, ◌++◌, ℕ, List, [], ◌∷◌, length, ap, sym, ◌∙◌, arith}
 use Rattle.std.proofs.lemmas.List.{append-nil}
-use Rattle.sf_model.specs.Walk.{Listing, ThreadState, section_walk}
-use Rattle.sf_decode.specs.View.{table_of}
+use Rattle.sf_model.specs.Walk.{Listing, ThreadState, look_up_walk}
 use Rattle.core_notes.specs.declared.status.Thread.{Thread}
 use Rattle.core_notes.specs.Views.{memory_of, threads_left}
 use Rattle.core_walk.specs.Walk.{thread_state}
@@ -10,8 +9,8 @@ use Rattle.sf_make.proofs.Walks.{next_walk, no_walk}
 use Rattle.sf_make.proofs.walk.walks_text.Goals as goal
 
 pub loop-thread-preserved : goal.loop-thread-preserved
-loop-thread-preserved c =
-    let walk_of : ThreadState → Listing = λ thread. section_walk (table_of c.args.view.now).functions thread (memory_of c.args.core.now) c.args.depth in
+loop-thread-preserved g c =
+    let walk_of : ThreadState → Listing = λ thread. look_up_walk (g.L.LookUp.found_at c.args.rows.now) thread (memory_of c.args.core.now) c.args.depth in
     let left : threads_left c.loop-thread.thread-iterator ≡ c.in-Some.thread ∷ threads_left c.next.new.self = c.in-Some.ensures.steps in
     let count : length (threads_left c.loop-thread.thread-iterator) ≡ length (c.in-Some.thread ∷ threads_left c.next.new.self) = ap length left in
     let piece : c.in_ok-thread_text.field-0.items ≡ listing_text c.loop-thread.number c.in-Some.thread (walk_of (thread_state c.in-Some.thread)) =
@@ -24,8 +23,8 @@ loop-thread-preserved c =
     }
 
 pub returns : goal.returns
-returns c =
-    let walk_of : ThreadState → Listing = λ thread. section_walk (table_of c.args.view.now).functions thread (memory_of c.args.core.now) c.args.depth in
+returns g c =
+    let walk_of : ThreadState → Listing = λ thread. look_up_walk (g.L.LookUp.found_at c.args.rows.now) thread (memory_of c.args.core.now) c.args.depth in
     let none : threads_left c.loop-thread.thread-iterator ≡ [] = c.in-None.ensures.steps.0 in
     let text = c.loop-thread.text.items in
     sym (append-nil text) ∙ ap (λ (t : List ℕ). text ++ t) (sym (no_walk walk_of c.loop-thread.number))
