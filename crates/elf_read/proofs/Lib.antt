@@ -1,3 +1,4 @@
 pub mod Each
 pub mod Least
 pub mod Texts
+mod LeastCompressed

@@ -4,6 +4,7 @@ pub mod Header
 pub mod Sections
 pub mod Checks
 pub mod Used
+pub mod Compressed
 pub mod Parsing
 pub mod Views
 pub mod Told

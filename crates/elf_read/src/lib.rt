@@ -21,6 +21,7 @@ mod fault;
 mod header;
 mod identity;
 mod kind;
+mod laws;
 pub mod layout;
 mod names;
 mod notice;
@@ -38,6 +39,7 @@ mod view;
 pub use entry::{GroupHead, Rela, Section, Segment, Symbol};
 pub use fault::ElfFault;
 pub use kind::Kind;
+pub use laws::compressed_law;
 pub use number::u64_at;
 pub use view::Elf;
 
