@@ -8,7 +8,7 @@ use Rattle.elf_place.specs.declared.relocations.RelocationSection.{RelocationSec
 use Rattle.elf_reloc.specs.declared.fault.RelocFault.{RelocFault}
 use Rattle.elf_reloc.specs.declared.fault.RelocFault.TheVariants.{UnknownType, Range, Place, Twice, RelSection, OutOfSection, NoMemory}
 use Rattle.elf_reloc.specs.declared.fix.Fix.{Fix}
-use Rattle.elf_reloc.specs.declared.reading.Read.{Read}
+use Rattle.elf_reloc.specs.declared.reading.FixesSoFar.{FixesSoFar}
 use Rattle.elf_reloc.specs.Reading.{◌>>=◌, Relocation, entries_from, relocations_in, rel_check, has_addends, number_at, with_fix, fixes_from, object_fixes, entry_fix, going_on, Fails, GoesOn, Holds}
 
 -- a fault that is known is how it fails
@@ -180,7 +180,7 @@ same_rest : (r : Result (List Fix) RelocFault) → (r >>= λ others. Ok ([] ++ o
 same_rest (Ok others) = refl
 same_rest (Err e) = refl
 
-pub object_is : (p : Placing) (section : ℕ) (read : Read) (numbers : List ℕ) → read.fixes.items ≡ [] → read.next ≡ 0 → numbers ≡ relocation_sections p.file section → rel_check p.file numbers ≡ Ok tt
+pub object_is : (p : Placing) (section : ℕ) (read : FixesSoFar) (numbers : List ℕ) → read.fixes.items ≡ [] → read.next ≡ 0 → numbers ≡ relocation_sections p.file section → rel_check p.file numbers ≡ Ok tt
     → going_on p section read (relocations_in p.file numbers) ≡ object_fixes p section
 unfolding object_fixes
 object_is p section read numbers none first is checked =
@@ -197,7 +197,7 @@ object_refused p section numbers e is refused = fails e _ (
     ∙ ap (λ (r : Result (Unit {0}) RelocFault). r >>= λ _. fixes_from p section 0 (relocations_in p.file numbers)) (sym refused)
     )
 
-pub object_read : {X : Type 0} (p : Placing) (section : ℕ) (r : Result X RelocFault) (new : Read) (all given : Result (List Fix) RelocFault) → all ≡ given → GoesOn p section r new all [] → Holds r new given
+pub object_read : {X : Type 0} (p : Placing) (section : ℕ) (r : Result X RelocFault) (new : FixesSoFar) (all given : Result (List Fix) RelocFault) → all ≡ given → GoesOn p section r new all [] → Holds r new given
 object_read p section (Ok x) new all given is h = sym is ∙ h ∙ ends p section new.next new.fixes.items
 object_read p section (Err e) new all given is h = subst (λ (x : Result (List Fix) RelocFault). Fails e x) is h
 

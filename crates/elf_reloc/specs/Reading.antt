@@ -11,7 +11,7 @@ use Rattle.elf_place.specs.Views.{Placing, address_at}
 use Rattle.elf_reloc.specs.declared.fault.RelocFault.{RelocFault}
 use Rattle.elf_reloc.specs.declared.fault.RelocFault.TheVariants.{UnknownType, Range, RelSection, OutOfSection, NoMemory}
 use Rattle.elf_reloc.specs.declared.fix.Fix.{Fix}
-use Rattle.elf_reloc.specs.declared.reading.Read.{Read}
+use Rattle.elf_reloc.specs.declared.reading.FixesSoFar.{FixesSoFar}
 use Rattle.elf_reloc.specs.declared.table.Effect.{Effect}
 use Rattle.elf_reloc.specs.declared.table.Effect.TheVariants.{Nothing, Absolute, Relative}
 use Rattle.elf_reloc.specs.declared.table.Range.{Range as range}
@@ -130,24 +130,24 @@ Fails NoMemory given = Unit {0}
 Fails e given = given ≡ Err e
 
 -- what a call read so far
-abbrev pub state_of : Read → State
+abbrev pub state_of : FixesSoFar → State
 state_of r = record { fixes = r.fixes.items }
 
 -- all fields, where these relocations are left: those so far, and what these write
-abbrev pub going_on : Placing → (section : ℕ) → Read → List Relocation → Result (List Fix) RelocFault
+abbrev pub going_on : Placing → (section : ℕ) → FixesSoFar → List Relocation → Result (List Fix) RelocFault
 going_on p section read left = fixes_from p section read.next left >>= λ fixes. Ok (read.fixes.items ++ fixes)
 
 -- a call read on: all fields are those so far and what is left then
-abbrev pub GoesOn : {X : Type 0} → Placing → (section : ℕ) → Result X RelocFault → Read → Result (List Fix) RelocFault → (left : List Relocation) → Type 0
+abbrev pub GoesOn : {X : Type 0} → Placing → (section : ℕ) → Result X RelocFault → FixesSoFar → Result (List Fix) RelocFault → (left : List Relocation) → Type 0
 GoesOn p section (Ok x) new all left = all ≡ going_on p section new left
 GoesOn p section (Err e) new all left = Fails e all
 
 -- a call read all fields
-abbrev pub Holds : {X : Type 0} → Result X RelocFault → Read → Result (List Fix) RelocFault → Type 0
+abbrev pub Holds : {X : Type 0} → Result X RelocFault → FixesSoFar → Result (List Fix) RelocFault → Type 0
 Holds (Ok x) new all = all ≡ Ok new.fixes.items
 Holds (Err e) new all = Fails e all
 
 -- what a call answered is what is read
-abbrev pub Gives : Result Read RelocFault → Result State RelocFault → Type 0
+abbrev pub Gives : Result FixesSoFar RelocFault → Result State RelocFault → Type 0
 Gives (Ok r) given = given ≡ Ok (state_of r)
 Gives (Err e) given = Fails e given

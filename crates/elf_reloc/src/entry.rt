@@ -14,18 +14,18 @@ use elf_place::Placed;
 
 /// Where a relocation is applied.
 #[derive(Clone, Copy)]
-struct Spot {
+struct RelocationSite {
     place: u64,
     index: u32,
 }
 
 // A field whose bits are not known.
-fn unknown(spot: Spot, range: Range, dropped: bool) -> Fix
-    ensures { result ≡ spec.fix spot.place spot.index range None dropped }
+fn unknown(site: RelocationSite, range: Range, dropped: bool) -> Fix
+    ensures { result ≡ spec.fix site.place site.index range None dropped }
 {
     Fix {
-        place: spot.place,
-        index: spot.index,
+        place: site.place,
+        index: site.index,
         range,
         value: None,
         dropped,
@@ -34,15 +34,15 @@ fn unknown(spot: Spot, range: Range, dropped: bool) -> Fix
 
 // A value that must fit its field.
 #[tactic(auto, unfolding(crate::specs::Reading::written))]
-fn written(spot: Spot, range: Range, value: u64) -> Result<Fix, RelocFault>
-    ensures { result ≡ spec.written spot.place spot.index range value }
+fn written(site: RelocationSite, range: Range, value: u64) -> Result<Fix, RelocFault>
+    ensures { result ≡ spec.written site.place site.index range value }
 {
     if !fits(range, value) {
-        return Err(RelocFault::Range(spot.index));
+        return Err(RelocFault::Range(site.index));
     }
     Ok(Fix {
-        place: spot.place,
-        index: spot.index,
+        place: site.place,
+        index: site.index,
         range,
         value: Some(value),
         dropped: false,
@@ -50,30 +50,35 @@ fn written(spot: Spot, range: Range, value: u64) -> Result<Fix, RelocFault>
 }
 
 // A field that holds the symbol's value and the addend.
-fn write_absolute(spot: Spot, range: Range, addend: u64, target: Target) -> Result<Fix, RelocFault>
-    ensures { result ≡ spec.aimed spot.place spot.index range (λ s. table.absolute s addend) target }
+fn write_absolute(
+    site: RelocationSite,
+    range: Range,
+    addend: u64,
+    target: Target,
+) -> Result<Fix, RelocFault>
+    ensures { result ≡ spec.aimed site.place site.index range (λ s. table.absolute s addend) target }
 {
     match target {
-        Target::Address(symbol) => written(spot, range, absolute(symbol, addend)),
-        Target::Unresolved => Ok(unknown(spot, range, false)),
-        Target::Dropped => Ok(unknown(spot, range, true)),
+        Target::Address(symbol) => written(site, range, absolute(symbol, addend)),
+        Target::Unresolved => Ok(unknown(site, range, false)),
+        Target::Dropped => Ok(unknown(site, range, true)),
     }
 }
 
 // The same minus the field's address.
 fn write_relative(
-    spot: Spot,
+    site: RelocationSite,
     range: Range,
     addend: u64,
     address: u64,
     target: Target,
 ) -> Result<Fix, RelocFault>
-    ensures { result ≡ spec.aimed spot.place spot.index range (λ s. table.relative s addend address) target }
+    ensures { result ≡ spec.aimed site.place site.index range (λ s. table.relative s addend address) target }
 {
     match target {
-        Target::Address(symbol) => written(spot, range, relative(symbol, addend, address)),
-        Target::Unresolved => Ok(unknown(spot, range, false)),
-        Target::Dropped => Ok(unknown(spot, range, true)),
+        Target::Address(symbol) => written(site, range, relative(symbol, addend, address)),
+        Target::Unresolved => Ok(unknown(site, range, false)),
+        Target::Dropped => Ok(unknown(site, range, true)),
     }
 }
 
@@ -81,14 +86,14 @@ fn write_relative(
 #[tactic(auto, unfolding(crate::specs::Reading::inside))]
 fn inside(
     len: u64,
-    spot: Spot,
+    site: RelocationSite,
     range: Range,
     read: Result<Fix, RelocFault>,
 ) -> Result<Option<Fix>, RelocFault>
-    ensures { result ≡ spec.inside len spot.place spot.index range read }
+    ensures { result ≡ spec.inside len site.place site.index range read }
 {
-    if u128::from(len) < u128::from(spot.place) + u128::from(width_of(range)) {
-        return Err(RelocFault::OutOfSection(spot.index));
+    if u128::from(len) < u128::from(site.place) + u128::from(width_of(range)) {
+        return Err(RelocFault::OutOfSection(site.index));
     }
     let fix = read?;
     Ok(Some(fix))
@@ -115,7 +120,7 @@ pub fn entry_fix(
 {
     let elf = placed.elf();
     let rela = elf.rela(i, k);
-    let spot = Spot {
+    let site = RelocationSite {
         place: rela.offset,
         index,
     };
@@ -128,15 +133,15 @@ pub fn entry_fix(
         Some(Effect::Absolute(range)) => {
             inside(
                 len,
-                spot,
+                site,
                 range,
-                write_absolute(spot, range, addend, target),
+                write_absolute(site, range, addend, target),
             )
         }
         Some(Effect::Relative(range)) => {
             let address = section_address(placed, section).wrapping_add(rela.offset);
-            let field = write_relative(spot, range, addend, address, target);
-            inside(len, spot, range, field)
+            let field = write_relative(site, range, addend, address, target);
+            inside(len, site, range, field)
         }
     }
 }

@@ -18,7 +18,7 @@ use std::alloc::Global;
 
 /// What was read so far: the fields that are written, and the number of the next relocation.
 #[derive(Debug, Drop)]
-pub struct Read {
+pub struct FixesSoFar {
     pub fixes: Vec<Fix>,
     pub next: u32,
 }
@@ -29,7 +29,7 @@ fn read_entry(
     section: u32,
     i: u32,
     k: u32,
-    read: &mut Read,
+    read: &mut FixesSoFar,
 ) -> Result<(), RelocFault>
     ensures { (left : List Relocation) → spec.GoesOn (placing placed.now) section result read.new (going_on (placing placed.now) section read.old (record { table = i; entry = k } ∷ left)) left }
 {
@@ -47,7 +47,7 @@ fn read_entries(
     section: u32,
     i: u32,
     count: u32,
-    read: &mut Read,
+    read: &mut FixesSoFar,
 ) -> Result<(), RelocFault>
     ensures { (left : List Relocation) → spec.GoesOn (placing placed.now) section result read.new (going_on (placing placed.now) section read.old (entries_from i 0 count ++ left)) left }
 {
@@ -70,7 +70,7 @@ fn read_sections(
     placed: &Placed<'_>,
     section: u32,
     sections: &[RelocationSection],
-    read: &mut Read,
+    read: &mut FixesSoFar,
 ) -> Result<(), RelocFault>
     ensures { spec.GoesOn (placing placed.now) section result read.new (going_on (placing placed.now) section read.old (relocations_in (file placed.now) (numbers_of sections.now))) [] }
 {
@@ -115,7 +115,7 @@ fn is_object(placed: &Placed<'_>) -> bool
 }
 
 // Reads the relocations of an object's section.
-fn read_object(placed: &Placed<'_>, section: u32, read: &mut Read) -> Result<(), RelocFault>
+fn read_object(placed: &Placed<'_>, section: u32, read: &mut FixesSoFar) -> Result<(), RelocFault>
     requires none { read.old.fixes.items ≡ [] }
     requires first { read.old.next ≡ 0 }
     ensures { spec.Holds result read.new (spec.object_fixes (placing placed.now) section) }
@@ -131,10 +131,10 @@ pub fn read_relocations(
     alloc: Global,
     placed: &Placed<'_>,
     section: u32,
-) -> Result<Read, RelocFault>
+) -> Result<FixesSoFar, RelocFault>
     ensures { spec.Gives result (spec.section_state (placing placed.now) section) }
 {
-    let mut read = Read {
+    let mut read = FixesSoFar {
         fixes: Vec::new(alloc),
         next: 0,
     };

@@ -1,7 +1,7 @@
 use Rattle.std.proofs.Common.{◌<◌, ◌^◌, Some, None, Ok, sym, ap, ◌∙◌, arith, rules}
 use Rattle.std.proofs.lemmas.Result.{err_from_is_err_and}
 use Rattle.elf_place.specs.Views.{placing}
-use Rattle.elf_reloc.specs.declared.reading.Read.{Read}
+use Rattle.elf_reloc.specs.declared.reading.FixesSoFar.{FixesSoFar}
 use Rattle.elf_reloc.proofs.GoingOn.{stops, goes_on_to}
 use Rattle.elf_reloc.proofs.reading.read_entry.Goals as goal
 use Rattle.elf_reloc.proofs.reading.read_entry.Goals.{in-Some+in_ok-push, in_default}
@@ -21,10 +21,10 @@ returns c = λ left.
           goes_on_to (placing c.args.placed.now) c.args.section c.args.read.now.next c.args.i c.args.k c.args.read.now.fixes.items (Some w.in-Some.fix) left _ _ small
           (sym c.in_ok-fix.ensures ∙ ap (λ (o : _). Ok o) w.in-Some.is)
           (search rules)
-          (ap (λ (r : Read). r.fixes.items) w.read-is ∙ w.in_ok-push.ensures.items)
+          (ap (λ (r : FixesSoFar). r.fixes.items) w.read-is ∙ w.in_ok-push.ensures.items)
       | in_default w ↦
           goes_on_to (placing c.args.placed.now) c.args.section c.args.read.now.next c.args.i c.args.k c.args.read.now.fixes.items None left _ _ small
           (sym c.in_ok-fix.ensures ∙ ap (λ (o : _). Ok o) w.in_default.is)
           (search rules)
-          (ap (λ (r : Read). r.fixes.items) w.read-is)
+          (ap (λ (r : FixesSoFar). r.fixes.items) w.read-is)
     ]
