@@ -5,3 +5,4 @@ pub mod Says
 pub mod Faults
 pub mod Starts
 pub mod Worked
+pub mod ColumnRecovery

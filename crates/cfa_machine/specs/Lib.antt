@@ -8,3 +8,4 @@ pub mod FullRow
 pub mod At
 pub mod FirstFault
 pub mod Recovery
+pub mod ColumnRecovery

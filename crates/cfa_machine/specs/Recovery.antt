@@ -1,6 +1,7 @@
 -- What a row recovers of the caller's frame (DWARF 5, section 6.4.1): the canonical frame address, and the caller's
--- values of the return column, the frame pointer and the stack pointer. Offsets are plain integers of any size, and addresses
--- are taken modulo 2^64. A value is none where the rules leave it undefined.
+-- values of the function's return address column, the frame pointer and the stack pointer, each by the rule that the row has
+-- for that register. Offsets are plain integers of any size, and addresses are taken modulo 2^64. A value is none where the
+-- rules leave it undefined.
 use Rattle.std.specs.Prelude.{ℕ, ℤ, ◌==◌, List, Option, Some, None, if◌then◌else◌}
 use Rattle.std.specs.Option.{option_map}
 use Rattle.sf_model.specs.declared.machine.Arch.{Arch}
@@ -13,14 +14,14 @@ use Rattle.cfa_machine.specs.declared.rule.CfaRule.{CfaRule}
 use Rattle.cfa_machine.specs.declared.rule.CfaRule.TheVariants as cfa
 use Rattle.cfa_machine.specs.declared.rule.Rule.{Rule}
 use Rattle.cfa_machine.specs.declared.rule.Rule.TheVariants as rule
-use Rattle.cfa_machine.specs.declared.columns.Columns.{Columns}
-use Rattle.cfa_machine.specs.Registers.{stack_pointer, frame_pointer}
+use Rattle.cfa_machine.specs.FullRow.{FullRow, rule_of}
+use Rattle.cfa_machine.specs.Registers.{stack_pointer, frame_pointer, is_link_register}
 
 -- what a row recovers of the caller's frame
 pub record RuleRecovery : Type 0 where
   -- the canonical frame address
   pub frame_address : Option ℕ
-  -- the caller's value of the return column
+  -- the caller's value of the return address column
   pub return_address : Option Value
   pub frame_pointer : Option Value
   pub stack_pointer : Option Value
@@ -46,8 +47,8 @@ saved_from memory frame_address offset = option_map (λ (address : ℕ). saved_a
 abbrev pub address_from : (frame_address : Option ℕ) → (offset : ℤ) → Option Value
 address_from frame_address offset = option_map (λ (address : ℕ). Known (moved address offset)) frame_address
 
--- The caller's value of a register by its rule. Without a rule it is as the machine's calling convention has it (`by_convention`),
--- and `same value` gives the present one. A value that is in another register, or that an expression gives, isn't recovered.
+-- A register's value by a rule. Without a rule it is as the machine's calling convention has it (`by_convention`), and `same value`
+-- gives the present one. A value that is in another register, or that an expression gives, isn't recovered.
 abbrev pub value_by : List Region → (frame_address : Option ℕ) → (by_convention present : Option Value) → Rule → Option Value
 value_by memory frame_address by_convention present rule.Missing = by_convention
 value_by memory frame_address by_convention present rule.Same = present
@@ -58,22 +59,37 @@ value_by memory frame_address by_convention present (rule.Register register) = N
 value_by memory frame_address by_convention present rule.Expression = None
 value_by memory frame_address by_convention present rule.ValExpression = None
 
--- the present value of the return column: x30 on AArch64; on AMD64 no register has it
-abbrev pub return_register : Arch → Regs → Option Value
-return_register Amd64 regs = None
-return_register Aarch64 regs = Some (Known regs.lr)
+-- The present value of a register: the stack pointer's, the frame pointer's and, on AArch64, the link register's (x30). The column
+-- of the return address on AMD64 is no register, and of all others no value is known.
+abbrev pub present_value : Arch → (register : ℕ) → Regs → Option Value
+present_value arch register regs =
+    if register == stack_pointer arch then Some (Known regs.sp)
+    else if register == frame_pointer arch then Some (Known regs.fp)
+    else if is_link_register arch register then Some (Known regs.lr)
+    else None
 
--- Without a rule the stack pointer is the canonical frame address, and the frame pointer and x30 keep their values (System V
--- AMD64 psABI and the procedure call standard of AArch64: registers that are preserved over calls).
-abbrev pub recovery_at : Arch → Columns → Key → Regs → List Region → (frame_address : Option ℕ) → RuleRecovery
-recovery_at arch columns key regs memory frame_address = record {
+-- The caller's value of a register that has no rule: the stack pointer's is the canonical frame address, and others keep their
+-- values (System V AMD64 psABI and the procedure call standard of AArch64: registers that are preserved over calls).
+abbrev pub value_by_convention : Arch → (register : ℕ) → Regs → (frame_address : Option ℕ) → Option Value
+value_by_convention arch register regs frame_address =
+    if register == stack_pointer arch then option_map Known frame_address else present_value arch register regs
+
+-- the caller's value of a register, by the rule that a row has for it
+abbrev pub caller_value : Arch → FullRow → Regs → List Region → (frame_address : Option ℕ) → (register : ℕ) → Option Value
+caller_value arch row regs memory frame_address register =
+    value_by memory frame_address (value_by_convention arch register regs frame_address) (present_value arch register regs) (rule_of register row.rules)
+
+-- what a row recovers, where this is the canonical frame address
+abbrev pub recovery_from : Arch → (return_column : ℕ) → FullRow → Key → Regs → List Region → (frame_address : Option ℕ) → RuleRecovery
+recovery_from arch return_column row key regs memory frame_address = record {
   frame_address = frame_address;
-  return_address = value_by memory frame_address (return_register arch regs) (return_register arch regs) columns.ra;
-  frame_pointer = value_by memory frame_address (Some (Known regs.fp)) (Some (Known regs.fp)) columns.fp;
-  stack_pointer = value_by memory frame_address (option_map Known frame_address) (Some (Known regs.sp)) columns.sp;
-  signed = key_if_signed columns.signed key;
+  return_address = caller_value arch row regs memory frame_address return_column;
+  frame_pointer = caller_value arch row regs memory frame_address (frame_pointer arch);
+  stack_pointer = caller_value arch row regs memory frame_address (stack_pointer arch);
+  signed = key_if_signed row.signed key;
 }
 
--- what a row recovers, with the key of its function, the present registers and the memory
-unfoldable pub recovery_by_rules : Arch → Columns → Key → Regs → List Region → RuleRecovery
-recovery_by_rules arch columns key regs memory = recovery_at arch columns key regs memory (frame_address_by arch columns.cfa regs)
+-- what a row of a function recovers, with the function's return address column and key, the present registers and the memory
+unfoldable pub recovery_by_rules : Arch → (return_column : ℕ) → FullRow → Key → Regs → List Region → RuleRecovery
+recovery_by_rules arch return_column row key regs memory =
+    recovery_from arch return_column row key regs memory (frame_address_by arch row.cfa regs)

@@ -20,3 +20,8 @@ return_address Aarch64 = 30
 abbrev pub is_sign_state : Arch → ℕ → Bool
 is_sign_state Amd64 r = false
 is_sign_state Aarch64 r = r == 34
+
+-- AArch64 alone has a link register, x30
+abbrev pub is_link_register : Arch → ℕ → Bool
+is_link_register Amd64 r = false
+is_link_register Aarch64 r = r == 30

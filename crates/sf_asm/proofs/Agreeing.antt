@@ -19,12 +19,14 @@ use Rattle.sf_model.specs.declared.omission.Omission.{Omission}
 use Rattle.sf_model.specs.declared.omission.Reason.{Reason}
 use Rattle.cfa_machine.specs.FullRow.{columns_of}
 use Rattle.cfa_machine.specs.Recovery.{recovery_by_rules}
+use Rattle.cfa_machine.specs.Registers.{return_address}
 use Rattle.sf_express.specs.Expressed.{reason_of}
 use Rattle.sf_express.specs.Offsets.{as_said}
 use Rattle.sf_express.specs.Alike.{defined}
 use Rattle.sf_express.specs.Runs.{Saying, against, or_later, first_against, whole_or_row, omission_of, rows_of, expressed, unless_omitted, function_of}
 use Rattle.sf_express.proofs.Found.{SaysContent, row_said}
 use Rattle.sf_express.proofs.Alike.{recovers_alike}
+use Rattle.sf_express.proofs.Column.{own_column}
 use Rattle.sf_asm.specs.declared.entry.Entry.{Entry}
 use Rattle.sf_asm.specs.declared.entry.Outcome.{Outcome}
 use Rattle.sf_asm.specs.declared.entry.Outcome.TheVariants as outcome
@@ -201,21 +203,30 @@ no_reason : (whole : Option Reason) (row : Option Omission) → whole_or_row who
 no_reason None row e = e
 no_reason (Some reason) row e = cc
 
+no_reason_of_whole : (whole : Option Reason) (row : Option Omission) → whole_or_row whole row ≡ None → whole ≡ None
+no_reason_of_whole None row e = refl
+no_reason_of_whole (Some reason) row e = cc
+
+kept_column : (f : Function) → omission_of f.arch (facts_of f) (says_of f) ≡ None → f.column ≡ return_address f.arch
+unfolding omission_of
+kept_column f e = own_column f.arch (facts_of f) (no_reason_of_whole (reason_of f.arch (facts_of f)) (first_against (says_of f) (range_with_len 0 f.size)) e)
+
 kept_says : (f : Function) → omission_of f.arch (facts_of f) (says_of f) ≡ None → (o : ℕ) → o < f.size → SaysContent (says_of f o)
 unfolding omission_of
 kept_says f e o lt =
     all_fine (says_of f) 0 f.size (no_reason (reason_of f.arch (facts_of f)) (first_against (says_of f) (range_with_len 0 f.size)) e) o (omega arith) (omega (arith, lt))
 
 -- what a row that is found recovers
-recovered_row : (f : Function) (o : ℕ) (found : Option Row) (said : Result Content Reason) (regs : Regs) (memory : List Region) → says_of f o ≡ said → SaysContent said → as_said (option_map (λ (r : Row). r.content) found) ≡ Some said
+recovered_row : (f : Function) (o : ℕ) (found : Option Row) (said : Result Content Reason) (regs : Regs) (memory : List Region) → f.column ≡ return_address f.arch → says_of f o ≡ said → SaysContent said → as_said (option_map (λ (r : Row). r.content) found) ≡ Some said
     → option_map defined (option_map (λ (x : FoundRow). recovery x.row.content x.func.key regs memory) (option_map (λ (row : Row). record { func = expressed_of f; row = row }) found))
-    ≡ Some (recovery_by_rules f.arch (columns_of f.arch (full_row f o)) f.key regs memory)
-recovered_row f o None said regs memory e fine h = cc
-recovered_row f o (Some row) (Err reason) regs memory e fine h = absurd fine
-recovered_row f o (Some row) (Ok c) regs memory e fine h =
+    ≡ Some (recovery_by_rules f.arch f.column (full_row f o) f.key regs memory)
+recovered_row f o None said regs memory own e fine h = cc
+recovered_row f o (Some row) (Err reason) regs memory own e fine h = absurd fine
+recovered_row f o (Some row) (Ok c) regs memory own e fine h =
     let is : row.content ≡ c = cc in
-    let alike = recovers_alike f.arch o (columns_of f.arch (full_row f o)) c e in
+    let alike = recovers_alike f.arch o (full_row f o) c e in
     ap (λ (x : Content). Some (defined (recovery x f.key regs memory))) is ∙ sym (ap Some (alike.alike f.key regs memory))
+    ∙ ap (λ (column : ℕ). Some (recovery_by_rules f.arch column (full_row f o) f.key regs memory)) (sym own)
 
 is_kept_none : (omission : Option Omission) → is_none omission ≡ true → omission ≡ None
 is_kept_none None e = refl
@@ -226,8 +237,9 @@ pub function_recovers : (f : Function) (pc : ℕ) (regs : Regs) (memory : List R
 function_recovers f pc regs memory kept holds =
     let w = within pc f.start f.size holds in
     let lt : pc - f.start < f.size = omega (arith, w.from, w.to) in
-    let fine = kept_says f (is_kept_none (omission_of f.arch (facts_of f) (says_of f)) kept) in
-    recovered_row f (pc - f.start) (row_at (pc - f.start) (rows_of (says_of f) f.size)) (says_of f (pc - f.start)) regs memory refl (fine (pc - f.start) lt) (row_said (says_of f) f.size fine (pc - f.start) lt)
+    let none = is_kept_none (omission_of f.arch (facts_of f) (says_of f)) kept in
+    let fine = kept_says f none in
+    recovered_row f (pc - f.start) (row_at (pc - f.start) (rows_of (says_of f) f.size)) (says_of f (pc - f.start)) regs memory (kept_column f none) refl (fine (pc - f.start) lt) (row_said (says_of f) f.size fine (pc - f.start) lt)
 
 -- what passes a search
 found_passes : (p q : Function → Bool) (fs : List Function) (f : Function) → find p (filter q fs) ≡ Some f → (p f ≡ true) × (q f ≡ true)

@@ -12,7 +12,6 @@ use Rattle.sf_model.specs.Recovery.{Recovery, Value, Known}
 use Rattle.sf_model.specs.Section.{Section}
 use Rattle.sf_model.specs.Table.{Table}
 use Rattle.sf_model.specs.Walk.{ThreadState, Listing, Recovering, walk_by, recover_by_rows, section_walk}
-use Rattle.cfa_machine.specs.FullRow.{columns_of}
 use Rattle.cfa_machine.specs.Recovery.{RuleRecovery, recovery_by_rules}
 use Rattle.sf_express.specs.Alike.{defined}
 use Rattle.sf_asm.specs.declared.entry.Entry.{Entry}
@@ -26,9 +25,9 @@ use Rattle.sf_asm.specs.Linking.{InOrder}
 abbrev pub holds_address : (address : ℕ) → Function → Bool
 holds_address address f = nat_le f.start address && nat_lt address (f.start + f.size)
 
--- what the rules of a function's row at an address recover
+-- what the rules of a function's row at an address recover, with the function's return address column and key
 abbrev pub recovered_in : List Region → (address : ℕ) → Regs → Function → RuleRecovery
-recovered_in memory address regs f = recovery_by_rules f.arch (columns_of f.arch (full_row f (address - f.start))) f.key regs memory
+recovered_in memory address regs f = recovery_by_rules f.arch f.column (full_row f (address - f.start)) f.key regs memory
 
 -- what is recovered at an address in the kept function that has it, and nothing elsewhere
 unfoldable pub recovered_at : List Function → List Region → (address : ℕ) → Regs → Option RuleRecovery

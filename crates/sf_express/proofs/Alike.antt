@@ -28,10 +28,12 @@ use Rattle.cfa_machine.specs.Registers.{stack_pointer, frame_pointer}
 use Rattle.cfa_machine.specs.Columns.{row_from}
 use Rattle.cfa_machine.specs.FullRow.{FullRow, columns_of}
 use Rattle.cfa_machine.specs.At.{latest_at, SaysAt}
-use Rattle.cfa_machine.specs.Recovery.{RuleRecovery, register_value, frame_address_by, value_by, return_register, recovery_at, recovery_by_rules}
+use Rattle.cfa_machine.specs.ColumnRecovery.{columns_recover, columns_recover_from, return_register}
+use Rattle.cfa_machine.specs.Recovery.{RuleRecovery, register_value, frame_address_by, value_by, recovery_by_rules}
+use Rattle.cfa_machine.proofs.ColumnRecovery.{recovery_of_columns}
 use Rattle.sf_express.specs.Parts.{◌>>=◌, fits_i32, narrowed, base_of, cfa_at, cfa_from, cfa_part, is_zero, sp_part, is_minus_8, saved_at, ra_part, fp_saved_at, fp_part, pair_part, sign_part, content_of}
 use Rattle.sf_express.specs.Offsets.{said, as_said, latest_content}
-use Rattle.sf_express.specs.Alike.{defined, RecoverAlike, FoundAlike}
+use Rattle.sf_express.specs.Alike.{defined, RecoverAlike, ColumnsRecoverAlike, FoundAlike}
 use Rattle.sf_express.proofs.Writable.{made}
 
 -- ---- numbers
@@ -178,11 +180,11 @@ record AreParts (arch : Arch) (columns : Columns) (x : Base × ℤ) (u : Unit {0
   said_fp : fp_part columns.fp ≡ Ok fp
 
 made_alike : (arch : Arch) (columns : Columns) (key : Key) (regs : Regs) (memory : List Region) (x : Base × ℤ) (u : Unit {0}) (ra : Ra) (fp : Option ℤ) → AreParts arch columns x u ra fp
-    → recovery_by_rules arch columns key regs memory ≡ defined (recovery (made x ra fp columns.signed) key regs memory)
-unfolding recovery_by_rules recovery
+    → columns_recover arch columns key regs memory ≡ defined (recovery (made x ra fp columns.signed) key regs memory)
+unfolding columns_recover recovery
 made_alike arch columns key regs memory x u ra fp h =
     let address : ℕ = moved (base_value x.0 regs) x.1 in
-    ap (recovery_at arch columns key regs memory) (frame_address_is arch columns.cfa x regs h.said_cfa)
+    ap (columns_recover_from arch columns key regs memory) (frame_address_is arch columns.cfa x regs h.said_cfa)
     ∙ parts_are (Some address) _ _ _ _ _ _ (key_if_signed columns.signed key)
     (ra_is arch columns.ra ra address regs memory h.said_ra)
     (fp_is columns.fp fp address regs.fp memory h.said_fp)
@@ -196,7 +198,7 @@ made_is (Err reason) sign made content e = cc
 parts_alike : (arch : Arch) (columns : Columns) (content : Content) (cfa : Result (Base × ℤ) Reason) (sp : Result (Unit {0}) Reason) (ra : Result Ra Reason) (fp : Result (Option ℤ) Reason) (sign : Result (Unit {0}) Reason)
     → cfa_part arch columns.cfa ≡ cfa → sp_part columns.sp ≡ sp → ra_part arch columns.ra ≡ ra → fp_part columns.fp ≡ fp
     → (cfa >>= λ x. (sp >>= λ _. (ra >>= λ ra. (fp >>= λ fp. (pair_part ra fp >>= λ _. (sign >>= λ _. Ok (made x ra fp columns.signed))))))) ≡ Ok content
-    → (key : Key) (regs : Regs) (memory : List Region) → recovery_by_rules arch columns key regs memory ≡ defined (recovery content key regs memory)
+    → (key : Key) (regs : Regs) (memory : List Region) → columns_recover arch columns key regs memory ≡ defined (recovery content key regs memory)
 parts_alike arch columns content (Err reason) sp ra fp sign p q r s e = λ key regs memory. cc
 parts_alike arch columns content (Ok x) (Err reason) ra fp sign p q r s e = λ key regs memory. cc
 parts_alike arch columns content (Ok x) (Ok u) (Err reason) fp sign p q r s e = λ key regs memory. cc
@@ -206,7 +208,7 @@ parts_alike arch columns content (Ok x) (Ok u) (Ok ra) (Ok fp) sign p q r s e = 
     ∙ ap (λ (c : Content). defined (recovery c key regs memory)) (made_is (pair_part ra fp) sign (made x ra fp columns.signed) content e)
 
 all_alike : (arch : Arch) (start : ℕ) (columns : Columns) (content : Content) → content_of arch (row_from start columns) ≡ Ok content
-    → (key : Key) (regs : Regs) (memory : List Region) → recovery_by_rules arch columns key regs memory ≡ defined (recovery content key regs memory)
+    → (key : Key) (regs : Regs) (memory : List Region) → columns_recover arch columns key regs memory ≡ defined (recovery content key regs memory)
 unfolding content_of
 all_alike arch start columns content e =
     parts_alike arch columns content (cfa_part arch columns.cfa) (sp_part columns.sp) (ra_part arch columns.ra) (fp_part columns.fp) (sign_part arch columns.sign) refl refl refl refl e
@@ -216,17 +218,26 @@ pointer_is : (content : Content) (key : Key) (regs : Regs) (memory : List Region
 unfolding recovery
 pointer_is content key regs memory = refl
 
-pub recovers_alike : (arch : Arch) (start : ℕ) (columns : Columns) (content : Content) → content_of arch (row_from start columns) ≡ Ok content → RecoverAlike arch columns content
-recovers_alike arch start columns content e = record {
+pub columns_alike : (arch : Arch) (start : ℕ) (columns : Columns) (content : Content) → content_of arch (row_from start columns) ≡ Ok content → ColumnsRecoverAlike arch columns content
+columns_alike arch start columns content e = record {
   alike = all_alike arch start columns content e;
   stack_pointer = λ key regs memory. subst (λ (r : RuleRecovery). r.stack_pointer ≡ option_map Known r.frame_address) (sym (all_alike arch start columns content e key regs memory)) (pointer_is content key regs memory);
 }
+
+pub recovers_alike : (arch : Arch) (start : ℕ) (row : FullRow) (content : Content) → content_of arch (row_from start (columns_of arch row)) ≡ Ok content → RecoverAlike arch row content
+recovers_alike arch start row content e =
+    let columns = columns_alike arch start (columns_of arch row) content e in
+    record {
+      alike = λ key regs memory. recovery_of_columns arch row key regs memory ∙ columns.alike key regs memory;
+      stack_pointer = λ key regs memory.
+          subst (λ (r : RuleRecovery). r.stack_pointer ≡ option_map Known r.frame_address) (sym (recovery_of_columns arch row key regs memory)) (columns.stack_pointer key regs memory);
+    }
 
 -- ---- at an offset
 found_alike : (arch : Arch) (row : FullRow) (start : ℕ) (said_there : Option DwRow) (found : Option Content) → said_there ≡ Some (row_from start (columns_of arch row)) → said arch said_there ≡ as_said found → FoundAlike arch row found
 found_alike arch row start said_there (Some content) is e =
     let said_is : Some (content_of arch (row_from start (columns_of arch row))) ≡ Some (Ok content) = sym (ap (said arch) is) ∙ e in
-    record { content = content; is = refl; alike = recovers_alike arch start (columns_of arch row) content cc }
+    record { content = content; is = refl; alike = recovers_alike arch start row content cc }
 found_alike arch row start said_there None is e =
     let said_is : Some (content_of arch (row_from start (columns_of arch row))) ≡ None = sym (ap (said arch) is) ∙ e in
     cc

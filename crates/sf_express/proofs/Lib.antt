@@ -9,3 +9,4 @@ pub mod Means
 pub mod Found
 pub mod Running
 pub mod Said
+pub mod Column

@@ -10,14 +10,18 @@ ghost use Rattle.cfa_machine.specs.declared.columns.Columns.{Columns};
 ghost use Rattle.cfa_machine.specs.declared.row.DwRow.{DwRow};
 ghost use Rattle.cfa_machine.specs.Columns.{row_from};
 ghost use Rattle.cfa_machine.specs.At.{row_at_offset, SayAll};
+ghost use Rattle.cfa_machine.specs.FullRow.{FullRow, columns_of};
 ghost use Rattle.sf_express.specs.Parts.{content_of};
 ghost use Rattle.sf_express.specs.Offsets.{latest_content, SayTheSame};
-ghost use Rattle.sf_express.specs.Alike.{RecoverAlike, FoundAlike};
+ghost use Rattle.sf_express.specs.Alike.{RecoverAlike, ColumnsRecoverAlike, FoundAlike};
 
 /// A row that SFrame Version 2 can express recovers by its rules (DWARF 5, section 6.4.1) what its content
 /// recovers, with every key, all registers and all memory.
 pub fn rows_recover_alike()
-    ensures { (arch : Arch) (start : ℕ) (columns : Columns) (content : Content) → content_of arch (row_from start columns) ≡ Ok content → RecoverAlike arch columns content }
+    // By the rules of all registers, in a function whose return address column is the machine's own.
+    ensures rows { (arch : Arch) (start : ℕ) (row : FullRow) (content : Content) → content_of arch (row_from start (columns_of arch row)) ≡ Ok content → RecoverAlike arch row content }
+    // By the columns alone.
+    ensures columns { (arch : Arch) (start : ℕ) (columns : Columns) (content : Content) → content_of arch (row_from start columns) ≡ Ok content → ColumnsRecoverAlike arch columns content }
 {}
 
 /// At each offset of a function the rows that are kept of it have a content, which recovers what the full row

@@ -27,15 +27,16 @@ use Rattle.cfa_machine.specs.At.{row_at_offset}
 use Rattle.cfa_machine.specs.Columns.{row_from}
 use Rattle.cfa_machine.specs.FirstFault.{first_fault}
 use Rattle.cfa_machine.specs.FullRow.{FullRow, cfa_offset, columns_of}
-use Rattle.cfa_machine.specs.Recovery.{RuleRecovery, recovery_at, recovery_by_rules, register_value}
-use Rattle.cfa_machine.specs.Registers.{frame_pointer, stack_pointer}
+use Rattle.cfa_machine.specs.Recovery.{RuleRecovery, recovery_from, recovery_by_rules, register_value}
+use Rattle.cfa_machine.specs.Registers.{frame_pointer, return_address, stack_pointer}
 use Rattle.sf_express.specs.Alike.{defined}
 use Rattle.sf_express.specs.Parts.{◌>>=◌, base_of, cfa_at, cfa_from, cfa_part, content_of, fp_part, narrowed, pair_part, ra_part, sign_part, sp_part}
 use Rattle.sf_express.proofs.Alike.{recovers_alike}
+use Rattle.sf_express.proofs.Column.{own_column}
 use Rattle.sf_express.proofs.Writable.{made}
 use Rattle.sf_asm.specs.Faithful.{holds_address}
 use Rattle.sf_asm.specs.Functions.{Function}
-use Rattle.sf_asm.specs.Kept.{full_row}
+use Rattle.sf_asm.specs.Kept.{facts_of, full_row}
 use Rattle.sf_plt.specs.Plt.{content_before, content_unless, initial_content, is_plt, plt_frame_address, plt_recovery, recovered_in_plt}
 use Rattle.sf_plt.specs.Written.{first_entry, later_entries, pair_by, plt_pair, row_saying}
 use Rattle.sf_plt.specs.Expression.{expression_value}
@@ -154,17 +155,19 @@ distant n content = record content { cfa = pos n }
 abbrev as_written : Function → Content → (n : ℕ) → Regs → List Region → RuleRecovery
 as_written f content n regs memory = defined (recovery (distant n content) f.key regs memory)
 
-by_distance : (f : Function) (content : Content) → Says f content → (n : ℕ) → nat_lt n (2 ^ 31) ≡ true → (regs : Regs) (memory : List Region)
-    → recovery_at f.arch (columns f) f.key regs memory (Some (moved regs.sp (pos n))) ≡ as_written f content n regs memory
+by_distance : (f : Function) (content : Content) → f.column ≡ return_address f.arch → Says f content → (n : ℕ) → nat_lt n (2 ^ 31) ≡ true → (regs : Regs) (memory : List Region)
+    → recovery_from f.arch f.column (initial_row f) f.key regs memory (Some (moved regs.sp (pos n))) ≡ as_written f content n regs memory
 unfolding recovery_by_rules
-by_distance f content h n small regs memory =
-    let alike = recovers_alike f.arch 0 (with_rule (cfa.Reg h.register (pos n)) (columns f)) (distant n content) (h.at n small) in
-    ap (λ (base : Option ℕ). recovery_at f.arch (columns f) f.key regs memory (option_map (λ (x : ℕ). moved x (pos n)) base)) (sym (h.value regs)) ∙ alike.alike f.key regs memory
+by_distance f content own h n small regs memory =
+    let alike = recovers_alike f.arch 0 (with_cfa (cfa.Reg h.register (pos n)) (initial_row f)) (distant n content) (h.at n small) in
+    ap (λ (column : ℕ). recovery_from f.arch column (initial_row f) f.key regs memory (Some (moved regs.sp (pos n)))) own
+    ∙ ap (λ (base : Option ℕ). recovery_from f.arch (return_address f.arch) (initial_row f) f.key regs memory (option_map (λ (x : ℕ). moved x (pos n)) base)) (sym (h.value regs))
+    ∙ alike.alike f.key regs memory
 
 -- by the row there
-at_row : (f : Function) (o : ℕ) (rule : CfaRule) (regs : Regs) (memory : List Region) → full_row f o ≡ with_cfa rule (initial_row f) → plt_recovery f o regs memory ≡ recovery_at f.arch (columns f) f.key regs memory (plt_frame_address f o regs rule)
+at_row : (f : Function) (o : ℕ) (rule : CfaRule) (regs : Regs) (memory : List Region) → full_row f o ≡ with_cfa rule (initial_row f) → plt_recovery f o regs memory ≡ recovery_from f.arch f.column (initial_row f) f.key regs memory (plt_frame_address f o regs rule)
 unfolding plt_recovery
-at_row f o rule regs memory e = ap (λ (row : FullRow). recovery_at f.arch (columns_of f.arch row) f.key regs memory (plt_frame_address f o regs (columns_of f.arch row).cfa)) e
+at_row f o rule regs memory e = ap (λ (row : FullRow). recovery_from f.arch f.column row f.key regs memory (plt_frame_address f o regs row.cfa)) e
 
 by_register : (f : Function) (content : Content) (h : Says f content) (o n : ℕ) (regs : Regs) → plt_frame_address f o regs (cfa.Reg h.register (pos n)) ≡ Some (moved regs.sp (pos n))
 by_register f content h o n regs = ap (option_map (λ (x : ℕ). moved x (pos n))) (h.value regs)
@@ -172,23 +175,23 @@ by_register f content h o n regs = ap (option_map (λ (x : ℕ). moved x (pos n)
 at_first : (f : Function) (content : Content) → PltForm f → Says f content → (o : ℕ) → o < 6 → (regs : Regs) (memory : List Region) → plt_recovery f o regs memory ≡ as_written f content 16 regs memory
 at_first f content form h o lt regs memory =
     at_row f o (cfa_offset (pos 16) (columns f).cfa) regs memory (row_first f o form.code form.text lt)
-    ∙ ap (λ (rule : CfaRule). recovery_at f.arch (columns f) f.key regs memory (plt_frame_address f o regs (cfa_offset (pos 16) rule))) h.rule_is
-    ∙ ap (recovery_at f.arch (columns f) f.key regs memory) (by_register f content h o 16 regs)
-    ∙ by_distance f content h 16 refl regs memory
+    ∙ ap (λ (rule : CfaRule). recovery_from f.arch f.column (initial_row f) f.key regs memory (plt_frame_address f o regs (cfa_offset (pos 16) rule))) h.rule_is
+    ∙ ap (recovery_from f.arch f.column (initial_row f) f.key regs memory) (by_register f content h o 16 regs)
+    ∙ by_distance f content (own_column f.arch (facts_of f) form.whole) h 16 refl regs memory
 
 at_second : (f : Function) (content : Content) → PltForm f → Says f content → (o : ℕ) → 6 ≤ o → o < 16 → (regs : Regs) (memory : List Region) → plt_recovery f o regs memory ≡ as_written f content 24 regs memory
 at_second f content form h o le lt regs memory =
     at_row f o (cfa_offset (pos 24) (cfa_offset (pos 16) (columns f).cfa)) regs memory (row_second f o form.code form.text le lt)
-    ∙ ap (λ (rule : CfaRule). recovery_at f.arch (columns f) f.key regs memory (plt_frame_address f o regs (cfa_offset (pos 24) (cfa_offset (pos 16) rule)))) h.rule_is
-    ∙ ap (recovery_at f.arch (columns f) f.key regs memory) (by_register f content h o 24 regs)
-    ∙ by_distance f content h 24 refl regs memory
+    ∙ ap (λ (rule : CfaRule). recovery_from f.arch f.column (initial_row f) f.key regs memory (plt_frame_address f o regs (cfa_offset (pos 24) (cfa_offset (pos 16) rule)))) h.rule_is
+    ∙ ap (recovery_from f.arch f.column (initial_row f) f.key regs memory) (by_register f content h o 24 regs)
+    ∙ by_distance f content (own_column f.arch (facts_of f) form.whole) h 24 refl regs memory
 
 at_later : (f : Function) (content : Content) → PltForm f → Says f content → (o n : ℕ) → 16 ≤ o → nat_lt n (2 ^ 31) ≡ true → (regs : Regs) (memory : List Region) → expression_value regs.sp (f.start + o) ≡ Some (moved regs.sp (pos n))
     → plt_recovery f o regs memory ≡ as_written f content n regs memory
 at_later f content form h o n le small regs memory value =
     at_row f o cfa.Expression regs memory (row_third f o form.code form.text le)
-    ∙ ap (recovery_at f.arch (columns f) f.key regs memory) value
-    ∙ by_distance f content h n small regs memory
+    ∙ ap (recovery_from f.arch f.column (initial_row f) f.key regs memory) value
+    ∙ by_distance f content (own_column f.arch (facts_of f) form.whole) h n small regs memory
 
 -- ---- the rows of the two functions
 abbrev pub recovered_by : Regs → List Region → Option FoundRow → Option RuleRecovery

@@ -18,7 +18,7 @@ use Rattle.cfa_machine.specs.At.{row_at_offset}
 use Rattle.cfa_machine.specs.Columns.{row_from}
 use Rattle.cfa_machine.specs.FirstFault.{first_fault}
 use Rattle.cfa_machine.specs.FullRow.{columns_of}
-use Rattle.cfa_machine.specs.Recovery.{RuleRecovery, frame_address_by, recovery_at}
+use Rattle.cfa_machine.specs.Recovery.{RuleRecovery, frame_address_by, recovery_from}
 use Rattle.sf_express.specs.Expressed.{reason_of, same_base}
 use Rattle.sf_express.specs.Parts.{content_of}
 use Rattle.sf_asm.specs.Functions.{Function}
@@ -86,8 +86,8 @@ plt_frame_address f offset regs (cfa.Reg register distance) = frame_address_by f
 -- what the rules of the row at an offset recover
 unfoldable pub plt_recovery : Function → (offset : ℕ) → Regs → List Region → RuleRecovery
 plt_recovery f offset regs memory =
-    let columns = columns_of f.arch (full_row f offset) in
-    recovery_at f.arch columns f.key regs memory (plt_frame_address f offset regs columns.cfa)
+    let row = full_row f offset in
+    recovery_from f.arch f.column row f.key regs memory (plt_frame_address f offset regs row.cfa)
 
 -- the same at an address of the function
 abbrev pub recovered_in_plt : List Region → (address : ℕ) → Regs → Function → RuleRecovery
