@@ -5,7 +5,6 @@
 use Rattle.std.specs.Prelude.{ℕ, ℤ, ◌==◌, List, Option, Some, None, if◌then◌else◌}
 use Rattle.std.specs.Option.{option_map}
 use Rattle.sf_model.specs.declared.machine.Arch.{Arch}
-use Rattle.sf_model.specs.declared.machine.Arch.TheVariants.{Amd64, Aarch64}
 use Rattle.sf_model.specs.declared.machine.Key.{Key}
 use Rattle.sf_model.specs.declared.recovery.Regs.{Regs}
 use Rattle.sf_model.specs.Memory.{Region}

@@ -29,7 +29,7 @@ use Rattle.cfa_machine.specs.Columns.{row_from}
 use Rattle.cfa_machine.specs.FullRow.{FullRow, columns_of}
 use Rattle.cfa_machine.specs.At.{latest_at, SaysAt}
 use Rattle.cfa_machine.specs.ColumnRecovery.{columns_recover, columns_recover_from, return_register}
-use Rattle.cfa_machine.specs.Recovery.{RuleRecovery, register_value, frame_address_by, value_by, recovery_by_rules}
+use Rattle.cfa_machine.specs.Recovery.{RuleRecovery, register_value, frame_address_by, value_by}
 use Rattle.cfa_machine.proofs.ColumnRecovery.{recovery_of_columns}
 use Rattle.sf_express.specs.Parts.{◌>>=◌, fits_i32, narrowed, base_of, cfa_at, cfa_from, cfa_part, is_zero, sp_part, is_minus_8, saved_at, ra_part, fp_saved_at, fp_part, pair_part, sign_part, content_of}
 use Rattle.sf_express.specs.Offsets.{said, as_said, latest_content}
