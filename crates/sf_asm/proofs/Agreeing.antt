@@ -17,7 +17,6 @@ use Rattle.sf_model.specs.Recovery.{recovery}
 use Rattle.sf_model.specs.Walk.{recover_by_rows}
 use Rattle.sf_model.specs.declared.omission.Omission.{Omission}
 use Rattle.sf_model.specs.declared.omission.Reason.{Reason}
-use Rattle.cfa_machine.specs.FullRow.{columns_of}
 use Rattle.cfa_machine.specs.Recovery.{recovery_by_rules}
 use Rattle.cfa_machine.specs.Registers.{return_address}
 use Rattle.sf_express.specs.Expressed.{reason_of}

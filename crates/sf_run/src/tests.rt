@@ -1,18 +1,32 @@
 //! Runs in which a call of a file or of a stream fails, and runs past a limit, over files and streams in memory.
 //! Whole runs of the program are cases in files, tried with the program.
 
+ghost use Rattle.std.specs.Prelude.{◌<◌};
+
+mod worked;
+
 use crate::{Status, run};
 use sf_base::{MemFiles, MemSink};
 use std::alloc::{AllocError, Global};
 use std::process::Abort;
 use std::test::Fail;
+use worked::{WORKED, Worked};
 
-/// A run in which one call on the files fails: what it leaves.
-struct Fault {
-    call: u64,
+/// How a run ends whose call fails: its status, its line, and what it leaves in `o`.
+#[derive(Drop)]
+struct End {
     status: Status,
-    line: &'static str,
-    section: Option<&'static str>,
+    line: String,
+    section: Option<Vec<u8>>,
+}
+
+/// A run that ended.
+#[derive(Drop)]
+struct Ended {
+    status: Status,
+    files: MemFiles,
+    out: MemSink,
+    err: MemSink,
 }
 
 /// The words of a command line.
@@ -24,162 +38,236 @@ fn words_of(alloc: Global, line: &str) -> Result<Vec<String>, AllocError> {
     Ok(words)
 }
 
-/// The bytes that are written in hexadecimal.
+/// The bytes that are written in hexadecimal: `00*9` is nine of them.
 fn bytes_of(alloc: Global, text: &str) -> Result<Vec<u8>, Fail> {
     let mut bytes = Vec::new(alloc);
     for word in text.split_whitespace() {
-        bytes.push(u8::from_str_radix(word, 16)?)?;
+        let (byte, count) = word.split_once('*').unwrap_or((word, "1"));
+        for _ in 0..count.parse::<u32>()? {
+            bytes.push(u8::from_str_radix(byte, 16)?)?;
+        }
     }
     Ok(bytes)
 }
 
-/// Asserts what the file `o` holds.
-fn expect_section(
+/// Runs the words over these files.
+fn run_over(
+    alloc: Global,
+    words: &str,
+    mut files: MemFiles,
+    mut out: MemSink,
+    mut err: MemSink,
+) -> Result<Ended, Fail> {
+    let words = words_of(alloc, words)?;
+    let status = run(alloc, &words, &mut files, &mut out, &mut err);
+    Ok(Ended {
+        status,
+        files,
+        out,
+        err,
+    })
+}
+
+/// Runs a command over its files. Their calls with these numbers fail.
+fn run_worked(
+    alloc: Global,
+    worked: &Worked,
+    most: usize,
+    fails: Vec<u64>,
+    out: MemSink,
+) -> Result<Ended, Fail>
+    requires { 0 < most }
+{
+    let mut files = MemFiles::new(alloc, most, fails);
+    for (name, bytes) in worked.files {
+        let put = files.put(name, bytes_of(alloc, bytes)?);
+        put.ok().ok_or("memory")?;
+    }
+    let err = MemSink::new(alloc, 16, Vec::new(alloc));
+    run_over(alloc, worked.words, files, out, err)
+}
+
+/// The section that a run leaves.
+fn section_of(alloc: Global, worked: &Worked) -> Result<Option<Vec<u8>>, Fail> {
+    match worked.section {
+        Some(section) => Ok(Some(bytes_of(alloc, section)?)),
+        None => Ok(None),
+    }
+}
+
+/// How a run ends of which no call fails.
+fn done_of(alloc: Global, worked: &Worked) -> Result<End, Fail> {
+    Ok(End {
+        status: Status::Done,
+        line: String::new(alloc),
+        section: section_of(alloc, worked)?,
+    })
+}
+
+/// How a run ends for each call of its files, in their order, where that call fails: a file is opened, and read up to its end and
+/// once more; then the section's file is created and written.
+fn ends_of(alloc: Global, worked: &Worked, most: usize) -> Result<Vec<End>, Fail>
+    requires { 0 < most }
+{
+    let mut ends = Vec::new(alloc);
+    for (name, bytes) in worked.files {
+        let line = format!(in alloc; "read {name}\n")?;
+        ends.push(End {
+            status: Status::Read,
+            line: line.clone()?,
+            section: None,
+        })?;
+        for _ in bytes_of(alloc, bytes)?.chunks(most) {
+            ends.push(End {
+                status: Status::Read,
+                line: line.clone()?,
+                section: None,
+            })?;
+        }
+        ends.push(End {
+            status: Status::Read,
+            line,
+            section: None,
+        })?;
+    }
+    if let Some(section) = section_of(alloc, worked)? {
+        let line = String::from_str(alloc, "write file o\n")?;
+        ends.push(End {
+            status: Status::Write,
+            line: line.clone()?,
+            section: None,
+        })?;
+        let mut written = Vec::new(alloc);
+        for piece in section.chunks(most) {
+            ends.push(End {
+                status: Status::Write,
+                line: line.clone()?,
+                section: Some(written.clone()?),
+            })?;
+            written.extend_from_slice(piece)?;
+        }
+    }
+    Ok(ends)
+}
+
+/// Asserts how a run ended.
+fn expect(rt: &impl Abort, worked: &Worked, number: u64, ended: &Ended, end: &End, text: &[u8]) {
+    let Worked { words, .. } = worked;
+    assert_eq!(rt; ended.status, end.status, "{words}: call {number}");
+    assert_eq!(rt;
+        ended.err.bytes(),
+        end.line.as_bytes(),
+        "{words}: call {number}"
+    );
+    assert_eq!(rt; ended.out.bytes(), text, "{words}: call {number}");
+    assert_eq!(rt;
+        ended.files.get("o"),
+        end.section.as_deref(),
+        "{words}: call {number}"
+    );
+}
+
+/// Asserts that each call of the files that fails ends each run as it has to, and that there is no call after the last of them.
+fn expect_calls_of_files(
     rt: &impl Abort,
     alloc: Global,
-    files: &MemFiles,
-    section: Option<&str>,
-    shows: &str,
-) -> Result<(), Fail> {
-    match section {
-        None => assert!(rt; files.get("o").is_none(), "{shows}"),
-        Some(text) => {
-            let bytes = bytes_of(alloc, text)?;
-            assert_eq!(rt; files.get("o"), Some(bytes.as_slice()), "{shows}");
+    runs: &[Worked],
+    most: usize,
+) -> Result<(), Fail>
+    requires { 0 < most }
+{
+    for worked in runs {
+        let mut ends = ends_of(alloc, worked, most)?;
+        ends.push(done_of(alloc, worked)?)?;
+        for (number, end) in (1u64..).zip(&ends) {
+            let out = MemSink::new(alloc, 16, Vec::new(alloc));
+            let ended = run_worked(alloc, worked, most, vec![in alloc; number]?, out)?;
+            let text = if end.status == Status::Done {
+                worked.text
+            } else {
+                ""
+            };
+            expect(rt, worked, number, &ended, end, text.as_bytes());
         }
     }
     Ok(())
 }
 
-/// Links one function, with failing calls of the files and of the streams.
-fn run_with(
-    alloc: Global,
-    files: &mut MemFiles,
-    out: &mut MemSink,
-    err: &mut MemSink,
-) -> Result<Status, Fail> {
-    files
-        .put("e1", bytes_of(alloc, ONE_FUNCTION)?)
-        .ok()
-        .ok_or("memory")?;
-    let words = words_of(alloc, "link o@0x3000 eh-amd64:e1@0x2000")?;
-    Ok(run(alloc, &words, files, out, err))
-}
-
-#[test]
-fn a_failing_call_of_the_files_ends_the_run(rt: HostRuntime) -> Result<(), Fail> {
-    let alloc = rt.alloc();
-    for fault in &FAULTS {
-        let mut files = MemFiles::new(alloc, 16, vec![in alloc; fault.call]?);
-        let mut out = MemSink::new(alloc, 16, Vec::new(alloc));
-        let mut err = MemSink::new(alloc, 16, Vec::new(alloc));
-        let status = run_with(alloc, &mut files, &mut out, &mut err)?;
-        assert_eq!(rt; status, fault.status, "call {}", fault.call);
-        assert_eq!(rt; err.bytes(), fault.line.as_bytes(), "call {}", fault.call);
-        assert_eq!(rt; out.bytes().len(), 0, "call {}", fault.call);
-        expect_section(&rt, alloc, &files, fault.section, fault.line)?;
+/// Asserts that each write of the output that fails ends each run as it has to, with the section whole.
+fn expect_writes_of_output(rt: &impl Abort, alloc: Global, most: usize) -> Result<(), Fail>
+    requires { 0 < most }
+{
+    for worked in &WORKED {
+        let mut written = Vec::new(alloc);
+        for (number, piece) in (1u64..).zip(worked.text.as_bytes().chunks(most)) {
+            let out = MemSink::new(alloc, most, vec![in alloc; number]?);
+            let ended = run_worked(alloc, worked, 64, Vec::new(alloc), out)?;
+            let end = End {
+                status: Status::Write,
+                line: String::from_str(alloc, "write output\n")?,
+                section: section_of(alloc, worked)?,
+            };
+            expect(rt, worked, number, &ended, &end, &written);
+            written.extend_from_slice(piece)?;
+        }
     }
     Ok(())
 }
 
 #[test]
-fn the_end_is_read_after_a_read_that_is_not_full(rt: HostRuntime) -> Result<(), Fail> {
-    let alloc = rt.alloc();
-    let mut files = MemFiles::new(alloc, 1 << 20, vec![in alloc; 3u64]?);
-    let mut out = MemSink::new(alloc, 16, Vec::new(alloc));
-    let mut err = MemSink::new(alloc, 16, Vec::new(alloc));
-    let status = run_with(alloc, &mut files, &mut out, &mut err)?;
-    assert_eq!(rt; status, Status::Read);
-    assert_eq!(rt; err.bytes(), b"read e1\n".as_slice());
-    Ok(())
+fn each_call_of_files_that_move_one_byte_fails(rt: HostRuntime) -> Result<(), Fail> {
+    // A core file takes too many calls.
+    expect_calls_of_files(&rt, rt.alloc(), &WORKED[..8], 1)
 }
 
 #[test]
-fn a_failing_output_leaves_the_section(rt: HostRuntime) -> Result<(), Fail> {
-    let alloc = rt.alloc();
-    let mut files = MemFiles::new(alloc, 16, Vec::new(alloc));
-    let mut out = MemSink::new(alloc, 16, vec![in alloc; 1u64]?);
-    let mut err = MemSink::new(alloc, 16, Vec::new(alloc));
-    let status = run_with(alloc, &mut files, &mut out, &mut err)?;
-    assert_eq!(rt; status, Status::Write);
-    assert_eq!(rt; err.bytes(), b"write output\n".as_slice());
-    expect_section(
-        &rt,
-        alloc,
-        &files,
-        Some(ONE_FUNCTION_LINKED),
-        "the section stands",
-    )
+fn each_call_of_files_that_move_several_bytes_fails(rt: HostRuntime) -> Result<(), Fail> {
+    expect_calls_of_files(&rt, rt.alloc(), &WORKED, 7)?;
+    expect_calls_of_files(&rt, rt.alloc(), &WORKED, 16)
 }
 
 #[test]
-fn a_failing_error_sink_changes_no_status(rt: HostRuntime) -> Result<(), Fail> {
-    let alloc = rt.alloc();
-    let mut files = MemFiles::new(alloc, 16, Vec::new(alloc));
-    let mut out = MemSink::new(alloc, 16, Vec::new(alloc));
-    let mut err = MemSink::new(alloc, 16, vec![in alloc; 1u64]?);
-    let words = words_of(alloc, "link o@0x3000 eh-amd64:x@0x2000")?;
-    let status = run(alloc, &words, &mut files, &mut out, &mut err);
-    assert_eq!(rt; status, Status::Read);
-    assert_eq!(rt; err.bytes().len(), 0);
-    Ok(())
+fn each_write_of_the_output_fails(rt: HostRuntime) -> Result<(), Fail> {
+    expect_writes_of_output(&rt, rt.alloc(), 1)?;
+    expect_writes_of_output(&rt, rt.alloc(), 7)?;
+    expect_writes_of_output(&rt, rt.alloc(), 16)
 }
 
-#[test]
-fn a_failing_error_sink_changes_no_refusal(rt: HostRuntime) -> Result<(), Fail> {
-    let alloc = rt.alloc();
-    let mut files = MemFiles::new(alloc, 16, Vec::new(alloc));
-    let bytes = vec![in alloc; 1u8]?;
-    assert!(rt; files.put("e1", bytes).is_ok());
-    let mut out = MemSink::new(alloc, 16, Vec::new(alloc));
-    let mut err = MemSink::new(alloc, 4, vec![in alloc; 3u64]?);
-    let words = words_of(alloc, "link o@0x3000 eh-amd64:e1@0x2000")?;
-    let status = run(alloc, &words, &mut files, &mut out, &mut err);
-    assert_eq!(rt; status, Status::Refused);
-    assert_eq!(rt; err.bytes(), b"refused ".as_slice());
-    Ok(())
-}
-
-/// Runs a command over the section of one function.
-fn run_over_section(
+/// Asserts that each write of the errors that fails cuts the line there, and leaves the status.
+fn expect_writes_of_errors(
     rt: &impl Abort,
     alloc: Global,
-    line: &str,
-    text: &[u8],
-) -> Result<MemFiles, Fail> {
-    let mut files = MemFiles::new(alloc, 1 << 20, Vec::new(alloc));
-    let put = files.put("s", bytes_of(alloc, ONE_FUNCTION_LINKED)?);
-    assert!(rt; put.is_ok());
-    let mut out = MemSink::new(alloc, 1 << 20, Vec::new(alloc));
-    let mut err = MemSink::new(alloc, 1 << 20, Vec::new(alloc));
-    let words = words_of(alloc, line)?;
-    let status = run(alloc, &words, &mut files, &mut out, &mut err);
-    assert_eq!(rt; err.bytes().len(), 0, "{line}");
-    assert_eq!(rt; out.bytes(), text, "{line}");
-    assert_eq!(rt; status, Status::Done, "{line}");
-    Ok(files)
+    words: &str,
+    status: Status,
+    line: &[u8],
+) -> Result<(), Fail> {
+    let mut written = Vec::new(alloc);
+    for (number, byte) in (1u64..).zip(line) {
+        let mut files = MemFiles::new(alloc, 1, Vec::new(alloc));
+        files.put("e", vec![in alloc; 1u8]?).ok().ok_or("memory")?;
+        let out = MemSink::new(alloc, 1, Vec::new(alloc));
+        let err = MemSink::new(alloc, 1, vec![in alloc; number]?);
+        let ended = run_over(alloc, words, files, out, err)?;
+        assert_eq!(rt; ended.status, status, "{words}: call {number}");
+        assert_eq!(rt;
+            ended.err.bytes(),
+            written.as_slice(),
+            "{words}: call {number}"
+        );
+        written.push(*byte)?;
+    }
+    Ok(())
 }
 
 #[test]
-fn each_command_is_done(rt: HostRuntime) -> Result<(), Fail> {
+fn each_write_of_the_errors_fails(rt: HostRuntime) -> Result<(), Fail> {
     let alloc = rt.alloc();
-    let mut files = MemFiles::new(alloc, 16, Vec::new(alloc));
-    let mut out = MemSink::new(alloc, 16, Vec::new(alloc));
-    let mut err = MemSink::new(alloc, 16, Vec::new(alloc));
-    let status = run_with(alloc, &mut files, &mut out, &mut err)?;
-    assert_eq!(rt; status, Status::Done);
-    assert_eq!(rt; out.bytes(), b"kept 1 omitted 0\n".as_slice());
-    expect_section(&rt, alloc, &files, Some(ONE_FUNCTION_LINKED), "link")?;
-    let merge = "merge o@0x3000 s@0x3000";
-    let merged = run_over_section(&rt, alloc, merge, b"merged 1 functions 4 rows\n")?;
-    expect_section(&rt, alloc, &merged, Some(ONE_FUNCTION_LINKED), "merge")?;
-    let slim = "slim o@0x3000 s@0x3000";
-    let slimmed = run_over_section(&rt, alloc, slim, b"slim 63 63 functions 1 rows 4\n")?;
-    expect_section(&rt, alloc, &slimmed, Some(ONE_FUNCTION_LINKED), "slim")?;
-    run_over_section(&rt, alloc, "lookup s@0x3000 0x1005", FOUND)?;
-    run_over_section(&rt, alloc, "dump s@0x3000", DUMPED)?;
-    run_over_section(&rt, alloc, "gen 1", MADE)?;
-    Ok(())
+    expect_writes_of_errors(&rt, alloc, "link o@0x3000 e", Status::Usage, b"usage\n")?;
+    let missing = "link o@0x3000 eh-amd64:x@0x2000";
+    expect_writes_of_errors(&rt, alloc, missing, Status::Read, b"read x\n")?;
+    let refused = "link o@0x3000 eh-amd64:e@0x2000";
+    let line = b"refused 0 record Short 0x0 0x0\n";
+    expect_writes_of_errors(&rt, alloc, refused, Status::Refused, line)
 }
 
 #[test]
@@ -188,104 +276,11 @@ fn an_input_longer_than_the_limit_is_refused(rt: HostRuntime) -> Result<(), Fail
     let mut files = MemFiles::new(alloc, 1 << 24, Vec::new(alloc));
     let bytes = vec![in alloc; 0u8; (1 << 28) + 1]?;
     assert!(rt; files.put("e1", bytes).is_ok());
-    let mut out = MemSink::new(alloc, 16, Vec::new(alloc));
-    let mut err = MemSink::new(alloc, 16, Vec::new(alloc));
-    let words = words_of(alloc, "link o@0x3000 eh-amd64:e1@0x2000")?;
-    let status = run(alloc, &words, &mut files, &mut out, &mut err);
-    assert_eq!(rt; status, Status::Limit);
-    assert_eq!(rt; err.bytes(), b"limit file 0\n".as_slice());
+    let out = MemSink::new(alloc, 16, Vec::new(alloc));
+    let err = MemSink::new(alloc, 16, Vec::new(alloc));
+    let words = "link o@0x3000 eh-amd64:e1@0x2000";
+    let ended = run_over(alloc, words, files, out, err)?;
+    assert_eq!(rt; ended.status, Status::Limit);
+    assert_eq!(rt; ended.err.bytes(), b"limit file 0\n".as_slice());
     Ok(())
 }
-
-const ONE_FUNCTION: &str =
-    "14 00 00 00 00 00 00 00 01 7a 52 00 01 78 10 01 1b 0c 07 08 90 01 00 00 \
-         1c 00 00 00 1c 00 00 00 e0 ef ff ff 06 00 00 00 00 41 0e 10 86 02 43 0d \
-         06 41 0c 07 08 00 00 00 00 00 00 00";
-
-const ONE_FUNCTION_LINKED: &str =
-    "e2 de 02 05 03 00 f8 00 01 00 00 00 04 00 00 00 0f 00 00 00 00 00 00 00 \
-         14 00 00 00 e4 df ff ff 06 00 00 00 00 00 00 00 04 00 00 00 00 00 00 00 \
-         00 03 08 01 05 10 f0 04 04 10 f0 05 05 08 f0";
-
-const FAULTS: [Fault; 11] = [
-    Fault {
-        call: 1,
-        status: Status::Read,
-        line: "read e1\n",
-        section: None,
-    },
-    Fault {
-        call: 2,
-        status: Status::Read,
-        line: "read e1\n",
-        section: None,
-    },
-    Fault {
-        call: 3,
-        status: Status::Read,
-        line: "read e1\n",
-        section: None,
-    },
-    Fault {
-        call: 4,
-        status: Status::Read,
-        line: "read e1\n",
-        section: None,
-    },
-    Fault {
-        call: 5,
-        status: Status::Read,
-        line: "read e1\n",
-        section: None,
-    },
-    Fault {
-        call: 6,
-        status: Status::Read,
-        line: "read e1\n",
-        section: None,
-    },
-    Fault {
-        call: 7,
-        status: Status::Write,
-        line: "write file o\n",
-        section: None,
-    },
-    Fault {
-        call: 8,
-        status: Status::Write,
-        line: "write file o\n",
-        section: Some(""),
-    },
-    Fault {
-        call: 9,
-        status: Status::Write,
-        line: "write file o\n",
-        section: Some("e2 de 02 05 03 00 f8 00 01 00 00 00 04 00 00 00"),
-    },
-    Fault {
-        call: 10,
-        status: Status::Write,
-        line: "write file o\n",
-        section: Some(
-            "e2 de 02 05 03 00 f8 00 01 00 00 00 04 00 00 00 0f 00 00 00 00 00 00 00 \
-         14 00 00 00 e4 df ff ff",
-        ),
-    },
-    Fault {
-        call: 11,
-        status: Status::Write,
-        line: "write file o\n",
-        section: Some(
-            "e2 de 02 05 03 00 f8 00 01 00 00 00 04 00 00 00 0f 00 00 00 00 00 00 00 \
-         14 00 00 00 e4 df ff ff 06 00 00 00 00 00 00 00 04 00 00 00 00 00 00 00",
-        ),
-    },
-];
-
-const FOUND: &[u8] = b"0x1005 in 0x1000 row +5 cfa=sp+8 fp=c-16\n";
-
-const MADE: &[u8] = b"gen 1 kept 1 omitted 0 length 57 sum 1680\n";
-
-const DUMPED: &[u8] = b"sframe 2 amd64 flags 0x5 functions 1 rows 4\n\
-func 0x1000 size 6 plain key a rows 4\n  +0 cfa=sp+8\n  +1 cfa=sp+16 fp=c-16\n  \
-+4 cfa=fp+16 fp=c-16\n  +5 cfa=sp+8 fp=c-16\n";

@@ -1,0 +1,105 @@
+//! A run of each command that is done, with the values of its cases. The last two read a core file.
+
+/// The words of a run, its files in the order in which they are read, the section that it leaves in `o`, and its text.
+pub struct Worked {
+    pub words: &'static str,
+    pub files: &'static [(&'static str, &'static str)],
+    pub section: Option<&'static str>,
+    pub text: &'static str,
+}
+
+pub const WORKED: [Worked; 10] = [
+    Worked {
+        words: "link o@0x3000 eh-amd64:e@0x2000",
+        files: &[("e", ONE_FUNCTION)],
+        section: Some(ONE_FUNCTION_SECTION),
+        text: "kept 1 omitted 0\n",
+    },
+    Worked {
+        words: "linkplt o@0x3000 eh-amd64:p@0x2000",
+        files: &[("p", PLT)],
+        section: Some(PLT_SECTION),
+        text: "plt 0x1000 size 48 input 0 section 0 fde 0x18\nkept 0 omitted 0 plt 1\n",
+    },
+    Worked {
+        words: "merge o@0x3000 s@0x3000 n@0x3000",
+        files: &[("s", ONE_FUNCTION_SECTION), ("n", NO_FUNCTIONS_SECTION)],
+        section: Some(ONE_FUNCTION_SECTION),
+        text: "merged 1 functions 4 rows\n",
+    },
+    Worked {
+        words: "slim o@0x3000 s@0x3000",
+        files: &[("s", ONE_FUNCTION_SECTION)],
+        section: Some(ONE_FUNCTION_SECTION),
+        text: "slim 63 63 functions 1 rows 4\n",
+    },
+    Worked {
+        words: "dump s@0x3000",
+        files: &[("s", ONE_FUNCTION_SECTION)],
+        section: None,
+        text: "sframe 2 amd64 flags 0x5 functions 1 rows 4\nfunc 0x1000 size 6 plain key a rows 4\n  \
+               +0 cfa=sp+8\n  +1 cfa=sp+16 fp=c-16\n  +4 cfa=fp+16 fp=c-16\n  +5 cfa=sp+8 fp=c-16\n",
+    },
+    Worked {
+        words: "lookup s@0x3000 0x1005",
+        files: &[("s", ONE_FUNCTION_SECTION)],
+        section: None,
+        text: "0x1005 in 0x1000 row +5 cfa=sp+8 fp=c-16\n",
+    },
+    Worked {
+        words: "verify s@0x3000 eh-amd64:e@0x2000",
+        files: &[("s", ONE_FUNCTION_SECTION), ("e", ONE_FUNCTION)],
+        section: None,
+        text: "agrees checked 1 missing 0 repeats 0\n",
+    },
+    Worked {
+        words: "gen 1",
+        files: &[],
+        section: None,
+        text: "gen 1 kept 1 omitted 0 length 57 sum 1680\n",
+    },
+    Worked {
+        words: "walk s@0x3000 c 64",
+        files: &[("s", ONE_FUNCTION_SECTION), ("c", CORE)],
+        section: None,
+        text: WALKED,
+    },
+    Worked {
+        words: "backtrace o@0x3000 c 64 eh-amd64:e@0x2000",
+        files: &[("c", CORE), ("e", ONE_FUNCTION)],
+        section: Some(ONE_FUNCTION_SECTION),
+        text: WALKED,
+    },
+];
+
+/// For AMD64 and the address 0x2000: one function of 6 bytes at 0x1000.
+const ONE_FUNCTION: &str = "14 00*7 01 7a 52 00 01 78 10 01 1b 0c 07 08 90 01 00 00 \
+     1c 00 00 00 1c 00 00 00 e0 ef ff ff 06 00*4 41 0e 10 86 02 43 0d 06 41 0c 07 08 00*7";
+
+/// Its section at 0x3000.
+const ONE_FUNCTION_SECTION: &str = "e2 de 02 05 03 00 f8 00 01 00*3 04 00*3 0f 00*7 14 00*3 \
+     e4 df ff ff 06 00*7 04 00*7 00 03 08 01 05 10 f0 04 04 10 f0 05 05 08 f0";
+
+/// No functions, for AMD64.
+const NO_FUNCTIONS_SECTION: &str = "e2 de 02 05 03 00 f8 00*21";
+
+/// For AMD64 and the address 0x2000: a plain lazy procedure linkage table of 48 bytes at 0x1000.
+const PLT: &str =
+    "14 00*7 01 7a 52 00 01 78 10 01 1b 0c 07 08 90 01 00 00 20 00 00 00 1c 00 00 00 e0 ef ff ff 30 00*4 \
+     0e 10 46 0e 18 4a 0f 0b 77 08 80 00 3f 1a 3b 2a 33 24 22 00*4";
+
+/// Its section at 0x3000.
+const PLT_SECTION: &str =
+    "e2 de 02 05 03 00 f8 00 02 00*3 04 00*3 0c 00*7 28 00*3 e4 df ff ff 10 00*7 02 00*7 \
+     e0 df ff ff 20 00*3 06 00*3 02 00*3 10 10 00*3 03 10 06 03 18 00 03 08 0b 03 10";
+
+/// A core file for AMD64 with a segment of 32 bytes at 0x7000, which holds 0x7010, 0x1005, 0 and 0, and one thread: pid 100 at
+/// 0x1004 with the frame pointer 0x7000 and the stack pointer 0x6ff0.
+const CORE: &str =
+    "7f 45 4c 46 02 01 01 00*9 04 00 3e 00 01 00*11 40 00*19 40 00 38 00 02 00*7 04 00*7 b0 00*23 64 01 00*6 64 01 00*6 \
+     01 00*7 01 00*7 14 02 00*7 70 00*14 20 00*7 20 00*7 01 00*7 05 00*3 50 01 00 00 01 00*3 43 4f 52 45 00*36 64 \
+     00*112 70 00*94 04 10 00*22 f0 6f 00*70 10 70 00*6 05 10 00*22";
+
+/// The frames of that thread, by the section at 0x3000.
+const WALKED: &str =
+    "thread 0 pid 100\n  #0 pc 0x1004 cfa 0x7010\n  #1 pc 0x1005 cfa 0x7020\n  #2 pc 0x0\n  stop outside 0xffffffffffffffff\n";
