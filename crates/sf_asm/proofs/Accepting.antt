@@ -1,4 +1,4 @@
--- Inputs can be linked exactly where linking them comes to functions in order.
+-- Inputs can be gathered exactly where gathering them comes to functions in order, and linked exactly where linking them does.
 use Rattle.std.specs.Prelude.{nat_le, nat_lt}
 use Rattle.std.specs.Option.{option_map}
 use Rattle.std.specs.List.Sorted.{IsNonDecreasingBy}
@@ -15,14 +15,15 @@ use Rattle.sf_asm.specs.declared.entry.Entry.{Entry}
 use Rattle.sf_asm.specs.declared.fault.GatherFault.{GatherFault}
 use Rattle.sf_asm.specs.declared.fault.LinkFault.{LinkFault}
 use Rattle.sf_asm.specs.declared.fault.LinkFault.TheVariants as link
-use Rattle.sf_asm.specs.Accepted.{has_address, how_many_at, IsAccepted}
+use Rattle.sf_asm.specs.Accepted.{has_address, how_many_at, CanBeGathered, IsAccepted}
 use Rattle.sf_asm.specs.Entry.{kept_of, spans_of}
 use Rattle.sf_asm.specs.Functions.{Function, Object, functions_of}
 use Rattle.sf_asm.specs.Inputs.{all_functions, first_item, machines_of, mixed_fault}
 use Rattle.sf_asm.specs.Kept.{entry_of}
-use Rattle.sf_asm.specs.Linking.{start_of, InOrder, overlap, overlap_fault, overlap_in, overlap_with, limits_fault, functions_fault, link_fault, or_later, unless_fault, Links, LinksFrom}
+use Rattle.sf_asm.specs.Linking.{start_of, InOrder, overlap, overlap_fault, overlap_in, overlap_with, limits_fault, functions_fault, link_fault, or_later, unless_fault, Gathers, GathersFrom, Links, LinksFrom}
 use Rattle.sf_asm.specs.Order.{are_apart, entry_rows}
-use Rattle.sf_asm.proofs.GatheredInputs.{by_parts, parts_of}
+use Rattle.sf_asm.proofs.ByStart.{by_key, by_key-moved, by_key-rising, by_key-stable}
+use Rattle.sf_asm.proofs.GatheredInputs.{are_read, by_parts, parts_of}
 use Rattle.sf_asm.proofs.Kept.{not_overlapping_apart}
 use Rattle.sf_asm.proofs.Limits.{within_limits, few_functions, few_rows}
 use Rattle.sf_asm.proofs.Machines.{is_one, one_is_unmixed}
@@ -212,12 +213,11 @@ ok_is : (fault : Option LinkFault) (ordered other : List Entry) → Ok ordered �
 ok_is None ordered other e = let is : ordered ≡ other = cc in (refl, sym is)
 ok_is (Some fault) ordered other e = cc
 
-accepted_with : (before : Option Arch) (objects : List Object) (at : ℕ) (functions : List Function) (ordered : List Entry) → functions_of (first_item before) objects ≡ Ok functions → mixed_fault before objects ≡ None → InOrder (map entry_of functions) ordered
-    → link_fault at ordered ≡ None → IsAccepted before objects at
-accepted_with before objects at functions ordered are unmixed order fine =
+gathered_with : (before : Option Arch) (objects : List Object) (functions : List Function) (ordered : List Entry) → functions_of (first_item before) objects ≡ Ok functions → mixed_fault before objects ≡ None → InOrder (map entry_of functions) ordered
+    → functions_fault ordered ≡ None → CanBeGathered before objects
+gathered_with before objects functions ordered are unmixed order fine =
     let one = is_one (machines_of before objects) unmixed in
-    let two = none_of (option_map link.Gather (functions_fault ordered)) (option_map link.OutOfReach (first_out_of_reach at 0 (kept_of ordered))) fine in
-    let checks = none_of (limits_fault ordered) (option_map overlap_fault (overlap_in (spans_of ordered))) (no_mapped link.Gather (functions_fault ordered) two.0) in
+    let checks = none_of (limits_fault ordered) (option_map overlap_fault (overlap_in (spans_of ordered))) fine in
     let count = length_permutation (map entry_of functions) ordered order.moved in
     let few = few_functions ordered checks.0 in
     let same = sum_by-IsPermutation entry_rows (map entry_of functions) ordered order.moved in
@@ -231,6 +231,15 @@ accepted_with before objects at functions ordered are unmixed order fine =
       few = (let mapped = length-map functions entry_of in omega (arith, count, few, mapped));
       few_rows = omega (arith, same, rows);
       apart = λ address. (let most = one_at_most address 0 ordered apart in let moved = sum_by-IsPermutation (one_at address) (map entry_of functions) ordered order.moved in omega (arith, most, moved));
+    }
+
+accepted_with : (before : Option Arch) (objects : List Object) (at : ℕ) (functions : List Function) (ordered : List Entry) → functions_of (first_item before) objects ≡ Ok functions → mixed_fault before objects ≡ None → InOrder (map entry_of functions) ordered
+    → link_fault at ordered ≡ None → IsAccepted before objects at
+unfolding gathered_with
+accepted_with before objects at functions ordered are unmixed order fine =
+    let two = none_of (option_map link.Gather (functions_fault ordered)) (option_map link.OutOfReach (first_out_of_reach at 0 (kept_of ordered))) fine in
+    record {
+      gathered = gathered_with before objects functions ordered are unmixed order (no_mapped link.Gather (functions_fault ordered) two.0);
       ordered = ordered;
       in_order = order;
       near = no_mapped link.OutOfReach (first_out_of_reach at 0 (kept_of ordered)) two.1;
@@ -246,22 +255,63 @@ accepted_from before objects at (Err fault) ordered e is = cc
 pub links_accepted : (before : Option Arch) (objects : List Object) (at : ℕ) (ordered : List Entry) → Links before objects at (Ok ordered) → IsAccepted before objects at
 links_accepted before objects at ordered h = accepted_from before objects at (all_functions before objects) ordered refl h
 
-fine_in_order : (at : ℕ) (functions : List Function) (ordered : List Entry) → InOrder (map entry_of functions) ordered → length functions ≤ 2 ^ 21 → sum_by entry_rows (map entry_of functions) ≤ 2 ^ 24
-    → ((address : ℕ) → how_many_at address (map entry_of functions) ≤ 1) → first_out_of_reach at 0 (kept_of ordered) ≡ None → link_fault at ordered ≡ None
-fine_in_order at functions ordered order few rows apart near =
+fine_in_order : (functions : List Function) (ordered : List Entry) → InOrder (map entry_of functions) ordered → length functions ≤ 2 ^ 21 → sum_by entry_rows (map entry_of functions) ≤ 2 ^ 24
+    → ((address : ℕ) → how_many_at address (map entry_of functions) ≤ 1) → functions_fault ordered ≡ None
+fine_in_order functions ordered order few rows apart =
     let count = length_permutation (map entry_of functions) ordered order.moved in
     let mapped = length-map functions entry_of in
     let same = sum_by-IsPermutation entry_rows (map entry_of functions) ordered order.moved in
     let limits = within_limits ordered (omega (arith, count, few, mapped)) (omega (arith, same, rows)) in
     let alone = no_overlap ordered order.rising (λ address. (let most = apart address in let moved = sum_by-IsPermutation (one_at address) (map entry_of functions) ordered order.moved in omega (arith, most, moved))) in
-    ap (λ (x : Option GatherFault). or_later (option_map link.Gather (or_later x (option_map overlap_fault (overlap_in (spans_of ordered))))) (option_map link.OutOfReach (first_out_of_reach at 0 (kept_of ordered)))) limits
-    ∙ ap (λ (x : Option (Span × Span)). or_later (option_map link.Gather (option_map overlap_fault x)) (option_map link.OutOfReach (first_out_of_reach at 0 (kept_of ordered)))) alone
-    ∙ ap (option_map link.OutOfReach) near
+    ap (λ (x : Option GatherFault). or_later x (option_map overlap_fault (overlap_in (spans_of ordered)))) limits
+    ∙ ap (option_map overlap_fault) alone
+
+-- what is read of inputs that can be gathered
+read_all : (before : Option Arch) (objects : List Object) (h : CanBeGathered before objects) → all_functions before objects ≡ Ok h.functions
+read_all before objects h =
+    ap (λ (given : Result (List Function) GatherFault). by_parts given (mixed_fault before objects)) h.are
+    ∙ ap (λ (mixed : Option GatherFault). by_parts (Ok h.functions) mixed) (one_is_unmixed h.arch (machines_of before objects) h.machine)
 
 pub accepted_links : (before : Option Arch) (objects : List Object) (at : ℕ) (h : IsAccepted before objects at) → Links before objects at (Ok h.ordered)
 accepted_links before objects at h =
-    let fine = fine_in_order at h.functions h.ordered h.in_order h.few h.few_rows h.apart h.near in
-    let read : all_functions before objects ≡ Ok h.functions = ap (λ (given : Result (List Function) GatherFault). by_parts given (mixed_fault before objects)) h.are
-    ∙ ap (λ (mixed : Option GatherFault). by_parts (Ok h.functions) mixed) (one_is_unmixed h.arch (machines_of before objects) h.machine) in
-    subst (λ (given : Result (List Function) GatherFault). LinksFrom at given (Ok h.ordered)) (sym read)
+    let g = h.gathered in
+    let fine : link_fault at h.ordered ≡ None =
+    ap (λ (x : Option GatherFault). or_later (option_map link.Gather x) (option_map link.OutOfReach (first_out_of_reach at 0 (kept_of h.ordered)))) (fine_in_order g.functions h.ordered h.in_order g.few g.few_rows g.apart)
+    ∙ ap (option_map link.OutOfReach) h.near in
+    subst (λ (given : Result (List Function) GatherFault). LinksFrom at given (Ok h.ordered)) (sym (read_all before objects g))
     (h.ordered, h.in_order, sym (ap (λ (x : Option LinkFault). unless_fault x h.ordered) fine))
+
+-- ---- gathering
+entries_in_order : (functions : List Function) → InOrder (map entry_of functions) (by_key start_of (map entry_of functions))
+entries_in_order functions = record {
+  moved = by_key-moved start_of (map entry_of functions);
+  rising = by_key-rising start_of (map entry_of functions);
+  stable = λ e. by_key-stable start_of e (map entry_of functions);
+}
+
+pub are_gathered : (before : Option Arch) (objects : List Object) → CanBeGathered before objects → (ordered : List Entry) × Gathers before objects (Ok ordered)
+are_gathered before objects h =
+    let ordered : List Entry = by_key start_of (map entry_of h.functions) in
+    let order = entries_in_order h.functions in
+    let fine = fine_in_order h.functions ordered order h.few h.few_rows h.apart in (
+      ordered,
+      subst (λ (given : Result (List Function) GatherFault). GathersFrom given (Ok ordered)) (sym (read_all before objects h))
+          (ordered, order, sym (ap (λ (x : Option GatherFault). unless_fault x ordered) fine)),
+    )
+
+pub gathered_can_be : (before : Option Arch) (objects : List Object) (ordered : List Entry) → Gathers before objects (Ok ordered) → CanBeGathered before objects
+gathered_can_be before objects ordered h =
+    let read = are_read before objects ordered h in
+    gathered_with before objects read.functions ordered read.are read.one read.in_order read.checked
+
+ok_is_no_fault : (ordered : List Entry) (fault : GatherFault) → Err fault ≡ unless_fault None ordered → ⊥
+ok_is_no_fault ordered fault e = cc
+
+refused_by : (functions : List Function) (fault : GatherFault) → length functions ≤ 2 ^ 21 → sum_by entry_rows (map entry_of functions) ≤ 2 ^ 24 → ((address : ℕ) → how_many_at address (map entry_of functions) ≤ 1)
+    → GathersFrom (Ok functions) (Err fault) → ⊥
+refused_by functions fault few rows apart (ordered, order, is) =
+    ok_is_no_fault ordered fault (is ∙ ap (λ (x : Option GatherFault). unless_fault x ordered) (fine_in_order functions ordered order few rows apart))
+
+pub none_refused : (before : Option Arch) (objects : List Object) (fault : GatherFault) → CanBeGathered before objects → Gathers before objects (Err fault) → ⊥
+none_refused before objects fault h is =
+    refused_by h.functions fault h.few h.few_rows h.apart (subst (λ (given : Result (List Function) GatherFault). GathersFrom given (Err fault)) (read_all before objects h) is)

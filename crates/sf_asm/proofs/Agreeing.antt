@@ -39,10 +39,10 @@ use Rattle.sf_asm.proofs.Finding.{Member, OnePasses, found_alike}
 use Rattle.sf_asm.proofs.Kept.{not_overlapping_apart}
 
 -- ---- the kept function at an address, among the functions
-abbrev expressed_of : Function → Func
+abbrev pub expressed_of : Function → Func
 expressed_of f = expressed (facts_of f) (says_of f)
 
-find_kept : (pc : ℕ) (fs : List Function) → find (contains pc) (kept_of (map entry_of fs)) ≡ option_map expressed_of (find (holds_address pc) (kept_functions fs))
+pub find_kept : (pc : ℕ) (fs : List Function) → find (contains pc) (kept_of (map entry_of fs)) ≡ option_map expressed_of (find (holds_address pc) (kept_functions fs))
 unfolding function_of
 find_kept pc [] = refl
 find_kept pc (f ∷ fs) = at_omission (omission_of f.arch (facts_of f) (says_of f)) refl (find_kept pc fs)
@@ -241,7 +241,7 @@ function_recovers f pc regs memory kept holds =
     recovered_row f (pc - f.start) (row_at (pc - f.start) (rows_of (says_of f) f.size)) (says_of f (pc - f.start)) regs memory (kept_column f none) refl (fine (pc - f.start) lt) (row_said (says_of f) f.size fine (pc - f.start) lt)
 
 -- what passes a search
-found_passes : (p q : Function → Bool) (fs : List Function) (f : Function) → find p (filter q fs) ≡ Some f → (p f ≡ true) × (q f ≡ true)
+pub found_passes : (p q : Function → Bool) (fs : List Function) (f : Function) → find p (filter q fs) ≡ Some f → (p f ≡ true) × (q f ≡ true)
 found_passes p q [] f e = cc
 found_passes p q (g ∷ fs) f e = at_second (q g) refl e (found_passes p q fs f)
   where

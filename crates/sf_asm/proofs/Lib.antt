@@ -24,3 +24,7 @@ pub mod MadeRows
 pub mod Lending
 pub mod ByStart
 pub mod OneMachine
+pub mod Members
+pub mod Holding
+pub mod SaidPieces
+pub mod RowAt

@@ -1,5 +1,5 @@
--- Which inputs can be linked: all their functions can be read and run, they are of one machine and within the limits, no address lies in
--- two of them, and each kept one is near enough to the section.
+-- Which inputs can be gathered: all their functions can be read and run, they are of one machine and within the limits, and no address
+-- lies in two of them. And which can be linked: each kept function is near enough to the section too.
 use Rattle.std.specs.Prelude.{◌≡◌, ◌≤◌, ◌+◌, ◌^◌, ◌&&◌, ℕ, Bool, nat_le, nat_lt, List, map, length, sum_by, Option, None, Ok, if◌then◌else◌}
 use Rattle.sf_model.specs.declared.machine.Arch.{Arch}
 use Rattle.sf_model.specs.declared.omission.Span.{Span}
@@ -20,8 +20,8 @@ has_address address span = nat_le span.start address && nat_lt address (span.sta
 abbrev pub how_many_at : (address : ℕ) → List Entry → ℕ
 how_many_at address entries = sum_by (λ (e : Entry). if has_address address e.span then 1 else 0) entries
 
--- inputs, behind an item of this machine or of none, that can be linked for a section at this address
-pub record IsAccepted (before : Option Arch) (objects : List Object) (at : ℕ) : Type 0 where
+-- inputs, behind an item of this machine or of none, that can be gathered
+pub record CanBeGathered (before : Option Arch) (objects : List Object) : Type 0 where
   pub functions : List Function
   -- none is malformed
   pub are : functions_of (first_item before) objects ≡ Ok functions
@@ -33,7 +33,11 @@ pub record IsAccepted (before : Option Arch) (objects : List Object) (at : ℕ) 
   pub few_rows : sum_by entry_rows (map entry_of functions) ≤ 2 ^ 24
   -- each address lies in one of them at most
   pub apart : (address : ℕ) → how_many_at address (map entry_of functions) ≤ 1
+
+-- those that can be linked for a section at this address
+pub record IsAccepted (before : Option Arch) (objects : List Object) (at : ℕ) : Type 0 where
+  pub gathered : CanBeGathered before objects
   -- the kept ones by rising start are within reach
   pub ordered : List Entry
-  pub in_order : InOrder (map entry_of functions) ordered
+  pub in_order : InOrder (map entry_of gathered.functions) ordered
   pub near : first_out_of_reach at 0 (kept_of ordered) ≡ None

@@ -17,3 +17,4 @@ pub mod Seen
 pub mod Placing
 pub mod Accepted
 pub mod Sources
+pub mod Said

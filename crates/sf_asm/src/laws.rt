@@ -9,7 +9,7 @@ ghost use Rattle.sf_model.specs.Walk.{ThreadState, recover_by_rows, section_walk
 ghost use Rattle.sf_express.specs.Alike.{defined};
 ghost use Rattle.sf_asm.specs.declared.entry.Entry.{Entry};
 ghost use Rattle.sf_asm.specs.declared.fault.LinkFault.{LinkFault};
-ghost use Rattle.sf_asm.specs.Accepted.{IsAccepted};
+ghost use Rattle.sf_asm.specs.Accepted.{CanBeGathered, IsAccepted};
 ghost use Rattle.sf_asm.specs.Entry.{kept_of, spans_of};
 ghost use Rattle.eh_records.specs.Step.{PointerField};
 ghost use Rattle.elf_place.specs.Views.{Placing};
@@ -18,7 +18,7 @@ ghost use Rattle.sf_asm.specs.Relocated.{applied_by, pointer_slot};
 ghost use Rattle.sf_asm.specs.Faithful.{dwarf_walk, recovered_at};
 ghost use Rattle.sf_asm.specs.Functions.{Function, Object};
 ghost use Rattle.sf_asm.specs.Kept.{entry_of};
-ghost use Rattle.sf_asm.specs.Linking.{InOrder, Links, overlap_in};
+ghost use Rattle.sf_asm.specs.Linking.{Gathers, InOrder, Links, overlap_in};
 
 /// Where no two functions overlap, the kept ones by rising start recover at each address what DWARF's rules
 /// (DWARF 5, section 6.4.1) recover there in the kept function that has the address, and nothing where none
@@ -41,6 +41,12 @@ pub fn linking_comes_to_one_result()
 pub fn accepted_inputs_are_linked()
     ensures links { (before : Option Arch) (objects : List Object) (at : ℕ) (h : IsAccepted before objects at) → Links before objects at (Ok h.ordered) }
     ensures only { (before : Option Arch) (objects : List Object) (at : ℕ) (ordered : List Entry) → Links before objects at (Ok ordered) → IsAccepted before objects at }
+{}
+
+/// Inputs can be gathered exactly where gathering them comes to functions in order.
+pub fn inputs_that_can_be_gathered_are()
+    ensures gathers { (before : Option Arch) (objects : List Object) → CanBeGathered before objects → (ordered : List Entry) × Gathers before objects (Ok ordered) }
+    ensures only { (before : Option Arch) (objects : List Object) (ordered : List Entry) → Gathers before objects (Ok ordered) → CanBeGathered before objects }
 {}
 
 /// What the relocations of a section write over its pointer fields is what applying them to it comes to: the

@@ -4,15 +4,18 @@
 //! sorts out what SFrame Version 2 can express: the functions that are kept, a list for each input by rising
 //! start, the functions that are left out, with their reasons, and the addresses of all. [`gather_together`]
 //! makes one list of the functions that are kept; [`gather_with_sources`] also lends the functions that are left
-//! out as their records say them. [`assemble`] writes the section of one input. An input has fewer than 2^32
-//! bytes. All four allocate; no section is copied.
+//! out as their records say them. [`row_at`] says what call frame information says at an address, in any of the
+//! functions. [`assemble`] writes the section of one input. An input has fewer than 2^32 bytes. All five
+//! allocate; no section is copied.
 //!
-//! [`kept_functions_recover_alike`], [`walks_are_alike`], [`linking_comes_to_one_result`] and
-//! [`accepted_inputs_are_linked`] are laws: the kept functions recover what DWARF recovers, walks over them are
-//! walks by DWARF, what linking comes to is determined by the inputs, and it is a section exactly where they
-//! can be linked.
+//! [`kept_functions_recover_alike`], [`walks_are_alike`], [`linking_comes_to_one_result`],
+//! [`accepted_inputs_are_linked`] and [`inputs_that_can_be_gathered_are`] are laws: the kept functions recover
+//! what DWARF recovers, walks over them are walks by DWARF, what linking comes to is determined by the inputs,
+//! it is a section exactly where they can be linked, and gathering them comes to functions exactly where they
+//! can be gathered.
 #![tactic(auto)]
 
+mod address;
 mod assembling;
 mod elf;
 mod entry;
@@ -25,19 +28,27 @@ mod inputs;
 mod laws;
 mod notices;
 mod overlay;
+mod pieces;
 mod reading;
+mod said;
 mod section;
 mod source;
 
+pub use address::row_at;
 pub use assembling::{Linked, assemble};
 pub use fault::{AsmFault, GatherFault, LinkFault};
 pub use gathering::{
     Gathered, Together, WithSources, gather, gather_together, gather_with_sources,
 };
 pub use input::Input;
-pub use sf_model::Form;
 pub use laws::{
-    accepted_inputs_are_linked, kept_functions_recover_alike, linking_comes_to_one_result,
-    relocations_of_sections_are_applied, walks_are_alike,
+    accepted_inputs_are_linked, inputs_that_can_be_gathered_are, kept_functions_recover_alike,
+    linking_comes_to_one_result, relocations_of_sections_are_applied, walks_are_alike,
 };
+pub use pieces::pieces_said;
+pub use said::Said;
+pub use sf_model::Form;
 pub use source::Source;
+
+#[cfg(test)]
+mod tests;

@@ -91,7 +91,7 @@ abbrev pub SaysContent : Result Content Reason → Type 0
 SaysContent (Ok c) = Unit {0}
 SaysContent (Err reason) = ⊥
 
-content_said : (x : Result Content Reason) → SaysContent x → (c : Content) × (x ≡ Ok c)
+pub content_said : (x : Result Content Reason) → SaysContent x → (c : Content) × (x ≡ Ok c)
 content_said (Ok c) h = (c, refl)
 content_said (Err reason) h = absurd h
 
@@ -101,14 +101,14 @@ same_said (Ok c) (Err reason) true e f = cc
 same_said (Err reason) y true e f = cc
 same_said x y false e f = cc
 
-found_before : (says : Saying) (a : ℕ) (found : Option Content) → FoundBefore says a found → begins says a ≡ false → as_said found ≡ Some (says a)
+pub found_before : (says : Saying) (a : ℕ) (found : Option Content) → FoundBefore says a found → begins says a ≡ false → as_said found ≡ Some (says a)
 found_before says zero found before e = cc
 found_before says (suc a) found before e = before ∙ ap (λ (x : Result Content Reason). Some x) (same_said (says a) (says (suc a)) (say_the_same (says a) (says (suc a))) refl e)
 
 taken : (o a : ℕ) (c : Content) (found : Option Content) (rows : List Row) → a ≤ o → latest_content o found (record { start = a; content = c } ∷ rows) ≡ latest_content o (Some c) rows
 taken o a c found rows le = ap (λ (b : Bool). latest_content o (cond b (Some c) found) rows) (le-leb a o le)
 
-latest_said : (says : Saying) (a n : ℕ) (found : Option Content) → FoundBefore says a found → ((o : ℕ) → a ≤ o → o < a + n → SaysContent (says o))
+pub latest_said : (says : Saying) (a n : ℕ) (found : Option Content) → FoundBefore says a found → ((o : ℕ) → a ≤ o → o < a + n → SaysContent (says o))
     → (o : ℕ) → a ≤ o → o < a + n → as_said (latest_content o found (rows_among says (range_with_len a n))) ≡ Some (says o)
 latest_said says a zero found before all o le lt = absurd (omega (arith, le, lt))
 latest_said says a (suc n) found before all o le lt =

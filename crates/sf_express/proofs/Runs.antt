@@ -31,7 +31,7 @@ ok_says : (found : Option Content) (said : Result Content Reason) → as_said fo
 ok_says (Some c) said e = (c, refl, cc)
 ok_says None said e = cc
 
-begins_not : (says : Saying) (a : ℕ) (found : Option Content) → FoundBefore says a found → as_said found ≡ Some (says a) → begins says a ≡ false
+pub begins_not : (says : Saying) (a : ℕ) (found : Option Content) → FoundBefore says a found → as_said found ≡ Some (says a) → begins says a ≡ false
 begins_not says zero found before e = let there = ok_says found (says zero) e in cc
 begins_not says (suc a) found before e =
     let there = ok_says found (says (suc a)) e in

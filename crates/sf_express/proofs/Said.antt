@@ -20,9 +20,10 @@ use Rattle.sf_express.specs.declared.pieces.Piece.{Piece}
 use Rattle.sf_express.specs.Expressed.{same_content}
 use Rattle.sf_express.specs.Offsets.{said, said_at}
 use Rattle.sf_express.specs.Parts.{content_of}
-use Rattle.sf_express.specs.Pieces.{ArePieces, PiecesBegin, PiecesRise, PiecesSay, content_in, piece_of, pieces_of, said_by, same_saying, says_again, unless_again}
+use Rattle.sf_express.specs.Pieces.{ArePieces, AreSaidBy, PiecesBegin, PiecesDiffer, PiecesRise, PiecesSay, content_in, piece_of, pieces_of, said_by, same_saying, says_again, unless_again}
 use Rattle.sf_express.specs.Run.{on_rows}
 use Rattle.sf_express.specs.Runs.{AreSaid, Saying}
+use Rattle.sf_express.proofs.Changes.{content_itself}
 use Rattle.sf_express.proofs.Same.{content_same}
 
 -- ---- made one after the other
@@ -164,6 +165,35 @@ are_pieces arch size rows some h = record {
   below = pieces_below arch size None rows h.below;
 }
 
+-- ---- neighbours differ
+says_itself : (said : Option Content) → same_saying said said ≡ true
+says_itself None = refl
+says_itself (Some c) = content_itself c
+
+not_again : (last : Option (Option Content)) (content : Option Content) → says_again last content ≡ false → last ≡ Some content → ⊥
+not_again None content e is = cc
+not_again (Some last) content e is =
+    let one : last ≡ content = cc in
+    let never : true ≡ false = sym (says_itself last) ∙ ap (same_saying last) one ∙ e in
+    cc
+
+pub pieces_differ : (arch : Arch) (last : Option (Option Content)) (rows : List DwRow) → PiecesDiffer last (pieces_of arch last rows)
+unfolding pieces_of
+pieces_differ arch last [] = tt
+pieces_differ arch last (r ∷ rows) = at_test (says_again last (content_in (content_of arch r))) refl (pieces_differ arch (Some (content_in (content_of arch r))) rows)
+  where
+    at_test : (b : Bool) → says_again last (content_in (content_of arch r)) ≡ b → PiecesDiffer (Some (content_in (content_of arch r))) (pieces_of arch (Some (content_in (content_of arch r))) rows)
+        → PiecesDiffer last (cond b (pieces_of arch (Some (content_in (content_of arch r))) rows) (piece_of arch r ∷ pieces_of arch (Some (content_in (content_of arch r))) rows))
+    at_test true t rest = subst (λ (x : Option (Option Content)). PiecesDiffer x (pieces_of arch (Some (content_in (content_of arch r))) rows)) (sym (again_is last (content_in (content_of arch r)) t)) rest
+    at_test false t rest = (not_again last (content_in (content_of arch r)) t, rest)
+
+pub are_said_by : (arch : Arch) (size : ℕ) (rows : List DwRow) (says : Saying) → 0 < size → AreRows arch size rows → AreSaid arch size rows says → AreSaidBy size (λ o. content_in (says o)) (pieces_of arch None rows)
+are_said_by arch size rows says some h said = record {
+  are = are_pieces arch size rows some h;
+  say = pieces_say arch size rows says h.rise said;
+  differ = pieces_differ arch None rows;
+}
+
 -- ---- the piece at a place
 first_least : (least : ℕ) (pieces : List Piece) (i : ℕ) (d : Piece) → PiecesRise least pieces → i < length pieces → least ≤ (get_or pieces i d).start
 first_least least [] i d h lt = absurd (omega (arith, lt))
@@ -201,3 +231,11 @@ next_after pieces i d h lt = go 0 pieces i h lt
     go least (p ∷ pieces) (suc i) h lt =
         let same : suc (i + 1) ≡ suc i + 1 = omega arith in
         subst (λ (k : ℕ). (get_or pieces i d).start < (get_or (p ∷ pieces) k d).start) same (go (p.start + 1) pieces i h.1 (omega (arith, lt)))
+
+pub next_differs : (last : Option (Option Content)) (pieces : List Piece) (i : ℕ) (d : Piece) → PiecesDiffer last pieces → i + 1 < length pieces → (get_or pieces i d).content ≡ (get_or pieces (i + 1) d).content → ⊥
+next_differs last [] i d h lt same = absurd (omega (arith, lt))
+next_differs last (p ∷ []) i d h lt same = absurd (omega (arith, lt))
+next_differs last (p ∷ q ∷ pieces) zero d h lt same = h.1.0 (ap (λ (x : Option Content). Some x) same)
+next_differs last (p ∷ q ∷ pieces) (suc i) d h lt same =
+    let next : suc i + 1 ≡ suc (i + 1) = omega arith in
+    next_differs (Some p.content) (q ∷ pieces) i d h.1 (omega (arith, lt)) (same ∙ ap (λ (k : ℕ). (get_or (p ∷ q ∷ pieces) k d).content) next)

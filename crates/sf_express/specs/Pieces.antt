@@ -1,10 +1,11 @@
 -- What a function's rows say from offset to offset, where SFrame Version 2 has a form for it (GNU SFrame specification, "SFrame Frame
 -- Row Entries"): also of a function that is omitted, since a reason against one row is none against another.
-use Rattle.std.specs.Prelude.{◌≡◌, ◌+◌, ◌<◌, ◌≤◌, ℕ, nat_le, Bool, true, false, List, [], ◌∷◌, Option, Some, None, Result, Ok, Err, if◌then◌else◌}
+use Rattle.std.specs.Prelude.{◌≡◌, ◌≢◌, ◌+◌, ◌<◌, ◌≤◌, ℕ, nat_le, Bool, true, false, List, [], ◌∷◌, Option, Some, None, Result, Ok, Err, if◌then◌else◌}
 use Rattle.std.specs.List.{All}
 use Rattle.sf_model.specs.declared.machine.Arch.{Arch}
 use Rattle.sf_model.specs.declared.content.Content.{Content}
 use Rattle.sf_model.specs.declared.omission.Reason.{Reason}
+use Rattle.sf_model.specs.declared.rows.Row.{Row}
 use Rattle.cfa_machine.specs.declared.row.DwRow.{DwRow}
 use Rattle.sf_express.specs.declared.pieces.Piece.{Piece}
 use Rattle.sf_express.specs.Expressed.{same_content}
@@ -47,6 +48,10 @@ unfoldable pub pieces_of : Arch → (last : Option (Option Content)) → List Dw
 pieces_of arch last [] = []
 pieces_of arch last (row ∷ rows) = unless_again last (piece_of arch row) (pieces_of arch (Some (content_in (content_of arch row))) rows)
 
+-- a row of a section as a piece
+abbrev pub piece_of_row : Row → Piece
+piece_of_row row = record { start = row.start; content = Some row.content }
+
 -- ---- which lists of pieces there are
 -- each start is at least the given one, and above the start before
 abbrev pub PiecesRise : (least : ℕ) → List Piece → Type 0
@@ -63,3 +68,14 @@ pub record ArePieces (size : ℕ) (pieces : List Piece) : Type 0 where
   pub first : PiecesBegin pieces
   pub rise : PiecesRise 0 pieces
   pub below : All (λ (p : Piece). p.start < size) pieces
+
+-- no piece says what the one before it says
+abbrev pub PiecesDiffer : (last : Option (Option Content)) → List Piece → Type 0
+PiecesDiffer last [] = Unit {0}
+PiecesDiffer last (p ∷ pieces) = (last ≢ Some p.content) × PiecesDiffer (Some p.content) pieces
+
+-- what is said in a function of this size, which is not 0, with a piece where something else is said than before
+pub record AreSaidBy (size : ℕ) (says : (offset : ℕ) → Option Content) (pieces : List Piece) : Type 0 where
+  pub are : ArePieces size pieces
+  pub say : PiecesSay size pieces says
+  pub differ : PiecesDiffer None pieces

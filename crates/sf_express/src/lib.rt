@@ -21,7 +21,7 @@ mod run;
 
 pub use fault::ExpressFault;
 pub use function::express;
-pub use pieces::{Piece, piece_at, pieces_run};
+pub use pieces::{Piece, piece_at, pieces_of_rows, pieces_run};
 pub use recovery::{functions_recover_alike, rows_recover_alike};
 pub use row::content;
 pub use run::express_run;

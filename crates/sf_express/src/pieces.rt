@@ -1,19 +1,19 @@
 //! What a function's rows say from offset to offset, kept or omitted.
 
-ghost use Rattle.std.specs.Prelude.{◌≡◌, ◌≤◌, ◌<◌, ◌+◌, ◌++◌, [], ℕ, get_or, length, None, Some, OnOk};
+ghost use Rattle.std.specs.Prelude.{◌≡◌, ◌≢◌, ◌≤◌, ◌<◌, ◌+◌, ◌++◌, [], ℕ, get_or, length, map, None, Some, OnOk, IfOk};
 ghost use Rattle.cfa_machine.specs.Columns.{row_from};
 ghost use Rattle.cfa_machine.specs.Left.{present, rows_left};
 ghost use Rattle.cfa_machine.specs.Pass.{Gives};
 ghost use Rattle.sf_express.specs.declared.pieces.Piece.{Piece as piece};
 ghost use Rattle.sf_express.specs.Parts.{content_of};
 ghost use Rattle.sf_express.specs.Pieces as spec;
-ghost use Rattle.sf_express.specs.Pieces.{ArePieces, said_by};
+ghost use Rattle.sf_express.specs.Pieces.{ArePieces, PiecesDiffer, said_by};
 ghost use Rattle.sf_express.specs.Run.{on_rows};
 
 use crate::function::is_same;
 use crate::row::content_at;
 use cfa_machine::{MachineFault, Runner};
-use sf_model::{Arch, Content};
+use sf_model::{Arch, Content, Row};
 use std::alloc::{AllocError, Global};
 
 /// From an offset up to the next piece, what a function's rows say, where SFrame has a form for it.
@@ -96,6 +96,20 @@ pub fn pieces_run(
     Ok(pieces)
 }
 
+/// The rows of a section's function as pieces.
+pub fn pieces_of_rows(alloc: Global, rows: &[Row]) -> Result<Vec<Piece>, AllocError>
+    ensures { IfOk result (λ pieces. pieces.items ≡ map spec.piece_of_row rows.now) }
+{
+    let mut pieces = Vec::new(alloc);
+    for row in rows {
+        pieces.push(Piece {
+            start: u64::from(row.start),
+            content: Some(row.content),
+        })?;
+    }
+    Ok(pieces)
+}
+
 // The place of the last piece that begins by an offset. The first one does.
 fn last_begun(pieces: &[Piece], offset: u64) -> usize
     requires some { 0 < length pieces.now }
@@ -125,6 +139,7 @@ pub fn piece_at(pieces: &[Piece], size: u64, offset: u64) -> (Option<Content>, u
     ensures from { offset ≤ result.1 }
     ensures within { result.1 < size }
     ensures says { (o : ℕ) → offset ≤ o → o ≤ result.1 → said_by o None pieces.now ≡ Some result.0 }
+    ensures after { PiecesDiffer None pieces.now → result.1 + 1 < size → said_by (result.1 + 1) None pieces.now ≢ Some result.0 }
 {
     let place = last_begun(pieces, offset);
     let end = if place + 1 < pieces.len() {

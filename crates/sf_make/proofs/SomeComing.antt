@@ -219,7 +219,7 @@ some_linked_section : (before : Option Arch) (objects : List Object) (at : ℕ) 
 some_linked_section before objects at entries h =
     let were = were_gathered at (all_functions before objects) entries h in
     let read = are_read before objects entries were.gathered in
-    let accepted = links_accepted before objects at entries h in
+    let accepted = (links_accepted before objects at entries h).gathered in
     let arch = accepted.arch in
     let functions = functions_read arch (first_item before) objects read.functions (inputs_have before objects arch accepted.machine) read.are in
     let sound = All-permutation (IsSound arch) (map entry_of read.functions) entries read.in_order.moved

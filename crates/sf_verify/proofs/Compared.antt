@@ -15,12 +15,12 @@ use Rattle.sf_model.specs.Function.{RowsRise}
 use Rattle.sf_model.specs.Lookup.{row_at}
 use Rattle.sf_verify.specs.declared.dwarf.Dwarf.{Dwarf}
 use Rattle.sf_verify.specs.declared.dwarf.Known.{Known}
-use Rattle.sf_verify.specs.declared.said.Said.{Said}
+use Rattle.sf_asm.specs.declared.said.Said.{Said}
 use Rattle.sf_verify.specs.declared.sweep.Difference.{Difference}
 use Rattle.sf_verify.specs.Agreement.{Agree, RecoverAlike, content_said, is_plain, is_plain_shape}
 use Rattle.sf_verify.specs.Asking.{AreHolders, IsHeld, IsKnown, IsReady, IsSame, Knows, says}
 use Rattle.sf_verify.specs.Comparing.{Compares, DifferWithin, edge, edge_of, func_says}
-use Rattle.sf_verify.specs.Said.{Answers, with_key}
+use Rattle.sf_asm.specs.Said.{Answers, with_key}
 use Rattle.sf_verify.proofs.Holding.{plain_says}
 use Rattle.sf_verify.proofs.Rows.{no_row_at_all, no_row_before, row_at_place}
 

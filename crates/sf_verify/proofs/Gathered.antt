@@ -1,11 +1,10 @@
 -- What the gathered functions of inputs say at each address, in the two lists of kept and omitted ones.
-use Rattle.std.specs.Prelude.{◌⊎◌, is_none, nat_le, nat_lt, not}
-use Rattle.std.specs.List.{All, cons_option, filter, filter_map, find, range_with_len, AllPairs, Contains}
+use Rattle.std.specs.Prelude.{nat_le, nat_lt, not}
+use Rattle.std.specs.List.{All, cons_option, filter, filter_map, find, range_with_len}
 use Rattle.std.specs.List.Sorted.{IsPermutation, IsNonDecreasingBy}
 use Rattle.std.specs.Option.{option_and_then, option_map}
 use Rattle.std.proofs.Common.{◌≡◌, ℕ, zero, suc, ◌+◌, ◌-◌, ◌^◌, ◌<◌, ◌≤◌, Bool, true, false, cond, ◌&&◌, ◌==◌, eqb, leb, List, [], ◌∷◌, get_or, length, map, Option, Some, None, Result, Ok, Err, refl, sym, ap, subst, ◌∙◌, arith, inl, inr}
-use Rattle.std.proofs.lemmas.Bool.{cases_lt, leb-true, ltb-true, le-leb, lt-ltb, eqb-true}
-use Rattle.std.proofs.lemmas.Bool.Decides.{nat_tests}
+use Rattle.std.proofs.lemmas.Bool.{leb-true, ltb-true, le-leb, lt-ltb}
 use Rattle.std.proofs.lemmas.List.{length-map}
 use Rattle.std.proofs.lemmas.List.Elements.{All-nil, All-cons, All-head, All-tail, All-filter, All-map, filter_passes}
 use Rattle.std.proofs.lemmas.List.Kept.{IsNonDecreasingBy-filter}
@@ -16,15 +15,13 @@ use Rattle.sf_model.specs.declared.function.Shape.TheVariants.{Plain}
 use Rattle.sf_model.specs.declared.machine.Arch.{Arch}
 use Rattle.sf_model.specs.declared.omission.Omission.{Omission}
 use Rattle.sf_model.specs.declared.omission.Reason.{Reason}
-use Rattle.sf_model.specs.declared.omission.Reason.TheVariants.{EmptyRange, SizeTooLarge, ReturnColumn, SignalFrame}
 use Rattle.sf_model.specs.declared.rows.Row.{Row}
 use Rattle.sf_model.specs.Function.{AreWritable, IsWritable}
 use Rattle.sf_model.specs.Lookup.{contains, row_at}
-use Rattle.sf_express.specs.Expressed.{column_of, reason_of}
 use Rattle.sf_express.specs.Offsets.{as_said}
 use Rattle.sf_express.specs.Pieces.{content_in}
-use Rattle.sf_express.specs.Runs.{Saying, against, begins, expressed, first_against, function_of, omission_of, or_later, row_there, rows_among, rows_of, unless_omitted, whole_or_row}
-use Rattle.sf_express.proofs.Found.{SaysContent, row_said}
+use Rattle.sf_express.specs.Runs.{Saying, begins, expressed, function_of, omission_of, row_there, rows_among, rows_of}
+use Rattle.sf_express.proofs.Found.{SaysContent, content_said, row_said}
 use Rattle.sf_express.proofs.Runs.{takes}
 use Rattle.sf_asm.specs.declared.source.Source.{Source}
 use Rattle.sf_asm.specs.Entry.{kept_of}
@@ -33,194 +30,15 @@ use Rattle.sf_asm.specs.Functions.{Function}
 use Rattle.sf_asm.specs.Kept.{entry_of, facts_of, is_kept, omitted_functions, says_of}
 use Rattle.sf_asm.specs.Order.{are_apart}
 use Rattle.sf_asm.specs.Sources.{function_start, functions_lent, source_function}
-use Rattle.sf_asm.proofs.Finding.{Member, OnePasses, found_alike, member}
+use Rattle.sf_asm.proofs.Finding.{Member, OnePasses, found_alike}
+use Rattle.sf_asm.proofs.Holding.{IsFine, IsWithin, both, fine, has_form_if, is_within, kept_size, one_holds, within}
+use Rattle.sf_asm.proofs.Members.{all_members, found, found_alone, in_filter, in_map, placed, some_found}
 use Rattle.sf_verify.specs.Asking.{AreHolders, IsRowed, RowsBegin, answers_of, by_holder}
 use Rattle.sf_verify.specs.Comparing.{func_says}
-use Rattle.sf_verify.specs.Said.{Answers, dwarf_at, form_content, has_form, said_in, with_key}
+use Rattle.sf_asm.specs.Said.{Answers, dwarf_at, form_content, said_in, with_key}
 use Rattle.sf_verify.proofs.Holding.{plain_says}
 
--- ---- elements
-all_members : {X : Type 0} (xs : List X) → All (Member xs) xs
-all_members [] = All-nil (Member [])
-all_members {X} (x ∷ xs) = All-cons (Member (x ∷ xs)) x xs (inl refl) (later xs (all_members xs))
-  where
-    later : (ys : List X) → All (Member xs) ys → All (Member (x ∷ xs)) ys
-    later ys h = λ k d lt. inr (h k d lt)
-
-in_filter : {X : Type 0} (p : X → Bool) (xs : List X) (x : X) → p x ≡ true → Member xs x → Member (filter p xs) x
-in_filter p [] x e m = m
-in_filter p (y ∷ ys) x e (inl is) = subst (λ (b : Bool). Member (cond b (y ∷ filter p ys) (filter p ys)) x) (sym (ap p is ∙ e)) (inl is)
-in_filter p (y ∷ ys) x e (inr m) = at_test (p y) (in_filter p ys x e m)
-  where
-    at_test : (b : Bool) → Member (filter p ys) x → Member (cond b (y ∷ filter p ys) (filter p ys)) x
-    at_test true m = inr m
-    at_test false m = m
-
-in_map : {X Y : Type 0} (f : X → Y) (xs : List X) (x : X) → Member xs x → Member (map f xs) (f x)
-in_map f [] x m = m
-in_map f (y ∷ ys) x (inl is) = inl (ap f is)
-in_map f (y ∷ ys) x (inr m) = inr (in_map f ys x m)
-
--- the place of an element
-pub record IsPlaced {X : Type 0} (xs : List X) (x : X) : Type 0 where
-  pub place : ℕ
-  pub within : place < length xs
-  pub is : (d : X) → get_or xs place d ≡ x
-
-pub placed : {X : Type 0} (xs : List X) (x : X) → Member xs x → IsPlaced xs x
-placed [] x m = absurd m
-placed (y ∷ ys) x (inl is) = record { place = 0; within = omega arith; is = λ d. is }
-placed (y ∷ ys) x (inr m) = let h = placed ys x m in record { place = suc h.place; within = omega (arith, h.within); is = h.is }
-
--- the one that passes is found
-record IsFound {X : Type 0} (p : X → Bool) (xs : List X) (x : X) : Type 0 where
-  passes : p x ≡ true
-  within : Member xs x
-
-found : {X : Type 0} (p : X → Bool) (xs : List X) (x : X) → find p xs ≡ Some x → IsFound p xs x
-found p [] x e = cc
-found p (y ∷ ys) x e = at_test (p y) refl e (found p ys x)
-  where
-    at_test : (b : Bool) → p y ≡ b → cond b (Some y) (find p ys) ≡ Some x → (find p ys ≡ Some x → IsFound p ys x) → IsFound p (y ∷ ys) x
-    at_test true t e later = let is : y ≡ x = cc in record { passes = ap p (sym is) ∙ t; within = inl is }
-    at_test false t e later = let h = later e in record { passes = h.passes; within = inr h.within }
-
-some_found : {X : Type 0} (p : X → Bool) (xs : List X) (x : X) → p x ≡ true → Member xs x → find p xs ≡ None → ⊥
-some_found p [] x t m e = m
-some_found p (y ∷ ys) x t (inl is) e = let never = ap (λ (b : Bool). cond b (Some y) (find p ys)) (sym (ap p is ∙ t)) ∙ e in cc
-some_found p (y ∷ ys) x t (inr m) e = at_test (p y) e (some_found p ys x t m)
-  where
-    at_test : (b : Bool) → cond b (Some y) (find p ys) ≡ None → (find p ys ≡ None → ⊥) → ⊥
-    at_test true e later = cc
-    at_test false e later = later e
-
-found_alone : {X : Type 0} (p : X → Bool) (xs : List X) (x : X) → OnePasses p xs → Member xs x → p x ≡ true → find p xs ≡ Some x
-found_alone p xs x one m t = at_result (find p xs) refl
-  where
-    at_result : (r : Option _) → find p xs ≡ r → find p xs ≡ Some x
-    at_result None e = absurd (some_found p xs x t m e)
-    at_result (Some y) e = let h = found p xs y e in e ∙ ap Some (one y x h.within m h.passes t)
-
--- ---- one function has an address
-both : (a b : Bool) → (a && b) ≡ true → (a ≡ true) × (b ≡ true)
-both true b e = (refl, e)
-both false b e = cc
-
-record IsWithin (pc start size : ℕ) : Type 0 where
-  from : start ≤ pc
-  to : pc < start + size
-
-within : (pc : ℕ) (f : Function) → holds_address pc f ≡ true → IsWithin pc f.start f.size
-within pc f e =
-    let two = both (nat_le f.start pc) (nat_lt pc (f.start + f.size)) e in
-    record { from = leb-true f.start pc two.0; to = ltb-true pc (f.start + f.size) two.1 }
-
-is_within : (pc : ℕ) (f : Function) → f.start ≤ pc → pc < f.start + f.size → holds_address pc f ≡ true
-is_within pc f low high = rw (le-leb f.start pc low, lt-ltb pc (f.start + f.size) high) refl
-
--- the test of one function among functions that are apart
-past_one : (end pc start size : ℕ) (rest skipped : Bool) → cond (eqb size 0) skipped (leb end start && rest) ≡ true → IsWithin pc start size → (end ≤ pc) × (rest ≡ true)
-past_one end pc start size rest skipped h w =
-    let some : 0 < size = omega (arith, w.from, w.to) in
-    at_size (eqb size 0) refl some h
-  where
-    at_size : (b : Bool) → eqb size 0 ≡ b → 0 < size → cond b skipped (leb end start && rest) ≡ true → (end ≤ pc) × (rest ≡ true)
-    at_size true t some h = let is : size ≡ 0 = eqb-true size 0 t in absurd (omega (arith, some, is))
-    at_size false t some h = let two = both (leb end start) rest h in (let le = leb-true end start two.0 in omega (arith, le, w.from), two.1)
-
-past_end : (pc end : ℕ) (fs : List Function) → are_apart end (map entry_of fs) ≡ true → (x : Function) → Member fs x → holds_address pc x ≡ true → end ≤ pc
-past_end pc end [] h x m t = absurd m
-past_end pc end (f ∷ fs) h x (inl is) t =
-    (past_one end pc f.start f.size (are_apart (f.start + f.size) (map entry_of fs)) (are_apart end (map entry_of fs)) h (within pc f (ap (holds_address pc) is ∙ t))).0
-past_end pc end (f ∷ fs) h x (inr m) t =
-    at_size (eqb f.size 0) refl h (λ rest. past_end pc end fs rest x m t) (λ rest. past_end pc (f.start + f.size) fs rest x m t)
-  where
-    at_size : (b : Bool) → eqb f.size 0 ≡ b → cond b (are_apart end (map entry_of fs)) (leb end f.start && are_apart (f.start + f.size) (map entry_of fs)) ≡ true
-        → (are_apart end (map entry_of fs) ≡ true → end ≤ pc) → (are_apart (f.start + f.size) (map entry_of fs) ≡ true → f.start + f.size ≤ pc) → end ≤ pc
-    at_size true s h skipped behind = skipped h
-    at_size false s h skipped behind =
-        let two = both (leb end f.start) (are_apart (f.start + f.size) (map entry_of fs)) h in
-        let low = leb-true end f.start two.0 in
-        let high = behind two.1 in
-        omega (arith, low, high)
-
-one_holds : (pc end : ℕ) (fs : List Function) → are_apart end (map entry_of fs) ≡ true → OnePasses (holds_address pc) fs
-one_holds pc end [] h = λ x y m n s t. absurd m
-one_holds pc end (f ∷ fs) h = λ x y m n s t. at_members x y m n s t
-    (at_rest (eqb f.size 0) refl h (λ rest. one_holds pc end fs rest x y) (λ rest. one_holds pc (f.start + f.size) fs rest x y))
-  where
-    at_rest : {T : Type 0} (b : Bool) → eqb f.size 0 ≡ b → cond b (are_apart end (map entry_of fs)) (leb end f.start && are_apart (f.start + f.size) (map entry_of fs)) ≡ true
-        → (are_apart end (map entry_of fs) ≡ true → T) → (are_apart (f.start + f.size) (map entry_of fs) ≡ true → T) → T
-    at_rest true s h skipped behind = skipped h
-    at_rest false s h skipped behind = behind (both (leb end f.start) (are_apart (f.start + f.size) (map entry_of fs)) h).1
-
-    first_and_later : (x y : Function) → f ≡ x → Member fs y → holds_address pc x ≡ true → holds_address pc y ≡ true → ⊥
-    first_and_later x y is m s t =
-        let w = within pc f (ap (holds_address pc) is ∙ s) in
-        let rest = (past_one end pc f.start f.size (are_apart (f.start + f.size) (map entry_of fs)) (are_apart end (map entry_of fs)) h w).1 in
-        let past = past_end pc (f.start + f.size) fs rest y m t in
-        omega (arith, w.to, past)
-
-    at_members : (x y : Function) → Member (f ∷ fs) x → Member (f ∷ fs) y → holds_address pc x ≡ true → holds_address pc y ≡ true
-        → (Member fs x → Member fs y → holds_address pc x ≡ true → holds_address pc y ≡ true → x ≡ y) → x ≡ y
-    at_members x y (inl a) (inl b) s t later = sym a ∙ b
-    at_members x y (inl a) (inr n) s t later = absurd (first_and_later x y a n s t)
-    at_members x y (inr m) (inl b) s t later = absurd (first_and_later y x b m t s)
-    at_members x y (inr m) (inr n) s t later = later m n s t
-
 -- ---- a kept function
-fine_first : (o : ℕ) (x : Result Content Reason) (later : Option Omission) → or_later (against o x) later ≡ None → SaysContent x × (later ≡ None)
-fine_first o (Ok c) later e = (tt, e)
-fine_first o (Err reason) later e = cc
-
-all_fine : (says : Saying) (a n : ℕ) → first_against says (range_with_len a n) ≡ None → (o : ℕ) → a ≤ o → o < a + n → SaysContent (says o)
-all_fine says a zero e o le lt = absurd (omega (arith, le, lt))
-all_fine says a (suc n) e o le lt =
-    let first = fine_first a (says a) (first_against says (range_with_len (a + 1) n)) e in
-    elim (cases_lt a o) [
-      | inl above ↦ all_fine says (a + 1) n first.1 o (omega (arith, above)) (omega (arith, lt))
-      | inr not_above ↦ let is : o ≡ a = omega (arith, le, not_above) in subst (λ (k : ℕ). SaysContent (says k)) (sym is) first.0
-    ]
-
-no_reason : (whole : Option Reason) (row : Option Omission) → whole_or_row whole row ≡ None → (whole ≡ None) × (row ≡ None)
-no_reason None row e = (refl, e)
-no_reason (Some reason) row e = cc
-
-none_is : (o : Option Omission) → is_none o ≡ true → o ≡ None
-none_is None e = refl
-none_is (Some omission) e = cc
-
-record IsFine (f : Function) : Type 0 where
-  whole : reason_of f.arch (facts_of f) ≡ None
-  rows : (o : ℕ) → o < f.size → SaysContent (says_of f o)
-
-fine : (f : Function) → is_kept f ≡ true → IsFine f
-unfolding omission_of
-fine f kept =
-    let none = none_is (omission_of f.arch (facts_of f) (says_of f)) kept in
-    let two = no_reason (reason_of f.arch (facts_of f)) (first_against (says_of f) (range_with_len 0 f.size)) none in
-    record { whole = two.0; rows = λ o lt. all_fine (says_of f) 0 f.size two.1 o (omega arith) (omega (arith, lt)) }
-
-form_by : (empty large column signal : Bool) → cond empty (Some EmptyRange) (cond large (Some SizeTooLarge) (cond column (cond signal (Some SignalFrame) None) (Some ReturnColumn))) ≡ None → (column && not signal) ≡ true
-form_by true large column signal e = cc
-form_by false true column signal e = cc
-form_by false false false signal e = cc
-form_by false false true true e = cc
-form_by false false true false e = refl
-
-has_form_if : (f : Function) → reason_of f.arch (facts_of f) ≡ None → has_form f ≡ true
-has_form_if f e = form_by (f.size == 0) (nat_le (2 ^ 32) f.size) (f.column == column_of f.arch) f.signal e
-
-size_by : (empty large column signal : Bool) → cond empty (Some EmptyRange) (cond large (Some SizeTooLarge) (cond column (cond signal (Some SignalFrame) None) (Some ReturnColumn))) ≡ None → empty ≡ false
-size_by true large column signal e = cc
-size_by false large column signal e = refl
-
--- it has an address
-pub kept_size : (f : Function) → is_kept f ≡ true → 0 < f.size
-kept_size f k =
-    let none = size_by (f.size == 0) (nat_le (2 ^ 32) f.size) (f.column == column_of f.arch) f.signal (fine f k).whole in
-    grind (arith, nat_tests)
-
 abbrev pub expressed_of : Function → Func
 expressed_of f = expressed (facts_of f) (says_of f)
 
@@ -249,10 +67,6 @@ rows_below says a (suc n) end le = at_test (begins says a) (rows_below says (a +
         → All (λ (r : Row). r.start < end) (filter_map (λ (o : ℕ). row_there o (says o)) (cond b (a ∷ filter (begins says) (range_with_len (a + 1) n)) (filter (begins says) (range_with_len (a + 1) n))))
     at_test true h = one (says a) (rows_among says (range_with_len (a + 1) n)) h
     at_test false h = h
-
-content_said : (x : Result Content Reason) → SaysContent x → (c : Content) × (x ≡ Ok c)
-content_said (Ok c) h = (c, refl)
-content_said (Err reason) h = absurd h
 
 rows_begin : (says : Saying) (size : ℕ) → 0 < size → ((o : ℕ) → o < size → SaysContent (says o)) → RowsBegin (rows_of says size)
 unfolding rows_of

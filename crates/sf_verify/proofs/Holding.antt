@@ -15,13 +15,14 @@ use Rattle.sf_model.specs.declared.machine.Arch.{Arch}
 use Rattle.sf_model.specs.declared.rows.Row.{Row}
 use Rattle.sf_model.specs.Lookup.{FoundRow, offset_in_block, row_at, row_in}
 use Rattle.sf_express.specs.declared.pieces.Piece.{Piece}
-use Rattle.sf_express.specs.Pieces.{ArePieces, PiecesSay, said_by}
+use Rattle.sf_express.specs.Pieces.{ArePieces, PiecesSay, piece_of_row, said_by}
 use Rattle.sf_asm.specs.declared.source.Source.{Source}
 use Rattle.sf_asm.specs.Sources.{source_function}
 use Rattle.sf_verify.specs.declared.dwarf.Held.{Held}
-use Rattle.sf_verify.specs.Asking.{AllFit, AreHolders, IfFits, IsHeld, IsKnown, IsRowed, KeptPassed, OmittedPassed, piece_of_row}
+use Rattle.sf_asm.specs.Said.{AllFit, Answers, IfFits, form_content, said_in, with_key}
+use Rattle.sf_verify.specs.Asking.{AreHolders, IsHeld, IsKnown, IsRowed, KeptPassed, OmittedPassed}
 use Rattle.sf_verify.specs.Comparing.{func_says}
-use Rattle.sf_verify.specs.Said.{Answers, by_row, form_content, said_in, with_key}
+use Rattle.sf_verify.specs.Said.{by_row}
 use Rattle.sf_verify.proofs.Rows.{as_pieces, as_pieces_are, as_pieces_fit, content_of_row, pieces_as_rows}
 
 -- ---- what is known

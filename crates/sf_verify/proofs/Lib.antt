@@ -1,10 +1,8 @@
 pub mod Test
-pub mod Omitted
 pub mod Rows
 pub mod Holding
 pub mod Compared
 pub mod Swept
-pub mod OneMachine
 pub mod Gathered
 pub mod Counted
 pub mod Overlaps

@@ -23,7 +23,8 @@ use Rattle.sf_asm.specs.Linking.{Gathers, GathersFrom, functions_fault, unless_f
 use Rattle.sf_asm.proofs.OneOrder.{one_order}
 use Rattle.sf_verify.specs.declared.fault.VerifyFault.{VerifyFault}
 use Rattle.sf_verify.specs.Agreement.{Agree, DifferFirst, IsVerdict, content_said}
-use Rattle.sf_verify.specs.Said.{dwarf_at, section_at}
+use Rattle.sf_asm.specs.Said.{dwarf_at}
+use Rattle.sf_verify.specs.Said.{section_at}
 use Rattle.sf_verify.specs.Verifying.{Verifies, VerdictUnless, first_fault, section_fault, sized}
 
 -- ---- the inputs

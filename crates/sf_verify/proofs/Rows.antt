@@ -13,8 +13,9 @@ use Rattle.sf_model.specs.Function.{RowsRise}
 use Rattle.sf_model.specs.Lookup.{row_at}
 use Rattle.sf_lookup.proofs.Rows.{latest, latest_holds, latest_stops}
 use Rattle.sf_express.specs.declared.pieces.Piece.{Piece}
-use Rattle.sf_express.specs.Pieces.{ArePieces, PiecesBegin, PiecesRise, said_by}
-use Rattle.sf_verify.specs.Asking.{AllFit, IfFits, RowsBegin, piece_of_row}
+use Rattle.sf_express.specs.Pieces.{ArePieces, PiecesBegin, PiecesRise, piece_of_row, said_by}
+use Rattle.sf_asm.specs.Said.{AllFit, IfFits}
+use Rattle.sf_verify.specs.Asking.{RowsBegin}
 
 -- each start is above the one before, and the first at least this
 abbrev pub Rise : (least : ℕ) → List Row → Type 0

@@ -29,7 +29,8 @@ use Rattle.sf_verify.specs.Counting.{StartsRise}
 use Rattle.sf_verify.specs.Said.{by_row, section_at}
 use Rattle.sf_verify.specs.Verifying as verifying
 use Rattle.sf_verify.specs.Verifying.{section_fault, sized}
-use Rattle.sf_verify.proofs.Gathered.{mapped, placed}
+use Rattle.sf_asm.proofs.Members.{placed}
+use Rattle.sf_verify.proofs.Gathered.{mapped}
 
 -- ---- all functions of a table
 located_functions : (table : Table) → functions_in (located 0 table) ≡ table.functions

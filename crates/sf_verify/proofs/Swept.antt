@@ -11,11 +11,12 @@ use Rattle.sf_model.specs.declared.function.Shape.TheVariants.{Plain, Repeat}
 use Rattle.sf_model.specs.declared.rows.Row.{Row}
 use Rattle.sf_model.specs.Lookup.{FoundRow, contains, found_at, offset_in_block, row_at, row_in_first}
 use Rattle.sf_merge.specs.declared.located.Located.{Located}
-use Rattle.sf_verify.specs.declared.said.Said.{Said}
+use Rattle.sf_asm.specs.declared.said.Said.{Said}
 use Rattle.sf_verify.specs.declared.sweep.Difference.{Difference}
 use Rattle.sf_verify.specs.Agreement.{Agree, DifferFirst, content_said, is_plain, is_plain_shape}
 use Rattle.sf_verify.specs.Comparing.{Compares, ComparesAll, DifferWithin, func_says, functions_in}
-use Rattle.sf_verify.specs.Said.{Answers, by_row, section_at}
+use Rattle.sf_asm.specs.Said.{Answers}
+use Rattle.sf_verify.specs.Said.{by_row, section_at}
 use Rattle.sf_verify.proofs.Compared.{compare_alike}
 
 -- they agree at each address of a function

@@ -13,7 +13,7 @@ use Rattle.sf_express.specs.Expressed.{same_content}
 use Rattle.sf_express.proofs.Same.{content_same}
 use Rattle.sf_express.proofs.Changes.{content_itself}
 use Rattle.sf_verify.specs.Agreement.{IsFitting, RecoverAlike, agree, same_key}
-use Rattle.sf_verify.specs.declared.said.Said.{Said}
+use Rattle.sf_asm.specs.declared.said.Said.{Said}
 
 both : (a b : Bool) → (a && b) ≡ true → (a ≡ true) × (b ≡ true)
 both true b e = (refl, e)

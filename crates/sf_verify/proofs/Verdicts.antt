@@ -5,7 +5,7 @@ use Rattle.std.specs.List.Sorted.{IsPermutation, IsSorted}
 use Rattle.std.specs.Option.{option_map}
 use Rattle.std.proofs.Common.{◌≡◌, ℕ, zero, suc, ◌+◌, ◌-◌, ◌<◌, ◌≤◌, Bool, true, false, cond, List, [], ◌∷◌, get_or, length, map, Option, Some, None, Result, Ok, Err, refl, sym, ap, subst, ◌∙◌, arith, inl, inr}
 use Rattle.std.proofs.lemmas.Bool.{eqb-true, ltb-true}
-use Rattle.std.proofs.lemmas.List.Elements.{All-head, All-tail}
+use Rattle.std.proofs.lemmas.List.Elements.{All-head}
 use Rattle.sf_model.specs.declared.function.Func.{Func}
 use Rattle.sf_model.specs.declared.machine.Arch.{Arch}
 use Rattle.sf_model.specs.declared.omission.Omitted.{Omitted}
@@ -26,11 +26,9 @@ use Rattle.sf_asm.specs.Answers.{IsFirstGathered}
 use Rattle.sf_asm.specs.Functions.{Function, Object, functions_of, machine_of}
 use Rattle.sf_asm.specs.Inputs.{HaveMachine}
 use Rattle.sf_asm.specs.Kept.{entry_of, is_kept}
-use Rattle.sf_asm.specs.Linking.{Gathers, functions_fault, limits_fault, or_later, overlap_fault, overlap_in}
-use Rattle.sf_asm.specs.Entry.{spans_of}
 use Rattle.sf_asm.specs.Sources.{AreWithSources, functions_lent}
-use Rattle.sf_asm.proofs.GatheredInputs.{are_read}
-use Rattle.sf_asm.proofs.Kept.{not_overlapping_apart}
+use Rattle.sf_asm.proofs.Holding.{gathered_apart, kept_size}
+use Rattle.sf_asm.proofs.OneMachine.{machine_of_functions}
 use Rattle.sf_verify.specs.declared.fault.VerifyFault.{VerifyFault}
 use Rattle.sf_verify.specs.declared.fault.VerifyFault.TheVariants as verify
 use Rattle.sf_verify.specs.Agreement.{Agree, AgreeEverywhere, DifferFirst, IsVerdict, content_said, is_plain, stands_for}
@@ -38,11 +36,11 @@ use Rattle.sf_verify.specs.Asking.{AreHolders, answers_of}
 use Rattle.sf_verify.specs.Comparing.{AreComparable, functions_in}
 use Rattle.sf_verify.specs.Concluding.{IsVerdictBy}
 use Rattle.sf_verify.specs.Counting.{KeptRise, StartsRise, covers, is_absent}
-use Rattle.sf_verify.specs.Said.{Answers, dwarf_at, section_at}
+use Rattle.sf_asm.specs.Said.{Answers, dwarf_at}
+use Rattle.sf_verify.specs.Said.{section_at}
 use Rattle.sf_verify.specs.Verifying.{IsFirstFault, Verifies, VerdictUnless, first_fault, refused, section_fault, sized}
 use Rattle.sf_verify.proofs.Counted.{missing_are}
-use Rattle.sf_verify.proofs.Gathered.{expressed_of, holders, holders_of_both, kept_are, kept_size, same_answers}
-use Rattle.sf_verify.proofs.OneMachine.{functions_of_one}
+use Rattle.sf_verify.proofs.Gathered.{expressed_of, holders, holders_of_both, kept_are, same_answers}
 use Rattle.sf_verify.proofs.Sections.{any_sized, comparable, section_says, starts_rise}
 
 -- ---- the same at each address
@@ -88,17 +86,11 @@ kept_rise arch kept h i j d lt within =
         subst (λ (n : ℕ). (get_or kept i d).start < (get_or kept n d).start) (sym e) (omega (arith, ends, some))
 
 -- ---- gathered functions
-no_overlap : (limits : Option GatherFault) (pair : Option _) → or_later limits (option_map overlap_fault pair) ≡ None → pair ≡ None
-no_overlap None None e = refl
-no_overlap None (Some pair) e = cc
-no_overlap (Some fault) pair e = cc
-
 pub have_holders : (before : Arch) (objects : List Object) (arch : Arch) (kept : List Func) (omitted : List Omitted) (sources : List Source) (h : AreWithSources (Some before) objects arch kept omitted (functions_lent sources)) → HaveMachine (Some before) objects arch
     → AreHolders arch (dwarf_at h.functions) kept sources
 have_holders before objects arch kept omitted sources h machine =
-    let read = are_read (Some before) objects (map entry_of h.sorted) h.is in
-    let apart = not_overlapping_apart (map entry_of h.sorted) (no_overlap (limits_fault (map entry_of h.sorted)) (overlap_in (spans_of (map entry_of h.sorted))) read.checked) in
-    let machines = functions_of_one arch 1 objects h.functions (All-tail (λ (m : Arch). m ≡ arch) before (map machine_of objects) machine) h.are in
+    let apart = gathered_apart (Some before) objects (map entry_of h.sorted) h.is in
+    let machines = machine_of_functions (Some before) objects arch h.functions h.are machine in
     holders arch h.functions h.sorted kept sources h.by_start.moved apart h.kept_are h.sources_are h.by_start.rising h.writable.each machines
 
 -- ---- the results

@@ -19,8 +19,9 @@ use Rattle.sf_model.specs.Recovery.{recovery}
 use Rattle.sf_express.specs.Expressed.{same_content}
 use Rattle.sf_asm.specs.Functions.{Function}
 use Rattle.sf_asm.specs.Kept.{kept_functions}
-use Rattle.sf_verify.specs.declared.said.Said.{Said}
-use Rattle.sf_verify.specs.Said.{Answers, dwarf_at, section_at}
+use Rattle.sf_asm.specs.declared.said.Said.{Said}
+use Rattle.sf_asm.specs.Said.{Answers, dwarf_at}
+use Rattle.sf_verify.specs.Said.{section_at}
 
 -- both recover the same caller's frame, for all registers and memory
 abbrev pub RecoverAlike : Said → Said → Type 0

@@ -1,5 +1,5 @@
 -- Call frame information from the two lists in which the functions of the inputs are gathered, asked by rising address.
-use Rattle.std.specs.Prelude.{◌≡◌, ◌<◌, ◌≤◌, ◌+◌, ◌-◌, ◌^◌, ℕ, Bool, true, false, List, [], ◌∷◌, length, get_or, IsTrue, Option, Some, None, ⊤}
+use Rattle.std.specs.Prelude.{◌≡◌, ◌<◌, ◌≤◌, ◌+◌, ◌-◌, ◌^◌, ℕ, Bool, true, false, List, [], ◌∷◌, length, get_or, IsTrue, Option, Some, None}
 use Rattle.std.specs.List.{All, find}
 use Rattle.std.specs.Option.{option_and_then, option_map}
 use Rattle.sf_model.specs.declared.content.Content.{Content}
@@ -10,18 +10,17 @@ use Rattle.sf_model.specs.declared.rows.Row.{Row}
 use Rattle.sf_model.specs.Content.{content_fits}
 use Rattle.sf_model.specs.Function.{RowsRise}
 use Rattle.sf_model.specs.Lookup.{contains}
-use Rattle.sf_express.specs.declared.pieces.Piece.{Piece}
 use Rattle.sf_express.specs.Pieces.{ArePieces, said_by}
 use Rattle.sf_asm.specs.Faithful.{holds_address}
 use Rattle.sf_asm.specs.declared.source.Source.{Source}
 use Rattle.sf_asm.specs.Functions.{Function}
 use Rattle.sf_asm.specs.Sources.{functions_lent, source_function}
+use Rattle.sf_asm.specs.declared.said.Said.{Said}
+use Rattle.sf_asm.specs.Said.{AllFit, Answers, said_in, with_key}
 use Rattle.sf_verify.specs.declared.dwarf.Dwarf.{Dwarf}
 use Rattle.sf_verify.specs.declared.dwarf.Held.{Held}
 use Rattle.sf_verify.specs.declared.dwarf.Known.{Known}
-use Rattle.sf_verify.specs.declared.said.Said.{Said}
 use Rattle.sf_verify.specs.Comparing.{func_says}
-use Rattle.sf_verify.specs.Said.{Answers, said_in, with_key}
 
 -- ---- what both lists say
 abbrev pub by_holder : (pc : ℕ) → (kept : Option Func) → (omitted : Option Function) → Option Said
@@ -63,18 +62,6 @@ pub record AreHolders (arch : Arch) (answers : Answers) (kept : List Func) (omit
   pub omitted_here : All (λ (s : Source). s.arch ≡ arch) omitted
 
 -- ---- the function that was found last
--- a row as a piece
-abbrev pub piece_of_row : Row → Piece
-piece_of_row r = record { start = r.start; content = Some r.content }
-
--- a content fits the machine, where there is one
-abbrev pub IfFits : Arch → Option Content → Type 0
-IfFits arch None = ⊤
-IfFits arch (Some content) = IsTrue (content_fits arch content)
-
-abbrev pub AllFit : Arch → List Piece → Type 0
-AllFit arch pieces = All (λ (p : Piece). IfFits arch p.content) pieces
-
 -- its pieces say at each of its addresses what is answered there
 pub record IsHeld (arch : Arch) (answers : Answers) (h : Held) : Type 0 where
   pub end : h.start + h.size ≤ 2 ^ 64

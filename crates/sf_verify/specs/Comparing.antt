@@ -9,10 +9,11 @@ use Rattle.sf_model.specs.Content.{content_fits}
 use Rattle.sf_model.specs.Function.{RowsRise}
 use Rattle.sf_model.specs.Lookup.{row_in}
 use Rattle.sf_merge.specs.declared.located.Located.{Located}
-use Rattle.sf_verify.specs.declared.said.Said.{Said}
+use Rattle.sf_asm.specs.declared.said.Said.{Said}
 use Rattle.sf_verify.specs.declared.sweep.Difference.{Difference}
 use Rattle.sf_verify.specs.Agreement.{Agree, DifferFirst, content_said}
-use Rattle.sf_verify.specs.Said.{Answers, by_row}
+use Rattle.sf_asm.specs.Said.{Answers}
+use Rattle.sf_verify.specs.Said.{by_row}
 
 -- the least address at which they differ, from an address on and below an end, and what they say there
 pub record DifferWithin (section dwarf : Answers) (from end : ℕ) (d : Difference) : Type 0 where

@@ -6,7 +6,8 @@ use Rattle.sf_model.specs.declared.verdict.Verdict.{Verdict}
 use Rattle.sf_model.specs.declared.verdict.Verdict.TheVariants.{Agrees, Differs}
 use Rattle.sf_verify.specs.Agreement.{Agree, DifferFirst, is_plain}
 use Rattle.sf_verify.specs.Counting.{is_absent}
-use Rattle.sf_verify.specs.Said.{Answers, section_at}
+use Rattle.sf_asm.specs.Said.{Answers}
+use Rattle.sf_verify.specs.Said.{section_at}
 
 pub record AgreeBy (section ordered kept : List Func) (answers : Answers) (checked missing repeats : ℕ) : Type 0 where
   pub agree : (pc : ℕ) → Agree (section_at ordered pc) (answers pc)

@@ -7,7 +7,7 @@ ghost use Rattle.sf_model.specs.Content.{OffsetsInRange, PointerInRange, ReturnI
 ghost use Rattle.sf_verify.specs.Agreement as spec;
 ghost use Rattle.sf_verify.specs.Agreement.{RecoverAlike};
 
-use crate::said::Said;
+use sf_asm::Said;
 use sf_model::{Arch, Content, Key, Ra};
 
 /// Whether two contents are the same.

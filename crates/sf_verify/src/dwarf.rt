@@ -1,24 +1,18 @@
 //! What call frame information says, asked by rising address.
 
-ghost use Rattle.std.specs.Prelude.{◌≡◌, ◌≤◌, ◌<◌, ◌+◌, ◌^◌, ℕ, [], ◌∷◌, map, length, get_or, None, OnOk, IfOk, IsTrue, false};
+ghost use Rattle.std.specs.Prelude.{◌≡◌, ◌≤◌, ◌<◌, ◌+◌, ◌^◌, ℕ, [], map, length, get_or, None, OnOk, IfOk, IsTrue, false};
 ghost use Rattle.sf_model.specs.declared.function.Func.{Func as function};
 ghost use Rattle.sf_model.specs.declared.machine.Arch.{Arch as machine};
-ghost use Rattle.sf_bytes.specs.Cursor.{cursor};
-ghost use Rattle.cfa_insn.specs.Listing.{listing};
-ghost use Rattle.cfa_machine.specs.Left.{rows_left};
-ghost use Rattle.cfa_machine.specs.Pass.{rows_by};
-ghost use Rattle.sf_express.specs.Pieces.{ArePieces, PiecesSay, content_in};
+ghost use Rattle.sf_express.specs.Pieces.{ArePieces, PiecesSay, piece_of_row};
 ghost use Rattle.sf_asm.specs.declared.source.Source.{Source as source_of};
-ghost use Rattle.sf_asm.specs.Kept.{says_of};
+ghost use Rattle.sf_asm.specs.Said.{AllFit, Answers, form_content};
 ghost use Rattle.sf_asm.specs.Sources.{functions_lent, source_function};
-ghost use Rattle.sf_verify.specs.Asking.{AllFit, AreHolders, Finds, FindsKept, FindsOmitted, IsHeld, IsReady, IsSame, KeptPassed, Knows, OmittedPassed, answers_of, piece_of_row, says};
-ghost use Rattle.sf_verify.specs.Said.{Answers, form_content, has_form};
+ghost use Rattle.sf_verify.specs.Asking.{AreHolders, Finds, FindsKept, FindsOmitted, IsHeld, IsReady, IsSame, KeptPassed, Knows, OmittedPassed, answers_of, says};
 
-use crate::said::Said;
 use cfa_machine::Runner;
-use sf_asm::Source;
+use sf_asm::{Said, Source, pieces_said};
 use sf_base::NoMemory;
-use sf_express::{Piece, piece_at, pieces_run};
+use sf_express::{Piece, piece_at};
 use sf_model::{Arch, Func, Key};
 use std::alloc::Global;
 
@@ -128,67 +122,6 @@ fn hold_kept(held: &mut Held, func: &Func) -> Result<(), NoMemory>
     Ok(())
 }
 
-/// Whether SFrame has a form for the frames of a function.
-fn is_sayable(source: &Source<'_>) -> bool
-    ensures { result ≡ has_form (source_function source.now) }
-{
-    let column = match source.arch {
-        Arch::Amd64 => 16,
-        Arch::Aarch64 => 30,
-    };
-    source.facts.column == column && !source.facts.signal
-}
-
-/// Starts the runner on the instructions of an omitted function. They were run when it was read, so that no
-/// fault comes.
-fn begin<'a>(source: &Source<'a>, run: &mut Runner<'a>) -> Result<(), NoMemory>
-    ensures small { source.now.facts.size < 2 ^ 64 }
-    ensures begun { OnOk result (rows_left run.new ≡ rows_by source.now.arch source.now.code source.now.factor source.now.facts.size (listing (cursor source.now.initial)) (listing (cursor source.now.own))) }
-{
-    let begun = run.start(
-        source.arch,
-        source.code,
-        source.factor,
-        source.initial,
-        source.own,
-        source.facts.size,
-    );
-    match begun {
-        Ok(()) => Ok(()),
-        Err(_) => Err(NoMemory),
-    }
-}
-
-/// What an omitted function says whose frames SFrame has a form for.
-fn pieces_of<'a>(
-    alloc: Global,
-    source: &Source<'a>,
-    run: &mut Runner<'a>,
-) -> Result<Vec<Piece>, NoMemory>
-    requires { 0 < source.now.facts.size }
-    ensures pieces { IfOk result (λ pieces. ArePieces source.now.facts.size pieces.items) }
-    ensures says { IfOk result (λ pieces. PiecesSay source.now.facts.size pieces.items (λ offset. content_in (says_of (source_function source.now) offset))) }
-    ensures fits { IfOk result (λ pieces. AllFit source.now.arch pieces.items) }
-{
-    begin(source, run)?;
-    match pieces_run(alloc, source.arch, run) {
-        Ok(pieces) => Ok(pieces),
-        Err(_) => Err(NoMemory),
-    }
-}
-
-/// One piece that says nothing.
-fn nothing_said(alloc: Global) -> Result<Vec<Piece>, NoMemory>
-    ensures { IfOk result (λ pieces. pieces.items ≡ record { start = 0; content = None } ∷ []) }
-{
-    let mut pieces = Vec::new(alloc);
-    pieces.push(Piece {
-        start: 0,
-        content: None,
-    })?;
-    Ok(pieces)
-}
-
 /// An omitted function, with what it says.
 fn hold_omitted<'a>(
     alloc: Global,
@@ -203,16 +136,11 @@ fn hold_omitted<'a>(
     ensures says { IfOk result (λ held. PiecesSay source.now.facts.size held.pieces.items (form_content (source_function source.now))) }
     ensures fits { IfOk result (λ held. AllFit source.now.arch held.pieces.items) }
 {
-    let pieces = if is_sayable(source) {
-        pieces_of(alloc, source, run)?
-    } else {
-        nothing_said(alloc)?
-    };
     Ok(Held {
         start: source.facts.start,
         size: source.facts.size,
         key: source.facts.key,
-        pieces,
+        pieces: pieces_said(alloc, source, run)?,
     })
 }
 

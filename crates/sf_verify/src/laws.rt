@@ -7,7 +7,7 @@ ghost use Rattle.sf_asm.specs.Functions.{Object};
 ghost use Rattle.sf_verify.specs.declared.fault.VerifyFault.{VerifyFault as verify_fault};
 ghost use Rattle.sf_verify.specs.Verifying.{Verifies};
 ghost use Rattle.sf_model.specs.declared.machine.Arch.{Arch as arch};
-ghost use Rattle.sf_verify.specs.declared.said.Said.{Said as said};
+ghost use Rattle.sf_asm.specs.declared.said.Said.{Said as said};
 ghost use Rattle.sf_verify.specs.Agreement.{IsFitting, RecoverAlike, agree};
 
 /// Equal contents, with equal keys where they are signed, are those that recover alike.

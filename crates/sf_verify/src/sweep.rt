@@ -6,11 +6,12 @@ ghost use Rattle.sf_model.specs.Content.{content_fits};
 ghost use Rattle.sf_verify.specs.Agreement as spec;
 ghost use Rattle.sf_verify.specs.Asking.{IsReady, IsSame, says};
 ghost use Rattle.sf_verify.specs.Comparing.{AreComparable, Compares, ComparesAll, IsComparable, edge, func_says, functions_in};
-ghost use Rattle.sf_verify.specs.Said.{section_at, with_key};
+ghost use Rattle.sf_verify.specs.Said.{section_at};
+ghost use Rattle.sf_asm.specs.Said.{with_key};
 
 use crate::agreement::recover_alike;
 use crate::dwarf::Dwarf;
-use crate::said::Said;
+use sf_asm::Said;
 use sf_base::NoMemory;
 use sf_merge::Located;
 use sf_model::{Content, Func, Key, Row, Shape};

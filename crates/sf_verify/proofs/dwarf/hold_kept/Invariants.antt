@@ -1,5 +1,5 @@
 use Rattle.std.proofs.Common.{◌≡◌, map, take}
-use Rattle.sf_verify.specs.Asking.{piece_of_row}
+use Rattle.sf_express.specs.Pieces.{piece_of_row}
 use Rattle.sf_verify.proofs.dwarf.hold_kept.Given as goal
 
 abbrev pub invariant-loop-row : goal.invariant-loop-row

@@ -5,7 +5,8 @@ use Rattle.sf_verify.specs.declared.sweep.Difference.{Difference}
 use Rattle.sf_verify.specs.Agreement.{is_plain}
 use Rattle.sf_verify.specs.Asking.{IsReady, says}
 use Rattle.sf_verify.specs.Comparing.{Compares, func_says, functions_in}
-use Rattle.sf_verify.specs.Said.{Answers, section_at}
+use Rattle.sf_asm.specs.Said.{Answers}
+use Rattle.sf_verify.specs.Said.{section_at}
 use Rattle.sf_verify.proofs.Compared.{later, no_difference, same_again}
 use Rattle.sf_verify.proofs.Swept.{agree_at, agree_everywhere, differ_found, next_start, over_more, repeated_over}
 use Rattle.sf_verify.proofs.sweep.compare.Goals as goal

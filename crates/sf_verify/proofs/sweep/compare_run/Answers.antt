@@ -1,6 +1,6 @@
 use Rattle.std.proofs.Common.{◌+◌, refl, arith, subst}
 use Rattle.sf_verify.specs.Asking.{IsKnown, says}
-use Rattle.sf_verify.specs.Said.{Answers}
+use Rattle.sf_asm.specs.Said.{Answers}
 use Rattle.sf_verify.proofs.Compared.{alike_on, known_some, later, same_again}
 use Rattle.sf_verify.proofs.sweep.compare_run.Goals as goal
 

@@ -10,7 +10,8 @@ use Rattle.sf_verify.specs.Agreement.{is_plain}
 use Rattle.sf_verify.specs.Asking.{answers_of, says}
 use Rattle.sf_verify.specs.Counting.{is_absent}
 use Rattle.sf_verify.specs.Comparing.{ComparesAll, functions_in}
-use Rattle.sf_verify.specs.Said.{Answers, section_at}
+use Rattle.sf_asm.specs.Said.{Answers}
+use Rattle.sf_verify.specs.Said.{section_at}
 use Rattle.sf_verify.proofs.Counted.{at_most, rest_are}
 use Rattle.sf_verify.proofs.verifying.verdict_on.Goals as goal
 

@@ -1,8 +1,9 @@
--- What is made of the instructions of an omitted function.
+-- What is made of the instructions of a function, kept or omitted, as pieces.
 use Rattle.std.specs.Prelude.{IsTrue}
 use Rattle.std.specs.List.{All}
 use Rattle.std.specs.Option.{option_map}
 use Rattle.std.proofs.Common.{◌≡◌, ℕ, ◌+◌, ◌-◌, ◌^◌, ◌<◌, ◌≤◌, Bool, true, false, cond, List, [], ◌∷◌, Option, Some, None, Result, Ok, Err, refl, sym, ap, subst, ◌∙◌, arith}
+use Rattle.std.proofs.lemmas.Bool.{le-leb}
 use Rattle.std.proofs.lemmas.List.Elements.{All-nil, All-cons, All-head, All-tail}
 use Rattle.sf_model.specs.declared.machine.Arch.{Arch}
 use Rattle.sf_model.specs.declared.content.Content.{Content}
@@ -15,15 +16,15 @@ use Rattle.cfa_machine.proofs.GoodRows.{AreRowsIfOk, rows_by-are_rows}
 use Rattle.cfa_machine.proofs.Says.{SaysAllIfOk, rows_by-say}
 use Rattle.sf_express.specs.declared.pieces.Piece.{Piece}
 use Rattle.sf_express.specs.Parts.{content_of}
-use Rattle.sf_express.specs.Pieces.{ArePieces, PiecesSay, content_in, piece_of, pieces_of, says_again}
+use Rattle.sf_express.specs.Pieces.{AreSaidBy, content_in, piece_of, pieces_of, says_again}
 use Rattle.sf_express.specs.Run.{on_rows}
-use Rattle.sf_express.proofs.Said.{are_pieces, pieces_say}
+use Rattle.sf_express.proofs.Said.{are_said_by}
 use Rattle.sf_express.proofs.Writable.{ContentFits, content_of-fits}
 use Rattle.sf_asm.specs.Functions.{Function}
 use Rattle.sf_asm.specs.Kept.{says_of}
 use Rattle.sf_asm.proofs.MadeRows.{rows_of}
 use Rattle.sf_asm.proofs.ReadFunctions.{are_said}
-use Rattle.sf_verify.specs.Asking.{AllFit, IfFits}
+use Rattle.sf_asm.specs.Said.{AllFit, IfFits}
 
 -- ---- contents fit
 content_fits_if : (arch : Arch) (x : Result Content Reason) → ContentFits arch x → IfFits arch (content_in x)
@@ -44,8 +45,7 @@ pieces_fit arch last (r ∷ rows) h =
 
 -- ---- the pieces of a function
 pub record AreMade (f : Function) (pieces : List Piece) : Type 0 where
-  pub are : ArePieces f.size pieces
-  pub say : PiecesSay f.size pieces (λ offset. content_in (says_of f offset))
+  pub said : AreSaidBy f.size (λ offset. content_in (says_of f offset)) pieces
   pub fit : AllFit f.arch pieces
 
 made_by : (f : Function) (pieces : List Piece) (given : Result (List DwRow) MachineFault) → 0 < f.size → AreRowsIfOk f.arch f.size given → SaysAllIfOk f.arch f.code f.factor f.size (listing f.initial) (listing f.own) given
@@ -53,8 +53,7 @@ made_by : (f : Function) (pieces : List Piece) (given : Result (List DwRow) Mach
 made_by f pieces (Ok rows) some good say e =
     let is : pieces_of f.arch None rows ≡ pieces = cc in
     subst (AreMade f) is record {
-      are = are_pieces f.arch f.size rows some good;
-      say = pieces_say f.arch f.size rows (says_of f) good.rise (are_said f rows say);
+      said = are_said_by f.arch f.size rows (says_of f) some good (are_said f rows say);
       fit = pieces_fit f.arch None rows good.signs;
     }
 made_by f pieces (Err x) some good say e = cc
@@ -62,3 +61,11 @@ made_by f pieces (Err x) some good say e = cc
 pub are_made : (f : Function) (pieces : List Piece) (left : Result (List DwRow) MachineFault) → 0 < f.size → f.size < 2 ^ 64 → left ≡ rows_of f → on_rows (pieces_of f.arch None) left ≡ Ok pieces → AreMade f pieces
 are_made f pieces left some small is e =
     made_by f pieces (rows_of f) some (rows_by-are_rows _ _ _ _ _ _) (rows_by-say _ _ _ _ _ _ small) (subst (λ (x : Result (List DwRow) MachineFault). on_rows (pieces_of f.arch None) x ≡ Ok pieces) is e)
+
+-- one piece that says nothing
+pub none_said : (size : ℕ) → 0 < size → AreSaidBy size (λ offset. None) (record { start = 0; content = None } ∷ [])
+none_said size some = record {
+  are = record { first = refl; rise = (omega arith, tt); below = All-cons (λ (p : Piece). p.start < size) (record { start = 0; content = None }) [] some (All-nil (λ (p : Piece). p.start < size)) };
+  say = λ offset lt. rw (le-leb 0 offset (omega arith)) refl;
+  differ = ((λ e. cc), tt);
+}

@@ -1,0 +1,168 @@
+-- The one function that has an address, and what a kept one says.
+use Rattle.std.specs.Prelude.{is_none, nat_le, nat_lt, not}
+use Rattle.std.specs.List.{range_with_len}
+use Rattle.std.specs.Option.{option_map}
+use Rattle.std.proofs.Common.{◌≡◌, ℕ, zero, suc, ◌+◌, ◌^◌, ◌<◌, ◌≤◌, Bool, true, false, cond, ◌&&◌, ◌==◌, eqb, leb, List, [], ◌∷◌, map, Option, Some, None, Result, Ok, Err, refl, sym, ap, subst, ◌∙◌, arith, inl, inr}
+use Rattle.std.proofs.lemmas.Bool.{cases_lt, leb-true, ltb-true, le-leb, lt-ltb, eqb-true}
+use Rattle.std.proofs.lemmas.Bool.Decides.{nat_tests}
+use Rattle.sf_model.specs.declared.content.Content.{Content}
+use Rattle.sf_model.specs.declared.machine.Arch.{Arch}
+use Rattle.sf_model.specs.declared.omission.Omission.{Omission}
+use Rattle.sf_model.specs.declared.omission.Reason.{Reason}
+use Rattle.sf_model.specs.declared.omission.Reason.TheVariants.{EmptyRange, SizeTooLarge, ReturnColumn, SignalFrame}
+use Rattle.sf_model.specs.declared.omission.Span.{Span}
+use Rattle.sf_express.specs.Expressed.{column_of, reason_of}
+use Rattle.sf_express.specs.Pieces.{AreSaidBy, content_in, piece_of_row}
+use Rattle.sf_express.specs.Runs as runs
+use Rattle.sf_express.specs.Runs.{Saying, against, first_against, omission_of, rows_of, whole_or_row}
+use Rattle.sf_express.proofs.AsPieces.{rows_said_by}
+use Rattle.sf_express.proofs.Found.{SaysContent}
+use Rattle.sf_asm.specs.declared.entry.Entry.{Entry}
+use Rattle.sf_asm.specs.declared.fault.GatherFault.{GatherFault}
+use Rattle.sf_asm.specs.Entry.{spans_of}
+use Rattle.sf_asm.specs.Faithful.{holds_address}
+use Rattle.sf_asm.specs.Functions.{Function, Object}
+use Rattle.sf_asm.specs.Kept.{entry_of, facts_of, is_kept, says_of}
+use Rattle.sf_asm.specs.Linking.{Gathers, limits_fault, or_later, overlap_fault, overlap_in}
+use Rattle.sf_asm.specs.Order.{are_apart}
+use Rattle.sf_asm.specs.Said.{form_content, has_form}
+use Rattle.sf_asm.proofs.Finding.{Member, OnePasses}
+use Rattle.sf_asm.proofs.GatheredInputs.{are_read}
+use Rattle.sf_asm.proofs.Kept.{not_overlapping_apart}
+
+-- ---- one function has an address
+pub both : (a b : Bool) → (a && b) ≡ true → (a ≡ true) × (b ≡ true)
+both true b e = (refl, e)
+both false b e = cc
+
+pub record IsWithin (pc start size : ℕ) : Type 0 where
+  pub from : start ≤ pc
+  pub to : pc < start + size
+
+pub within : (pc : ℕ) (f : Function) → holds_address pc f ≡ true → IsWithin pc f.start f.size
+within pc f e =
+    let two = both (nat_le f.start pc) (nat_lt pc (f.start + f.size)) e in
+    record { from = leb-true f.start pc two.0; to = ltb-true pc (f.start + f.size) two.1 }
+
+pub is_within : (pc : ℕ) (f : Function) → f.start ≤ pc → pc < f.start + f.size → holds_address pc f ≡ true
+is_within pc f low high = rw (le-leb f.start pc low, lt-ltb pc (f.start + f.size) high) refl
+
+-- the test of one function among functions that are apart
+past_one : (end pc start size : ℕ) (rest skipped : Bool) → cond (eqb size 0) skipped (leb end start && rest) ≡ true → IsWithin pc start size → (end ≤ pc) × (rest ≡ true)
+past_one end pc start size rest skipped h w =
+    let some : 0 < size = omega (arith, w.from, w.to) in
+    at_size (eqb size 0) refl some h
+  where
+    at_size : (b : Bool) → eqb size 0 ≡ b → 0 < size → cond b skipped (leb end start && rest) ≡ true → (end ≤ pc) × (rest ≡ true)
+    at_size true t some h = let is : size ≡ 0 = eqb-true size 0 t in absurd (omega (arith, some, is))
+    at_size false t some h = let two = both (leb end start) rest h in (let le = leb-true end start two.0 in omega (arith, le, w.from), two.1)
+
+past_end : (pc end : ℕ) (fs : List Function) → are_apart end (map entry_of fs) ≡ true → (x : Function) → Member fs x → holds_address pc x ≡ true → end ≤ pc
+past_end pc end [] h x m t = absurd m
+past_end pc end (f ∷ fs) h x (inl is) t =
+    (past_one end pc f.start f.size (are_apart (f.start + f.size) (map entry_of fs)) (are_apart end (map entry_of fs)) h (within pc f (ap (holds_address pc) is ∙ t))).0
+past_end pc end (f ∷ fs) h x (inr m) t =
+    at_size (eqb f.size 0) refl h (λ rest. past_end pc end fs rest x m t) (λ rest. past_end pc (f.start + f.size) fs rest x m t)
+  where
+    at_size : (b : Bool) → eqb f.size 0 ≡ b → cond b (are_apart end (map entry_of fs)) (leb end f.start && are_apart (f.start + f.size) (map entry_of fs)) ≡ true
+        → (are_apart end (map entry_of fs) ≡ true → end ≤ pc) → (are_apart (f.start + f.size) (map entry_of fs) ≡ true → f.start + f.size ≤ pc) → end ≤ pc
+    at_size true s h skipped behind = skipped h
+    at_size false s h skipped behind =
+        let two = both (leb end f.start) (are_apart (f.start + f.size) (map entry_of fs)) h in
+        let low = leb-true end f.start two.0 in
+        let high = behind two.1 in
+        omega (arith, low, high)
+
+pub one_holds : (pc end : ℕ) (fs : List Function) → are_apart end (map entry_of fs) ≡ true → OnePasses (holds_address pc) fs
+one_holds pc end [] h = λ x y m n s t. absurd m
+one_holds pc end (f ∷ fs) h = λ x y m n s t. at_members x y m n s t
+    (at_rest (eqb f.size 0) refl h (λ rest. one_holds pc end fs rest x y) (λ rest. one_holds pc (f.start + f.size) fs rest x y))
+  where
+    at_rest : {T : Type 0} (b : Bool) → eqb f.size 0 ≡ b → cond b (are_apart end (map entry_of fs)) (leb end f.start && are_apart (f.start + f.size) (map entry_of fs)) ≡ true
+        → (are_apart end (map entry_of fs) ≡ true → T) → (are_apart (f.start + f.size) (map entry_of fs) ≡ true → T) → T
+    at_rest true s h skipped behind = skipped h
+    at_rest false s h skipped behind = behind (both (leb end f.start) (are_apart (f.start + f.size) (map entry_of fs)) h).1
+
+    first_and_later : (x y : Function) → f ≡ x → Member fs y → holds_address pc x ≡ true → holds_address pc y ≡ true → ⊥
+    first_and_later x y is m s t =
+        let w = within pc f (ap (holds_address pc) is ∙ s) in
+        let rest = (past_one end pc f.start f.size (are_apart (f.start + f.size) (map entry_of fs)) (are_apart end (map entry_of fs)) h w).1 in
+        let past = past_end pc (f.start + f.size) fs rest y m t in
+        omega (arith, w.to, past)
+
+    at_members : (x y : Function) → Member (f ∷ fs) x → Member (f ∷ fs) y → holds_address pc x ≡ true → holds_address pc y ≡ true
+        → (Member fs x → Member fs y → holds_address pc x ≡ true → holds_address pc y ≡ true → x ≡ y) → x ≡ y
+    at_members x y (inl a) (inl b) s t later = sym a ∙ b
+    at_members x y (inl a) (inr n) s t later = absurd (first_and_later x y a n s t)
+    at_members x y (inr m) (inl b) s t later = absurd (first_and_later y x b m t s)
+    at_members x y (inr m) (inr n) s t later = later m n s t
+
+-- ---- a kept function
+fine_first : (o : ℕ) (x : Result Content Reason) (later : Option Omission) → runs.or_later (against o x) later ≡ None → SaysContent x × (later ≡ None)
+fine_first o (Ok c) later e = (tt, e)
+fine_first o (Err reason) later e = cc
+
+all_fine : (says : Saying) (a n : ℕ) → first_against says (range_with_len a n) ≡ None → (o : ℕ) → a ≤ o → o < a + n → SaysContent (says o)
+all_fine says a zero e o le lt = absurd (omega (arith, le, lt))
+all_fine says a (suc n) e o le lt =
+    let first = fine_first a (says a) (first_against says (range_with_len (a + 1) n)) e in
+    elim (cases_lt a o) [
+      | inl above ↦ all_fine says (a + 1) n first.1 o (omega (arith, above)) (omega (arith, lt))
+      | inr not_above ↦ let is : o ≡ a = omega (arith, le, not_above) in subst (λ (k : ℕ). SaysContent (says k)) (sym is) first.0
+    ]
+
+no_reason : (whole : Option Reason) (row : Option Omission) → whole_or_row whole row ≡ None → (whole ≡ None) × (row ≡ None)
+no_reason None row e = (refl, e)
+no_reason (Some reason) row e = cc
+
+none_is : (o : Option Omission) → is_none o ≡ true → o ≡ None
+none_is None e = refl
+none_is (Some omission) e = cc
+
+pub record IsFine (f : Function) : Type 0 where
+  pub whole : reason_of f.arch (facts_of f) ≡ None
+  pub rows : (o : ℕ) → o < f.size → SaysContent (says_of f o)
+
+pub fine : (f : Function) → is_kept f ≡ true → IsFine f
+unfolding omission_of
+fine f kept =
+    let none = none_is (omission_of f.arch (facts_of f) (says_of f)) kept in
+    let two = no_reason (reason_of f.arch (facts_of f)) (first_against (says_of f) (range_with_len 0 f.size)) none in
+    record { whole = two.0; rows = λ o lt. all_fine (says_of f) 0 f.size two.1 o (omega arith) (omega (arith, lt)) }
+
+form_by : (empty large column signal : Bool) → cond empty (Some EmptyRange) (cond large (Some SizeTooLarge) (cond column (cond signal (Some SignalFrame) None) (Some ReturnColumn))) ≡ None → (column && not signal) ≡ true
+form_by true large column signal e = cc
+form_by false true column signal e = cc
+form_by false false false signal e = cc
+form_by false false true true e = cc
+form_by false false true false e = refl
+
+pub has_form_if : (f : Function) → reason_of f.arch (facts_of f) ≡ None → has_form f ≡ true
+has_form_if f e = form_by (f.size == 0) (nat_le (2 ^ 32) f.size) (f.column == column_of f.arch) f.signal e
+
+size_by : (empty large column signal : Bool) → cond empty (Some EmptyRange) (cond large (Some SizeTooLarge) (cond column (cond signal (Some SignalFrame) None) (Some ReturnColumn))) ≡ None → empty ≡ false
+size_by true large column signal e = cc
+size_by false large column signal e = refl
+
+-- it has an address
+pub kept_size : (f : Function) → is_kept f ≡ true → 0 < f.size
+kept_size f k =
+    let none = size_by (f.size == 0) (nat_le (2 ^ 32) f.size) (f.column == column_of f.arch) f.signal (fine f k).whole in
+    grind (arith, nat_tests)
+
+-- what it says by its rows as pieces
+pub kept_said_by : (f : Function) → is_kept f ≡ true → AreSaidBy f.size (form_content f) (map piece_of_row (rows_of (says_of f) f.size))
+kept_said_by f k =
+    let good = fine f k in
+    subst (λ (b : Bool). AreSaidBy f.size (λ o. cond b (content_in (says_of f o)) None) (map piece_of_row (rows_of (says_of f) f.size))) (sym (has_form_if f good.whole)) (rows_said_by (says_of f) f.size (kept_size f k) good.rows)
+
+-- ---- gathered functions
+no_overlap : (limits : Option GatherFault) (pair : Option (Span × Span)) → or_later limits (option_map overlap_fault pair) ≡ None → pair ≡ None
+no_overlap None None e = refl
+no_overlap None (Some pair) e = cc
+no_overlap (Some fault) pair e = cc
+
+pub gathered_apart : (before : Option Arch) (objects : List Object) (ordered : List Entry) → Gathers before objects (Ok ordered) → are_apart 0 ordered ≡ true
+gathered_apart before objects ordered h =
+    let read = are_read before objects ordered h in
+    not_overlapping_apart ordered (no_overlap (limits_fault ordered) (overlap_in (spans_of ordered)) read.checked)

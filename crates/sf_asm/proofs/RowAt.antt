@@ -1,0 +1,239 @@
+-- What the function that has an address says there, among all functions of inputs.
+use Rattle.std.specs.Prelude.{IfOk, IsTrue, not}
+use Rattle.std.specs.List.{filter, find}
+use Rattle.std.specs.List.Sorted.{IsPermutation}
+use Rattle.std.specs.Option.{option_and_then, option_map}
+use Rattle.std.proofs.Common.{◌≡◌, ◌≢◌, ℕ, ◌+◌, ◌^◌, ◌-◌, ◌<◌, ◌≤◌, Bool, true, false, cond, List, [], ◌∷◌, map, Option, Some, None, Result, Ok, Err, refl, sym, ap, subst, ◌∙◌, arith, inl, inr}
+use Rattle.std.proofs.lemmas.Bool.{cases_lt}
+use Rattle.sf_model.specs.declared.content.Content.{Content}
+use Rattle.sf_model.specs.declared.function.Func.{Func}
+use Rattle.sf_model.specs.declared.machine.Arch.{Arch}
+use Rattle.sf_model.specs.declared.machine.Key.{Key}
+use Rattle.sf_model.specs.declared.omission.Omitted.{Omitted}
+use Rattle.sf_model.specs.Function.{IsWritable}
+use Rattle.sf_model.specs.Lookup.{contains}
+use Rattle.sf_express.specs.declared.pieces.Piece.{Piece}
+use Rattle.sf_express.specs.Pieces.{ArePieces, AreSaidBy, PiecesDiffer, piece_of_row, said_by}
+use Rattle.sf_asm.specs.declared.source.Source.{Source}
+use Rattle.sf_asm.specs.Entry.{kept_of}
+use Rattle.sf_asm.specs.Faithful.{holds_address}
+use Rattle.sf_asm.specs.Functions.{Function, Object, functions_of}
+use Rattle.sf_asm.specs.Kept.{entry_of, is_kept, kept_functions, omitted_functions}
+use Rattle.sf_asm.specs.Order.{are_apart}
+use Rattle.sf_asm.specs.Said.{Answers, IsSaidUpTo, RowAt, SaidTo, SaysUpTo, dwarf_at, form_content, said_in, with_key}
+use Rattle.sf_asm.specs.Sources.{AreWithSources, functions_lent, source_function}
+use Rattle.sf_asm.specs.declared.said.Said.{Said}
+use Rattle.sf_asm.proofs.Agreeing.{expressed_of, find_kept, found_passes}
+use Rattle.sf_asm.proofs.Finding.{Member, OnePasses, found_alike}
+use Rattle.sf_asm.proofs.Holding.{IsWithin, gathered_apart, is_within, kept_said_by, one_holds, within}
+use Rattle.sf_asm.proofs.Members.{find_in_map, found, found_alone, in_filter, out_of_filter, placed, some_found}
+
+-- ---- what calls found
+pub found_in : {X Y : Type 0} (view : X → Y) (p : Y → Bool) (found : Option X) (x : X) (asked items : List Y) → asked ≡ items → option_map view found ≡ find p asked → found ≡ Some x → find p items ≡ Some (view x)
+found_in view p found x asked items same e is = subst (λ (ys : List _). find p ys ≡ Some (view x)) same (sym e ∙ ap (option_map view) is)
+
+pub none_in : {X Y : Type 0} (view : X → Y) (p : Y → Bool) (found : Option X) (asked items : List Y) → asked ≡ items → option_map view found ≡ find p asked → found ≡ None → find p items ≡ None
+none_in view p found asked items same e is = subst (λ (ys : List _). find p ys ≡ None) same (sym e ∙ ap (option_map view) is)
+
+pub if_ok : {A E : Type 0} (r : Result A E) (P Q : A → Type 0) → ((a : A) → P a → Q a) → IfOk r P → IfOk r Q
+if_ok (Ok a) P Q f h = f a h
+if_ok (Err e) P Q f h = h
+
+-- ---- one function
+-- what its pieces say, from an address up to the last one of a piece
+record IsPiece (f : Function) (pieces : List Piece) (pc last : ℕ) (content : Option Content) : Type 0 where
+  low : f.start ≤ pc
+  high : pc < f.start + f.size
+  from_here : pc - f.start ≤ last
+  below : last < f.size
+  says : (o : ℕ) → pc - f.start ≤ o → o ≤ last → said_by o None pieces ≡ Some content
+  after : last + 1 < f.size → said_by (last + 1) None pieces ≡ Some content → ⊥
+
+form_is : (f : Function) (pieces : List Piece) (o : ℕ) (content : Option Content) → AreSaidBy f.size (form_content f) pieces → o < f.size → said_by o None pieces ≡ Some content → form_content f o ≡ content
+form_is f pieces o content said lt e = let is : Some (form_content f o) ≡ Some content = sym (said.say o lt) ∙ e in cc
+
+some_content : (key : Key) (found : Option Content) (content : Content) → option_map (with_key key) found ≡ Some (with_key key content) → found ≡ Some content
+some_content key None content e = cc
+some_content key (Some c) content e = let is : with_key key c ≡ with_key key content = cc in ap (λ (s : Said). Some s.content) is
+
+says_up_to : (f : Function) (pieces : List Piece) (pc last : ℕ) (content : Content) → AreSaidBy f.size (form_content f) pieces → IsPiece f pieces pc last (Some content) → IsSaidUpTo (λ p. said_in p f) f pc (with_key f.key content) (f.start + last)
+says_up_to f pieces pc last content said h =
+    let from : f.start ≤ pc = h.low in
+    record {
+      from_here = (let le = h.from_here in omega (arith, from, le));
+      within = (let lt = h.below in is_within (f.start + last) f (omega arith) (omega (arith, lt)));
+      same = λ p low high.
+          (let lt = h.below in
+          let le : pc - f.start ≤ p - f.start = omega (arith, from, low) in
+          let most : p - f.start ≤ last = omega (arith, high, from, low) in
+          ap (option_map (with_key f.key)) (form_is f pieces (p - f.start) (Some content) said (omega (arith, most, lt)) (h.says (p - f.start) le most)));
+      greatest = λ other has same. elim (cases_lt (f.start + last) other) [
+        | inl past ↦ absurd (past_last other (within other f has) same past)
+        | inr not_past ↦ omega (arith, not_past)
+      ];
+    }
+  where
+    past_last : (other : ℕ) → IsWithin other f.start f.size → SaidTo (λ p. said_in p f) pc other (with_key f.key content) → f.start + last < other → ⊥
+    past_last other w same past =
+        let to = w.to in
+        let from = h.low in
+        let le = h.from_here in
+        let lt : last + 1 < f.size = omega (arith, past, to) in
+        let here = same (f.start + (last + 1)) (omega (arith, from, le)) (omega (arith, past)) in
+        let offset : f.start + (last + 1) - f.start ≡ last + 1 = omega arith in
+        let form = some_content f.key (form_content f (last + 1)) content (subst (λ (o : ℕ). option_map (with_key f.key) (form_content f o) ≡ Some (with_key f.key content)) offset here) in
+        h.after lt (said.say (last + 1) lt ∙ ap (λ (x : Option Content). Some x) form)
+
+by_piece : (f : Function) (pieces : List Piece) (pc last : ℕ) (content : Option Content) → AreSaidBy f.size (form_content f) pieces → IsPiece f pieces pc last content
+    → SaysUpTo (λ p. said_in p f) f pc (option_map (λ (c : Content). (c, f.key, f.start + last)) content)
+by_piece f pieces pc last None said h =
+    let from = h.low in
+    let lt = h.below in
+    let le = h.from_here in
+    ap (option_map (with_key f.key)) (form_is f pieces (pc - f.start) None said (omega (arith, le, lt)) (h.says (pc - f.start) (omega arith) le))
+by_piece f pieces pc last (Some content) said h = says_up_to f pieces pc last content said h
+
+-- what a function's pieces say at one of its addresses
+pub piece_row : (f : Function) (pieces : List Piece) (start size pc last : ℕ) (key : Key) (content : Option Content) → f.start ≡ start → f.size ≡ size → f.key ≡ key → AreSaidBy size (form_content f) pieces
+    → start ≤ pc → pc < start + size → pc - start ≤ last → last < size → ((o : ℕ) → pc - start ≤ o → o ≤ last → said_by o None pieces ≡ Some content)
+    → (PiecesDiffer None pieces → last + 1 < size → said_by (last + 1) None pieces ≢ Some content) → SaysUpTo (λ p. said_in p f) f pc (option_map (λ (c : Content). (c, key, start + last)) content)
+piece_row f pieces start size pc last key content start_is size_is key_is said from to le lt says after =
+    subst (λ (n : ℕ). SaysUpTo (λ p. said_in p f) f pc (option_map (λ (c : Content). (c, key, n + last)) content)) start_is
+    (subst (λ (k : Key). SaysUpTo (λ p. said_in p f) f pc (option_map (λ (c : Content). (c, k, f.start + last)) content)) key_is
+    (by_piece f pieces pc last content (subst (λ (n : ℕ). AreSaidBy n (form_content f) pieces) (sym size_is) said) (record {
+      low = omega (arith, from, start_is);
+      high = omega (arith, to, start_is, size_is);
+      from_here = omega (arith, le, start_is);
+      below = omega (arith, lt, size_is);
+      says = λ o low high. says o (omega (arith, low, start_is)) high;
+      after = λ more same. after said.differ (omega (arith, more, size_is)) same;
+    })))
+
+-- ---- the function that has an address
+record IsHolder (functions : List Function) (pc : ℕ) (f : Function) : Type 0 where
+  is : find (holds_address pc) functions ≡ Some f
+  has : holds_address pc f ≡ true
+  there : (p : ℕ) → holds_address p f ≡ true → dwarf_at functions p ≡ said_in p f
+
+between : (f : Function) (pc p last : ℕ) → holds_address pc f ≡ true → holds_address last f ≡ true → pc ≤ p → p ≤ last → holds_address p f ≡ true
+between f pc p last one other low high =
+    let from = (within pc f one).from in
+    let to = (within last f other).to in
+    is_within p f (omega (arith, from, low)) (omega (arith, to, high))
+
+by_holder : (functions : List Function) (pc : ℕ) (f : Function) (row : Option (Content × Key × ℕ)) → IsHolder functions pc f → SaysUpTo (λ p. said_in p f) f pc row → RowAt functions pc row
+by_holder functions pc f None h says = h.there pc h.has ∙ says
+by_holder functions pc f (Some row) h says = (
+  f,
+  h.is,
+  record {
+    from_here = says.from_here;
+    within = says.within;
+    same = λ p low high. h.there p (between f pc p row.2 h.has says.within low high) ∙ says.same p low high;
+    greatest = λ other has same. says.greatest other has (λ p low high. sym (h.there p (between f pc p other h.has has low high)) ∙ same p low high);
+  },
+)
+
+no_function : (o : Option Function) → option_map expressed_of o ≡ None → o ≡ None
+no_function None e = refl
+no_function (Some f) e = cc
+
+-- a kept function
+record IsKeptThere (functions : List Function) (pc : ℕ) (g : Func) : Type 0 where
+  f : Function
+  kept : is_kept f ≡ true
+  is : g ≡ expressed_of f
+  holder : IsHolder functions pc f
+
+module _ (functions sorted : List Function) (moved : IsPermutation functions sorted) (apart : are_apart 0 (map entry_of sorted) ≡ true) (pc : ℕ) where
+  holder_of : (f : Function) → Member sorted f → holds_address pc f ≡ true → IsHolder functions pc f
+  unfolding dwarf_at
+  holder_of f m has = record { is = alone pc has; has = has; there = λ p t. ap (option_and_then (said_in p)) (alone p t) }
+    where
+      alone : (p : ℕ) → holds_address p f ≡ true → find (holds_address p) functions ≡ Some f
+      alone p t = found_alike (holds_address p) functions sorted moved (one_holds p 0 sorted apart) ∙ found_alone (holds_address p) sorted f (one_holds p 0 sorted apart) m t
+
+  kept_there : (g : Func) → find (contains pc) (kept_of (map entry_of sorted)) ≡ Some g → IsKeptThere functions pc g
+  kept_there g e = at_found (find (holds_address pc) (kept_functions sorted)) refl (sym (find_kept pc sorted) ∙ e)
+    where
+      at_found : (o : Option Function) → find (holds_address pc) (kept_functions sorted) ≡ o → option_map expressed_of (find (holds_address pc) (kept_functions sorted)) ≡ Some g → IsKeptThere functions pc g
+      at_found None is e = let never : None ≡ Some g = sym (ap (option_map expressed_of) is) ∙ e in cc
+      at_found (Some f) is e =
+          let passes = found_passes (holds_address pc) is_kept sorted f is in
+          let same : Some (expressed_of f) ≡ Some g = sym (ap (option_map expressed_of) is) ∙ e in
+          let one : expressed_of f ≡ g = cc in
+          let m = out_of_filter is_kept sorted f (found (holds_address pc) (kept_functions sorted) f is).within in
+          record { f = f; kept = passes.1; is = sym one; holder = holder_of f m passes.0 }
+
+  omitted_there : (sources : List Source) (s : Source) → functions_lent sources ≡ omitted_functions sorted → find (λ (x : Source). holds_address pc (source_function x)) sources ≡ Some s → IsHolder functions pc (source_function s)
+  omitted_there sources s are e =
+      let lent : find (holds_address pc) (omitted_functions sorted) ≡ Some (source_function s) =
+      subst (λ (fs : List Function). find (holds_address pc) fs ≡ Some (source_function s)) are (find_in_map (holds_address pc) source_function sources ∙ ap (option_map source_function) e) in
+      let h = found (holds_address pc) (omitted_functions sorted) (source_function s) lent in
+      holder_of (source_function s) (out_of_filter (λ (f : Function). not (is_kept f)) sorted (source_function s) h.within) h.passes
+
+  none_there : (sources : List Source) → functions_lent sources ≡ omitted_functions sorted → find (contains pc) (kept_of (map entry_of sorted)) ≡ None → find (λ (x : Source). holds_address pc (source_function x)) sources ≡ None → dwarf_at functions pc ≡ None
+  unfolding dwarf_at
+  none_there sources are no_kept no_omitted = at_found (find (holds_address pc) sorted) refl
+    where
+      no_lent : find (holds_address pc) (omitted_functions sorted) ≡ None
+      no_lent = subst (λ (fs : List Function). find (holds_address pc) fs ≡ None) are (find_in_map (holds_address pc) source_function sources ∙ ap (option_map source_function) no_omitted)
+
+      neither : (f : Function) → holds_address pc f ≡ true → Member sorted f → (b : Bool) → is_kept f ≡ b → ⊥
+      neither f t m true k = some_found (holds_address pc) (kept_functions sorted) f t (in_filter is_kept sorted f k m) (no_function (find (holds_address pc) (kept_functions sorted)) (sym (find_kept pc sorted) ∙ no_kept))
+      neither f t m false k = some_found (holds_address pc) (omitted_functions sorted) f t (in_filter (λ (g : Function). not (is_kept g)) sorted f (ap not k) m) no_lent
+
+      at_found : (o : Option Function) → find (holds_address pc) sorted ≡ o → option_and_then (said_in pc) (find (holds_address pc) functions) ≡ None
+      at_found None e = ap (option_and_then (said_in pc)) (found_alike (holds_address pc) functions sorted moved (one_holds pc 0 sorted apart) ∙ e)
+      at_found (Some f) e = let h = found (holds_address pc) sorted f e in absurd (neither f h.passes h.within (is_kept f) refl)
+
+-- ---- gathered functions
+module _ (objects : List Object) (arch : Arch) (kept : List Func) (omitted : List Omitted) (sources : List Source) (h : AreWithSources None objects arch kept omitted (functions_lent sources)) (pc : ℕ) where
+  apart : are_apart 0 (map entry_of h.sorted) ≡ true
+  apart = gathered_apart None objects (map entry_of h.sorted) h.is
+
+  of_these : (row : Option (Content × Key × ℕ)) → RowAt h.functions pc row → (functions : List Function) → functions_of 0 objects ≡ Ok functions → RowAt functions pc row
+  of_these row is functions are =
+      let both : Ok h.functions ≡ Ok functions = sym h.are ∙ are in
+      let same : h.functions ≡ functions = cc in
+      subst (λ (fs : List Function). RowAt fs pc row) same is
+
+  kept_function : (g : Func) → find (contains pc) kept ≡ Some g → IsKeptThere h.functions pc g
+  kept_function g e = kept_there h.functions h.sorted h.by_start.moved apart pc g (subst (λ (ks : List Func). find (contains pc) ks ≡ Some g) h.kept_are e)
+
+  said_by_rows : (g : Func) (k : IsKeptThere h.functions pc g) → AreSaidBy g.size (form_content k.f) (map piece_of_row g.rows)
+  said_by_rows g k = subst (λ (x : Func). AreSaidBy x.size (form_content k.f) (map piece_of_row x.rows)) (sym k.is) (kept_said_by k.f k.kept)
+
+  -- what is owed of it
+  pub record IsAskable (g : Func) : Type 0 where
+    pub from : g.start ≤ pc
+    pub to : pc < g.start + g.size
+    pub end : g.start + g.size ≤ 2 ^ 64
+    pub pieces : ArePieces g.size (map piece_of_row g.rows)
+
+  pub kept_askable : (g : Func) → find (contains pc) kept ≡ Some g → IsAskable g
+  kept_askable g e =
+      let t = found (contains pc) kept g e in
+      let p = placed kept g t.within in
+      let writable : IsWritable arch g = subst (IsWritable arch) (p.is g) (h.writable.each p.place g p.within) in
+      let k = kept_function g e in
+      let w = within pc k.f k.holder.has in
+      record { from = subst (λ (x : Func). x.start ≤ pc) (sym k.is) w.from; to = subst (λ (x : Func). pc < x.start + x.size) (sym k.is) w.to; end = writable.end; pieces = (said_by_rows g k).are }
+
+  pub row_of_kept : (g : Func) → find (contains pc) kept ≡ Some g → (row : Option (Content × Key × ℕ))
+      → ((f : Function) → f.start ≡ g.start → f.size ≡ g.size → f.key ≡ g.key → AreSaidBy g.size (form_content f) (map piece_of_row g.rows) → SaysUpTo (λ p. said_in p f) f pc row)
+      → (functions : List Function) → functions_of 0 objects ≡ Ok functions → RowAt functions pc row
+  row_of_kept g e row says =
+      let k = kept_function g e in
+      let own = says k.f (sym (ap (λ (x : Func). x.start) k.is)) (sym (ap (λ (x : Func). x.size) k.is)) (sym (ap (λ (x : Func). x.key) k.is)) (said_by_rows g k) in
+      of_these row (by_holder h.functions pc k.f row k.holder own)
+
+  pub row_of_omitted : (s : Source) → find (λ (x : Source). holds_address pc (source_function x)) sources ≡ Some s → (row : Option (Content × Key × ℕ)) → SaysUpTo (λ p. said_in p (source_function s)) (source_function s) pc row
+      → (functions : List Function) → functions_of 0 objects ≡ Ok functions → RowAt functions pc row
+  row_of_omitted s e row says = of_these row (by_holder h.functions pc (source_function s) row (omitted_there h.functions h.sorted h.by_start.moved apart pc sources s h.sources_are e) says)
+
+  pub omitted_within : (s : Source) → find (λ (x : Source). holds_address pc (source_function x)) sources ≡ Some s → IsWithin pc s.facts.start s.facts.size
+  omitted_within s e = within pc (source_function s) (found (λ (x : Source). holds_address pc (source_function x)) sources s e).passes
+
+  pub no_row : find (contains pc) kept ≡ None → find (λ (x : Source). holds_address pc (source_function x)) sources ≡ None → (functions : List Function) → functions_of 0 objects ≡ Ok functions → RowAt functions pc None
+  no_row no_kept no_omitted = of_these None (none_there h.functions h.sorted h.by_start.moved apart pc sources h.sources_are (subst (λ (ks : List Func). find (contains pc) ks ≡ None) h.kept_are no_kept) no_omitted)

@@ -1,0 +1,154 @@
+//! What call frame information says at an address.
+
+ghost use Rattle.std.specs.Prelude.{◌≡◌, ◌≤◌, ◌<◌, ◌+◌, ◌^◌, ◌&&◌, All, List, Ok, None, length, map, nat_le, nat_lt, IfOk};
+ghost use Rattle.std.specs.List.{find};
+ghost use Rattle.std.specs.Option.{option_map};
+ghost use Rattle.sf_model.specs.Lookup.{contains};
+ghost use Rattle.sf_express.specs.Pieces.{ArePieces, AreSaidBy, piece_of_row};
+ghost use Rattle.sf_asm.specs.declared.fault.GatherFault.TheVariants as gather;
+ghost use Rattle.sf_asm.specs.Accepted.{CanBeGathered};
+ghost use Rattle.sf_asm.specs.Faithful.{holds_address};
+ghost use Rattle.sf_asm.specs.Functions.{Function, functions_of, object_of};
+ghost use Rattle.sf_asm.specs.Said.{RowAt, SaysUpTo, form_content, said_in};
+ghost use Rattle.sf_asm.specs.Sources.{AreWithSources, functions_lent, source_function};
+
+use crate::fault::GatherFault;
+use crate::gathering::{WithSources, gather_with_sources};
+use crate::input::Input;
+use crate::pieces::pieces_said;
+use crate::source::Source;
+use cfa_machine::Runner;
+use sf_base::NoMemory;
+use sf_express::{Piece, piece_at, pieces_of_rows};
+use sf_model::{Content, Func, Key};
+use std::alloc::Global;
+
+/// Whether a function of this start and size has an address.
+#[inline(always)]
+fn has_address(start: u64, size: u64, pc: u64) -> bool
+    ensures { result ≡ (nat_le start pc && nat_lt pc (start + size)) }
+{
+    start <= pc && u128::from(pc) < u128::from(start) + u128::from(size)
+}
+
+/// Whether a kept function has an address.
+#[inline(always)]
+fn kept_has(func: &Func, pc: u64) -> bool
+    ensures { result ≡ contains pc func.now }
+{
+    has_address(func.start, u64::from(func.size), pc)
+}
+
+/// Whether an omitted function has an address.
+#[inline(always)]
+fn omitted_has(source: &Source<'_>, pc: u64) -> bool
+    ensures { result ≡ holds_address pc (source_function source.now) }
+{
+    has_address(source.facts.start, source.facts.size, pc)
+}
+
+/// The kept function that has an address.
+fn kept_at(kept: &[Func], pc: u64) -> Option<&Func>
+    ensures { option_map (λ f. f.now) result ≡ find (contains pc) kept.now }
+{
+    kept.iter().find(|func| kept_has(func, pc))
+}
+
+/// The omitted function that has an address.
+fn omitted_at<'s, 'a>(sources: &'s [Source<'a>], pc: u64) -> Option<&'s Source<'a>>
+    ensures { option_map (λ s. s.now) result ≡ find (λ s. holds_address pc (source_function s)) sources.now }
+{
+    sources.iter().find(|source| omitted_has(source, pc))
+}
+
+/// What a function's pieces say at one of its addresses, and the last of its addresses up to which they do.
+fn row_in(pieces: &[Piece], start: u64, size: u64, key: Key, pc: u64) -> Option<(Content, Key, u64)>
+    requires from { start ≤ pc }
+    requires to { pc < start + size }
+    requires end { start + size ≤ 2 ^ 64 }
+    requires pieces { ArePieces size pieces.now }
+    ensures { (f : Function) → f.start ≡ start → f.size ≡ size → f.key ≡ key → AreSaidBy size (form_content f) pieces.now → SaysUpTo (λ p. said_in p f) f pc result }
+{
+    let (content, last) = piece_at(pieces, size, pc - start);
+    Some((content?, key, start + last))
+}
+
+/// What a kept function says at one of its addresses, by its rows.
+fn kept_row(alloc: Global, func: &Func, pc: u64) -> Result<Option<(Content, Key, u64)>, NoMemory>
+    requires from { func.now.start ≤ pc }
+    requires to { pc < func.now.start + func.now.size }
+    requires end { func.now.start + func.now.size ≤ 2 ^ 64 }
+    requires pieces { ArePieces func.now.size (map piece_of_row func.now.rows) }
+    ensures { IfOk result (λ row. (f : Function) → f.start ≡ func.now.start → f.size ≡ func.now.size → f.key ≡ func.now.key → AreSaidBy func.now.size (form_content f) (map piece_of_row func.now.rows) → SaysUpTo (λ p. said_in p f) f pc row) }
+{
+    let pieces = pieces_of_rows(alloc, func.rows.as_slice())?;
+    Ok(row_in(&pieces, func.start, u64::from(func.size), func.key, pc))
+}
+
+/// What an omitted function says at one of its addresses, by its instructions.
+fn omitted_row(
+    alloc: Global,
+    source: &Source<'_>,
+    pc: u64,
+) -> Result<Option<(Content, Key, u64)>, NoMemory>
+    requires from { source.now.facts.start ≤ pc }
+    requires to { pc < source.now.facts.start + source.now.facts.size }
+    ensures { IfOk result (λ row. SaysUpTo (λ p. said_in p (source_function source.now)) (source_function source.now) pc row) }
+{
+    let facts = source.facts;
+    let pieces = pieces_said(alloc, source, &mut Runner::new())?;
+    Ok(row_in(&pieces, facts.start, facts.size, facts.key, pc))
+}
+
+/// The one fault of inputs that can be gathered.
+fn only_memory(fault: GatherFault) -> NoMemory
+    requires { fault ≡ gather.NoMemory }
+{
+    match fault {
+        GatherFault::NoMemory => NoMemory,
+        _ => unreachable!(),
+    }
+}
+
+/// The functions of inputs that can be gathered.
+fn gather_accepted<'a>(alloc: Global, inputs: &[Input<'a>]) -> Result<WithSources<'a>, NoMemory>
+    requires some { (0 < length inputs.now) × (length inputs.now ≤ 512) }
+    requires small { All (λ input. length input.bytes.now < 2 ^ 32) inputs.now }
+    requires accepted { CanBeGathered None (map object_of inputs.now) }
+    ensures { IfOk result (λ g. AreWithSources None (map object_of inputs.now) g.arch g.kept.items g.omitted.items (functions_lent g.sources.items)) }
+{
+    match gather_with_sources(alloc, inputs, None) {
+        Ok(gathered) => Ok(gathered),
+        Err(fault) => Err(only_memory(fault)),
+    }
+}
+
+/// What call frame information says at an address, in kept and in omitted functions alike: the content of the
+/// row there and the key of its function, and the greatest address of that function up to which the content
+/// stays the same. It is none where no function has the address, where SFrame has no form for the function's
+/// frames, and where there is a reason against the row. The caller owes 1 to 512 inputs that can be gathered,
+/// each of fewer than 2^32 bytes.
+///
+/// # Errors
+///
+/// `NoMemory` where memory runs out.
+pub fn row_at(
+    alloc: Global,
+    inputs: &[Input<'_>],
+    pc: u64,
+) -> Result<Option<(Content, Key, u64)>, NoMemory>
+    requires some { (0 < length inputs.now) × (length inputs.now ≤ 512) }
+    requires small { All (λ input. length input.bytes.now < 2 ^ 32) inputs.now }
+    requires accepted { CanBeGathered None (map object_of inputs.now) }
+    // It is what the definition says of the functions of the inputs.
+    ensures { IfOk result (λ row. (functions : List Function) → functions_of 0 (map object_of inputs.now) ≡ Ok functions → RowAt functions pc row) }
+{
+    let gathered = gather_accepted(alloc, inputs)?;
+    if let Some(func) = kept_at(&gathered.kept, pc) {
+        return kept_row(alloc, func, pc);
+    }
+    match omitted_at(&gathered.sources, pc) {
+        Some(source) => omitted_row(alloc, source, pc),
+        None => Ok(None),
+    }
+}

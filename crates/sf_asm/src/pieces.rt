@@ -1,0 +1,96 @@
+//! What a function that is left out says from offset to offset.
+
+ghost use Rattle.std.specs.Prelude.{◌≡◌, ◌<◌, ◌^◌, [], ◌∷◌, None, OnOk, IfOk};
+ghost use Rattle.sf_bytes.specs.Cursor.{cursor};
+ghost use Rattle.cfa_insn.specs.Listing.{listing};
+ghost use Rattle.cfa_machine.specs.Left.{rows_left};
+ghost use Rattle.cfa_machine.specs.Pass.{rows_by};
+ghost use Rattle.sf_express.specs.Pieces.{AreSaidBy, content_in};
+ghost use Rattle.sf_asm.specs.Kept.{says_of};
+ghost use Rattle.sf_asm.specs.Said.{AllFit, form_content, has_form};
+ghost use Rattle.sf_asm.specs.Sources.{source_function};
+
+use crate::source::Source;
+use cfa_machine::Runner;
+use sf_base::NoMemory;
+use sf_express::{Piece, pieces_run};
+use sf_model::Arch;
+use std::alloc::Global;
+
+/// Whether SFrame has a form for the frames of a function.
+fn is_sayable(source: &Source<'_>) -> bool
+    ensures { result ≡ has_form (source_function source.now) }
+{
+    let column = match source.arch {
+        Arch::Amd64 => 16,
+        Arch::Aarch64 => 30,
+    };
+    source.facts.column == column && !source.facts.signal
+}
+
+/// Starts the runner on the instructions of an omitted function. They were run when it was read, so that no
+/// fault comes.
+fn begin<'a>(source: &Source<'a>, run: &mut Runner<'a>) -> Result<(), NoMemory>
+    ensures small { source.now.facts.size < 2 ^ 64 }
+    ensures begun { OnOk result (rows_left run.new ≡ rows_by source.now.arch source.now.code source.now.factor source.now.facts.size (listing (cursor source.now.initial)) (listing (cursor source.now.own))) }
+{
+    let begun = run.start(
+        source.arch,
+        source.code,
+        source.factor,
+        source.initial,
+        source.own,
+        source.facts.size,
+    );
+    match begun {
+        Ok(()) => Ok(()),
+        Err(_) => Err(NoMemory),
+    }
+}
+
+/// What an omitted function says whose frames SFrame has a form for.
+fn pieces_of<'a>(
+    alloc: Global,
+    source: &Source<'a>,
+    run: &mut Runner<'a>,
+) -> Result<Vec<Piece>, NoMemory>
+    requires { 0 < source.now.facts.size }
+    ensures said { IfOk result (λ pieces. AreSaidBy source.now.facts.size (λ offset. content_in (says_of (source_function source.now) offset)) pieces.items) }
+    ensures fits { IfOk result (λ pieces. AllFit source.now.arch pieces.items) }
+{
+    begin(source, run)?;
+    match pieces_run(alloc, source.arch, run) {
+        Ok(pieces) => Ok(pieces),
+        Err(_) => Err(NoMemory),
+    }
+}
+
+/// One piece that says nothing.
+fn nothing_said(alloc: Global) -> Result<Vec<Piece>, NoMemory>
+    ensures { IfOk result (λ pieces. pieces.items ≡ record { start = 0; content = None } ∷ []) }
+{
+    let mut pieces = Vec::new(alloc);
+    pieces.push(Piece {
+        start: 0,
+        content: None,
+    })?;
+    Ok(pieces)
+}
+
+/// What a function says from offset to offset, where SFrame has a form for it, with a piece where it says
+/// something else than before. The caller owes a function that is not empty.
+pub fn pieces_said<'a>(
+    alloc: Global,
+    source: &Source<'a>,
+    run: &mut Runner<'a>,
+) -> Result<Vec<Piece>, NoMemory>
+    requires { 0 < source.now.facts.size }
+    ensures said { IfOk result (λ pieces. AreSaidBy source.now.facts.size (form_content (source_function source.now)) pieces.items) }
+    ensures fits { IfOk result (λ pieces. AllFit source.now.arch pieces.items) }
+{
+    if is_sayable(source) {
+        pieces_of(alloc, source, run)
+    } else {
+        nothing_said(alloc)
+    }
+}
