@@ -1,4 +1,4 @@
-//! A run of each command that is done, with the values of its cases. The last two read a core file.
+//! A run of each command that is done, with the values of its cases.
 
 /// The words of a run, its files in the order in which they are read, the section that it leaves in `o`, and its text.
 pub struct Worked {
