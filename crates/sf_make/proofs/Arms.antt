@@ -1,7 +1,6 @@
 -- What commands make of the bytes of their items is what they come to.
 use Rattle.std.specs.List.{AllZip}
-use Rattle.std.proofs.Common.{◌≡◌, ℕ, List, [], ◌∷◌, length, Option, Some, None, Result, Ok, Err, refl, ap, sym, subst, ◌∙◌, inl, inr}
-use Rattle.std.proofs.lemmas.List.{append-nil}
+use Rattle.std.proofs.Common.{◌≡◌, ℕ, List, ◌∷◌, length, Option, Some, None, Result, Ok, Err, refl, ap, sym, subst, ◌∙◌, inl, inr}
 use Rattle.sf_model.specs.declared.machine.Arch.{Arch}
 use Rattle.sf_model.specs.declared.omission.Omitted.{Omitted}
 use Rattle.sf_model.specs.declared.omission.Span.{Span}
@@ -37,12 +36,14 @@ use Rattle.sf_items.specs.declared.refusal.Refusal.{Refusal}
 use Rattle.sf_items.specs.declared.refusal.Refusal.TheVariants as refusal
 use Rattle.sf_make.specs.declared.made.Outcome.TheVariants.{Done}
 use Rattle.sf_make.specs.Coming.{Coming, Makes, Refused}
+use Rattle.sf_make.specs.FirstFault.{first_fault}
 use Rattle.sf_make.specs.Making.{ComesAs}
 use Rattle.sf_make.specs.LinkPltComes.{ObjectsCome}
-use Rattle.sf_make.specs.MergeComes.{Item, IsSectionOf, MergeComesAt, coming_of_merging, sections_fault}
+use Rattle.sf_make.specs.MergeComes.{Item, IsSectionOf, MergeComesAt, coming_of_merging, item_check, sections_fault}
 use Rattle.sf_make.specs.SectionComes.{coming_of_decoding}
 use Rattle.sf_make.specs.SlimComes.{SlimComesFrom}
-use Rattle.sf_make.proofs.Merged.{Reading, fault_step, no_fault}
+use Rattle.sf_make.proofs.Merged.{ReadingSections}
+use Rattle.sf_make.proofs.Reading.{fault_step}
 
 -- a refusal that tells one thing tells what follows from it
 pub comes_as : (P Q : Coming → Type 0) → ((c : Coming) → P c → Q c) → (refused : Refusal) → ComesAs P refused → ComesAs Q refused
@@ -55,23 +56,16 @@ pub memory_comes : (P : Coming → Type 0) (refused : Refusal) → refused ≡ r
 memory_comes P refused e = subst (ComesAs P) (sym e) tt
 
 -- ---- merge
-pub all_checked : (items : List Item) (k : ℕ) (left : List Item) (tables : List Table) → Reading items k left tables → left ≡ [] → sections_fault 0 items ≡ None
-all_checked items k left tables h none = h.fault ∙ ap (sections_fault k) none ∙ no_fault k
-
-pub all_sections : (items : List Item) (k : ℕ) (left : List Item) (tables : List Table) → Reading items k left tables → left ≡ [] → AllZip IsSectionOf items tables
-all_sections items k left tables h none =
-    subst (λ (ts : List Table). AllZip IsSectionOf items ts) (append-nil tables) (h.are [] (subst (λ (is : List Item). AllZip IsSectionOf is []) (sym none) tt))
-
 pub unread : (items : List Item) (k number : ℕ) (left : List Item) (tables : List Table) (item : Item) (later : List Item) (fault : DecodeFault) (refused : Refusal)
-    → Reading items k left tables → left ≡ item ∷ later → section_check item.1 item.0.at ≡ Err fault → number ≡ k → ComesAs (λ (c : Coming). c ≡ coming_of_decoding number fault) refused
-    → (at : ℕ) → ComesAs (λ (c : Coming). MergeComesAt at items (sections_fault 0 items) c) refused
+    → ReadingSections items k left tables → left ≡ item ∷ later → section_check item.1 item.0.at ≡ Err fault → number ≡ k → ComesAs (λ (c : Coming). c ≡ coming_of_decoding number fault) refused
+    → (at : ℕ) → ComesAs (λ (c : Coming). MergeComesAt at items (sections_fault items) c) refused
 unread items k number left tables item later fault refused h are check is tells at =
-    let first : sections_fault 0 items ≡ Some (k, fault) = h.fault ∙ ap (sections_fault k) are ∙ fault_step k item later (Err fault) check in
-    comes_as (λ (c : Coming). c ≡ coming_of_decoding number fault) (λ (c : Coming). MergeComesAt at items (sections_fault 0 items) c)
+    let first : sections_fault items ≡ Some (k, fault) = h.fault ∙ ap (first_fault item_check k) are ∙ fault_step item_check k item later (Err fault) check in
+    comes_as (λ (c : Coming). c ≡ coming_of_decoding number fault) (λ (c : Coming). MergeComesAt at items (sections_fault items) c)
     (λ c e. subst (λ (f : Option (ℕ × DecodeFault)). MergeComesAt at items f c) (sym first) (e ∙ ap (λ (n : ℕ). coming_of_decoding n fault) is)) refused tells
 
-pub merged_comes : (at : ℕ) (items : List Item) (tables : List Table) (section text : List ℕ) (count rows : ℕ) → sections_fault 0 items ≡ None → AllZip IsSectionOf items tables → (h : IsMerged tables at section count rows)
-    → text ≡ merged_text count rows → MergeComesAt at items (sections_fault 0 items) (Makes Done (Some section) text)
+pub merged_comes : (at : ℕ) (items : List Item) (tables : List Table) (section text : List ℕ) (count rows : ℕ) → sections_fault items ≡ None → AllZip IsSectionOf items tables → (h : IsMerged tables at section count rows)
+    → text ≡ merged_text count rows → MergeComesAt at items (sections_fault items) (Makes Done (Some section) text)
 merged_comes at items tables section text count rows checked are h text_is =
     subst (λ (f : Option (ℕ × DecodeFault)). MergeComesAt at items f (Makes Done (Some section) text)) (sym checked) record {
       tables = tables;
@@ -81,11 +75,11 @@ merged_comes at items tables section text count rows checked are h text_is =
       comes = record { section = section; text = text; count = count; rows = rows; merged = h; text_is = text_is; is = refl };
     }
 
-pub unmerged_comes : (at : ℕ) (items : List Item) (tables : List Table) (fault : MergeFault) (refused : Refusal) → sections_fault 0 items ≡ None → AllZip IsSectionOf items tables
-    → IsFirstFault tables at fault → (fault ≡ merge.NoMemory → refused ≡ refusal.Memory) → ComesAs (λ (c : Coming). c ≡ coming_of_merging fault) refused → ComesAs (λ (c : Coming). MergeComesAt at items (sections_fault 0 items) c) refused
-unmerged_comes at items tables fault refused checked are (inl none) memory tells = memory_comes (λ (c : Coming). MergeComesAt at items (sections_fault 0 items) c) refused (memory none)
+pub unmerged_comes : (at : ℕ) (items : List Item) (tables : List Table) (fault : MergeFault) (refused : Refusal) → sections_fault items ≡ None → AllZip IsSectionOf items tables
+    → IsFirstFault tables at fault → (fault ≡ merge.NoMemory → refused ≡ refusal.Memory) → ComesAs (λ (c : Coming). c ≡ coming_of_merging fault) refused → ComesAs (λ (c : Coming). MergeComesAt at items (sections_fault items) c) refused
+unmerged_comes at items tables fault refused checked are (inl none) memory tells = memory_comes (λ (c : Coming). MergeComesAt at items (sections_fault items) c) refused (memory none)
 unmerged_comes at items tables fault refused checked are (inr first) memory tells =
-    comes_as (λ (c : Coming). c ≡ coming_of_merging fault) (λ (c : Coming). MergeComesAt at items (sections_fault 0 items) c)
+    comes_as (λ (c : Coming). c ≡ coming_of_merging fault) (λ (c : Coming). MergeComesAt at items (sections_fault items) c)
     (λ c e. subst (λ (f : Option (ℕ × DecodeFault)). MergeComesAt at items f c) (sym checked) record { tables = tables; are = are; result = Err fault; merges = first; comes = e }) refused tells
 
 -- ---- slim

@@ -254,7 +254,7 @@ one_command (LinkPlt link) items c d are p q =
     one_plt_link (objects_in link.inputs items) link.section.at c d (some_objects link.inputs items are.asked (are.count ∙ length-map link.inputs input_item)) p q
 one_command (Merge merge) items c d are p q =
     let count = are.count ∙ length-map merge.sections section_item in
-    one_merge_coming merge.out.at merge.sections items (sections_fault 0 (zip merge.sections items)) c d (omega (arith, count, are.asked)) count p q
+    one_merge_coming merge.out.at merge.sections items (sections_fault (zip merge.sections items)) c d (omega (arith, count, are.asked)) count p q
 one_command (Slim slim) items c d are p q =
     one_slim_coming slim.section.at (get_or items 0 []) slim.out.at (section_check (get_or items 0 []) slim.section.at) c d p q
 one_command (Dump section) items c d are p q = one_section section.at (get_or items 0 []) Whole (section_check (get_or items 0 []) section.at) c d p q

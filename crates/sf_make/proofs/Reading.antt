@@ -1,6 +1,6 @@
 -- Items that are read one after the other: the first fault of all, and what was made of those before it.
 use Rattle.std.specs.List.{AllZip}
-use Rattle.std.proofs.Common.{◌≡◌, ◌+◌, ℕ, List, [], ◌∷◌, ◌++◌, map, None, Result, Ok, refl, ap, sym, subst, ◌∙◌}
+use Rattle.std.proofs.Common.{◌≡◌, ◌+◌, ℕ, List, [], ◌∷◌, ◌++◌, map, Option, None, Result, Ok, Err, refl, ap, sym, subst, ◌∙◌}
 use Rattle.std.proofs.lemmas.List.{append-nil}
 use Rattle.sf_make.specs.FirstFault.{first_fault, or_in}
 
@@ -45,3 +45,8 @@ all_fine check Is first all number left made h none = h.fault ∙ ap (first_faul
 pub all_made : {A M F : Type 0} (check : A → Result (Unit {0}) F) (Is : A → M → Type 0) (first : ℕ) (all : List A) (number : ℕ) (left : List A) (made : List M) → Reading check Is first all number left made → left ≡ [] → AllZip Is all made
 all_made {A} {M} {F} check Is first all number left made h none =
     subst (λ (ms : List M). AllZip Is all ms) (append-nil made) (h.are [] (subst (λ (items : List A). AllZip Is items []) (sym none) tt))
+
+-- ---- the first is fine, and those behind it
+pub none_here : {F : Type 0} (check : Result (Unit {0}) F) (item : ℕ) (later : Option (ℕ × F)) → or_in check item later ≡ None → (check ≡ Ok tt) × (later ≡ None)
+none_here (Ok tt) item later e = (refl, e)
+none_here (Err fault) item later e = cc

@@ -56,14 +56,16 @@ use Rattle.sf_make.specs.declared.made.Outcome.TheVariants.{Done}
 use Rattle.sf_make.specs.BacktraceComes.{BacktraceComesFrom, section_and_walks}
 use Rattle.sf_make.specs.Comes.{AreItems, CommandComes, Comes, ComesToSomething, command_limit}
 use Rattle.sf_make.specs.Coming.{Coming, ComesWithin, Exceeded, Makes, Refused}
+use Rattle.sf_make.specs.FirstFault.{first_fault}
 use Rattle.sf_make.specs.GenComes.{made_object, summary_alone}
 use Rattle.sf_make.specs.LinkComes.{objects_in, section_and_report}
 use Rattle.sf_make.specs.Linked.{LinkedComes, LinkedComesFrom, Makings, coming_of_linking}
-use Rattle.sf_make.specs.MergeComes.{IsSectionOf, Item, MergeComesAt, MergeComesFrom, coming_of_merging, or_in, sections_fault}
+use Rattle.sf_make.specs.MergeComes.{IsSectionOf, Item, MergeComesAt, MergeComesFrom, coming_of_merging, item_check, sections_fault}
 use Rattle.sf_make.specs.SectionComes.{SectionComesFrom, Shows, coming_of_decoding, found_outcome, pair_of}
 use Rattle.sf_make.specs.SlimComes.{SlimComesFrom, SlimmingComes}
 use Rattle.sf_make.specs.WalkComes.{WalkComesFrom, coming_of_core}
 use Rattle.sf_make.proofs.KeptFit.{OutcomeFits, all_kept_fit, entry_fits, entry_sound, functions_read}
+use Rattle.sf_make.proofs.Reading.{none_here}
 use Rattle.sf_make.proofs.SomeProcwalk.{files_have_bytes, later_bytes, some_procwalk}
 use Rattle.sf_make.proofs.SectionsFit.{IsSaid, some_merged, some_slimmed}
 
@@ -106,15 +108,11 @@ next_section item items bytes e h =
       said = All-cons IsSaid (table_in item.1 item.0.at) (tables_in items) (record { bytes = item.1; from = item.0.at; are_bytes = bytes; is = is }) h.said;
     }
 
-none_here : (check : Result (Unit {0}) DecodeFault) (number : ℕ) (later : Option (ℕ × DecodeFault)) → or_in check number later ≡ None → (check ≡ Ok tt) × (later ≡ None)
-none_here (Ok tt) number later e = (refl, e)
-none_here (Err fault) number later e = cc
-
-all_sections : (number : ℕ) (items : List Item) → All HasBytes items → sections_fault number items ≡ None → AreSections items
-unfolding sections_fault tables_in
+all_sections : (number : ℕ) (items : List Item) → All HasBytes items → first_fault item_check number items ≡ None → AreSections items
+unfolding first_fault tables_in
 all_sections number [] bytes e = record { are = tt; said = All-nil IsSaid }
 all_sections number (item ∷ items) bytes e =
-    let here = none_here (section_check item.1 item.0.at) number (sections_fault (number + 1) items) e in
+    let here = none_here (item_check item) number (first_fault item_check (number + 1) items) e in
     next_section item items (All-head HasBytes item items bytes) here.0 (all_sections (number + 1) items (All-tail HasBytes item items bytes) here.1)
 
 some_merging : (at : ℕ) (tables : List Table) → All IsSaid tables → (result : Result (List Func) MergeFault) → Merges tables at result → (coming : Coming) × MergeComesFrom at tables result coming
@@ -123,7 +121,7 @@ some_merging at tables said (Ok functions) h =
     let made = some_merged tables at functions said h in
     (_, record { section = made.0; text = merged_text made.1 made.2; count = made.1; rows = made.2; merged = made.3; text_is = refl; is = refl })
 
-some_merge : (at : ℕ) (items : List Item) → All HasBytes items → (fault : Option (ℕ × DecodeFault)) → sections_fault 0 items ≡ fault → (coming : Coming) × MergeComesAt at items fault coming
+some_merge : (at : ℕ) (items : List Item) → All HasBytes items → (fault : Option (ℕ × DecodeFault)) → sections_fault items ≡ fault → (coming : Coming) × MergeComesAt at items fault coming
 some_merge at items bytes (Some fault) e = (_, refl)
 some_merge at items bytes None e =
     let sections = all_sections 0 items bytes e in
@@ -259,7 +257,7 @@ first_bytes items i h lt = h i [] lt
 some_command : (command : CommandWords) (items : List (List ℕ)) → AreItems command items → All AreBytes items → ComesToSomething command → (coming : Coming) × CommandComes command items coming
 some_command (Link link) items are bytes of = some_linked None (objects_in link.inputs items) link.section.at section_and_report
 some_command (LinkPlt link) items are bytes of = absurd of
-some_command (Merge merge) items are bytes of = some_merge merge.out.at (zip merge.sections items) (all_items merge.sections items bytes) (sections_fault 0 (zip merge.sections items)) refl
+some_command (Merge merge) items are bytes of = some_merge merge.out.at (zip merge.sections items) (all_items merge.sections items bytes) (sections_fault (zip merge.sections items)) refl
 some_command (Slim slim) items are bytes of =
     let count : length items ≡ 1 = are.count in
     some_slim slim.section.at slim.out.at (get_or items 0 []) (first_bytes items 0 bytes (omega (count, arith))) (section_check (get_or items 0 []) slim.section.at) refl

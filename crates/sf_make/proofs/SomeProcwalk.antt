@@ -22,9 +22,10 @@ use Rattle.sf_modules.specs.Module.{IsModule, ModuleView, address_of}
 use Rattle.sf_modules.specs.Note.{HasEntries, entries_check, entries_from, entry_check, entry_count, header_check, names_part, note_check, page_size, texts_in}
 use Rattle.sf_modules.specs.Reading.{decode_part, entry_part, mapping_part, module_check, section_part, segments_part, table_part}
 use Rattle.sf_make.specs.Coming.{Coming}
-use Rattle.sf_make.specs.FirstFault.{first_fault, or_in}
+use Rattle.sf_make.specs.FirstFault.{first_fault}
 use Rattle.sf_make.specs.ProcwalkComes.{File, FilesCome, IsModuleOf, NoteComes, ProcwalkComesFrom, coming_of_module, file_check as check_of_file, file_note, files_fault}
 use Rattle.sf_make.specs.WalkComes.{coming_of_core}
+use Rattle.sf_make.proofs.Reading.{none_here}
 
 -- ---- checks one after the other
 both_fine : (x y : Check) → (x >> y) ≡ Ok tt → (x ≡ Ok tt) × (y ≡ Ok tt)
@@ -129,10 +130,6 @@ files_have_bytes (name ∷ names) (bytes ∷ items) h =
 pub later_bytes : (items : List (List ℕ)) → All AreBytes items → All AreBytes (drop 1 items)
 later_bytes [] h = h
 later_bytes (first ∷ items) h = All-tail AreBytes first items h
-
-none_here : {F : Type 0} (check : Result (Unit {0}) F) (item : ℕ) (later : Option (ℕ × F)) → or_in check item later ≡ None → (check ≡ Ok tt) × (later ≡ None)
-none_here (Ok tt) item later e = (refl, e)
-none_here (Err fault) item later e = cc
 
 some_modules : (page : ℕ) (entries : List EntryView) (item : ℕ) (files : List File) → All HasBytes files → first_fault (check_of_file page entries) item files ≡ None
     → (modules : List ModuleView) × AllZip (IsModuleOf page entries) files modules

@@ -1,5 +1,5 @@
 -- What `merge` comes to.
-use Rattle.std.specs.Prelude.{◌≡◌, ◌+◌, ℕ, List, [], ◌∷◌, Option, Some, None, Result, Ok, Err}
+use Rattle.std.specs.Prelude.{◌≡◌, ℕ, List, Option, Some, None, Result, Ok, Err}
 use Rattle.std.specs.List.{AllZip, zip}
 use Rattle.sf_model.specs.declared.function.Func.{Func}
 use Rattle.sf_model.specs.Section.{Section}
@@ -16,6 +16,7 @@ use Rattle.sf_items.specs.declared.refusal.Limit.TheVariants.{Functions, Rows}
 use Rattle.sf_words.specs.Words.{SectionWords}
 use Rattle.sf_make.specs.declared.made.Outcome.TheVariants.{Done}
 use Rattle.sf_make.specs.Coming.{Coming, Refused, Exceeded, Makes}
+use Rattle.sf_make.specs.FirstFault.{first_fault}
 use Rattle.sf_make.specs.SectionComes.{coming_of_decoding}
 
 -- a section as it is named, and its bytes
@@ -26,15 +27,12 @@ Item = SectionWords × List ℕ
 abbrev pub IsSectionOf : Item → Table → Type 0
 IsSectionOf item table = Section item.1 item.0.at table
 
--- a fault with the number of its item
-abbrev pub or_in : Result (Unit {0}) DecodeFault → (item : ℕ) → Option (ℕ × DecodeFault) → Option (ℕ × DecodeFault)
-or_in (Err fault) item later = Some (item, fault)
-or_in (Ok u) item later = later
+abbrev pub item_check : Item → Result (Unit {0}) DecodeFault
+item_check item = section_check item.1 item.0.at
 
--- the first item that is no section, of items that are numbered from this number on, and its first fault
-unfoldable pub sections_fault : (number : ℕ) → List Item → Option (ℕ × DecodeFault)
-sections_fault number [] = None
-sections_fault number (item ∷ items) = or_in (section_check item.1 item.0.at) number (sections_fault (number + 1) items)
+-- the first item that is no section, and its first fault
+abbrev pub sections_fault : List Item → Option (ℕ × DecodeFault)
+sections_fault items = first_fault item_check 0 items
 
 -- what a fault of merging comes to
 abbrev pub coming_of_merging : MergeFault → Coming
@@ -72,4 +70,4 @@ MergeComesAt at items None coming = TablesCome at items coming
 
 -- what merging sections of these bytes comes to, for a section at this address
 abbrev pub MergeComes : List SectionWords → (at : ℕ) → (items : List (List ℕ)) → Coming → Type 0
-MergeComes sections at items coming = MergeComesAt at (zip sections items) (sections_fault 0 (zip sections items)) coming
+MergeComes sections at items coming = MergeComesAt at (zip sections items) (sections_fault (zip sections items)) coming

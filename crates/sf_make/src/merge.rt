@@ -40,7 +40,7 @@ fn views_of<'a, 'b>(
     requires count { length items.now ≡ length sections.now }
     requires few { length items.now ≤ 512 }
     ensures count { IfOk result (λ views. length views.items ≡ length items.now) }
-    ensures checked { IfOk result (λ _. sections_fault 0 (zip (map section_of sections.now) (map (λ v. v.items) items.now)) ≡ None) }
+    ensures checked { IfOk result (λ _. sections_fault (zip (map section_of sections.now) (map (λ v. v.items) items.now)) ≡ None) }
     ensures are { IfOk result (λ views. AllZip IsSectionOf (zip (map section_of sections.now) (map (λ v. v.items) items.now)) (map table_of views.items)) }
     ensures refused { IfErr result (λ refused. (at : ℕ) → ComesAs (MergeComes (map section_of sections.now) at (map (λ v. v.items) items.now)) refused) }
 {

@@ -4,10 +4,11 @@ use Rattle.std.proofs.lemmas.Slice.Zip.{zip_turn, zip_end}
 use Rattle.sf_decode.specs.Decoding.{section_check}
 use Rattle.sf_decode.specs.View.{table_of}
 use Rattle.sf_words.specs.declared.words.SectionFile.{SectionFile}
-use Rattle.sf_make.specs.MergeComes.{Item, IsSectionOf}
+use Rattle.sf_make.specs.MergeComes.{Item, IsSectionOf, item_check}
 use Rattle.sf_words.specs.Parsed.{section_of}
-use Rattle.sf_make.proofs.Merged.{Reading, items_of, item_at, one_item, no_item_left, one_more_read}
-use Rattle.sf_make.proofs.Arms.{all_checked, all_sections, unread}
+use Rattle.sf_make.proofs.Merged.{ReadingSections, items_of, item_at, one_item, no_item_left}
+use Rattle.sf_make.proofs.Arms.{unread}
+use Rattle.sf_make.proofs.Reading.{all_fine, all_made, one_more_read}
 use Rattle.sf_make.proofs.merge.views_of.Goals as goal
 
 pub loop-section-preserved : goal.loop-section-preserved
@@ -23,10 +24,10 @@ loop-section-preserved c =
     ∙ ap (λ (s : SectionFile). (section_of s, (get_or c.args.items.now k c.in-Some.bytes.now).items)) (t.2 c.in-Some.section.now) in
     let check : section_check item.1 item.0.at ≡ Ok tt = subst (λ (i : Item). section_check i.1 i.0.at ≡ Ok tt) read (sym c.in-Ok.ensures.exact) in
     let is : IsSectionOf item (table_of c.in-Ok.view) = subst (λ (i : Item). IsSectionOf i (table_of c.in-Ok.view)) read c.in-Ok.ensures.sound in
-    let more = one_more_read (items_of c.args.sections.now c.args.items.now) k _ c.loop-section.views.items c.push.new.self.items c.in-Ok.view item _ c.loop-section.invariant.reading left check is c.in_ok-push-in-Ok.ensures.items in
+    let more = one_more_read item_check IsSectionOf table_of 0 (items_of c.args.sections.now c.args.items.now) k _ c.loop-section.views.items c.push.new.self.items c.in-Ok.view item _ c.loop-section.invariant.reading left check is c.in_ok-push-in-Ok.ensures.items in
     record {
       count = omega (arith, c.in_ok-push-in-Ok.ensures.len, c.push.new.self.ok.0, c.loop-section.views.ok.0, c.loop-section.invariant.count, on);
-      reading = subst (λ (n : ℕ). Reading (items_of c.args.sections.now c.args.items.now) n (items_of (drop n c.args.sections.now) (drop n c.args.items.now)) (map table_of c.push.new.self.items)) (sym on) more;
+      reading = subst (λ (n : ℕ). ReadingSections (items_of c.args.sections.now c.args.items.now) n (items_of (drop n c.args.sections.now) (drop n c.args.items.now)) (map table_of c.push.new.self.items)) (sym on) more;
     }
 
 pub returns-in-Err-clause-refused : goal.returns-in-Err-clause-refused
@@ -49,7 +50,7 @@ returns-clause-checked c =
     let t = zip_end c.args.sections.now c.args.items.now c.loop-section.yielded c.into_iter-section-iterator.result c.loop-section.section-iterator c.next.new.self c.next.result (cc) (cc) c.loop-section.yielded_by
     c.in-None.is c.next.ensures.steps in
     let all : length c.args.sections.now ≤ length c.loop-section.yielded = omega (arith, t, c.requires.count) in
-    all_checked (items_of c.args.sections.now c.args.items.now) (length c.loop-section.yielded) _ (map table_of c.loop-section.views.items) c.loop-section.invariant.reading
+    all_fine item_check IsSectionOf 0 (items_of c.args.sections.now c.args.items.now) (length c.loop-section.yielded) _ (map table_of c.loop-section.views.items) c.loop-section.invariant.reading
     (no_item_left c.args.sections.now c.args.items.now (length c.loop-section.yielded) all)
 
 pub returns-clause-are : goal.returns-clause-are
@@ -57,7 +58,7 @@ returns-clause-are c =
     let t = zip_end c.args.sections.now c.args.items.now c.loop-section.yielded c.into_iter-section-iterator.result c.loop-section.section-iterator c.next.new.self c.next.result (cc) (cc) c.loop-section.yielded_by
     c.in-None.is c.next.ensures.steps in
     let all : length c.args.sections.now ≤ length c.loop-section.yielded = omega (arith, t, c.requires.count) in
-    all_sections (items_of c.args.sections.now c.args.items.now) (length c.loop-section.yielded) _ (map table_of c.loop-section.views.items) c.loop-section.invariant.reading
+    all_made item_check IsSectionOf 0 (items_of c.args.sections.now c.args.items.now) (length c.loop-section.yielded) _ (map table_of c.loop-section.views.items) c.loop-section.invariant.reading
     (no_item_left c.args.sections.now c.args.items.now (length c.loop-section.yielded) all)
 
 pub returns-clause-count : goal.returns-clause-count
