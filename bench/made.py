@@ -4,8 +4,11 @@
     made.py OUT functions N     N functions of 16 bytes from 0x1000 on, each with four rows
     made.py OUT rows N          one function at 0x1000 with N rows
     made.py OUT threads N       a core file of N threads, each deep in calls of the function at 0x1000 of 6 bytes
+    made.py OUT process N       a core file of 4096 threads, each deep in calls from one of N shared objects to another, and these: OUT.0 and on
 """
 
+import os
+import runpy
 import struct
 import sys
 
@@ -66,7 +69,32 @@ def threads(count):
     return header + segments + notes + stack
 
 
+def process(out, count):
+    """A core file and its shared objects, as contents by name. Each of these has 1000 functions of 16 bytes and of one row."""
+    made = runpy.run_path(os.path.join(os.path.dirname(os.path.abspath(__file__)), "hostile"))
+    name = os.path.basename(out)
+    loaded = [((at + 1) << 28, b"%s.%d" % (name.encode(), at)) for at in range(count)]
+    # An address in each, one after the other, in another function each time.
+    called = [loaded[at % count][0] + 0x1005 + 16 * (at * 7 % 1000) for at in range(70000)]
+    notes = made["mapped"]([(start, start + 0x200000, it) for start, it in loaded])
+    for pid in range(1, 4097):
+        it = bytearray(status(pid))
+        struct.pack_into("<Q", it, 240, called[pid])
+        struct.pack_into("<Q", it, 264, 0x7010 + 128 * pid)
+        notes += note(1, bytes(it))
+    # A start counts from its own field, and the section lies at 0x100000.
+    module = made["shared_object"](made["apart"](1000, 0x1000 - 0x100000), 0x100000)
+    files = {out: made["core"]([(4, 0, notes), (1, 0x7000, struct.pack("<70000Q", *called))])}
+    files.update(("%s.%d" % (out, at), module) for at in range(count))
+    return files
+
+
 def main(out, what, count):
+    if what == "process":
+        for name, content in process(out, int(count)).items():
+            with open(name, "wb") as file:
+                file.write(content)
+        return
     if what == "threads":
         with open(out, "wb") as file:
             file.write(threads(int(count)))
