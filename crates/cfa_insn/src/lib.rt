@@ -2,7 +2,7 @@
 //!
 //! [`Insns`] is an iterator over a part of a frame description entry or common information entry. It
 //! gives each instruction with its place, up to the end or up to the first that can't be read, and then
-//! that fault once. Expression blocks are lent and never evaluated. No call takes memory.
+//! that fault once. Expression blocks are lent and never evaluated. No call allocates.
 #![tactic(auto)]
 
 mod fault;

@@ -15,9 +15,9 @@ use Rattle.cfa_machine.specs.declared.fault.MachineFault.{MachineFault}
 use Rattle.cfa_machine.specs.declared.columns.Columns.{Columns}
 use Rattle.cfa_machine.specs.Columns.{with_rule, restored, changed, with_cfa_register, with_cfa_offset}
 use Rattle.cfa_machine.specs.Effects.{effect_by}
-use Rattle.cfa_machine.specs.Pass.{◌>>=◌, defined, defined_by}
+use Rattle.cfa_machine.specs.Pass.{◌>>=◌, defined, initial_columns}
 use Rattle.cfa_machine.specs.FullRow.{FullRow, rule_of, with_register_rule, cfa_register, cfa_offset, row_after, columns_of}
-use Rattle.cfa_machine.specs.At.{row_defined, initial_by}
+use Rattle.cfa_machine.specs.RowAtOffset.{row_defined, initial_by}
 
 -- ---- one change
 abbrev pub ChangesTo : Arch → Result Columns MachineFault → FullRow → Type 0
@@ -79,8 +79,8 @@ define_then : (arch : Arch) (given : Result Columns MachineFault) (between last 
 define_then arch (Ok c) between last next e h = subst (λ (d : Columns). ChangesTo arch (next d) last) (sym e) h
 define_then arch (Err e) between last next h g = tt
 
-pub initial_agrees : (arch : Arch) (f : ℤ) (row : FullRow) (items : List Item) → ChangesTo arch (defined_by arch f (columns_of arch row) items) (initial_by f row items)
-unfolding defined_by initial_by
+pub initial_agrees : (arch : Arch) (f : ℤ) (row : FullRow) (items : List Item) → ChangesTo arch (initial_columns arch f (columns_of arch row) items) (initial_by f row items)
+unfolding initial_columns initial_by
 initial_agrees arch f row [] = refl
 initial_agrees arch f row (Ok (place, i) ∷ items) = define_then arch (defined arch place (effect_by f i) (columns_of arch row)) (row_defined (effect_by f i) row) _ _ (define_agrees arch place (effect_by f i) row) (initial_agrees arch f (row_defined (effect_by f i) row) items)
 initial_agrees arch f row (Err e ∷ items) = tt

@@ -13,13 +13,13 @@ use Rattle.cfa_machine.specs.declared.effect.Effect.TheVariants.{Row, Advance, R
 use Rattle.cfa_machine.specs.declared.fault.MachineFault.{MachineFault}
 use Rattle.cfa_machine.specs.declared.fault.MachineFault.TheVariants.{CieInstruction, StateEmpty, StateDepth, NoCfaRegister, Insn, NoMemory}
 use Rattle.cfa_machine.specs.declared.columns.Columns.{Columns}
-use Rattle.cfa_machine.specs.declared.machine.Setup.{Setup}
+use Rattle.cfa_machine.specs.declared.machine.FunctionContext.{FunctionContext}
 use Rattle.cfa_machine.specs.declared.row.DwRow.{DwRow}
 use Rattle.cfa_machine.specs.Columns.{no_columns, changed, with_cfa_register, with_cfa_offset}
 use Rattle.cfa_machine.specs.Effects.{effect_by}
-use Rattle.cfa_machine.specs.Pass.{◌>>=◌, State, defined, defined_by, ran, with_remembered, with_recalled, in_front, rows_from, rows_by, Gives}
+use Rattle.cfa_machine.specs.Pass.{◌>>=◌, State, defined, initial_columns, ran, with_remembered, with_recalled, in_front, rows_from, rows_by, Gives}
 use Rattle.cfa_machine.specs.FullRow.{FullRow, no_row, columns_of}
-use Rattle.cfa_machine.specs.At.{Full, full_after, offset_behind, row_defined, initial_by}
+use Rattle.cfa_machine.specs.RowAtOffset.{UnwindState, after_instruction, offset_behind, row_defined, initial_by}
 use Rattle.cfa_machine.specs.FirstFault.{or_later, unless_register, change_fault, define_fault, initial_fault, recall_fault, run_fault, function_fault, first_fault, Answers}
 use Rattle.cfa_machine.proofs.Agrees.{ChangesTo, define_agrees, initial_agrees}
 use Rattle.cfa_machine.proofs.Says.{Agrees, StepsAgree, ran_agrees, no_columns_there}
@@ -60,8 +60,8 @@ define_then : (arch : Arch) (given : Result Columns MachineFault) (row : FullRow
 define_then arch (Ok c) row next here later e change h = ap (λ (d : Columns). fault_of (next d)) change ∙ h ∙ ap (λ (x : Option MachineFault). or_later x later) e
 define_then arch (Err f) row next here later e change h = ap (λ (x : Option MachineFault). or_later x later) e
 
-initial_faults : (arch : Arch) (f : ℤ) (row : FullRow) (items : List Item) → fault_of (defined_by arch f (columns_of arch row) items) ≡ initial_fault arch f row items
-unfolding defined_by initial_fault
+initial_faults : (arch : Arch) (f : ℤ) (row : FullRow) (items : List Item) → fault_of (initial_columns arch f (columns_of arch row) items) ≡ initial_fault arch f row items
+unfolding initial_columns initial_fault
 initial_faults arch f row [] = refl
 initial_faults arch f row (Err e ∷ items) = refl
 initial_faults arch f row (Ok (place, i) ∷ items) = define_then arch (defined arch place (effect_by f i) (columns_of arch row)) (row_defined (effect_by f i) row) _ _ _ (define_faults arch place (effect_by f i) row) (define_agrees arch place (effect_by f i) row) (initial_faults arch f (row_defined (effect_by f i) row) items)
@@ -83,7 +83,7 @@ recall_faults : (arch : Arch) (place : ℕ) (rows : List FullRow) → fault_of (
 recall_faults arch place [] = refl
 recall_faults arch place (row ∷ rows) = refl
 
-run_faults : (k : Setup) (place : ℕ) (effect : Effect) (s : State) (n : ℕ) (full : Full) → Agrees k s n full → fault_of (ran k place effect s) ≡ run_fault k.arch place effect full
+run_faults : (k : FunctionContext) (place : ℕ) (effect : Effect) (s : State) (n : ℕ) (full : UnwindState) → Agrees k s n full → fault_of (ran k place effect s) ≡ run_fault k.arch place effect full
 run_faults k place (Row change) s n full h =
     fault_behind (changed k.arch place change s.columns) _ ∙ change_faults k.arch place change s.columns ∙ ap (λ (c : Columns). change_fault k.arch place change c.cfa) h.columns
 run_faults k place (Advance delta) s n full h = refl
@@ -94,34 +94,34 @@ run_faults k place Remember s n full h =
 run_faults k place Recall s n full h =
     fault_behind (with_recalled place s.remembered) _ ∙ ap (λ (rows : List Columns). fault_of (with_recalled place rows)) h.remembered ∙ recall_faults k.arch place full.remembered
 
-run_then : (k : Setup) (s : State) (m : ℕ) (behind : Full) (given : Result (State × Option DwRow) MachineFault) (next : State → Result (List DwRow) MachineFault) (here later : Option MachineFault) → fault_of given ≡ here → StepsAgree k s given m behind → ((t : State) → Agrees k t m behind → fault_of (next t) ≡ later)
+run_then : (k : FunctionContext) (s : State) (m : ℕ) (behind : UnwindState) (given : Result (State × Option DwRow) MachineFault) (next : State → Result (List DwRow) MachineFault) (here later : Option MachineFault) → fault_of given ≡ here → StepsAgree k s given m behind → ((t : State) → Agrees k t m behind → fault_of (next t) ≡ later)
     → fault_of (given >>= λ x. (next x.0 >>= λ rows. Ok (in_front x.1 rows))) ≡ or_later here later
 run_then k s m behind (Ok (t, row)) next here later e step go = fault_behind (next t) (in_front row) ∙ go t step.agrees ∙ ap (λ (x : Option MachineFault). or_later x later) e
 run_then k s m behind (Err f) next here later e step go = ap (λ (x : Option MachineFault). or_later x later) e
 
-rows_fault : (k : Setup) (initial : FullRow) (f : ℤ) (s : State) (n : ℕ) (full : Full) (items : List Item) → k.initial ≡ columns_of k.arch initial → Agrees k s n full → fault_of (rows_from k f s items) ≡ function_fault k.arch f initial full items
+rows_fault : (k : FunctionContext) (initial : FullRow) (f : ℤ) (s : State) (n : ℕ) (full : UnwindState) (items : List Item) → k.initial ≡ columns_of k.arch initial → Agrees k s n full → fault_of (rows_from k f s items) ≡ function_fault k.arch f initial full items
 unfolding rows_from function_fault
 rows_fault k initial f s n full [] init h = refl
 rows_fault k initial f s n full (Err e ∷ items) init h = refl
 rows_fault k initial f s n full (Ok (place, i) ∷ items) init h =
     let effect = effect_by f i in
     let m = offset_behind k.code effect n in
-    let behind = full_after initial effect full in
+    let behind = after_instruction initial effect full in
     run_then k s m behind (ran k place effect s) (λ t. rows_from k f t items) _ _ (run_faults k place effect s n full h) (ran_agrees k initial place effect s n full init h) (λ t agrees. rows_fault k initial f t m behind items init agrees)
 
 -- ---- both
-from_none : (arch : Arch) (f : ℤ) (cie : List Item) → fault_of (defined_by arch f no_columns cie) ≡ initial_fault arch f no_row cie
-from_none arch f cie = subst (λ (c : Columns). fault_of (defined_by arch f c cie) ≡ initial_fault arch f no_row cie) (no_columns_there arch) (initial_faults arch f no_row cie)
+from_none : (arch : Arch) (f : ℤ) (cie : List Item) → fault_of (initial_columns arch f no_columns cie) ≡ initial_fault arch f no_row cie
+from_none arch f cie = subst (λ (c : Columns). fault_of (initial_columns arch f c cie) ≡ initial_fault arch f no_row cie) (no_columns_there arch) (initial_faults arch f no_row cie)
 
-changes_none : (arch : Arch) (f : ℤ) (cie : List Item) → ChangesTo arch (defined_by arch f no_columns cie) (initial_by f no_row cie)
-changes_none arch f cie = subst (λ (c : Columns). ChangesTo arch (defined_by arch f c cie) (initial_by f no_row cie)) (no_columns_there arch) (initial_agrees arch f no_row cie)
+changes_none : (arch : Arch) (f : ℤ) (cie : List Item) → ChangesTo arch (initial_columns arch f no_columns cie) (initial_by f no_row cie)
+changes_none arch f cie = subst (λ (c : Columns). ChangesTo arch (initial_columns arch f c cie) (initial_by f no_row cie)) (no_columns_there arch) (initial_agrees arch f no_row cie)
 
 both_then : (arch : Arch) (given : Result Columns MachineFault) (row : FullRow) (next : Columns → Result (List DwRow) MachineFault) (here later : Option MachineFault) → fault_of given ≡ here → ChangesTo arch given row → ((c : Columns) → c ≡ columns_of arch row → fault_of (next c) ≡ later) → fault_of (given >>= next) ≡ or_later here later
 both_then arch (Ok c) row next here later e change go = go c change ∙ ap (λ (x : Option MachineFault). or_later x later) e
 both_then arch (Err f) row next here later e change go = ap (λ (x : Option MachineFault). or_later x later) e
 
 pub rows_by-fault : (arch : Arch) (code : ℕ) (f : ℤ) (size : ℕ) (cie fde : List Item) → fault_of (rows_by arch code f size cie fde) ≡ first_fault arch f cie fde
-rows_by-fault arch code f size cie fde = both_then arch (defined_by arch f no_columns cie) (initial_by f no_row cie) _ _ _ (from_none arch f cie) (changes_none arch f cie) (λ initial e.
+rows_by-fault arch code f size cie fde = both_then arch (initial_columns arch f no_columns cie) (initial_by f no_row cie) _ _ _ (from_none arch f cie) (changes_none arch f cie) (λ initial e.
     rows_fault (record { arch = arch; code = code; size = size; initial = initial }) (initial_by f no_row cie) f (record { columns = initial; remembered = []; offset = 0 }) 0 (record { row = initial_by f no_row cie; remembered = [] }) fde e (record { columns = e; remembered = refl; offset = refl }))
 
 pub answers_fault : {X Y : Type 0} (view : X → Y) (answer : Result X MachineFault) (given : Result Y MachineFault) (fault : Option MachineFault) → Gives view answer given → fault_of given ≡ fault → Answers answer fault

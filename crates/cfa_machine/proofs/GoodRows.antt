@@ -16,11 +16,11 @@ use Rattle.cfa_machine.specs.declared.effect.Effect.TheVariants.{Row, Advance, R
 use Rattle.cfa_machine.specs.declared.fault.MachineFault.{MachineFault}
 use Rattle.cfa_machine.specs.declared.fault.MachineFault.TheVariants.{StateDepth}
 use Rattle.cfa_machine.specs.declared.columns.Columns.{Columns}
-use Rattle.cfa_machine.specs.declared.machine.Setup.{Setup}
+use Rattle.cfa_machine.specs.declared.machine.FunctionContext.{FunctionContext}
 use Rattle.cfa_machine.specs.declared.row.DwRow.{DwRow}
 use Rattle.cfa_machine.specs.Columns.{no_columns, changed, with_cfa_register, with_cfa_offset, row_from}
 use Rattle.cfa_machine.specs.Effects.{effect_by}
-use Rattle.cfa_machine.specs.Pass.{◌>>=◌, State, defined, defined_more, defined_by, advanced, with_recalled, ran, ran_more, in_front, rows_from, rows_by, Gives}
+use Rattle.cfa_machine.specs.Pass.{◌>>=◌, State, defined, cie_items, initial_columns, advanced, with_recalled, ran, ran_more, in_front, rows_from, rows_by, Gives}
 use Rattle.cfa_machine.specs.RowList.{RiseFrom, BeginAtZero, sign_fits, AreRows}
 
 -- ---- the sign
@@ -58,7 +58,7 @@ defined_sign arch place (Restore r) c h = tt
 defined_sign arch place Remember c h = tt
 defined_sign arch place Recall c h = tt
 
-defined_more_sign : (arch : Arch) (f : ℤ) (x : Item) (c : Columns) → SignFits arch c → SignsFit arch (defined_more arch f x c)
+defined_more_sign : (arch : Arch) (f : ℤ) (x : Item) (c : Columns) → SignFits arch c → SignsFit arch (cie_items arch f x c)
 defined_more_sign arch f (Ok (place, i)) c h = defined_sign arch place (effect_by f i) c h
 defined_more_sign arch f (Err e) c h = tt
 
@@ -66,48 +66,48 @@ then_sign : (arch : Arch) (d : Result Columns MachineFault) (next : Columns → 
 then_sign arch (Ok c) next h go = go c h
 then_sign arch (Err e) next h go = tt
 
-pub defined_by_sign : (arch : Arch) (f : ℤ) (c : Columns) (items : List Item) → SignFits arch c → SignsFit arch (defined_by arch f c items)
-unfolding defined_by
+pub defined_by_sign : (arch : Arch) (f : ℤ) (c : Columns) (items : List Item) → SignFits arch c → SignsFit arch (initial_columns arch f c items)
+unfolding initial_columns
 defined_by_sign arch f c [] h = h
-defined_by_sign arch f c (x ∷ items) h = then_sign arch (defined_more arch f x c) _ (defined_more_sign arch f x c h) (λ d g. defined_by_sign arch f d items g)
+defined_by_sign arch f c (x ∷ items) h = then_sign arch (cie_items arch f x c) _ (defined_more_sign arch f x c h) (λ d g. defined_by_sign arch f d items g)
 
 -- ---- the function's states
-pub record StateFits (k : Setup) (s : State) : Type 0 where
+pub record StateFits (k : FunctionContext) (s : State) : Type 0 where
   pub sign : SignFits k.arch s.columns
   pub remembered : All (SignFits k.arch) s.remembered
   pub capped : s.offset < 2 ^ 64
 
 -- where an instruction goes: on with no row, or to a later offset behind a row
-abbrev pub Moves : Setup → State → State → Option DwRow → Type 0
+abbrev pub Moves : FunctionContext → State → State → Option DwRow → Type 0
 Moves k s t None = (t.offset ≡ s.offset) ⊎ ((k.size ≤ s.offset) × (s.offset ≤ t.offset))
 Moves k s t (Some row) = (row ≡ row_from s.offset s.columns) × (s.offset < t.offset) × (s.offset < k.size)
 
-pub record Goes (k : Setup) (s t : State) (row : Option DwRow) : Type 0 where
+pub record Goes (k : FunctionContext) (s t : State) (row : Option DwRow) : Type 0 where
   pub fits : StateFits k t
   pub moves : Moves k s t row
 
-abbrev pub GoesOn : Setup → State → Result (State × Option DwRow) MachineFault → Type 0
+abbrev pub GoesOn : FunctionContext → State → Result (State × Option DwRow) MachineFault → Type 0
 GoesOn k s (Ok o) = Goes k s o.0 o.1
 GoesOn k s (Err e) = Unit {0}
 
-change_goes : (k : Setup) (s : State) (given : Result Columns MachineFault) → StateFits k s → SignsFit k.arch given → GoesOn k s (given >>= λ c. Ok (record s { columns = c }, None))
+change_goes : (k : FunctionContext) (s : State) (given : Result Columns MachineFault) → StateFits k s → SignsFit k.arch given → GoesOn k s (given >>= λ c. Ok (record s { columns = c }, None))
 change_goes k s (Ok c) h g = record { fits = record { sign = g; remembered = h.remembered; capped = h.capped }; moves = inl refl }
 change_goes k s (Err e) h g = tt
 
-advance_moves : (k : Setup) (s t : State) (later inside : Bool) → s.offset ≤ t.offset → nat_lt s.offset t.offset ≡ later → nat_lt s.offset k.size ≡ inside → Moves k s t (cond (later && inside) (Some (row_from s.offset s.columns)) None)
+advance_moves : (k : FunctionContext) (s t : State) (later inside : Bool) → s.offset ≤ t.offset → nat_lt s.offset t.offset ≡ later → nat_lt s.offset k.size ≡ inside → Moves k s t (cond (later && inside) (Some (row_from s.offset s.columns)) None)
 advance_moves k s t true true le p q = (refl, ltb-true s.offset t.offset p, ltb-true s.offset k.size q)
 advance_moves k s t true false le p q = inr (ltb-false s.offset k.size q, le)
 advance_moves k s t false inside le p q = let ge : t.offset ≤ s.offset = ltb-false s.offset t.offset p in inl (omega arith)
 
-remember_goes : (k : Setup) (place : ℕ) (s : State) (room : Bool) (e : MachineFault) → StateFits k s → GoesOn k s (cond {A = Result (List Columns) MachineFault} room (Ok (s.columns ∷ s.remembered)) (Err e) >>= λ rows. Ok (record s { remembered = rows }, None))
+remember_goes : (k : FunctionContext) (place : ℕ) (s : State) (room : Bool) (e : MachineFault) → StateFits k s → GoesOn k s (cond {A = Result (List Columns) MachineFault} room (Ok (s.columns ∷ s.remembered)) (Err e) >>= λ rows. Ok (record s { remembered = rows }, None))
 remember_goes k place s true e h = record { fits = record { sign = h.sign; remembered = All-cons (SignFits k.arch) s.columns s.remembered h.sign h.remembered; capped = h.capped }; moves = inl refl }
 remember_goes k place s false e h = tt
 
-recall_goes : (k : Setup) (place : ℕ) (s : State) (rows : List Columns) → StateFits k s → All (SignFits k.arch) rows → GoesOn k s (with_recalled place rows >>= λ x. Ok (record s { columns = x.0; remembered = x.1 }, None))
+recall_goes : (k : FunctionContext) (place : ℕ) (s : State) (rows : List Columns) → StateFits k s → All (SignFits k.arch) rows → GoesOn k s (with_recalled place rows >>= λ x. Ok (record s { columns = x.0; remembered = x.1 }, None))
 recall_goes k place s [] h all = tt
 recall_goes k place s (c ∷ rows) h all = record { fits = record { sign = all 0 c (omega arith); remembered = All-tail (SignFits k.arch) c rows all; capped = h.capped }; moves = inl refl }
 
-ran_goes : (k : Setup) (place : ℕ) (effect : Effect) (s : State) → StateFits k s → GoesOn k s (ran k place effect s)
+ran_goes : (k : FunctionContext) (place : ℕ) (effect : Effect) (s : State) → StateFits k s → GoesOn k s (ran k place effect s)
 ran_goes k place (Row change) s h = change_goes k s (changed k.arch place change s.columns) h (changed_sign k.arch place change s.columns h.sign)
 ran_goes k place (Advance n) s h =
     let next : ℕ = advanced k.code n s.offset in
@@ -119,7 +119,7 @@ ran_goes k place (Restore r) s h = record { fits = record { sign = record { fits
 ran_goes k place Remember s h = remember_goes k place s (nat_lt (length s.remembered) 64) (StateDepth place) h
 ran_goes k place Recall s h = recall_goes k place s s.remembered h h.remembered
 
-pub ran_more_goes : (k : Setup) (f : ℤ) (x : Item) (s : State) → StateFits k s → GoesOn k s (ran_more k f x s)
+pub ran_more_goes : (k : FunctionContext) (f : ℤ) (x : Item) (s : State) → StateFits k s → GoesOn k s (ran_more k f x s)
 ran_more_goes k f (Ok (place, i)) s h = ran_goes k place (effect_by f i) s h
 ran_more_goes k f (Err e) s h = tt
 
@@ -134,7 +134,7 @@ pub record AreRest (arch : Arch) (size offset : ℕ) (rows : List DwRow) : Type 
   pub below : All (λ (r : DwRow). r.start < size) rows
   pub signs : All (λ (r : DwRow). IsTrue (sign_fits arch r.signed)) rows
 
-abbrev pub IsRest : Setup → ℕ → Result (List DwRow) MachineFault → Type 0
+abbrev pub IsRest : FunctionContext → ℕ → Result (List DwRow) MachineFault → Type 0
 IsRest k offset (Ok rows) = AreRest k.arch k.size offset rows
 IsRest k offset (Err e) = Unit {0}
 
@@ -142,7 +142,7 @@ rise_lower : (low high : ℕ) (rows : List DwRow) → low ≤ high → RiseFrom 
 rise_lower low high [] le h = tt
 rise_lower low high (r ∷ rows) le h = let first : high ≤ r.start = h.0 in (omega arith, h.1)
 
-rest_with : (k : Setup) (s : State) (row : DwRow) (offset : ℕ) (rows : List DwRow) → SignFits k.arch s.columns → row ≡ row_from s.offset s.columns → s.offset < offset → s.offset < k.size → RiseFrom offset rows → All (λ (r : DwRow). r.start < k.size) rows → All (λ (r : DwRow). IsTrue (sign_fits k.arch r.signed)) rows → AreRest k.arch k.size s.offset (row ∷ rows)
+rest_with : (k : FunctionContext) (s : State) (row : DwRow) (offset : ℕ) (rows : List DwRow) → SignFits k.arch s.columns → row ≡ row_from s.offset s.columns → s.offset < offset → s.offset < k.size → RiseFrom offset rows → All (λ (r : DwRow). r.start < k.size) rows → All (λ (r : DwRow). IsTrue (sign_fits k.arch r.signed)) rows → AreRest k.arch k.size s.offset (row ∷ rows)
 rest_with k s row offset rows sign is later inside rise below signs =
     let start : row.start ≡ s.offset = ap (λ (r : DwRow). r.start) is in
     let signed : row.signed ≡ s.columns.signed = ap (λ (r : DwRow). r.signed) is in
@@ -153,21 +153,21 @@ rest_with k s row offset rows sign is later inside rise below signs =
       signs = All-cons (λ (r : DwRow). IsTrue (sign_fits k.arch r.signed)) row rows (rw signed sign.fits) signs;
     }
 
-rest_without : (k : Setup) (s t : State) (rows : List DwRow) → (t.offset ≡ s.offset) ⊎ ((k.size ≤ s.offset) × (s.offset ≤ t.offset)) → AreRest k.arch k.size t.offset rows → AreRest k.arch k.size s.offset rows
+rest_without : (k : FunctionContext) (s t : State) (rows : List DwRow) → (t.offset ≡ s.offset) ⊎ ((k.size ≤ s.offset) × (s.offset ≤ t.offset)) → AreRest k.arch k.size t.offset rows → AreRest k.arch k.size s.offset rows
 rest_without k s t rows (inl same) h = subst (λ (n : ℕ). AreRest k.arch k.size n rows) same h
 rest_without k s t rows (inr (past, le)) h = record { begins = λ lt. absurd (omega arith); rise = rise_lower s.offset t.offset rows le h.rise; below = h.below; signs = h.signs }
 
-rest_in_front : (k : Setup) (s t : State) (row : Option DwRow) (given : Result (List DwRow) MachineFault) → StateFits k s → Moves k s t row → IsRest k t.offset given → IsRest k s.offset (given >>= λ rows. Ok (in_front row rows))
+rest_in_front : (k : FunctionContext) (s t : State) (row : Option DwRow) (given : Result (List DwRow) MachineFault) → StateFits k s → Moves k s t row → IsRest k t.offset given → IsRest k s.offset (given >>= λ rows. Ok (in_front row rows))
 rest_in_front k s t None (Ok rows) fits moves h = rest_without k s t rows moves h
 rest_in_front k s t (Some row) (Ok rows) fits moves h = rest_with k s row t.offset rows fits.sign moves.0 moves.1 moves.2 h.rise h.below h.signs
 rest_in_front k s t row (Err e) fits moves h = tt
 
-rest_then : (k : Setup) (s : State) (given : Result (State × Option DwRow) MachineFault) (next : State → Result (List DwRow) MachineFault) → StateFits k s → GoesOn k s given → ((t : State) → StateFits k t → IsRest k t.offset (next t))
+rest_then : (k : FunctionContext) (s : State) (given : Result (State × Option DwRow) MachineFault) (next : State → Result (List DwRow) MachineFault) → StateFits k s → GoesOn k s given → ((t : State) → StateFits k t → IsRest k t.offset (next t))
     → IsRest k s.offset (given >>= λ o. (next o.0 >>= λ rows. Ok (in_front o.1 rows)))
 rest_then k s (Ok (t, row)) next fits goes go = rest_in_front k s t row (next t) fits goes.moves (go t goes.fits)
 rest_then k s (Err e) next fits goes go = tt
 
-last_rest : (k : Setup) (s : State) (inside : Bool) → StateFits k s → nat_lt s.offset k.size ≡ inside → AreRest k.arch k.size s.offset (in_front (cond inside (Some (row_from s.offset s.columns)) None) [])
+last_rest : (k : FunctionContext) (s : State) (inside : Bool) → StateFits k s → nat_lt s.offset k.size ≡ inside → AreRest k.arch k.size s.offset (in_front (cond inside (Some (row_from s.offset s.columns)) None) [])
 last_rest k s true fits e =
     let inside : s.offset < k.size = ltb-true s.offset k.size e in
     rest_with k s (row_from s.offset s.columns) (s.offset + 1) [] fits.sign refl (omega arith) inside tt (All-nil (λ (r : DwRow). r.start < k.size)) (All-nil (λ (r : DwRow). IsTrue (sign_fits k.arch r.signed)))
@@ -175,7 +175,7 @@ last_rest k s false fits e =
     let past : k.size ≤ s.offset = ltb-false s.offset k.size e in
     record { begins = λ lt. absurd (omega arith); rise = tt; below = All-nil (λ (r : DwRow). r.start < k.size); signs = All-nil (λ (r : DwRow). IsTrue (sign_fits k.arch r.signed)) }
 
-pub rows_from_rest : (k : Setup) (f : ℤ) (s : State) (items : List Item) → StateFits k s → IsRest k s.offset (rows_from k f s items)
+pub rows_from_rest : (k : FunctionContext) (f : ℤ) (s : State) (items : List Item) → StateFits k s → IsRest k s.offset (rows_from k f s items)
 unfolding rows_from
 rows_from_rest k f s [] fits = last_rest k s (nat_lt s.offset k.size) fits refl
 rows_from_rest k f s (x ∷ items) fits = rest_then k s (ran_more k f x s) (λ t. rows_from k f t items) fits (ran_more_goes k f x s fits) (λ t h. rows_from_rest k f t items h)
@@ -195,7 +195,7 @@ begin_at_zero size (r ∷ rows) begins below =
     let first : r.start < size = below 0 r (omega arith) in
     begins (omega arith)
 
-whole : (k : Setup) (given : Result (List DwRow) MachineFault) → IsRest k 0 given → AreRowsIfOk k.arch k.size given
+whole : (k : FunctionContext) (given : Result (List DwRow) MachineFault) → IsRest k 0 given → AreRowsIfOk k.arch k.size given
 whole k (Ok rows) h = record {
   some = λ lt. some_rows 0 rows (h.begins lt);
   first = begin_at_zero k.size rows h.begins h.below;
@@ -209,10 +209,10 @@ pub no_sign : (arch : Arch) → SignFits arch no_columns
 no_sign Amd64 = record { fits = refl }
 no_sign Aarch64 = record { fits = refl }
 
-rows_from-are_rows : (arch : Arch) (code : ℕ) (f : ℤ) (size : ℕ) (initial : Columns) (cie fde : List Item) → Ok initial ≡ defined_by arch f no_columns cie
+rows_from-are_rows : (arch : Arch) (code : ℕ) (f : ℤ) (size : ℕ) (initial : Columns) (cie fde : List Item) → Ok initial ≡ initial_columns arch f no_columns cie
     → AreRowsIfOk arch size (rows_from (record { arch = arch; code = code; size = size; initial = initial }) f (record { columns = initial; remembered = []; offset = 0 }) fde)
 rows_from-are_rows arch code f size initial cie fde e =
-    let k : Setup = record { arch = arch; code = code; size = size; initial = initial } in
+    let k : FunctionContext = record { arch = arch; code = code; size = size; initial = initial } in
     let s : State = record { columns = initial; remembered = []; offset = 0 } in
     let sign : SignFits arch initial = subst (SignsFit arch) (sym e) (defined_by_sign arch f no_columns cie (no_sign arch)) in
     whole k (rows_from k f s fde) (rows_from_rest k f s fde (record { sign = sign; remembered = All-nil (SignFits arch); capped = omega arith }))
@@ -222,7 +222,7 @@ then_rows arch size (Ok c) next go = go c refl
 then_rows arch size (Err e) next go = tt
 
 pub rows_by-are_rows : (arch : Arch) (code : ℕ) (f : ℤ) (size : ℕ) (cie fde : List Item) → AreRowsIfOk arch size (rows_by arch code f size cie fde)
-rows_by-are_rows arch code f size cie fde = then_rows arch size (defined_by arch f no_columns cie) _ (λ initial e. rows_from-are_rows arch code f size initial cie fde (sym e))
+rows_by-are_rows arch code f size cie fde = then_rows arch size (initial_columns arch f no_columns cie) _ (λ initial e. rows_from-are_rows arch code f size initial cie fde (sym e))
 
 pub answers_are_rows : (arch : Arch) (size : ℕ) (answer : Result (Vec DwRow Global) MachineFault) (given : Result (List DwRow) MachineFault) → Gives (λ (v : Vec DwRow Global). v.items) answer given → AreRowsIfOk arch size given → IfOk answer (λ v. AreRows arch size v.items)
 answers_are_rows arch size (Ok v) given e h = subst (AreRowsIfOk arch size) e h

@@ -11,45 +11,45 @@ use Rattle.cfa_machine.specs.declared.effect.Effect.TheVariants.{Row, Advance, R
 use Rattle.cfa_machine.specs.declared.fault.MachineFault.{MachineFault}
 use Rattle.cfa_machine.specs.declared.fault.MachineFault.TheVariants.{StateDepth}
 use Rattle.cfa_machine.specs.declared.columns.Columns.{Columns}
-use Rattle.cfa_machine.specs.declared.machine.Setup.{Setup}
+use Rattle.cfa_machine.specs.declared.machine.FunctionContext.{FunctionContext}
 use Rattle.cfa_machine.specs.declared.row.DwRow.{DwRow}
 use Rattle.cfa_machine.specs.Columns.{no_columns, restored, changed, row_from}
 use Rattle.cfa_machine.specs.Effects.{effect_by}
-use Rattle.cfa_machine.specs.Pass.{◌>>=◌, State, defined_by, advanced, row_before, with_recalled, ran, last_row, in_front, rows_from, rows_by, Gives}
+use Rattle.cfa_machine.specs.Pass.{◌>>=◌, State, initial_columns, advanced, row_before, with_recalled, ran, last_row, in_front, rows_from, rows_by, Gives}
 use Rattle.cfa_machine.specs.RowList.{RiseFrom}
 use Rattle.cfa_machine.specs.FullRow.{FullRow, no_row, rule_of, with_register_rule, row_after, columns_of}
-use Rattle.cfa_machine.specs.At.{Full, recalled, full_after, offset_behind, full_at, initial_by, row_at_offset, latest_at, SaysAt, SayAll}
+use Rattle.cfa_machine.specs.RowAtOffset.{UnwindState, recalled, after_instruction, offset_behind, state_before, initial_by, row_at_offset, latest_at, SaysAt, SayAll}
 use Rattle.cfa_machine.proofs.GoodRows.{SignFits, SignsFit, StateFits, GoesOn, IsRest, ran_more_goes, rows_from_rest, defined_by_sign, no_sign}
 use Rattle.cfa_machine.proofs.Agrees.{ChangesTo, change_agrees, restore_agrees, initial_agrees}
 
 -- ---- the state of the pass and the full state at an offset
-pub record Agrees (k : Setup) (s : State) (n : ℕ) (full : Full) : Type 0 where
+pub record Agrees (k : FunctionContext) (s : State) (n : ℕ) (full : UnwindState) : Type 0 where
   pub columns : s.columns ≡ columns_of k.arch full.row
   pub remembered : s.remembered ≡ map (columns_of k.arch) full.remembered
   pub offset : s.offset ≡ min n (2 ^ 64 - 1)
 
-pub record StepAgrees (k : Setup) (s t : State) (row : Option DwRow) (m : ℕ) (full : Full) : Type 0 where
+pub record StepAgrees (k : FunctionContext) (s t : State) (row : Option DwRow) (m : ℕ) (full : UnwindState) : Type 0 where
   pub agrees : Agrees k t m full
   pub row_is : row ≡ row_before k.size t.offset s.offset s.columns
 
-abbrev pub StepsAgree : Setup → State → Result (State × Option DwRow) MachineFault → ℕ → Full → Type 0
+abbrev pub StepsAgree : FunctionContext → State → Result (State × Option DwRow) MachineFault → ℕ → UnwindState → Type 0
 StepsAgree k s (Ok o) m full = StepAgrees k s o.0 o.1 m full
 StepsAgree k s (Err e) m full = Unit {0}
 
 no_row_here : (size offset : ℕ) (c : Columns) → None ≡ row_before size offset offset c
 no_row_here size offset c = rw (le-ltb offset offset (omega arith)) refl
 
-change_steps : (k : Setup) (s : State) (n : ℕ) (full : Full) (given : Result Columns MachineFault) (row : FullRow) → Agrees k s n full → ChangesTo k.arch given row
+change_steps : (k : FunctionContext) (s : State) (n : ℕ) (full : UnwindState) (given : Result Columns MachineFault) (row : FullRow) → Agrees k s n full → ChangesTo k.arch given row
     → StepsAgree k s (given >>= λ c. Ok (record s { columns = c }, None)) n (record { row = row; remembered = full.remembered })
 change_steps k s n full (Ok c) row h e = record { agrees = record { columns = e; remembered = h.remembered; offset = h.offset }; row_is = no_row_here k.size s.offset s.columns }
 change_steps k s n full (Err e) row h g = tt
 
-remember_steps : (k : Setup) (s : State) (n : ℕ) (full : Full) (room : Bool) (e : MachineFault) → Agrees k s n full
+remember_steps : (k : FunctionContext) (s : State) (n : ℕ) (full : UnwindState) (room : Bool) (e : MachineFault) → Agrees k s n full
     → StepsAgree k s (cond {A = Result (List Columns) MachineFault} room (Ok (s.columns ∷ s.remembered)) (Err e) >>= λ rows. Ok (record s { remembered = rows }, None)) n (record { row = full.row; remembered = full.row ∷ full.remembered })
 remember_steps k s n full true e h = record { agrees = record { columns = h.columns; remembered = rw (h.columns, h.remembered) refl; offset = h.offset }; row_is = no_row_here k.size s.offset s.columns }
 remember_steps k s n full false e h = tt
 
-recall_steps : (k : Setup) (place : ℕ) (s : State) (n : ℕ) (full : Full) (rows : List FullRow) → Agrees k s n full
+recall_steps : (k : FunctionContext) (place : ℕ) (s : State) (n : ℕ) (full : UnwindState) (rows : List FullRow) → Agrees k s n full
     → StepsAgree k s (with_recalled place (map (columns_of k.arch) rows) >>= λ x. Ok (record s { columns = x.0; remembered = x.1 }, None)) n (recalled rows full)
 recall_steps k place s n full [] h = tt
 recall_steps k place s n full (row ∷ rows) h = record { agrees = record { columns = refl; remembered = refl; offset = h.offset }; row_is = no_row_here k.size s.offset s.columns }
@@ -60,8 +60,8 @@ advance_caps code delta offset n e = rw e (plain (code * delta) n)
     plain : (by n : ℕ) → min (min n (2 ^ 64 - 1) + min by (2 ^ 64 - 1)) (2 ^ 64 - 1) ≡ min (n + by) (2 ^ 64 - 1)
     plain by n = omega arith
 
-pub ran_agrees : (k : Setup) (initial : FullRow) (place : ℕ) (effect : Effect) (s : State) (n : ℕ) (full : Full) → k.initial ≡ columns_of k.arch initial → Agrees k s n full
-    → StepsAgree k s (ran k place effect s) (offset_behind k.code effect n) (full_after initial effect full)
+pub ran_agrees : (k : FunctionContext) (initial : FullRow) (place : ℕ) (effect : Effect) (s : State) (n : ℕ) (full : UnwindState) → k.initial ≡ columns_of k.arch initial → Agrees k s n full
+    → StepsAgree k s (ran k place effect s) (offset_behind k.code effect n) (after_instruction initial effect full)
 ran_agrees k initial place (Row change) s n full init h =
     change_steps k s n full (changed k.arch place change s.columns) (row_after change full.row) h (subst (λ (c : Columns). ChangesTo k.arch (changed k.arch place change c) (row_after change full.row)) (sym h.columns) (change_agrees k.arch place change full.row))
 ran_agrees k initial place (Advance delta) s n full init h = record {
@@ -101,7 +101,7 @@ found_here arch o offset next c full row rows found e row_is le lt rise =
 row_there : (size next offset : ℕ) (c : Columns) → offset < next → offset < size → row_before size next offset c ≡ Some (row_from offset c)
 row_there size next offset c later inside = rw (lt-ltb offset next later, lt-ltb offset size inside) refl
 
-step_says : (k : Setup) (o : ℕ) (s t : State) (n m : ℕ) (full later : Full) (b : Bool) (row : Option DwRow) (given : Result (List DwRow) MachineFault) → nat_lt o m ≡ b → Agrees k s n full → t.offset ≡ min m (2 ^ 64 - 1) → row ≡ row_before k.size t.offset s.offset s.columns
+step_says : (k : FunctionContext) (o : ℕ) (s t : State) (n m : ℕ) (full later : UnwindState) (b : Bool) (row : Option DwRow) (given : Result (List DwRow) MachineFault) → nat_lt o m ≡ b → Agrees k s n full → t.offset ≡ min m (2 ^ 64 - 1) → row ≡ row_before k.size t.offset s.offset s.columns
     → n ≤ o → o < k.size → k.size < 2 ^ 64 → IsRest k t.offset given → (m ≤ o → Says k.arch o later.row given) → Says k.arch o (cond b full later).row (given >>= λ rows. Ok (in_front row rows))
 step_says k o s t n m full later b row (Err e) test h to row_is le inside small rest go = tt
 step_says k o s t n m full later false row (Ok rows) test h to row_is le inside small rest go = latest_front k.arch o later.row row rows (go (ltb-false o m test))
@@ -113,34 +113,34 @@ step_says k o s t n m full later true row (Ok rows) test h to row_is le inside s
     let there : row ≡ Some (row_from s.offset s.columns) = row_is ∙ row_there k.size t.offset s.offset s.columns (omega arith) (omega arith) in
     found_here k.arch o s.offset t.offset s.columns full.row row rows found h.columns there here above rest.rise
 
-last_says : (k : Setup) (o : ℕ) (s : State) (n : ℕ) (full : Full) → Agrees k s n full → n ≤ o → o < k.size → k.size < 2 ^ 64 → Says k.arch o full.row (Ok (in_front (last_row k.size s) []))
+last_says : (k : FunctionContext) (o : ℕ) (s : State) (n : ℕ) (full : UnwindState) → Agrees k s n full → n ≤ o → o < k.size → k.size < 2 ^ 64 → Says k.arch o full.row (Ok (in_front (last_row k.size s) []))
 last_says k o s n full h le inside small = λ found.
     let from : s.offset ≡ min n (2 ^ 64 - 1) = h.offset in
     let below : s.offset < k.size = omega arith in
     let there : last_row k.size s ≡ Some (row_from s.offset s.columns) = rw (lt-ltb s.offset k.size below) refl in
     found_here k.arch o s.offset (o + 1) s.columns full.row (last_row k.size s) [] found h.columns there (omega arith) (omega arith) tt
 
-record Follows (k : Setup) (o m : ℕ) (later : Full) (t : State) (given : Result (List DwRow) MachineFault) : Type 0 where
+record Follows (k : FunctionContext) (o m : ℕ) (later : UnwindState) (t : State) (given : Result (List DwRow) MachineFault) : Type 0 where
   rest : IsRest k t.offset given
   says : m ≤ o → Says k.arch o later.row given
 
-then_says : (k : Setup) (o : ℕ) (s : State) (n m : ℕ) (full behind later : Full) (given : Result (State × Option DwRow) MachineFault) (next : State → Result (List DwRow) MachineFault) → Agrees k s n full → n ≤ o → o < k.size → k.size < 2 ^ 64 → StepsAgree k s given m behind → GoesOn k s given
+then_says : (k : FunctionContext) (o : ℕ) (s : State) (n m : ℕ) (full behind later : UnwindState) (given : Result (State × Option DwRow) MachineFault) (next : State → Result (List DwRow) MachineFault) → Agrees k s n full → n ≤ o → o < k.size → k.size < 2 ^ 64 → StepsAgree k s given m behind → GoesOn k s given
     → ((t : State) → Agrees k t m behind → StateFits k t → Follows k o m later t (next t)) → Says k.arch o (cond (nat_lt o m) full later).row (given >>= λ x. (next x.0 >>= λ rows. Ok (in_front x.1 rows)))
 then_says k o s n m full behind later (Ok (t, row)) next h le inside small step goes go =
     let f = go t step.agrees goes.fits in
     step_says k o s t n m full later (nat_lt o m) row (next t) refl h step.agrees.offset step.row_is le inside small f.rest f.says
 then_says k o s n m full behind later (Err e) next h le inside small step goes go = tt
 
-rows_say : (k : Setup) (initial : FullRow) (f : ℤ) (o : ℕ) (s : State) (n : ℕ) (full : Full) (items : List Item) → k.initial ≡ columns_of k.arch initial → Agrees k s n full → StateFits k s → n ≤ o → o < k.size → k.size < 2 ^ 64
-    → Says k.arch o (full_at initial k.code f o n full items).row (rows_from k f s items)
-unfolding rows_from full_at
+rows_say : (k : FunctionContext) (initial : FullRow) (f : ℤ) (o : ℕ) (s : State) (n : ℕ) (full : UnwindState) (items : List Item) → k.initial ≡ columns_of k.arch initial → Agrees k s n full → StateFits k s → n ≤ o → o < k.size → k.size < 2 ^ 64
+    → Says k.arch o (state_before initial k.code f o n full items).row (rows_from k f s items)
+unfolding rows_from state_before
 rows_say k initial f o s n full [] init h fits le inside small = last_says k o s n full h le inside small
 rows_say k initial f o s n full (Err e ∷ items) init h fits le inside small = tt
 rows_say k initial f o s n full (Ok (place, i) ∷ items) init h fits le inside small =
     let effect = effect_by f i in
     let m = offset_behind k.code effect n in
-    let behind = full_after initial effect full in
-    then_says k o s n m full behind (full_at initial k.code f o m behind items) (ran k place effect s) (λ t. rows_from k f t items) h le inside small (ran_agrees k initial place effect s n full init h) (ran_more_goes k f (Ok (place, i)) s fits)
+    let behind = after_instruction initial effect full in
+    then_says k o s n m full behind (state_before initial k.code f o m behind items) (ran k place effect s) (λ t. rows_from k f t items) h le inside small (ran_agrees k initial place effect s n full init h) (ran_more_goes k f (Ok (place, i)) s fits)
     (λ t agrees t_fits. record { rest = rows_from_rest k f t items t_fits; says = λ on. rows_say k initial f o t m behind items init agrees t_fits on inside small })
 
 -- ---- a whole function
@@ -156,14 +156,14 @@ all_say : (arch : Arch) (code : ℕ) (f : ℤ) (size : ℕ) (cie fde : List Item
 all_say arch code f size cie fde (Ok rows) h = λ o lt. h o lt None
 all_say arch code f size cie fde (Err e) h = tt
 
-rows_from-say : (arch : Arch) (code : ℕ) (f : ℤ) (size : ℕ) (initial : Columns) (cie fde : List Item) → size < 2 ^ 64 → Ok initial ≡ defined_by arch f no_columns cie
+rows_from-say : (arch : Arch) (code : ℕ) (f : ℤ) (size : ℕ) (initial : Columns) (cie fde : List Item) → size < 2 ^ 64 → Ok initial ≡ initial_columns arch f no_columns cie
     → SaysAllIfOk arch code f size cie fde (rows_from (record { arch = arch; code = code; size = size; initial = initial }) f (record { columns = initial; remembered = []; offset = 0 }) fde)
 rows_from-say arch code f size initial cie fde small e =
-    let k : Setup = record { arch = arch; code = code; size = size; initial = initial } in
+    let k : FunctionContext = record { arch = arch; code = code; size = size; initial = initial } in
     let s : State = record { columns = initial; remembered = []; offset = 0 } in
     let row : FullRow = initial_by f no_row cie in
     let sign : SignFits arch initial = subst (SignsFit arch) (sym e) (defined_by_sign arch f no_columns cie (no_sign arch)) in
-    let from_none : ChangesTo arch (defined_by arch f no_columns cie) row = subst (λ (c : Columns). ChangesTo arch (defined_by arch f c cie) row) (no_columns_there arch) (initial_agrees arch f no_row cie) in
+    let from_none : ChangesTo arch (initial_columns arch f no_columns cie) row = subst (λ (c : Columns). ChangesTo arch (initial_columns arch f c cie) row) (no_columns_there arch) (initial_agrees arch f no_row cie) in
     let init : initial ≡ columns_of arch row = subst (λ (d : Result Columns MachineFault). ChangesTo arch d row) (sym e) from_none in
     all_say arch code f size cie fde (rows_from k f s fde) (λ o lt. rows_say k row f o s 0 (record { row = row; remembered = [] }) fde init (record { columns = init; remembered = refl; offset = refl }) (record { sign = sign; remembered = All-nil (SignFits arch); capped = omega arith }) (omega arith) lt small)
 
@@ -172,7 +172,7 @@ then_say arch code f size cie fde (Ok c) next go = go c refl
 then_say arch code f size cie fde (Err e) next go = tt
 
 pub rows_by-say : (arch : Arch) (code : ℕ) (f : ℤ) (size : ℕ) (cie fde : List Item) → size < 2 ^ 64 → SaysAllIfOk arch code f size cie fde (rows_by arch code f size cie fde)
-rows_by-say arch code f size cie fde small = then_say arch code f size cie fde (defined_by arch f no_columns cie) _ (λ initial e. rows_from-say arch code f size initial cie fde small (sym e))
+rows_by-say arch code f size cie fde small = then_say arch code f size cie fde (initial_columns arch f no_columns cie) _ (λ initial e. rows_from-say arch code f size initial cie fde small (sym e))
 
 pub answers_say : (arch : Arch) (code : ℕ) (f : ℤ) (size : ℕ) (cie fde : List Item) (answer : Result (Vec DwRow Global) MachineFault) (given : Result (List DwRow) MachineFault) → Gives (λ (v : Vec DwRow Global). v.items) answer given → SaysAllIfOk arch code f size cie fde given
     → IfOk answer (λ v. SayAll arch code f size cie fde v.items)

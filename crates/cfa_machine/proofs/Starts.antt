@@ -8,13 +8,13 @@ use Rattle.cfa_machine.specs.declared.effect.Effect.{Effect}
 use Rattle.cfa_machine.specs.declared.effect.Effect.TheVariants.{Row, Advance, Restore, Remember, Recall}
 use Rattle.cfa_machine.specs.declared.fault.MachineFault.{MachineFault}
 use Rattle.cfa_machine.specs.declared.columns.Columns.{Columns}
-use Rattle.cfa_machine.specs.declared.machine.Setup.{Setup}
+use Rattle.cfa_machine.specs.declared.machine.FunctionContext.{FunctionContext}
 use Rattle.cfa_machine.specs.declared.row.DwRow.{DwRow}
 use Rattle.cfa_machine.specs.Columns.{no_columns, row_from}
 use Rattle.cfa_machine.specs.Effects.{effect_by}
-use Rattle.cfa_machine.specs.Pass.{◌>>=◌, State, defined_by, ran, in_front, rows_from, rows_by, Gives}
+use Rattle.cfa_machine.specs.Pass.{◌>>=◌, State, initial_columns, ran, in_front, rows_from, rows_by, Gives}
 use Rattle.cfa_machine.specs.FullRow.{FullRow, no_row, columns_of}
-use Rattle.cfa_machine.specs.At.{Full, full_after, offset_behind, initial_by, reaches, has_start, StartWhereReached}
+use Rattle.cfa_machine.specs.RowAtOffset.{UnwindState, after_instruction, offset_behind, initial_by, reaches, has_start, StartWhereReached}
 use Rattle.cfa_machine.proofs.Agrees.{ChangesTo, initial_agrees}
 use Rattle.cfa_machine.proofs.Says.{Agrees, StepsAgree, ran_agrees, no_columns_there}
 
@@ -74,7 +74,7 @@ abbrev StartsAre : ℕ → Bool → Result (List DwRow) MachineFault → Type 0
 StartsAre o reached (Ok rows) = has_start o rows ≡ reached
 StartsAre o reached (Err e) = Unit {0}
 
-starts_then : (k : Setup) (o : ℕ) (s : State) (n m : ℕ) (full behind : Full) (reached : Bool) (given : Result (State × Option DwRow) MachineFault) (next : State → Result (List DwRow) MachineFault) → Agrees k s n full → n ≤ m → o < k.size → k.size < 2 ^ 64 → (m ≡ o → reached ≡ true) → StepsAgree k s given m behind
+starts_then : (k : FunctionContext) (o : ℕ) (s : State) (n m : ℕ) (full behind : UnwindState) (reached : Bool) (given : Result (State × Option DwRow) MachineFault) (next : State → Result (List DwRow) MachineFault) → Agrees k s n full → n ≤ m → o < k.size → k.size < 2 ^ 64 → (m ≡ o → reached ≡ true) → StepsAgree k s given m behind
     → ((t : State) → Agrees k t m behind → StartsAre o reached (next t)) → StartsAre o ((n == o) || reached) (given >>= λ x. (next x.0 >>= λ rows. Ok (in_front x.1 rows)))
 starts_then k o s n m full behind reached (Ok (t, row)) next h le lt small here step go = at_rest (next t) (go t step.agrees)
   where
@@ -84,27 +84,27 @@ starts_then k o s n m full behind reached (Ok (t, row)) next h le lt small here 
         ap (λ (r : Option DwRow). has_start o (in_front r rows)) step.row_is ∙ start_front o s.offset t.offset n m k.size s.columns rows reached (nat_lt s.offset t.offset) (nat_lt s.offset k.size) refl refl h.offset step.agrees.offset le lt small here g
 starts_then k o s n m full behind reached (Err e) next h le lt small here step go = tt
 
-starts_are : (k : Setup) (initial : FullRow) (f : ℤ) (o : ℕ) (s : State) (n : ℕ) (full : Full) (items : List Item) → k.initial ≡ columns_of k.arch initial → Agrees k s n full → o < k.size → k.size < 2 ^ 64 → StartsAre o (reaches k.code f o n items) (rows_from k f s items)
+starts_are : (k : FunctionContext) (initial : FullRow) (f : ℤ) (o : ℕ) (s : State) (n : ℕ) (full : UnwindState) (items : List Item) → k.initial ≡ columns_of k.arch initial → Agrees k s n full → o < k.size → k.size < 2 ^ 64 → StartsAre o (reaches k.code f o n items) (rows_from k f s items)
 unfolding rows_from reaches
 starts_are k initial f o s n full [] init h lt small = start_there o s.offset n k.size s.columns (nat_lt s.offset k.size) refl h.offset lt small
 starts_are k initial f o s n full (Err e ∷ items) init h lt small = tt
 starts_are k initial f o s n full (Ok (place, i) ∷ items) init h lt small =
     let effect = effect_by f i in
     let m = offset_behind k.code effect n in
-    let behind = full_after initial effect full in
+    let behind = after_instruction initial effect full in
     starts_then k o s n m full behind (reaches k.code f o m items) (ran k place effect s) (λ t. rows_from k f t items) h (behind_on k.code effect n) lt small (λ e. subst (λ (x : ℕ). reaches k.code f o x items ≡ true) (sym e) (reaches_here k.code f o items)) (ran_agrees k initial place effect s n full init h)
     (λ t agrees. starts_are k initial f o t m behind items init agrees lt small)
 
 -- ---- a whole function
-changes_none : (arch : Arch) (f : ℤ) (cie : List Item) → ChangesTo arch (defined_by arch f no_columns cie) (initial_by f no_row cie)
-changes_none arch f cie = subst (λ (c : Columns). ChangesTo arch (defined_by arch f c cie) (initial_by f no_row cie)) (no_columns_there arch) (initial_agrees arch f no_row cie)
+changes_none : (arch : Arch) (f : ℤ) (cie : List Item) → ChangesTo arch (initial_columns arch f no_columns cie) (initial_by f no_row cie)
+changes_none arch f cie = subst (λ (c : Columns). ChangesTo arch (initial_columns arch f c cie) (initial_by f no_row cie)) (no_columns_there arch) (initial_agrees arch f no_row cie)
 
 both_start : (arch : Arch) (o : ℕ) (reached : Bool) (given : Result Columns MachineFault) (row : FullRow) (next : Columns → Result (List DwRow) MachineFault) → ChangesTo arch given row → ((c : Columns) → c ≡ columns_of arch row → StartsAre o reached (next c)) → StartsAre o reached (given >>= next)
 both_start arch o reached (Ok c) row next change go = go c change
 both_start arch o reached (Err e) row next change go = tt
 
 all_start : (arch : Arch) (code : ℕ) (f : ℤ) (size : ℕ) (cie fde : List Item) (o : ℕ) → o < size → size < 2 ^ 64 → StartsAre o (reaches code f o 0 fde) (rows_by arch code f size cie fde)
-all_start arch code f size cie fde o lt small = both_start arch o _ (defined_by arch f no_columns cie) (initial_by f no_row cie) _ (changes_none arch f cie) (λ initial e.
+all_start arch code f size cie fde o lt small = both_start arch o _ (initial_columns arch f no_columns cie) (initial_by f no_row cie) _ (changes_none arch f cie) (λ initial e.
     starts_are (record { arch = arch; code = code; size = size; initial = initial }) (initial_by f no_row cie) f o (record { columns = initial; remembered = []; offset = 0 }) 0 (record { row = initial_by f no_row cie; remembered = [] }) fde e (record { columns = e; remembered = refl; offset = refl }) lt small)
 
 pub answers_start : (arch : Arch) (code : ℕ) (f : ℤ) (size : ℕ) (cie fde : List Item) (answer : Result (Vec DwRow Global) MachineFault) → size < 2 ^ 64 → Gives (λ (v : Vec DwRow Global). v.items) answer (rows_by arch code f size cie fde) → IfOk answer (λ v. StartWhereReached code f size fde v.items)

@@ -14,7 +14,7 @@ use Rattle.cfa_machine.specs.declared.rule.Rule.{Rule}
 use Rattle.cfa_machine.specs.declared.rule.Rule.TheVariants as rule
 use Rattle.cfa_machine.specs.Effects.{effect_by}
 use Rattle.cfa_machine.specs.FullRow.{FullRow}
-use Rattle.cfa_machine.specs.At.{full_at, initial_by, row_at_offset}
+use Rattle.cfa_machine.specs.RowAtOffset.{state_before, initial_by, row_at_offset}
 use Rattle.cfa_machine.specs.Recovery.{recovery_by_rules}
 
 -- 16 bytes of stack at 0x7000: the frame pointer 0x7010, and the return address 0x1005
@@ -43,7 +43,7 @@ pushed : recovery_by_rules Amd64 16 (pushed_at 4) A (registers 0x6ff0 0x7000 0) 
   stack_pointer = Some (Known 0x7010);
   signed = None;
 }
-unfolding recovery_by_rules moved read_eight full_at initial_by effect_by
+unfolding recovery_by_rules moved read_eight state_before initial_by effect_by
 pushed = refl
 
 -- at the function's first byte the frame pointer isn't saved yet
@@ -54,7 +54,7 @@ not_pushed : recovery_by_rules Amd64 16 (pushed_at 0) A (registers 0x9000 5 0) s
   stack_pointer = Some (Known 0x9008);
   signed = None;
 }
-unfolding recovery_by_rules moved read_eight full_at initial_by effect_by
+unfolding recovery_by_rules moved read_eight state_before initial_by effect_by
 not_pushed = refl
 
 -- a row with these rules of the stack pointer, the frame pointer and the return address column

@@ -15,12 +15,8 @@ use Rattle.cfa_machine.specs.declared.fault.MachineFault.{MachineFault}
 use Rattle.cfa_machine.specs.declared.fault.MachineFault.TheVariants.{CieInstruction, StateEmpty, StateDepth, NoCfaRegister, Insn, NoMemory}
 use Rattle.cfa_machine.specs.Effects.{effect_by}
 use Rattle.cfa_machine.specs.FullRow.{FullRow, no_row}
-use Rattle.cfa_machine.specs.At.{Full, full_after, row_defined, initial_by}
-
--- the first fault that is there
-abbrev pub or_later : Option MachineFault → Option MachineFault → Option MachineFault
-or_later (Some e) later = Some e
-or_later None later = later
+use Rattle.cfa_machine.specs.RowAtOffset.{UnwindState, after_instruction, row_defined, initial_by}
+pub use Rattle.sf_model.specs.Firsts.{or_later}
 
 -- the CFA's register or offset is set where it has none
 abbrev pub unless_register : ℕ → CfaRule → Option MachineFault
@@ -59,17 +55,17 @@ abbrev pub recall_fault : ℕ → List FullRow → Option MachineFault
 recall_fault place [] = Some (StateEmpty place)
 recall_fault place (row ∷ rows) = None
 
-abbrev pub run_fault : Arch → ℕ → Effect → Full → Option MachineFault
+abbrev pub run_fault : Arch → ℕ → Effect → UnwindState → Option MachineFault
 run_fault arch place (Row change) s = change_fault arch place change s.row.cfa
 run_fault arch place (Advance n) s = None
 run_fault arch place (Restore r) s = None
 run_fault arch place Remember s = if nat_lt (length s.remembered) 64 then None else Some (StateDepth place)
 run_fault arch place Recall s = recall_fault place s.remembered
 
-unfoldable pub function_fault : Arch → ℤ → (initial : FullRow) → Full → List Item → Option MachineFault
+unfoldable pub function_fault : Arch → ℤ → (initial : FullRow) → UnwindState → List Item → Option MachineFault
 function_fault arch f initial s [] = None
 function_fault arch f initial s (Err e ∷ items) = Some (Insn e)
-function_fault arch f initial s (Ok (place, i) ∷ items) = or_later (run_fault arch place (effect_by f i) s) (function_fault arch f initial (full_after initial (effect_by f i) s) items)
+function_fault arch f initial s (Ok (place, i) ∷ items) = or_later (run_fault arch place (effect_by f i) s) (function_fault arch f initial (after_instruction initial (effect_by f i) s) items)
 
 -- the first of both; none where the function runs whole
 abbrev pub first_fault : Arch → ℤ → (cie fde : List Item) → Option MachineFault

@@ -1,4 +1,4 @@
--- Full rows, and what instructions do to them (DWARF 5, section 6.4.1 and 6.4.2): a CFA rule, a rule for each register
+-- UnwindState rows, and what instructions do to them (DWARF 5, section 6.4.1 and 6.4.2): a CFA rule, a rule for each register
 -- that was named, and the sign state of AArch64. Rules stand in a list, the latest first.
 use Rattle.std.specs.Prelude.{ℕ, ℤ, ◌==◌, Bool, not, false, List, [], ◌∷◌, if◌then◌else◌}
 use Rattle.sf_model.specs.declared.machine.Arch.{Arch}

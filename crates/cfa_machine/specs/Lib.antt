@@ -2,10 +2,11 @@ pub mod Registers
 pub mod Effects
 pub mod Columns
 pub mod Pass
+pub mod Initial
 pub mod Left
 pub mod RowList
 pub mod FullRow
-pub mod At
+pub mod RowAtOffset
 pub mod FirstFault
 pub mod Recovery
 pub mod ColumnRecovery

@@ -10,16 +10,11 @@ use Rattle.cfa_machine.specs.declared.fault.MachineFault.{MachineFault}
 use Rattle.cfa_machine.specs.declared.fault.MachineFault.TheVariants.{CieInstruction, StateEmpty, StateDepth, NoCfaRegister, Insn, NoMemory}
 use Rattle.cfa_machine.specs.declared.columns.Columns.{Columns}
 use Rattle.cfa_machine.specs.declared.row.DwRow.{DwRow}
-use Rattle.cfa_machine.specs.declared.machine.Setup.{Setup}
+use Rattle.cfa_machine.specs.declared.machine.FunctionContext.{FunctionContext}
 use Rattle.cfa_machine.specs.declared.machine.Machine.{Machine}
 use Rattle.cfa_machine.specs.Columns.{no_columns, changed, restored, row_from}
 use Rattle.cfa_machine.specs.Effects.{effect_by}
-
--- a step that goes on behind another one
-infixl 10 ◌>>=◌
-abbrev pub ◌>>=◌ : {A B : Type 0} → Result A MachineFault → (A → Result B MachineFault) → Result B MachineFault
-(Ok x) >>= f = f x
-(Err e) >>= f = Err e
+pub use Rattle.sf_bytes.specs.Steps.{◌>>=◌}
 
 -- ---- the common information entry
 abbrev pub defined : Arch → ℕ → Effect → Columns → Result Columns MachineFault
@@ -30,14 +25,14 @@ defined arch place Remember c = Err (CieInstruction place)
 defined arch place Recall c = Err (CieInstruction place)
 
 -- the row after one more item
-abbrev pub defined_more : Arch → ℤ → Item → Columns → Result Columns MachineFault
-defined_more arch f (Ok (place, i)) c = defined arch place (effect_by f i) c
-defined_more arch f (Err e) c = Err (Insn e)
+abbrev pub cie_items : Arch → ℤ → Item → Columns → Result Columns MachineFault
+cie_items arch f (Ok (place, i)) c = defined arch place (effect_by f i) c
+cie_items arch f (Err e) c = Err (Insn e)
 
 -- the row after all of them, from c on
-unfoldable pub defined_by : Arch → ℤ → Columns → List Item → Result Columns MachineFault
-defined_by arch f c [] = Ok c
-defined_by arch f c (x ∷ items) = defined_more arch f x c >>= λ d. defined_by arch f d items
+unfoldable pub initial_columns : Arch → ℤ → Columns → List Item → Result Columns MachineFault
+initial_columns arch f c [] = Ok c
+initial_columns arch f c (x ∷ items) = cie_items arch f x c >>= λ d. initial_columns arch f d items
 
 -- ---- the function
 pub record State : Type 0 where
@@ -62,7 +57,7 @@ with_recalled place [] = Err (StateEmpty place)
 with_recalled place (c ∷ rows) = Ok (c, rows)
 
 -- one instruction at a place: the next state, and the row that ends
-abbrev pub ran : Setup → ℕ → Effect → State → Result (State × Option DwRow) MachineFault
+abbrev pub ran : FunctionContext → ℕ → Effect → State → Result (State × Option DwRow) MachineFault
 ran k place (Row change) s = changed k.arch place change s.columns >>= λ c. Ok (record s { columns = c }, None)
 ran k place (Advance n) s = Ok (record s { offset = advanced k.code n s.offset }, row_before k.size (advanced k.code n s.offset) s.offset s.columns)
 ran k place (Restore r) s = Ok (record s { columns = restored k.arch r k.initial s.columns }, None)
@@ -77,12 +72,12 @@ in_front None rows = rows
 in_front (Some row) rows = row ∷ rows
 
 -- the same for an item
-abbrev pub ran_more : Setup → ℤ → Item → State → Result (State × Option DwRow) MachineFault
+abbrev pub ran_more : FunctionContext → ℤ → Item → State → Result (State × Option DwRow) MachineFault
 ran_more k f (Ok (place, i)) s = ran k place (effect_by f i) s
 ran_more k f (Err e) s = Err (Insn e)
 
 -- the rows that the instructions give from a state on
-unfoldable pub rows_from : Setup → ℤ → State → List Item → Result (List DwRow) MachineFault
+unfoldable pub rows_from : FunctionContext → ℤ → State → List Item → Result (List DwRow) MachineFault
 rows_from k f s [] = Ok (in_front (last_row k.size s) [])
 rows_from k f s (x ∷ items) = do
   o ← ran_more k f x s
@@ -92,7 +87,7 @@ rows_from k f s (x ∷ items) = do
 -- both entries: the rows of a function
 abbrev pub rows_by : Arch → (code : ℕ) → (factor : ℤ) → (size : ℕ) → (cie fde : List Item) → Result (List DwRow) MachineFault
 rows_by arch code f size cie fde = do
-  initial ← defined_by arch f no_columns cie
+  initial ← initial_columns arch f no_columns cie
   rows_from (record { arch = arch; code = code; size = size; initial = initial }) f (record { columns = initial; remembered = []; offset = 0 }) fde
 
 -- ---- what the code keeps of a state

@@ -3,7 +3,7 @@
 ghost use Rattle.std.specs.Prelude.{◌≡◌, ◌<◌, ◌&&◌, [], nat_lt, IfSome};
 ghost use Rattle.cfa_insn.specs.Listing.{item};
 ghost use Rattle.cfa_machine.specs.Columns.{Changes};
-ghost use Rattle.cfa_machine.specs.Pass.{state, defined, defined_more, ran, ran_more, ended, last_row, advanced, with_remembered, with_recalled, StartsBelow, Steps, Remembers, Recalls, latest_first};
+ghost use Rattle.cfa_machine.specs.Pass.{state, defined, cie_items, ran, ran_more, ended, last_row, advanced, with_remembered, with_recalled, StartsBelow, Steps, Remembers, Recalls, latest_first};
 
 use crate::columns::{Columns, change_row, restore_rule};
 use crate::effect::{Effect, effect_of};
@@ -17,7 +17,7 @@ pub const MOST_REMEMBERED: usize = 64;
 
 /// What stays while a function's instructions run.
 #[derive(Clone, Copy, Debug)]
-pub struct Setup {
+pub struct FunctionContext {
     /// The machine of the code.
     pub arch: Arch,
     /// The code alignment factor, in bytes.
@@ -66,7 +66,7 @@ pub fn define_row(
     read: Result<(u64, Insn<'_>), InsnFault>,
     columns: &mut Columns,
 ) -> Result<(), MachineFault>
-    ensures { Changes columns.new result (defined_more arch factor (item read.entry) columns.old) }
+    ensures { Changes columns.new result (cie_items arch factor (item read.entry) columns.old) }
 {
     match read {
         Ok((place, insn)) => define_at(arch, place, effect_of(factor, insn), columns),
@@ -148,7 +148,7 @@ impl Machine {
     #[inline(always)]
     pub fn step(
         &mut self,
-        setup: &Setup,
+        setup: &FunctionContext,
         factor: i64,
         read: Result<(u64, Insn<'_>), InsnFault>,
     ) -> Result<Option<u64>, MachineFault>
@@ -165,7 +165,7 @@ impl Machine {
     #[inline(always)]
     fn run(
         &mut self,
-        setup: &Setup,
+        setup: &FunctionContext,
         place: u64,
         effect: Effect,
     ) -> Result<Option<u64>, MachineFault>

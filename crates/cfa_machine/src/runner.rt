@@ -1,37 +1,37 @@
 //! The rows of a function one by one, each made when it is asked for.
 
-ghost use Rattle.std.specs.Prelude.{◌≡◌, ◌<◌, [], Ok, OnOk, length};
+ghost use Rattle.std.specs.Prelude.{◌≡◌, ◌<◌, [], List, Ok, OnOk, length};
 ghost use Rattle.sf_bytes.specs.Cursor.{cursor};
-ghost use Rattle.cfa_insn.specs.Listing.{listing};
+ghost use Rattle.cfa_insn.specs.Listing.{Item, listing};
 ghost use Rattle.cfa_insn.specs.Remaining.{items_left};
+ghost use Rattle.cfa_machine.specs.Initial.{IsInitial};
 ghost use Rattle.cfa_machine.specs.Left.{Begins, Follows, OnRow, Reaches, limit, present, rows_left, steps_left};
 ghost use Rattle.cfa_machine.specs.Pass.{in_front, last_row, rows_by, rows_from, state};
 
 use crate::columns::{Columns, empty_columns};
 use crate::fault::MachineFault;
-use crate::initial::Initial;
-use crate::machine::{Machine, Setup};
+use crate::initial::initial_row;
+use crate::machine::{FunctionContext, Machine};
 use cfa_insn::Insns;
 use sf_bytes::Part;
 use sf_model::Arch;
 
 /// Gives the rows of a function by rising start, and allocates nothing. It can be started again for the next
-/// function, and keeps the initial row of the common information entry.
+/// function.
 #[derive(Debug, Drop)]
 pub struct Runner<'a> {
     machine: Machine,
-    setup: Setup,
+    setup: FunctionContext,
     factor: i64,
     insns: Insns<'a>,
     over: bool,
-    kept: Option<Initial<'a>>,
 }
 
 // Runs instructions up to the next row, whose start it gives, or to their end.
 #[inline(always)]
 fn next_start(
     machine: &mut Machine,
-    setup: &Setup,
+    setup: &FunctionContext,
     factor: i64,
     insns: &mut Insns<'_>,
 ) -> Result<Option<u64>, MachineFault>
@@ -55,7 +55,7 @@ impl<'a> Runner<'a> {
         let initial = empty_columns();
         Runner {
             machine: Machine::new(initial),
-            setup: Setup {
+            setup: FunctionContext {
                 arch: Arch::Amd64,
                 code: 0,
                 size: 0,
@@ -64,7 +64,6 @@ impl<'a> Runner<'a> {
             factor: 0,
             insns: Insns::new(Part::new(&[], 0)),
             over: true,
-            kept: None,
         }
     }
 
@@ -85,9 +84,27 @@ impl<'a> Runner<'a> {
         ensures exact { Begins self.new result (rows_by arch code factor size (listing (cursor cie.entry)) (listing (cursor fde.entry))) }
         ensures limit { OnOk result (limit self.new ≡ size) }
     {
-        let initial = Initial::row(&mut self.kept, arch, factor, cie)?;
+        let initial = initial_row(arch, factor, cie)?;
+        self.start_from(initial, arch, code, factor, fde, size);
+        Ok(())
+    }
+
+    /// Begins the rows of a function whose initial row is known, and doesn't run the common information
+    /// entry's instructions. [`initial_row`](crate::initial_row) gives that row.
+    pub fn start_from(
+        &mut self,
+        initial: Columns,
+        arch: Arch,
+        code: u64,
+        factor: i64,
+        fde: Part<'a>,
+        size: u64,
+    )
+        ensures begins { (cie : List Item) → IsInitial arch factor cie initial → rows_left self.new ≡ rows_by arch code factor size cie (listing (cursor fde.entry)) }
+        ensures limit { limit self.new ≡ size }
+    {
         self.machine.restart(initial);
-        self.setup = Setup {
+        self.setup = FunctionContext {
             arch,
             code,
             size,
@@ -96,7 +113,6 @@ impl<'a> Runner<'a> {
         self.factor = factor;
         self.insns = Insns::new(fde);
         self.over = false;
-        Ok(())
     }
 
     /// The start of the next row, or none after the last. [`columns`](Runner::columns) has its columns.

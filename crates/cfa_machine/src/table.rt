@@ -3,7 +3,7 @@
 ghost use Rattle.std.specs.Prelude.{◌≡◌, IfOk};
 ghost use Rattle.sf_bytes.specs.Cursor.{cursor};
 ghost use Rattle.cfa_insn.specs.Listing.{listing};
-ghost use Rattle.cfa_machine.specs.At.{SayAll, StartWhereReached};
+ghost use Rattle.cfa_machine.specs.RowAtOffset.{SayAll, StartWhereReached};
 ghost use Rattle.cfa_machine.specs.FirstFault.{Answers, first_fault};
 ghost use Rattle.cfa_machine.specs.RowList.{AreRows};
 ghost use Rattle.cfa_machine.specs.Pass.{Gives, rows_by};

@@ -6,5 +6,5 @@ pub mod Threads
 pub mod Checks
 pub mod Memory
 pub mod Views
-pub mod Told
+pub mod FaultShown
 pub mod Core

@@ -2,8 +2,8 @@
 //!
 //! [`walk`] lists the frames of a thread of a core file, from the innermost on, and why it stops: `section_walk` of
 //! `sf_model`, over the functions of the view's table and any [`sf_model::Memory`]. [`walk_by`] is the same over any
-//! [`LookUp`], `look_up_walk` of `sf_model`. They serve each section, thread, memory and depth, and owe nothing to their
-//! caller.
+//! [`LookUp`], `look_up_walk` of `sf_model`: a view, or for many walks by one section an [`sf_lookup::Indexed`]. They serve
+//! each section, thread, memory and depth, and owe nothing to their caller.
 //!
 //! [`step`] has one step of a walk, for walks whose frames lie elsewhere.
 //!

@@ -5,10 +5,11 @@ ghost use Rattle.std.specs.Option.{option_map};
 ghost use Rattle.sf_model.specs.Content.{content_fits};
 ghost use Rattle.sf_model.specs.Lookup.{FoundRow, found_at};
 ghost use Rattle.sf_decode.specs.View.{table_of};
+ghost use Rattle.sf_lookup.specs.Indexed.{table_in};
 ghost use Rattle.sf_lookup.specs.Lookup.{shown};
 
 use sf_decode::View;
-use sf_lookup::{Found, find};
+use sf_lookup::{Found, Indexed, find};
 use sf_model::Arch;
 
 /// Rows by the addresses at which they hold: those of a section, or of all sections of a process.
@@ -29,5 +30,15 @@ impl<'a> LookUp for View<'a> {
     fn look_up(&self, pc: u64) -> Option<(Arch, Found)> {
         let found = find(self, pc)?;
         Some((self.arch(), found))
+    }
+}
+
+/// The same of a section that was put in order.
+impl<'a> LookUp for Indexed<'a> {
+    ghost found_at = { λ indexed. found_at (table_in indexed).functions };
+
+    fn look_up(&self, pc: u64) -> Option<(Arch, Found)> {
+        let found = self.find(pc)?;
+        Some((self.view().arch(), found))
     }
 }

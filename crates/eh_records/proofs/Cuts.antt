@@ -3,7 +3,7 @@ use Rattle.std.proofs.Common.{◌≡◌, ℕ, zero, suc, ◌+◌, ◌-◌, ◌<�
 use Rattle.sf_bytes.specs.Cursor.{Cursor, past}
 use Rattle.eh_records.specs.declared.fault.RecordFault.{RecordFault}
 use Rattle.eh_records.specs.Cutting.{Stands}
-use Rattle.eh_records.specs.Cut.{Piece, piece_at}
+use Rattle.eh_records.specs.RawRecord.{RawRecordView, raw_record_at}
 use Rattle.eh_records.specs.Section.{Cutting, cuts_after, cuts}
 use Rattle.eh_records.proofs.Moves.{cut_is, nothing_there}
 
@@ -31,7 +31,7 @@ behind m place bs after e =
     let on : cuts after ≡ cuts_after 0 (place + m) (drop m bs) = ap cuts e in
     rw (len, on) (skip m place bs)
 
-next_behind : (place b : ℕ) (bs : List ℕ) (p : Piece) (after : Cursor) (k : ℕ) → 4 ≤ k → after ≡ past (4 + k) (record { place = place; left = b ∷ bs }) → cuts_after (length bs - length after.left) (place + 1) bs ≡ cuts after
+next_behind : (place b : ℕ) (bs : List ℕ) (p : RawRecordView) (after : Cursor) (k : ℕ) → 4 ≤ k → after ≡ past (4 + k) (record { place = place; left = b ∷ bs }) → cuts_after (length bs - length after.left) (place + 1) bs ≡ cuts after
 next_behind place b bs p after k enough e =
     let on : place + (4 + k) ≡ place + 1 + (3 + k) = omega arith in
     let one : 4 + k ≡ suc (3 + k) = omega arith in
@@ -39,7 +39,7 @@ next_behind place b bs p after k enough e =
     let after_is : after ≡ record { place = place + 1 + (3 + k); left = drop (3 + k) bs } = e ∙ cc in
     behind (3 + k) (place + 1) bs after after_is
 
-starts_bytes : (place : ℕ) (bytes : List ℕ) (p : Piece) (after : Cursor) → 0 < length bytes → piece_at (record { place = place; left = bytes }) ≡ Ok (Some (p, after))
+starts_bytes : (place : ℕ) (bytes : List ℕ) (p : RawRecordView) (after : Cursor) → 0 < length bytes → raw_record_at (record { place = place; left = bytes }) ≡ Ok (Some (p, after))
     → cuts_after 0 place bytes ≡ Ok p ∷ cuts after
 unfolding cuts_after
 starts_bytes place [] p after some e = absurd (omega arith)
@@ -47,24 +47,24 @@ starts_bytes place (b ∷ bs) p after some e =
     let c : Stands (record { place = place; left = b ∷ bs }) p after = cut_is _ p after e in
     rw e (ap (λ (others : List Cutting). Ok p ∷ others) (next_behind place b bs p after c.len c.enough c.behind))
 
-pub starts_with_record : (at : Cursor) (p : Piece) (after : Cursor) → piece_at at ≡ Ok (Some (p, after)) → cuts at ≡ Ok p ∷ cuts after
+pub starts_with_record : (at : Cursor) (p : RawRecordView) (after : Cursor) → raw_record_at at ≡ Ok (Some (p, after)) → cuts at ≡ Ok p ∷ cuts after
 starts_with_record at p after e =
     let c : Stands at p after = cut_is at p after e in
     let some : 0 < length at.left = omega (arith, c.within) in
     starts_bytes at.place at.left p after some e
 
-stops_bytes : (place : ℕ) (bytes : List ℕ) → piece_at (record { place = place; left = bytes }) ≡ Ok None → cuts_after 0 place bytes ≡ []
+stops_bytes : (place : ℕ) (bytes : List ℕ) → raw_record_at (record { place = place; left = bytes }) ≡ Ok None → cuts_after 0 place bytes ≡ []
 unfolding cuts_after
 stops_bytes place [] e = refl
 stops_bytes place (b ∷ bs) e = rw e refl
 
-pub stops : (at : Cursor) → piece_at at ≡ Ok None → cuts at ≡ []
+pub stops : (at : Cursor) → raw_record_at at ≡ Ok None → cuts at ≡ []
 stops at e = stops_bytes at.place at.left e
 
-faults_bytes : (place : ℕ) (bytes : List ℕ) (f : RecordFault) → piece_at (record { place = place; left = bytes }) ≡ Err f → cuts_after 0 place bytes ≡ Err f ∷ []
+faults_bytes : (place : ℕ) (bytes : List ℕ) (f : RecordFault) → raw_record_at (record { place = place; left = bytes }) ≡ Err f → cuts_after 0 place bytes ≡ Err f ∷ []
 unfolding cuts_after
 faults_bytes place [] f e = absurd (nothing_there place f e)
 faults_bytes place (b ∷ bs) f e = rw e refl
 
-pub faults : (at : Cursor) (f : RecordFault) → piece_at at ≡ Err f → cuts at ≡ Err f ∷ []
+pub faults : (at : Cursor) (f : RecordFault) → raw_record_at at ≡ Err f → cuts at ≡ Err f ∷ []
 faults at f e = faults_bytes at.place at.left f e

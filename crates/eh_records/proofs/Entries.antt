@@ -3,7 +3,7 @@ use Rattle.std.proofs.Common.{◌≡◌, ℕ, List, [], ◌∷◌, Result, Ok, E
 use Rattle.std.proofs.lemmas.List.Elements.{All-nil}
 use Rattle.sf_model.specs.declared.machine.Arch.{Arch}
 use Rattle.eh_records.specs.declared.fault.RecordFault.{RecordFault}
-use Rattle.eh_records.specs.Cut.{Piece}
+use Rattle.eh_records.specs.RawRecord.{RawRecordView}
 use Rattle.eh_records.specs.Cutting.{AreCut, AreEntries, all_cut, start}
 use Rattle.eh_records.specs.Section.{EntryView, Cutting, cuts_of, entry_at, with_place, entries_in, entries_of}
 use Rattle.eh_records.specs.Step.{◌>>=◌}
@@ -12,7 +12,7 @@ use Rattle.eh_records.proofs.Given.{AreGiven}
 use Rattle.eh_records.proofs.Moves.{through, ok_same}
 use Rattle.eh_records.proofs.Stands.{cut_read, read_cut}
 
-read_all : (arch : Arch) (section cies : List ℕ) (ps : List Piece) (es : List EntryView) → AreGiven arch section cies ps es → entries_in arch section cies (all_cut ps) ≡ Ok es
+read_all : (arch : Arch) (section cies : List ℕ) (ps : List RawRecordView) (es : List EntryView) → AreGiven arch section cies ps es → entries_in arch section cies (all_cut ps) ≡ Ok es
 unfolding entries_in
 read_all arch section cies [] [] h = refl
 read_all arch section cies [] (e ∷ es) h = absurd h
@@ -22,7 +22,7 @@ read_all arch section cies (p ∷ ps) (e ∷ es) h =
     ∙ ap (λ (r : Result (List EntryView) RecordFault). r >>= λ xs. Ok (e ∷ xs)) (read_all arch section (with_place cies p) ps es h.1)
 
 record Found (arch : Arch) (section cies : List ℕ) (xs : List Cutting) (es : List EntryView) : Type 0 where
-  pieces : List Piece
+  pieces : List RawRecordView
   cut : xs ≡ all_cut pieces
   read : AreGiven arch section cies pieces es
 
@@ -42,7 +42,7 @@ all_read arch section cies (Ok p ∷ others) es h =
 
 -- a section's records with what the reader gives of them
 pub record Given (arch : Arch) (section : List ℕ) (es : List EntryView) : Type 0 where
-  pub pieces : List Piece
+  pub pieces : List RawRecordView
   pub cut : AreCut pieces (start section)
   pub given : AreGiven arch section [] pieces es
 

@@ -13,7 +13,7 @@ use Rattle.eh_records.specs.declared.fault.RecordFault.{RecordFault}
 use Rattle.eh_records.specs.declared.fault.RecordFault.TheVariants as faults
 use Rattle.eh_records.specs.Augmentation.{Said, said_plain, letters_at, data_at, form_at, personality_at, letter_at, said_by}
 use Rattle.eh_records.specs.Cie.{Numbers, SharedView, column_at, numbers_at, passed_data, said_at, cie_fields, cie_of}
-use Rattle.eh_records.specs.Cut.{Piece, piece_at, piece_of, whole, sized, named_place}
+use Rattle.eh_records.specs.RawRecord.{RawRecordView, raw_record_at, piece_of, whole, sized, named_place}
 use Rattle.eh_records.specs.Cutting.{with_common, start}
 use Rattle.eh_records.specs.Fde.{cie_at_place, lsda_in, lsda_at, entry_of, fde_of}
 use Rattle.eh_records.specs.Fields.{StringStands}
@@ -103,7 +103,7 @@ none_of false b h = (refl, h)
 known_of : (arch : Arch) (x : Option (List ℕ) × Cursor) (at : Cursor) → letters_at arch at ≡ Ok x → (ls : List ℕ) → x.0 ≡ Some ls → AreKnown arch ls
 known_of arch x at read ls is = string_known arch ls at x.1 (subst (λ (o : Option (List ℕ)). StringStands arch o at x.1) is (string_stands arch at x read))
 
-numbers_fail : (arch : Arch) (p : Piece) (version : ℕ) (a1 : Cursor) (letters : Option (List ℕ) × Cursor) (e : RecordFault) → FieldStands (Number 1) version p.body a1 → (version ≡ 1) ⊎ (version ≡ 3) → StringStands arch letters.0 a1 letters.1
+numbers_fail : (arch : Arch) (p : RawRecordView) (version : ℕ) (a1 : Cursor) (letters : Option (List ℕ) × Cursor) (e : RecordFault) → FieldStands (Number 1) version p.body a1 → (version ≡ 1) ⊎ (version ≡ 3) → StringStands arch letters.0 a1 letters.1
     → numbers_at version letters.1 ≡ failed e → CieFails arch p e
 unfolding numbers_at
 numbers_fail arch p version a1 letters e byte known string h = elim (split (uleb_field letters.1) _ e h) [
@@ -117,7 +117,7 @@ numbers_fail arch p version a1 letters e byte known string h = elim (split (uleb
   ]
 ]
 
-said_fails : (arch : Arch) (p : Piece) (version : ℕ) (a1 : Cursor) (letters : Option (List ℕ) × Cursor) (numbers : Numbers × Cursor) (e : RecordFault) → FieldStands (Number 1) version p.body a1 → (version ≡ 1) ⊎ (version ≡ 3)
+said_fails : (arch : Arch) (p : RawRecordView) (version : ℕ) (a1 : Cursor) (letters : Option (List ℕ) × Cursor) (numbers : Numbers × Cursor) (e : RecordFault) → FieldStands (Number 1) version p.body a1 → (version ≡ 1) ⊎ (version ≡ 3)
     → ((version == 1) || (version == 3)) ≡ true → letters_at arch a1 ≡ Ok letters → numbers_at version letters.1 ≡ Ok numbers → said_at letters.0 numbers.1 ≡ failed e → CieFails arch p e
 unfolding numbers_at
 said_fails arch p version a1 letters numbers e byte known test string read h =
@@ -130,7 +130,7 @@ said_fails arch p version a1 letters numbers e byte known test string read h =
     (uleb_stands letters.1 code.first code.read) (sleb_stands code.first.1 factor.first factor.read) (column_stands version factor.first.1 column.first test column.read)
     (augmentation_fails arch letters.0 column.first.1 e (known_of arch letters a1 string) (ap (said_at letters.0) after ∙ h))
 
-fields_fail : (arch : Arch) (p : Piece) (version : ℕ) (a1 : Cursor) (e : RecordFault) → FieldStands (Number 1) version p.body a1 → (version ≡ 1) ⊎ (version ≡ 3) → ((version == 1) || (version == 3)) ≡ true
+fields_fail : (arch : Arch) (p : RawRecordView) (version : ℕ) (a1 : Cursor) (e : RecordFault) → FieldStands (Number 1) version p.body a1 → (version ≡ 1) ⊎ (version ≡ 3) → ((version == 1) || (version == 3)) ≡ true
     → cie_fields arch p.place version a1 ≡ failed e → CieFails arch p e
 unfolding cie_fields
 fields_fail arch p version a1 e byte known test h = elim (split (letters_at arch a1) _ e h) [
@@ -144,14 +144,14 @@ fields_fail arch p version a1 e byte known test h = elim (split (letters_at arch
   ]
 ]
 
-version_by : (b : Bool) (arch : Arch) (p : Piece) (version : ℕ) (a1 : Cursor) (e : RecordFault) → ((version == 1) || (version == 3)) ≡ b → FieldStands (Number 1) version p.body a1
+version_by : (b : Bool) (arch : Arch) (p : RawRecordView) (version : ℕ) (a1 : Cursor) (e : RecordFault) → ((version == 1) || (version == 3)) ≡ b → FieldStands (Number 1) version p.body a1
     → (if b then cie_fields arch p.place version a1 else failed {X = SharedView} (faults.CieVersion p.body.place)) ≡ failed e → CieFails arch p e
 version_by true arch p version a1 e test byte h = fields_fail arch p version a1 e byte (one_of (version == 1) (version == 3) version refl refl test) test h
 version_by false arch p version a1 e test byte h =
     let n = none_of (version == 1) (version == 3) test in
     other_version version a1 byte (eqb-false _ _ n.0) (eqb-false _ _ n.1) (sym (fault_same {X = SharedView} (faults.CieVersion p.body.place) e h))
 
-cie_fails : (arch : Arch) (p : Piece) (e : RecordFault) → cie_of arch p ≡ failed e → CieFails arch p e
+cie_fails : (arch : Arch) (p : RawRecordView) (e : RecordFault) → cie_of arch p ≡ failed e → CieFails arch p e
 unfolding cie_of
 cie_fails arch p e h = elim (split (number_field 1 p.body) _ e h) [
   | inl one ↦ no_version (number_lacks 1 p.body e one)
@@ -176,7 +176,7 @@ frame_data_fails : (shared : SharedView) (at : Cursor) (e : RecordFault) → lsd
 unfolding lsda_at
 frame_data_fails shared at e h = frame_data_by shared.augmented shared.lsda at e h
 
-fde_fails : (shared : SharedView) (p : Piece) (e : RecordFault) → entry_of shared p ≡ failed e → FdeFails shared p e
+fde_fails : (shared : SharedView) (p : RawRecordView) (e : RecordFault) → entry_of shared p ≡ failed e → FdeFails shared p e
 unfolding entry_of
 fde_fails shared p e h = elim (split (pointer_field shared.width p.body) _ e h) [
   | inl one ↦ inl (pointer_lacks shared.width p.body e one)
@@ -190,27 +190,27 @@ fde_fails shared p e h = elim (split (pointer_field shared.width p.body) _ e h) 
 ]
 
 -- ---- the entry that is named
-named_by : (b : Bool) (p : Piece) (e : RecordFault) → nat_lt p.id_place p.id ≡ b → (if b then failed {X = ℕ} (faults.CiePointer p.id_place) else went (p.id_place - p.id)) ≡ failed e → (p.id_place < p.id) × (e ≡ faults.CiePointer p.id_place)
+named_by : (b : Bool) (p : RawRecordView) (e : RecordFault) → nat_lt p.id_place p.id ≡ b → (if b then failed {X = ℕ} (faults.CiePointer p.id_place) else went (p.id_place - p.id)) ≡ failed e → (p.id_place < p.id) × (e ≡ faults.CiePointer p.id_place)
 named_by true p e t h = (ltb-true _ _ t, sym (fault_same {X = ℕ} (faults.CiePointer p.id_place) e h))
 named_by false p e t h = absurd (not_both _ e h)
 
-named_fails : (p : Piece) (e : RecordFault) → named_place p ≡ failed e → (p.id_place < p.id) × (e ≡ faults.CiePointer p.id_place)
+named_fails : (p : RawRecordView) (e : RecordFault) → named_place p ≡ failed e → (p.id_place < p.id) × (e ≡ faults.CiePointer p.id_place)
 unfolding named_place
 named_fails p e h = named_by (nat_lt p.id_place p.id) p e refl h
 
-among_by : (b : Bool) (p : Piece) (place : ℕ) (e : RecordFault) → (if b then went place else failed {X = ℕ} (faults.CiePointer p.id_place)) ≡ failed e → (b ≡ false) × (e ≡ faults.CiePointer p.id_place)
+among_by : (b : Bool) (p : RawRecordView) (place : ℕ) (e : RecordFault) → (if b then went place else failed {X = ℕ} (faults.CiePointer p.id_place)) ≡ failed e → (b ≡ false) × (e ≡ faults.CiePointer p.id_place)
 among_by true p place e h = absurd (not_both _ e h)
 among_by false p place e h = (refl, sym (fault_same {X = ℕ} (faults.CiePointer p.id_place) e h))
 
 true_not_false : (b : Bool) → b ≡ true → b ≡ false → ⊥
 true_not_false b t f = let clash : true ≡ false = sym t ∙ f in absurd cc
 
-names_none : (before : List SharedView) (p : Piece) (place : ℕ) → place + p.id ≡ p.id_place → is_among place before ≡ false → NamesNone before p
+names_none : (before : List SharedView) (p : RawRecordView) (place : ℕ) → place + p.id ≡ p.id_place → is_among place before ≡ false → NamesNone before p
 names_none before p place sum none = λ shared has named.
     let same : shared.cie.place ≡ place = omega (arith, sum, named) in
     true_not_false (is_among place before) (among place before shared has.0 has.1 has.2 same) none
 
-unnamed : (before : List SharedView) (p : Piece) (e : RecordFault) → (named_place p >>= place_among (map place_of before) p) ≡ failed e → FrameFails before p e
+unnamed : (before : List SharedView) (p : RawRecordView) (e : RecordFault) → (named_place p >>= place_among (map place_of before) p) ≡ failed e → FrameFails before p e
 unnamed before p e h = elim (split (named_place p) (place_among (map place_of before) p) e h) [
   | inl one ↦
       let low = named_fails p e one in
@@ -221,7 +221,7 @@ unnamed before p e h = elim (split (named_place p) (place_among (map place_of be
       inl (names_none before p w.0 (named_back p w.0 w.1) a.0, a.1)
 ]
 
-frame_of_fails : (arch : Arch) (section : List ℕ) (before : List SharedView) (p : Piece) (e : RecordFault) (got : ℕ) → All (IsAgain arch section) before → (named_place p >>= place_among (map place_of before) p) ≡ Ok got → fde_of arch section p ≡ failed e
+frame_of_fails : (arch : Arch) (section : List ℕ) (before : List SharedView) (p : RawRecordView) (e : RecordFault) (got : ℕ) → All (IsAgain arch section) before → (named_place p >>= place_among (map place_of before) p) ≡ Ok got → fde_of arch section p ≡ failed e
     → FrameFails before p e
 unfolding fde_of
 frame_of_fails arch section before p e got known named h =
@@ -244,7 +244,7 @@ frame_of_fails arch section before p e got known named h =
     found_among true place id_place got e = refl
     found_among false place id_place got e = absurd (not_both got (faults.CiePointer id_place) (sym e))
 
-entry_by : (b : Bool) (arch : Arch) (section : List ℕ) (before : List SharedView) (p : Piece) (e : RecordFault) → All (IsAgain arch section) before → (p.id == 0) ≡ b
+entry_by : (b : Bool) (arch : Arch) (section : List ℕ) (before : List SharedView) (p : RawRecordView) (e : RecordFault) → All (IsAgain arch section) before → (p.id == 0) ≡ b
     → ((if b then went p.place else (named_place p >>= place_among (map place_of before) p)) >>= λ _. if b then (cie_of arch p >>= λ x. went (Common x)) else (fde_of arch section p >>= λ f. went (Frame f))) ≡ failed e
     → EntryFails arch before p e
 entry_by true arch section before p e known t h = elim (split (cie_of arch p) (λ x. went (Common x)) e h) [
@@ -259,13 +259,13 @@ entry_by false arch section before p e known t h = elim (split (named_place p >>
   ]
 ]
 
-entry_fails : (arch : Arch) (section : List ℕ) (before : List SharedView) (p : Piece) (e : RecordFault) → All (IsAgain arch section) before → entry_at arch section (map place_of before) p ≡ failed e → EntryFails arch before p e
+entry_fails : (arch : Arch) (section : List ℕ) (before : List SharedView) (p : RawRecordView) (e : RecordFault) → All (IsAgain arch section) before → entry_at arch section (map place_of before) p ≡ failed e → EntryFails arch before p e
 unfolding entry_at entry_here shared_place
 entry_fails arch section before p e known h = entry_by (p.id == 0) arch section before p e known refl h
 
 -- ---- cutting
 abbrev Front : Type 0
-Front = Result (Option (Piece × Cursor)) RecordFault
+Front = Result (Option (RawRecordView × Cursor)) RecordFault
 
 whole_failed : {X : Type 0} (place : ℕ) (s : Step X) (e : RecordFault) → whole place s ≡ failed e → e ≡ faults.Short place
 whole_failed {X = X} place (Ok x) e h = absurd (not_both x e h)
@@ -302,8 +302,8 @@ SizedFails len at e =
 sized_by : (a b c : Bool) (len : ℕ) (at rest : Cursor) (e : RecordFault) → length rest.left + 4 ≡ length at.left → (len == 0) ≡ a → (len == 4294967295) ≡ b → nat_lt len 4 ≡ c
     → cond {A = Front} a (Ok None) (cond b (Err (faults.Extended at.place)) (cond c (Err (faults.Short at.place)) (piece_of at.place len rest >>= λ p. went (Some p)))) ≡ failed e → SizedFails len at e
 sized_by true b c len at rest e left ta tb tc h = absurd (not_both _ e h)
-sized_by false true c len at rest e left ta tb tc h = inl (eqb-true _ _ tb, sym (fault_same {X = Option (Piece × Cursor)} (faults.Extended at.place) e h))
-sized_by false false true len at rest e left ta tb tc h = inr (eqb-false _ _ ta, eqb-false _ _ tb, inl (ltb-true _ _ tc), sym (fault_same {X = Option (Piece × Cursor)} (faults.Short at.place) e h))
+sized_by false true c len at rest e left ta tb tc h = inl (eqb-true _ _ tb, sym (fault_same {X = Option (RawRecordView × Cursor)} (faults.Extended at.place) e h))
+sized_by false false true len at rest e left ta tb tc h = inr (eqb-false _ _ ta, eqb-false _ _ tb, inl (ltb-true _ _ tc), sym (fault_same {X = Option (RawRecordView × Cursor)} (faults.Short at.place) e h))
 sized_by false false false len at rest e left ta tb tc h = elim (split (piece_of at.place len rest) (λ p. went (Some p)) e h) [
   | inl one ↦
       let s = piece_short at.place len rest e (ltb-false _ _ tc) one in
@@ -326,15 +326,15 @@ front_by false at e t h = (
   ],
 )
 
-cut_fails : (at : Cursor) (e : RecordFault) → piece_at at ≡ failed e → CutFails at e
-unfolding piece_at
+cut_fails : (at : Cursor) (e : RecordFault) → raw_record_at at ≡ failed e → CutFails at e
+unfolding raw_record_at
 cut_fails at e h = front_by (length at.left == 0) at e refl h
 
 -- ---- sections
 abbrev one_fault : RecordFault → List Cutting → List Cutting
 one_fault f xs = Err f ∷ xs
 
-abbrev one_piece : Piece → List Cutting → List Cutting
+abbrev one_piece : RawRecordView → List Cutting → List Cutting
 one_piece p xs = Ok p ∷ xs
 
 fault_first : (f e : RecordFault) (xs ys : List Cutting) → one_fault f xs ≡ one_fault e ys → f ≡ e
@@ -343,16 +343,16 @@ fault_first f e xs ys h = cc
 none_first : (e : RecordFault) (ys : List Cutting) → [] ≡ one_fault e ys → ⊥
 none_first e ys h = cc
 
-piece_first : (p : Piece) (e : RecordFault) (xs ys : List Cutting) → one_piece p xs ≡ one_fault e ys → ⊥
+piece_first : (p : RawRecordView) (e : RecordFault) (xs ys : List Cutting) → one_piece p xs ≡ one_fault e ys → ⊥
 piece_first p e xs ys h = cc
 
-uncut : (at : Cursor) (e : RecordFault) (others : List Cutting) (r : Front) → cuts at ≡ one_fault e others → piece_at at ≡ r → piece_at at ≡ failed e
+uncut : (at : Cursor) (e : RecordFault) (others : List Cutting) (r : Front) → cuts at ≡ one_fault e others → raw_record_at at ≡ r → raw_record_at at ≡ failed e
 uncut at e others (Ok None) is read = absurd (none_first e others (sym (stops at read) ∙ is))
 uncut at e others (Ok (Some x)) is read = absurd (piece_first x.0 e (cuts x.1) others (sym (starts_with_record at x.0 x.1 read) ∙ is))
-uncut at e others (Err f) is read = read ∙ ap (λ (x : RecordFault). failed {X = Option (Piece × Cursor)} x) (fault_first f e [] others (sym (cut_faults at f read) ∙ is))
+uncut at e others (Err f) is read = read ∙ ap (λ (x : RecordFault). failed {X = Option (RawRecordView × Cursor)} x) (fault_first f e [] others (sym (cut_faults at f read) ∙ is))
 
 abbrev Refusal : Arch → List SharedView → Cursor → RecordFault → Type 0
-Refusal arch before at e = (ps : List Piece) × (vs : List EntryView) × FailsFrom arch before ps vs at e
+Refusal arch before at e = (ps : List RawRecordView) × (vs : List EntryView) × FailsFrom arch before ps vs at e
 
 fails_from : (arch : Arch) (section cies : List ℕ) (before : List SharedView) (xs : List Cutting) (at : Cursor) (e : RecordFault) → cies ≡ map place_of before → All (IsAgain arch section) before → IsAt section at → cuts at ≡ xs
     → entries_in arch section cies xs ≡ failed e → Refusal arch before at e
@@ -360,9 +360,9 @@ unfolding entries_in
 fails_from arch section cies before [] at e is known here cut h = absurd (not_both _ e h)
 fails_from arch section cies before (Err x ∷ others) at e is known here cut h =
     let same : x ≡ e = fault_same {X = List EntryView} x e h in
-    ([], [], inl (cut_fails at e (uncut at x others (piece_at at) cut refl ∙ ap (λ (y : RecordFault). failed {X = Option (Piece × Cursor)} y) same)))
+    ([], [], inl (cut_fails at e (uncut at x others (raw_record_at at) cut refl ∙ ap (λ (y : RecordFault). failed {X = Option (RawRecordView × Cursor)} y) same)))
 fails_from arch section cies before (Ok p ∷ others) at e is known here cut h =
-    let n = next_of at p others cut (piece_at at) refl in
+    let n = next_of at p others cut (raw_record_at at) refl in
     elim (split (entry_at arch section cies p) _ e h) [
       | inl one ↦ ([], [], inr (p, n.after, n.stands, entry_fails arch section before p e known (ap (λ (cs : List ℕ). entry_at arch section cs p) (sym is) ∙ one)))
       | inr v ↦

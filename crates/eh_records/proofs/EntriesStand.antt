@@ -10,7 +10,7 @@ use Rattle.sf_model.specs.declared.machine.Arch.{Arch}
 use Rattle.eh_records.specs.declared.fault.RecordFault.{RecordFault}
 use Rattle.eh_records.specs.declared.fault.RecordFault.TheVariants.{CiePointer}
 use Rattle.eh_records.specs.Cie.{SharedView, cie_of}
-use Rattle.eh_records.specs.Cut.{Piece, piece_at, named_place}
+use Rattle.eh_records.specs.RawRecord.{RawRecordView, raw_record_at, named_place}
 use Rattle.eh_records.specs.Cutting.{Stands, AreCut, AreRead, with_common, start}
 use Rattle.eh_records.specs.Fde.{FdeView, cie_in, cie_at_place, entry_of, fde_of}
 use Rattle.eh_records.specs.Fields.{CieStands, FdeStands, FrameStands, EntryStands}
@@ -35,7 +35,7 @@ IsAt section at = at ≡ past at.place (start section)
 pub at_start : (section : List ℕ) → IsAt section (start section)
 at_start section = refl
 
-pub at_after : (section : List ℕ) (at : Cursor) (p : Piece) (after : Cursor) → IsAt section at → Stands at p after → IsAt section after
+pub at_after : (section : List ℕ) (at : Cursor) (p : RawRecordView) (after : Cursor) → IsAt section at → Stands at p after → IsAt section after
 at_after section at p after is s =
     let place : after.place ≡ at.place + (4 + s.len) = ap (λ (c : Cursor). c.place) s.behind in
     s.behind ∙ ap (past (4 + s.len)) is ∙ past-past at.place (4 + s.len) (start section) ∙ ap (λ (n : ℕ). past n (start section)) (sym place)
@@ -71,44 +71,44 @@ among place (c ∷ cs) d (suc k) within is at =
     ap (λ (b : Bool). (c.cie.place == place) || b) (among place cs d k (omega (arith, within)) is at) ∙ or_true (c.cie.place == place)
 
 -- ---- a common information entry
-common_given : (arch : Arch) (section cies : List ℕ) (p : Piece) (c : SharedView) → p.id ≡ 0 → CieStands arch p c → entry_at arch section cies p ≡ Ok (Common c)
+common_given : (arch : Arch) (section cies : List ℕ) (p : RawRecordView) (c : SharedView) → p.id ≡ 0 → CieStands arch p c → entry_at arch section cies p ≡ Ok (Common c)
 unfolding entry_at entry_here shared_place
 common_given arch section cies p c zero_id s =
     ap (λ (b : Bool). (if b then Ok p.place else (named_place p >>= place_among cies p)) >>= λ _. if b then (cie_of arch p >>= λ x. Ok (Common x)) else (fde_of arch section p >>= λ f. Ok (Frame f))) (eq-eqb p.id 0 zero_id)
     ∙ ap (λ (r : Result SharedView RecordFault). r >>= λ x. Ok (Common x)) (cie_read arch p c s)
 
 -- a record that is read again at its place is the same
-again : (arch : Arch) (section : List ℕ) (at : Cursor) (p : Piece) (after : Cursor) (c : SharedView) → IsAt section at → Stands at p after → CieStands arch p c → IsAgain arch section c
+again : (arch : Arch) (section : List ℕ) (at : Cursor) (p : RawRecordView) (after : Cursor) (c : SharedView) → IsAt section at → Stands at p after → CieStands arch p c → IsAgain arch section c
 unfolding cie_at_place
 again arch section at p after c is s fields =
-    let place : c.cie.place ≡ at.place = ap place_of fields.entry ∙ ap (λ (q : Piece). q.place) s.piece in
+    let place : c.cie.place ≡ at.place = ap place_of fields.entry ∙ ap (λ (q : RawRecordView). q.place) s.raw_record_view in
     let none : 0 + at.place ≡ at.place = omega arith in
     let here : record { place = c.cie.place; left = drop c.cie.place section } ≡ at =
     ap (λ (n : ℕ). record { place = n; left = drop n section }) place
     ∙ ap (λ (n : ℕ). record { place = n; left = drop at.place section }) (sym none)
     ∙ sym is in
-    ap (λ (r : Result (Option (Piece × Cursor)) RecordFault). r >>= cie_in arch c.cie.place) (ap piece_at here ∙ stands_is at p after s) ∙ cie_read arch p c fields
+    ap (λ (r : Result (Option (RawRecordView × Cursor)) RecordFault). r >>= cie_in arch c.cie.place) (ap raw_record_at here ∙ stands_is at p after s) ∙ cie_read arch p c fields
 
 -- ---- a frame description entry
-pub named_is : (p : Piece) (place : ℕ) → place + p.id ≡ p.id_place → named_place p ≡ Ok place
+pub named_is : (p : RawRecordView) (place : ℕ) → place + p.id ≡ p.id_place → named_place p ≡ Ok place
 unfolding named_place
 named_is p place sum =
     let low : nat_lt p.id_place p.id ≡ false = le-ltb p.id_place p.id (omega (arith, sum)) in
     let back : p.id_place - p.id ≡ place = omega (arith, sum) in
     ap (λ (b : Bool). if b then Err (CiePointer p.id_place) else Ok (p.id_place - p.id)) low ∙ ap (λ (n : ℕ). Ok n) back
 
-named_by : (b : Bool) (p : Piece) (place : ℕ) → nat_lt p.id_place p.id ≡ b → (if b then Err (CiePointer p.id_place) else Ok (p.id_place - p.id)) ≡ Ok place → place + p.id ≡ p.id_place
+named_by : (b : Bool) (p : RawRecordView) (place : ℕ) → nat_lt p.id_place p.id ≡ b → (if b then Err (CiePointer p.id_place) else Ok (p.id_place - p.id)) ≡ Ok place → place + p.id ≡ p.id_place
 named_by true p place t e = absurd cc
 named_by false p place t e =
     let low : p.id ≤ p.id_place = ltb-false _ _ t in
     let is : p.id_place - p.id ≡ place = cc in
     omega (arith, low, is)
 
-pub named_back : (p : Piece) (place : ℕ) → named_place p ≡ Ok place → place + p.id ≡ p.id_place
+pub named_back : (p : RawRecordView) (place : ℕ) → named_place p ≡ Ok place → place + p.id ≡ p.id_place
 unfolding named_place
 named_back p place e = named_by (nat_lt p.id_place p.id) p place refl e
 
-frame_given : (arch : Arch) (section : List ℕ) (before : List SharedView) (p : Piece) (f : FdeView) → All (IsAgain arch section) before → p.id ≢ 0 → FrameStands before p f → entry_at arch section (map place_of before) p ≡ Ok (Frame f)
+frame_given : (arch : Arch) (section : List ℕ) (before : List SharedView) (p : RawRecordView) (f : FdeView) → All (IsAgain arch section) before → p.id ≢ 0 → FrameStands before p f → entry_at arch section (map place_of before) p ≡ Ok (Frame f)
 unfolding entry_at entry_here shared_place fde_of
 frame_given arch section before p f known other s =
     let place = s.shared.cie.place in
@@ -126,7 +126,7 @@ among_by : (b : Bool) (place id_place got : ℕ) → (if b then Ok place else Er
 among_by true place id_place got e = refl
 among_by false place id_place got e = absurd cc
 
-pub frame_stands : (arch : Arch) (section : List ℕ) (before : List SharedView) (p : Piece) (f : FdeView) (got : ℕ) → All (IsAgain arch section) before → (named_place p >>= place_among (map place_of before) p) ≡ Ok got → fde_of arch section p ≡ Ok f → FrameStands before p f
+pub frame_stands : (arch : Arch) (section : List ℕ) (before : List SharedView) (p : RawRecordView) (f : FdeView) (got : ℕ) → All (IsAgain arch section) before → (named_place p >>= place_among (map place_of before) p) ≡ Ok got → fde_of arch section p ≡ Ok f → FrameStands before p f
 unfolding fde_of
 frame_stands arch section before p f got known named e =
     let one = through (named_place p) (place_among (map place_of before) p) got named in
@@ -144,7 +144,7 @@ frame_stands arch section before p f got known named e =
       fields = subst (λ (c : SharedView). FdeStands c p f) is (fde_stands shared.first p f shared.rest);
     }
 
-entry_by : (b : Bool) (arch : Arch) (section : List ℕ) (before : List SharedView) (p : Piece) (e : EntryView) → All (IsAgain arch section) before → (p.id == 0) ≡ b
+entry_by : (b : Bool) (arch : Arch) (section : List ℕ) (before : List SharedView) (p : RawRecordView) (e : EntryView) → All (IsAgain arch section) before → (p.id == 0) ≡ b
     → ((if b then Ok p.place else (named_place p >>= place_among (map place_of before) p)) >>= λ _. if b then (cie_of arch p >>= λ x. Ok (Common x)) else (fde_of arch section p >>= λ f. Ok (Frame f))) ≡ Ok e
     → EntryStands arch before p e
 entry_by true arch section before p e known t h =
@@ -155,16 +155,16 @@ entry_by false arch section before p e known t h =
     let one = through (fde_of arch section p) (λ f. Ok (Frame f)) e named.rest in
     subst (EntryStands arch before p) (ok_same (Frame one.first) e one.rest) (eqb-false _ _ t, frame_stands arch section before p one.first named.first known named.read one.read)
 
-pub entry_stands : (arch : Arch) (section : List ℕ) (before : List SharedView) (p : Piece) (e : EntryView) → All (IsAgain arch section) before → entry_at arch section (map place_of before) p ≡ Ok e → EntryStands arch before p e
+pub entry_stands : (arch : Arch) (section : List ℕ) (before : List SharedView) (p : RawRecordView) (e : EntryView) → All (IsAgain arch section) before → entry_at arch section (map place_of before) p ≡ Ok e → EntryStands arch before p e
 unfolding entry_at entry_here shared_place
 entry_stands arch section before p e known h = entry_by (p.id == 0) arch section before p e known refl h
 
-entry_given : (arch : Arch) (section : List ℕ) (before : List SharedView) (p : Piece) (e : EntryView) → All (IsAgain arch section) before → EntryStands arch before p e → entry_at arch section (map place_of before) p ≡ Ok e
+entry_given : (arch : Arch) (section : List ℕ) (before : List SharedView) (p : RawRecordView) (e : EntryView) → All (IsAgain arch section) before → EntryStands arch before p e → entry_at arch section (map place_of before) p ≡ Ok e
 entry_given arch section before p (Common c) known s = common_given arch section (map place_of before) p c s.0 s.1
 entry_given arch section before p (Frame f) known s = frame_given arch section before p f known s.0 s.1
 
 -- ---- all records
-pub places_by : (cies : List ℕ) (before : List SharedView) (arch : Arch) (p : Piece) (e : EntryView) → cies ≡ map place_of before → EntryStands arch before p e → with_place cies p ≡ map place_of (with_common before e)
+pub places_by : (cies : List ℕ) (before : List SharedView) (arch : Arch) (p : RawRecordView) (e : EntryView) → cies ≡ map place_of before → EntryStands arch before p e → with_place cies p ≡ map place_of (with_common before e)
 places_by cies before arch p (Common c) is s =
     ap (λ (b : Bool). if b then cies ++ p.place ∷ [] else cies) (eq-eqb p.id 0 s.0)
     ∙ ap (λ (xs : List ℕ). xs ++ p.place ∷ []) is
@@ -172,12 +172,12 @@ places_by cies before arch p (Common c) is s =
     ∙ sym (map-append place_of before (c ∷ []))
 places_by cies before arch p (Frame f) is s = ap (λ (b : Bool). if b then cies ++ p.place ∷ [] else cies) (ne_eqb p.id 0 s.0) ∙ is
 
-pub known_by : (arch : Arch) (section : List ℕ) (before : List SharedView) (at : Cursor) (p : Piece) (after : Cursor) (e : EntryView) → IsAt section at → Stands at p after → All (IsAgain arch section) before → EntryStands arch before p e
+pub known_by : (arch : Arch) (section : List ℕ) (before : List SharedView) (at : Cursor) (p : RawRecordView) (after : Cursor) (e : EntryView) → IsAt section at → Stands at p after → All (IsAgain arch section) before → EntryStands arch before p e
     → All (IsAgain arch section) (with_common before e)
 known_by arch section before at p after (Common c) is stands known s = All-push (IsAgain arch section) before c known (again arch section at p after c is stands s.1)
 known_by arch section before at p after (Frame f) is stands known s = known
 
-pub give : (arch : Arch) (section cies : List ℕ) (before : List SharedView) (ps : List Piece) (es : List EntryView) (at : Cursor) → cies ≡ map place_of before → All (IsAgain arch section) before → IsAt section at → AreCut ps at
+pub give : (arch : Arch) (section cies : List ℕ) (before : List SharedView) (ps : List RawRecordView) (es : List EntryView) (at : Cursor) → cies ≡ map place_of before → All (IsAgain arch section) before → IsAt section at → AreCut ps at
     → AreRead arch before ps es → AreGiven arch section cies ps es
 give arch section cies before [] [] at is known here cut read = tt
 give arch section cies before [] (e ∷ es) at is known here cut read = absurd read
@@ -188,7 +188,7 @@ give arch section cies before (p ∷ ps) (e ∷ es) at is known here (after, sta
       (known_by arch section before at p after e here stands known read.0) (at_after section at p after here stands) rest read.1,
 )
 
-pub stand : (arch : Arch) (section cies : List ℕ) (before : List SharedView) (ps : List Piece) (es : List EntryView) (at : Cursor) → cies ≡ map place_of before → All (IsAgain arch section) before → IsAt section at → AreCut ps at
+pub stand : (arch : Arch) (section cies : List ℕ) (before : List SharedView) (ps : List RawRecordView) (es : List EntryView) (at : Cursor) → cies ≡ map place_of before → All (IsAgain arch section) before → IsAt section at → AreCut ps at
     → AreGiven arch section cies ps es → AreRead arch before ps es
 stand arch section cies before [] [] at is known here cut given = tt
 stand arch section cies before [] (e ∷ es) at is known here cut given = absurd given

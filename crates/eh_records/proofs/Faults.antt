@@ -4,7 +4,7 @@ use Rattle.std.proofs.Common.{true, ◌≡◌, ℕ, List, [], ◌∷◌, Option,
 use Rattle.sf_bytes.specs.Cursor.{Cursor}
 use Rattle.sf_model.specs.declared.machine.Arch.{Arch}
 use Rattle.eh_records.specs.declared.fault.RecordFault.{RecordFault}
-use Rattle.eh_records.specs.Cut.{Piece, piece_at}
+use Rattle.eh_records.specs.RawRecord.{RawRecordView, raw_record_at}
 use Rattle.eh_records.specs.Section.{EntryView, Cutting, are_read, cuts, cuts_of, entry_here, entry_at, shared_place, with_place, entries_in, entries_of, entry_before, entries_before, fault_in}
 use Rattle.eh_records.specs.Step.{◌>>=◌}
 use Rattle.eh_records.proofs.Moves.{through, ok_same}
@@ -18,7 +18,7 @@ err : (arch : Arch) (section cies : List ℕ) (e : RecordFault) (others : List C
 unfolding entries_in
 err arch section cies e others = refl
 
-cons : (arch : Arch) (section cies : List ℕ) (p : Piece) (others : List Cutting)
+cons : (arch : Arch) (section cies : List ℕ) (p : RawRecordView) (others : List Cutting)
     → entries_in arch section cies (Ok p ∷ others) ≡ (entry_at arch section cies p >>= λ e. entries_in arch section (with_place cies p) others >>= λ es. Ok (e ∷ es))
 unfolding entries_in
 cons arch section cies p others = refl
@@ -31,7 +31,7 @@ same_fault e (Err x) = refl
 abbrev pub fault_from : Arch → List ℕ → List ℕ → Cursor → Option RecordFault
 fault_from arch section cies at = fault_in (entries_in arch section cies (cuts at))
 
-pub goes_on : (arch : Arch) (section cies : List ℕ) (at : Cursor) (p : Piece) (after : Cursor) (e : EntryView) → piece_at at ≡ Ok (Some (p, after)) → entry_at arch section cies p ≡ Ok e
+pub goes_on : (arch : Arch) (section cies : List ℕ) (at : Cursor) (p : RawRecordView) (after : Cursor) (e : EntryView) → raw_record_at at ≡ Ok (Some (p, after)) → entry_at arch section cies p ≡ Ok e
     → fault_from arch section cies at ≡ fault_from arch section (with_place cies p) after
 goes_on arch section cies at p after e h he =
     let rest = entries_in arch section (with_place cies p) (cuts after) in
@@ -40,7 +40,7 @@ goes_on arch section cies at p after e h he =
     ∙ ap (λ (r : Result EntryView RecordFault). fault_in (r >>= λ x. rest >>= λ es. Ok (x ∷ es))) he
     ∙ same_fault e rest
 
-pub refused : (arch : Arch) (section cies : List ℕ) (at : Cursor) (p : Piece) (after : Cursor) (x : RecordFault) → piece_at at ≡ Ok (Some (p, after)) → entry_at arch section cies p ≡ Err x
+pub refused : (arch : Arch) (section cies : List ℕ) (at : Cursor) (p : RawRecordView) (after : Cursor) (x : RecordFault) → raw_record_at at ≡ Ok (Some (p, after)) → entry_at arch section cies p ≡ Err x
     → fault_from arch section cies at ≡ Some x
 refused arch section cies at p after x h he =
     let rest = entries_in arch section (with_place cies p) (cuts after) in
@@ -48,10 +48,10 @@ refused arch section cies at p after x h he =
     ∙ ap fault_in (cons arch section cies p (cuts after))
     ∙ ap (λ (r : Result EntryView RecordFault). fault_in (r >>= λ y. rest >>= λ es. Ok (y ∷ es))) he
 
-pub uncut : (arch : Arch) (section cies : List ℕ) (at : Cursor) (x : RecordFault) → piece_at at ≡ Err x → fault_from arch section cies at ≡ Some x
+pub uncut : (arch : Arch) (section cies : List ℕ) (at : Cursor) (x : RecordFault) → raw_record_at at ≡ Err x → fault_from arch section cies at ≡ Some x
 uncut arch section cies at x h = ap (λ (xs : List Cutting). fault_in (entries_in arch section cies xs)) (faults at x h) ∙ ap fault_in (err arch section cies x [])
 
-pub ended : (arch : Arch) (section cies : List ℕ) (at : Cursor) → piece_at at ≡ Ok None → fault_from arch section cies at ≡ None
+pub ended : (arch : Arch) (section cies : List ℕ) (at : Cursor) → raw_record_at at ≡ Ok None → fault_from arch section cies at ≡ None
 ended arch section cies at h = ap (λ (xs : List Cutting). fault_in (entries_in arch section cies xs)) (stops at h) ∙ ap fault_in (nil arch section cies)
 
 pub begins : (arch : Arch) (section : List ℕ) → fault_from arch section [] (record { place = 0; left = section }) ≡ fault_in (entries_of arch section)
@@ -59,7 +59,7 @@ unfolding entries_of
 begins arch section = refl
 
 -- the entries of a section without a fault are all that can be read
-pub here : (arch : Arch) (section cies : List ℕ) (p : Piece) (e : EntryView) → entry_at arch section cies p ≡ Ok e → entry_here arch section p ≡ Ok e
+pub here : (arch : Arch) (section cies : List ℕ) (p : RawRecordView) (e : EntryView) → entry_at arch section cies p ≡ Ok e → entry_here arch section p ≡ Ok e
 unfolding entry_at
 here arch section cies p e h = (through (shared_place cies p) _ e h).rest
 

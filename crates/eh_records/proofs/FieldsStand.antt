@@ -20,8 +20,8 @@ use Rattle.eh_pointer.specs.Skipping.{passed, passed_width, pointer_passed}
 use Rattle.eh_records.specs.declared.fault.RecordFault.{RecordFault}
 use Rattle.eh_records.specs.declared.fault.RecordFault.TheVariants as faults
 use Rattle.eh_records.specs.Augmentation.{Form, Said, said_plain, has_key_letter, is_letter, is_new, are_letters, letters_in, letters_at, data_at, form_of, form_at, personality_field, personality_in, personality_at, letter_at, said_by}
-use Rattle.eh_records.specs.Cie.{CieView, Numbers, SharedView, shared_of, column_at, numbers_at, passed_data, said_at, cie_fields, cie_of}
-use Rattle.eh_records.specs.Cut.{Piece}
+use Rattle.eh_records.specs.Cie.{CieView, Numbers, SharedView, cie_with_form, column_at, numbers_at, passed_data, said_at, cie_fields, cie_of}
+use Rattle.eh_records.specs.RawRecord.{RawRecordView}
 use Rattle.eh_records.specs.Fde.{FdeView, read_there, lsda_of_width, lsda_in, lsda_at, entry_of}
 use Rattle.eh_records.specs.Fields.{PointerStands, PassedStands, StringStands, Saying, pointers, personality, lsda, signal, key_b, PersonalityStands, SayingStands, SayingsStand, with_saying, all_said, DataStands, AugmentationStands, ColumnStands, CieStands, LsdaStands, FrameData, FrameDataStands, FdeStands}
 use Rattle.eh_records.specs.Step.{Step, ◌>>=◌, placed, PointerField, number_field, uleb_field, sleb_field, text_field, part_field, pointer_field}
@@ -452,24 +452,24 @@ version_known : (version column : ℕ) (from to : Cursor) → ColumnStands versi
 version_known version column from to (inl s) = ap (λ (v : ℕ). (v == 1) || (v == 3)) s.0
 version_known version column from to (inr s) = ap (λ (v : ℕ). (v == 1) || (v == 3)) s.0
 
-fields_read : (arch : Arch) (p : Piece) (c : SharedView) → (s : CieStands arch p c) → cie_fields arch p.place s.version s.after_version ≡ Ok c
+fields_read : (arch : Arch) (p : RawRecordView) (c : SharedView) → (s : CieStands arch p c) → cie_fields arch p.place s.version s.after_version ≡ Ok c
 unfolding cie_fields
 fields_read arch p c s =
-    ap (λ (r : Step (Option (List ℕ))). r >>= λ letters. numbers_at s.version letters.1 >>= λ numbers. said_at letters.0 numbers.1 >>= λ said. Ok (shared_of p.place numbers.0 (is_some letters.0) said.0 said.1))
+    ap (λ (r : Step (Option (List ℕ))). r >>= λ letters. numbers_at s.version letters.1 >>= λ numbers. said_at letters.0 numbers.1 >>= λ said. Ok (cie_with_form p.place numbers.0 (is_some letters.0) said.0 said.1))
     (string_read arch s.letters s.after_version s.after_string s.string_stands)
-    ∙ ap (λ (r : Step Numbers). r >>= λ numbers. said_at s.letters numbers.1 >>= λ said. Ok (shared_of p.place numbers.0 (is_some s.letters) said.0 said.1))
+    ∙ ap (λ (r : Step Numbers). r >>= λ numbers. said_at s.letters numbers.1 >>= λ said. Ok (cie_with_form p.place numbers.0 (is_some s.letters) said.0 said.1))
     (numbers_read s.version s.numbers s.after_string s.after_code s.after_factor s.after_column s.code_stands s.factor_stands s.column_stands)
-    ∙ ap (λ (r : Step Said). r >>= λ said. Ok (shared_of p.place s.numbers (is_some s.letters) said.0 said.1)) (augmentation_read s.letters s.said s.after_column s.insns s.augmentation_stands)
+    ∙ ap (λ (r : Step Said). r >>= λ said. Ok (cie_with_form p.place s.numbers (is_some s.letters) said.0 said.1)) (augmentation_read s.letters s.said s.after_column s.insns s.augmentation_stands)
     ∙ ap (λ (v : SharedView). Ok v) (sym s.entry)
 
-pub cie_read : (arch : Arch) (p : Piece) (c : SharedView) → CieStands arch p c → cie_of arch p ≡ Ok c
+pub cie_read : (arch : Arch) (p : RawRecordView) (c : SharedView) → CieStands arch p c → cie_of arch p ≡ Ok c
 unfolding cie_of
 cie_read arch p c s =
     ap (λ (r : Step ℕ). r >>= λ version. if (version.0 == 1) || (version.0 == 3) then cie_fields arch p.place version.0 version.1 else Err (faults.CieVersion p.body.place)) (number_read 1 p.body s.version s.after_version s.version_stands)
     ∙ ap (λ (b : Bool). if b then cie_fields arch p.place s.version s.after_version else Err (faults.CieVersion p.body.place)) (version_known s.version s.numbers.column s.after_factor s.after_column s.column_stands)
     ∙ fields_read arch p c s
 
-fields_stand : (arch : Arch) (p : Piece) (c : SharedView) (version : ℕ) (at : Cursor) → Stands (Number 1) version p.body at → ((version == 1) || (version == 3)) ≡ true → cie_fields arch p.place version at ≡ Ok c → CieStands arch p c
+fields_stand : (arch : Arch) (p : RawRecordView) (c : SharedView) (version : ℕ) (at : Cursor) → Stands (Number 1) version p.body at → ((version == 1) || (version == 3)) ≡ true → cie_fields arch p.place version at ≡ Ok c → CieStands arch p c
 unfolding cie_fields numbers_at
 fields_stand arch p c version at byte known e =
     let letters = through (letters_at arch at) _ c e in
@@ -499,15 +499,15 @@ fields_stand arch p c version at byte known e =
       factor_stands = sleb_stands code.first.1 factor.first factor.read;
       column_stands = subst (ColumnStands version column.first.0 factor.first.1) after (column_stands version factor.first.1 column.first known column.read);
       augmentation_stands = augmentation_stands arch letters.first.0 at letters.first.1 numbers.first.1 said.first string said.read;
-      entry = sym (ok_same _ c said.rest) ∙ ap (λ (n : Numbers). shared_of p.place n (is_some letters.first.0) said.first.0 said.first.1) (sym (ap (λ (y : Numbers × Cursor). y.0) same));
+      entry = sym (ok_same _ c said.rest) ∙ ap (λ (n : Numbers). cie_with_form p.place n (is_some letters.first.0) said.first.0 said.first.1) (sym (ap (λ (y : Numbers × Cursor). y.0) same));
     }
 
-cie_by : (b : Bool) (arch : Arch) (p : Piece) (c : SharedView) (version : ℕ) (at : Cursor) → ((version == 1) || (version == 3)) ≡ b → Stands (Number 1) version p.body at
+cie_by : (b : Bool) (arch : Arch) (p : RawRecordView) (c : SharedView) (version : ℕ) (at : Cursor) → ((version == 1) || (version == 3)) ≡ b → Stands (Number 1) version p.body at
     → (if b then cie_fields arch p.place version at else Err (faults.CieVersion p.body.place)) ≡ Ok c → CieStands arch p c
 cie_by true arch p c version at known byte e = fields_stand arch p c version at byte known e
 cie_by false arch p c version at known byte e = absurd cc
 
-pub cie_stands : (arch : Arch) (p : Piece) (c : SharedView) → cie_of arch p ≡ Ok c → CieStands arch p c
+pub cie_stands : (arch : Arch) (p : RawRecordView) (c : SharedView) → cie_of arch p ≡ Ok c → CieStands arch p c
 unfolding cie_of
 cie_stands arch p c e =
     let t = through (number_field 1 p.body) _ c e in
@@ -596,7 +596,7 @@ frame_data_read : (shared : SharedView) (field : Option PointerField) (at after 
 unfolding lsda_at
 frame_data_read shared field at after s = frame_data_again shared.augmented shared.lsda field at after s
 
-pub fde_stands : (shared : SharedView) (p : Piece) (f : FdeView) → entry_of shared p ≡ Ok f → FdeStands shared p f
+pub fde_stands : (shared : SharedView) (p : RawRecordView) (f : FdeView) → entry_of shared p ≡ Ok f → FdeStands shared p f
 unfolding entry_of
 fde_stands shared p f e =
     let begin = through (pointer_field shared.width p.body) _ f e in
@@ -613,7 +613,7 @@ fde_stands shared p f e =
       cie = refl;
     })
 
-pub fde_read : (shared : SharedView) (p : Piece) (f : FdeView) → FdeStands shared p f → entry_of shared p ≡ Ok f
+pub fde_read : (shared : SharedView) (p : RawRecordView) (f : FdeView) → FdeStands shared p f → entry_of shared p ≡ Ok f
 unfolding entry_of
 fde_read shared p f s =
     ap (λ (r : Step PointerField). r >>= λ begin. pointer_field shared.width begin.1 >>= λ range. lsda_at shared range.1 >>= λ field. Ok (record { place = p.place; cie = shared.cie; begin = begin.0; range = range.0; lsda = field.0; insns = field.1 }))

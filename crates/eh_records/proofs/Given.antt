@@ -1,11 +1,11 @@
 -- The entries of records as the reader gives them.
 use Rattle.std.proofs.Common.{◌≡◌, ℕ, List, [], ◌∷◌, Ok}
 use Rattle.sf_model.specs.declared.machine.Arch.{Arch}
-use Rattle.eh_records.specs.Cut.{Piece}
+use Rattle.eh_records.specs.RawRecord.{RawRecordView}
 use Rattle.eh_records.specs.Section.{EntryView, entry_at, with_place}
 
 -- the entries of the records as the reader gives them, where common information entries stand before them at these places
-abbrev pub AreGiven : Arch → List ℕ → List ℕ → List Piece → List EntryView → Type 0
+abbrev pub AreGiven : Arch → List ℕ → List ℕ → List RawRecordView → List EntryView → Type 0
 AreGiven arch section cies [] [] = Unit {0}
 AreGiven arch section cies [] (e ∷ es) = ⊥
 AreGiven arch section cies (p ∷ ps) [] = ⊥

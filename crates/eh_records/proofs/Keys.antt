@@ -12,7 +12,7 @@ use Rattle.eh_records.specs.declared.fault.RecordFault.{RecordFault}
 use Rattle.eh_records.specs.declared.fault.RecordFault.TheVariants.{Augmentation, CieVersion}
 use Rattle.eh_records.specs.Augmentation.{Said, said_plain, is_letter, is_new, are_letters, letters_in, letters_at, form_at, personality_at, letter_at, said_by, data_at}
 use Rattle.eh_records.specs.Cie.{SharedView, CieView, cie_fields, cie_of, said_at, passed_data, numbers_at}
-use Rattle.eh_records.specs.Cut.{Piece, piece_at, named_place}
+use Rattle.eh_records.specs.RawRecord.{RawRecordView, raw_record_at, named_place}
 use Rattle.eh_records.specs.Fde.{FdeView, fde_of, entry_of, cie_in, cie_at_place, lsda_at}
 use Rattle.eh_records.specs.Section.{EntryView, Common, Frame, Cutting, frames, entry_here, entry_before, entries_before}
 use Rattle.eh_records.specs.Step.{Step, ◌>>=◌, number_field, text_field, pointer_field}
@@ -97,27 +97,27 @@ fields_key place version at shared e =
     let v = through (said_at t.first.0 u.first.1) _ shared u.rest in
     sym (ap (λ (s : SharedView). s.cie.key) (ok_same _ shared v.rest)) ∙ said_key t.first.0 u.first.1 v.first (letters_are at t.first t.read) v.read
 
-version_key : (p : Piece) (version : ℕ × Cursor) (shared : SharedView) (b : Bool) → cond b (cie_fields Amd64 p.place version.0 version.1) (Err (CieVersion p.body.place)) ≡ Ok shared → shared.cie.key ≡ A
+version_key : (p : RawRecordView) (version : ℕ × Cursor) (shared : SharedView) (b : Bool) → cond b (cie_fields Amd64 p.place version.0 version.1) (Err (CieVersion p.body.place)) ≡ Ok shared → shared.cie.key ≡ A
 version_key p version shared true e = fields_key p.place version.0 version.1 shared e
 version_key p version shared false e = absurd cc
 
-cie_key : (p : Piece) (shared : SharedView) → cie_of Amd64 p ≡ Ok shared → shared.cie.key ≡ A
+cie_key : (p : RawRecordView) (shared : SharedView) → cie_of Amd64 p ≡ Ok shared → shared.cie.key ≡ A
 unfolding cie_of
 cie_key p shared e =
     let t = through (number_field 1 p.body) _ shared e in
     version_key p t.first shared ((t.first.0 == 1) || (t.first.0 == 3)) t.rest
 
-at_place_key : (place : ℕ) (found : Option (Piece × Cursor)) (shared : SharedView) → cie_in Amd64 place found ≡ Ok shared → shared.cie.key ≡ A
+at_place_key : (place : ℕ) (found : Option (RawRecordView × Cursor)) (shared : SharedView) → cie_in Amd64 place found ≡ Ok shared → shared.cie.key ≡ A
 at_place_key place None shared e = absurd cc
 at_place_key place (Some p) shared e = cie_key p.0 shared e
 
 named_key : (section : List ℕ) (place : ℕ) (shared : SharedView) → cie_at_place Amd64 section place ≡ Ok shared → shared.cie.key ≡ A
 unfolding cie_at_place
 named_key section place shared e =
-    let t = through (piece_at (record { place = place; left = drop place section })) _ shared e in
+    let t = through (raw_record_at (record { place = place; left = drop place section })) _ shared e in
     at_place_key place t.first shared t.rest
 
-same_cie : (shared : SharedView) (p : Piece) (f : FdeView) → entry_of shared p ≡ Ok f → f.cie ≡ shared.cie
+pub same_cie : (shared : SharedView) (p : RawRecordView) (f : FdeView) → entry_of shared p ≡ Ok f → f.cie ≡ shared.cie
 unfolding entry_of
 same_cie shared p f e =
     let t = through (pointer_field shared.width p.body) _ f e in
@@ -125,7 +125,7 @@ same_cie shared p f e =
     let v = through (lsda_at shared u.first.1) _ f u.rest in
     sym (ap (λ (g : FdeView). g.cie) (ok_same _ f v.rest))
 
-frame_key : (section : List ℕ) (p : Piece) (f : FdeView) → fde_of Amd64 section p ≡ Ok f → f.cie.key ≡ A
+frame_key : (section : List ℕ) (p : RawRecordView) (f : FdeView) → fde_of Amd64 section p ≡ Ok f → f.cie.key ≡ A
 unfolding fde_of
 frame_key section p f e =
     let t = through (named_place p) _ f e in
@@ -143,7 +143,7 @@ abbrev EntryFits : EntryView → Type 0
 EntryFits (Common c) = Unit {0}
 EntryFits (Frame f) = Fits f
 
-here_fits : (section : List ℕ) (p : Piece) (x : EntryView) (b : Bool) → cond b (cie_of Amd64 p >>= λ c. Ok (Common c)) (fde_of Amd64 section p >>= λ f. Ok (Frame f)) ≡ Ok x → EntryFits x
+here_fits : (section : List ℕ) (p : RawRecordView) (x : EntryView) (b : Bool) → cond b (cie_of Amd64 p >>= λ c. Ok (Common c)) (fde_of Amd64 section p >>= λ f. Ok (Frame f)) ≡ Ok x → EntryFits x
 here_fits section p x true e =
     let t = through (cie_of Amd64 p) _ x e in
     subst EntryFits (ok_same _ x t.rest) tt
@@ -151,7 +151,7 @@ here_fits section p x false e =
     let t = through (fde_of Amd64 section p) _ x e in
     subst EntryFits (ok_same _ x t.rest) (fits t.first.cie.key (frame_key section p t.first t.read))
 
-entry_fits : (section : List ℕ) (p : Piece) (x : EntryView) → entry_here Amd64 section p ≡ Ok x → EntryFits x
+entry_fits : (section : List ℕ) (p : RawRecordView) (x : EntryView) → entry_here Amd64 section p ≡ Ok x → EntryFits x
 unfolding entry_here
 entry_fits section p x e = here_fits section p x (p.id == 0) e
 

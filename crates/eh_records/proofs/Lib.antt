@@ -9,6 +9,7 @@ pub mod LetterLoop
 pub mod LetterViews
 pub mod Lie
 pub mod Moves
+pub mod Named
 pub mod Onward
 pub mod Parts
 pub mod Rising

@@ -12,7 +12,7 @@ use Rattle.eh_records.specs.declared.fault.RecordFault.{RecordFault}
 use Rattle.eh_records.specs.declared.fault.RecordFault.TheVariants.{Augmentation, CieVersion}
 use Rattle.eh_records.specs.Augmentation.{Said, Form, said_plain, letters_in, letters_at, data_at, form_of, form_at, personality_field, personality_in, personality_at, letter_at, said_by}
 use Rattle.eh_records.specs.Cie.{SharedView, column_at, numbers_at, Numbers, passed_data, said_at, cie_fields, cie_of}
-use Rattle.eh_records.specs.Cut.{Piece, named_place}
+use Rattle.eh_records.specs.RawRecord.{RawRecordView, named_place}
 use Rattle.eh_records.specs.Fde.{FdeView, read_there, lsda_of_width, lsda_in, lsda_at, entry_of, cie_at_place, fde_of}
 use Rattle.eh_records.specs.Section.{EntryView, Common, Frame, optional, entry_fields, entry_here}
 use Rattle.eh_records.specs.Step.{Step, ◌>>=◌, PointerField, number_field, uleb_field, sleb_field, text_field, pointer_field}
@@ -63,7 +63,7 @@ lsda_lies : (shared : SharedView) (at : Cursor) (x : Option PointerField × Curs
 unfolding lsda_at
 lsda_lies shared at x e = lsda_if shared at x shared.augmented e
 
-frame_lies : (shared : SharedView) (p : Piece) (f : FdeView) → entry_of shared p ≡ Ok f → LieIn p.body (f.begin ∷ f.range ∷ optional f.lsda)
+frame_lies : (shared : SharedView) (p : RawRecordView) (f : FdeView) → entry_of shared p ≡ Ok f → LieIn p.body (f.begin ∷ f.range ∷ optional f.lsda)
 unfolding entry_of
 frame_lies shared p f e =
     let t = through (pointer_field shared.width p.body) _ f e in
@@ -205,12 +205,12 @@ fields_lie arch place version at shared e =
     let lies = lie_wider u.first.1 at (optional v.first.0.personality) i (said_lies t.first.0 u.first.1 v.first v.read) in
     subst (λ (s : SharedView). LieIn at (optional s.cie.personality)) (ok_same _ shared v.rest) lies
 
-version_lies : (arch : Arch) (p : Piece) (version : ℕ × Cursor) (shared : SharedView) (b : Bool) → IsPart version.1 p.body
+version_lies : (arch : Arch) (p : RawRecordView) (version : ℕ × Cursor) (shared : SharedView) (b : Bool) → IsPart version.1 p.body
     → cond b (cie_fields arch p.place version.0 version.1) (Err (CieVersion p.body.place)) ≡ Ok shared → LieIn p.body (optional shared.cie.personality)
 version_lies arch p version shared true i e = lie_wider version.1 p.body (optional shared.cie.personality) i (fields_lie arch p.place version.0 version.1 shared e)
 version_lies arch p version shared false i e = absurd cc
 
-common_lies : (arch : Arch) (p : Piece) (shared : SharedView) → cie_of arch p ≡ Ok shared → LieIn p.body (optional shared.cie.personality)
+common_lies : (arch : Arch) (p : RawRecordView) (shared : SharedView) → cie_of arch p ≡ Ok shared → LieIn p.body (optional shared.cie.personality)
 unfolding cie_of
 common_lies arch p shared e =
     let t = through (number_field 1 p.body) _ shared e in
@@ -218,14 +218,14 @@ common_lies arch p shared e =
 
 -- ---- entries of both kinds
 
-named_lies : (arch : Arch) (section : List ℕ) (p : Piece) (f : FdeView) → fde_of arch section p ≡ Ok f → LieIn p.body (f.begin ∷ f.range ∷ optional f.lsda)
+named_lies : (arch : Arch) (section : List ℕ) (p : RawRecordView) (f : FdeView) → fde_of arch section p ≡ Ok f → LieIn p.body (f.begin ∷ f.range ∷ optional f.lsda)
 unfolding fde_of
 named_lies arch section p f e =
     let t = through (named_place p) _ f e in
     let u = through (cie_at_place arch section t.first) _ f t.rest in
     frame_lies u.first p f u.rest
 
-here_if : (arch : Arch) (section : List ℕ) (p : Piece) (x : EntryView) (b : Bool) → cond b (cie_of arch p >>= λ c. Ok (Common c)) (fde_of arch section p >>= λ f. Ok (Frame f)) ≡ Ok x → LieIn p.body (entry_fields x)
+here_if : (arch : Arch) (section : List ℕ) (p : RawRecordView) (x : EntryView) (b : Bool) → cond b (cie_of arch p >>= λ c. Ok (Common c)) (fde_of arch section p >>= λ f. Ok (Frame f)) ≡ Ok x → LieIn p.body (entry_fields x)
 here_if arch section p x true e =
     let t = through (cie_of arch p) _ x e in
     subst (λ (y : EntryView). LieIn p.body (entry_fields y)) (ok_same _ x t.rest) (common_lies arch p t.first t.read)
@@ -233,6 +233,6 @@ here_if arch section p x false e =
     let t = through (fde_of arch section p) _ x e in
     subst (λ (y : EntryView). LieIn p.body (entry_fields y)) (ok_same _ x t.rest) (named_lies arch section p t.first t.read)
 
-pub entry_lies : (arch : Arch) (section : List ℕ) (p : Piece) (x : EntryView) → entry_here arch section p ≡ Ok x → LieIn p.body (entry_fields x)
+pub entry_lies : (arch : Arch) (section : List ℕ) (p : RawRecordView) (x : EntryView) → entry_here arch section p ≡ Ok x → LieIn p.body (entry_fields x)
 unfolding entry_here
 entry_lies arch section p x e = here_if arch section p x (p.id == 0) e

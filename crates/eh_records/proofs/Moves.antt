@@ -10,7 +10,7 @@ use Rattle.sf_bytes.specs.Cursor.{Cursor, Read, past, number_at, part_at}
 use Rattle.eh_records.specs.declared.fault.RecordFault.{RecordFault}
 use Rattle.eh_records.specs.declared.fault.RecordFault.TheVariants.{Short, Extended}
 use Rattle.eh_records.specs.Cutting.{Stands, EndsWithZero}
-use Rattle.eh_records.specs.Cut.{Piece, piece_at, piece_of, whole, sized}
+use Rattle.eh_records.specs.RawRecord.{RawRecordView, raw_record_at, piece_of, whole, sized}
 use Rattle.eh_records.specs.Step.{Step, ◌>>=◌, placed, number_field, part_field}
 
 -- a step that went on went through
@@ -56,7 +56,7 @@ whole_is place (Ok y) x e = e
 whole_is place (Err f) x e = absurd cc
 
 -- the record of this length
-abbrev pub piece_there_is : ℕ → Cursor → Piece
+abbrev pub piece_there_is : ℕ → Cursor → RawRecordView
 piece_there_is len at = record {
   place = at.place;
   id_place = at.place + 4;
@@ -70,7 +70,7 @@ past-past m n at =
     let left : drop n (drop m at.left) ≡ drop (m + n) at.left = drop-drop n m at.left in
     cc
 
-built : (len : ℕ) (at : Cursor) (p : Piece) (after body after1 : Cursor) (id : ℕ) (rest : Cursor) → little_number 4 (take 4 at.left) ≡ len → (len ≡ 4294967295 → ⊥) → 4 ≤ len → 4 ≤ length at.left
+built : (len : ℕ) (at : Cursor) (p : RawRecordView) (after body after1 : Cursor) (id : ℕ) (rest : Cursor) → little_number 4 (take 4 at.left) ≡ len → (len ≡ 4294967295 → ⊥) → 4 ≤ len → 4 ≤ length at.left
     → IsRead len (past 4 at) (record { place = at.place + 4; left = take len (drop 4 at.left) }) (body, after1)
     → IsRead 4 body (little_number 4 (take 4 body.left)) (id, rest)
     → (record { place = at.place; id_place = body.place; id = id; body = rest }) ≡ p → after1 ≡ after → Stands at p after
@@ -93,11 +93,11 @@ built len at p after body after1 id rest word short enough four r1 r2 ep ea =
       enough = enough;
       short = short;
       within = omega arith;
-      piece = sym ep ∙ all;
+      raw_record_view = sym ep ∙ all;
       behind = sym ea ∙ after_is ∙ past-past 4 len at;
     }
 
-piece_cut : (len : ℕ) (at at1 : Cursor) (x : Piece × Cursor) → little_number 4 (take 4 at.left) ≡ len → (len ≡ 4294967295 → ⊥) → 4 ≤ len → 4 ≤ length at.left → at1 ≡ past 4 at → piece_of at.place len at1 ≡ Ok x → Stands at x.0 x.1
+piece_cut : (len : ℕ) (at at1 : Cursor) (x : RawRecordView × Cursor) → little_number 4 (take 4 at.left) ≡ len → (len ≡ 4294967295 → ⊥) → 4 ≤ len → 4 ≤ length at.left → at1 ≡ past 4 at → piece_of at.place len at1 ≡ Ok x → Stands at x.0 x.1
 unfolding piece_of
 piece_cut len at at1 x word short enough four e1 e =
     let s1 = through (whole at.place (part_field len at1)) _ x e in
@@ -106,15 +106,15 @@ piece_cut len at at1 x word short enough four e1 e =
     let p2 = number_read 4 s1.first.0 s2.first s2.read in
     let p1' : IsRead len (past 4 at) (record { place = at.place + 4; left = take len (drop 4 at.left) }) s1.first =
     subst (λ (c : Cursor). IsRead len c (record { place = c.place; left = take len c.left }) s1.first) e1 p1 in
-    built len at x.0 x.1 s1.first.0 s1.first.1 s2.first.0 s2.first.1 word short enough four p1' p2 (ap (λ (y : Piece × Cursor). y.0) (ok_same _ _ s2.rest)) (ap (λ (y : Piece × Cursor). y.1) (ok_same _ _ s2.rest))
+    built len at x.0 x.1 s1.first.0 s1.first.1 s2.first.0 s2.first.1 word short enough four p1' p2 (ap (λ (y : RawRecordView × Cursor). y.0) (ok_same _ _ s2.rest)) (ap (λ (y : RawRecordView × Cursor). y.1) (ok_same _ _ s2.rest))
 
 -- the first record of a cursor
-abbrev pub FrontIs : Cursor → Result (Option (Piece × Cursor)) RecordFault → Type 0
+abbrev pub FrontIs : Cursor → Result (Option (RawRecordView × Cursor)) RecordFault → Type 0
 FrontIs at (Ok (Some x)) = Stands at x.0 x.1
 FrontIs at (Ok None) = (at.left ≡ []) ⊎ EndsWithZero at
 FrontIs at (Err e) = Unit {0}
 
-front_some : (len : ℕ) (at at1 : Cursor) → little_number 4 (take 4 at.left) ≡ len → (len ≡ 4294967295 → ⊥) → 4 ≤ len → 4 ≤ length at.left → at1 ≡ past 4 at → (r : Step Piece) → piece_of at.place len at1 ≡ r → FrontIs at (r >>= λ p. Ok (Some p))
+front_some : (len : ℕ) (at at1 : Cursor) → little_number 4 (take 4 at.left) ≡ len → (len ≡ 4294967295 → ⊥) → 4 ≤ len → 4 ≤ length at.left → at1 ≡ past 4 at → (r : Step RawRecordView) → piece_of at.place len at1 ≡ r → FrontIs at (r >>= λ p. Ok (Some p))
 front_some len at at1 word short enough four e1 (Ok x) e = piece_cut len at at1 x word short enough four e1 e
 front_some len at at1 word short enough four e1 (Err f) e = tt
 
@@ -140,17 +140,17 @@ front_if : (at : Cursor) (b : Bool) → (length at.left == 0) ≡ b → FrontIs 
 front_if at true h = inl (no_length at.left h)
 front_if at false h = front_word at (number_field 4 at) refl
 
-pub front_is : (at : Cursor) → FrontIs at (piece_at at)
-unfolding piece_at
+pub front_is : (at : Cursor) → FrontIs at (raw_record_at at)
+unfolding raw_record_at
 front_is at = front_if at (length at.left == 0) refl
 
-pub cut_is : (at : Cursor) (p : Piece) (after : Cursor) → piece_at at ≡ Ok (Some (p, after)) → Stands at p after
+pub cut_is : (at : Cursor) (p : RawRecordView) (after : Cursor) → raw_record_at at ≡ Ok (Some (p, after)) → Stands at p after
 cut_is at p after e = subst (FrontIs at) e (front_is at)
 
-pub end_is : (at : Cursor) → piece_at at ≡ Ok None → (at.left ≡ []) ⊎ EndsWithZero at
+pub end_is : (at : Cursor) → raw_record_at at ≡ Ok None → (at.left ≡ []) ⊎ EndsWithZero at
 end_is at e = subst (FrontIs at) e (front_is at)
 
 -- at the end there is no fault
-pub nothing_there : (place : ℕ) (f : RecordFault) → piece_at (record { place = place; left = [] }) ≡ Err f → ⊥
-unfolding piece_at
+pub nothing_there : (place : ℕ) (f : RecordFault) → raw_record_at (record { place = place; left = [] }) ≡ Err f → ⊥
+unfolding raw_record_at
 nothing_there place f e = cc

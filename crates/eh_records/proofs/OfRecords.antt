@@ -5,7 +5,7 @@ use Rattle.sf_model.specs.declared.machine.Arch.{Arch}
 use Rattle.eh_records.specs.declared.fault.RecordFault.{RecordFault}
 use Rattle.eh_records.specs.declared.fault.RecordFault.TheVariants.{Short, Extended, CieVersion, Augmentation, Encoding, CiePointer, Leb}
 use Rattle.eh_records.specs.Cie.{SharedView}
-use Rattle.eh_records.specs.Cut.{Piece}
+use Rattle.eh_records.specs.RawRecord.{RawRecordView}
 use Rattle.eh_records.specs.Cutting.{start, with_common}
 use Rattle.eh_records.specs.Refused.{Lacks, IsLebFault, CutFails, DataFails, StringFails, FormFails, PassedFails, PersonalityFails, SayingFails, SayingsFail, AugmentationFails, ColumnFails, CieFails, no_version, other_version, no_string, no_code, no_factor, no_column, no_data, FrameDataFails, FdeFails, FrameFails, EntryFails, FailsFrom, IsRefused, IsOfRecords}
 use Rattle.eh_records.specs.Fields.{PointerStands}
@@ -68,7 +68,7 @@ of_column : (version : ℕ) (at : Cursor) (e : RecordFault) → ColumnFails vers
 of_column version at e (inl h) = of_lack 1 at e h.1
 of_column version at e (inr h) = of_leb at e h.1.1
 
-of_cie : (arch : Arch) (p : Piece) (e : RecordFault) → CieFails arch p e → IsOfRecords e
+of_cie : (arch : Arch) (p : RawRecordView) (e : RecordFault) → CieFails arch p e → IsOfRecords e
 of_cie arch p e (no_version h) = of_lack 1 p.body e h
 of_cie arch p e (other_version version a1 byte one three h) = is (CieVersion p.body.place) e tt h
 of_cie arch p e (no_string version a1 byte known h) = of_string arch a1 e h
@@ -85,15 +85,15 @@ of_range : (shared : SharedView) (at : Cursor) (e : RecordFault) → Lacks share
 of_range shared at e (inl h) = of_lack shared.width at e h
 of_range shared at e (inr h) = of_frame_data shared.augmented h.1 e h.3
 
-of_fde : (shared : SharedView) (p : Piece) (e : RecordFault) → FdeFails shared p e → IsOfRecords e
+of_fde : (shared : SharedView) (p : RawRecordView) (e : RecordFault) → FdeFails shared p e → IsOfRecords e
 of_fde shared p e (inl h) = of_lack shared.width p.body e h
 of_fde shared p e (inr h) = of_range shared h.1 e h.3
 
-of_frame : (before : List SharedView) (p : Piece) (e : RecordFault) → FrameFails before p e → IsOfRecords e
+of_frame : (before : List SharedView) (p : RawRecordView) (e : RecordFault) → FrameFails before p e → IsOfRecords e
 of_frame before p e (inl h) = is (CiePointer p.id_place) e tt h.1
 of_frame before p e (inr h) = of_fde h.0 p e h.3
 
-of_entry : (arch : Arch) (before : List SharedView) (p : Piece) (e : RecordFault) → EntryFails arch before p e → IsOfRecords e
+of_entry : (arch : Arch) (before : List SharedView) (p : RawRecordView) (e : RecordFault) → EntryFails arch before p e → IsOfRecords e
 of_entry arch before p e (inl h) = of_cie arch p e h.1
 of_entry arch before p e (inr h) = of_frame before p e h.1
 
@@ -102,7 +102,7 @@ of_cut at e (more, inl h) = of_lack 4 at e h
 of_cut at e (more, inr (within, inl h)) = is (Extended at.place) e tt h.1
 of_cut at e (more, inr (within, inr h)) = is (Short at.place) e tt h.3
 
-of_from : (arch : Arch) (before : List SharedView) (ps : List Piece) (vs : List EntryView) (at : Cursor) (e : RecordFault) → FailsFrom arch before ps vs at e → IsOfRecords e
+of_from : (arch : Arch) (before : List SharedView) (ps : List RawRecordView) (vs : List EntryView) (at : Cursor) (e : RecordFault) → FailsFrom arch before ps vs at e → IsOfRecords e
 of_from arch before [] [] at e (inl h) = of_cut at e h
 of_from arch before [] [] at e (inr h) = of_entry arch before h.0 e h.3
 of_from arch before [] (v ∷ vs) at e h = absurd h

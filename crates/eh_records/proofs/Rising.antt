@@ -8,7 +8,7 @@ use Rattle.sf_bytes.specs.Cursor.{Cursor, past}
 use Rattle.sf_bytes.proofs.Fields.{past-passes}
 use Rattle.sf_bytes.proofs.Inside.{end_of}
 use Rattle.sf_model.specs.declared.machine.Arch.{Arch}
-use Rattle.eh_records.specs.Cut.{Piece}
+use Rattle.eh_records.specs.RawRecord.{RawRecordView}
 use Rattle.eh_records.specs.Cutting.{Stands, AreCut, start}
 use Rattle.eh_records.specs.Raw.{HoldsRaw, HoldRaw, StandApart}
 use Rattle.eh_records.specs.Section.{EntryView, cuts_of, with_place, entry_fields, pointer_fields, entries_of, entries_before}
@@ -21,19 +21,19 @@ use Rattle.eh_records.proofs.Lie.{entry_lies}
 use Rattle.eh_records.proofs.Parts.{IsPart, part-part, rest-part, run-part}
 
 -- a record's fields end where the next record begins
-body_lies : (at : Cursor) (p : Piece) (after : Cursor) (fs : List PointerField) → Stands at p after → LieIn p.body fs → Between at.place after.place fs
+body_lies : (at : Cursor) (p : RawRecordView) (after : Cursor) (fs : List PointerField) → Stands at p after → LieIn p.body fs → Between at.place after.place fs
 body_lies at p after fs s h =
     let rest : length (drop 4 at.left) ≡ length at.left - 4 = length-drop 4 at.left in
     let some : s.len ≤ length (drop 4 at.left) = omega (arith, s.within, rest) in
     let taken : length (take s.len (drop 4 at.left)) ≡ s.len = length-take-le s.len (drop 4 at.left) some in
     let left : length (drop 4 (take s.len (drop 4 at.left))) ≡ s.len - 4 = length-drop 4 (take s.len (drop 4 at.left)) ∙ ap (λ (n : ℕ). n - 4) taken in
-    let from : p.body.place ≡ at.place + 8 = ap (λ (q : Piece). q.body.place) s.piece in
-    let body : length p.body.left ≡ s.len - 4 = ap (λ (q : Piece). length q.body.left) s.piece ∙ left in
+    let from : p.body.place ≡ at.place + 8 = ap (λ (q : RawRecordView). q.body.place) s.raw_record_view in
+    let body : length p.body.left ≡ s.len - 4 = ap (λ (q : RawRecordView). length q.body.left) s.raw_record_view ∙ left in
     let behind : after.place ≡ at.place + (4 + s.len) = ap (λ (c : Cursor). c.place) s.behind in
     let same : end_of p.body ≡ after.place = omega (arith, from, body, behind, s.enough) in
     lower at.place p.body.place after.place fs (omega (arith, from)) (subst (λ (n : ℕ). Between p.body.place n fs) same h.between)
 
-after_part : (at : Cursor) (p : Piece) (after : Cursor) → Stands at p after → IsPart after at
+after_part : (at : Cursor) (p : RawRecordView) (after : Cursor) → Stands at p after → IsPart after at
 after_part at p after s =
     subst (λ (c : Cursor). IsPart c at) (sym s.behind) (rest-part (take (4 + s.len) at.left) at (past (4 + s.len) at) (past-passes (4 + s.len) at s.within))
 
@@ -41,13 +41,13 @@ after_part at p after s =
 abbrev behind_length : ℕ → Cursor → Cursor
 behind_length len at = record { place = at.place + 4; left = take len (drop 4 at.left) }
 
-body_is : (at : Cursor) (p : Piece) (after : Cursor) (s : Stands at p after) → past 4 (behind_length s.len at) ≡ p.body
+body_is : (at : Cursor) (p : RawRecordView) (after : Cursor) (s : Stands at p after) → past 4 (behind_length s.len at) ≡ p.body
 body_is at p after s =
     let place : at.place + 4 + 4 ≡ at.place + 8 = omega arith in
-    let body : p.body ≡ record { place = at.place + 8; left = drop 4 (take s.len (drop 4 at.left)) } = ap (λ (q : Piece). q.body) s.piece in
+    let body : p.body ≡ record { place = at.place + 8; left = drop 4 (take s.len (drop 4 at.left)) } = ap (λ (q : RawRecordView). q.body) s.raw_record_view in
     rw (body, place) refl
 
-body_part : (at : Cursor) (p : Piece) (after : Cursor) → Stands at p after → IsPart p.body at
+body_part : (at : Cursor) (p : RawRecordView) (after : Cursor) → Stands at p after → IsPart p.body at
 body_part at p after s =
     let inner = behind_length s.len at in
     let rest : length (drop 4 at.left) ≡ length at.left - 4 = length-drop 4 at.left in
@@ -58,20 +58,20 @@ body_part at p after s =
     let three = rest-part (take 4 inner.left) inner (past 4 inner) (past-passes 4 inner (omega (arith, s.enough, taken))) in
     subst (λ (c : Cursor). IsPart c at) (body_is at p after s) (part-part (past 4 inner) inner at three (part-part inner (past 4 at) at two one))
 
-after_inside : (at : Cursor) (p : Piece) (after : Cursor) → Stands at p after → end_of after ≡ end_of at
+after_inside : (at : Cursor) (p : RawRecordView) (after : Cursor) → Stands at p after → end_of after ≡ end_of at
 after_inside at p after s =
     let behind : after.place ≡ at.place + (4 + s.len) = ap (λ (c : Cursor). c.place) s.behind in
     let left : length after.left ≡ length at.left - (4 + s.len) = ap (λ (c : Cursor). length c.left) s.behind ∙ length-drop (4 + s.len) at.left in
     omega (arith, behind, left, s.within)
 
 -- the fields of a record and of those behind it
-then_lie : (at : Cursor) (p : Piece) (after : Cursor) (fs gs : List PointerField) → Stands at p after → LieIn p.body fs → LieIn after gs → LieIn at (fs ++ gs)
+then_lie : (at : Cursor) (p : RawRecordView) (after : Cursor) (fs gs : List PointerField) → Stands at p after → LieIn p.body fs → LieIn after gs → LieIn at (fs ++ gs)
 then_lie at p after fs gs s h k = record {
   between = both_between at.place after.place (end_of at) fs gs (body_lies at p after fs s h) (subst (λ (n : ℕ). Between after.place n gs) (after_inside at p after s) k.between);
   raw = both_raw at fs gs (lie_wider p.body at fs (body_part at p after s) h).raw (lie_wider after at gs (after_part at p after s) k).raw;
 }
 
-all_lie : (arch : Arch) (section cies : List ℕ) (ps : List Piece) (es : List EntryView) (at : Cursor) → AreCut ps at → AreGiven arch section cies ps es → LieIn at (pointer_fields es)
+all_lie : (arch : Arch) (section cies : List ℕ) (ps : List RawRecordView) (es : List EntryView) (at : Cursor) → AreCut ps at → AreGiven arch section cies ps es → LieIn at (pointer_fields es)
 all_lie arch section cies [] [] at cut read = none_lies at
 all_lie arch section cies [] (e ∷ es) at cut read = absurd read
 all_lie arch section cies (p ∷ ps) [] at cut read = absurd read

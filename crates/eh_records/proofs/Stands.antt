@@ -9,7 +9,7 @@ use Rattle.sf_bytes.specs.declared.fault.ByteFault.TheVariants as byte_faults
 use Rattle.sf_bytes.specs.Cursor.{Cursor, Read, past, number_at, part_at}
 use Rattle.eh_records.specs.declared.fault.RecordFault.{RecordFault}
 use Rattle.eh_records.specs.declared.fault.RecordFault.TheVariants.{Short, Extended}
-use Rattle.eh_records.specs.Cut.{Piece, piece_at, piece_of, whole, sized}
+use Rattle.eh_records.specs.RawRecord.{RawRecordView, raw_record_at, piece_of, whole, sized}
 use Rattle.eh_records.specs.Cutting.{Stands, EndsWithZero, AreCut, all_cut}
 use Rattle.eh_records.specs.Section.{Cutting, cuts}
 use Rattle.eh_records.specs.Step.{Step, ◌>>=◌, placed, number_field, part_field}
@@ -31,16 +31,16 @@ unfolding part_field part_at
 part_there n at h = there_if n at.place at (record { place = at.place; left = take n at.left }) (nat_lt (length at.left) n) refl h
 
 abbrev Found : Type 0
-Found = Result (Option (Piece × Cursor)) RecordFault
+Found = Result (Option (RawRecordView × Cursor)) RecordFault
 
 -- the tests of a length word
-sized_some : (len : ℕ) (at1 : Cursor) (place : ℕ) (x : Piece × Cursor) → (a b c : Bool) → (len == 0) ≡ a → (len == 4294967295) ≡ b → nat_lt len 4 ≡ c → 4 ≤ len → (len ≡ 4294967295 → ⊥)
+sized_some : (len : ℕ) (at1 : Cursor) (place : ℕ) (x : RawRecordView × Cursor) → (a b c : Bool) → (len == 0) ≡ a → (len == 4294967295) ≡ b → nat_lt len 4 ≡ c → 4 ≤ len → (len ≡ 4294967295 → ⊥)
     → piece_of place len at1 ≡ Ok x
     → cond {A = Found} a (Ok None) (cond b (Err (Extended place)) (cond c (Err (Short place)) (piece_of place len at1 >>= λ p. Ok (Some p)))) ≡ Ok (Some x)
 sized_some len at1 place x true b c ta tb tc enough short e = absurd (grind (arith, nat_tests))
 sized_some len at1 place x false true c ta tb tc enough short e = absurd (short (eqb-true len 4294967295 tb))
 sized_some len at1 place x false false true ta tb tc enough short e = absurd (grind (arith, nat_tests))
-sized_some len at1 place x false false false ta tb tc enough short e = ap (λ (r : Step Piece). r >>= λ p. Ok (Some p)) e
+sized_some len at1 place x false false false ta tb tc enough short e = ap (λ (r : Step RawRecordView). r >>= λ p. Ok (Some p)) e
 
 front_if : (at : Cursor) (b : Bool) (r : Found) → (length at.left == 0) ≡ b → 4 ≤ length at.left → (number_field 4 at >>= λ len. sized at.place len.0 len.1) ≡ r
     → cond {A = Found} b (Ok None) (number_field 4 at >>= λ len. sized at.place len.0 len.1) ≡ r
@@ -48,7 +48,7 @@ front_if at true r t h e = absurd (grind (arith, nat_tests))
 front_if at false r t h e = e
 
 -- the record of this length
-abbrev piece_there_is : ℕ → Cursor → Piece
+abbrev piece_there_is : ℕ → Cursor → RawRecordView
 piece_there_is len at = record {
   place = at.place;
   id_place = at.place + 4;
@@ -71,33 +71,33 @@ piece_there len at enough within =
     ∙ ap (λ (n : ℕ). Ok (record { place = at.place; id_place = at.place + 4; id = little_number 4 (take 4 (take len (drop 4 at.left))); body = record { place = n; left = drop 4 (take len (drop 4 at.left)) } }, past len (past 4 at))) place
     ∙ ap (λ (c : Cursor). Ok (piece_there_is len at, c)) behind
 
-pub stands_is : (at : Cursor) (p : Piece) (after : Cursor) → Stands at p after → piece_at at ≡ Ok (Some (p, after))
-unfolding piece_at
+pub stands_is : (at : Cursor) (p : RawRecordView) (after : Cursor) → Stands at p after → raw_record_at at ≡ Ok (Some (p, after))
+unfolding raw_record_at
 stands_is at p after s =
     let four : 4 ≤ length at.left = omega (arith, s.within) in
     let read : number_field 4 at ≡ Ok (s.len, past 4 at) = number_there 4 at four ∙ ap (λ (n : ℕ). Ok (n, past 4 at)) s.word in
-    let piece : piece_of at.place s.len (past 4 at) ≡ Ok (p, after) =
-    piece_there s.len at s.enough s.within ∙ ap (λ (q : Piece). Ok (q, past (4 + s.len) at)) (sym s.piece) ∙ ap (λ (c : Cursor). Ok (p, c)) (sym s.behind) in
+    let raw_record_view : piece_of at.place s.len (past 4 at) ≡ Ok (p, after) =
+    piece_there s.len at s.enough s.within ∙ ap (λ (q : RawRecordView). Ok (q, past (4 + s.len) at)) (sym s.raw_record_view) ∙ ap (λ (c : Cursor). Ok (p, c)) (sym s.behind) in
     let sized_is : sized at.place s.len (past 4 at) ≡ Ok (Some (p, after)) =
-    sized_some s.len (past 4 at) at.place (p, after) (s.len == 0) (s.len == 4294967295) (nat_lt s.len 4) refl refl refl s.enough s.short piece in
+    sized_some s.len (past 4 at) at.place (p, after) (s.len == 0) (s.len == 4294967295) (nat_lt s.len 4) refl refl refl s.enough s.short raw_record_view in
     front_if at (length at.left == 0) (Ok (Some (p, after))) refl four (ap (λ (r : Step ℕ). r >>= λ len. sized at.place len.0 len.1) read ∙ sized_is)
 
 end_if : (at : Cursor) (b : Bool) → number_field 4 at ≡ Ok (0, past 4 at) → cond {A = Found} b (Ok None) (number_field 4 at >>= λ len. sized at.place len.0 len.1) ≡ Ok None
 end_if at true e = refl
 end_if at false e = ap (λ (r : Step ℕ). r >>= λ len. sized at.place len.0 len.1) e
 
-end_zero : (at : Cursor) → EndsWithZero at → piece_at at ≡ Ok None
-unfolding piece_at
+end_zero : (at : Cursor) → EndsWithZero at → raw_record_at at ≡ Ok None
+unfolding raw_record_at
 end_zero at z = end_if at (length at.left == 0) (number_there 4 at z.within ∙ ap (λ (n : ℕ). Ok (n, past 4 at)) z.word)
 
-end_nothing : (at : Cursor) → at.left ≡ [] → piece_at at ≡ Ok None
-unfolding piece_at
+end_nothing : (at : Cursor) → at.left ≡ [] → raw_record_at at ≡ Ok None
+unfolding raw_record_at
 end_nothing at e =
     let none : (length at.left == 0) ≡ true = ap (λ (xs : List ℕ). length xs == 0) e in
     ap (λ (b : Bool). cond {A = Found} b (Ok None) (number_field 4 at >>= λ len. sized at.place len.0 len.1)) none
 
 -- the records of a cut are those that are cut off
-pub cut_read : (ps : List Piece) (at : Cursor) → AreCut ps at → cuts at ≡ all_cut ps
+pub cut_read : (ps : List RawRecordView) (at : Cursor) → AreCut ps at → cuts at ≡ all_cut ps
 cut_read [] at (inl e) = stops at (end_nothing at e)
 cut_read [] at (inr z) = stops at (end_zero at z)
 cut_read (p ∷ ps) at (after, stands, rest) =
@@ -107,63 +107,63 @@ cut_read (p ∷ ps) at (after, stands, rest) =
 abbrev faulted : RecordFault → List Cutting
 faulted f = Err f ∷ []
 
-abbrev first : Piece → List Cutting → List Cutting
+abbrev first : RawRecordView → List Cutting → List Cutting
 first p xs = Ok p ∷ xs
 
 abbrev nothing : List Cutting
 nothing = []
 
-some_more : (p : Piece) (xs : List Cutting) → first p xs ≡ nothing → ⊥
+some_more : (p : RawRecordView) (xs : List Cutting) → first p xs ≡ nothing → ⊥
 some_more p xs e = cc
 
 some_fault : (f : RecordFault) → faulted f ≡ nothing → ⊥
 some_fault f e = cc
 
-other_fault : (f : RecordFault) (p : Piece) (xs : List Cutting) → faulted f ≡ first p xs → ⊥
+other_fault : (f : RecordFault) (p : RawRecordView) (xs : List Cutting) → faulted f ≡ first p xs → ⊥
 other_fault f p xs e = cc
 
-same_first : (p q : Piece) (xs ys : List Cutting) → first p xs ≡ first q ys → p ≡ q
+same_first : (p q : RawRecordView) (xs ys : List Cutting) → first p xs ≡ first q ys → p ≡ q
 same_first p q xs ys e = cc
 
-same_others : (p q : Piece) (xs ys : List Cutting) → first p xs ≡ first q ys → xs ≡ ys
+same_others : (p q : RawRecordView) (xs ys : List Cutting) → first p xs ≡ first q ys → xs ≡ ys
 same_others p q xs ys e = cc
 
-ends_empty : (at : Cursor) → cuts at ≡ [] → (r : Found) → piece_at at ≡ r → r ≡ Ok None
+ends_empty : (at : Cursor) → cuts at ≡ [] → (r : Found) → raw_record_at at ≡ r → r ≡ Ok None
 ends_empty at e (Ok None) h = refl
 ends_empty at e (Ok (Some x)) h = absurd (some_more x.0 (cuts x.1) (sym (starts_with_record at x.0 x.1 h) ∙ e))
 ends_empty at e (Err f) h = absurd (some_fault f (sym (faults at f h) ∙ e))
 
-pub record Next (at : Cursor) (p : Piece) (xs : List Cutting) : Type 0 where
+pub record Next (at : Cursor) (p : RawRecordView) (xs : List Cutting) : Type 0 where
   pub after : Cursor
   pub stands : Stands at p after
   pub rest : cuts after ≡ xs
 
-pub next_of : (at : Cursor) (p : Piece) (xs : List Cutting) → cuts at ≡ Ok p ∷ xs → (r : Found) → piece_at at ≡ r → Next at p xs
+pub next_of : (at : Cursor) (p : RawRecordView) (xs : List Cutting) → cuts at ≡ Ok p ∷ xs → (r : Found) → raw_record_at at ≡ r → Next at p xs
 next_of at p xs e (Ok None) h = absurd (some_more p xs (sym e ∙ stops at h))
 next_of at p xs e (Ok (Some x)) h =
     let same : first x.0 (cuts x.1) ≡ first p xs = sym (starts_with_record at x.0 x.1 h) ∙ e in
     record {
       after = x.1;
-      stands = subst (λ (q : Piece). Stands at q x.1) (same_first x.0 p (cuts x.1) xs same) (cut_is at x.0 x.1 h);
+      stands = subst (λ (q : RawRecordView). Stands at q x.1) (same_first x.0 p (cuts x.1) xs same) (cut_is at x.0 x.1 h);
       rest = same_others x.0 p (cuts x.1) xs same;
     }
 next_of at p xs e (Err f) h = absurd (other_fault f p xs (sym (faults at f h) ∙ e))
 
-pub read_cut : (ps : List Piece) (at : Cursor) → cuts at ≡ all_cut ps → AreCut ps at
-read_cut [] at e = end_is at (ends_empty at e (piece_at at) refl)
+pub read_cut : (ps : List RawRecordView) (at : Cursor) → cuts at ≡ all_cut ps → AreCut ps at
+read_cut [] at e = end_is at (ends_empty at e (raw_record_at at) refl)
 read_cut (p ∷ ps) at e =
-    let n = next_of at p (all_cut ps) e (piece_at at) refl in
+    let n = next_of at p (all_cut ps) e (raw_record_at at) refl in
     (n.after, n.stands, read_cut ps n.after n.rest)
 
 -- there is at most one cut
-both_same : (p q : Piece) (ps qs : List Piece) → p ≡ q → ps ≡ qs → p ∷ ps ≡ q ∷ qs
+both_same : (p q : RawRecordView) (ps qs : List RawRecordView) → p ≡ q → ps ≡ qs → p ∷ ps ≡ q ∷ qs
 both_same p q ps qs e h = cc
 
-same_cut : (ps qs : List Piece) → all_cut ps ≡ all_cut qs → ps ≡ qs
+same_cut : (ps qs : List RawRecordView) → all_cut ps ≡ all_cut qs → ps ≡ qs
 same_cut [] [] e = refl
 same_cut [] (q ∷ qs) e = absurd (some_more q (all_cut qs) (sym e))
 same_cut (p ∷ ps) [] e = absurd (some_more p (all_cut ps) e)
 same_cut (p ∷ ps) (q ∷ qs) e = both_same p q ps qs (same_first p q (all_cut ps) (all_cut qs) e) (same_cut ps qs (same_others p q (all_cut ps) (all_cut qs) e))
 
-pub one_cut : (ps qs : List Piece) (at : Cursor) → AreCut ps at → AreCut qs at → ps ≡ qs
+pub one_cut : (ps qs : List RawRecordView) (at : Cursor) → AreCut ps at → AreCut qs at → ps ≡ qs
 one_cut ps qs at h k = same_cut ps qs (sym (cut_read ps at h) ∙ cut_read qs at k)

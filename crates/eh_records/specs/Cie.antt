@@ -6,11 +6,11 @@ use Rattle.sf_model.specs.declared.machine.Arch.{Arch}
 use Rattle.sf_model.specs.declared.machine.Key.{Key}
 use Rattle.eh_records.specs.declared.cie.Cie.{Cie}
 use Rattle.eh_records.specs.declared.cie.NumberFields.{NumberFields}
-use Rattle.eh_records.specs.declared.cie.Shared.{Shared}
+use Rattle.eh_records.specs.declared.cie.CieWithForm.{CieWithForm}
 use Rattle.eh_records.specs.declared.fault.RecordFault.{RecordFault}
 use Rattle.eh_records.specs.declared.fault.RecordFault.TheVariants.{CieVersion}
 use Rattle.eh_records.specs.Augmentation.{Said, said_plain, letters_at, data_at, said_by}
-use Rattle.eh_records.specs.Cut.{Piece}
+use Rattle.eh_records.specs.RawRecord.{RawRecordView}
 use Rattle.eh_records.specs.Step.{Step, ◌>>=◌, PointerField, pointer_view, number_field, uleb_field, sleb_field}
 
 -- an entry, seen without where its bytes lie in memory
@@ -35,7 +35,7 @@ pub record SharedView : Type 0 where
   pub augmented : Bool
   pub lsda : Option ℕ
 
-abbrev pub shared_view : Shared → SharedView
+abbrev pub shared_view : CieWithForm → SharedView
 shared_view s = record { cie = cie_view s.cie; width = s.width; augmented = s.augmented; lsda = s.lsda }
 
 -- a byte in version 1, a LEB128 number in version 3
@@ -70,8 +70,8 @@ said_in (Some letters) at = data_at at >>= λ inner. passed_data inner.1 (said_b
 unfoldable pub said_at : Option (List ℕ) → Cursor → Step Said
 said_at letters at = said_in letters at
 
-abbrev pub shared_of : ℕ → Numbers → Bool → Said → Cursor → SharedView
-shared_of place numbers augmented said insns = record {
+abbrev pub cie_with_form : ℕ → Numbers → Bool → Said → Cursor → SharedView
+cie_with_form place numbers augmented said insns = record {
   cie = record { place = place; code = numbers.code; factor = numbers.factor; column = numbers.column; encoding = said.pointers.encoding; signal = said.signal; key = said.key; personality = said.personality; insns = insns };
   width = said.pointers.width;
   augmented = augmented;
@@ -84,8 +84,8 @@ cie_fields arch place version at = do
   letters ← letters_at arch at
   numbers ← numbers_at version letters.1
   said ← said_at letters.0 numbers.1
-  Ok (shared_of place numbers.0 (is_some letters.0) said.0 said.1)
+  Ok (cie_with_form place numbers.0 (is_some letters.0) said.0 said.1)
 
 -- the entry of a record
-unfoldable pub cie_of : Arch → Piece → Result SharedView RecordFault
+unfoldable pub cie_of : Arch → RawRecordView → Result SharedView RecordFault
 cie_of arch p = number_field 1 p.body >>= λ version. if (version.0 == 1) || (version.0 == 3) then cie_fields arch p.place version.0 version.1 else Err (CieVersion p.body.place)

@@ -4,19 +4,19 @@ use Rattle.std.specs.Prelude.{◌≡◌, ◌≢◌, ◌⊎◌, ℕ, ◌+◌, ◌
 use Rattle.sf_model.specs.declared.machine.Arch.{Arch}
 use Rattle.byteorder.specs.Endian.{little_number}
 use Rattle.sf_bytes.specs.Cursor.{Cursor, past}
-use Rattle.eh_records.specs.Cut.{Piece}
+use Rattle.eh_records.specs.RawRecord.{RawRecordView}
 use Rattle.eh_records.specs.Cie.{SharedView}
 use Rattle.eh_records.specs.Fields.{EntryStands}
 use Rattle.eh_records.specs.Section.{Cutting, EntryView, Common, Frame}
 
 -- a record stands at the front: its length, the word behind that, and the bytes to its end
-pub record Stands (at : Cursor) (p : Piece) (after : Cursor) : Type 0 where
+pub record Stands (at : Cursor) (p : RawRecordView) (after : Cursor) : Type 0 where
   pub len : ℕ
   pub word : little_number 4 (take 4 at.left) ≡ len
   pub enough : 4 ≤ len
   pub short : len ≢ 4294967295
   pub within : 4 + len ≤ length at.left
-  pub piece : p ≡ record {
+  pub raw_record_view : p ≡ record {
     place = at.place;
     id_place = at.place + 4;
     id = little_number 4 (take 4 (take len (drop 4 at.left)));
@@ -30,11 +30,11 @@ pub record EndsWithZero (at : Cursor) : Type 0 where
   pub word : little_number 4 (take 4 at.left) ≡ 0
 
 -- these records are the cut from a cursor on
-abbrev pub AreCut : List Piece → Cursor → Type 0
+abbrev pub AreCut : List RawRecordView → Cursor → Type 0
 AreCut [] at = (at.left ≡ []) ⊎ EndsWithZero at
 AreCut (p ∷ ps) at = (after : Cursor) × Stands at p after × AreCut ps after
 
-abbrev pub all_cut : List Piece → List Cutting
+abbrev pub all_cut : List RawRecordView → List Cutting
 all_cut [] = []
 all_cut (p ∷ ps) = Ok p ∷ all_cut ps
 
@@ -48,7 +48,7 @@ with_common before (Common c) = before ++ c ∷ []
 with_common before (Frame f) = before
 
 -- these are the entries of the records, field by field, where these common information entries stand before them
-abbrev pub AreRead : Arch → (before : List SharedView) → List Piece → List EntryView → Type 0
+abbrev pub AreRead : Arch → (before : List SharedView) → List RawRecordView → List EntryView → Type 0
 AreRead arch before [] [] = Unit {0}
 AreRead arch before [] (e ∷ es) = ⊥
 AreRead arch before (p ∷ ps) [] = ⊥
@@ -56,4 +56,4 @@ AreRead arch before (p ∷ ps) (e ∷ es) = EntryStands arch before p e × AreRe
 
 -- these are the entries of a section: those of the records of its cut
 abbrev pub AreEntries : Arch → List ℕ → List EntryView → Type 0
-AreEntries arch section es = (ps : List Piece) × AreCut ps (start section) × AreRead arch [] ps es
+AreEntries arch section es = (ps : List RawRecordView) × AreCut ps (start section) × AreRead arch [] ps es

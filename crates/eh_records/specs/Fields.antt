@@ -9,8 +9,8 @@ use Rattle.sf_model.specs.declared.machine.Arch.{Arch}
 use Rattle.sf_model.specs.declared.machine.Key.TheVariants as keys
 use Rattle.eh_pointer.specs.Pointer.{pointer_width, usable_width, format_of, above_format}
 use Rattle.eh_records.specs.Augmentation.{Form, Said, said_plain, are_letters}
-use Rattle.eh_records.specs.Cie.{Numbers, SharedView, shared_of}
-use Rattle.eh_records.specs.Cut.{Piece}
+use Rattle.eh_records.specs.Cie.{Numbers, SharedView, cie_with_form}
+use Rattle.eh_records.specs.RawRecord.{RawRecordView}
 use Rattle.eh_records.specs.Fde.{FdeView}
 use Rattle.eh_records.specs.Section.{EntryView, Common, Frame}
 use Rattle.eh_records.specs.Step.{PointerField}
@@ -108,7 +108,7 @@ ColumnStands version column from to = ((version ≡ 1) × Stands (Number 1) colu
 
 -- version, augmentation string, code and data alignment factors, return address column, augmentation data; the initial
 -- instructions are the rest of the record
-pub record CieStands (arch : Arch) (p : Piece) (c : SharedView) : Type 0 where
+pub record CieStands (arch : Arch) (p : RawRecordView) (c : SharedView) : Type 0 where
   pub version : ℕ
   pub letters : Option (List ℕ)
   pub numbers : Numbers
@@ -125,7 +125,7 @@ pub record CieStands (arch : Arch) (p : Piece) (c : SharedView) : Type 0 where
   pub factor_stands : Stands Sleb numbers.factor after_code after_factor
   pub column_stands : ColumnStands version numbers.column after_factor after_column
   pub augmentation_stands : AugmentationStands letters said after_column insns
-  pub entry : c ≡ shared_of p.place numbers (is_some letters) said insns
+  pub entry : c ≡ cie_with_form p.place numbers (is_some letters) said insns
 
 -- ---- frame description entries
 -- the pointer to the language-specific data area stands at the front of the data, where its encoding fixes a width and the data is
@@ -145,7 +145,7 @@ FrameDataStands true encoding field from to = FrameData encoding field from to
 FrameDataStands false encoding field from to = (field ≡ None) × (to ≡ from)
 
 -- start, size, augmentation data; the instructions are the rest of the record
-pub record FdeStands (shared : SharedView) (p : Piece) (f : FdeView) : Type 0 where
+pub record FdeStands (shared : SharedView) (p : RawRecordView) (f : FdeView) : Type 0 where
   pub after_begin : Cursor
   pub after_range : Cursor
   pub begin_stands : PointerStands shared.width f.begin p.body after_begin
@@ -155,7 +155,7 @@ pub record FdeStands (shared : SharedView) (p : Piece) (f : FdeView) : Type 0 wh
   pub cie : f.cie ≡ shared.cie
 
 -- one of the common information entries before it is at the place that it names: so far before the word as the word says
-pub record FrameStands (before : List SharedView) (p : Piece) (f : FdeView) : Type 0 where
+pub record FrameStands (before : List SharedView) (p : RawRecordView) (f : FdeView) : Type 0 where
   pub shared : SharedView
   pub among : Contains before shared
   pub named : shared.cie.place + p.id ≡ p.id_place
@@ -163,6 +163,6 @@ pub record FrameStands (before : List SharedView) (p : Piece) (f : FdeView) : Ty
 
 -- ---- entries
 -- the word behind the length is 0 in a common information entry
-abbrev pub EntryStands : Arch → (before : List SharedView) → Piece → EntryView → Type 0
+abbrev pub EntryStands : Arch → (before : List SharedView) → RawRecordView → EntryView → Type 0
 EntryStands arch before p (Common c) = (p.id ≡ 0) × CieStands arch p c
 EntryStands arch before p (Frame f) = (p.id ≢ 0) × FrameStands before p f

@@ -1,12 +1,13 @@
 pub mod Augmentation
 pub mod Cie
-pub mod Cut
+pub mod RawRecord
 pub mod Cutting
 pub mod Entry
 pub mod Fde
 pub mod Fields
 pub mod Iter
 pub mod Kept
+pub mod Named
 pub mod Places
 pub mod Raw
 pub mod Refused

@@ -12,7 +12,7 @@ use Rattle.eh_records.specs.declared.fault.RecordFault.{RecordFault}
 use Rattle.eh_records.specs.declared.fault.RecordFault.TheVariants.{Short, Extended, CieVersion, Augmentation, Encoding, CiePointer, Leb, Unresolved, FunctionEnd, NoMemory}
 use Rattle.eh_records.specs.Augmentation.{are_letters}
 use Rattle.eh_records.specs.Cie.{SharedView}
-use Rattle.eh_records.specs.Cut.{Piece}
+use Rattle.eh_records.specs.RawRecord.{RawRecordView}
 use Rattle.eh_records.specs.Cutting.{Stands, with_common, start}
 use Rattle.eh_records.specs.Fields.{PointerStands, StringStands, Saying, SayingStands, ColumnStands, DataStands, EntryStands}
 use Rattle.eh_records.specs.Section.{EntryView}
@@ -103,7 +103,7 @@ abbrev pub ColumnFails : (version : ℕ) → Cursor → RecordFault → Type 0
 ColumnFails version at e = ((version ≡ 1) × Lacks 1 at e) ⊎ ((version ≡ 3) × LacksUleb at e)
 
 -- the first of the fields that isn't there: version, augmentation string, code and data alignment factors, column, augmentation data
-pub data CieFails (arch : Arch) (p : Piece) (e : RecordFault) : Type 0 where
+pub data CieFails (arch : Arch) (p : RawRecordView) (e : RecordFault) : Type 0 where
   no_version : Lacks 1 p.body e → CieFails arch p e
   other_version : (version : ℕ) (after : Cursor) → FieldStands (Number 1) version p.body after → version ≢ 1 → version ≢ 3 → e ≡ CieVersion p.body.place → CieFails arch p e
   no_string : (version : ℕ) (a1 : Cursor) → FieldStands (Number 1) version p.body a1 → (version ≡ 1) ⊎ (version ≡ 3) → StringFails arch a1 e → CieFails arch p e
@@ -121,7 +121,7 @@ FrameDataFails true at e = DataFails at e
 FrameDataFails false at e = ⊥
 
 -- the first of the fields that isn't there: start, size, augmentation data
-abbrev pub FdeFails : SharedView → Piece → RecordFault → Type 0
+abbrev pub FdeFails : SharedView → RawRecordView → RecordFault → Type 0
 FdeFails shared p e =
     Lacks shared.width p.body e
     ⊎ ((begin : PointerField) × (a1 : Cursor) × PointerStands shared.width begin p.body a1
@@ -129,28 +129,28 @@ FdeFails shared p e =
     ⊎ ((range : PointerField) × (a2 : Cursor) × PointerStands shared.width range a1 a2 × FrameDataFails shared.augmented a2 e)))
 
 -- no common information entry before it is where it says
-abbrev pub NamesNone : (before : List SharedView) → Piece → Type 0
+abbrev pub NamesNone : (before : List SharedView) → RawRecordView → Type 0
 NamesNone before p = (shared : SharedView) → Contains before shared → shared.cie.place + p.id ≢ p.id_place
 
-abbrev pub FrameFails : (before : List SharedView) → Piece → RecordFault → Type 0
+abbrev pub FrameFails : (before : List SharedView) → RawRecordView → RecordFault → Type 0
 FrameFails before p e =
     (NamesNone before p × (e ≡ CiePointer p.id_place))
     ⊎ ((shared : SharedView) × Contains before shared × (shared.cie.place + p.id ≡ p.id_place) × FdeFails shared p e)
 
 -- ---- sections
-abbrev pub EntryFails : Arch → (before : List SharedView) → Piece → RecordFault → Type 0
+abbrev pub EntryFails : Arch → (before : List SharedView) → RawRecordView → RecordFault → Type 0
 EntryFails arch before p e = ((p.id ≡ 0) × CieFails arch p e) ⊎ ((p.id ≢ 0) × FrameFails before p e)
 
 -- records and their entries from a cursor on, and then the fault of the next record
-abbrev pub FailsFrom : Arch → (before : List SharedView) → List Piece → List EntryView → Cursor → RecordFault → Type 0
-FailsFrom arch before [] [] at e = CutFails at e ⊎ ((p : Piece) × (after : Cursor) × Stands at p after × EntryFails arch before p e)
+abbrev pub FailsFrom : Arch → (before : List SharedView) → List RawRecordView → List EntryView → Cursor → RecordFault → Type 0
+FailsFrom arch before [] [] at e = CutFails at e ⊎ ((p : RawRecordView) × (after : Cursor) × Stands at p after × EntryFails arch before p e)
 FailsFrom arch before [] (v ∷ vs) at e = ⊥
 FailsFrom arch before (p ∷ ps) [] at e = ⊥
 FailsFrom arch before (p ∷ ps) (v ∷ vs) at e = (after : Cursor) × Stands at p after × EntryStands arch before p v × FailsFrom arch (with_common before v) ps vs after e
 
 -- the first fault of a section
 abbrev pub IsRefused : Arch → List ℕ → RecordFault → Type 0
-IsRefused arch section e = (ps : List Piece) × (vs : List EntryView) × FailsFrom arch [] ps vs (start section) e
+IsRefused arch section e = (ps : List RawRecordView) × (vs : List EntryView) × FailsFrom arch [] ps vs (start section) e
 
 -- ---- which faults there are
 -- all but those of a function's values, and memory

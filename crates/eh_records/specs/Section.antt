@@ -7,16 +7,16 @@ use Rattle.sf_model.specs.declared.machine.Arch.{Arch}
 use Rattle.eh_records.specs.declared.fault.RecordFault.{RecordFault}
 use Rattle.eh_records.specs.declared.fault.RecordFault.TheVariants.{CiePointer}
 use Rattle.eh_records.specs.Cie.{SharedView, cie_of}
-use Rattle.eh_records.specs.Cut.{Piece, piece_at, named_place}
+use Rattle.eh_records.specs.RawRecord.{RawRecordView, raw_record_at, named_place}
 use Rattle.eh_records.specs.Fde.{FdeView, fde_of}
 use Rattle.eh_records.specs.Step.{◌>>=◌, PointerField}
 
 -- a record that was cut off, or the fault at which the cut ends
 abbrev pub Cutting : Type 0
-Cutting = Result Piece RecordFault
+Cutting = Result RawRecordView RecordFault
 
 abbrev pub Front : Type 0
-Front = Result (Option (Piece × Cursor)) RecordFault
+Front = Result (Option (RawRecordView × Cursor)) RecordFault
 
 -- how many bytes are left behind the first record
 abbrev pub left_behind : Front → ℕ
@@ -35,7 +35,7 @@ unfoldable pub cuts_after : (skipped place : ℕ) → List ℕ → List Cutting
 cuts_after skipped place [] = []
 cuts_after (suc n) place (b ∷ bs) = cuts_after n (place + 1) bs
 cuts_after zero place (b ∷ bs) =
-    let first = piece_at (record { place = place; left = b ∷ bs }) in
+    let first = raw_record_at (record { place = place; left = b ∷ bs }) in
     front_of first (cuts_after (length bs - left_behind first) (place + 1) bs)
 
 -- the records from a cursor on
@@ -52,22 +52,22 @@ pub data EntryView : Type 0 where
   Frame : FdeView → EntryView
 
 -- the entry of a record, by the word behind its length
-unfoldable pub entry_here : Arch → List ℕ → Piece → Result EntryView RecordFault
+unfoldable pub entry_here : Arch → List ℕ → RawRecordView → Result EntryView RecordFault
 entry_here arch section p = if p.id == 0 then (cie_of arch p >>= λ c. Ok (Common c)) else (fde_of arch section p >>= λ f. Ok (Frame f))
 
 -- a frame description entry names one of these places, at which common information entries stand before it
-abbrev pub place_among : List ℕ → Piece → ℕ → Result ℕ RecordFault
+abbrev pub place_among : List ℕ → RawRecordView → ℕ → Result ℕ RecordFault
 place_among cies p place = if list_any (λ q. q == place) cies then Ok place else Err (CiePointer p.id_place)
 
-unfoldable pub shared_place : List ℕ → Piece → Result ℕ RecordFault
+unfoldable pub shared_place : List ℕ → RawRecordView → Result ℕ RecordFault
 shared_place cies p = if p.id == 0 then Ok p.place else (named_place p >>= place_among cies p)
 
 -- the entry of a record, where common information entries stand before it at these places
-unfoldable pub entry_at : Arch → List ℕ → List ℕ → Piece → Result EntryView RecordFault
+unfoldable pub entry_at : Arch → List ℕ → List ℕ → RawRecordView → Result EntryView RecordFault
 entry_at arch section cies p = shared_place cies p >>= λ _. entry_here arch section p
 
 -- the places of the common information entries, with this record's
-abbrev pub with_place : List ℕ → Piece → List ℕ
+abbrev pub with_place : List ℕ → RawRecordView → List ℕ
 with_place cies p = if p.id == 0 then cies ++ p.place ∷ [] else cies
 
 -- the entries of records, or the first fault

@@ -9,16 +9,11 @@ use Rattle.sf_bytes.specs.Text.{text_at}
 use Rattle.eh_records.specs.declared.fault.RecordFault.{RecordFault}
 use Rattle.eh_records.specs.declared.fault.RecordFault.TheVariants.{Short, Leb}
 use Rattle.eh_records.specs.declared.reader.Reader.{Reader}
+pub use Rattle.sf_bytes.specs.Steps.{◌>>=◌}
 
 -- a value and the cursor behind it, or the first fault
 abbrev pub Step : Type 0 → Type 0
 Step X = Result (X × Cursor) RecordFault
-
--- a step that goes on behind another one
-infixl 10 ◌>>=◌
-abbrev pub ◌>>=◌ : {A B : Type 0} → Result A RecordFault → (A → Result B RecordFault) → Result B RecordFault
-(Ok x) >>= f = f x
-(Err e) >>= f = Err e
 
 -- the fault of a field that stands at a place
 abbrev pub fault_of : ℕ → ByteFault → RecordFault

@@ -43,7 +43,7 @@ pub struct NumberFields {
 
 /// A common information entry with what only its frame description entries read.
 #[derive(Clone, Copy, Debug)]
-pub struct Shared<'a> {
+pub struct CieWithForm<'a> {
     pub cie: Cie<'a>,
     /// How many bytes a function pointer has.
     pub width: u8,

@@ -4,18 +4,18 @@ ghost use Rattle.std.specs.Prelude.{◌≡◌, ◌<◌, ◌^◌, length};
 ghost use Rattle.std.specs.Option.{option_map};
 ghost use Rattle.sf_bytes.specs.Cursor.{cursor};
 ghost use Rattle.eh_records.specs.Augmentation.{said_view};
-ghost use Rattle.eh_records.specs.Cie.{shared_view, shared_of, numbers_view, numbers_at, column_at, said_at, cie_fields, cie_of};
-ghost use Rattle.eh_records.specs.Cut.{Is, piece};
+ghost use Rattle.eh_records.specs.Cie.{shared_view, cie_with_form, numbers_view, numbers_at, column_at, said_at, cie_fields, cie_of};
+ghost use Rattle.eh_records.specs.RawRecord.{Is, raw_record_view};
 ghost use Rattle.eh_records.specs.Fde.{cie_at_place};
 ghost use Rattle.eh_records.specs.Step.{Answers, reader_cursor};
 
 use crate::augmentation::Augmentation;
-use crate::cie::{Cie, NumberFields, Shared};
-use crate::cut::{Cut, next_cut};
+use crate::cie::{Cie, CieWithForm, NumberFields};
+use crate::cut::{RawRecord, next_record};
 use crate::fault::RecordFault;
 use crate::letters::read_letters;
 use crate::reader::Reader;
-use crate::said::{plain, read_data, read_said};
+use crate::said::{plain, read_augmentation_data, read_data};
 use sf_bytes::Part;
 use sf_model::Arch;
 
@@ -58,7 +58,7 @@ fn read_augmentation(
     match letters {
         Some(letters) => {
             let inner = read_data(body)?;
-            read_said(letters, inner)
+            read_augmentation_data(letters, inner)
         }
         None => Ok(plain()),
     }
@@ -71,8 +71,8 @@ fn shared<'a>(
     augmented: bool,
     said: Augmentation,
     insns: Part<'a>,
-) -> Shared<'a>
-    ensures { shared_view result ≡ shared_of place (numbers_view numbers) augmented (said_view said) (cursor insns.entry) }
+) -> CieWithForm<'a>
+    ensures { shared_view result ≡ cie_with_form place (numbers_view numbers) augmented (said_view said) (cursor insns.entry) }
 {
     let cie = Cie {
         place,
@@ -85,7 +85,7 @@ fn shared<'a>(
         personality: said.personality,
         insns,
     };
-    Shared {
+    CieWithForm {
         cie,
         width: said.pointers.width,
         augmented,
@@ -100,7 +100,7 @@ fn read_fields<'a>(
     version: u8,
     mut body: Reader<'a>,
     arch: Arch,
-) -> Result<Shared<'a>, RecordFault>
+) -> Result<CieWithForm<'a>, RecordFault>
     ensures { Is shared_view result (cie_fields arch place version (reader_cursor body.entry)) }
 {
     let letters = read_letters(&mut body, arch)?;
@@ -111,8 +111,8 @@ fn read_fields<'a>(
 
 /// The common information entry of a record.
 #[tactic(auto, unfolding(crate::specs::Cie::cie_of))]
-pub fn read_cie<'a>(cut: &Cut<'a>, arch: Arch) -> Result<Shared<'a>, RecordFault>
-    ensures { Is shared_view result (cie_of arch (piece cut.now)) }
+pub fn read_cie<'a>(cut: &RawRecord<'a>, arch: Arch) -> Result<CieWithForm<'a>, RecordFault>
+    ensures { Is shared_view result (cie_of arch (raw_record_view cut.now)) }
 {
     let mut body = cut.body;
     let version_place = body.place();
@@ -125,12 +125,12 @@ pub fn read_cie<'a>(cut: &Cut<'a>, arch: Arch) -> Result<Shared<'a>, RecordFault
 
 /// The common information entry that stands at a place of the section.
 #[tactic(auto, unfolding(crate::specs::Fde::cie_at_place))]
-pub fn cie_at<'a>(section: &'a [u8], place: u32, arch: Arch) -> Result<Shared<'a>, RecordFault>
+pub fn cie_at<'a>(section: &'a [u8], place: u32, arch: Arch) -> Result<CieWithForm<'a>, RecordFault>
     requires { length section.now < 2 ^ 32 }
     ensures { Is shared_view result (cie_at_place arch section.now place) }
 {
     let mut from = Reader::from_place(section, place);
-    match next_cut(&mut from)? {
+    match next_record(&mut from)? {
         Some(cut) => read_cie(&cut, arch),
         None => Err(RecordFault::CiePointer(place)),
     }

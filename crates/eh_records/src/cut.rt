@@ -1,7 +1,7 @@
 //! Cutting a section into records.
 
 ghost use Rattle.std.specs.Prelude.{◌≡◌, ◌<◌, ◌==◌, length, IfOk, IfSome};
-ghost use Rattle.eh_records.specs.Cut.{CutAnswers, NamedAnswers, piece, piece_at, named_place};
+ghost use Rattle.eh_records.specs.RawRecord.{CutAnswers, NamedAnswers, raw_record_view, raw_record_at, named_place};
 ghost use Rattle.eh_records.specs.Step.{reader_cursor};
 
 use crate::fault::RecordFault;
@@ -10,7 +10,7 @@ use crate::reader::Reader;
 
 /// A record as it was cut.
 #[derive(Clone, Copy, Debug)]
-pub struct Cut<'a> {
+pub struct RawRecord<'a> {
     /// The place of its length word.
     pub place: u32,
     /// The place of the word behind that one.
@@ -22,7 +22,7 @@ pub struct Cut<'a> {
     pub body: Reader<'a>,
 }
 
-impl Cut<'_> {
+impl RawRecord<'_> {
     /// Whether the record is a common information entry.
     #[inline(always)]
     pub fn is_cie(&self) -> bool
@@ -33,10 +33,10 @@ impl Cut<'_> {
 
     /// The place of the common information entry that the record names, `CiePointer` where that is before
     /// the section.
-    #[tactic(auto, unfolding(crate::specs::Cut::named_place))]
+    #[tactic(auto, unfolding(crate::specs::RawRecord::named_place))]
     #[inline(always)]
     pub fn cie_place(&self) -> Result<u32, RecordFault>
-        ensures { NamedAnswers result (named_place (piece self.now)) }
+        ensures { NamedAnswers result (named_place (raw_record_view self.now)) }
     {
         match self.id_place.checked_sub(self.id) {
             Some(place) => Ok(place),
@@ -46,10 +46,10 @@ impl Cut<'_> {
 }
 
 /// Cuts the next record off, or answers none at the end and at a length word of 0.
-#[tactic(auto, unfolding(crate::specs::Cut::piece_at, crate::specs::Cut::piece_of))]
+#[tactic(auto, unfolding(crate::specs::RawRecord::raw_record_at, crate::specs::RawRecord::piece_of))]
 #[inline(always)]
-pub fn next_cut<'a>(rest: &mut Reader<'a>) -> Result<Option<Cut<'a>>, RecordFault>
-    ensures exact { CutAnswers rest.new result (piece_at (reader_cursor rest.old)) }
+pub fn next_record<'a>(rest: &mut Reader<'a>) -> Result<Option<RawRecord<'a>>, RecordFault>
+    ensures exact { CutAnswers rest.new result (raw_record_at (reader_cursor rest.old)) }
     ensures shorter { IfOk result (λ cut. IfSome cut (λ _. length rest.new.part.bytes.now < length rest.old.part.bytes.now)) }
 {
     if rest.part.is_empty() {
@@ -73,7 +73,7 @@ pub fn next_cut<'a>(rest: &mut Reader<'a>) -> Result<Option<Cut<'a>>, RecordFaul
     let id_place = body.place();
     let id = body.word()?;
     *rest = after;
-    Ok(Some(Cut {
+    Ok(Some(RawRecord {
         place,
         id_place,
         id,

@@ -1,16 +1,16 @@
 //! The entries of a section, of both kinds.
 
 ghost use Rattle.std.specs.Prelude.{◌≡◌, ◌<◌, ◌^◌, length, true};
-ghost use Rattle.eh_records.specs.Cut.{Is, piece};
+ghost use Rattle.eh_records.specs.RawRecord.{Is, raw_record_view};
 ghost use Rattle.eh_records.specs.Entry.{entry_view, GivesFirst};
 ghost use Rattle.eh_records.specs.Kept.{IsKept};
 ghost use Rattle.eh_records.specs.Places.{IsRising};
 ghost use Rattle.eh_records.specs.Section.{are_read, cuts, entries_before, entry_here, entry_at};
 ghost use Rattle.eh_records.specs.Step.{reader_cursor};
 
-use crate::cie::Shared;
+use crate::cie::CieWithForm;
 use crate::common::read_cie;
-use crate::cut::{Cut, next_cut};
+use crate::cut::{RawRecord, next_record};
 use crate::fault::RecordFault;
 use crate::fde::Fde;
 use crate::frame::read_fde;
@@ -23,7 +23,7 @@ use sf_model::Arch;
 #[derive(Clone, Copy, Debug)]
 pub enum Entry<'a> {
     /// A common information entry.
-    Common(Shared<'a>),
+    Common(CieWithForm<'a>),
     /// A frame description entry.
     Frame(Fde<'a>),
 }
@@ -34,12 +34,12 @@ pub enum Entry<'a> {
 fn read_here<'a>(
     kept: &mut Option<CommonAt<'a>>,
     section: &'a [u8],
-    cut: &Cut<'a>,
+    cut: &RawRecord<'a>,
     arch: Arch,
 ) -> Result<Entry<'a>, RecordFault>
     requires small { length section.now < 2 ^ 32 }
     requires kept { IsKept arch section.now kept.old }
-    ensures is { Is entry_view result (entry_here arch section.now (piece cut.now)) }
+    ensures is { Is entry_view result (entry_here arch section.now (raw_record_view cut.now)) }
     ensures kept { IsKept arch section.now kept.new }
 {
     if cut.is_cie() {
@@ -57,14 +57,14 @@ pub fn read_after<'a>(
     kept: &mut Option<CommonAt<'a>>,
     section: &'a [u8],
     places: &[u32],
-    cut: &Cut<'a>,
+    cut: &RawRecord<'a>,
     arch: Arch,
 ) -> Result<Entry<'a>, RecordFault>
     requires small { length section.now < 2 ^ 32 }
     requires rising { IsRising places.now }
     requires kept { IsKept arch section.now kept.old }
     ensures kept { IsKept arch section.now kept.new }
-    ensures is { Is entry_view result (entry_at arch section.now places.now (piece cut.now)) }
+    ensures is { Is entry_view result (entry_at arch section.now places.now (raw_record_view cut.now)) }
 {
     place_of_shared(cut, places)?;
     read_here(kept, section, cut, arch)
@@ -86,7 +86,7 @@ pub fn next_entry<'a>(
     ensures gives { GivesFirst result (entries_before arch section.now (cuts (reader_cursor rest.old))) (entries_before arch section.now (cuts (reader_cursor rest.new))) }
 {
     let mut after = *rest;
-    match next_cut(&mut after) {
+    match next_record(&mut after) {
         Ok(Some(cut)) => match read_here(kept, section, &cut, arch) {
             Ok(entry) => {
                 *rest = after;

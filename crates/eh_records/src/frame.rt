@@ -3,13 +3,13 @@
 ghost use Rattle.std.specs.Prelude.{◌≡◌, ◌<◌, ◌^◌, length};
 ghost use Rattle.std.specs.Option.{option_map};
 ghost use Rattle.eh_records.specs.Cie.{shared_view};
-ghost use Rattle.eh_records.specs.Cut.{Is, piece};
+ghost use Rattle.eh_records.specs.RawRecord.{Is, raw_record_view};
 ghost use Rattle.eh_records.specs.Fde.{fde_view, lsda_in, lsda_at, entry_of, fde_of};
 ghost use Rattle.eh_records.specs.Kept.{IsKept};
 ghost use Rattle.eh_records.specs.Step.{Answers, pointer_view, reader_cursor};
 
-use crate::cie::Shared;
-use crate::cut::Cut;
+use crate::cie::CieWithForm;
+use crate::cut::RawRecord;
 use crate::fault::RecordFault;
 use crate::fde::Fde;
 use crate::kept::CommonAt;
@@ -30,7 +30,7 @@ fn lsda_of(encoding: Option<u8>, mut left: Reader<'_>) -> Option<Field>
 
 // That pointer, and the augmentation data passed.
 #[tactic(auto, unfolding(crate::specs::Fde::lsda_at))]
-fn read_lsda(shared: &Shared<'_>, body: &mut Reader<'_>) -> Result<Option<Field>, RecordFault>
+fn read_lsda(shared: &CieWithForm<'_>, body: &mut Reader<'_>) -> Result<Option<Field>, RecordFault>
     ensures { Answers (λ field. option_map pointer_view field) body.new result (lsda_at (shared_view shared.now) (reader_cursor body.old)) }
 {
     if !shared.augmented {
@@ -42,8 +42,8 @@ fn read_lsda(shared: &Shared<'_>, body: &mut Reader<'_>) -> Result<Option<Field>
 
 /// The frame description entry of a record whose common information entry is known.
 #[tactic(auto, unfolding(crate::specs::Fde::entry_of))]
-pub fn read_entry<'a>(cut: &Cut<'a>, shared: &Shared<'a>) -> Result<Fde<'a>, RecordFault>
-    ensures { Is fde_view result (entry_of (shared_view shared.now) (piece cut.now)) }
+pub fn read_entry<'a>(cut: &RawRecord<'a>, shared: &CieWithForm<'a>) -> Result<Fde<'a>, RecordFault>
+    ensures { Is fde_view result (entry_of (shared_view shared.now) (raw_record_view cut.now)) }
 {
     let mut body = cut.body;
     let begin = body.pointer(shared.width)?;
@@ -65,12 +65,12 @@ pub fn read_entry<'a>(cut: &Cut<'a>, shared: &Shared<'a>) -> Result<Fde<'a>, Rec
 pub fn read_fde<'a>(
     kept: &mut Option<CommonAt<'a>>,
     section: &'a [u8],
-    cut: &Cut<'a>,
+    cut: &RawRecord<'a>,
     arch: Arch,
 ) -> Result<Fde<'a>, RecordFault>
     requires small { length section.now < 2 ^ 32 }
     requires kept { IsKept arch section.now kept.old }
-    ensures is { Is fde_view result (fde_of arch section.now (piece cut.now)) }
+    ensures is { Is fde_view result (fde_of arch section.now (raw_record_view cut.now)) }
     ensures kept { IsKept arch section.now kept.new }
 {
     let place = cut.cie_place()?;

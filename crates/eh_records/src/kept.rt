@@ -2,7 +2,7 @@
 
 ghost use Rattle.std.specs.Prelude.{◌<◌, ◌^◌, length};
 
-use crate::cie::Shared;
+use crate::cie::CieWithForm;
 use crate::common::cie_at;
 use crate::fault::RecordFault;
 use sf_model::Arch;
@@ -11,24 +11,25 @@ use sf_model::Arch;
 #[derive(Clone, Copy, Debug)]
 pub struct CommonAt<'a> {
     pub place: u32,
-    pub shared: Shared<'a>,
+    pub shared: CieWithForm<'a>,
 }
 
 impl<'a> CommonAt<'a> {
     ghost use Rattle.eh_records.specs.Cie.{shared_view};
-    ghost use Rattle.eh_records.specs.Cut.{Is};
+    ghost use Rattle.eh_records.specs.RawRecord.{Is};
     ghost use Rattle.eh_records.specs.Fde.{cie_at_place};
     ghost use Rattle.eh_records.specs.Kept.{IsKept};
 
     /// The common information entry at a place of the section. It is read only where the entry of another
-    /// place is kept; the new one is kept then.
+    /// place is kept; the new one is kept then. That costs little, however long the entry is: what is read of
+    /// one that isn't refused has fewer than 100 bytes.
     #[inline(always)]
     pub fn read(
         kept: &mut Option<CommonAt<'a>>,
         section: &'a [u8],
         place: u32,
         arch: Arch,
-    ) -> Result<Shared<'a>, RecordFault>
+    ) -> Result<CieWithForm<'a>, RecordFault>
         requires small { length section.now < 2 ^ 32 }
         requires kept { IsKept arch section.now kept.old }
         ensures is { Is shared_view result (cie_at_place arch section.now place) }

@@ -7,7 +7,7 @@
 //! [`Records::fields`] lists the pointer fields on which a relocation may lie, and [`Fde::span`] is the
 //! function's start and size once its fields have values.
 //!
-//! The caller owes a section of fewer than 2^32 bytes. Only `parse` and `fields` take memory.
+//! The caller owes a section of fewer than 2^32 bytes. Only `parse` and `fields` allocate.
 #![tactic(auto)]
 
 mod augmentation;

@@ -2,12 +2,12 @@
 
 ghost use Rattle.std.specs.Prelude.{◌≡◌, ◌==◌, OnOk, IfErr};
 ghost use Rattle.std.specs.List.{list_any};
-ghost use Rattle.eh_records.specs.Cut.{Is, piece};
+ghost use Rattle.eh_records.specs.RawRecord.{Is, raw_record_view};
 ghost use Rattle.eh_records.specs.Places.{IsRising};
 ghost use Rattle.eh_records.specs.Section.{shared_place, with_place};
 ghost use Rattle.eh_records.specs.declared.fault.RecordFault.TheVariants.{NoMemory};
 
-use crate::cut::Cut;
+use crate::cut::RawRecord;
 use crate::fault::RecordFault;
 
 // Whether a place is among these.
@@ -21,9 +21,9 @@ fn is_among(place: u32, places: &[u32]) -> bool
 /// The place of the common information entry that a frame description entry names, which has to stand before
 /// it, and a common information entry's own place. `places` has those before the record, and rises.
 #[tactic(auto, unfolding(crate::specs::Section::shared_place))]
-pub fn place_of_shared(cut: &Cut<'_>, places: &[u32]) -> Result<u32, RecordFault>
+pub fn place_of_shared(cut: &RawRecord<'_>, places: &[u32]) -> Result<u32, RecordFault>
     requires { IsRising places.now }
-    ensures { Is (λ place. place) result (shared_place places.now (piece cut.now)) }
+    ensures { Is (λ place. place) result (shared_place places.now (raw_record_view cut.now)) }
 {
     if cut.is_cie() {
         return Ok(cut.place);
@@ -37,8 +37,8 @@ pub fn place_of_shared(cut: &Cut<'_>, places: &[u32]) -> Result<u32, RecordFault
 }
 
 /// Notes the place of a common information entry.
-pub fn note_place(cut: &Cut<'_>, places: &mut Vec<u32>) -> Result<(), RecordFault>
-    ensures noted { OnOk result (places.new.items ≡ with_place places.old.items (piece cut.now)) }
+pub fn note_place(cut: &RawRecord<'_>, places: &mut Vec<u32>) -> Result<(), RecordFault>
+    ensures noted { OnOk result (places.new.items ≡ with_place places.old.items (raw_record_view cut.now)) }
     ensures memory { IfErr result (λ fault. fault ≡ NoMemory) }
 {
     if cut.is_cie() {

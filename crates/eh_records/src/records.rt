@@ -6,7 +6,7 @@ ghost use Rattle.eh_records.specs.Entry.{entry_view};
 ghost use Rattle.eh_records.specs.Section.{optional, entry_fields, entries_of};
 ghost use Rattle.eh_records.specs.Step.{pointer_view};
 
-use crate::cut::next_cut;
+use crate::cut::next_record;
 use crate::entry::{Entry, next_entry, read_after};
 use crate::fault::RecordFault;
 use crate::iter::FdeIter;
@@ -53,6 +53,7 @@ fn push_fields(fields: &mut Vec<Field>, entry: &Entry<'_>) -> Result<(), NoMemor
 impl<'a> Records<'a> {
     ghost use Rattle.std.specs.Prelude.{IfOk, map};
     ghost use Rattle.sf_bytes.specs.Rising.{AreRising, AreApart};
+    ghost use Rattle.eh_records.specs.Named.{HaveNamed};
     ghost use Rattle.eh_records.specs.Raw.{HoldRaw};
     ghost use Rattle.eh_records.specs.Section.{frames, pointer_fields};
     ghost use Rattle.eh_records.specs.Step.{pointer_view};
@@ -70,7 +71,7 @@ impl<'a> Records<'a> {
         let mut places: Vec<u32> = Vec::new(alloc);
         let mut rest = Reader::from_place(bytes, 0);
         let mut kept = None;
-        while let Some(cut) = next_cut(&mut rest)? {
+        while let Some(cut) = next_record(&mut rest)? {
             read_after(&mut kept, bytes, places.as_slice(), &cut, arch)?;
             note_place(&cut, &mut places)?;
         }
@@ -81,6 +82,7 @@ impl<'a> Records<'a> {
     pub fn fdes(&self) -> FdeIter<'a>
         ensures gives { frames_left result ≡ frames (entries self.now) }
         ensures keys { KeysFit self.now }
+        ensures named { HaveNamed self.now }
         ensures whole { IsWhole self.now }
     {
         FdeIter::new(self.bytes, self.arch)

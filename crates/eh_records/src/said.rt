@@ -3,7 +3,7 @@
 ghost use Rattle.std.specs.Prelude.{◌≡◌, ◌<◌};
 ghost use Rattle.std.specs.Option.{option_map};
 ghost use Rattle.eh_records.specs.Augmentation.{form_view, said_view, said_plain, said_by, data_at, form_at, personality_at, letter_at};
-ghost use Rattle.eh_records.specs.Cut.{Is};
+ghost use Rattle.eh_records.specs.RawRecord.{Is};
 ghost use Rattle.eh_records.specs.Step.{Answers, reader_cursor, pointer_view};
 
 use crate::augmentation::{Augmentation, PointerForm};
@@ -115,7 +115,10 @@ pub fn plain() -> Augmentation
 }
 
 /// What the letters say, in their order, from the augmentation data. Bytes that are left over aren't read.
-pub fn read_said(letters: &[u8], mut left: Reader<'_>) -> Result<Augmentation, RecordFault>
+pub fn read_augmentation_data(
+    letters: &[u8],
+    mut left: Reader<'_>,
+) -> Result<Augmentation, RecordFault>
     ensures { Is said_view result (said_by letters.now said_plain (reader_cursor left.entry)) }
 {
     let mut said = plain();

@@ -8,7 +8,7 @@
 //!
 //! The meaning of a placed file is the list of its sections' addresses (`specs/Place.antt`) and of what is
 //! dropped (`specs/Dropped.antt`), as functions of the file's bytes; which sections have relocations of which
-//! is in `specs/Relocations.antt`. Only `Placed::new` takes memory. Time grows with the groups' members, and
+//! is in `specs/Relocations.antt`. Only `Placed::new` allocates. Time grows with the groups' members, and
 //! with the sections times the logarithm of their number.
 #![tactic(auto)]
 

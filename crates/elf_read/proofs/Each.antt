@@ -7,6 +7,10 @@ each_below-suc : {E : Type 0} → (n : ℕ) (check : ℕ → Result (Unit {0}) E
 unfolding each_below
 each_below-suc n check = refl
 
+pub both_fine : {E : Type 0} → (a b : Result (Unit {0}) E) → (a >> b) ≡ Ok tt → (a ≡ Ok tt) × (b ≡ Ok tt)
+both_fine (Ok u) b h = (refl, h)
+both_fine (Err e) b h = absurd (let differ : Err e ≡ Ok tt = h in cc)
+
 pub each_below-none : {E : Type 0} → (check : ℕ → Result (Unit {0}) E) → each_below 0 check ≡ Ok tt
 unfolding each_below
 each_below-none check = refl
@@ -24,4 +28,15 @@ each_below-stop {E = E} (suc n) i check e within before here =
     elim (eq-or-lt_of_le upto) [
       | inl same ↦ each_below-suc n check ∙ ap (λ (k : ℕ). each_below k check >> check k) (sym same) ∙ ap (λ (c : Result (Unit {0}) E). c >> check i) before ∙ here
       | inr below ↦ each_below-suc n check ∙ ap (λ (c : Result (Unit {0}) E). c >> check n) (each_below-stop n i check e below before here)
+    ]
+
+-- where all are fine, each is
+pub each_below-at : {E : Type 0} → (n i : ℕ) (check : ℕ → Result (Unit {0}) E) → i < n → each_below n check ≡ Ok tt → check i ≡ Ok tt
+each_below-at zero i check within fine = absurd (omega (arith, within))
+each_below-at (suc n) i check within fine =
+    let upto : i ≤ n = omega (arith, within) in
+    let parts = both_fine (each_below n check) (check n) (sym (each_below-suc n check) ∙ fine) in
+    elim (eq-or-lt_of_le upto) [
+      | inl same ↦ ap check same ∙ parts.1
+      | inr below ↦ each_below-at n i check below parts.0
     ]

@@ -1,9 +1,9 @@
 -- The least compressed section that is found is the least of the used sections that are compressed.
 use Rattle.std.specs.Prelude.{◌||◌}
-use Rattle.std.proofs.Common.{◌≡◌, ◌⊎◌, ℕ, zero, suc, ◌+◌, ◌<◌, ◌≤◌, Bool, true, false, cond, List, Option, Some, None, min, refl, sym, ap, subst, ◌∙◌, inl, inr, arith}
+use Rattle.std.proofs.Common.{◌≡◌, ◌⊎◌, ℕ, zero, suc, ◌<◌, ◌≤◌, Bool, true, false, cond, List, Option, Some, None, min, refl, sym, ap, subst, ◌∙◌, inl, inr, arith}
 use Rattle.std.proofs.lemmas.Bool.{cases_lt}
 use Rattle.elf_read.specs.Compressed.{IsUsedBy, IsUsed, NoneIsCompressed}
-use Rattle.elf_read.specs.Sections.{section_count, section_header, sh_link, is_compressed, is_eh_frame}
+use Rattle.elf_read.specs.Sections.{section_count, sh_link, is_compressed, is_eh_frame}
 use Rattle.elf_read.specs.Used.{compressed_by, compressed_check, if_compressed, is_group, is_used_rela, least, least_compressed, refused_compressed}
 
 -- the least number of which P holds, or that it holds of none

@@ -1,4 +1,5 @@
 pub mod Each
 pub mod Least
 pub mod Texts
+pub mod ReadSizes
 mod LeastCompressed

@@ -1,11 +1,13 @@
 -- Texts of string tables, up to their first zero byte.
-use Rattle.std.proofs.Common.{◌≡◌, ℕ, zero, suc, ◌+◌, ◌-◌, ◌<◌, ◌≤◌, ◌==◌, ◌&&◌, Bool, true, false, not, cond, List, [], ◌∷◌, length, get_or, take, drop, Some, None, refl, sym, ap, ◌∙◌, arith, nat_lt, inl, inr, lt-ltb, le-ltb, is_some}
+use Rattle.std.proofs.Common.{◌≡◌, ℕ, zero, suc, ◌+◌, ◌-◌, ◌<◌, ◌≤◌, ◌==◌, ◌&&◌, Bool, true, false, not, cond, List, [], ◌∷◌, length, get_or, take, drop, Some, None, refl, sym, ap, subst, ◌∙◌, arith, nat_lt, min, inl, inr, lt-ltb, le-ltb, is_some}
 use Rattle.std.specs.Cmp.Lexicographic.{pointwise}
 use Rattle.std.specs.List.{position, position_or_len}
-use Rattle.std.proofs.lemmas.Bool.{cases_lt}
-use Rattle.std.proofs.lemmas.List.{get_or-drop, length-drop, take_all}
+use Rattle.std.proofs.lemmas.Bool.{cases_lt, eq-eqb, ne_eqb}
+use Rattle.std.proofs.Math.ListN.{drop_of_length-le}
+use Rattle.std.proofs.lemmas.List.{get_or-drop, length-drop, length-take, drop-drop, drop-take, take_all, take_min}
 use Rattle.std.proofs.lemmas.List.Sums.{prefix_len_passes, prefix_len_stops}
-use Rattle.elf_read.specs.Number.{upto, text_in, has_text}
+use Rattle.elf_read.specs.Number.{upto, text_in, has_text, window, StandsAt}
+use Rattle.elf_read.specs.Sections.{has_bytes, name_table, section_bytes, section_name, sh_name, sh_offset, sh_size}
 
 abbrev is_zero : ℕ → Bool
 is_zero b = b == 0
@@ -96,3 +98,58 @@ none_stands place table none =
           absurd (cc (sym stop ∙ ap (λ (b : ℕ). not_zero b) byte ∙ ap (λ (b : Bool). not b) other))
       | inr past ↦ le-ltb _ _ past
     ])
+
+-- ---- texts that are lent
+pub text_from : (place : ℕ) (table : List ℕ) → text_in 0 (drop place table) ≡ text_in place table
+unfolding text_in
+text_from place table = refl
+
+none_by : (z : Bool) (b : ℕ) (bs : List ℕ) (k : ℕ) → z ≡ (length (take (cond (not z) (1 + k) 0) (b ∷ bs)) == 0)
+none_by true b bs k = refl
+none_by false b bs k =
+    let one : 1 + k ≡ suc k = omega arith in
+    let some : length (take (1 + k) (b ∷ bs)) ≡ suc (length (take k bs)) = ap (λ (n : ℕ). length (take n (b ∷ bs))) one in
+    sym (ne_eqb (length (take (1 + k) (b ∷ bs))) 0 (λ e. omega (arith, e, some)))
+
+-- a text has no bytes where none is left, or a zero byte stands at its place
+pub empty_at_end : (rest : List ℕ) → length rest < 1 → true ≡ (length (text_in 0 rest) == 0)
+empty_at_end [] none = sym (ap (λ (ys : List ℕ). length ys == 0) (text_front 0 []))
+empty_at_end (b ∷ bs) none = absurd (omega (arith, none))
+
+pub empty_at_zero : (rest : List ℕ) → 1 ≤ length rest → (get_or rest 0 0 == 0) ≡ (length (text_in 0 rest) == 0)
+empty_at_zero [] some = absurd (omega (arith, some))
+empty_at_zero (b ∷ bs) some = none_by (is_zero b) b bs (position_or_len is_zero bs) ∙ sym (ap (λ (ys : List ℕ). length ys == 0) (text_front 0 (b ∷ bs)))
+
+-- what is left of a window stands in the file
+window_part : (size n : ℕ) (xs : List ℕ) → drop n (take size xs) ≡ take (size - n) (drop n xs)
+window_part size n xs = elim (cases_lt n size) [
+  | inl below ↦ let all : size ≡ n + (size - n) = omega (arith, below) in ap (λ (s : ℕ). drop n (take s xs)) all ∙ drop-take n (size - n) xs
+  | inr past ↦
+      let none : size - n ≡ 0 = omega (arith, past) in
+      let short : length (take size xs) ≤ n = (let len : length (take size xs) ≡ min size (length xs) = length-take size xs in omega (arith, len, past)) in
+      drop_of_length-le (take size xs) short ∙ ap (λ (s : ℕ). take s (drop n xs)) (sym none)
+]
+
+pub stands_at : (p size n : ℕ) (bytes : List ℕ) → StandsAt (p + n) (drop n (window p size bytes)) bytes
+stands_at p size n bytes =
+    let ys = drop (p + n) bytes in
+    let part : drop n (window p size bytes) ≡ take (size - n) ys = window_part size n (drop p bytes) ∙ ap (take (size - n)) (drop-drop n p bytes) in
+    part ∙ sym (take_min (size - n) ys) ∙ ap (λ (k : ℕ). take k ys) (sym (ap length part ∙ length-take (size - n) ys))
+
+place_by : (b : Bool) (off size : ℕ) (file : List ℕ) (place at : ℕ) (rest : List ℕ) → rest ≡ drop place (cond b (window off size file) []) → (0 < length rest → at ≡ off + place) → StandsAt at rest file
+place_by b off size file place at [] is there = refl
+place_by true off size file place at (x ∷ xs) is there =
+    let same : at ≡ off + place = there (omega arith) in
+    subst (λ (p : ℕ). StandsAt p (x ∷ xs) file) (sym same) (subst (λ (r : List ℕ). StandsAt (off + place) r file) (sym is) (stands_at off size place file))
+place_by false off size file place at (x ∷ xs) is there =
+    let low : 0 ≤ place = omega arith in
+    absurd (let differ : x ∷ xs ≡ [] = is ∙ drop_of_length-le [] low in cc)
+
+-- what is left of a section from a place on stands at that place of the section
+pub text_place : (file : List ℕ) (i place at : ℕ) (rest : List ℕ) → rest ≡ drop place (section_bytes file i) → (0 < length rest → at ≡ sh_offset file i + place) → StandsAt at rest file
+unfolding section_bytes
+text_place file i place at rest is there = place_by (has_bytes file i) (sh_offset file i) (sh_size file i) file place at rest is there
+
+pub no_name : (file : List ℕ) (i : ℕ) → name_table file ≡ 0 → text_in 0 [] ≡ section_name file i
+unfolding section_name
+no_name file i none = text_front 0 [] ∙ sym (ap (λ (b : Bool). cond b [] (text_in (sh_name file i) (section_bytes file (name_table file)))) (eq-eqb _ _ none))

@@ -1,7 +1,6 @@
 -- Which sections are used, and the first of them that is compressed (ELF64 gABI, "Section Groups", "Relocation", "Symbol Table",
 -- "Compressed Sections").
 use Rattle.std.specs.Prelude.{◌≡◌, ◌⊎◌, ◌<◌, ◌≤◌, ◌||◌, ℕ, true, false, List, Ok, Err}
-use Rattle.elf_read.specs.declared.fault.ElfFault.{ElfFault}
 use Rattle.elf_read.specs.declared.fault.ElfFault.TheVariants.{Compressed}
 use Rattle.elf_read.specs.Checks.{Check}
 use Rattle.elf_read.specs.Sections.{section_header, sh_link, section_count, is_compressed, is_eh_frame}

@@ -4,7 +4,8 @@ pub mod Header
 pub mod Sections
 pub mod Checks
 pub mod Used
+pub mod Room
 pub mod Compressed
 pub mod Parsing
 pub mod Views
-pub mod Told
+pub mod FaultShown

@@ -15,6 +15,10 @@ number_in width place bytes = front_number width (drop place bytes)
 abbrev pub window : ℕ → ℕ → List ℕ → List ℕ
 window place size bytes = take size (drop place bytes)
 
+-- bytes stand at this place
+abbrev pub StandsAt : ℕ → List ℕ → List ℕ → Type 0
+StandsAt place part bytes = part ≡ window place (length part) bytes
+
 -- whether so many entries of a length from a place on lie in so many bytes
 abbrev pub lies_in : ℕ → ℕ → ℕ → ℕ → Bool
 lies_in len place count entry = nat_le (place + entry * count) len

@@ -5,12 +5,14 @@ use Rattle.elf_read.specs.Header.{is_core}
 use Rattle.elf_read.specs.Sections.{section_count}
 use Rattle.elf_read.specs.Checking.{◌>>◌, where_so, each_below}
 use Rattle.elf_read.specs.Checks.{Check, identity_check, purpose_check, needs_sections, first_section_check, core_check, sections_check, names_check}
+use Rattle.elf_read.specs.Room.{room_check}
 use Rattle.elf_read.specs.Used.{rela_check, group_check, compressed_check, entries_check}
 
 -- the used sections of a file that is no core file
 unfoldable pub used_check : List ℕ → Check
 used_check file =
     each_below (section_count file) (rela_check file)
+    >> each_below (section_count file) (room_check file)
     >> each_below (section_count file) (group_check file)
     >> compressed_check file
     >> each_below (section_count file) (entries_check file)

@@ -6,6 +6,7 @@ use Rattle.elf_read.specs.declared.view.Elf.{Elf}
 use Rattle.elf_read.specs.declared.entry.Section.{Section}
 use Rattle.elf_read.specs.declared.entry.Symbol.{Symbol}
 use Rattle.elf_read.specs.declared.entry.GroupHead.{GroupHead}
+use Rattle.elf_read.specs.declared.text.Text.{Text}
 use Rattle.elf_read.specs.Number.{number_in, window, text_in}
 use Rattle.elf_read.specs.Header.{p_offset, p_filesz}
 use Rattle.elf_read.specs.Sections.{sh_type, sh_flags, sh_addr, sh_offset, sh_size, sh_link, sh_info, sh_addralign, sh_entsize, section_count, section_bytes, section_name, st_name, st_shndx, st_value, member_count}
@@ -72,8 +73,12 @@ pub record GroupView : Type 0 where
   pub signature : List ℕ
   pub count : ℕ
 
+-- the bytes of a text that is lent
+abbrev pub text_bytes : Text → List ℕ
+text_bytes text = text_in 0 text.rest.now
+
 abbrev pub group_view : GroupHead → GroupView
-group_view head = record { comdat = head.comdat; signature = head.signature.now; count = head.count }
+group_view head = record { comdat = head.comdat; signature = text_bytes head.signature; count = head.count }
 
 unfoldable pub group_of : List ℕ → ℕ → Option GroupView
 group_of bytes i =

@@ -1,5 +1,7 @@
 //! What a file's tables hold, as values.
 
+use crate::text::Text;
+
 /// A section header's fields (ELF64 gABI, "Sections").
 #[derive(Clone, Copy, Debug, PartialEq, Eq)]
 pub struct Section {
@@ -66,7 +68,7 @@ pub struct GroupHead<'a> {
     /// Whether one copy of it is kept.
     pub comdat: bool,
     /// What its copies have in common.
-    pub signature: &'a [u8],
+    pub signature: Text<'a>,
     /// How many sections it names.
     pub count: u32,
 }

@@ -1,10 +1,20 @@
-//! Law: which compressed section is refused.
+//! Laws: which compressed section is refused, and how much the sections that are read hold together.
 
 ghost use Rattle.elf_read.specs.Compressed.{NoneIsCompressed};
+ghost use Rattle.elf_read.specs.Room.{HasRoom};
 ghost use Rattle.elf_read.specs.Used.{compressed_check};
+ghost use Rattle.elf_read.specs.Views.{file};
+
+use crate::view::Elf;
 
 /// Says, by its contract alone, that a file passes the check of compressed sections exactly where none that is
 /// used is compressed, and that the least number of those that are is refused. It does nothing.
 pub fn compressed_law(file: &[u8])
     ensures { NoneIsCompressed file.now (compressed_check file.now) }
+{}
+
+/// Says, by its contract alone, that the sections that are read whole, call frame information, relocations and
+/// groups, are together no longer than the file. It does nothing.
+pub fn room_law(elf: &Elf<'_>)
+    ensures { HasRoom (file elf.now) }
 {}

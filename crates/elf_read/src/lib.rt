@@ -9,8 +9,9 @@
 //! `specs/Parsing.antt`): `parse` answers Ok exactly where no check fails, and the accessors give the
 //! fields.
 //!
-//! The caller owes a file of fewer than 2^32 bytes. Nothing takes memory. Each check goes once over the
-//! headers, and those of relocations and group members once over the ones that are used.
+//! The caller owes a file of fewer than 2^32 bytes. Nothing allocates. Each check goes once over the
+//! headers, and those of relocations and group members once over the ones that are used, which have room in the
+//! file together ([`room_law`]).
 #![tactic(auto)]
 
 mod check;
@@ -29,6 +30,7 @@ mod number;
 mod parsing;
 mod program_header;
 mod reading;
+mod room;
 mod section_header;
 mod sections;
 mod segments;
@@ -39,8 +41,9 @@ mod view;
 pub use entry::{GroupHead, Rela, Section, Segment, Symbol};
 pub use fault::ElfFault;
 pub use kind::Kind;
-pub use laws::compressed_law;
+pub use laws::{compressed_law, room_law};
 pub use number::u64_at;
+pub use text::Text;
 pub use view::Elf;
 
 #[cfg(test)]

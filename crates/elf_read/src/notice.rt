@@ -2,8 +2,8 @@
 
 ghost use Rattle.std.specs.Prelude.{◌≡◌, IsSome, IsTrue};
 ghost use Rattle.sf_model.specs.Notice.{HasLine, up_to};
-ghost use Rattle.sf_model.specs.Told.{told_by};
-ghost use Rattle.elf_read.specs.Told.{number_and_place, told_of_elf};
+ghost use Rattle.sf_model.specs.FaultShown.{shown_by};
+ghost use Rattle.elf_read.specs.FaultShown.{number_and_place, shown_of_elf};
 
 use crate::fault::ElfFault;
 use arrayvec::ArrayVec;
@@ -34,7 +34,7 @@ fn number_and_place_of(fault: ElfFault) -> (u8, u64)
 impl ElfFault {
     /// The fault of this item's file, as its line shows it.
     pub fn notice(&self, item: Option<u32>) -> Notice
-        ensures shown { told_by result ≡ told_of_elf item self.now }
+        ensures shown { shown_by result ≡ shown_of_elf item self.now }
         ensures line { IsSome item → HasLine result }
     {
         let (number, place) = number_and_place_of(*self);

@@ -10,6 +10,7 @@ use crate::fault::ElfFault;
 use crate::header::is_core_file;
 use crate::identity::{check_first_section, check_identity, check_purpose, needs_sections};
 use crate::names::{check_names, check_sections};
+use crate::room::check_room;
 use crate::sections::section_count;
 use crate::segments::check_core;
 use crate::used::{check_all_entries, check_groups, check_relas};
@@ -34,6 +35,7 @@ fn check_used(file: &[u8], count: u32) -> Result<(), ElfFault>
     ensures { result ≡ spec.used_check file.now }
 {
     check_relas(file, count)?;
+    check_room(file, count)?;
     check_groups(file, count)?;
     check_compressed(file, count)?;
     check_all_entries(file, count)

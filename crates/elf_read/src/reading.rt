@@ -1,19 +1,21 @@
 //! What a file's tables hold, read as values.
 
-ghost use Rattle.std.specs.Prelude.{◌≡◌, ◌<◌, ◌^◌, length};
+ghost use Rattle.std.specs.Prelude.{◌≡◌, ◌<◌, ◌^◌, length, IfSome};
 ghost use Rattle.std.specs.Option.{option_map};
+ghost use Rattle.elf_read.specs.Number.{text_in, StandsAt};
 ghost use Rattle.elf_read.specs.Sections as fields;
 ghost use Rattle.elf_read.specs.Views as spec;
 
 use crate::entries::{member_count, rela_symbol, st_name, st_shndx, st_value};
 use crate::entry::{GroupHead, Rela, Section, Symbol};
 use crate::layout::{ENTRY_LEN, R_ADDEND, R_TYPE, SHN_LORESERVE};
-use crate::number::{u32_at, u64_at};
+use crate::number::{bytes_from, u32_at, u64_at};
 use crate::section_header::{
-    sh_addr, sh_addralign, sh_entsize, sh_flags, sh_info, sh_link, sh_offset, sh_size, sh_type,
+    sh_addr, sh_addralign, sh_entsize, sh_flags, sh_info, sh_link, sh_name, sh_offset, sh_size,
+    sh_type,
 };
-use crate::sections::{section_bytes, section_count, section_name};
-use crate::text::text_at;
+use crate::sections::{name_table, section_bytes, section_count};
+use crate::text::Text;
 use crate::used::is_group;
 
 /// The header of a section.
@@ -62,13 +64,43 @@ pub fn rela_at(file: &[u8], i: u32, k: u32) -> Rela
     }
 }
 
+// The text at a place of a string table.
+fn text_in_table(file: &[u8], table: u32, place: u32) -> Text<'_>
+    requires { length file.now < 2 ^ 32 }
+    ensures text { spec.text_bytes result ≡ text_in place (fields.section_bytes file.now table) }
+    ensures place { StandsAt result.place result.rest.now file.now }
+{
+    Text {
+        place: sh_offset(file, table).saturating_add(u64::from(place)),
+        rest: bytes_from(section_bytes(file, table), u64::from(place)),
+    }
+}
+
 // The name of a symbol.
 #[tactic(auto, unfolding(crate::specs::Views::symbol_name))]
-fn symbol_name(file: &[u8], table: u32, k: u32) -> &[u8]
-    ensures { result.now ≡ spec.symbol_name file.now table k }
+fn symbol_name(file: &[u8], table: u32, k: u32) -> Text<'_>
+    requires { length file.now < 2 ^ 32 }
+    ensures text { spec.text_bytes result ≡ spec.symbol_name file.now table k }
+    ensures place { StandsAt result.place result.rest.now file.now }
 {
-    let strings = section_bytes(file, sh_link(file, table));
-    text_at(strings, u64::from(st_name(file, table, k)))
+    text_in_table(file, sh_link(file, table), st_name(file, table, k))
+}
+
+// The name of a section.
+#[tactic(auto, unfolding(crate::specs::Sections::section_name))]
+fn section_text(file: &[u8], i: u32) -> Text<'_>
+    requires { length file.now < 2 ^ 32 }
+    ensures text { spec.text_bytes result ≡ fields.section_name file.now i }
+    ensures place { StandsAt result.place result.rest.now file.now }
+{
+    let table = name_table(file);
+    if table == 0 {
+        return Text {
+            place: 0,
+            rest: &[],
+        };
+    }
+    text_in_table(file, table, sh_name(file, i))
 }
 
 // Whether an index is the number of a section.
@@ -80,13 +112,15 @@ fn names_section(file: &[u8], index: u16) -> bool
 
 // The name of a symbol, or where that is empty the name of its section.
 #[tactic(auto, unfolding(crate::specs::Views::symbol_text))]
-fn symbol_text(file: &[u8], table: u32, k: u32) -> &[u8]
-    ensures { result.now ≡ spec.symbol_text file.now table k }
+fn symbol_text(file: &[u8], table: u32, k: u32) -> Text<'_>
+    requires { length file.now < 2 ^ 32 }
+    ensures text { spec.text_bytes result ≡ spec.symbol_text file.now table k }
+    ensures place { StandsAt result.place result.rest.now file.now }
 {
     let name = symbol_name(file, table, k);
     let section = st_shndx(file, table, k);
     if name.is_empty() && names_section(file, section) {
-        section_name(file, u32::from(section))
+        section_text(file, u32::from(section))
     } else {
         name
     }
@@ -104,7 +138,8 @@ fn is_comdat(file: &[u8], i: u32) -> bool
 #[tactic(auto, unfolding(crate::specs::Views::group_of))]
 pub fn group_at(file: &[u8], i: u32) -> Option<GroupHead<'_>>
     requires { length file.now < 2 ^ 32 }
-    ensures { option_map spec.group_view result ≡ spec.group_of file.now i }
+    ensures group { option_map spec.group_view result ≡ spec.group_of file.now i }
+    ensures signature { IfSome result (λ head. StandsAt head.signature.place head.signature.rest.now file.now) }
 {
     if !is_group(file, i) {
         return None;

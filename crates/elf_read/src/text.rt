@@ -26,11 +26,43 @@ pub fn text_at(table: &[u8], place: u64) -> &[u8]
     }
 }
 
-/// Whether a text begins at that place of a string table and ends there with a zero byte.
+/// A text of a string table. Its end is looked for when its bytes are asked for.
+#[derive(Clone, Copy, Debug)]
+pub struct Text<'a> {
+    /// Its place in the file.
+    pub place: u64,
+    /// The bytes of its table from there on. It ends before the first that is zero.
+    pub rest: &'a [u8],
+}
+
+impl<'a> Text<'a> {
+    /// Its bytes.
+    pub fn bytes(&self) -> &'a [u8]
+        ensures { result.now ≡ text_in 0 self.now.rest.now }
+    {
+        text_at(self.rest, 0)
+    }
+
+    /// Whether it has no bytes. At most one byte is looked at.
+    pub fn is_empty(&self) -> bool
+        ensures { result ≡ (length (text_in 0 self.now.rest.now) == 0) }
+    {
+        match self.rest {
+            [byte, ..] => *byte == 0,
+            [] => true,
+        }
+    }
+}
+
+/// Whether a text begins at that place of a string table and ends there with a zero byte. A table's last byte is zero
+/// (gABI, "String Table"), and then no other is looked at.
 #[tactic(auto, unfolding(crate::specs::Number::has_text))]
 pub fn text_stands(table: &[u8], place: u64) -> bool
     ensures { result ≡ has_text place table.now }
 {
+    if place < table.len() as u64 && table[table.len() - 1] == 0 {
+        return true;
+    }
     text_len(bytes_from(table, place)).is_some()
 }
 

@@ -25,11 +25,12 @@ pub struct Elf<'a> {
 }
 
 impl<'a> Elf<'a> {
-    ghost use Rattle.std.specs.Prelude.{◌≡◌, ◌==◌, ℕ, IfOk};
+    ghost use Rattle.std.specs.Prelude.{◌≡◌, ◌==◌, ℕ, IfOk, IfSome};
     ghost use Rattle.std.specs.Cmp.Lexicographic.{pointwise};
     ghost use Rattle.std.specs.Option.{option_map};
     ghost use Rattle.elf_read.specs.Checks.{program_headers_check};
     ghost use Rattle.elf_read.specs.Header as head;
+    ghost use Rattle.elf_read.specs.Number.{StandsAt};
     ghost use Rattle.elf_read.specs.Parsing.{verdict};
     ghost use Rattle.elf_read.specs.Sections as fields;
     ghost use Rattle.elf_read.specs.Views.{file, section_of, segment_bytes, symbol_of, rela_offset, rela_type, rela_addend, group_view, group_of};
@@ -179,7 +180,9 @@ impl<'a> Elf<'a> {
 
     /// The head of a section group, or none where the section isn't one or the file is no object.
     pub fn group(&self, i: u32) -> Option<GroupHead<'a>>
-        ensures { option_map group_view result ≡ group_of (file self.now) i }
+        ensures group { option_map group_view result ≡ group_of (file self.now) i }
+        // The place of its signature in the file.
+        ensures signature { IfSome result (λ head. StandsAt head.signature.place head.signature.rest.now (file self.now)) }
     {
         reading::group_at(self.bytes, i)
     }

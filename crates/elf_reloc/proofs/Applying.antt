@@ -8,7 +8,7 @@ use Rattle.elf_read.specs.Sections.{section_bytes}
 use Rattle.elf_place.specs.Views.{Placing}
 use Rattle.elf_reloc.specs.declared.fault.RelocFault.{RelocFault}
 use Rattle.elf_reloc.specs.declared.fault.RelocFault.TheVariants as faults
-use Rattle.elf_reloc.specs.declared.fix.Fix.{Fix}
+use Rattle.elf_reloc.specs.declared.fix.RelocatedField.{RelocatedField}
 use Rattle.elf_reloc.specs.Applied.{Slot, Applied, by_place, slot_of, slot_place, has_slot_width, is_slot, slot_check, applied_of, applied_to}
 use Rattle.elf_reloc.specs.Order.{first_at, has_width, lies_on, overlap_check, place_check}
 use Rattle.elf_reloc.specs.Reading.{◌>>=◌, State, section_state}
@@ -25,14 +25,14 @@ unfolding first_at
 first_slot place [] = refl
 first_slot place (g ∷ gs) = at_test (g.place == place) g (first_at field_place place gs) _ (first_slot place gs)
 
-slot_width : (f : Fix) (o : Option Field) → has_slot_width f (option_map slot_of o) ≡ has_width o f
+slot_width : (f : RelocatedField) (o : Option Field) → has_slot_width f (option_map slot_of o) ≡ has_width o f
 slot_width f None = refl
 slot_width f (Some g) = refl
 
-slot_lies : (fields : List Field) (f : Fix) → is_slot (map slot_of fields) f ≡ lies_on fields f
+slot_lies : (fields : List Field) (f : RelocatedField) → is_slot (map slot_of fields) f ≡ lies_on fields f
 slot_lies fields f = ap (has_slot_width f) (first_slot f.place fields) ∙ slot_width f (first_at field_place f.place fields)
 
-pub slots_checked : (fields : List Field) (fixes : List Fix) → slot_check (map slot_of fields) fixes ≡ place_check fields fixes
+pub slots_checked : (fields : List Field) (fixes : List RelocatedField) → slot_check (map slot_of fields) fixes ≡ place_check fields fixes
 unfolding slot_check place_check
 slots_checked fields [] = refl
 slots_checked fields (f ∷ fs) =
@@ -40,7 +40,7 @@ slots_checked fields (f ∷ fs) =
     ∙ ap (λ (r : Result (Unit {0}) RelocFault). cond (lies_on fields f) r (Err (faults.Place f.index))) (slots_checked fields fs)
 
 -- ---- what it comes to
-abbrev in_order : List Slot → List ℕ → List Fix → Result Applied RelocFault
+abbrev in_order : List Slot → List ℕ → List RelocatedField → Result Applied RelocFault
 in_order slots section fixes = overlap_check 0 fixes >>= λ _. slot_check slots fixes >>= λ _. Ok (applied_of fixes section slots)
 
 abbrev from_state : List Slot → List ℕ → Result State RelocFault → Result Applied RelocFault
@@ -50,23 +50,23 @@ to_is : (p : Placing) (section : ℕ) (slots : List Slot) → applied_to p secti
 unfolding applied_to
 to_is p section slots = refl
 
-read_is : (slots : List Slot) (section : List ℕ) (given : Result State RelocFault) (fixes : List Fix) → Reads given fixes → from_state slots section given ≡ (slot_check slots fixes >>= λ _. Ok (applied_of fixes section slots))
+read_is : (slots : List Slot) (section : List ℕ) (given : Result State RelocFault) (fixes : List RelocatedField) → Reads given fixes → from_state slots section given ≡ (slot_check slots fixes >>= λ _. Ok (applied_of fixes section slots))
 read_is slots section given fixes r =
     ap (from_state slots section) r.read
     ∙ ap (in_order slots section) (is_by_place r.state.fixes fixes r.order)
     ∙ ap (λ (c : Result (Unit {0}) RelocFault). c >>= λ _. slot_check slots fixes >>= λ _. Ok (applied_of fixes section slots)) r.apart
 
-checked_is : (slots : List Slot) (section : List ℕ) (fixes : List Fix) (check : Result (Unit {0}) RelocFault) → slot_check slots fixes ≡ check → (slot_check slots fixes >>= λ _. Ok (applied_of fixes section slots)) ≡ (check >>= λ _. Ok (applied_of fixes section slots))
+checked_is : (slots : List Slot) (section : List ℕ) (fixes : List RelocatedField) (check : Result (Unit {0}) RelocFault) → slot_check slots fixes ≡ check → (slot_check slots fixes >>= λ _. Ok (applied_of fixes section slots)) ≡ (check >>= λ _. Ok (applied_of fixes section slots))
 checked_is slots section fixes check e = ap (λ (c : Result (Unit {0}) RelocFault). c >>= λ _. Ok (applied_of fixes section slots)) e
 
-pub applied : (p : Placing) (section : ℕ) (fixes : List Fix) (fields : List Field) → Reads (section_state p section) fixes → place_check fields fixes ≡ Ok tt
+pub applied : (p : Placing) (section : ℕ) (fixes : List RelocatedField) (fields : List Field) → Reads (section_state p section) fixes → place_check fields fixes ≡ Ok tt
     → applied_to p section (map slot_of fields) ≡ Ok (applied_of fixes (section_bytes p.file section) (map slot_of fields))
 applied p section fixes fields reads checked =
     to_is p section (map slot_of fields)
     ∙ read_is (map slot_of fields) (section_bytes p.file section) (section_state p section) fixes reads
     ∙ checked_is (map slot_of fields) (section_bytes p.file section) fixes (Ok tt) (slots_checked fields fixes ∙ checked)
 
-pub misplaced : (p : Placing) (section : ℕ) (fixes : List Fix) (fields : List Field) (e : RelocFault) → Reads (section_state p section) fixes → place_check fields fixes ≡ Err e → applied_to p section (map slot_of fields) ≡ Err e
+pub misplaced : (p : Placing) (section : ℕ) (fixes : List RelocatedField) (fields : List Field) (e : RelocFault) → Reads (section_state p section) fixes → place_check fields fixes ≡ Err e → applied_to p section (map slot_of fields) ≡ Err e
 misplaced p section fixes fields e reads checked =
     to_is p section (map slot_of fields)
     ∙ read_is (map slot_of fields) (section_bytes p.file section) (section_state p section) fixes reads

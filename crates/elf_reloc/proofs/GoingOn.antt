@@ -1,15 +1,15 @@
 -- Reading relocations one after the other gives what the list of all of them gives.
-use Rattle.std.proofs.Common.{◌≡◌, ℕ, suc, ◌+◌, ◌-◌, ◌<◌, ◌≤◌, ◌^◌, Bool, true, false, List, [], ◌∷◌, ◌++◌, length, drop, get_or, Option, Some, None, Result, Ok, Err, refl, sym, ap, ◌∙◌, subst, arith, append_assoc, drop-cons, if◌then◌else◌}
-use Rattle.std.proofs.lemmas.List.{append-nil, drop_all}
+use Rattle.std.proofs.Common.{◌≡◌, ℕ, zero, suc, ◌+◌, ◌-◌, ◌<◌, ◌≤◌, Bool, true, false, List, [], ◌∷◌, ◌++◌, length, drop, get_or, Option, Some, None, Result, Ok, Err, refl, sym, ap, ◌∙◌, subst, arith, append_assoc, drop-cons, if◌then◌else◌}
+use Rattle.std.proofs.lemmas.List.{append-nil, drop_all, length-append}
 use Rattle.elf_read.specs.Sections.{entry_count}
 use Rattle.elf_place.specs.Relocations.{numbers_of, relocation_sections}
 use Rattle.elf_place.specs.Views.{Placing}
 use Rattle.elf_place.specs.declared.relocations.RelocationSection.{RelocationSection}
 use Rattle.elf_reloc.specs.declared.fault.RelocFault.{RelocFault}
 use Rattle.elf_reloc.specs.declared.fault.RelocFault.TheVariants.{UnknownType, Range, Place, Twice, RelSection, OutOfSection, NoMemory}
-use Rattle.elf_reloc.specs.declared.fix.Fix.{Fix}
+use Rattle.elf_reloc.specs.declared.fix.RelocatedField.{RelocatedField}
 use Rattle.elf_reloc.specs.declared.reading.FixesSoFar.{FixesSoFar}
-use Rattle.elf_reloc.specs.Reading.{◌>>=◌, Relocation, entries_from, relocations_in, rel_check, has_addends, number_at, with_fix, fixes_from, object_fixes, entry_fix, going_on, Fails, GoesOn, Holds}
+use Rattle.elf_reloc.specs.Reading.{◌>>=◌, Relocation, entries_from, relocations_in, rel_check, has_addends, with_fix, fixes_from, object_fixes, entry_fix, going_on, Fails, GoesOn, Holds}
 
 -- a fault that is known is how it fails
 pub fails : {X : Type 0} → (e : RelocFault) (given : Result X RelocFault) → given ≡ Err e → Fails e given
@@ -63,74 +63,58 @@ unfolding fixes_from
 fixes_from-none p section place = refl
 
 pub fixes_from-first : (p : Placing) (section place : ℕ) (r : Relocation) (left : List Relocation) → fixes_from p section place (r ∷ left)
-    ≡ (entry_fix p section (number_at place) r.table r.entry >>= λ f. fixes_from p section (place + 1) left >>= λ fixes. Ok (with_fix f fixes))
+    ≡ (entry_fix p section place r.table r.entry >>= λ f. fixes_from p section (place + 1) left >>= λ fixes. Ok (with_fix f fixes))
 unfolding fixes_from
 fixes_from-first p section place r left = refl
 
--- the number by which a place is known says all that counts of it
-pub fixes_from-number : (p : Placing) (section place other : ℕ) (left : List Relocation) → number_at place ≡ number_at other → fixes_from p section place left ≡ fixes_from p section other left
-fixes_from-number p section place other [] same = fixes_from-none p section place ∙ sym (fixes_from-none p section other)
-fixes_from-number p section place other (r ∷ left) same =
-    let next : number_at (place + 1) ≡ number_at (other + 1) = omega (arith, same) in
-    fixes_from-first p section place r left
-    ∙ ap (λ (n : ℕ). entry_fix p section n r.table r.entry >>= λ f. fixes_from p section (place + 1) left >>= λ fixes. Ok (with_fix f fixes)) same
-    ∙ ap (λ (rest : Result (List Fix) RelocFault). entry_fix p section (number_at other) r.table r.entry >>= λ f. rest >>= λ fixes. Ok (with_fix f fixes)) (fixes_from-number p section (place + 1) (other + 1) left next)
-    ∙ sym (fixes_from-first p section other r left)
-
-abbrev pub after_one : List Fix → Option Fix → List Fix
+abbrev pub after_one : List RelocatedField → Option RelocatedField → List RelocatedField
 after_one fixes None = fixes
 after_one fixes (Some f) = fixes ++ f ∷ []
 
 -- one that was read goes to the end of those so far
-joined : (fixes : List Fix) (f : Option Fix) (rest : Result (List Fix) RelocFault)
+joined : (fixes : List RelocatedField) (f : Option RelocatedField) (rest : Result (List RelocatedField) RelocFault)
     → ((rest >>= λ others. Ok (with_fix f others)) >>= λ others. Ok (fixes ++ others)) ≡ (rest >>= λ others. Ok (after_one fixes f ++ others))
 joined fixes f (Err e) = refl
 joined fixes None (Ok others) = refl
-joined fixes (Some f) (Ok others) = ap (λ (fs : List Fix). Ok fs) (sym (append_assoc fixes (f ∷ []) others))
+joined fixes (Some f) (Ok others) = ap (λ (fs : List RelocatedField). Ok fs) (sym (append_assoc fixes (f ∷ []) others))
 
 -- a relocation that is read: the next has the next number
-pub goes_on : (p : Placing) (section next table entry : ℕ) (fixes : List Fix) (f : Option Fix) (left : List Relocation) → next < 2 ^ 32 → entry_fix p section next table entry ≡ Ok f
-    → (fixes_from p section next (record { table = table; entry = entry } ∷ left) >>= λ others. Ok (fixes ++ others)) ≡ (fixes_from p section (number_at (next + 1)) left >>= λ others. Ok (after_one fixes f ++ others))
-goes_on p section next table entry fixes f left small read =
-    let number : number_at next ≡ next = omega (arith, small) in
-    let here : entry_fix p section (number_at next) table entry ≡ Ok f = ap (λ (n : ℕ). entry_fix p section n table entry) number ∙ read in
-    let after : number_at (next + 1) ≡ number_at (number_at (next + 1)) = omega arith in
-    ap (λ (r : Result (List Fix) RelocFault). r >>= λ others. Ok (fixes ++ others))
+pub goes_on : (p : Placing) (section next table entry : ℕ) (fixes : List RelocatedField) (f : Option RelocatedField) (left : List Relocation) → entry_fix p section next table entry ≡ Ok f
+    → (fixes_from p section next (record { table = table; entry = entry } ∷ left) >>= λ others. Ok (fixes ++ others)) ≡ (fixes_from p section (next + 1) left >>= λ others. Ok (after_one fixes f ++ others))
+goes_on p section next table entry fixes f left read =
+    ap (λ (r : Result (List RelocatedField) RelocFault). r >>= λ others. Ok (fixes ++ others))
     (
     fixes_from-first p section next (record { table = table; entry = entry }) left
-    ∙ ap (λ (r : Result (Option Fix) RelocFault). r >>= λ o. fixes_from p section (next + 1) left >>= λ others. Ok (with_fix o others)) here
+    ∙ ap (λ (r : Result (Option RelocatedField) RelocFault). r >>= λ o. fixes_from p section (next + 1) left >>= λ others. Ok (with_fix o others)) read
     )
     ∙ joined fixes f (fixes_from p section (next + 1) left)
-    ∙ ap (λ (r : Result (List Fix) RelocFault). r >>= λ others. Ok (after_one fixes f ++ others)) (fixes_from-number p section (next + 1) (number_at (next + 1)) left after)
 
 -- one that is refused
-pub stops : (p : Placing) (section next table entry : ℕ) (fixes : List Fix) (e : RelocFault) (left : List Relocation) → next < 2 ^ 32 → entry_fix p section next table entry ≡ Err e
+pub stops : (p : Placing) (section next table entry : ℕ) (fixes : List RelocatedField) (e : RelocFault) (left : List Relocation) → entry_fix p section next table entry ≡ Err e
     → Fails e (fixes_from p section next (record { table = table; entry = entry } ∷ left) >>= λ others. Ok (fixes ++ others))
-stops p section next table entry fixes e left small refused =
-    let number : number_at next ≡ next = omega (arith, small) in
-    let here : entry_fix p section (number_at next) table entry ≡ Err e = ap (λ (n : ℕ). entry_fix p section n table entry) number ∙ refused in
+stops p section next table entry fixes e left refused =
     fails e _ (
-    ap (λ (r : Result (List Fix) RelocFault). r >>= λ others. Ok (fixes ++ others))
+    ap (λ (r : Result (List RelocatedField) RelocFault). r >>= λ others. Ok (fixes ++ others))
     (
     fixes_from-first p section next (record { table = table; entry = entry }) left
-    ∙ ap (λ (r : Result (Option Fix) RelocFault). r >>= λ o. fixes_from p section (next + 1) left >>= λ others. Ok (with_fix o others)) here
+    ∙ ap (λ (r : Result (Option RelocatedField) RelocFault). r >>= λ o. fixes_from p section (next + 1) left >>= λ others. Ok (with_fix o others)) refused
     )
     )
 
 -- nothing is left
-pub ends : (p : Placing) (section next : ℕ) (fixes : List Fix) → (fixes_from p section next [] >>= λ others. Ok (fixes ++ others)) ≡ Ok fixes
+pub ends : (p : Placing) (section next : ℕ) (fixes : List RelocatedField) → (fixes_from p section next [] >>= λ others. Ok (fixes ++ others)) ≡ Ok fixes
 ends p section next fixes =
-    ap (λ (r : Result (List Fix) RelocFault). r >>= λ others. Ok (fixes ++ others)) (fixes_from-none p section next)
-    ∙ ap (λ (fs : List Fix). Ok fs) (append-nil fixes)
+    ap (λ (r : Result (List RelocatedField) RelocFault). r >>= λ others. Ok (fixes ++ others)) (fixes_from-none p section next)
+    ∙ ap (λ (fs : List RelocatedField). Ok fs) (append-nil fixes)
 
 -- the same by what it leaves
-pub goes_on_to : (p : Placing) (section next table entry : ℕ) (fixes : List Fix) (f : Option Fix) (left : List Relocation) (after : ℕ) (all : List Fix) → next < 2 ^ 32 → entry_fix p section next table entry ≡ Ok f
-    → after ≡ number_at (next + 1) → all ≡ after_one fixes f
+pub goes_on_to : (p : Placing) (section next table entry : ℕ) (fixes : List RelocatedField) (f : Option RelocatedField) (left : List Relocation) (after : ℕ) (all : List RelocatedField) → entry_fix p section next table entry ≡ Ok f
+    → after ≡ next + 1 → all ≡ after_one fixes f
     → (fixes_from p section next (record { table = table; entry = entry } ∷ left) >>= λ others. Ok (fixes ++ others)) ≡ (fixes_from p section after left >>= λ others. Ok (all ++ others))
-goes_on_to p section next table entry fixes f left after all small read number items =
-    goes_on p section next table entry fixes f left small read
+goes_on_to p section next table entry fixes f left after all read number items =
+    goes_on p section next table entry fixes f left read
     ∙ ap (λ (n : ℕ). fixes_from p section n left >>= λ others. Ok (after_one fixes f ++ others)) (sym number)
-    ∙ ap (λ (fs : List Fix). fixes_from p section after left >>= λ others. Ok (fs ++ others)) (sym items)
+    ∙ ap (λ (fs : List RelocatedField). fixes_from p section after left >>= λ others. Ok (fs ++ others)) (sym items)
 
 -- ---- the sections that are left
 pub left-first : (xs : List RelocationSection) (i : ℕ) (d : RelocationSection) → i < length xs → numbers_of (drop i xs) ≡ (get_or xs i d).number ∷ numbers_of (drop (i + 1) xs)
@@ -166,6 +150,26 @@ sections-first file xs i d count within is =
     ∙ relocations_in-first file (get_or xs i d).number (numbers_of (drop (i + 1) xs))
     ∙ ap (λ (n : ℕ). entries_from (get_or xs i d).number 0 n ++ relocations_in file (numbers_of (drop (i + 1) xs))) (sym is)
 
+entries_from-length : (table first count : ℕ) → length (entries_from table first count) ≡ count
+entries_from-length table first zero = ap (λ (rs : List Relocation). length rs) (entries_from-none table first)
+entries_from-length table first (suc count) =
+    ap (λ (rs : List Relocation). length rs) (entries_from-suc table first count)
+    ∙ ap (λ (n : ℕ). suc n) (entries_from-length table (first + 1) count)
+
+pub relocations_in-length : (file : List ℕ) (i : ℕ) (sections : List ℕ) → length (relocations_in file (i ∷ sections)) ≡ entry_count file i + length (relocations_in file sections)
+relocations_in-length file i sections =
+    ap (λ (rs : List Relocation). length rs) (relocations_in-first file i sections)
+    ∙ length-append (entries_from i 0 (entry_count file i)) (relocations_in file sections)
+    ∙ ap (λ (n : ℕ). n + length (relocations_in file sections)) (entries_from-length i 0 (entry_count file i))
+
+-- the next section's entries and those after it
+pub sections-length : (file : List ℕ) (xs : List RelocationSection) (i : ℕ) (d : RelocationSection) (count : ℕ) → i < length xs → count ≡ entry_count file (get_or xs i d).number
+    → length (relocations_in file (numbers_of (drop i xs))) ≡ count + length (relocations_in file (numbers_of (drop (i + 1) xs)))
+sections-length file xs i d count within is =
+    ap (λ (ns : List ℕ). length (relocations_in file ns)) (left-first xs i d within)
+    ∙ relocations_in-length file (get_or xs i d).number (numbers_of (drop (i + 1) xs))
+    ∙ ap (λ (n : ℕ). n + length (relocations_in file (numbers_of (drop (i + 1) xs)))) (sym is)
+
 pub sections-none : (file : List ℕ) (xs : List RelocationSection) (i : ℕ) → length xs ≤ i → relocations_in file (numbers_of (drop i xs)) ≡ []
 sections-none file xs i end = ap (relocations_in file) (left-none xs i end) ∙ relocations_in-none file
 
@@ -176,7 +180,7 @@ pub entries-none : (table k count : ℕ) (left : List Relocation) → count ≤ 
 entries-none table k count left end = ap (λ (rs : List Relocation). rs ++ left) (entries_from-end table k count end)
 
 -- ---- an object
-same_rest : (r : Result (List Fix) RelocFault) → (r >>= λ others. Ok ([] ++ others)) ≡ r
+same_rest : (r : Result (List RelocatedField) RelocFault) → (r >>= λ others. Ok ([] ++ others)) ≡ r
 same_rest (Ok others) = refl
 same_rest (Err e) = refl
 
@@ -184,7 +188,7 @@ pub object_is : (p : Placing) (section : ℕ) (read : FixesSoFar) (numbers : Lis
     → going_on p section read (relocations_in p.file numbers) ≡ object_fixes p section
 unfolding object_fixes
 object_is p section read numbers none first is checked =
-    ap (λ (fs : List Fix). fixes_from p section read.next (relocations_in p.file numbers) >>= λ others. Ok (fs ++ others)) none
+    ap (λ (fs : List RelocatedField). fixes_from p section read.next (relocations_in p.file numbers) >>= λ others. Ok (fs ++ others)) none
     ∙ same_rest (fixes_from p section read.next (relocations_in p.file numbers))
     ∙ ap (λ (n : ℕ). fixes_from p section n (relocations_in p.file numbers)) first
     ∙ sym (ap (λ (r : Result (Unit {0}) RelocFault). r >>= λ _. fixes_from p section 0 (relocations_in p.file numbers)) checked)
@@ -197,9 +201,9 @@ object_refused p section numbers e is refused = fails e _ (
     ∙ ap (λ (r : Result (Unit {0}) RelocFault). r >>= λ _. fixes_from p section 0 (relocations_in p.file numbers)) (sym refused)
     )
 
-pub object_read : {X : Type 0} (p : Placing) (section : ℕ) (r : Result X RelocFault) (new : FixesSoFar) (all given : Result (List Fix) RelocFault) → all ≡ given → GoesOn p section r new all [] → Holds r new given
+pub object_read : {X : Type 0} (p : Placing) (section : ℕ) (r : Result X RelocFault) (new : FixesSoFar) (all given : Result (List RelocatedField) RelocFault) → all ≡ given → GoesOn p section r new all [] → Holds r new given
 object_read p section (Ok x) new all given is h = sym is ∙ h ∙ ends p section new.next new.fixes.items
-object_read p section (Err e) new all given is h = subst (λ (x : Result (List Fix) RelocFault). Fails e x) is h
+object_read p section (Err e) new all given is h = subst (λ (x : Result (List RelocatedField) RelocFault). Fails e x) is h
 
-pub fails_same : (e : RelocFault) (one other : Result (List Fix) RelocFault) → one ≡ other → Fails e other → Fails e one
-fails_same e one other same h = subst (λ (x : Result (List Fix) RelocFault). Fails e x) (sym same) h
+pub fails_same : (e : RelocFault) (one other : Result (List RelocatedField) RelocFault) → one ≡ other → Fails e other → Fails e one
+fails_same e one other same h = subst (λ (x : Result (List RelocatedField) RelocFault). Fails e x) (sym same) h

@@ -1,4 +1,5 @@
 pub mod GoingOn
+pub mod Few
 pub mod Overlaps
 pub mod First
 pub mod Placing

@@ -6,7 +6,7 @@ use Rattle.byteorder.specs.Endian.{little_from, little_number, little_bytes}
 use Rattle.byteorder.specs.Numbers.{little_number-reads_back, length-bytes_low_first}
 use Rattle.elf_reloc.specs.declared.fault.RelocFault.{RelocFault}
 use Rattle.elf_reloc.specs.declared.fault.RelocFault.TheVariants.{Twice}
-use Rattle.elf_reloc.specs.declared.fix.Fix.{Fix}
+use Rattle.elf_reloc.specs.declared.fix.RelocatedField.{RelocatedField}
 use Rattle.elf_reloc.specs.Fields.{fix_bits}
 use Rattle.elf_reloc.specs.Order.{overlap_check, first_at, place_of}
 use Rattle.elf_reloc.specs.Patched.{overwritten, with_bits, patched, AreInside, IsFree}
@@ -55,17 +55,17 @@ within_bytes p b xs k within inside =
     ∙ get_or_append_left b (drop (p + length b) xs) 0 k inside
 
 -- a place that no field covers
-abbrev Clear : ℕ → List Fix → Type 0
+abbrev Clear : ℕ → List RelocatedField → Type 0
 Clear k [] = Unit {0}
 Clear k (f ∷ fs) = ((k < f.place) ⊎ (f.place + width_of f.range ≤ k)) × Clear k fs
 
-length-with_bits : (f : Fix) (o : Option ℕ) (xs : List ℕ) → f.place + width_of f.range ≤ length xs → length (with_bits f o xs) ≡ length xs
+length-with_bits : (f : RelocatedField) (o : Option ℕ) (xs : List ℕ) → f.place + width_of f.range ≤ length xs → length (with_bits f o xs) ≡ length xs
 length-with_bits f None xs within = refl
 length-with_bits f (Some v) xs within =
     let len : length (little_bytes (width_of f.range) v) ≡ width_of f.range = length-bytes_low_first 0 (width_of f.range) v in
     length-overwritten f.place (little_bytes (width_of f.range) v) xs (omega (arith, len, within))
 
-keeps_one : (f : Fix) (o : Option ℕ) (xs : List ℕ) (k : ℕ) → f.place + width_of f.range ≤ length xs → (k < f.place) ⊎ (f.place + width_of f.range ≤ k) → get_or (with_bits f o xs) k 0 ≡ get_or xs k 0
+keeps_one : (f : RelocatedField) (o : Option ℕ) (xs : List ℕ) (k : ℕ) → f.place + width_of f.range ≤ length xs → (k < f.place) ⊎ (f.place + width_of f.range ≤ k) → get_or (with_bits f o xs) k 0 ≡ get_or xs k 0
 keeps_one f None xs k within clear = refl
 keeps_one f (Some v) xs k within (inl low) =
     let len : length (little_bytes (width_of f.range) v) ≡ width_of f.range = length-bytes_low_first 0 (width_of f.range) v in
@@ -78,21 +78,21 @@ patched-nil : (xs : List ℕ) → patched [] xs ≡ xs
 unfolding patched
 patched-nil xs = refl
 
-patched-cons : (f : Fix) (fs : List Fix) (xs : List ℕ) → patched (f ∷ fs) xs ≡ patched fs (with_bits f (fix_bits f) xs)
+patched-cons : (f : RelocatedField) (fs : List RelocatedField) (xs : List ℕ) → patched (f ∷ fs) xs ≡ patched fs (with_bits f (fix_bits f) xs)
 unfolding patched
 patched-cons f fs xs = refl
 
-inside_still : (f : Fix) (fs : List Fix) (xs : List ℕ) → AreInside (length xs) (f ∷ fs) → AreInside (length (with_bits f (fix_bits f) xs)) fs
+inside_still : (f : RelocatedField) (fs : List RelocatedField) (xs : List ℕ) → AreInside (length xs) (f ∷ fs) → AreInside (length (with_bits f (fix_bits f) xs)) fs
 inside_still f fs xs inside = subst (λ (n : ℕ). AreInside n fs) (sym (length-with_bits f (fix_bits f) xs inside.0)) inside.1
 
-keeps : (fs : List Fix) (xs : List ℕ) (k : ℕ) → AreInside (length xs) fs → Clear k fs → get_or (patched fs xs) k 0 ≡ get_or xs k 0
+keeps : (fs : List RelocatedField) (xs : List ℕ) (k : ℕ) → AreInside (length xs) fs → Clear k fs → get_or (patched fs xs) k 0 ≡ get_or xs k 0
 keeps [] xs k inside clear = ap (λ (ys : List ℕ). get_or ys k 0) (patched-nil xs)
 keeps (f ∷ fs) xs k inside clear =
     ap (λ (ys : List ℕ). get_or ys k 0) (patched-cons f fs xs)
     ∙ keeps fs (with_bits f (fix_bits f) xs) k (inside_still f fs xs inside) clear.1
     ∙ keeps_one f (fix_bits f) xs k inside.0 clear.0
 
-overlap_check-cons : (end : ℕ) (f : Fix) (fs : List Fix) → overlap_check end (f ∷ fs) ≡ (if nat_lt f.place end then Err (Twice f.index) else overlap_check (f.place + width_of f.range) fs)
+overlap_check-cons : (end : ℕ) (f : RelocatedField) (fs : List RelocatedField) → overlap_check end (f ∷ fs) ≡ (if nat_lt f.place end then Err (Twice f.index) else overlap_check (f.place + width_of f.range) fs)
 unfolding overlap_check
 overlap_check-cons end f fs = refl
 
@@ -100,13 +100,13 @@ guarded : (b : Bool) (e : RelocFault) (r : Result (Unit {0}) RelocFault) → (if
 guarded true e r h = absurd (cc h)
 guarded false e r h = (refl, h)
 
-pub apart_here : (end : ℕ) (f : Fix) (fs : List Fix) → overlap_check end (f ∷ fs) ≡ Ok tt → (end ≤ f.place) × (overlap_check (f.place + width_of f.range) fs ≡ Ok tt)
+pub apart_here : (end : ℕ) (f : RelocatedField) (fs : List RelocatedField) → overlap_check end (f ∷ fs) ≡ Ok tt → (end ≤ f.place) × (overlap_check (f.place + width_of f.range) fs ≡ Ok tt)
 apart_here end f fs apart =
     let p = guarded (nat_lt f.place end) (Twice f.index) (overlap_check (f.place + width_of f.range) fs) (sym (overlap_check-cons end f fs) ∙ apart) in
     (ltb-false f.place end p.0, p.1)
 
 -- behind the end of the fields before, a place below is clear of the others
-clear_below : (end k : ℕ) (fs : List Fix) → overlap_check end fs ≡ Ok tt → k < end → Clear k fs
+clear_below : (end k : ℕ) (fs : List RelocatedField) → overlap_check end fs ≡ Ok tt → k < end → Clear k fs
 clear_below end k [] apart low = tt
 clear_below end k (f ∷ fs) apart low =
     let p = apart_here end f fs apart in
@@ -114,7 +114,7 @@ clear_below end k (f ∷ fs) apart low =
     (inl (omega (arith, above, low)), clear_below (f.place + width_of f.range) k fs p.1 (omega (arith, above, low)))
 
 -- the first field holds its bits, whatever the others hold
-first_holds : (f : Fix) (fs : List Fix) (xs : List ℕ) (v : ℕ) → overlap_check (f.place + width_of f.range) fs ≡ Ok tt → AreInside (length xs) (f ∷ fs) → fix_bits f ≡ Some v → v < 256 ^ width_of f.range
+first_holds : (f : RelocatedField) (fs : List RelocatedField) (xs : List ℕ) (v : ℕ) → overlap_check (f.place + width_of f.range) fs ≡ Ok tt → AreInside (length xs) (f ∷ fs) → fix_bits f ≡ Some v → v < 256 ^ width_of f.range
     → little_number (width_of f.range) (drop f.place (patched (f ∷ fs) xs)) ≡ v
 first_holds f fs xs v apart inside known fits =
     let w : ℕ = width_of f.range in
@@ -133,7 +133,7 @@ first_holds f fs xs v apart inside known fits =
     ∙ little_number-reads_back (width_of f.range) v [] fits
 
 -- each field that is written holds its bits
-pub holds : (fs : List Fix) (xs : List ℕ) (end place : ℕ) (f : Fix) (v : ℕ) → overlap_check end fs ≡ Ok tt → AreInside (length xs) fs → first_at place_of place fs ≡ Some f → fix_bits f ≡ Some v → v < 256 ^ width_of f.range
+pub holds : (fs : List RelocatedField) (xs : List ℕ) (end place : ℕ) (f : RelocatedField) (v : ℕ) → overlap_check end fs ≡ Ok tt → AreInside (length xs) fs → first_at place_of place fs ≡ Some f → fix_bits f ≡ Some v → v < 256 ^ width_of f.range
     → little_number (width_of f.range) (drop place (patched fs xs)) ≡ v
 holds [] xs end place f v apart inside found known fits = absurd (cc (sym (nil place_of place) ∙ found))
 holds (g ∷ gs) xs end place f v apart inside found known fits =
@@ -142,9 +142,9 @@ holds (g ∷ gs) xs end place f v apart inside found known fits =
       | inl here ↦
           let is : Some g ≡ Some f = sym (same place_of place g gs here) ∙ found in
           let e : f ≡ g = cc is in
-          let goal : Fix → Type 0 = λ h. little_number (width_of h.range) (drop place (patched (g ∷ gs) xs)) ≡ v in
+          let goal : RelocatedField → Type 0 = λ h. little_number (width_of h.range) (drop place (patched (g ∷ gs) xs)) ≡ v in
           let known' : fix_bits g ≡ Some v = ap fix_bits (sym e) ∙ known in
-          let fits' : v < 256 ^ width_of g.range = subst (λ (h : Fix). v < 256 ^ width_of h.range) e fits in
+          let fits' : v < 256 ^ width_of g.range = subst (λ (h : RelocatedField). v < 256 ^ width_of h.range) e fits in
           subst goal (sym e) (subst (λ (k : ℕ). little_number (width_of g.range) (drop k (patched (g ∷ gs) xs)) ≡ v) here (first_holds g gs xs v p.1 inside known' fits'))
       | inr differ ↦
           let left : first_at place_of place gs ≡ Some f = sym (other place_of place g gs differ) ∙ found in
@@ -152,16 +152,16 @@ holds (g ∷ gs) xs end place f v apart inside found known fits =
           ∙ holds gs (with_bits g (fix_bits g) xs) (g.place + width_of g.range) place f v p.1 (inside_still g gs xs inside) left known fits
     ]
 
-clear_side : (place width k : ℕ) (f : Fix) → (place + width ≤ f.place) ⊎ (f.place + width_of f.range ≤ place) → k < width → (place + k < f.place) ⊎ (f.place + width_of f.range ≤ place + k)
+clear_side : (place width k : ℕ) (f : RelocatedField) → (place + width ≤ f.place) ⊎ (f.place + width_of f.range ≤ place) → k < width → (place + k < f.place) ⊎ (f.place + width_of f.range ≤ place + k)
 clear_side place width k f (inl h) low = inl (omega (arith, h, low))
 clear_side place width k f (inr h) low = inr (omega (arith, h, low))
 
-clear_free : (place width k : ℕ) (fs : List Fix) → IsFree place width fs → k < width → Clear (place + k) fs
+clear_free : (place width k : ℕ) (fs : List RelocatedField) → IsFree place width fs → k < width → Clear (place + k) fs
 clear_free place width k [] free low = tt
 clear_free place width k (f ∷ fs) free low = (clear_side place width k f free.0 low, clear_free place width k fs free.1 low)
 
 -- a field that no other covers holds what it held
-pub holds_still : (fs : List Fix) (xs : List ℕ) (place width : ℕ) → AreInside (length xs) fs → IsFree place width fs → little_number width (drop place (patched fs xs)) ≡ little_number width (drop place xs)
+pub holds_still : (fs : List RelocatedField) (xs : List ℕ) (place width : ℕ) → AreInside (length xs) fs → IsFree place width fs → little_number width (drop place (patched fs xs)) ≡ little_number width (drop place xs)
 holds_still fs xs place width inside free =
     same_number width 0 (drop place (patched fs xs)) (drop place xs)
     (λ k low high.

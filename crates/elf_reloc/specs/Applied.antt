@@ -7,7 +7,7 @@ use Rattle.elf_read.specs.Sections.{section_bytes}
 use Rattle.elf_place.specs.Views.{Placing}
 use Rattle.elf_reloc.specs.declared.fault.RelocFault.{RelocFault}
 use Rattle.elf_reloc.specs.declared.fault.RelocFault.TheVariants.{Place}
-use Rattle.elf_reloc.specs.declared.fix.Fix.{Fix}
+use Rattle.elf_reloc.specs.declared.fix.RelocatedField.{RelocatedField}
 use Rattle.elf_reloc.specs.Order.{first_at, overlap_check}
 use Rattle.elf_reloc.specs.Patched.{patched}
 use Rattle.elf_reloc.specs.Reading.{◌>>=◌, section_state}
@@ -15,12 +15,12 @@ use Rattle.elf_reloc.specs.Table.{width_of}
 
 -- ---- the fields that are written, by rising place
 -- a field before those that are at its place or after it
-abbrev pub placed_among : Fix → List Fix → List Fix
+abbrev pub placed_among : RelocatedField → List RelocatedField → List RelocatedField
 placed_among f [] = f ∷ []
 placed_among f (g ∷ gs) = if nat_le f.place g.place then f ∷ g ∷ gs else g ∷ placed_among f gs
 
 -- those at one place stay in their order
-abbrev pub by_place : List Fix → List Fix
+abbrev pub by_place : List RelocatedField → List RelocatedField
 by_place [] = []
 by_place (f ∷ fs) = placed_among f (by_place fs)
 
@@ -36,25 +36,25 @@ slot_of g = record { place = g.place; width = g.width }
 abbrev pub slot_place : Slot → ℕ
 slot_place g = g.place
 
-abbrev pub has_slot_width : Fix → Option Slot → Bool
+abbrev pub has_slot_width : RelocatedField → Option Slot → Bool
 has_slot_width f None = false
 has_slot_width f (Some g) = g.width == width_of f.range
 
 -- what is written is a pointer field, at its place and of its width
-abbrev pub is_slot : List Slot → Fix → Bool
+abbrev pub is_slot : List Slot → RelocatedField → Bool
 is_slot slots f = has_slot_width f (first_at slot_place f.place slots)
 
 -- the first by place that isn't
-unfoldable pub slot_check : List Slot → List Fix → Result (Unit {0}) RelocFault
+unfoldable pub slot_check : List Slot → List RelocatedField → Result (Unit {0}) RelocFault
 slot_check slots [] = Ok tt
 slot_check slots (f ∷ fs) = if is_slot slots f then slot_check slots fs else Err (Place f.index)
 
 -- a relocation at this place has no value yet
-abbrev pub is_unresolved_at : List Fix → (place : ℕ) → Bool
+abbrev pub is_unresolved_at : List RelocatedField → (place : ℕ) → Bool
 is_unresolved_at fixes place = list_any (λ f. (f.place == place) && is_none f.value) fixes
 
 -- a relocation at this place names a section that is dropped
-abbrev pub names_dropped_at : List Fix → (place : ℕ) → Bool
+abbrev pub names_dropped_at : List RelocatedField → (place : ℕ) → Bool
 names_dropped_at fixes place = list_any (λ f. (f.place == place) && f.dropped) fixes
 
 -- ---- the section
@@ -66,7 +66,7 @@ pub record Applied : Type 0 where
   -- those whose symbol is in a dropped section
   pub dropped : List Slot
 
-abbrev pub applied_of : List Fix → (section : List ℕ) → List Slot → Applied
+abbrev pub applied_of : List RelocatedField → (section : List ℕ) → List Slot → Applied
 applied_of fixes section slots = record {
   bytes = patched fixes section;
   unresolved = filter (λ (g : Slot). is_unresolved_at fixes g.place) slots;

@@ -4,7 +4,7 @@ use Rattle.std.specs.Prelude.{◌≡◌, ℕ, ◌+◌, ◌≤◌, ◌⊎◌, tru
 use Rattle.std.specs.List.{All, Contains}
 use Rattle.byteorder.specs.Endian.{little_bytes, little_number}
 use Rattle.sf_bytes.specs.declared.field.Field.{Field}
-use Rattle.elf_reloc.specs.declared.fix.Fix.{Fix}
+use Rattle.elf_reloc.specs.declared.fix.RelocatedField.{RelocatedField}
 use Rattle.elf_reloc.specs.Table.{width_of}
 use Rattle.elf_reloc.specs.Fields.{fix_bits}
 
@@ -13,21 +13,21 @@ unfoldable pub overwritten : ℕ → (bytes section : List ℕ) → List ℕ
 overwritten place bytes section = take place section ++ (bytes ++ drop (place + length bytes) section)
 
 -- the field's bits in its place, where they are known
-abbrev pub with_bits : Fix → Option ℕ → List ℕ → List ℕ
+abbrev pub with_bits : RelocatedField → Option ℕ → List ℕ → List ℕ
 with_bits f None section = section
 with_bits f (Some bits) section = overwritten f.place (little_bytes (width_of f.range) bits) section
 
-unfoldable pub patched : List Fix → List ℕ → List ℕ
+unfoldable pub patched : List RelocatedField → List ℕ → List ℕ
 patched [] section = section
 patched (f ∷ fs) section = patched fs (with_bits f (fix_bits f) section)
 
 -- each field that is written lies in so many bytes
-abbrev pub AreInside : ℕ → List Fix → Type 0
+abbrev pub AreInside : ℕ → List RelocatedField → Type 0
 AreInside len [] = Unit {0}
 AreInside len (f ∷ fs) = (f.place + width_of f.range ≤ len) × AreInside len fs
 
 -- no field that is written covers a byte of this one
-abbrev pub IsFree : (place width : ℕ) → List Fix → Type 0
+abbrev pub IsFree : (place width : ℕ) → List RelocatedField → Type 0
 IsFree place width [] = Unit {0}
 IsFree place width (f ∷ fs) = ((place + width ≤ f.place) ⊎ (f.place + width_of f.range ≤ place)) × IsFree place width fs
 
@@ -36,20 +36,20 @@ abbrev pub AreRaw : List ℕ → List Field → Type 0
 AreRaw section fields = All (λ g. g.raw ≡ little_number g.width (drop g.place section)) fields
 
 -- a relocation lies on a pointer field, and its value is not known
-pub record IsUnresolved (fixes : List Fix) (g : Field) : Type 0 where
-  pub fix : Fix
+pub record IsUnresolved (fixes : List RelocatedField) (g : Field) : Type 0 where
+  pub fix : RelocatedField
   pub among : Contains fixes fix
   pub at : fix.place ≡ g.place
   pub unknown : fix.value ≡ None
 
 -- a relocation lies on a pointer field, and its symbol lies in a section that is dropped
-pub record IsDropped (fixes : List Fix) (g : Field) : Type 0 where
-  pub fix : Fix
+pub record IsDropped (fixes : List RelocatedField) (g : Field) : Type 0 where
+  pub fix : RelocatedField
   pub among : Contains fixes fix
   pub at : fix.place ≡ g.place
   pub gone : fix.dropped ≡ true
 
 -- what a pointer field holds: the number in the patched section, or nothing exactly where it is unresolved
-abbrev pub Holds : List Fix → List ℕ → Field → Option ℕ → Type 0
+abbrev pub Holds : List RelocatedField → List ℕ → Field → Option ℕ → Type 0
 Holds fixes section g None = IsUnresolved fixes g
 Holds fixes section g (Some bits) = (IsUnresolved fixes g → ⊥) × (little_number g.width (drop g.place (patched fixes section)) ≡ bits)

@@ -1,6 +1,6 @@
 -- The relocations of a section with call frame information, in order of section and entry (ELF64 gABI,
 -- "Relocation"), and the first fault.
-use Rattle.std.specs.Prelude.{◌≡◌, ℕ, zero, suc, ◌+◌, ◌%◌, ◌^◌, ◌==◌, Bool, true, false, List, [], ◌∷◌, ◌++◌, length, min, Option, Some, None, Result, Ok, Err, nat_lt, if◌then◌else◌}
+use Rattle.std.specs.Prelude.{◌≡◌, ℕ, zero, suc, ◌+◌, ◌%◌, ◌^◌, ◌==◌, Bool, true, false, List, [], ◌∷◌, ◌++◌, length, Option, Some, None, Result, Ok, Err, nat_lt, if◌then◌else◌}
 use Rattle.std.specs.Option.{unwrap_or}
 use Rattle.std.specs.Int.{w64, cast_unsigned}
 use Rattle.elf_read.specs.Header.{is_rel, arch_of}
@@ -10,7 +10,7 @@ use Rattle.elf_place.specs.Relocations.{relocation_sections}
 use Rattle.elf_place.specs.Views.{Placing, address_at}
 use Rattle.elf_reloc.specs.declared.fault.RelocFault.{RelocFault}
 use Rattle.elf_reloc.specs.declared.fault.RelocFault.TheVariants.{UnknownType, Range, RelSection, OutOfSection, NoMemory}
-use Rattle.elf_reloc.specs.declared.fix.Fix.{Fix}
+use Rattle.elf_reloc.specs.declared.fix.RelocatedField.{RelocatedField}
 use Rattle.elf_reloc.specs.declared.reading.FixesSoFar.{FixesSoFar}
 use Rattle.elf_reloc.specs.declared.table.Effect.{Effect}
 use Rattle.elf_reloc.specs.declared.table.Effect.TheVariants.{Nothing, Absolute, Relative}
@@ -19,33 +19,29 @@ use Rattle.elf_reloc.specs.declared.target.Target.{Target}
 use Rattle.elf_reloc.specs.declared.target.Target.TheVariants.{Address, Unresolved, Dropped}
 use Rattle.elf_reloc.specs.Table.{effect_of, width_of, absolute, relative, fits}
 use Rattle.elf_reloc.specs.Target.{target_of}
-
-infixl 10 ◌>>=◌
-abbrev pub ◌>>=◌ : {A B : Type 0} → Result A RelocFault → (A → Result B RelocFault) → Result B RelocFault
-(Ok x) >>= f = f x
-(Err e) >>= f = Err e
+pub use Rattle.sf_bytes.specs.Steps.{◌>>=◌}
 
 -- a field that is written: its place, the relocation's number, its form, and its value where that is known
-abbrev pub fix : (place index : ℕ) → range → Option ℕ → Bool → Fix
+abbrev pub fix : (place index : ℕ) → range → Option ℕ → Bool → RelocatedField
 fix place index form value dropped = record { place = place; index = index; range = form; value = value; dropped = dropped }
 
 -- a value that must fit its field
-unfoldable pub written : (place index : ℕ) → range → ℕ → Result Fix RelocFault
+unfoldable pub written : (place index : ℕ) → range → ℕ → Result RelocatedField RelocFault
 written place index form value =
     if fits form value then Ok (fix place index form (Some value) false) else Err (Range index)
 
 -- what is written where the symbol's value is known, else what is known of the field
-abbrev pub aimed : (place index : ℕ) → range → (ℕ → ℕ) → Target → Result Fix RelocFault
+abbrev pub aimed : (place index : ℕ) → range → (ℕ → ℕ) → Target → Result RelocatedField RelocFault
 aimed place index form value (Address symbol) = written place index form (value symbol)
 aimed place index form value Unresolved = Ok (fix place index form None false)
 aimed place index form value Dropped = Ok (fix place index form None true)
 
 -- a field that must lie in the section's bytes
-unfoldable pub inside : (len place index : ℕ) → range → Result Fix RelocFault → Result (Option Fix) RelocFault
+unfoldable pub inside : (len place index : ℕ) → range → Result RelocatedField RelocFault → Result (Option RelocatedField) RelocFault
 inside len place index form read = if nat_lt len (place + width_of form) then Err (OutOfSection index) else (read >>= λ f. Ok (Some f))
 
 -- what a relocation does: its type, its place, its addend as 64 bits, the section's length and address, and its symbol
-abbrev pub applied : Option Effect → (len address place index addend : ℕ) → Target → Result (Option Fix) RelocFault
+abbrev pub applied : Option Effect → (len address place index addend : ℕ) → Target → Result (Option RelocatedField) RelocFault
 applied None len address place index addend target = Err (UnknownType index)
 applied (Some Nothing) len address place index addend target = Ok None
 applied (Some (Absolute form)) len address place index addend target =
@@ -58,7 +54,7 @@ unfoldable pub section_address : Placing → ℕ → ℕ
 section_address p section = unwrap_or (address_at p section) 0
 
 -- what entry k of relocation section i does, which has this number among all
-unfoldable pub entry_fix : Placing → (section index i k : ℕ) → Result (Option Fix) RelocFault
+unfoldable pub entry_fix : Placing → (section index i k : ℕ) → Result (Option RelocatedField) RelocFault
 entry_fix p section index i k =
     applied (effect_of (arch_of p.file) (rela_type p.file i k)) (length (section_bytes p.file section)) (section_address p section)
     (rela_offset p.file i k) index (cast_unsigned w64 (rela_addend p.file i k))
@@ -90,34 +86,29 @@ relocations_in file [] = []
 relocations_in file (i ∷ sections) = entries_from i 0 (entry_count file i) ++ relocations_in file sections
 
 -- ---- what they write
--- the number of the relocation at a place of the list is that place; a fault carries 32 bits, and the last number that it can
--- carry stands for all places from there on
-abbrev pub number_at : (place : ℕ) → ℕ
-number_at place = min place 4294967295
-
-abbrev pub with_fix : Option Fix → List Fix → List Fix
+abbrev pub with_fix : Option RelocatedField → List RelocatedField → List RelocatedField
 with_fix None fixes = fixes
 with_fix (Some f) fixes = f ∷ fixes
 
--- the fields that relocations write, of which the first is at this place of the list; or the first fault
-unfoldable pub fixes_from : Placing → (section place : ℕ) → List Relocation → Result (List Fix) RelocFault
-fixes_from p section place [] = Ok []
-fixes_from p section place (r ∷ relocations) =
-    entry_fix p section (number_at place) r.table r.entry
-    >>= λ f. fixes_from p section (place + 1) relocations
+-- the fields that relocations write, of which the first has this number, its place in the list of all; or the first fault
+unfoldable pub fixes_from : Placing → (section number : ℕ) → List Relocation → Result (List RelocatedField) RelocFault
+fixes_from p section number [] = Ok []
+fixes_from p section number (r ∷ relocations) =
+    entry_fix p section number r.table r.entry
+    >>= λ f. fixes_from p section (number + 1) relocations
     >>= λ fixes. Ok (with_fix f fixes)
 
 -- those of an object's section; the section may have none without addends
-unfoldable pub object_fixes : Placing → ℕ → Result (List Fix) RelocFault
+unfoldable pub object_fixes : Placing → ℕ → Result (List RelocatedField) RelocFault
 object_fixes p section =
     rel_check p.file (relocation_sections p.file section)
     >>= λ _. fixes_from p section 0 (relocations_in p.file (relocation_sections p.file section))
 
 -- what a section's relocations write, in their order
 pub record State : Type 0 where
-  pub fixes : List Fix
+  pub fixes : List RelocatedField
 
-abbrev pub all_fixes : List Fix → Result State RelocFault
+abbrev pub all_fixes : List RelocatedField → Result State RelocFault
 all_fixes fixes = Ok (record { fixes = fixes })
 
 -- only an object's relocations are applied
@@ -134,16 +125,16 @@ abbrev pub state_of : FixesSoFar → State
 state_of r = record { fixes = r.fixes.items }
 
 -- all fields, where these relocations are left: those so far, and what these write
-abbrev pub going_on : Placing → (section : ℕ) → FixesSoFar → List Relocation → Result (List Fix) RelocFault
+abbrev pub going_on : Placing → (section : ℕ) → FixesSoFar → List Relocation → Result (List RelocatedField) RelocFault
 going_on p section read left = fixes_from p section read.next left >>= λ fixes. Ok (read.fixes.items ++ fixes)
 
 -- a call read on: all fields are those so far and what is left then
-abbrev pub GoesOn : {X : Type 0} → Placing → (section : ℕ) → Result X RelocFault → FixesSoFar → Result (List Fix) RelocFault → (left : List Relocation) → Type 0
+abbrev pub GoesOn : {X : Type 0} → Placing → (section : ℕ) → Result X RelocFault → FixesSoFar → Result (List RelocatedField) RelocFault → (left : List Relocation) → Type 0
 GoesOn p section (Ok x) new all left = all ≡ going_on p section new left
 GoesOn p section (Err e) new all left = Fails e all
 
 -- a call read all fields
-abbrev pub Holds : {X : Type 0} → Result X RelocFault → FixesSoFar → Result (List Fix) RelocFault → Type 0
+abbrev pub Holds : {X : Type 0} → Result X RelocFault → FixesSoFar → Result (List RelocatedField) RelocFault → Type 0
 Holds (Ok x) new all = all ≡ Ok new.fixes.items
 Holds (Err e) new all = Fails e all
 

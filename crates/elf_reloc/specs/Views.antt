@@ -2,17 +2,17 @@
 use Rattle.std.specs.Prelude.{◌≡◌, List, ◌⊎◌, Result, Ok, Err}
 use Rattle.elf_reloc.specs.declared.fault.RelocFault.{RelocFault}
 use Rattle.elf_reloc.specs.declared.fault.RelocFault.TheVariants.{NoMemory}
-use Rattle.elf_reloc.specs.declared.fix.Fix.{Fix}
+use Rattle.elf_reloc.specs.declared.fix.RelocatedField.{RelocatedField}
 use Rattle.elf_reloc.specs.declared.relocs.Relocs.{Relocs}
 use Rattle.elf_reloc.specs.Order.{InOrder, overlap_check}
 use Rattle.elf_reloc.specs.Reading.{State}
 
 -- the fields that are written, by rising place
-abbrev pub fixes_in : Relocs → List Fix
+abbrev pub fixes_in : Relocs → List RelocatedField
 fixes_in r = r.fixes.items
 
 -- a section's relocations were read, and no two of their fields overlap
-pub record Reads (given : Result State RelocFault) (sorted : List Fix) : Type 0 where
+pub record Reads (given : Result State RelocFault) (sorted : List RelocatedField) : Type 0 where
   pub state : State
   pub read : given ≡ Ok state
   pub order : InOrder state.fixes sorted
@@ -21,7 +21,7 @@ pub record Reads (given : Result State RelocFault) (sorted : List Fix) : Type 0 
 -- they were read, and the later of the first two fields that overlap, by their places, is refused
 pub record Overlaps (given : Result State RelocFault) (e : RelocFault) : Type 0 where
   pub state : State
-  pub sorted : List Fix
+  pub sorted : List RelocatedField
   pub read : given ≡ Ok state
   pub order : InOrder state.fixes sorted
   pub refused : overlap_check 0 sorted ≡ Err e

@@ -7,7 +7,7 @@ ghost use Rattle.elf_reloc.specs.Reading as spec;
 ghost use Rattle.elf_reloc.specs.Table as table;
 
 use crate::fault::RelocFault;
-use crate::fix::Fix;
+use crate::fix::RelocatedField;
 use crate::table::{Effect, Range, absolute, effect_of, fits, relative, width_of};
 use crate::target::{Target, target_of};
 use elf_place::Placed;
@@ -20,10 +20,10 @@ struct RelocationSite {
 }
 
 // A field whose bits are not known.
-fn unknown(site: RelocationSite, range: Range, dropped: bool) -> Fix
+fn unknown(site: RelocationSite, range: Range, dropped: bool) -> RelocatedField
     ensures { result ≡ spec.fix site.place site.index range None dropped }
 {
-    Fix {
+    RelocatedField {
         place: site.place,
         index: site.index,
         range,
@@ -34,13 +34,13 @@ fn unknown(site: RelocationSite, range: Range, dropped: bool) -> Fix
 
 // A value that must fit its field.
 #[tactic(auto, unfolding(crate::specs::Reading::written))]
-fn written(site: RelocationSite, range: Range, value: u64) -> Result<Fix, RelocFault>
+fn written(site: RelocationSite, range: Range, value: u64) -> Result<RelocatedField, RelocFault>
     ensures { result ≡ spec.written site.place site.index range value }
 {
     if !fits(range, value) {
         return Err(RelocFault::Range(site.index));
     }
-    Ok(Fix {
+    Ok(RelocatedField {
         place: site.place,
         index: site.index,
         range,
@@ -55,7 +55,7 @@ fn write_absolute(
     range: Range,
     addend: u64,
     target: Target,
-) -> Result<Fix, RelocFault>
+) -> Result<RelocatedField, RelocFault>
     ensures { result ≡ spec.aimed site.place site.index range (λ s. table.absolute s addend) target }
 {
     match target {
@@ -72,7 +72,7 @@ fn write_relative(
     addend: u64,
     address: u64,
     target: Target,
-) -> Result<Fix, RelocFault>
+) -> Result<RelocatedField, RelocFault>
     ensures { result ≡ spec.aimed site.place site.index range (λ s. table.relative s addend address) target }
 {
     match target {
@@ -88,8 +88,8 @@ fn inside(
     len: u64,
     site: RelocationSite,
     range: Range,
-    read: Result<Fix, RelocFault>,
-) -> Result<Option<Fix>, RelocFault>
+    read: Result<RelocatedField, RelocFault>,
+) -> Result<Option<RelocatedField>, RelocFault>
     ensures { result ≡ spec.inside len site.place site.index range read }
 {
     if u128::from(len) < u128::from(site.place) + u128::from(width_of(range)) {
@@ -115,7 +115,7 @@ pub fn entry_fix(
     index: u32,
     i: u32,
     k: u32,
-) -> Result<Option<Fix>, RelocFault>
+) -> Result<Option<RelocatedField>, RelocFault>
     ensures { result ≡ spec.entry_fix (placing placed.now) section index i k }
 {
     let elf = placed.elf();

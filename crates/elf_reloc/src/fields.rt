@@ -7,12 +7,12 @@ ghost use Rattle.elf_reloc.specs.Order.{first_at, lies_on, place_check};
 ghost use Rattle.elf_reloc.specs.Table as table;
 
 use crate::fault::RelocFault;
-use crate::fix::Fix;
+use crate::fix::RelocatedField;
 use crate::table::{low_bits, width_of};
 use sf_bytes::Field;
 
 /// The low bits of a value that is written, where it is known.
-pub fn fix_bits(fix: Fix) -> Option<u64>
+pub fn fix_bits(fix: RelocatedField) -> Option<u64>
     ensures value { result ≡ spec.fix_bits fix }
     ensures fits { IfSome result (λ bits. bits < 256 ^ table.width_of fix.range) }
 {
@@ -35,7 +35,7 @@ fn field_at(fields: &[Field], place: u64) -> Option<Field>
 }
 
 // Whether a field that is written lies on one of these.
-fn lies(fields: &[Field], fix: Fix) -> bool
+fn lies(fields: &[Field], fix: RelocatedField) -> bool
     requires { AreRising fields.now }
     ensures { result ≡ lies_on fields.now fix }
 {
@@ -46,7 +46,7 @@ fn lies(fields: &[Field], fix: Fix) -> bool
 }
 
 /// Each field that is written lies on one of these.
-pub fn check_places(fixes: &[Fix], fields: &[Field]) -> Result<(), RelocFault>
+pub fn check_places(fixes: &[RelocatedField], fields: &[Field]) -> Result<(), RelocFault>
     requires { AreRising fields.now }
     ensures { result ≡ place_check fields.now fixes.now }
 {

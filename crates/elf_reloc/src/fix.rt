@@ -4,7 +4,7 @@ use crate::table::Range;
 
 /// A field that a relocation writes.
 #[derive(Clone, Copy, Debug, PartialEq, Eq)]
-pub struct Fix {
+pub struct RelocatedField {
     /// Its place in the section.
     pub place: u64,
     /// The relocation's number.

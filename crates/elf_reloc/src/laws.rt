@@ -6,7 +6,7 @@ ghost use Rattle.byteorder.specs.Endian.{little_number};
 ghost use Rattle.elf_place.specs.Views.{Placing as placing};
 ghost use Rattle.elf_read.specs.Sections.{section_bytes};
 ghost use Rattle.sf_bytes.specs.declared.field.Field.{Field as pointer};
-ghost use Rattle.elf_reloc.specs.declared.fix.Fix.{Fix as written};
+ghost use Rattle.elf_reloc.specs.declared.fix.RelocatedField.{RelocatedField as written};
 ghost use Rattle.elf_reloc.specs.Fields.{fix_bits, bits_in, is_dropped_in};
 ghost use Rattle.sf_bytes.specs.Rising.{AreApart};
 ghost use Rattle.elf_reloc.specs.Order.{first_at, place_of, place_check};

@@ -7,7 +7,7 @@
 //!
 //! The table of types stands in `specs/Table.antt`, what a symbol stands for in `specs/Target.antt`, the
 //! relocations in order and their first fault in `specs/Reading.antt`, their order by place in
-//! `specs/Order.antt`, and what fields hold in `specs/Fields.antt`. Only `Relocs::new` takes memory. Time
+//! `specs/Order.antt`, and what fields hold in `specs/Fields.antt`. Only `Relocs::new` allocates. Time
 //! grows with the logarithm of the number of the file's sections, and with the relocations times the logarithm
 //! of their number.
 #![tactic(auto)]

@@ -6,11 +6,11 @@ ghost use Rattle.elf_reloc.specs.Order.{InOrder, overlap_check, first_at, place_
 ghost use Rattle.elf_reloc.specs.declared.fault.RelocFault.TheVariants.{NoMemory};
 
 use crate::fault::RelocFault;
-use crate::fix::Fix;
+use crate::fix::RelocatedField;
 use crate::table::width_of;
 
 /// Brings fields into the order of their places. Those at one place stay in order.
-pub fn bring_into_order(fixes: &mut Vec<Fix>) -> Result<(), RelocFault>
+pub fn bring_into_order(fixes: &mut Vec<RelocatedField>) -> Result<(), RelocFault>
     ensures order { OnOk result (InOrder fixes.old.items fixes.new.items) }
     ensures refused { IfErr result (λ e. e ≡ NoMemory) }
 {
@@ -19,7 +19,7 @@ pub fn bring_into_order(fixes: &mut Vec<Fix>) -> Result<(), RelocFault>
 }
 
 /// No field begins before the end of the one before it.
-pub fn check_overlap(fixes: &[Fix]) -> Result<(), RelocFault>
+pub fn check_overlap(fixes: &[RelocatedField]) -> Result<(), RelocFault>
     ensures { result ≡ overlap_check 0 fixes.now }
 {
     let mut end: u128 = 0;
@@ -33,7 +33,7 @@ pub fn check_overlap(fixes: &[Fix]) -> Result<(), RelocFault>
 }
 
 /// The field at a place.
-pub fn fix_at(fixes: &[Fix], place: u64) -> Option<Fix>
+pub fn fix_at(fixes: &[RelocatedField], place: u64) -> Option<RelocatedField>
     requires { IsNonDecreasingBy place_of fixes.now }
     ensures { result ≡ first_at place_of place fixes.now }
 {

@@ -1,6 +1,6 @@
 //! The relocations of a section, in order of section and entry.
 
-ghost use Rattle.std.specs.Prelude.{◌≡◌, ◌<◌, ◌++◌, ◌∷◌, [], List};
+ghost use Rattle.std.specs.Prelude.{◌≡◌, ◌<◌, ◌+◌, ◌^◌, ◌++◌, ◌∷◌, [], List, IsTrue, OnOk, length};
 ghost use Rattle.elf_read.specs.Header.{is_rel};
 ghost use Rattle.elf_read.specs.Sections as fields;
 ghost use Rattle.elf_place.specs.Relocations.{numbers_of};
@@ -10,16 +10,16 @@ ghost use Rattle.elf_reloc.specs.Reading.{Relocation, entries_from, going_on, re
 
 use crate::entry::entry_fix;
 use crate::fault::RelocFault;
-use crate::fix::Fix;
+use crate::fix::RelocatedField;
 use elf_place::{Placed, RelocationSection};
-use elf_read::Kind;
 use elf_read::layout::{ENTRY_LEN, SHT_RELA};
+use elf_read::{Kind, room_law};
 use std::alloc::Global;
 
 /// What was read so far: the fields that are written, and the number of the next relocation.
 #[derive(Debug, Drop)]
 pub struct FixesSoFar {
-    pub fixes: Vec<Fix>,
+    pub fixes: Vec<RelocatedField>,
     pub next: u32,
 }
 
@@ -31,13 +31,15 @@ fn read_entry(
     k: u32,
     read: &mut FixesSoFar,
 ) -> Result<(), RelocFault>
-    ensures { (left : List Relocation) → spec.GoesOn (placing placed.now) section result read.new (going_on (placing placed.now) section read.old (record { table = i; entry = k } ∷ left)) left }
+    requires { read.old.next + 1 < 2 ^ 32 }
+    ensures exact { (left : List Relocation) → spec.GoesOn (placing placed.now) section result read.new (going_on (placing placed.now) section read.old (record { table = i; entry = k } ∷ left)) left }
+    ensures next { OnOk result (read.new.next ≡ read.old.next + 1) }
 {
     let number = read.next;
     if let Some(fix) = entry_fix(placed, section, number, i, k)? {
         read.fixes.push(fix)?;
     }
-    read.next = number.saturating_add(1);
+    read.next = number + 1;
     Ok(())
 }
 
@@ -49,7 +51,9 @@ fn read_entries(
     count: u32,
     read: &mut FixesSoFar,
 ) -> Result<(), RelocFault>
-    ensures { (left : List Relocation) → spec.GoesOn (placing placed.now) section result read.new (going_on (placing placed.now) section read.old (entries_from i 0 count ++ left)) left }
+    requires { read.old.next + count < 2 ^ 32 }
+    ensures exact { (left : List Relocation) → spec.GoesOn (placing placed.now) section result read.new (going_on (placing placed.now) section read.old (entries_from i 0 count ++ left)) left }
+    ensures next { OnOk result (read.new.next ≡ read.old.next + count) }
 {
     for k in 0..count {
         read_entry(placed, section, i, k, read)?;
@@ -72,6 +76,7 @@ fn read_sections(
     sections: &[RelocationSection],
     read: &mut FixesSoFar,
 ) -> Result<(), RelocFault>
+    requires { read.old.next + length (relocations_in (file placed.now) (numbers_of sections.now)) < 2 ^ 32 }
     ensures { spec.GoesOn (placing placed.now) section result read.new (going_on (placing placed.now) section read.old (relocations_in (file placed.now) (numbers_of sections.now))) [] }
 {
     for it in sections {
@@ -114,14 +119,16 @@ fn is_object(placed: &Placed<'_>) -> bool
     matches!(placed.elf().kind(), Kind::Rel)
 }
 
-// Reads the relocations of an object's section.
+// Reads the relocations of an object's section. A file has room for fewer than 2^32 of them.
 fn read_object(placed: &Placed<'_>, section: u32, read: &mut FixesSoFar) -> Result<(), RelocFault>
+    requires object { IsTrue (is_rel (file placed.now)) }
     requires none { read.old.fixes.items ≡ [] }
     requires first { read.old.next ≡ 0 }
     ensures { spec.Holds result read.new (spec.object_fixes (placing placed.now) section) }
 {
     let sections = placed.relocation_sections(section);
     check_rels(placed, sections)?;
+    room_law(placed.elf());
     read_sections(placed, section, sections, read)
 }
 

@@ -5,7 +5,7 @@ ghost use Rattle.elf_reloc.specs.Order.{place_of};
 
 use crate::fault::RelocFault;
 use crate::fields::{check_places, fix_bits};
-use crate::fix::Fix;
+use crate::fix::RelocatedField;
 use crate::order::{bring_into_order, check_overlap, fix_at};
 use crate::reading::read_relocations;
 use crate::table::width_of;
@@ -16,7 +16,7 @@ use std::alloc::Global;
 /// What the relocations of a section with call frame information write, by place.
 #[derive(Debug, Drop)]
 pub struct Relocs {
-    fixes: Vec<Fix>,
+    fixes: Vec<RelocatedField>,
     ghost rising: { IsNonDecreasingBy place_of fixes.items },
 }
 

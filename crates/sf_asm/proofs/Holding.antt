@@ -11,7 +11,8 @@ use Rattle.sf_model.specs.declared.omission.Omission.{Omission}
 use Rattle.sf_model.specs.declared.omission.Reason.{Reason}
 use Rattle.sf_model.specs.declared.omission.Reason.TheVariants.{EmptyRange, SizeTooLarge, ReturnColumn, SignalFrame}
 use Rattle.sf_model.specs.declared.omission.Span.{Span}
-use Rattle.sf_express.specs.Expressed.{column_of, reason_of}
+use Rattle.cfa_machine.specs.Registers.{return_address}
+use Rattle.sf_express.specs.Expressed.{reason_of}
 use Rattle.sf_express.specs.Pieces.{AreSaidBy, content_in, piece_of_row}
 use Rattle.sf_express.specs.Runs as runs
 use Rattle.sf_express.specs.Runs.{Saying, against, first_against, omission_of, rows_of, whole_or_row}
@@ -138,7 +139,7 @@ form_by false false true true e = cc
 form_by false false true false e = refl
 
 pub has_form_if : (f : Function) → reason_of f.arch (facts_of f) ≡ None → has_form f ≡ true
-has_form_if f e = form_by (f.size == 0) (nat_le (2 ^ 32) f.size) (f.column == column_of f.arch) f.signal e
+has_form_if f e = form_by (f.size == 0) (nat_le (2 ^ 32) f.size) (f.column == return_address f.arch) f.signal e
 
 size_by : (empty large column signal : Bool) → cond empty (Some EmptyRange) (cond large (Some SizeTooLarge) (cond column (cond signal (Some SignalFrame) None) (Some ReturnColumn))) ≡ None → empty ≡ false
 size_by true large column signal e = cc
@@ -147,7 +148,7 @@ size_by false large column signal e = refl
 -- it has an address
 pub kept_size : (f : Function) → is_kept f ≡ true → 0 < f.size
 kept_size f k =
-    let none = size_by (f.size == 0) (nat_le (2 ^ 32) f.size) (f.column == column_of f.arch) f.signal (fine f k).whole in
+    let none = size_by (f.size == 0) (nat_le (2 ^ 32) f.size) (f.column == return_address f.arch) f.signal (fine f k).whole in
     grind (arith, nat_tests)
 
 -- what it says by its rows as pieces

@@ -1,6 +1,6 @@
 -- What is lent of the functions that were read is what is left out of them.
 use Rattle.std.specs.Prelude.{is_none, not, OnOk}
-use Rattle.std.proofs.Common.{◌≡◌, ℕ, cond, List, [], ◌∷◌, Option, Some, None, Result, Ok, Err, refl, sym, ap, ◌∙◌}
+use Rattle.std.proofs.Common.{◌≡◌, cond, List, [], ◌∷◌, Option, Some, None, Result, Ok, Err, refl, sym, ap, ◌∙◌}
 use Rattle.std.proofs.lemmas.List.Elements.{filter-append}
 use Rattle.sf_model.specs.declared.omission.Omission.{Omission}
 use Rattle.sf_express.specs.Runs.{expressed, function_of, omission_of, unless_omitted}

@@ -1,4 +1,5 @@
 pub mod Kept
+pub mod KeptRows
 pub mod Overlaps
 pub mod ReadFunctions
 pub mod ReadInputs
@@ -9,6 +10,7 @@ pub mod GatheredInputs
 pub mod Relocating
 pub mod Patching
 pub mod Signatures
+pub mod Runs
 pub mod Files
 pub mod Gone
 pub mod Limits
@@ -28,3 +30,4 @@ pub mod Members
 pub mod Holding
 pub mod SaidPieces
 pub mod RowAt
+pub mod NeverMemory

@@ -19,7 +19,7 @@ use Rattle.eh_records.proofs.Rising.{fields_raw}
 use Rattle.elf_place.specs.Views.{Placing}
 use Rattle.elf_reloc.specs.declared.fault.RelocFault.{RelocFault}
 use Rattle.elf_reloc.specs.declared.fault.RelocFault.TheVariants as faults
-use Rattle.elf_reloc.specs.declared.fix.Fix.{Fix}
+use Rattle.elf_reloc.specs.declared.fix.RelocatedField.{RelocatedField}
 use Rattle.elf_reloc.specs.Fields.{bits_in, is_dropped_in}
 use Rattle.elf_reloc.specs.Order.{first_at, has_width, lies_on, place_check}
 use Rattle.elf_reloc.specs.Patched.{patched, AreInside, AreRaw, IsUnresolved, IsDropped, Holds}
@@ -102,29 +102,29 @@ by_answer p xs true some none = sym (some refl)
 by_answer p xs false some none = sym (none_passes p xs (λ x among t. let clash : false ≡ true = none x among t in cc))
 
 -- ---- one field
-abbrev has_no_value : ℕ → Fix → Bool
+abbrev has_no_value : ℕ → RelocatedField → Bool
 has_no_value place f = (f.place == place) && is_none f.value
 
-abbrev is_gone : ℕ → Fix → Bool
+abbrev is_gone : ℕ → RelocatedField → Bool
 is_gone place f = (f.place == place) && f.dropped
 
-unresolved_there : (fixes : List Fix) (g : Field) → IsUnresolved fixes g → is_unresolved_at fixes g.place ≡ true
+unresolved_there : (fixes : List RelocatedField) (g : Field) → IsUnresolved fixes g → is_unresolved_at fixes g.place ≡ true
 unresolved_there fixes g u = passes (has_no_value g.place) fixes u.fix u.among (both_true (u.fix.place == g.place) (is_none u.fix.value) (eq-eqb u.fix.place g.place u.at) (ap (λ (o : Option ℕ). is_none o) u.unknown))
 
-resolved_there : (fixes : List Fix) (g : Field) → (IsUnresolved fixes g → ⊥) → is_unresolved_at fixes g.place ≡ false
+resolved_there : (fixes : List RelocatedField) (g : Field) → (IsUnresolved fixes g → ⊥) → is_unresolved_at fixes g.place ≡ false
 resolved_there fixes g h = none_passes (has_no_value g.place) fixes (λ f among t.
     let both = each_true (f.place == g.place) (is_none f.value) t in
     h (record { fix = f; among = among; at = eqb-true f.place g.place both.0; unknown = no_value f.value both.1 }))
 
-abbrev number_in : List Fix → List ℕ → Field → ℕ
+abbrev number_in : List RelocatedField → List ℕ → Field → ℕ
 number_in fixes section g = little_number g.width (drop g.place (patched fixes section))
 
-bits_same : (fixes : List Fix) (section : List ℕ) (g : Field) (o : Option ℕ) → Holds fixes section g o → o ≡ (patched_values fixes section).bits (pointer_view g)
+bits_same : (fixes : List RelocatedField) (section : List ℕ) (g : Field) (o : Option ℕ) → Holds fixes section g o → o ≡ (patched_values fixes section).bits (pointer_view g)
 bits_same fixes section g None u = ap (λ (b : Bool). cond b None (Some (number_in fixes section g))) (sym (unresolved_there fixes g u))
 bits_same fixes section g (Some bits) h =
     ap (λ (n : ℕ). Some n) (sym h.1) ∙ ap (λ (b : Bool). cond b None (Some (number_in fixes section g))) (sym (resolved_there fixes g h.0))
 
-dropped_same : (fixes : List Fix) (g : Field) (b : Bool) → (b ≡ true) ↔ IsDropped fixes g → b ≡ names_dropped_at fixes g.place
+dropped_same : (fixes : List RelocatedField) (g : Field) (b : Bool) → (b ≡ true) ↔ IsDropped fixes g → b ≡ names_dropped_at fixes g.place
 dropped_same fixes g b h = by_answer (is_gone g.place) fixes b
     (λ t. let u = h.0 t in passes (is_gone g.place) fixes u.fix u.among (both_true (u.fix.place == g.place) u.fix.dropped (eq-eqb u.fix.place g.place u.at) u.gone))
     (λ f among t. let both = each_true (f.place == g.place) f.dropped t in h.1 (record { fix = f; among = among; at = eqb-true f.place g.place both.0; gone = both.1 }))
@@ -147,7 +147,7 @@ none_same section pointers raw = λ k d within.
 abbrev Within : ℕ → Field → Type 0
 Within len g = g.place + g.width ≤ len
 
-within_if : (len : ℕ) (g : Field) (o : Option Field) (f : Fix) (b : Bool) → (g.place == f.place) ≡ b → Within len g → (has_width o f ≡ true → f.place + width_of f.range ≤ len)
+within_if : (len : ℕ) (g : Field) (o : Option Field) (f : RelocatedField) (b : Bool) → (g.place == f.place) ≡ b → Within len g → (has_width o f ≡ true → f.place + width_of f.range ≤ len)
     → has_width (cond b (Some g) o) f ≡ true → f.place + width_of f.range ≤ len
 within_if len g o f true here inside rest t =
     let place : g.place ≡ f.place = eqb-true g.place f.place here in
@@ -155,7 +155,7 @@ within_if len g o f true here inside rest t =
     omega (arith, place, width, inside)
 within_if len g o f false here inside rest t = rest t
 
-lies_within : (len : ℕ) (fields : List Field) (f : Fix) → All (Within len) fields → lies_on fields f ≡ true → f.place + width_of f.range ≤ len
+lies_within : (len : ℕ) (fields : List Field) (f : RelocatedField) → All (Within len) fields → lies_on fields f ≡ true → f.place + width_of f.range ≤ len
 unfolding first_at
 lies_within len [] f all t = absurd cc
 lies_within len (g ∷ gs) f all t =
@@ -165,7 +165,7 @@ passed : (b : Bool) (r : Result (Unit {0}) RelocFault) (e : RelocFault) → cond
 passed true r e h = (refl, h)
 passed false r e h = absurd cc
 
-all_inside : (len : ℕ) (fields : List Field) (fs : List Fix) → All (Within len) fields → place_check fields fs ≡ Ok tt → AreInside len fs
+all_inside : (len : ℕ) (fields : List Field) (fs : List RelocatedField) → All (Within len) fields → place_check fields fs ≡ Ok tt → AreInside len fs
 unfolding place_check
 all_inside len fields [] all h = tt
 all_inside len fields (f ∷ fs) all h =
@@ -176,10 +176,10 @@ of_map : {X Y : Type 0} (P : X → Type 0) (view : Y → X) (ys : List Y) → Al
 of_map {Y = Y} P view [] h = All-nil (λ (y : Y). P (view y))
 of_map {Y = Y} P view (y ∷ ys) h = All-cons (λ (z : Y). P (view z)) y ys (All-head P (view y) (map view ys) h) (of_map P view ys (All-tail P (view y) (map view ys) h))
 
-abbrev Same : List Fix → List ℕ → PointerField → Type 0
+abbrev Same : List RelocatedField → List ℕ → PointerField → Type 0
 Same fixes section g = SameOn (overlaid fixes) (patched_values fixes section) g
 
-lie_same : (p : Placing) (number : ℕ) (section : List ℕ) (pointers : List PointerField) (fixes : List Fix) → Reads (section_state p number) fixes → LieOn pointers fixes → HoldRaw section pointers → All (Same fixes section) pointers
+lie_same : (p : Placing) (number : ℕ) (section : List ℕ) (pointers : List PointerField) (fixes : List RelocatedField) → Reads (section_state p number) fixes → LieOn pointers fixes → HoldRaw section pointers → All (Same fixes section) pointers
 lie_same p number section pointers fixes reads lie raw =
     let held : All (λ (g : Field). HoldsRaw section (pointer_view g)) lie.fields = of_map (HoldsRaw section) pointer_view lie.fields (subst (HoldRaw section) (sym lie.viewed) raw) in
     let within : All (Within (length section)) lie.fields = λ k d lt. (held k d lt).within in
@@ -196,16 +196,16 @@ lie_same p number section pointers fixes reads lie raw =
     } in
     subst (All (Same fixes section)) lie.viewed (All-map (Same fixes section) pointer_view lie.fields each)
 
-without_fixes : (section : List ℕ) (pointers : List PointerField) (fixes : List Fix) → fixes ≡ [] → HoldRaw section pointers → All (Same fixes section) pointers
-without_fixes section pointers fixes none raw = subst (λ (fs : List Fix). All (Same fs section) pointers) (sym none) (none_same section pointers raw)
+without_fixes : (section : List ℕ) (pointers : List PointerField) (fixes : List RelocatedField) → fixes ≡ [] → HoldRaw section pointers → All (Same fixes section) pointers
+without_fixes section pointers fixes none raw = subst (λ (fs : List RelocatedField). All (Same fs section) pointers) (sym none) (none_same section pointers raw)
 
-values_same : (placing : Option Placing) (number : ℕ) (section : List ℕ) (pointers : List PointerField) (fixes : List Fix) → IsReadFrom placing number fixes → AreChecked pointers fixes → HoldRaw section pointers → All (Same fixes section) pointers
+values_same : (placing : Option Placing) (number : ℕ) (section : List ℕ) (pointers : List PointerField) (fixes : List RelocatedField) → IsReadFrom placing number fixes → AreChecked pointers fixes → HoldRaw section pointers → All (Same fixes section) pointers
 values_same placing number section pointers fixes from (inl none) raw = without_fixes section pointers fixes none raw
 values_same None number section pointers fixes from (inr lie) raw = without_fixes section pointers fixes from raw
 values_same (Some p) number section pointers fixes from (inr lie) raw = lie_same p number section pointers fixes from lie raw
 
 -- ---- a section whose relocations were read and checked
-pub section_over : (arch : Arch) (item : ℕ) (section : CallFrames) (es : List EntryView) (placing : Option Placing) (number : ℕ) (fixes : List Fix) → entries_of arch section.bytes ≡ Ok es → section.relocations ≡ Ok fixes → IsReadFrom placing number fixes
+pub section_over : (arch : Arch) (item : ℕ) (section : CallFrames) (es : List EntryView) (placing : Option Placing) (number : ℕ) (fixes : List RelocatedField) → entries_of arch section.bytes ≡ Ok es → section.relocations ≡ Ok fixes → IsReadFrom placing number fixes
     → pointer_check (pointer_fields es) fixes ≡ Ok tt → AreChecked (pointer_fields es) fixes → section_functions arch item section ≡ functions_in arch item section (overlaid fixes) (frames es)
 section_over arch item section es placing number fixes whole read from lie checked =
     let raw : HoldRaw section.bytes (pointer_fields es) = fields_raw arch section.bytes es whole in

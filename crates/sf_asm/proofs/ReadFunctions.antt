@@ -5,7 +5,7 @@ use Rattle.std.proofs.lemmas.List.{append-nil, map-append}
 use Rattle.sf_model.specs.declared.machine.Arch.{Arch}
 use Rattle.cfa_insn.specs.Listing.{listing}
 use Rattle.cfa_machine.specs.declared.row.DwRow.{DwRow}
-use Rattle.cfa_machine.specs.At.{SayAll}
+use Rattle.cfa_machine.specs.RowAtOffset.{SayAll}
 use Rattle.cfa_machine.specs.Columns.{row_from}
 use Rattle.cfa_machine.specs.FullRow.{columns_of}
 use Rattle.cfa_machine.specs.declared.columns.Columns.{Columns}
@@ -13,7 +13,7 @@ use Rattle.eh_records.specs.declared.fault.RecordFault.{RecordFault}
 use Rattle.eh_records.specs.Fde.{FdeView}
 use Rattle.eh_records.specs.Section.{EntryView, entries_of, frames, pointer_fields}
 use Rattle.elf_reloc.specs.declared.fault.RelocFault.{RelocFault}
-use Rattle.elf_reloc.specs.declared.fix.Fix.{Fix}
+use Rattle.elf_reloc.specs.declared.fix.RelocatedField.{RelocatedField}
 use Rattle.sf_express.specs.Parts.{content_of}
 use Rattle.sf_express.specs.Offsets.{said}
 use Rattle.sf_express.specs.Runs.{AreSaid, function_of}
@@ -131,20 +131,20 @@ ends arch item section values first before f left after fault given p kept q h =
 
 -- ---- a section
 -- by its records and its relocations
-abbrev by_parts : Arch → (item : ℕ) → CallFrames → Result (List EntryView) RecordFault → Result (List Fix) RelocFault → Result (List Function) AsmFault
+abbrev by_parts : Arch → (item : ℕ) → CallFrames → Result (List EntryView) RecordFault → Result (List RelocatedField) RelocFault → Result (List Function) AsmFault
 by_parts arch item section records relocations =
     named (asm.Record section.number) records
     >>= λ es. (named (asm.Reloc section.number) (relocations >>= on_pointers (pointer_fields es)) >>= λ fixes. functions_in arch item section (patched_values fixes section.bytes) (frames es))
 
-abbrev by_check : Arch → (item : ℕ) → CallFrames → List EntryView → List Fix → Result (Unit {0}) RelocFault → Result (List Function) AsmFault
+abbrev by_check : Arch → (item : ℕ) → CallFrames → List EntryView → List RelocatedField → Result (Unit {0}) RelocFault → Result (List Function) AsmFault
 by_check arch item section es fixes check = named (asm.Reloc section.number) (check >>= λ _. Ok fixes) >>= λ fixes. functions_in arch item section (patched_values fixes section.bytes) (frames es)
 
-pub section_is : (arch : Arch) (item : ℕ) (section : CallFrames) (es : List EntryView) (fixes : List Fix) → entries_of arch section.bytes ≡ Ok es → section.relocations ≡ Ok fixes → pointer_check (pointer_fields es) fixes ≡ Ok tt
+pub section_is : (arch : Arch) (item : ℕ) (section : CallFrames) (es : List EntryView) (fixes : List RelocatedField) → entries_of arch section.bytes ≡ Ok es → section.relocations ≡ Ok fixes → pointer_check (pointer_fields es) fixes ≡ Ok tt
     → section_functions arch item section ≡ functions_in arch item section (patched_values fixes section.bytes) (frames es)
 unfolding section_functions
 section_is arch item section es fixes p q r =
     ap (λ (x : Result (List EntryView) RecordFault). by_parts arch item section x section.relocations) p
-    ∙ ap (λ (x : Result (List Fix) RelocFault). by_parts arch item section (Ok es) x) q
+    ∙ ap (λ (x : Result (List RelocatedField) RelocFault). by_parts arch item section (Ok es) x) q
     ∙ ap (λ (x : Result (Unit {0}) RelocFault). by_check arch item section es fixes x) r
 
 records_fault : (arch : Arch) (item : ℕ) (section : CallFrames) (given : Result (List EntryView) RecordFault) (fault : AsmFault) → named (asm.Record section.number) given ≡ Err fault → by_parts arch item section given section.relocations ≡ Err fault
@@ -155,7 +155,7 @@ pub records_refused : (arch : Arch) (item : ℕ) (section : CallFrames) (fault :
 unfolding section_functions
 records_refused arch item section fault p = records_fault arch item section (entries_of arch section.bytes) fault p
 
-relocations_fault : (arch : Arch) (item : ℕ) (section : CallFrames) (es : List EntryView) (given : Result (List Fix) RelocFault) (fault : AsmFault) → named (asm.Reloc section.number) given ≡ Err fault → by_parts arch item section (Ok es) given ≡ Err fault
+relocations_fault : (arch : Arch) (item : ℕ) (section : CallFrames) (es : List EntryView) (given : Result (List RelocatedField) RelocFault) (fault : AsmFault) → named (asm.Reloc section.number) given ≡ Err fault → by_parts arch item section (Ok es) given ≡ Err fault
 relocations_fault arch item section es (Ok fixes) fault p = cc
 relocations_fault arch item section es (Err e) fault p = ap Err (let is : asm.Reloc section.number e ≡ fault = cc in is)
 
@@ -165,16 +165,16 @@ relocations_refused arch item section es fault p q =
     ap (λ (x : Result (List EntryView) RecordFault). by_parts arch item section x section.relocations) p
     ∙ relocations_fault arch item section es section.relocations fault q
 
-pointers_fault : (arch : Arch) (item : ℕ) (section : CallFrames) (es : List EntryView) (fixes : List Fix) (given : Result (Unit {0}) RelocFault) (fault : AsmFault) → named (asm.Reloc section.number) given ≡ Err fault → by_check arch item section es fixes given ≡ Err fault
+pointers_fault : (arch : Arch) (item : ℕ) (section : CallFrames) (es : List EntryView) (fixes : List RelocatedField) (given : Result (Unit {0}) RelocFault) (fault : AsmFault) → named (asm.Reloc section.number) given ≡ Err fault → by_check arch item section es fixes given ≡ Err fault
 pointers_fault arch item section es fixes (Ok x) fault p = cc
 pointers_fault arch item section es fixes (Err e) fault p = ap Err (let is : asm.Reloc section.number e ≡ fault = cc in is)
 
-pub pointers_refused : (arch : Arch) (item : ℕ) (section : CallFrames) (es : List EntryView) (fixes : List Fix) (fault : AsmFault) → entries_of arch section.bytes ≡ Ok es → section.relocations ≡ Ok fixes
+pub pointers_refused : (arch : Arch) (item : ℕ) (section : CallFrames) (es : List EntryView) (fixes : List RelocatedField) (fault : AsmFault) → entries_of arch section.bytes ≡ Ok es → section.relocations ≡ Ok fixes
     → named (asm.Reloc section.number) (pointer_check (pointer_fields es) fixes) ≡ Err fault → section_functions arch item section ≡ Err fault
 unfolding section_functions
 pointers_refused arch item section es fixes fault p q r =
     ap (λ (x : Result (List EntryView) RecordFault). by_parts arch item section x section.relocations) p
-    ∙ ap (λ (x : Result (List Fix) RelocFault). by_parts arch item section (Ok es) x) q
+    ∙ ap (λ (x : Result (List RelocatedField) RelocFault). by_parts arch item section (Ok es) x) q
     ∙ pointers_fault arch item section es fixes (pointer_check (pointer_fields es) fixes) fault r
 
 -- ---- several sections

@@ -9,25 +9,25 @@ use Rattle.eh_records.specs.Step.{PointerField, pointer_view}
 use Rattle.elf_place.specs.Views.{Placing}
 use Rattle.elf_reloc.specs.declared.fault.RelocFault.{RelocFault}
 use Rattle.elf_reloc.specs.declared.fault.RelocFault.TheVariants as faults
-use Rattle.elf_reloc.specs.declared.fix.Fix.{Fix}
+use Rattle.elf_reloc.specs.declared.fix.RelocatedField.{RelocatedField}
 use Rattle.elf_reloc.specs.declared.relocs.Relocs.{Relocs}
 use Rattle.elf_reloc.specs.Fields.{bits_in, is_dropped_in}
 use Rattle.elf_reloc.specs.Order.{first_at, has_width, lies_on, place_check}
 use Rattle.elf_reloc.specs.Reading.{State, section_state}
 use Rattle.elf_reloc.specs.Views.{Reads, Overlaps, Refuses, Relocated, fixes_in}
-use Rattle.sf_asm.specs.Steps.{◌>>=◌}
+use Rattle.sf_bytes.specs.Steps.{◌>>=◌}
 use Rattle.sf_asm.specs.Relocated.{by_place, without_overlap, relocations_of, pointer_place, has_width_of, is_pointer, pointer_check}
 use Rattle.sf_asm.specs.Views.{AreChecked}
 use Rattle.elf_reloc.proofs.SortedFixes.{is_by_place}
 
 -- ---- reading
-abbrev from_state : Result State RelocFault → Result (List Fix) RelocFault
+abbrev from_state : Result State RelocFault → Result (List RelocatedField) RelocFault
 from_state given = given >>= λ state. without_overlap (by_place state.fixes)
 
-abbrev from_check : List Fix → Result (Unit {0}) RelocFault → Result (List Fix) RelocFault
+abbrev from_check : List RelocatedField → Result (Unit {0}) RelocFault → Result (List RelocatedField) RelocFault
 from_check fixes check = check >>= λ _. Ok fixes
 
-read_from : (given : Result State RelocFault) (sorted : List Fix) → Reads given sorted → from_state given ≡ Ok sorted
+read_from : (given : Result State RelocFault) (sorted : List RelocatedField) → Reads given sorted → from_state given ≡ Ok sorted
 read_from given sorted r =
     ap from_state r.read
     ∙ ap without_overlap (is_by_place r.state.fixes sorted r.order)
@@ -52,7 +52,7 @@ refuses_from given (faults.Twice index) h = refused_from given (faults.Twice ind
 refuses_from given (faults.RelSection section) h = refused_from given (faults.RelSection section) h
 refuses_from given (faults.OutOfSection index) h = refused_from given (faults.OutOfSection index) h
 
-pub relocations_read : (p : Placing) (section : ℕ) (sorted : List Fix) → Reads (section_state p section) sorted → relocations_of p section ≡ Ok sorted
+pub relocations_read : (p : Placing) (section : ℕ) (sorted : List RelocatedField) → Reads (section_state p section) sorted → relocations_of p section ≡ Ok sorted
 unfolding relocations_of
 relocations_read p section sorted r = read_from (section_state p section) sorted r
 
@@ -70,30 +70,30 @@ unfolding first_at
 first_viewed place [] = refl
 first_viewed place (g ∷ gs) = at_test (g.place == place) g (first_at field_place place gs) _ (first_viewed place gs)
 
-width_viewed : (f : Fix) (o : Option Field) → has_width_of f (option_map pointer_view o) ≡ has_width o f
+width_viewed : (f : RelocatedField) (o : Option Field) → has_width_of f (option_map pointer_view o) ≡ has_width o f
 width_viewed f None = refl
 width_viewed f (Some g) = refl
 
-pointer_viewed : (fields : List Field) (f : Fix) → is_pointer (map pointer_view fields) f ≡ lies_on fields f
+pointer_viewed : (fields : List Field) (f : RelocatedField) → is_pointer (map pointer_view fields) f ≡ lies_on fields f
 pointer_viewed fields f = ap (has_width_of f) (first_viewed f.place fields) ∙ width_viewed f (first_at field_place f.place fields)
 
-check_viewed : (fields : List Field) (fixes : List Fix) → pointer_check (map pointer_view fields) fixes ≡ place_check fields fixes
+check_viewed : (fields : List Field) (fixes : List RelocatedField) → pointer_check (map pointer_view fields) fixes ≡ place_check fields fixes
 unfolding pointer_check place_check
 check_viewed fields [] = refl
 check_viewed fields (f ∷ fs) =
     ap (λ (b : Bool). cond b (pointer_check (map pointer_view fields) fs) (Err (faults.Place f.index))) (pointer_viewed fields f)
     ∙ ap (λ (r : Result (Unit {0}) RelocFault). cond (lies_on fields f) r (Err (faults.Place f.index))) (check_viewed fields fs)
 
-pub checked : (pointers : List PointerField) (fields : List Field) (fixes : List Fix) (r : Result (Unit {0}) RelocFault) → map pointer_view fields ≡ pointers → r ≡ place_check fields fixes → pointer_check pointers fixes ≡ r
+pub checked : (pointers : List PointerField) (fields : List Field) (fixes : List RelocatedField) (r : Result (Unit {0}) RelocFault) → map pointer_view fields ≡ pointers → r ≡ place_check fields fixes → pointer_check pointers fixes ≡ r
 checked pointers fields fixes r p q = ap (λ (gs : List PointerField). pointer_check gs fixes) (sym p) ∙ check_viewed fields fixes ∙ sym q
 
 -- what a call answered on the fields that it listed
-pub lies_on_fields : (pointers : List PointerField) (fields : List Field) (fixes : List Fix) (r : Result (Unit {0}) RelocFault) → map pointer_view fields ≡ pointers → AreApart fields → r ≡ place_check fields fixes
+pub lies_on_fields : (pointers : List PointerField) (fields : List Field) (fixes : List RelocatedField) (r : Result (Unit {0}) RelocFault) → map pointer_view fields ≡ pointers → AreApart fields → r ≡ place_check fields fixes
     → OnOk r (AreChecked pointers fixes)
 lies_on_fields pointers fields fixes (Ok u) viewed apart e = inr (record { fields = fields; viewed = viewed; apart = apart; lie = sym e })
 lies_on_fields pointers fields fixes (Err fault) viewed apart e = tt
 
-pub nothing_listed : (fixes : List Fix) → (length fixes == 0) ≡ true → fixes ≡ []
+pub nothing_listed : (fixes : List RelocatedField) → (length fixes == 0) ≡ true → fixes ≡ []
 nothing_listed [] t = refl
 nothing_listed (f ∷ fs) t = absurd (grind (arith, nat_tests))
 

@@ -1,9 +1,9 @@
 -- What the function that has an address says there, among all functions of inputs.
-use Rattle.std.specs.Prelude.{IfOk, IsTrue, not}
-use Rattle.std.specs.List.{filter, find}
+use Rattle.std.specs.Prelude.{IfOk, not}
+use Rattle.std.specs.List.{find}
 use Rattle.std.specs.List.Sorted.{IsPermutation}
 use Rattle.std.specs.Option.{option_and_then, option_map}
-use Rattle.std.proofs.Common.{◌≡◌, ◌≢◌, ℕ, ◌+◌, ◌^◌, ◌-◌, ◌<◌, ◌≤◌, Bool, true, false, cond, List, [], ◌∷◌, map, Option, Some, None, Result, Ok, Err, refl, sym, ap, subst, ◌∙◌, arith, inl, inr}
+use Rattle.std.proofs.Common.{◌≡◌, ◌≢◌, ℕ, ◌+◌, ◌^◌, ◌-◌, ◌<◌, ◌≤◌, Bool, true, false, List, map, Option, Some, None, Result, Ok, Err, refl, sym, ap, subst, ◌∙◌, arith, inl, inr}
 use Rattle.std.proofs.lemmas.Bool.{cases_lt}
 use Rattle.sf_model.specs.declared.content.Content.{Content}
 use Rattle.sf_model.specs.declared.function.Func.{Func}
@@ -20,11 +20,11 @@ use Rattle.sf_asm.specs.Faithful.{holds_address}
 use Rattle.sf_asm.specs.Functions.{Function, Object, functions_of}
 use Rattle.sf_asm.specs.Kept.{entry_of, is_kept, kept_functions, omitted_functions}
 use Rattle.sf_asm.specs.Order.{are_apart}
-use Rattle.sf_asm.specs.Said.{Answers, IsSaidUpTo, RowAt, SaidTo, SaysUpTo, dwarf_at, form_content, said_in, with_key}
+use Rattle.sf_asm.specs.Said.{IsSaidUpTo, RowAt, SaidTo, SaysUpTo, dwarf_at, form_content, said_in, with_key}
 use Rattle.sf_asm.specs.Sources.{AreWithSources, functions_lent, source_function}
 use Rattle.sf_asm.specs.declared.said.Said.{Said}
 use Rattle.sf_asm.proofs.Agreeing.{expressed_of, find_kept, found_passes}
-use Rattle.sf_asm.proofs.Finding.{Member, OnePasses, found_alike}
+use Rattle.sf_asm.proofs.Finding.{Member, found_alike}
 use Rattle.sf_asm.proofs.Holding.{IsWithin, gathered_apart, is_within, kept_said_by, one_holds, within}
 use Rattle.sf_asm.proofs.Members.{find_in_map, found, found_alone, in_filter, out_of_filter, placed, some_found}
 

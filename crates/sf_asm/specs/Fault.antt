@@ -62,15 +62,6 @@ is_input_refusal (asm.Record section fault) = is_record_refusal fault
 is_input_refusal (asm.Machine section fault) = is_machine_refusal fault
 is_input_refusal asm.NoMemory = false
 
--- a refusal, or want of memory on its own
-abbrev pub is_input_answered : AsmFault → Bool
-is_input_answered (asm.Elf fault) = true
-is_input_answered (asm.Place fault) = is_place_refusal fault
-is_input_answered (asm.Reloc section fault) = is_reloc_refusal fault
-is_input_answered (asm.Record section fault) = is_record_refusal fault
-is_input_answered (asm.Machine section fault) = is_machine_refusal fault
-is_input_answered asm.NoMemory = true
-
 abbrev pub is_gather_refusal : GatherFault → Bool
 is_gather_refusal (gather.Input item fault) = is_input_refusal fault
 is_gather_refusal (gather.MixedArch item other) = true
@@ -79,6 +70,7 @@ is_gather_refusal gather.TooManyRows = false
 is_gather_refusal (gather.Overlap start item other other_item) = true
 is_gather_refusal gather.NoMemory = false
 
+-- a refusal, a limit, or want of memory on its own
 abbrev pub is_gather_answered : GatherFault → Bool
 is_gather_answered (gather.Input item fault) = is_input_refusal fault
 is_gather_answered (gather.MixedArch item other) = true

@@ -18,7 +18,8 @@ use Rattle.sf_asm.specs.declared.fault.GatherFault.{GatherFault}
 use Rattle.sf_asm.specs.declared.fault.GatherFault.TheVariants.{Input as RefusedInput}
 use Rattle.sf_asm.specs.Relocated.{Values, on_pointers, patched_values}
 pub use Rattle.sf_asm.specs.Sections.{Object, CallFrames, object_of, machine_of, bare_section, sections_of, seen_behind}
-pub use Rattle.sf_asm.specs.Steps.{◌>>=◌, named, unless}
+pub use Rattle.sf_bytes.specs.Steps.{◌>>=◌, named}
+pub use Rattle.sf_model.specs.Firsts.{unless}
 
 -- a function by its call frame information
 pub record Function : Type 0 where

@@ -6,7 +6,7 @@ use Rattle.sf_model.specs.declared.facts.FdeFacts.{FdeFacts}
 use Rattle.sf_model.specs.declared.function.Func.{Func}
 use Rattle.sf_model.specs.declared.omission.Omission.{Omission}
 use Rattle.cfa_insn.specs.Listing.{listing}
-use Rattle.cfa_machine.specs.At.{row_at_offset}
+use Rattle.cfa_machine.specs.RowAtOffset.{row_at_offset}
 use Rattle.cfa_machine.specs.Columns.{row_from}
 use Rattle.cfa_machine.specs.FullRow.{FullRow, columns_of}
 use Rattle.sf_express.specs.Parts.{content_of}

@@ -17,6 +17,7 @@ use Rattle.sf_asm.specs.Functions.{Function, Object}
 use Rattle.sf_asm.specs.Inputs.{all_functions}
 use Rattle.sf_asm.specs.Kept.{entry_of}
 use Rattle.sf_asm.specs.Order.{entry_rows}
+pub use Rattle.sf_model.specs.Firsts.{or_later, unless_fault}
 
 abbrev pub start_of : Entry → ℕ
 start_of entry = entry.span.start
@@ -52,10 +53,6 @@ overlap_with None span = None
 overlap_with (Some before) span = if overlap (before, span) then Some (overlap_fault (before, span)) else None
 
 -- ---- the first fault
-abbrev pub or_later : {F : Type 0} → Option F → Option F → Option F
-or_later (Some fault) later = Some fault
-or_later None later = later
-
 -- at most 2^21 functions, omitted ones included, and 2^24 rows of kept ones
 unfoldable pub limits_fault : List Entry → Option GatherFault
 limits_fault ordered =
@@ -69,10 +66,6 @@ functions_fault ordered = or_later (limits_fault ordered) (option_map overlap_fa
 -- and of a section at an address: a kept function that is out of reach
 abbrev pub link_fault : (at : ℕ) → List Entry → Option LinkFault
 link_fault at ordered = or_later (option_map Gather (functions_fault ordered)) (option_map OutOfReach (first_out_of_reach at 0 (kept_of ordered)))
-
-abbrev pub unless_fault : {F : Type 0} → Option F → List Entry → Result (List Entry) F
-unless_fault None ordered = Ok ordered
-unless_fault (Some fault) ordered = Err fault
 
 -- ---- all functions in order, or the first fault
 abbrev pub Ordered : Result (List Function) GatherFault → (List Entry → Type 0) → (GatherFault → Type 0) → Type 0

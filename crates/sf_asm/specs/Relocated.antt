@@ -7,42 +7,42 @@ use Rattle.elf_place.specs.Views.{Placing}
 use Rattle.elf_read.specs.Sections.{section_bytes}
 use Rattle.elf_reloc.specs.declared.fault.RelocFault.{RelocFault}
 use Rattle.elf_reloc.specs.declared.fault.RelocFault.TheVariants.{Place}
-use Rattle.elf_reloc.specs.declared.fix.Fix.{Fix}
+use Rattle.elf_reloc.specs.declared.fix.RelocatedField.{RelocatedField}
 use Rattle.elf_reloc.specs.Applied.{Slot, Applied, applied_of}
 use Rattle.elf_reloc.specs.Order.{first_at, overlap_check}
 use Rattle.elf_reloc.specs.Patched.{patched}
 use Rattle.elf_reloc.specs.Reading.{section_state}
 use Rattle.elf_reloc.specs.Table.{width_of}
 pub use Rattle.elf_reloc.specs.Applied.{placed_among, by_place, is_unresolved_at, names_dropped_at}
-use Rattle.sf_asm.specs.Steps.{◌>>=◌}
+use Rattle.sf_bytes.specs.Steps.{◌>>=◌}
 
 -- ---- what is written, by rising place (`by_place`)
 -- no two of them overlap
-abbrev pub without_overlap : List Fix → Result (List Fix) RelocFault
+abbrev pub without_overlap : List RelocatedField → Result (List RelocatedField) RelocFault
 without_overlap fixes = overlap_check 0 fixes >>= λ _. Ok fixes
 
 -- of a section of a placed file
-unfoldable pub relocations_of : Placing → (section : ℕ) → Result (List Fix) RelocFault
+unfoldable pub relocations_of : Placing → (section : ℕ) → Result (List RelocatedField) RelocFault
 relocations_of p section = section_state p section >>= λ state. without_overlap (by_place state.fixes)
 
 -- ---- pointer fields
 abbrev pub pointer_place : PointerField → ℕ
 pointer_place g = g.place
 
-abbrev pub has_width_of : Fix → Option PointerField → Bool
+abbrev pub has_width_of : RelocatedField → Option PointerField → Bool
 has_width_of f None = false
 has_width_of f (Some g) = g.width == width_of f.range
 
 -- what is written is a pointer field, at its place and of its width
-abbrev pub is_pointer : List PointerField → Fix → Bool
+abbrev pub is_pointer : List PointerField → RelocatedField → Bool
 is_pointer fields f = has_width_of f (first_at pointer_place f.place fields)
 
 -- the first by place that isn't
-unfoldable pub pointer_check : List PointerField → List Fix → Result (Unit {0}) RelocFault
+unfoldable pub pointer_check : List PointerField → List RelocatedField → Result (Unit {0}) RelocFault
 pointer_check fields [] = Ok tt
 pointer_check fields (f ∷ fs) = if is_pointer fields f then pointer_check fields fs else Err (Place f.index)
 
-abbrev pub on_pointers : List PointerField → List Fix → Result (List Fix) RelocFault
+abbrev pub on_pointers : List PointerField → List RelocatedField → Result (List RelocatedField) RelocFault
 on_pointers fields fixes = pointer_check fields fixes >>= λ _. Ok fixes
 
 -- its place and width alone
@@ -56,7 +56,7 @@ pub record Values : Type 0 where
 
 -- the numbers of a copy of the section in which the low bits of each known value stand in the place of its field; a field on
 -- which a relocation without a value lies holds none
-abbrev pub patched_values : List Fix → (section : List ℕ) → Values
+abbrev pub patched_values : List RelocatedField → (section : List ℕ) → Values
 patched_values fixes section = record {
   bits = λ g. if is_unresolved_at fixes g.place then None else Some (little_number g.width (drop g.place (patched fixes section)));
   dropped = λ g. names_dropped_at fixes g.place;

@@ -8,7 +8,7 @@ use Rattle.sf_model.specs.declared.machine.Arch.{Arch}
 use Rattle.sf_model.specs.declared.machine.Key.{Key}
 use Rattle.sf_model.specs.Content.{content_fits}
 use Rattle.sf_express.specs.declared.pieces.Piece.{Piece}
-use Rattle.sf_express.specs.Expressed.{column_of}
+use Rattle.cfa_machine.specs.Registers.{return_address}
 use Rattle.sf_express.specs.Pieces.{content_in}
 use Rattle.sf_asm.specs.declared.said.Said.{Said}
 use Rattle.sf_asm.specs.Faithful.{holds_address}
@@ -24,7 +24,7 @@ with_key key content = record { content = content; key = key }
 
 -- SFrame has a form for the function's frames: its return address column is the machine's, and it is no signal frame
 abbrev pub has_form : Function → Bool
-has_form f = (f.column == column_of f.arch) && not f.signal
+has_form f = (f.column == return_address f.arch) && not f.signal
 
 -- the content of its row at an offset, where there is no reason against it
 abbrev pub form_content : Function → (offset : ℕ) → Option Content

@@ -11,7 +11,7 @@ use Rattle.elf_place.specs.Dropped.{dropped_sections, values_below}
 use Rattle.elf_place.specs.Place.{address_of, eh_frames_below, place_check, shift_of}
 use Rattle.elf_place.specs.Views.{Placing}
 use Rattle.elf_reloc.specs.declared.fault.RelocFault.{RelocFault}
-use Rattle.elf_reloc.specs.declared.fix.Fix.{Fix}
+use Rattle.elf_reloc.specs.declared.fix.RelocatedField.{RelocatedField}
 use Rattle.elf_reloc.specs.Reading.{section_address}
 use Rattle.sf_asm.specs.declared.fault.AsmFault.{AsmFault}
 use Rattle.sf_asm.specs.declared.fault.AsmFault.TheVariants as asm
@@ -20,7 +20,7 @@ use Rattle.sf_model.specs.declared.form.Form.TheVariants.{Elf, Bare}
 use Rattle.sf_asm.specs.declared.input.Input.{Input}
 use Rattle.sf_asm.specs.Groups.{gone_groups, seen_after}
 use Rattle.sf_asm.specs.Relocated.{relocations_of}
-use Rattle.sf_asm.specs.Steps.{◌>>=◌, named}
+use Rattle.sf_bytes.specs.Steps.{◌>>=◌, named}
 
 -- an input, seen without where its bytes lie in memory
 pub record Object : Type 0 where
@@ -47,7 +47,7 @@ pub record CallFrames : Type 0 where
   pub address : ℕ
   pub shift : ℕ
   -- what its relocations write, by rising place, or the first fault of theirs
-  pub relocations : Result (List Fix) RelocFault
+  pub relocations : Result (List RelocatedField) RelocFault
 
 -- a bare section lies at its base, and its fields are as they stand
 abbrev pub bare_section : (bytes : List ℕ) → (base : ℕ) → CallFrames

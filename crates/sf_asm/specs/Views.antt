@@ -5,49 +5,49 @@ use Rattle.sf_bytes.specs.Rising.{AreApart}
 use Rattle.eh_records.specs.Step.{PointerField, pointer_view}
 use Rattle.elf_place.specs.Views.{Placing}
 use Rattle.elf_reloc.specs.declared.fault.RelocFault.{RelocFault}
-use Rattle.elf_reloc.specs.declared.fix.Fix.{Fix}
+use Rattle.elf_reloc.specs.declared.fix.RelocatedField.{RelocatedField}
 use Rattle.elf_reloc.specs.Fields.{bits_in, is_dropped_in}
 use Rattle.elf_reloc.specs.Order.{place_check}
 use Rattle.elf_reloc.specs.Reading.{section_state}
 use Rattle.elf_reloc.specs.Views.{Reads, fixes_in}
-use Rattle.sf_asm.specs.declared.frames.Frames.{Frames}
+use Rattle.sf_asm.specs.declared.frames.CallFrameSection.{CallFrameSection}
 use Rattle.sf_asm.specs.declared.overlay.Overlay.{Overlay}
 use Rattle.sf_asm.specs.declared.overlay.Overlay.TheVariants.{Unchanged, Relocated}
 use Rattle.sf_asm.specs.Relocated.{Values, relocations_of}
 use Rattle.sf_asm.specs.Sections.{CallFrames}
 
 -- what is written over a section's fields
-abbrev pub written_by : Overlay → List Fix
+abbrev pub written_by : Overlay → List RelocatedField
 written_by Unchanged = []
 written_by (Relocated relocs) = fixes_in relocs
 
 -- the values of fields as they are read, where this is written over them
-abbrev pub overlaid : List Fix → Values
+abbrev pub overlaid : List RelocatedField → Values
 overlaid fixes = record {
   bits = λ g. bits_in fixes g.place g.width g.raw;
   dropped = λ g. is_dropped_in fixes g.place g.width;
 }
 
 -- what is written over a section of a file, or of none
-abbrev pub relocations_by : Option Placing → (section : ℕ) → Result (List Fix) RelocFault
+abbrev pub relocations_by : Option Placing → (section : ℕ) → Result (List RelocatedField) RelocFault
 relocations_by None section = Ok []
 relocations_by (Some p) section = relocations_of p section
 
 -- the same, with the order in which it was read
-abbrev pub IsReadFrom : Option Placing → (section : ℕ) → List Fix → Type 0
+abbrev pub IsReadFrom : Option Placing → (section : ℕ) → List RelocatedField → Type 0
 IsReadFrom None section fixes = fixes ≡ []
 IsReadFrom (Some p) section fixes = Reads (section_state p section) fixes
 
 -- pointer fields, as they are listed, on which all of it lies
-pub record LieOn (pointers : List PointerField) (fixes : List Fix) : Type 0 where
+pub record LieOn (pointers : List PointerField) (fixes : List RelocatedField) : Type 0 where
   pub fields : List Field
   pub viewed : map pointer_view fields ≡ pointers
   pub apart : AreApart fields
   pub lie : place_check fields fixes ≡ Ok tt
 
 -- nothing is written, or all of it lies on the pointer fields
-abbrev pub AreChecked : List PointerField → List Fix → Type 0
+abbrev pub AreChecked : List PointerField → List RelocatedField → Type 0
 AreChecked pointers fixes = (fixes ≡ []) ⊎ LieOn pointers fixes
 
-abbrev pub seen_section : Frames → Result (List Fix) RelocFault → CallFrames
+abbrev pub seen_section : CallFrameSection → Result (List RelocatedField) RelocFault → CallFrames
 seen_section f relocations = record { number = f.number; bytes = f.bytes.now; address = f.address; shift = f.shift; relocations = relocations }

@@ -28,7 +28,7 @@ pub struct Linked {
 /// # Errors
 ///
 /// The first fault of the input; then the limits of functions and rows, two functions that share an
-/// address, and a function too far from the section, in this order; want of memory at any time.
+/// address, and a function too far from the section, in this order; memory may run out at any time.
 pub fn assemble(alloc: Global, input: &Input<'_>, at: u64) -> Result<Linked, LinkFault>
     requires { length input.now.bytes.now < 2 ^ 32 }
     // The section is that of the input's kept functions, and these were left out.

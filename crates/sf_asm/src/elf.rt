@@ -1,6 +1,6 @@
 //! The functions of an ELF file, in the order of its sections and records.
 
-ghost use Rattle.std.specs.Prelude.{◌≡◌, ◌<◌, ◌^◌, ◌+◌, ◌-◌, ◌%◌, ◌⊎◌, ℕ, List, All, Ok, Err, length, map, IfOk, IfErr, OnOk, IsTrue};
+ghost use Rattle.std.specs.Prelude.{◌≡◌, ◌<◌, ◌^◌, ◌+◌, ◌-◌, ◌%◌, ◌⊎◌, ℕ, List, All, Ok, Err, length, map, IfOk, IfErr, OnOk};
 ghost use Rattle.elf_read.specs.Header as head;
 ghost use Rattle.elf_read.specs.Sections.{section_bytes};
 ghost use Rattle.elf_read.specs.Views.{file};
@@ -11,7 +11,7 @@ ghost use Rattle.sf_asm.specs.Answers.{LendsAll, ReadsAll};
 ghost use Rattle.sf_asm.specs.declared.fault.AsmFault.TheVariants as asm;
 ghost use Rattle.sf_model.specs.declared.form.Form.TheVariants as Form;
 ghost use Rattle.sf_asm.specs.Entry.{IsSound};
-ghost use Rattle.sf_asm.specs.Fault.{is_input_answered, wraps_place};
+ghost use Rattle.sf_asm.specs.Fault.{wraps_place};
 ghost use Rattle.sf_asm.specs.Functions.{named, object_functions, sections_functions};
 ghost use Rattle.sf_asm.specs.Groups.{seen_after};
 ghost use Rattle.sf_asm.specs.Placing.{IsPlacing};
@@ -21,7 +21,7 @@ ghost use Rattle.sf_asm.specs.Sources.{functions_lent};
 
 use crate::entry::Read;
 use crate::fault::AsmFault;
-use crate::frames::Frames;
+use crate::frames::CallFrameSection;
 use crate::groups::Seen;
 use crate::section::read_section;
 use elf_place::{PlaceFault, Placed};
@@ -39,7 +39,6 @@ fn parse(bytes: &[u8]) -> Result<Elf<'_>, AsmFault>
     ensures file { IfOk result (λ elf. file elf ≡ bytes.now) }
     ensures read { OnOk result (linked_check bytes.now ≡ Ok tt) }
     ensures fault { IfErr result (λ fault. linked_check bytes.now ≡ Err fault) }
-    ensures answered { IfErr result (λ fault. IsTrue (is_input_answered fault)) }
 {
     match Elf::parse(bytes) {
         Ok(elf) => match elf.kind() {
@@ -50,10 +49,9 @@ fn parse(bytes: &[u8]) -> Result<Elf<'_>, AsmFault>
     }
 }
 
-/// A fault of placing, where want of memory stands alone.
+/// A fault of placing; `NoMemory` is passed on unwrapped.
 fn place_fault(fault: PlaceFault) -> AsmFault
-    ensures is { result ≡ wraps_place fault }
-    ensures answered { IsTrue (is_input_answered result) }
+    ensures { result ≡ wraps_place fault }
 {
     match fault {
         PlaceFault::NoMemory => AsmFault::NoMemory,
@@ -72,7 +70,6 @@ fn place<'a>(
     ensures read { OnOk result ((signatures : List (List ℕ)) → HasSeen seen.old signatures → place_check (file elf.now) (dropped_after signatures (file elf.now)) base ≡ Ok tt) }
     ensures seen { OnOk result ((signatures : List (List ℕ)) → HasSeen seen.old signatures → HasSeen seen.new (seen_after signatures (file elf.now))) }
     ensures fault { IfErr result (λ fault. (signatures : List (List ℕ)) → HasSeen seen.old signatures → (fault ≡ asm.NoMemory) ⊎ (named asm.Place (place_check (file elf.now) (dropped_after signatures (file elf.now)) base) ≡ Err fault)) }
-    ensures answered { IfErr result (λ fault. IsTrue (is_input_answered fault)) }
 {
     let gone = seen.gone_groups(alloc, elf)?;
     match Placed::new(alloc, elf, base, &gone) {
@@ -83,7 +80,7 @@ fn place<'a>(
 
 /// A call frame section of a placed file.
 #[tactic(auto, unfolding(elf_reloc::specs::Reading::section_address))]
-fn frames_at<'a>(arch: Arch, item: u32, placed: &Placed<'a>, number: u32) -> Frames<'a>
+fn frames_at<'a>(arch: Arch, item: u32, placed: &Placed<'a>, number: u32) -> CallFrameSection<'a>
     ensures arch { result.arch ≡ arch }
     ensures item { result.item ≡ item }
     ensures number { result.number ≡ number }
@@ -93,7 +90,7 @@ fn frames_at<'a>(arch: Arch, item: u32, placed: &Placed<'a>, number: u32) -> Fra
 {
     let shift = placed.shift();
     let address = placed.address(number).unwrap_or(0);
-    Frames {
+    CallFrameSection {
         arch,
         item,
         number,
@@ -114,7 +111,6 @@ fn read_sections<'a>(
     ensures lent { IfOk result (λ read. LendsAll (functions_lent read.sources.items) (sections_functions arch item (map (placed_section (placed_views.placing placed.now) (placed_views.shift_in placed.now)) (placed_views.eh_frames placed.now)))) }
     ensures arch { IfOk result (λ read. read.arch ≡ arch) }
     ensures sound { IfOk result (λ read. All (IsSound arch) read.entries.items) }
-    ensures answered { IfErr result (λ fault. IsTrue (is_input_answered fault)) }
 {
     let mut read = Read::new(alloc, arch);
     let numbers = placed.eh_frames();
@@ -140,7 +136,6 @@ pub fn read_elf<'a>(
     ensures seen { OnOk result ((signatures : List (List ℕ)) → HasSeen seen.old signatures → HasSeen seen.new (seen_after signatures bytes.now)) }
     ensures arch { IfOk result (λ read. read.arch ≡ head.arch_of bytes.now) }
     ensures sound { IfOk result (λ read. All (IsSound read.arch) read.entries.items) }
-    ensures answered { IfErr result (λ fault. IsTrue (is_input_answered fault)) }
 {
     let elf = parse(bytes)?;
     let placed = place(alloc, &elf, base, seen)?;

@@ -47,7 +47,7 @@ pub struct Read<'a> {
 
 /// The functions that were read of all inputs.
 #[derive(Drop)]
-pub struct AllRead<'a> {
+pub struct AllFunctions<'a> {
     /// The machine of each input.
     pub machines: Vec<Arch>,
     /// The functions, in the order of the inputs, sections and records.

@@ -6,7 +6,7 @@ use sf_model::Arch;
 
 /// A call frame section and where it comes from.
 #[derive(Clone, Copy, Debug)]
-pub struct Frames<'a> {
+pub struct CallFrameSection<'a> {
     /// The machine of its input.
     pub arch: Arch,
     /// The number of its input.

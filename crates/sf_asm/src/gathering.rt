@@ -1,6 +1,6 @@
 //! The functions of all inputs, sorted out.
 
-ghost use Rattle.std.specs.Prelude.{◌≡◌, ◌≤◌, ◌<◌, ◌+◌, ◌^◌, All, [], length, map, Ok, None, IfOk, IfErr, IfSome, OnOk, IsTrue};
+ghost use Rattle.std.specs.Prelude.{◌≡◌, ◌≤◌, ◌<◌, ◌+◌, ◌^◌, All, [], length, map, Ok, None, IfOk, IfErr, OnOk, IsTrue};
 ghost use Rattle.std.specs.Option.{option_map};
 ghost use Rattle.std.specs.List.Sorted.{IsNonDecreasingBy, IsStableByKey};
 ghost use Rattle.std.specs.Ordering.{nat_cmp};
@@ -69,8 +69,7 @@ pub struct WithSources<'a> {
 
 /// Tries the limits: functions first, then rows.
 fn check_limits(entries: &[Entry]) -> Result<(), GatherFault>
-    ensures exact { result ≡ unless (limits_fault entries.now) }
-    ensures answered { IfErr result (λ fault. IsTrue (is_gather_answered fault)) }
+    ensures { result ≡ unless (limits_fault entries.now) }
 {
     if entries.len() > FUNCTION_LIMIT {
         return Err(GatherFault::TooManyFunctions);
@@ -100,8 +99,7 @@ fn row_count(outcome: &Outcome) -> usize
 /// The fault of a function that begins before the end of another one.
 #[inline(always)]
 fn overlap_of(before: Option<Span>, span: Span) -> Option<GatherFault>
-    ensures exact { result ≡ overlap_with before span }
-    ensures answered { IfSome result (λ fault. IsTrue (is_gather_answered fault)) }
+    ensures { result ≡ overlap_with before span }
 {
     let before = before?;
     if u128::from(span.start) < u128::from(before.start) + u128::from(before.size) {
@@ -117,8 +115,7 @@ fn overlap_of(before: Option<Span>, span: Span) -> Option<GatherFault>
 
 /// Tries each function that has bytes against the one before it.
 fn check_overlap(entries: &[Entry]) -> Result<(), GatherFault>
-    ensures exact { result ≡ unless (option_map overlap_fault (overlap_in (spans_of entries.now))) }
-    ensures answered { IfErr result (λ fault. IsTrue (is_gather_answered fault)) }
+    ensures { result ≡ unless (option_map overlap_fault (overlap_in (spans_of entries.now))) }
 {
     let mut before = None;
     for entry in entries {
@@ -135,8 +132,7 @@ fn check_overlap(entries: &[Entry]) -> Result<(), GatherFault>
 
 /// Tries the limits, and then overlaps.
 fn check(entries: &[Entry]) -> Result<(), GatherFault>
-    ensures exact { result ≡ unless (functions_fault entries.now) }
-    ensures answered { IfErr result (λ fault. IsTrue (is_gather_answered fault)) }
+    ensures { result ≡ unless (functions_fault entries.now) }
 {
     check_limits(entries)?;
     check_overlap(entries)
@@ -165,7 +161,6 @@ fn ordered<'a>(
     ensures sound { IfOk result (λ read. All (IsSound read.arch) read.entries.items) }
     ensures checked { IfOk result (λ read. functions_fault read.entries.items ≡ None) }
     ensures fault { IfErr result (IsFirstGathered before (map object_of inputs.now)) }
-    ensures answered { IfErr result (λ fault. IsTrue (is_gather_answered fault)) }
 {
     let mut all = read_all(alloc, first_item(before), inputs)?;
     let arch = one_machine(before, &all.machines)?;
@@ -338,7 +333,7 @@ fn sort_out(
 /// # Errors
 ///
 /// The first fault of the first faulty input; then two machines, the limits of functions and rows, and two
-/// functions that share an address, in this order; want of memory at any time.
+/// functions that share an address, in this order; memory may run out at any time.
 pub fn gather(
     alloc: Global,
     inputs: &[Input<'_>],

@@ -2,18 +2,39 @@
 
 ghost use Rattle.std.specs.Prelude.{◌≡◌, ℕ, List, [], ◌∷◌, ◌++◌, IfOk, OnOk, bytes_eq};
 ghost use Rattle.std.specs.List.{list_any};
-ghost use Rattle.elf_read.specs.Views.{file};
+ghost use Rattle.elf_read.specs.Number.{StandsAt};
+ghost use Rattle.elf_read.specs.Views.{file, text_bytes};
 ghost use Rattle.sf_asm.specs.Groups.{gone_groups, is_repeated, seen_after, signature_of, with_signature};
-ghost use Rattle.sf_asm.specs.Seen.{HasSeen};
+ghost use Rattle.sf_asm.specs.Seen.{HasSeen, HasTexts};
 
-use elf_read::Elf;
+use crate::ends::Ends;
+use elf_read::{Elf, Text};
 use std::alloc::{AllocError, Global};
 use std::collections::BTreeSet;
 
-/// The signatures of the COMDAT groups that were seen.
+/// The signatures of the COMDAT groups that were seen, each with its length: only those of one length are compared.
 #[derive(Drop)]
 pub struct Seen<'a> {
-    signatures: BTreeSet<&'a [u8]>,
+    signatures: BTreeSet<(usize, &'a [u8])>,
+}
+
+/// The signatures of one file that were seen, by their places and lengths, and where its texts end.
+#[derive(Drop)]
+struct FileTexts {
+    places: BTreeSet<(u64, usize)>,
+    ends: Ends,
+}
+
+impl FileTexts {
+    // None yet.
+    fn new(alloc: Global) -> FileTexts
+        ensures { (file : List ℕ) (seen : List (List ℕ)) → HasTexts file seen result }
+    {
+        FileTexts {
+            places: BTreeSet::new(alloc),
+            ends: Ends::new(alloc),
+        }
+    }
 }
 
 impl<'a> Seen<'a> {
@@ -31,19 +52,38 @@ impl<'a> Seen<'a> {
         ensures repeated { IfOk result (λ repeated. (seen : List (List ℕ)) → HasSeen self.old seen → repeated ≡ list_any (bytes_eq signature.now) seen) }
         ensures seen { OnOk result ((seen : List (List ℕ)) → HasSeen self.old seen → HasSeen self.new (seen ++ signature.now ∷ [])) }
     {
-        Ok(!self.signatures.insert(signature)?)
+        Ok(!self.signatures.insert((signature.len(), signature))?)
+    }
+
+    // Whether a text of a file was seen before. It is seen from now on.
+    fn is_text_repeated(
+        &mut self,
+        texts: &mut FileTexts,
+        text: &Text<'a>,
+    ) -> Result<bool, AllocError>
+        ensures repeated { IfOk result (λ repeated. (file : List ℕ) (seen : List (List ℕ)) → HasSeen self.old seen → HasTexts file seen texts.old → StandsAt text.now.place text.now.rest.now file → repeated ≡ list_any (bytes_eq (text_bytes text.now)) seen) }
+        ensures seen { OnOk result ((file : List ℕ) (seen : List (List ℕ)) → HasSeen self.old seen → HasTexts file seen texts.old → StandsAt text.now.place text.now.rest.now file → HasSeen self.new (seen ++ text_bytes text.now ∷ [])) }
+        ensures texts { OnOk result ((file : List ℕ) (seen : List (List ℕ)) → HasSeen self.old seen → HasTexts file seen texts.old → StandsAt text.now.place text.now.rest.now file → HasTexts file (seen ++ text_bytes text.now ∷ []) texts.new) }
+    {
+        let len = texts.ends.len_of(text)?;
+        if !texts.places.insert((text.place, len))? {
+            return Ok(true);
+        }
+        let (signature, _) = text.rest.split_at(len);
+        self.is_repeated(signature)
     }
 
     // Whether a section is a COMDAT group whose signature was seen before.
     #[tactic(auto, unfolding(crate::specs::Groups::signature_of))]
-    fn is_gone(&mut self, elf: &Elf<'a>, i: u32) -> Result<bool, AllocError>
-        ensures gone { IfOk result (λ gone. (seen : List (List ℕ)) → HasSeen self.old seen → gone ≡ is_repeated seen (signature_of (file elf.now) i)) }
-        ensures seen { OnOk result ((seen : List (List ℕ)) → HasSeen self.old seen → HasSeen self.new (with_signature seen (signature_of (file elf.now) i))) }
+    fn is_gone(&mut self, texts: &mut FileTexts, elf: &Elf<'a>, i: u32) -> Result<bool, AllocError>
+        ensures gone { IfOk result (λ gone. (seen : List (List ℕ)) → HasSeen self.old seen → HasTexts (file elf.now) seen texts.old → gone ≡ is_repeated seen (signature_of (file elf.now) i)) }
+        ensures seen { OnOk result ((seen : List (List ℕ)) → HasSeen self.old seen → HasTexts (file elf.now) seen texts.old → HasSeen self.new (with_signature seen (signature_of (file elf.now) i))) }
+        ensures texts { OnOk result ((seen : List (List ℕ)) → HasSeen self.old seen → HasTexts (file elf.now) seen texts.old → HasTexts (file elf.now) (with_signature seen (signature_of (file elf.now) i)) texts.new) }
     {
         match elf.group(i) {
             Some(group) => {
                 if group.comdat {
-                    self.is_repeated(group.signature)
+                    self.is_text_repeated(texts, &group.signature)
                 } else {
                     Ok(false)
                 }
@@ -57,9 +97,10 @@ impl<'a> Seen<'a> {
         ensures gone { IfOk result (λ gone. (seen : List (List ℕ)) → HasSeen self.old seen → gone.items ≡ gone_groups seen (file elf.now)) }
         ensures seen { OnOk result ((seen : List (List ℕ)) → HasSeen self.old seen → HasSeen self.new (seen_after seen (file elf.now))) }
     {
+        let mut texts = FileTexts::new(alloc);
         let mut gone = Vec::new(alloc);
         for i in 0..elf.sections() {
-            if self.is_gone(elf, i)? {
+            if self.is_gone(&mut texts, elf, i)? {
                 gone.push(i)?;
             }
         }

@@ -1,18 +1,18 @@
 //! All inputs, one behind the other: their functions, and their one machine.
 
-ghost use Rattle.std.specs.Prelude.{◌≡◌, ◌⊎◌, ◌≤◌, ◌<◌, ◌^◌, ℕ, List, All, length, map, not, Ok, Err, IfOk, IfErr, OnOk, IsTrue, position};
+ghost use Rattle.std.specs.Prelude.{◌≡◌, ◌⊎◌, ◌≤◌, ◌<◌, ◌^◌, ℕ, List, All, length, map, not, Ok, Err, IfOk, IfErr, OnOk, position};
 ghost use Rattle.sf_model.specs.declared.machine.Arch.{Arch as machine};
 ghost use Rattle.sf_asm.specs.Answers.{LendsAll, seen_as};
 ghost use Rattle.sf_asm.specs.Entry.{IsSound};
 ghost use Rattle.sf_asm.specs.declared.fault.GatherFault.TheVariants.{Input as RefusedInput, NoMemory};
-ghost use Rattle.sf_asm.specs.Fault.{is_gather_answered, is_input_answered, wraps_input};
+ghost use Rattle.sf_asm.specs.Fault.{wraps_input};
 ghost use Rattle.sf_asm.specs.Functions.{functions_of, machine_of, named, object_functions, object_of, seen_behind, unless};
 ghost use Rattle.sf_asm.specs.Inputs.{is_same, mixed_among, with_before};
 ghost use Rattle.sf_asm.specs.Kept.{entry_of};
 ghost use Rattle.sf_asm.specs.Seen.{HasSeen};
 ghost use Rattle.sf_asm.specs.Sources.{functions_lent};
 
-use crate::entry::{AllRead, Read};
+use crate::entry::{AllFunctions, Read};
 use crate::fault::{AsmFault, GatherFault};
 use crate::groups::Seen;
 use crate::input::Input;
@@ -20,10 +20,9 @@ use crate::reading::read_input;
 use sf_model::Arch;
 use std::alloc::Global;
 
-/// A fault of an input, where want of memory stands alone.
+/// A fault of an input; `NoMemory` is passed on unwrapped.
 fn input_fault(item: u32, fault: AsmFault) -> GatherFault
-    ensures is { result ≡ wraps_input item fault }
-    ensures answered { IsTrue (is_input_answered fault) → IsTrue (is_gather_answered result) }
+    ensures { result ≡ wraps_input item fault }
 {
     match fault {
         AsmFault::NoMemory => GatherFault::NoMemory,
@@ -45,7 +44,6 @@ fn read_item<'a>(
     ensures arch { IfOk result (λ read. read.arch ≡ machine_of (object_of input.now)) }
     ensures sound { IfOk result (λ read. All (IsSound read.arch) read.entries.items) }
     ensures fault { IfErr result (λ fault. (signatures : List (List ℕ)) → HasSeen seen.old signatures → (fault ≡ NoMemory) ⊎ (named (RefusedInput item) (object_functions item signatures (object_of input.now)) ≡ Err fault)) }
-    ensures answered { IfErr result (λ fault. IsTrue (is_gather_answered fault)) }
 {
     match read_input(alloc, item, input, seen) {
         Ok(read) => Ok(read),
@@ -59,7 +57,7 @@ pub fn read_all<'a>(
     alloc: Global,
     first: u32,
     inputs: &[Input<'a>],
-) -> Result<AllRead<'a>, GatherFault>
+) -> Result<AllFunctions<'a>, GatherFault>
     requires few { (first ≤ 1) × (length inputs.now ≤ 512) }
     requires small { All (λ input. length input.bytes.now < 2 ^ 32) inputs.now }
     ensures reads { IfOk result (λ read. seen_as (map entry_of) (functions_of first (map object_of inputs.now)) ≡ Ok read.entries.items) }
@@ -67,10 +65,9 @@ pub fn read_all<'a>(
     ensures machines { IfOk result (λ read. read.machines.items ≡ map machine_of (map object_of inputs.now)) }
     ensures sound { IfOk result (λ read. (arch : machine) → All (λ machine. machine ≡ arch) read.machines.items → All (IsSound arch) read.entries.items) }
     ensures fault { IfErr result (λ fault. (fault ≡ NoMemory) ⊎ (functions_of first (map object_of inputs.now) ≡ Err fault)) }
-    ensures answered { IfErr result (λ fault. IsTrue (is_gather_answered fault)) }
 {
     let mut seen = Seen::new(alloc);
-    let mut all = AllRead {
+    let mut all = AllFunctions {
         machines: Vec::new(alloc),
         entries: Vec::new(alloc),
         sources: Vec::new(alloc),
@@ -106,7 +103,6 @@ pub fn one_machine(before: Option<Arch>, machines: &[Arch]) -> Result<Arch, Gath
     requires { (0 < length machines.now) × (length machines.now ≤ 512) }
     ensures one { IfOk result (λ arch. All (λ machine. machine ≡ arch) (with_before before machines.now)) }
     ensures exact { seen_as (λ arch. tt) result ≡ unless (mixed_among (with_before before machines.now)) }
-    ensures answered { IfErr result (λ fault. IsTrue (is_gather_answered fault)) }
 {
     let (first, arch) = match before {
         Some(arch) => (1, arch),

@@ -18,11 +18,13 @@
 mod address;
 mod assembling;
 mod elf;
+mod ends;
 mod entry;
 mod fault;
 mod frames;
 mod gathering;
 mod groups;
+mod initials;
 mod input;
 mod inputs;
 mod laws;

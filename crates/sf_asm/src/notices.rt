@@ -2,8 +2,8 @@
 
 ghost use Rattle.std.specs.Prelude.{◌≡◌, ◌∷◌, [], ℕ, Option, IsTrue, IsSome};
 ghost use Rattle.sf_model.specs.Notice.{HasLine, up_to};
-ghost use Rattle.sf_model.specs.Told.{told_by};
-ghost use Rattle.sf_asm.specs.Told.{told_of_file, told_of_elf, told_of_section, told_of_placing, told_of_relocation, told_of_relocating, told_of_place, told_of_records, told_of_instruction, told_of_machine, told_of_input, told_of_gathering, told_of_linking};
+ghost use Rattle.sf_model.specs.FaultShown.{shown_by};
+ghost use Rattle.sf_asm.specs.FaultShown.{shown_of_file, shown_of_elf, shown_of_section, shown_of_placing, shown_of_relocation, shown_of_relocating, shown_of_place, shown_of_records, shown_of_instruction, shown_of_machine, shown_of_input, shown_of_gathering, shown_of_linking};
 ghost use Rattle.sf_asm.specs.Fault.{is_place_refusal, is_reloc_refusal, is_record_refusal, is_machine_refusal, is_input_refusal, is_gather_refusal, is_refusal};
 
 use crate::fault::{AsmFault, GatherFault, LinkFault};
@@ -51,7 +51,7 @@ fn four(a: u64, b: u64, c: u64, d: u64) -> ArrayVec<u64, 4>
 
 /// The number of a fault of an ELF file and the place that it carries.
 fn elf_number(fault: ElfFault) -> (u8, u64)
-    ensures told { (item : Option ℕ) → told_of_elf item fault ≡ told_of_file item result.0 result.1 }
+    ensures shown { (item : Option ℕ) → shown_of_elf item fault ≡ shown_of_file item result.0 result.1 }
     ensures number { IsTrue (up_to 12 result.0) }
 {
     match fault {
@@ -71,7 +71,7 @@ fn elf_number(fault: ElfFault) -> (u8, u64)
 }
 
 fn elf_notice(item: Option<u32>, fault: ElfFault) -> Notice
-    ensures told { told_by result ≡ told_of_elf item fault }
+    ensures shown { shown_by result ≡ shown_of_elf item fault }
     ensures line { IsSome item → HasLine result }
 {
     let (number, place) = elf_number(fault);
@@ -86,7 +86,7 @@ fn elf_notice(item: Option<u32>, fault: ElfFault) -> Notice
 /// The number of a fault of placing and the section that it carries.
 fn place_number(fault: PlaceFault) -> (u8, u32)
     requires { IsTrue (is_place_refusal fault) }
-    ensures told { (item : Option ℕ) → told_of_placing item fault ≡ told_of_section item result.0 result.1 }
+    ensures shown { (item : Option ℕ) → shown_of_placing item fault ≡ shown_of_section item result.0 result.1 }
     ensures number { IsTrue (up_to 3 result.0) }
 {
     match fault {
@@ -99,7 +99,7 @@ fn place_number(fault: PlaceFault) -> (u8, u32)
 
 fn place_notice(item: Option<u32>, fault: PlaceFault) -> Notice
     requires { IsTrue (is_place_refusal fault) }
-    ensures told { told_by result ≡ told_of_placing item fault }
+    ensures shown { shown_by result ≡ shown_of_placing item fault }
     ensures line { IsSome item → HasLine result }
 {
     let (number, section) = place_number(fault);
@@ -114,7 +114,7 @@ fn place_notice(item: Option<u32>, fault: PlaceFault) -> Notice
 /// The number of a fault of the relocations and the number that it carries.
 fn reloc_number(fault: RelocFault) -> (u8, u32)
     requires { IsTrue (is_reloc_refusal fault) }
-    ensures told { (item : Option ℕ) (section : ℕ) → told_of_relocating item section fault ≡ told_of_relocation item section result.0 result.1 }
+    ensures shown { (item : Option ℕ) (section : ℕ) → shown_of_relocating item section fault ≡ shown_of_relocation item section result.0 result.1 }
     ensures number { IsTrue (up_to 6 result.0) }
 {
     match fault {
@@ -130,7 +130,7 @@ fn reloc_number(fault: RelocFault) -> (u8, u32)
 
 fn reloc_notice(item: Option<u32>, section: u32, fault: RelocFault) -> Notice
     requires { IsTrue (is_reloc_refusal fault) }
-    ensures told { told_by result ≡ told_of_relocating item section fault }
+    ensures shown { shown_by result ≡ shown_of_relocating item section fault }
     ensures line { IsSome item → HasLine result }
 {
     let (number, what) = reloc_number(fault);
@@ -145,7 +145,7 @@ fn reloc_notice(item: Option<u32>, section: u32, fault: RelocFault) -> Notice
 /// The number of a fault of the records and the place that it carries.
 fn record_number(fault: RecordFault) -> (u8, u32)
     requires { IsTrue (is_record_refusal fault) }
-    ensures told { (item : Option ℕ) (section : ℕ) → told_of_records item section fault ≡ told_of_place item section result.0 result.1 }
+    ensures shown { (item : Option ℕ) (section : ℕ) → shown_of_records item section fault ≡ shown_of_place item section result.0 result.1 }
     ensures number { IsTrue (up_to 9 result.0) }
 {
     match fault {
@@ -164,7 +164,7 @@ fn record_number(fault: RecordFault) -> (u8, u32)
 
 fn record_notice(item: Option<u32>, section: u32, fault: RecordFault) -> Notice
     requires { IsTrue (is_record_refusal fault) }
-    ensures told { told_by result ≡ told_of_records item section fault }
+    ensures shown { shown_by result ≡ shown_of_records item section fault }
     ensures line { IsSome item → HasLine result }
 {
     let (number, place) = record_number(fault);
@@ -177,7 +177,7 @@ fn record_notice(item: Option<u32>, section: u32, fault: RecordFault) -> Notice
 }
 
 fn insn_notice(item: Option<u32>, section: u32, fault: InsnFault) -> Notice
-    ensures told { told_by result ≡ told_of_instruction item section fault }
+    ensures shown { shown_by result ≡ shown_of_instruction item section fault }
     ensures line { IsSome item → HasLine result }
 {
     let section = u64::from(section);
@@ -196,7 +196,7 @@ fn insn_notice(item: Option<u32>, section: u32, fault: InsnFault) -> Notice
 
 fn machine_notice(item: Option<u32>, section: u32, fault: MachineFault) -> Notice
     requires { IsTrue (is_machine_refusal fault) }
-    ensures told { told_by result ≡ told_of_machine item section fault }
+    ensures shown { shown_by result ≡ shown_of_machine item section fault }
     ensures line { IsSome item → HasLine result }
 {
     let (number, place) = match fault {
@@ -219,7 +219,7 @@ impl AsmFault {
     /// The fault of the input of this number, as its line shows it.
     pub fn notice(&self, item: Option<u32>) -> Notice
         requires { IsTrue (is_input_refusal self.now) }
-        ensures told { told_by result ≡ told_of_input item self.now }
+        ensures shown { shown_by result ≡ shown_of_input item self.now }
         ensures line { IsSome item → HasLine result }
     {
         match self {
@@ -251,7 +251,7 @@ impl GatherFault {
     /// The fault as its line shows it. A fault that names its own input gives that in place of `item`.
     pub fn notice(&self, item: Option<u32>) -> Notice
         requires { IsTrue (is_gather_refusal self.now) }
-        ensures told { told_by result ≡ told_of_gathering item self.now }
+        ensures shown { shown_by result ≡ shown_of_gathering item self.now }
         ensures line { HasLine result }
     {
         match self {
@@ -273,7 +273,7 @@ impl LinkFault {
     /// The fault as its line shows it. A fault that names its own input gives that in place of `item`.
     pub fn notice(&self, item: Option<u32>) -> Notice
         requires { IsTrue (is_refusal self.now) }
-        ensures told { told_by result ≡ told_of_linking item self.now }
+        ensures shown { shown_by result ≡ shown_of_linking item self.now }
         ensures line { HasLine result }
     {
         match self {

@@ -1,6 +1,6 @@
 //! What a function that is left out says from offset to offset.
 
-ghost use Rattle.std.specs.Prelude.{◌≡◌, ◌<◌, ◌^◌, [], ◌∷◌, None, OnOk, IfOk};
+ghost use Rattle.std.specs.Prelude.{◌≡◌, ◌<◌, ◌^◌, [], ◌∷◌, None, IfOk};
 ghost use Rattle.sf_bytes.specs.Cursor.{cursor};
 ghost use Rattle.cfa_insn.specs.Listing.{listing};
 ghost use Rattle.cfa_machine.specs.Left.{rows_left};
@@ -28,27 +28,23 @@ fn is_sayable(source: &Source<'_>) -> bool
     source.facts.column == column && !source.facts.signal
 }
 
-/// Starts the runner on the instructions of an omitted function. They were run when it was read, so that no
-/// fault comes.
-fn begin<'a>(source: &Source<'a>, run: &mut Runner<'a>) -> Result<(), NoMemory>
+/// Starts the runner on an omitted function's own instructions, after those of its common information entry.
+fn begin<'a>(source: &Source<'a>, run: &mut Runner<'a>)
     ensures small { source.now.facts.size < 2 ^ 64 }
-    ensures begun { OnOk result (rows_left run.new ≡ rows_by source.now.arch source.now.code source.now.factor source.now.facts.size (listing (cursor source.now.initial)) (listing (cursor source.now.own))) }
+    ensures begun { rows_left run.new ≡ rows_by source.now.arch source.now.code source.now.factor source.now.facts.size (listing (cursor source.now.initial)) (listing (cursor source.now.own)) }
 {
-    let begun = run.start(
+    run.start_from(
+        source.row,
         source.arch,
         source.code,
         source.factor,
-        source.initial,
         source.own,
         source.facts.size,
     );
-    match begun {
-        Ok(()) => Ok(()),
-        Err(_) => Err(NoMemory),
-    }
 }
 
-/// What an omitted function says whose frames SFrame has a form for.
+/// What an omitted function says whose frames SFrame has a form for. Its instructions were run when it was read,
+/// so that no fault comes.
 fn pieces_of<'a>(
     alloc: Global,
     source: &Source<'a>,
@@ -58,7 +54,7 @@ fn pieces_of<'a>(
     ensures said { IfOk result (λ pieces. AreSaidBy source.now.facts.size (λ offset. content_in (says_of (source_function source.now) offset)) pieces.items) }
     ensures fits { IfOk result (λ pieces. AllFit source.now.arch pieces.items) }
 {
-    begin(source, run)?;
+    begin(source, run);
     match pieces_run(alloc, source.arch, run) {
         Ok(pieces) => Ok(pieces),
         Err(_) => Err(NoMemory),

@@ -1,9 +1,8 @@
 //! The functions of one input, in the order of its sections and records.
 
-ghost use Rattle.std.specs.Prelude.{◌≡◌, ◌<◌, ◌^◌, ℕ, List, All, [], ◌∷◌, length, IfOk, IfErr, OnOk, IsTrue};
+ghost use Rattle.std.specs.Prelude.{◌≡◌, ◌<◌, ◌^◌, ℕ, List, All, [], ◌∷◌, length, IfOk, OnOk};
 ghost use Rattle.sf_asm.specs.Answers.{LendsAll, ReadsAll};
 ghost use Rattle.sf_asm.specs.Entry.{IsSound};
-ghost use Rattle.sf_asm.specs.Fault.{is_input_answered};
 ghost use Rattle.sf_asm.specs.Functions.{bare_section, machine_of, object_functions, object_of, sections_functions, seen_behind};
 ghost use Rattle.sf_asm.specs.Seen.{HasSeen};
 ghost use Rattle.sf_asm.specs.Sources.{functions_lent};
@@ -11,7 +10,7 @@ ghost use Rattle.sf_asm.specs.Sources.{functions_lent};
 use crate::elf::read_elf;
 use crate::entry::Read;
 use crate::fault::AsmFault;
-use crate::frames::Frames;
+use crate::frames::CallFrameSection;
 use crate::groups::Seen;
 use crate::input::Input;
 use crate::section::read_section;
@@ -33,9 +32,8 @@ fn read_bare<'a>(
     ensures lent { IfOk result (λ read. LendsAll (functions_lent read.sources.items) (sections_functions arch item (bare_section input.now.bytes.now input.now.base ∷ []))) }
     ensures arch { IfOk result (λ read. read.arch ≡ arch) }
     ensures sound { IfOk result (λ read. All (IsSound arch) read.entries.items) }
-    ensures answered { IfErr result (λ fault. IsTrue (is_input_answered fault)) }
 {
-    let section = Frames {
+    let section = CallFrameSection {
         arch,
         item,
         number: BARE_SECTION,
@@ -62,7 +60,6 @@ pub fn read_input<'a>(
     ensures seen { OnOk result ((signatures : List (List ℕ)) → HasSeen seen.old signatures → HasSeen seen.new (seen_behind signatures (object_of input.now))) }
     ensures arch { IfOk result (λ read. read.arch ≡ machine_of (object_of input.now)) }
     ensures sound { IfOk result (λ read. All (IsSound read.arch) read.entries.items) }
-    ensures answered { IfErr result (λ fault. IsTrue (is_input_answered fault)) }
 {
     match input.form {
         Form::Elf => read_elf(alloc, item, input.bytes, input.base, seen),

@@ -5,21 +5,24 @@ ghost use Rattle.std.specs.Option.{option_map};
 ghost use Rattle.sf_bytes.specs.Cursor.{cursor};
 ghost use Rattle.sf_model.specs.Function.{key_fits};
 ghost use Rattle.cfa_insn.specs.Listing.{listing};
+ghost use Rattle.cfa_machine.specs.Initial.{IsInitial};
 ghost use Rattle.cfa_machine.specs.Left.{limit, rows_left};
 ghost use Rattle.cfa_machine.specs.Pass.{rows_by};
 ghost use Rattle.eh_records.specs.Fde.{fde_view};
+ghost use Rattle.eh_records.specs.Named.{HasNamed};
 ghost use Rattle.eh_records.specs.Section.{entries_of, frames, pointer_fields};
-ghost use Rattle.eh_records.specs.View.{arch_of as machine_of_records, entries as entries_of_records};
+ghost use Rattle.eh_records.specs.View.{arch_of as machine_of_records, bytes_of as bytes_of_records, entries as entries_of_records};
 ghost use Rattle.elf_place.specs.Views.{placing};
 ghost use Rattle.elf_reloc.specs.declared.fault.RelocFault.{RelocFault as reloc_fault};
-ghost use Rattle.elf_reloc.specs.declared.fix.Fix.{Fix};
+ghost use Rattle.elf_reloc.specs.declared.fix.RelocatedField.{RelocatedField};
 ghost use Rattle.sf_express.specs.Expressed.{function_by};
 ghost use Rattle.sf_express.specs.Run.{on_rows};
 ghost use Rattle.sf_asm.specs.Answers.{IsRecordsFault, IsRelocFault, IsRowsFault, LendsMore, ReadsMore, ReadsOne};
 ghost use Rattle.sf_asm.specs.Entry.{IsSound};
-ghost use Rattle.sf_asm.specs.Fault.{is_input_answered, wraps_record, wraps_reloc, wraps_machine};
+ghost use Rattle.sf_asm.specs.Fault.{wraps_record, wraps_reloc, wraps_machine};
 ghost use Rattle.sf_asm.specs.declared.fault.AsmFault.TheVariants.{Record};
 ghost use Rattle.sf_asm.specs.Functions.{function_in, functions_in, named, section_functions, span_in};
+ghost use Rattle.sf_asm.specs.Initials.{AreInitial};
 ghost use Rattle.sf_asm.specs.Kept.{outcome_by};
 ghost use Rattle.sf_asm.specs.Relocated.{pointer_check};
 ghost use Rattle.sf_asm.specs.Sources.{function_by_facts, functions_lent, source_function};
@@ -27,10 +30,11 @@ ghost use Rattle.sf_asm.specs.Views.{AreChecked, IsReadFrom, overlaid, relocatio
 
 use crate::entry::{Entry, OneRead, Outcome, Read};
 use crate::fault::AsmFault;
-use crate::frames::Frames;
+use crate::frames::CallFrameSection;
+use crate::initials::Initials;
 use crate::overlay::Overlay;
 use crate::source::Source;
-use cfa_machine::{MachineFault, Runner};
+use cfa_machine::{Columns, MachineFault, Runner};
 use eh_records::{Fde, RecordFault, Records};
 use elf_place::Placed;
 use elf_reloc::RelocFault;
@@ -38,10 +42,9 @@ use sf_express::express_run;
 use sf_model::{Arch, FdeFacts, Origin, Span};
 use std::alloc::Global;
 
-/// A fault of a section's records, where want of memory stands alone.
+/// A fault of a section's records; `NoMemory` is passed on unwrapped.
 fn record_fault(section: u32, fault: RecordFault) -> AsmFault
-    ensures is { result ≡ wraps_record section fault }
-    ensures answered { IsTrue (is_input_answered result) }
+    ensures { result ≡ wraps_record section fault }
 {
     match fault {
         RecordFault::NoMemory => AsmFault::NoMemory,
@@ -49,10 +52,9 @@ fn record_fault(section: u32, fault: RecordFault) -> AsmFault
     }
 }
 
-/// A fault of its relocations, where want of memory stands alone.
+/// A fault of its relocations; `NoMemory` is passed on unwrapped.
 fn reloc_fault(section: u32, fault: RelocFault) -> AsmFault
-    ensures is { result ≡ wraps_reloc section fault }
-    ensures answered { IsTrue (is_input_answered result) }
+    ensures { result ≡ wraps_reloc section fault }
 {
     match fault {
         RelocFault::NoMemory => AsmFault::NoMemory,
@@ -60,10 +62,9 @@ fn reloc_fault(section: u32, fault: RelocFault) -> AsmFault
     }
 }
 
-/// A fault of its instructions, where want of memory stands alone.
+/// A fault of its instructions; `NoMemory` is passed on unwrapped.
 fn machine_fault(section: u32, fault: MachineFault) -> AsmFault
-    ensures is { result ≡ wraps_machine section fault }
-    ensures answered { IsTrue (is_input_answered result) }
+    ensures { result ≡ wraps_machine section fault }
 {
     match fault {
         MachineFault::NoMemory => AsmFault::NoMemory,
@@ -72,11 +73,11 @@ fn machine_fault(section: u32, fault: MachineFault) -> AsmFault
 }
 
 /// The records of a section.
-fn records_of<'a>(alloc: Global, section: &Frames<'a>) -> Result<Records<'a>, AsmFault>
+fn records_of<'a>(alloc: Global, section: &CallFrameSection<'a>) -> Result<Records<'a>, AsmFault>
     ensures whole { IfOk result (λ records. entries_of section.now.arch section.now.bytes.now ≡ Ok (entries_of_records records)) }
     ensures machine { IfOk result (λ records. machine_of_records records ≡ section.now.arch) }
+    ensures bytes { IfOk result (λ records. bytes_of_records records ≡ section.now.bytes.now) }
     ensures fault { IfErr result (λ fault. IsRecordsFault section.now.number fault (entries_of section.now.arch section.now.bytes.now)) }
-    ensures answered { IfErr result (λ fault. IsTrue (is_input_answered fault)) }
 {
     match Records::parse(alloc, section.bytes, section.arch) {
         Ok(records) => Ok(records),
@@ -89,7 +90,6 @@ fn overlay_of(alloc: Global, placed: Option<&Placed<'_>>, section: u32) -> Resul
     ensures read { IfOk result (λ overlay. relocations_by (option_map (λ p. placing p.now) placed.entry) section ≡ Ok (written_by overlay)) }
     ensures from { IfOk result (λ overlay. IsReadFrom (option_map (λ p. placing p.now) placed.entry) section (written_by overlay)) }
     ensures fault { IfErr result (λ fault. IsRelocFault section fault (relocations_by (option_map (λ p. placing p.now) placed.entry) section)) }
-    ensures answered { IfErr result (λ fault. IsTrue (is_input_answered fault)) }
 {
     match Overlay::new(alloc, placed, section) {
         Ok(overlay) => Ok(overlay),
@@ -107,7 +107,6 @@ fn check_overlay(
     ensures lie { OnOk result (pointer_check (pointer_fields (entries_of_records records.now)) (written_by overlay.now) ≡ Ok tt) }
     ensures checked { OnOk result (AreChecked (pointer_fields (entries_of_records records.now)) (written_by overlay.now)) }
     ensures fault { IfErr result (λ fault. IsRelocFault section fault (pointer_check (pointer_fields (entries_of_records records.now)) (written_by overlay.now))) }
-    ensures answered { IfErr result (λ fault. IsTrue (is_input_answered fault)) }
 {
     match overlay.check(alloc, records) {
         Ok(()) => Ok(()),
@@ -117,10 +116,13 @@ fn check_overlay(
 
 /// The start and size of a function.
 #[inline(always)]
-fn span_of(section: &Frames<'_>, overlay: &Overlay, fde: &Fde<'_>) -> Result<(u64, u64), AsmFault>
-    ensures exact { (relocations : Result (List Fix) reloc_fault) → result ≡ named (Record section.now.number) (span_in (seen_section section.now relocations) (overlaid (written_by overlay.now)) (fde_view fde.now)) }
+fn span_of(
+    section: &CallFrameSection<'_>,
+    overlay: &Overlay,
+    fde: &Fde<'_>,
+) -> Result<(u64, u64), AsmFault>
+    ensures exact { (relocations : Result (List RelocatedField) reloc_fault) → result ≡ named (Record section.now.number) (span_in (seen_section section.now relocations) (overlaid (written_by overlay.now)) (fde_view fde.now)) }
     ensures end { IfOk result (λ s. s.0 + s.1 ≤ 2 ^ 64) }
-    ensures answered { IfErr result (λ fault. IsTrue (is_input_answered fault)) }
 {
     match fde.span(section.address, section.shift, overlay) {
         Ok(span) => Ok(span),
@@ -128,29 +130,29 @@ fn span_of(section: &Frames<'_>, overlay: &Overlay, fde: &Fde<'_>) -> Result<(u6
     }
 }
 
-/// Starts the runner on the rows of a function.
+/// Starts the runner on the rows of a function, whose initial row is returned.
 #[inline(always)]
 fn begin_rows<'a>(
-    section: &Frames<'a>,
+    section: &CallFrameSection<'a>,
     fde: &Fde<'a>,
     size: u64,
+    initials: &mut Initials,
     run: &mut Runner<'a>,
-) -> Result<(), AsmFault>
+) -> Result<Columns, AsmFault>
+    requires initials { AreInitial section.now.arch section.now.bytes.now initials.old }
+    requires named { HasNamed section.now.arch section.now.bytes.now (fde_view fde.now) }
+    ensures initials { OnOk result (AreInitial section.now.arch section.now.bytes.now initials.new) }
+    ensures initial { IfOk result (λ row. IsInitial section.now.arch fde.now.cie.factor (listing (cursor fde.now.cie.insns)) row) }
     ensures begins { OnOk result (rows_left run.new ≡ rows_by section.now.arch fde.now.cie.code fde.now.cie.factor size (listing (cursor fde.now.cie.insns)) (listing (cursor fde.now.insns))) }
     ensures limit { OnOk result (limit run.new ≡ size) }
     ensures fault { IfErr result (λ fault. IsRowsFault section.now.number fault (rows_by section.now.arch fde.now.cie.code fde.now.cie.factor size (listing (cursor fde.now.cie.insns)) (listing (cursor fde.now.insns)))) }
-    ensures answered { IfErr result (λ fault. IsTrue (is_input_answered fault)) }
 {
     let cie = fde.cie;
-    match run.start(
-        section.arch,
-        cie.code,
-        cie.factor,
-        cie.insns,
-        fde.insns,
-        size,
-    ) {
-        Ok(()) => Ok(()),
+    match initials.row(section, &cie) {
+        Ok(initial) => {
+            run.start_from(initial, section.arch, cie.code, cie.factor, fde.insns, size);
+            Ok(initial)
+        }
         Err(fault) => Err(machine_fault(section.number, fault)),
     }
 }
@@ -159,14 +161,13 @@ fn begin_rows<'a>(
 #[inline(always)]
 fn outcome_of(
     alloc: Global,
-    section: &Frames<'_>,
+    section: &CallFrameSection<'_>,
     facts: &FdeFacts,
     run: &mut Runner<'_>,
 ) -> Result<Outcome, AsmFault>
     requires { limit run.old ≡ facts.now.size }
     ensures given { IfOk result (λ outcome. on_rows (λ rows. outcome_by (function_by section.now.arch facts.now rows)) (rows_left run.old) ≡ Ok outcome) }
     ensures fault { IfErr result (λ fault. IsRowsFault section.now.number fault (rows_left run.old)) }
-    ensures answered { IfErr result (λ fault. IsTrue (is_input_answered fault)) }
 {
     match express_run(alloc, section.arch, facts, run) {
         Ok(Ok(function)) => Ok(Outcome::Kept(function)),
@@ -177,8 +178,15 @@ fn outcome_of(
 
 /// A function as its records say it.
 #[inline(always)]
-fn source_of<'a>(section: &Frames<'a>, fde: &Fde<'a>, facts: FdeFacts, origin: Origin) -> Source<'a>
+fn source_of<'a>(
+    section: &CallFrameSection<'a>,
+    fde: &Fde<'a>,
+    facts: FdeFacts,
+    initial: Columns,
+    origin: Origin,
+) -> Source<'a>
     requires ends { facts.start + facts.size ≤ 2 ^ 64 }
+    requires initial { IsInitial section.now.arch fde.now.cie.factor (listing (cursor fde.now.cie.insns)) initial }
     requires key { IsTrue (key_fits section.now.arch facts.key) }
     ensures { source_function result ≡ function_by_facts section.now.arch facts fde.now origin }
 {
@@ -189,6 +197,7 @@ fn source_of<'a>(section: &Frames<'a>, fde: &Fde<'a>, facts: FdeFacts, origin: O
         code: cie.code,
         factor: cie.factor,
         initial: cie.insns,
+        row: initial,
         own: fde.insns,
         origin,
     }
@@ -198,19 +207,22 @@ fn source_of<'a>(section: &Frames<'a>, fde: &Fde<'a>, facts: FdeFacts, origin: O
 #[inline(always)]
 fn read_function<'a>(
     alloc: Global,
-    section: &Frames<'a>,
+    section: &CallFrameSection<'a>,
     overlay: &Overlay,
     fde: &Fde<'a>,
+    initials: &mut Initials,
     run: &mut Runner<'a>,
 ) -> Result<OneRead<'a>, AsmFault>
-    requires { IsTrue (key_fits section.now.arch fde.now.cie.key) }
-    ensures exact { (relocations : Result (List Fix) reloc_fault) → ReadsOne result (function_in section.now.arch section.now.item (seen_section section.now relocations) (overlaid (written_by overlay.now)) (fde_view fde.now)) }
-    ensures source { IfOk result (λ read. (relocations : Result (List Fix) reloc_fault) → function_in section.now.arch section.now.item (seen_section section.now relocations) (overlaid (written_by overlay.now)) (fde_view fde.now) ≡ Ok (source_function read.source)) }
+    requires key { IsTrue (key_fits section.now.arch fde.now.cie.key) }
+    requires initials { AreInitial section.now.arch section.now.bytes.now initials.old }
+    requires named { HasNamed section.now.arch section.now.bytes.now (fde_view fde.now) }
+    ensures initials { OnOk result (AreInitial section.now.arch section.now.bytes.now initials.new) }
+    ensures exact { (relocations : Result (List RelocatedField) reloc_fault) → ReadsOne result (function_in section.now.arch section.now.item (seen_section section.now relocations) (overlaid (written_by overlay.now)) (fde_view fde.now)) }
+    ensures source { IfOk result (λ read. (relocations : Result (List RelocatedField) reloc_fault) → function_in section.now.arch section.now.item (seen_section section.now relocations) (overlaid (written_by overlay.now)) (fde_view fde.now) ≡ Ok (source_function read.source)) }
     ensures sound { IfOk result (λ read. IsSound section.now.arch read.entry) }
-    ensures answered { IfErr result (λ fault. IsTrue (is_input_answered fault)) }
 {
     let (start, size) = span_of(section, overlay, fde)?;
-    begin_rows(section, fde, size, run)?;
+    let initial = begin_rows(section, fde, size, initials, run)?;
     let facts = FdeFacts {
         start,
         size,
@@ -231,32 +243,34 @@ fn read_function<'a>(
     };
     Ok(OneRead {
         entry: Entry { span, outcome },
-        source: source_of(section, fde, facts, origin),
+        source: source_of(section, fde, facts, initial, origin),
     })
 }
 
 /// The functions of the records, after those that were read before.
 fn read_frames<'a>(
     alloc: Global,
-    section: &Frames<'a>,
+    section: &CallFrameSection<'a>,
     overlay: &Overlay,
     records: &Records<'a>,
     read: &mut Read<'a>,
 ) -> Result<(), AsmFault>
     requires machine { machine_of_records records.now ≡ section.now.arch }
+    requires bytes { bytes_of_records records.now ≡ section.now.bytes.now }
     requires sound { All (IsSound section.now.arch) read.old.entries.items }
-    ensures exact { (relocations : Result (List Fix) reloc_fault) → ReadsMore result read.old.entries.items read.new.entries.items (functions_in section.now.arch section.now.item (seen_section section.now relocations) (overlaid (written_by overlay.now)) (frames (entries_of_records records.now))) }
-    ensures lent { OnOk result ((relocations : Result (List Fix) reloc_fault) → LendsMore (functions_lent read.old.sources.items) (functions_lent read.new.sources.items) (functions_in section.now.arch section.now.item (seen_section section.now relocations) (overlaid (written_by overlay.now)) (frames (entries_of_records records.now)))) }
+    ensures exact { (relocations : Result (List RelocatedField) reloc_fault) → ReadsMore result read.old.entries.items read.new.entries.items (functions_in section.now.arch section.now.item (seen_section section.now relocations) (overlaid (written_by overlay.now)) (frames (entries_of_records records.now))) }
+    ensures lent { OnOk result ((relocations : Result (List RelocatedField) reloc_fault) → LendsMore (functions_lent read.old.sources.items) (functions_lent read.new.sources.items) (functions_in section.now.arch section.now.item (seen_section section.now relocations) (overlaid (written_by overlay.now)) (frames (entries_of_records records.now)))) }
     ensures arch { read.new.arch ≡ read.old.arch }
     ensures sound { OnOk result (All (IsSound section.now.arch) read.new.entries.items) }
-    ensures answered { IfErr result (λ fault. IsTrue (is_input_answered fault)) }
 {
+    let mut initials = Initials::new(alloc);
     let mut run = Runner::new();
     for fde in records.fdes() {
         if overlay.dropped(fde.begin) {
             continue;
         }
-        read.push(read_function(alloc, section, overlay, &fde, &mut run)?)?;
+        let one = read_function(alloc, section, overlay, &fde, &mut initials, &mut run)?;
+        read.push(one)?;
     }
     Ok(())
 }
@@ -264,7 +278,7 @@ fn read_frames<'a>(
 /// The functions of a section of a file, or of none, after those that were read before.
 pub fn read_section<'a>(
     alloc: Global,
-    section: &Frames<'a>,
+    section: &CallFrameSection<'a>,
     placed: Option<&Placed<'_>>,
     read: &mut Read<'a>,
 ) -> Result<(), AsmFault>
@@ -273,7 +287,6 @@ pub fn read_section<'a>(
     ensures lent { OnOk result (LendsMore (functions_lent read.old.sources.items) (functions_lent read.new.sources.items) (section_functions section.now.arch section.now.item (seen_section section.now (relocations_by (option_map (λ p. placing p.now) placed.entry) section.now.number)))) }
     ensures arch { read.new.arch ≡ read.old.arch }
     ensures sound { OnOk result (All (IsSound section.now.arch) read.new.entries.items) }
-    ensures answered { IfErr result (λ fault. IsTrue (is_input_answered fault)) }
 {
     let records = records_of(alloc, section)?;
     let overlay = overlay_of(alloc, placed, section.number)?;

@@ -1,8 +1,12 @@
 //! Functions as their records say them.
 
 ghost use Rattle.std.specs.Prelude.{◌≤◌, ◌+◌, ◌^◌, IsTrue};
+ghost use Rattle.sf_bytes.specs.Cursor.{cursor};
 ghost use Rattle.sf_model.specs.Function.{key_fits};
+ghost use Rattle.cfa_insn.specs.Listing.{listing};
+ghost use Rattle.cfa_machine.specs.Initial.{IsInitial};
 
+use cfa_machine::Columns;
 use sf_bytes::Part;
 use sf_model::{Arch, FdeFacts, Origin};
 
@@ -20,10 +24,13 @@ pub struct Source<'a> {
     pub factor: i64,
     /// The instructions of its common information entry.
     pub initial: Part<'a>,
+    /// The row that they give.
+    pub row: Columns,
     /// Its own instructions.
     pub own: Part<'a>,
     /// The record that it came from.
     pub origin: Origin,
     ghost ends: { facts.start + facts.size ≤ 2 ^ 64 },
     ghost has_key: { IsTrue (key_fits arch facts.key) },
+    ghost given: { IsInitial arch factor (listing (cursor initial)) row },
 }

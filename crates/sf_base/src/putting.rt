@@ -6,7 +6,7 @@ ghost use Rattle.sf_base.specs.Faults.{Cause};
 
 use crate::{Failed, Files, Sink};
 
-/// Appends all the bytes to the sink. Takes no memory.
+/// Appends all the bytes to the sink. Allocates nothing.
 ///
 /// # Errors
 ///
@@ -23,7 +23,7 @@ pub fn put_all<S: Sink>(sink: &mut S, bytes: &[u8]) -> Result<(), Failed>
     Ok(())
 }
 
-/// Appends all the bytes to the created file. Takes no memory.
+/// Appends all the bytes to the created file. Allocates nothing.
 ///
 /// # Errors
 ///

@@ -10,7 +10,7 @@ use crate::lookup::bytes_of;
 use crate::{Failed, Files};
 
 /// Files that are read from a lent list, and of whose written bytes the number alone is kept. They never fail,
-/// and take no memory. A name that is not in the list is that of an empty file. What they hold is told until
+/// and allocate nothing. A name that is not in the list is that of an empty file. What they hold is told until
 /// a file is created, and not after.
 #[derive(Drop)]
 pub struct SureFiles<'a> {

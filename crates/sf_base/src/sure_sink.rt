@@ -3,7 +3,7 @@ ghost use Rattle.std.specs.Prelude.{◌≡◌, ◌+◌, ◌-◌, ◌^◌, min, l
 
 use crate::{Failed, Sink};
 
-/// A sink that keeps the number of its bytes alone. It tells none of them, takes no memory and never fails.
+/// A sink that keeps the number of its bytes alone. It tells none of them, allocates nothing and never fails.
 #[derive(Clone, Copy, Debug, PartialEq, Eq)]
 pub struct SureSink {
     count: u64,

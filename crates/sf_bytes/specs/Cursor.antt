@@ -5,6 +5,7 @@ use Rattle.byteorder.specs.Endian.{little_number, twos_complement}
 use Rattle.sf_bytes.specs.declared.fault.ByteFault.{ByteFault}
 use Rattle.sf_bytes.specs.declared.fault.ByteFault.TheVariants.{Short}
 use Rattle.sf_bytes.specs.declared.part.Part.{Part}
+pub use Rattle.sf_bytes.specs.Steps.{◌>>=◌}
 
 -- a place, and the bytes that stand from it on
 pub record Cursor : Type 0 where
@@ -22,12 +23,6 @@ past n at = record { place = at.place + n; left = drop n at.left }
 -- a value and the cursor behind it, or the first fault
 abbrev pub Read : Type 0 → Type 0
 Read X = Result (X × Cursor) ByteFault
-
--- a step that goes on behind another one
-infixl 10 ◌>>=◌
-abbrev pub ◌>>=◌ : {A B : Type 0} → Result A ByteFault → (A → Result B ByteFault) → Result B ByteFault
-(Ok x) >>= f = f x
-(Err e) >>= f = Err e
 
 -- what a call on a part answered, seen by view, is what the read gives, and the part is what the read
 -- leaves; on a fault the part is unchanged

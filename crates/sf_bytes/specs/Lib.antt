@@ -1,3 +1,4 @@
+pub mod Steps
 pub mod Cursor
 pub mod Field
 pub mod Leb

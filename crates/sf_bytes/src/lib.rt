@@ -8,7 +8,7 @@
 //! function on cursors that answers the value and the next cursor or the first fault; its contract says
 //! that the read gives the same. Layers above write what they read with the same functions.
 //!
-//! The caller owes that a part's place and length together stay below 2^64. Nothing takes memory.
+//! The caller owes that a part's place and length together stay below 2^64. Nothing allocates.
 #![tactic(auto)]
 
 mod fault;

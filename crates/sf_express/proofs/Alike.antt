@@ -27,7 +27,7 @@ use Rattle.cfa_machine.specs.declared.row.DwRow.{DwRow}
 use Rattle.cfa_machine.specs.Registers.{stack_pointer, frame_pointer}
 use Rattle.cfa_machine.specs.Columns.{row_from}
 use Rattle.cfa_machine.specs.FullRow.{FullRow, columns_of}
-use Rattle.cfa_machine.specs.At.{latest_at, SaysAt}
+use Rattle.cfa_machine.specs.RowAtOffset.{latest_at, SaysAt}
 use Rattle.cfa_machine.specs.ColumnRecovery.{columns_recover, columns_recover_from, return_register}
 use Rattle.cfa_machine.specs.Recovery.{RuleRecovery, register_value, frame_address_by, value_by}
 use Rattle.cfa_machine.proofs.ColumnRecovery.{recovery_of_columns}

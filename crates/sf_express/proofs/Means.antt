@@ -13,7 +13,7 @@ use Rattle.sf_model.specs.declared.omission.Reason.{Reason}
 use Rattle.sf_model.specs.declared.rows.Row.{Row}
 use Rattle.cfa_machine.specs.declared.row.DwRow.{DwRow}
 use Rattle.cfa_machine.specs.RowList.{AreRows}
-use Rattle.cfa_machine.specs.At.{latest_at}
+use Rattle.cfa_machine.specs.RowAtOffset.{latest_at}
 use Rattle.sf_express.specs.declared.fault.ExpressFault.{ExpressFault}
 use Rattle.sf_express.specs.declared.fault.ExpressFault.TheVariants.{Omit, NoMemory}
 use Rattle.sf_express.specs.Parts.{content_of}

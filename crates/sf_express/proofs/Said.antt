@@ -12,7 +12,7 @@ use Rattle.sf_model.specs.declared.omission.Reason.{Reason}
 use Rattle.cfa_machine.specs.declared.columns.Columns.{Columns}
 use Rattle.cfa_machine.specs.declared.fault.MachineFault.{MachineFault}
 use Rattle.cfa_machine.specs.declared.row.DwRow.{DwRow}
-use Rattle.cfa_machine.specs.At.{latest_at}
+use Rattle.cfa_machine.specs.RowAtOffset.{latest_at}
 use Rattle.cfa_machine.specs.Columns.{row_from}
 use Rattle.cfa_machine.specs.Left.{behind_row}
 use Rattle.cfa_machine.specs.RowList.{AreRows, BeginAtZero, RiseFrom}

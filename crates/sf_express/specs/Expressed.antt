@@ -7,7 +7,6 @@ use Rattle.sf_model.specs.declared.content.Ra.{Ra}
 use Rattle.sf_model.specs.declared.content.Ra.TheVariants.{Fixed, Link, At}
 use Rattle.sf_model.specs.declared.content.Content.{Content}
 use Rattle.sf_model.specs.declared.machine.Arch.{Arch}
-use Rattle.sf_model.specs.declared.machine.Arch.TheVariants.{Amd64, Aarch64}
 use Rattle.sf_model.specs.declared.facts.FdeFacts.{FdeFacts}
 use Rattle.sf_model.specs.declared.function.Func.{Func}
 use Rattle.sf_model.specs.declared.function.Shape.TheVariants.{Plain}
@@ -19,6 +18,8 @@ use Rattle.cfa_machine.specs.declared.row.DwRow.{DwRow}
 use Rattle.sf_express.specs.declared.fault.ExpressFault.{ExpressFault}
 use Rattle.sf_express.specs.declared.fault.ExpressFault.TheVariants.{Omit, NoMemory}
 use Rattle.sf_express.specs.Parts.{content_of}
+pub use Rattle.sf_bytes.specs.Steps.{◌>>=◌}
+use Rattle.cfa_machine.specs.Registers.{return_address}
 
 -- ---- whether two contents are the same
 abbrev pub same_base : Base → Base → Bool
@@ -56,25 +57,15 @@ repeats None c = false
 repeats (Some last) c = same_content last c
 
 -- ---- the whole function (its size is in four bytes, and it has the machine's return address)
-abbrev pub column_of : Arch → ℕ
-column_of Amd64 = 16
-column_of Aarch64 = 30
-
 -- the first reason of the function as a whole
 abbrev pub reason_of : Arch → FdeFacts → Option Reason
 reason_of arch facts =
     if facts.size == 0 then Some EmptyRange else
     if nat_le (2 ^ 32) facts.size then Some SizeTooLarge else
-    if facts.column == column_of arch then (if facts.signal then Some SignalFrame else None) else
+    if facts.column == return_address arch then (if facts.signal then Some SignalFrame else None) else
     Some ReturnColumn
 
 -- ---- its rows
--- a step that goes on behind another one, whose omission comes first
-infixl 10 ◌>>=◌
-abbrev pub ◌>>=◌ : {A B : Type 0} → Result A Omission → (A → Result B Omission) → Result B Omission
-(Ok x) >>= f = f x
-(Err e) >>= f = Err e
-
 -- the content from a start on, or the reason there
 abbrev pub row_from : ℕ → Result Content Reason → Result Row Omission
 row_from start (Ok c) = Ok (record { start = start; content = c })

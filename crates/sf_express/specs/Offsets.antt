@@ -11,7 +11,7 @@ use Rattle.sf_express.specs.declared.fault.ExpressFault.{ExpressFault}
 use Rattle.sf_express.specs.declared.fault.ExpressFault.TheVariants.{Omit, NoMemory}
 use Rattle.sf_express.specs.Expressed.{reason_of}
 use Rattle.cfa_machine.specs.declared.row.DwRow.{DwRow}
-use Rattle.cfa_machine.specs.At.{latest_at}
+use Rattle.cfa_machine.specs.RowAtOffset.{latest_at}
 use Rattle.sf_express.specs.Parts.{content_of}
 
 -- the content, or the reason against it, of the call frame instructions' row at an offset

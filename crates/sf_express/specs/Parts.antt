@@ -16,12 +16,7 @@ use Rattle.cfa_machine.specs.declared.rule.Rule.{Rule}
 use Rattle.cfa_machine.specs.declared.rule.Rule.TheVariants as rule
 use Rattle.cfa_machine.specs.declared.row.DwRow.{DwRow}
 use Rattle.cfa_machine.specs.Registers.{stack_pointer, frame_pointer}
-
--- a part that goes on behind another one, whose reason comes first
-infixl 10 ◌>>=◌
-abbrev pub ◌>>=◌ : {A B : Type 0} → Result A Reason → (A → Result B Reason) → Result B Reason
-(Ok x) >>= f = f x
-(Err e) >>= f = Err e
+pub use Rattle.sf_bytes.specs.Steps.{◌>>=◌}
 
 -- whether a number fits 32 bits as two's complement
 abbrev pub fits_i32 : ℤ → Bool

@@ -13,6 +13,7 @@ use Rattle.sf_model.specs.declared.rows.Row.{Row}
 use Rattle.cfa_machine.specs.declared.row.DwRow.{DwRow}
 use Rattle.sf_express.specs.Expressed.{same_content, reason_of}
 use Rattle.sf_express.specs.Offsets.{said_at}
+pub use Rattle.sf_model.specs.Firsts.{or_later}
 
 -- what is said at each offset: a content, or the first reason against the row there
 abbrev pub Saying : Type 0
@@ -23,10 +24,6 @@ Saying = (offset : ℕ) → Result Content Reason
 abbrev pub against : (offset : ℕ) → Result Content Reason → Option Omission
 against offset (Ok content) = None
 against offset (Err reason) = Some (record { reason = reason; offset = Some offset })
-
-abbrev pub or_later : Option Omission → Option Omission → Option Omission
-or_later (Some omission) later = Some omission
-or_later None later = later
 
 -- the first reason at one of these offsets
 abbrev pub first_against : Saying → List ℕ → Option Omission

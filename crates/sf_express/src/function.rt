@@ -6,11 +6,11 @@ ghost use Rattle.sf_model.specs.Function.{IsWritable, key_fits};
 ghost use Rattle.cfa_machine.specs.RowList.{AreRows};
 ghost use Rattle.sf_express.specs.Offsets.{Omits, SayTheSame, StandAtChanges};
 ghost use Rattle.sf_express.specs.Runs.{AreSaid, Saying, function_of};
-ghost use Rattle.sf_express.specs.Expressed.{repeats, same_content, column_of, reason_of, row_by, unless_repeated, Makes, Gives, expressed_rows, function_by};
+ghost use Rattle.sf_express.specs.Expressed.{repeats, same_content, reason_of, row_by, unless_repeated, Makes, Gives, expressed_rows, function_by};
 
 use crate::fault::ExpressFault;
 use crate::row::content;
-use cfa_machine::DwRow;
+use cfa_machine::{DwRow, return_address_of};
 use sf_model::{Arch, Content, FdeFacts, Func, Omission, Reason, Row, Rows, Shape};
 use std::alloc::{AllocError, Global};
 
@@ -40,16 +40,6 @@ fn is_repeated(last: Option<Content>, content: Content) -> bool
     }
 }
 
-// The return column that a machine's rows describe.
-fn return_column(arch: Arch) -> u64
-    ensures { result ≡ column_of arch }
-{
-    match arch {
-        Arch::Amd64 => 16,
-        Arch::Aarch64 => 30,
-    }
-}
-
 /// The first reason of the function as a whole.
 pub fn function_reason(arch: Arch, facts: &FdeFacts) -> Option<Reason>
     ensures { result ≡ reason_of arch facts.now }
@@ -60,7 +50,7 @@ pub fn function_reason(arch: Arch, facts: &FdeFacts) -> Option<Reason>
     if facts.size >= SIZE_LIMIT {
         return Some(Reason::SizeTooLarge);
     }
-    if facts.column != return_column(arch) {
+    if facts.column != return_address_of(arch) {
         return Some(Reason::ReturnColumn);
     }
     if facts.signal {

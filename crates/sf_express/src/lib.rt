@@ -1,14 +1,14 @@
 //! What SFrame Version 2 can express of a function's rows, and why it can't.
 //!
 //! [`content`] gives what a row of the call frame instructions says in the form of a frame row entry, or
-//! the first reason why none does. [`express`] gives the whole function as a section holds it, or the
+//! the first reason why none does, and [`content_at`] the same of its columns. [`express`] gives the whole function as a section holds it, or the
 //! first reason of the function or else of the row with the least offset. Neighbouring rows that say the
 //! same are one row.
 //!
 //! [`rows_recover_alike`] and [`functions_recover_alike`] are laws: what SFrame expresses recovers the same of
 //! the caller's frame as the call frame instructions.
 //!
-//! The caller of [`express`] owes rows as `cfa_machine` gives them. Only `express` takes memory.
+//! The caller of [`express`] owes rows as `cfa_machine` gives them. Only `express` allocates.
 #![tactic(auto)]
 
 mod fault;
@@ -23,7 +23,7 @@ pub use fault::ExpressFault;
 pub use function::express;
 pub use pieces::{Piece, piece_at, pieces_of_rows, pieces_run};
 pub use recovery::{functions_recover_alike, rows_recover_alike};
-pub use row::content;
+pub use row::{content, content_at};
 pub use run::express_run;
 
 #[cfg(test)]

@@ -3,7 +3,7 @@
 ghost use Rattle.std.specs.Prelude.{◌≡◌};
 ghost use Rattle.sf_express.specs.Parts.{narrowed, base_of, cfa_part, sp_part, ra_part, fp_part, pair_part, sign_part};
 
-use cfa_machine::{CfaRule, Rule};
+use cfa_machine::{CfaRule, Rule, frame_pointer_of, stack_pointer_of};
 use sf_model::{Arch, Base, Ra, Reason};
 
 /// The offset of a return address on AMD64, from the canonical frame address.
@@ -26,13 +26,9 @@ fn as_i32(number: i128) -> Option<i32>
 fn base(arch: Arch, register: u64) -> Option<Base>
     ensures { result ≡ base_of arch register }
 {
-    let (sp, fp) = match arch {
-        Arch::Amd64 => (7, 6),
-        Arch::Aarch64 => (31, 29),
-    };
-    if register == sp {
+    if register == stack_pointer_of(arch) {
         Some(Base::Sp)
-    } else if register == fp {
+    } else if register == frame_pointer_of(arch) {
         Some(Base::Fp)
     } else {
         None

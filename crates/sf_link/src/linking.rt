@@ -18,7 +18,7 @@ use std::alloc::Global;
 /// # Errors
 ///
 /// The first fault of the first faulty input; then two machines, the limits of functions and rows, two
-/// functions that share an address, and a function too far from the section, in this order; want of memory
+/// functions that share an address, and a function too far from the section, in this order; memory may run out
 /// at any time.
 pub fn link(
     alloc: Global,

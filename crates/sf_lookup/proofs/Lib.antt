@@ -5,3 +5,5 @@ pub mod Worked
 pub mod Halving
 pub mod Checked
 pub mod FoundRows
+pub mod Covering
+pub mod Indexing

@@ -29,7 +29,7 @@ fn contains(func: &FuncHead, pc: u64) -> bool
 
 /// Whether the functions are sorted by start.
 #[inline(always)]
-fn is_sorted(flags: u8) -> bool
+pub fn is_sorted(flags: u8) -> bool
     ensures { result ≡ is_sorted flags }
 {
     flags % 2 == SORTED

@@ -7,24 +7,38 @@
 //! [`Starts`]; it learns an address by a counted read alone, and of n addresses it reads at most k, where
 //! 2^k <= 2n + 1. [`Steps`] is the count, as contracts see it; it takes no bytes.
 //!
+//! [`Indexed`] is a section that was put in order, for many look-ups: [`Indexed::find`] finds what `find` does.
+//! [`Spans`] is the order itself, of any spans of addresses: at an address the first span of the list decides,
+//! whether spans overlap or not.
+//!
 //! The caller owes `last_start` that no address is below the one before it ([`starts_never_fall`] says so of a
-//! sorted section), and nothing to the others. Nothing takes memory. In a sorted section `find` halves the
-//! functions, and else it goes over them; the rows of the function are then read up to the one that holds.
+//! sorted section), and nothing to the others. In a sorted section `find` halves the functions, and else it goes
+//! over them; the rows of the function are then read up to the one that holds. [`Indexed::new`] takes the time of a
+//! sort of the functions where they are not sorted, and none where they are; `Indexed::find` then halves them either
+//! way. `Indexed::new` and `Spans::new` alone allocate.
 #![tactic(auto)]
 
+mod answers;
 mod function;
+mod indexed;
 mod lookup;
+mod points;
 mod recover;
 mod row;
 mod search;
 mod sound;
+mod span;
+mod spans;
 mod starts;
 mod steps;
 
+pub use indexed::Indexed;
 pub use lookup::{Found, find};
 pub use recover::recover_at;
 pub use search::last_start;
 pub use sound::starts_never_fall;
+pub use span::Span;
+pub use spans::Spans;
 pub use starts::Starts;
 pub use steps::Steps;
 

@@ -1,12 +1,13 @@
 //! The function and the row that hold at an address (SFrame Version 2, function descriptor entries and frame
 //! row entries).
 
-ghost use Rattle.std.specs.Prelude.{◌≡◌, IsTrue, IfSome};
+ghost use Rattle.std.specs.Prelude.{◌≡◌, ◌<◌, IsTrue, IfSome, Some, length};
+ghost use Rattle.std.specs.List.{find};
 ghost use Rattle.std.specs.Option.{option_map};
 ghost use Rattle.sf_model.specs.Content.{content_fits};
 ghost use Rattle.sf_model.specs.Function.{shape_fits};
-ghost use Rattle.sf_model.specs.Lookup.{found_at, offset_in_block};
-ghost use Rattle.sf_decode.specs.View.{table_of};
+ghost use Rattle.sf_model.specs.Lookup.{contains, found_at, offset_in_block};
+ghost use Rattle.sf_decode.specs.View.{function_of, table_of};
 ghost use Rattle.sf_lookup.specs.Lookup.{shown};
 
 use crate::function::first_containing;
@@ -36,6 +37,20 @@ fn offset_in_block(shape: Shape, offset: u64) -> u64
     }
 }
 
+/// The row of a function that holds at an address, where the function is the first that contains the address.
+pub fn found_in(view: &View<'_>, i: u32, pc: u64) -> Option<Found>
+    requires within { i < length (table_of view.now).functions }
+    requires first { Some (function_of view.now i) ≡ find (contains pc) (table_of view.now).functions }
+    ensures found { result ≡ option_map shown (found_at (table_of view.now).functions pc) }
+    ensures fits { IfSome result (λ found. IsTrue (content_fits (table_of view.now).arch found.row.content)) }
+{
+    function_is_sound(view, i);
+    let func = view.func(i);
+    let offset = offset_in_block(func.shape, pc - func.start);
+    let row = row_at(view.rows(i), offset)?;
+    Some(Found { func, row })
+}
+
 /// The function and the row that hold at an address: the first function that contains the address, and of
 /// its rows the one with the greatest start that is not above the offset. None where no function contains
 /// the address, or none of its rows begins by the offset.
@@ -46,9 +61,5 @@ pub fn find(view: &View<'_>, pc: u64) -> Option<Found>
     ensures fits { IfSome result (λ found. IsTrue (content_fits (table_of view.now).arch found.row.content)) }
 {
     let i = first_containing(view, pc)?;
-    function_is_sound(view, i);
-    let func = view.func(i);
-    let offset = offset_in_block(func.shape, pc - func.start);
-    let row = row_at(view.rows(i), offset)?;
-    Some(Found { func, row })
+    found_in(view, i, pc)
 }

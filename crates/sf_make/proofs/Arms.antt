@@ -26,7 +26,7 @@ use Rattle.sf_slim.specs.declared.fault.SlimFault.TheVariants as slim_fault
 use Rattle.sf_slim.specs.Answers as slim
 use Rattle.sf_slim.specs.Answers.{IsSlimmed}
 use Rattle.sf_slim.specs.Slimming.{Slims}
-use Rattle.sf_slim.specs.Told.{told_of_slimming}
+use Rattle.sf_slim.specs.FaultShown.{shown_of_slimming}
 use Rattle.sf_plt.specs.Answers.{IsPltLinked}
 use Rattle.sf_plt.specs.Linking.{LinksPlts, LinksPltsFrom, unless_fault as unless_plt_fault}
 use Rattle.sf_text.specs.Merged.{merged_text}
@@ -96,11 +96,11 @@ slimmed_comes from at bytes read table section text count rows same checked of_b
     }
 
 pub unslimmed_comes : (from at : ℕ) (bytes read : List ℕ) (table : Table) (fault : SlimFault) (refused : Refusal) → read ≡ bytes → section_check bytes from ≡ Ok tt → Section bytes from table
-    → slim.IsFirstFault read table at fault → (fault ≡ slim_fault.NoMemory → refused ≡ refusal.Memory) → ComesAs (λ (c : Coming). c ≡ Refused (told_of_slimming (Some 0) fault)) refused
+    → slim.IsFirstFault read table at fault → (fault ≡ slim_fault.NoMemory → refused ≡ refusal.Memory) → ComesAs (λ (c : Coming). c ≡ Refused (shown_of_slimming (Some 0) fault)) refused
     → ComesAs (SlimComesFrom from bytes at (section_check bytes from)) refused
 unslimmed_comes from at bytes read table fault refused same checked of_bytes (inl none) memory tells = memory_comes (SlimComesFrom from bytes at (section_check bytes from)) refused (memory none)
 unslimmed_comes from at bytes read table fault refused same checked of_bytes (inr first) memory tells =
-    comes_as (λ (c : Coming). c ≡ Refused (told_of_slimming (Some 0) fault)) (SlimComesFrom from bytes at (section_check bytes from))
+    comes_as (λ (c : Coming). c ≡ Refused (shown_of_slimming (Some 0) fault)) (SlimComesFrom from bytes at (section_check bytes from))
     (λ c e. subst (λ (check : Result (Unit {0}) DecodeFault). SlimComesFrom from bytes at check c) (sym checked)
     record { table = table; of_bytes = of_bytes; result = Err fault; slims = subst (λ (b : List ℕ). Slims b table at (Err fault)) same first; comes = e }) refused tells
 

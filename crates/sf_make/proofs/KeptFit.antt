@@ -36,7 +36,8 @@ use Rattle.eh_records.specs.Section.{EntryView, cuts_of, entries_before, entries
 use Rattle.eh_records.specs.Span.{bounded, span_of}
 use Rattle.eh_records.proofs.Faults.{read_again}
 use Rattle.eh_records.proofs.Keys.{keys_fit}
-use Rattle.sf_express.specs.Expressed.{column_of, reason_of}
+use Rattle.cfa_machine.specs.Registers.{return_address}
+use Rattle.sf_express.specs.Expressed.{reason_of}
 use Rattle.sf_express.specs.Parts.{◌>>=◌ as ◌>>>◌, base_of, cfa_from, cfa_part, content_of, fits_i32, fp_part, fp_saved_at, is_minus_8, narrowed, pair_part, ra_part, saved_at, sign_part, sp_part}
 use Rattle.sf_express.specs.Runs.{Saying, begins, expressed, first_against, function_of, omission_of, row_there, rows_of, unless_omitted, whole_or_row}
 use Rattle.sf_express.proofs.Writable.{made}
@@ -236,7 +237,7 @@ fp_in (rule.Register r) = tt
 fp_in rule.Expression = tt
 fp_in rule.ValExpression = tt
 
-abbrev ContentIn : Result Content Reason → Type 0
+abbrev pub ContentIn : Result Content Reason → Type 0
 ContentIn (Ok c) = OffsetsInRange c
 ContentIn (Err e) = Unit {0}
 
@@ -253,7 +254,7 @@ parts_in (Ok x) (Ok u) (Err e) fp sign signed a b c = tt
 parts_in (Ok x) (Ok u) (Ok ra) (Err e) sign signed a b c = tt
 parts_in (Ok x) (Ok u) (Ok ra) (Ok fp) sign signed a b c = last_in x ra fp (pair_part ra fp) sign signed a b c
 
-content_in : (arch : Arch) (r : DwRow) → ContentIn (content_of arch r)
+pub content_in : (arch : Arch) (r : DwRow) → ContentIn (content_of arch r)
 unfolding content_of
 content_in arch r = parts_in (cfa_part arch r.cfa) (sp_part r.sp) (ra_part arch r.ra) (fp_part r.fp) (sign_part arch r.sign) r.signed (cfa_in arch r.cfa) (ra_in arch r.ra) (fp_in r.fp)
 
@@ -306,7 +307,7 @@ small_size : (arch : Arch) (facts : FdeFacts) → reason_of arch facts ≡ None 
 small_size arch facts e = at_tests (facts.size == 0) (nat_le (2 ^ 32) facts.size) refl e
   where
     later : Option Reason
-    later = cond (facts.column == column_of arch) (cond facts.signal (Some SignalFrame) None) (Some ReturnColumn)
+    later = cond (facts.column == return_address arch) (cond facts.signal (Some SignalFrame) None) (Some ReturnColumn)
 
     at_tests : (a b : Bool) → nat_le (2 ^ 32) facts.size ≡ b → cond a (Some EmptyRange) (cond b (Some SizeTooLarge) later) ≡ None → facts.size < 2 ^ 32
     at_tests true b t e = cc

@@ -9,7 +9,9 @@ pub mod OneProcwalk
 pub mod Procwalks
 pub mod Reading
 pub mod SomeComing
+pub mod SomePlt
 pub mod SomeProcwalk
+pub mod SomeVerified
 pub mod Sums
 pub mod Verified
 pub mod WalkedAgain

@@ -3,7 +3,7 @@ use Rattle.std.specs.Cmp.{nat_cmp_total}
 use Rattle.std.specs.Ordering.{is_lt, nat_cmp}
 use Rattle.std.specs.Option.{option_map}
 use Rattle.std.specs.List.{AllZip, zip}
-use Rattle.std.proofs.Common.{◌≡◌, ◌+◌, ◌<◌, ℕ, Bool, List, [], ◌∷◌, All, length, map, drop, get_or, Option, Some, None, Result, Ok, Err, refl, subst, arith}
+use Rattle.std.proofs.Common.{◌≡◌, ◌+◌, ◌<◌, ℕ, Bool, List, [], ◌∷◌, All, length, map, drop, get_or, Option, Some, None, Result, Ok, Err, refl, sym, subst, arith}
 use Rattle.std.proofs.lemmas.List.Elements.{All-nil, All-cons, All-head, All-map, All-tail}
 use Rattle.std.proofs.lemmas.List.Sorted.{All-permutation, IsNonDecreasingBy-from_sort, ranks_by}
 use Rattle.sf_model.specs.declared.machine.Arch.{Arch}
@@ -28,7 +28,7 @@ use Rattle.sf_merge.proofs.SomeResult.{some_order, some_result}
 use Rattle.sf_slim.specs.declared.fault.SlimFault.{SlimFault}
 use Rattle.sf_slim.specs.Slimming.{Slims}
 use Rattle.sf_slim.specs.Slimming as slim
-use Rattle.sf_slim.specs.Told.{told_of_slimming}
+use Rattle.sf_slim.specs.FaultShown.{shown_of_slimming}
 use Rattle.sf_asm.specs.declared.entry.Entry.{Entry}
 use Rattle.sf_asm.specs.declared.fault.GatherFault.{GatherFault}
 use Rattle.sf_asm.specs.declared.fault.LinkFault.{LinkFault}
@@ -54,7 +54,7 @@ use Rattle.sf_make.specs.declared.section.Query.TheVariants.{Whole, RowAt}
 use Rattle.sf_make.specs.declared.made.Outcome.{Outcome}
 use Rattle.sf_make.specs.declared.made.Outcome.TheVariants.{Done}
 use Rattle.sf_make.specs.BacktraceComes.{BacktraceComesFrom, section_and_walks}
-use Rattle.sf_make.specs.Comes.{AreItems, CommandComes, Comes, ComesToSomething, command_limit}
+use Rattle.sf_make.specs.Comes.{AreItems, CommandComes, Comes, command_limit}
 use Rattle.sf_make.specs.Coming.{Coming, ComesWithin, Exceeded, Makes, Refused}
 use Rattle.sf_make.specs.FirstFault.{first_fault}
 use Rattle.sf_make.specs.GenComes.{made_object, summary_alone}
@@ -66,7 +66,9 @@ use Rattle.sf_make.specs.SlimComes.{SlimComesFrom, SlimmingComes}
 use Rattle.sf_make.specs.WalkComes.{WalkComesFrom, coming_of_core}
 use Rattle.sf_make.proofs.KeptFit.{OutcomeFits, all_kept_fit, entry_fits, entry_sound, functions_read}
 use Rattle.sf_make.proofs.Reading.{none_here}
+use Rattle.sf_make.proofs.SomePlt.{some_plt}
 use Rattle.sf_make.proofs.SomeProcwalk.{files_have_bytes, later_bytes, some_procwalk}
+use Rattle.sf_make.proofs.SomeVerified.{some_verified}
 use Rattle.sf_make.proofs.SectionsFit.{IsSaid, some_merged, some_slimmed}
 
 -- ---- dump and lookup
@@ -138,7 +140,7 @@ all_items (section ∷ sections) (bytes ∷ items) h =
 -- ---- slim
 some_slimming : (from at : ℕ) (bytes : List ℕ) → AreBytes bytes → section_check bytes from ≡ Ok tt → (result : Result (List Func) SlimFault) → Slims bytes (table_in bytes from) at result
     → (coming : Coming) × SlimmingComes bytes (table_in bytes from) at result coming
-some_slimming from at bytes are e (Err fault) h = (Refused (told_of_slimming (Some 0) fault), refl)
+some_slimming from at bytes are e (Err fault) h = (Refused (shown_of_slimming (Some 0) fault), refl)
 some_slimming from at bytes are e (Ok functions) h =
     let made = some_slimmed bytes from at functions are e h in
     (_, record { section = made.0; text = slim_text (length bytes) (length made.0) made.1 made.2; count = made.1; rows = made.2; slimmed = made.3; text_is = refl; is = refl })
@@ -254,31 +256,33 @@ some_backtrace objects at core depth (Ok u) = some_linked (Some (arch_of core)) 
 first_bytes : (items : List (List ℕ)) (i : ℕ) → All AreBytes items → i < length items → AreBytes (get_or items i [])
 first_bytes items i h lt = h i [] lt
 
-some_command : (command : CommandWords) (items : List (List ℕ)) → AreItems command items → All AreBytes items → ComesToSomething command → (coming : Coming) × CommandComes command items coming
-some_command (Link link) items are bytes of = some_linked None (objects_in link.inputs items) link.section.at section_and_report
-some_command (LinkPlt link) items are bytes of = absurd of
-some_command (Merge merge) items are bytes of = some_merge merge.out.at (zip merge.sections items) (all_items merge.sections items bytes) (sections_fault (zip merge.sections items)) refl
-some_command (Slim slim) items are bytes of =
+some_command : (command : CommandWords) (items : List (List ℕ)) → AreItems command items → All AreBytes items → (coming : Coming) × CommandComes command items coming
+some_command (Link link) items are bytes = some_linked None (objects_in link.inputs items) link.section.at section_and_report
+some_command (LinkPlt link) items are bytes = some_plt (objects_in link.inputs items) link.section.at
+some_command (Merge merge) items are bytes = some_merge merge.out.at (zip merge.sections items) (all_items merge.sections items bytes) (sections_fault (zip merge.sections items)) refl
+some_command (Slim slim) items are bytes =
     let count : length items ≡ 1 = are.count in
     some_slim slim.section.at slim.out.at (get_or items 0 []) (first_bytes items 0 bytes (omega (count, arith))) (section_check (get_or items 0 []) slim.section.at) refl
-some_command (Dump section) items are bytes of =
+some_command (Dump section) items are bytes =
     let count : length items ≡ 1 = are.count in
     some_section_shown section.at (get_or items 0 []) Whole (first_bytes items 0 bytes (omega (count, arith))) (section_check (get_or items 0 []) section.at) refl
-some_command (Lookup section pc) items are bytes of =
+some_command (Lookup section pc) items are bytes =
     let count : length items ≡ 1 = are.count in
     some_section_shown section.at (get_or items 0 []) (RowAt pc) (first_bytes items 0 bytes (omega (count, arith))) (section_check (get_or items 0 []) section.at) refl
-some_command (Verify verify) items are bytes of = absurd of
-some_command (Walk walk) items are bytes of =
+some_command (Verify verify) items are bytes =
+    let some : 0 < length items = subst (λ (n : ℕ). 0 < n) (sym are.count) (omega arith) in
+    some_verified verify.section.at (get_or items 0 []) (objects_in verify.inputs (drop 1 items)) (first_bytes items 0 bytes some) (section_check (get_or items 0 []) verify.section.at) refl
+some_command (Walk walk) items are bytes =
     let count : length items ≡ 2 = are.count in
     some_walks walk.section.at (get_or items 0 []) (get_or items 1 []) walk.depth (first_bytes items 0 bytes (omega (count, arith))) (section_check (get_or items 0 []) walk.section.at) refl (core_check (get_or items 1 []))
-some_command (Backtrace backtrace) items are bytes of = some_backtrace _ backtrace.out.at (get_or items 0 []) backtrace.depth (core_check (get_or items 0 []))
-some_command (Procwalk procwalk) items are bytes of =
+some_command (Backtrace backtrace) items are bytes = some_backtrace _ backtrace.out.at (get_or items 0 []) backtrace.depth (core_check (get_or items 0 []))
+some_command (Procwalk procwalk) items are bytes =
     some_procwalk (get_or items 0 []) procwalk.depth (zip procwalk.files (drop 1 items)) (files_have_bytes procwalk.files (drop 1 items) (later_bytes items bytes)) (core_check (get_or items 0 []))
-some_command (Gen n) items are bytes of = some_linked None (made_object n ∷ []) 0x4000000 (summary_alone n)
+some_command (Gen n) items are bytes = some_linked None (made_object n ∷ []) 0x4000000 (summary_alone n)
 
 within : (command : CommandWords) (items : List (List ℕ)) → (coming : Coming) × CommandComes command items coming → (limit : Option Limit) → (coming : Coming) × ComesWithin limit (CommandComes command items) coming
 within command items some (Some limit) = (Exceeded limit, refl)
 within command items some None = some
 
-pub some_coming : (command : CommandWords) (items : List (List ℕ)) → AreItems command items → All AreBytes items → ComesToSomething command → (coming : Coming) × Comes command items coming
-some_coming command items are bytes of = within command items (some_command command items are bytes of) (command_limit command items)
+pub some_coming : (command : CommandWords) (items : List (List ℕ)) → AreItems command items → All AreBytes items → (coming : Coming) × Comes command items coming
+some_coming command items are bytes = within command items (some_command command items are bytes) (command_limit command items)

@@ -1,6 +1,6 @@
 -- What a run of each command comes to over the bytes of its items: the limits of loading first, and then what the command makes of them.
 use Rattle.std.specs.Prelude.{◌≡◌, ℕ, nat_lt, List, length, Option, Some, if◌then◌else◌}
-use Rattle.sf_model.specs.Told.{Told}
+use Rattle.sf_model.specs.FaultShown.{FaultShown}
 use Rattle.sf_items.specs.declared.refusal.Limit.{Limit}
 use Rattle.sf_items.specs.declared.refusal.Limit.TheVariants.{Inputs}
 use Rattle.sf_items.specs.Loading.{items_limit}
@@ -48,18 +48,4 @@ pub record AreItems (command : CommandWords) (items : List (List ℕ)) : Type 0 
 -- nothing is refused: neither a limit is exceeded nor an item refused
 pub record RefusesNothing (command : CommandWords) (items : List (List ℕ)) : Type 0 where
   pub within : (limit : Limit) → Comes command items (Exceeded limit) → ⊥
-  pub accepted : (shown : Told) → Comes command items (Refused shown) → ⊥
-
--- the commands of which a law says that they come to something, whatever the bytes of their items are
-abbrev pub ComesToSomething : CommandWords → Type 0
-ComesToSomething (Link link) = Unit {0}
-ComesToSomething (LinkPlt link) = ⊥
-ComesToSomething (Merge merge) = Unit {0}
-ComesToSomething (Slim slim) = Unit {0}
-ComesToSomething (Dump section) = Unit {0}
-ComesToSomething (Lookup section pc) = Unit {0}
-ComesToSomething (Verify verify) = ⊥
-ComesToSomething (Walk walk) = Unit {0}
-ComesToSomething (Backtrace backtrace) = Unit {0}
-ComesToSomething (Procwalk procwalk) = Unit {0}
-ComesToSomething (Gen n) = Unit {0}
+  pub accepted : (shown : FaultShown) → Comes command items (Refused shown) → ⊥

@@ -10,7 +10,7 @@ use Rattle.sf_asm.specs.declared.fault.LinkFault.TheVariants.{Gather}
 use Rattle.sf_asm.specs.Answers.{IsLinked}
 use Rattle.sf_asm.specs.Functions.{Object}
 use Rattle.sf_asm.specs.Linking.{Links}
-use Rattle.sf_asm.specs.Told.{told_of_linking}
+use Rattle.sf_asm.specs.FaultShown.{shown_of_linking}
 use Rattle.sf_items.specs.declared.refusal.Limit.TheVariants.{Functions, Rows}
 use Rattle.sf_make.specs.Coming.{Coming, Refused, Exceeded}
 
@@ -18,7 +18,7 @@ use Rattle.sf_make.specs.Coming.{Coming, Refused, Exceeded}
 abbrev pub coming_of_linking : LinkFault → Coming
 coming_of_linking (Gather TooManyFunctions) = Exceeded Functions
 coming_of_linking (Gather TooManyRows) = Exceeded Rows
-coming_of_linking fault = Refused (told_of_linking None fault)
+coming_of_linking fault = Refused (shown_of_linking None fault)
 
 -- what a command makes of a section, of how many functions it holds, and of those that were left out
 abbrev pub Makings : Type 0

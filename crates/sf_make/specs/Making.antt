@@ -2,7 +2,7 @@
 use Rattle.std.specs.Prelude.{Result, Ok, Err}
 use Rattle.std.specs.Option.{option_map}
 use Rattle.sf_model.specs.Notice.{HasLine}
-use Rattle.sf_model.specs.Told.{told_by}
+use Rattle.sf_model.specs.FaultShown.{shown_by}
 use Rattle.sf_items.specs.declared.refusal.Refusal.{Refusal}
 use Rattle.sf_items.specs.declared.refusal.Refusal.TheVariants as refusal
 use Rattle.sf_make.specs.declared.made.Made.{Made}
@@ -13,7 +13,7 @@ abbrev pub ComesAs : (Coming → Type 0) → Refusal → Type 0
 ComesAs Is (refusal.Read name) = ⊥
 ComesAs Is refusal.Memory = Unit {0}
 ComesAs Is (refusal.Limit limit) = Is (Exceeded limit)
-ComesAs Is (refusal.Input notice) = HasLine notice × Is (Refused (told_by notice))
+ComesAs Is (refusal.Input notice) = HasLine notice × Is (Refused (shown_by notice))
 
 -- what was made, as what the run comes to
 abbrev pub coming_of : Made → Coming

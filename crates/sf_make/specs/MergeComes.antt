@@ -10,7 +10,7 @@ use Rattle.sf_merge.specs.declared.fault.MergeFault.{MergeFault}
 use Rattle.sf_merge.specs.declared.fault.MergeFault.TheVariants as merge
 use Rattle.sf_merge.specs.Answers.{IsMerged}
 use Rattle.sf_merge.specs.Merging.{Merges}
-use Rattle.sf_merge.specs.Told.{told_of_merging}
+use Rattle.sf_merge.specs.FaultShown.{shown_of_merging}
 use Rattle.sf_text.specs.Merged.{merged_text}
 use Rattle.sf_items.specs.declared.refusal.Limit.TheVariants.{Functions, Rows}
 use Rattle.sf_words.specs.Words.{SectionWords}
@@ -38,7 +38,7 @@ sections_fault items = first_fault item_check 0 items
 abbrev pub coming_of_merging : MergeFault → Coming
 coming_of_merging merge.TooManyFunctions = Exceeded Functions
 coming_of_merging merge.TooManyRows = Exceeded Rows
-coming_of_merging fault = Refused (told_of_merging None fault)
+coming_of_merging fault = Refused (shown_of_merging None fault)
 
 -- The section is that of the union of the tables, without gaps and with the least widths, and the text has the counts of its functions and
 -- rows.

@@ -19,12 +19,12 @@ use Rattle.sf_modules.specs.Found.{modules_walk}
 use Rattle.sf_modules.specs.Module.{IsModule, ModuleView}
 use Rattle.sf_modules.specs.Note.{HasEntries, entries_check, file_note_in}
 use Rattle.sf_modules.specs.Reading.{module_check}
-use Rattle.sf_modules.specs.Told.{told_of_module}
+use Rattle.sf_modules.specs.FaultShown.{shown_of_module}
 use Rattle.sf_modules.specs.Union.{tables_of}
 use Rattle.sf_merge.specs.Merging.{functions_in_all, rows_in_all}
 use Rattle.sf_asm.specs.declared.fault.GatherFault.TheVariants.{MixedArch}
 use Rattle.sf_asm.specs.Inputs.{is_same}
-use Rattle.sf_asm.specs.Told.{told_of_gathering}
+use Rattle.sf_asm.specs.FaultShown.{shown_of_gathering}
 use Rattle.sf_items.specs.declared.refusal.Limit.{Limit}
 use Rattle.sf_items.specs.declared.refusal.Limit.TheVariants.{Functions, Rows}
 use Rattle.sf_words.specs.Words.{ProcwalkWords}
@@ -41,7 +41,7 @@ File = List ℕ × List ℕ
 abbrev pub coming_of_module : (item : ℕ) → ModuleFault → Coming
 coming_of_module item (Section (TooManyFunctions place)) = Exceeded Functions
 coming_of_module item (Section (TooManyRows place)) = Exceeded Rows
-coming_of_module item fault = Refused (told_of_module (Some item) fault)
+coming_of_module item fault = Refused (shown_of_module (Some item) fault)
 
 -- ---- the modules
 -- this is the module of a file
@@ -76,7 +76,7 @@ modules_walks entries modules core depth = walks_text (λ thread. modules_walk e
 
 -- the text, where all modules are for the core file's machine, and their sections within the limits
 abbrev pub coming_of_modules : (mixed : Option ℕ) → Option Limit → (text : List ℕ) → Coming
-coming_of_modules (Some item) limit text = Refused (told_of_gathering None (MixedArch 0 item))
+coming_of_modules (Some item) limit text = Refused (shown_of_gathering None (MixedArch 0 item))
 coming_of_modules None (Some limit) text = Exceeded limit
 coming_of_modules None None text = Makes Done None text
 

@@ -7,7 +7,7 @@ use Rattle.sf_model.specs.declared.rows.Row.{Row}
 use Rattle.sf_model.specs.Lookup.{FoundRow, found_at}
 use Rattle.sf_model.specs.Section.{Section}
 use Rattle.sf_model.specs.Table.{Table}
-use Rattle.sf_model.specs.Told.{Told}
+use Rattle.sf_model.specs.FaultShown.{FaultShown}
 use Rattle.sf_decode.specs.declared.fault.DecodeFault.{DecodeFault}
 use Rattle.sf_decode.specs.declared.fault.DecodeFault.TheVariants.{TooManyFunctions, TooManyRows}
 use Rattle.sf_decode.specs.Decoding.{section_check}
@@ -37,14 +37,14 @@ Shows Whole table outcome text = (outcome ≡ Done) × (text ≡ dump_text table
 Shows (RowAt pc) table outcome text = (outcome ≡ found_outcome (found_at table.functions pc)) × (text ≡ found_text pc (option_map pair_of (found_at table.functions pc)))
 
 -- what the line of a section's fault shows: the item, the fault's number and its place
-abbrev pub told_of_section : (item : ℕ) → DecodeFault → Told
-told_of_section item fault = record { item = Some item; group = group.Section; number = (number_and_place fault).0; values = (number_and_place fault).1 ∷ [] }
+abbrev pub shown_of_section : (item : ℕ) → DecodeFault → FaultShown
+shown_of_section item fault = record { item = Some item; group = group.Section; number = (number_and_place fault).0; values = (number_and_place fault).1 ∷ [] }
 
 -- what a fault of the section of an item comes to
 abbrev pub coming_of_decoding : (item : ℕ) → DecodeFault → Coming
 coming_of_decoding item (TooManyFunctions place) = Exceeded Functions
 coming_of_decoding item (TooManyRows place) = Exceeded Rows
-coming_of_decoding item fault = Refused (told_of_section item fault)
+coming_of_decoding item fault = Refused (shown_of_section item fault)
 
 -- what is shown of the table whose section the bytes are
 pub record MakesShown (at : ℕ) (bytes : List ℕ) (query : Query) (coming : Coming) : Type 0 where

@@ -8,7 +8,7 @@ use Rattle.sf_decode.specs.Decoding.{section_check}
 use Rattle.sf_slim.specs.declared.fault.SlimFault.{SlimFault}
 use Rattle.sf_slim.specs.Answers.{IsSlimmed}
 use Rattle.sf_slim.specs.Slimming.{Slims}
-use Rattle.sf_slim.specs.Told.{told_of_slimming}
+use Rattle.sf_slim.specs.FaultShown.{shown_of_slimming}
 use Rattle.sf_text.specs.Slim.{slim_text}
 use Rattle.sf_words.specs.Words.{SlimWords}
 use Rattle.sf_make.specs.declared.made.Outcome.TheVariants.{Done}
@@ -27,7 +27,7 @@ pub record MakesSlim (bytes : List ℕ) (table : Table) (at : ℕ) (coming : Com
   pub is : coming ≡ Makes Done (Some section) text
 
 abbrev pub SlimmingComes : (bytes : List ℕ) → Table → (at : ℕ) → Result (List Func) SlimFault → Coming → Type 0
-SlimmingComes bytes table at (Err fault) coming = coming ≡ Refused (told_of_slimming (Some 0) fault)
+SlimmingComes bytes table at (Err fault) coming = coming ≡ Refused (shown_of_slimming (Some 0) fault)
 SlimmingComes bytes table at (Ok functions) coming = MakesSlim bytes table at coming
 
 -- what slimming comes to by the table whose section the bytes are at the address `from`

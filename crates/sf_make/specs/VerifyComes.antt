@@ -10,7 +10,7 @@ use Rattle.sf_asm.specs.declared.fault.GatherFault.TheVariants.{TooManyFunctions
 use Rattle.sf_asm.specs.Functions.{Object}
 use Rattle.sf_verify.specs.declared.fault.VerifyFault.{VerifyFault}
 use Rattle.sf_verify.specs.declared.fault.VerifyFault.TheVariants.{Gather}
-use Rattle.sf_verify.specs.Told.{told_of_verifying}
+use Rattle.sf_verify.specs.FaultShown.{shown_of_verifying}
 use Rattle.sf_verify.specs.Verifying.{Verifies}
 use Rattle.sf_text.specs.Verdict.{verdict_text}
 use Rattle.sf_items.specs.declared.refusal.Limit.TheVariants.{Functions, Rows}
@@ -25,7 +25,7 @@ use Rattle.sf_make.specs.SectionComes.{coming_of_decoding}
 abbrev pub coming_of_verifying : VerifyFault → Coming
 coming_of_verifying (Gather TooManyFunctions) = Exceeded Functions
 coming_of_verifying (Gather TooManyRows) = Exceeded Rows
-coming_of_verifying fault = Refused (told_of_verifying (Some 0) fault)
+coming_of_verifying fault = Refused (shown_of_verifying (Some 0) fault)
 
 -- the answer is no where they differ
 abbrev pub verdict_outcome : Verdict → Outcome

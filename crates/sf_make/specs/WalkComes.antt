@@ -11,11 +11,11 @@ use Rattle.core_notes.specs.declared.fault.CoreFault.TheVariants.{TooManyThreads
 use Rattle.core_notes.specs.declared.status.Thread.{Thread}
 use Rattle.core_notes.specs.Checks.{core_check, file_threads}
 use Rattle.core_notes.specs.Memory.{file_regions}
-use Rattle.core_notes.specs.Told.{told_of_core}
+use Rattle.core_notes.specs.FaultShown.{shown_of_core}
 use Rattle.core_walk.specs.Walk.{thread_state}
 use Rattle.sf_asm.specs.declared.fault.GatherFault.TheVariants.{MixedArch}
 use Rattle.sf_asm.specs.Inputs.{is_same}
-use Rattle.sf_asm.specs.Told.{told_of_gathering}
+use Rattle.sf_asm.specs.FaultShown.{shown_of_gathering}
 use Rattle.sf_text.specs.Frames.{walk_text}
 use Rattle.sf_items.specs.declared.refusal.Limit.TheVariants.{Threads}
 use Rattle.sf_make.specs.declared.made.Outcome.TheVariants.{Done}
@@ -25,7 +25,7 @@ use Rattle.sf_make.specs.SectionComes.{coming_of_decoding}
 -- what a fault of the core file of an item comes to
 abbrev pub coming_of_core : (item : ℕ) → CoreFault → Coming
 coming_of_core item TooManyThreads = Exceeded Threads
-coming_of_core item fault = Refused (told_of_core (Some item) fault)
+coming_of_core item fault = Refused (shown_of_core (Some item) fault)
 
 -- the text of what a thread's walk lists
 abbrev pub listing_text : (number : ℕ) → Thread → Listing → List ℕ
@@ -43,7 +43,7 @@ table_walks table core depth = walks_text (λ thread. section_walk table.functio
 -- the text, where the section and the core file have one machine; else they are the items 0 and 1
 abbrev pub coming_of_walks : (same : Bool) → (text : List ℕ) → Coming
 coming_of_walks true text = Makes Done None text
-coming_of_walks false text = Refused (told_of_gathering None (MixedArch 0 1))
+coming_of_walks false text = Refused (shown_of_gathering None (MixedArch 0 1))
 
 -- what the walks come to by the table whose section the bytes are
 pub record WalksCome (at : ℕ) (section core : List ℕ) (depth : ℕ) (coming : Coming) : Type 0 where

@@ -13,7 +13,7 @@ ghost use Rattle.sf_words.specs.Words.{CommandWords, InputWords, Link, SectionAn
 ghost use Rattle.sf_make.specs.declared.made.Outcome.{Outcome as outcome};
 ghost use Rattle.sf_make.specs.declared.section.Query.{Query};
 ghost use Rattle.sf_make.specs.BacktraceComes.{BacktraceComes};
-ghost use Rattle.sf_make.specs.Comes.{AreItems, Comes, ComesToSomething, RefusesNothing, command_limit};
+ghost use Rattle.sf_make.specs.Comes.{AreItems, Comes, RefusesNothing, command_limit};
 ghost use Rattle.sf_make.specs.Coming.{Coming, Makes};
 ghost use Rattle.sf_make.specs.LinkComes.{objects_in};
 ghost use Rattle.sf_make.specs.SectionComes.{SectionComesFrom};
@@ -25,11 +25,10 @@ pub fn a_run_comes_to_one()
     ensures { (command : CommandWords) (items : List (List ℕ)) (one other : Coming) → AreItems command items → Comes command items one → Comes command items other → one ≡ other }
 {}
 
-/// A command other than `linkplt` and `verify`, and the bytes of its items, come to something: a refusal, a
-/// limit, or what is made.
+/// A command and the bytes of its items come to something: a refusal, a limit, or what is made.
 #[tactic(auto, using(crate::proofs::SomeComing::some_coming))]
 pub fn a_run_comes_to_something()
-    ensures { (command : CommandWords) (items : List (List ℕ)) → AreItems command items → All AreBytes items → ComesToSomething command → (coming : Coming) × Comes command items coming }
+    ensures { (command : CommandWords) (items : List (List ℕ)) → AreItems command items → All AreBytes items → (coming : Coming) × Comes command items coming }
 {}
 
 /// Showing the section of bytes comes to something: what is shown, or a refusal.

@@ -2,7 +2,7 @@
 
 ghost use Rattle.std.specs.Prelude.{◌≡◌, Some};
 ghost use Rattle.sf_decode.specs.Decoding.{section_check};
-ghost use Rattle.sf_slim.specs.Told.{told_of_slimming};
+ghost use Rattle.sf_slim.specs.FaultShown.{shown_of_slimming};
 ghost use Rattle.sf_make.specs.Coming.{Coming, Refused};
 ghost use Rattle.sf_make.specs.Making.{ComesAs, ComesTo};
 ghost use Rattle.sf_make.specs.SlimComes.{SlimComesFrom};
@@ -18,7 +18,7 @@ use std::alloc::Global;
 /// Why the section of the first item was not slimmed, as a refusal of the run.
 fn unslimmed<'a>(fault: SlimFault) -> Refusal<'a>
     ensures memory { (fault ≡ SlimFault.NoMemory) → (result ≡ Refusal.Memory) }
-    ensures is { ComesAs (λ (coming : Coming). coming ≡ Refused (told_of_slimming (Some 0) fault)) result }
+    ensures is { ComesAs (λ (coming : Coming). coming ≡ Refused (shown_of_slimming (Some 0) fault)) result }
 {
     match fault {
         SlimFault::NoMemory => Refusal::Memory,

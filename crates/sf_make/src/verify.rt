@@ -2,7 +2,7 @@
 
 ghost use Rattle.std.specs.Prelude.{◌≡◌, ◌<◌, ◌≤◌, ◌∷◌, None, IsTrue, length, map};
 ghost use Rattle.sf_decode.specs.Decoding.{section_check};
-ghost use Rattle.sf_verify.specs.Told.{is_answered};
+ghost use Rattle.sf_verify.specs.FaultShown.{is_answered};
 ghost use Rattle.sf_items.specs.Loading.{bytes_limit, of_kinds};
 ghost use Rattle.sf_words.specs.declared.item.ItemKind.{ItemKind as kind};
 ghost use Rattle.sf_words.specs.Items.{input_item};

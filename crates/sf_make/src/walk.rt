@@ -7,7 +7,7 @@ ghost use Rattle.sf_decode.specs.View.{table_of};
 ghost use Rattle.core_notes.specs.Checks.{core_check};
 ghost use Rattle.core_notes.specs.Views.{memory_of, threads_of};
 ghost use Rattle.sf_asm.specs.Inputs.{is_same};
-ghost use Rattle.sf_asm.specs.Told.{told_of_gathering};
+ghost use Rattle.sf_asm.specs.FaultShown.{shown_of_gathering};
 ghost use Rattle.sf_make.specs.Coming.{Coming, Refused};
 ghost use Rattle.sf_make.specs.Making.{ComesAs, ComesTo};
 ghost use Rattle.sf_make.specs.WalkComes as spec;
@@ -21,6 +21,7 @@ use sf_asm::GatherFault;
 use sf_base::NoMemory;
 use sf_decode::View;
 use sf_items::{Limit, Refusal};
+use sf_lookup::Indexed;
 use sf_model::Arch;
 use sf_text::thread_text;
 use std::alloc::Global;
@@ -37,7 +38,7 @@ pub fn unread_core<'a>(fault: &CoreFault, item: u32) -> Refusal<'a>
 
 /// That item 0 and this one have different machines, as a refusal of the run.
 pub fn mixed<'a>(item: u32) -> Refusal<'a>
-    ensures { ComesAs (λ (coming : Coming). coming ≡ Refused (told_of_gathering None (GatherFault.MixedArch 0 item))) result }
+    ensures { ComesAs (λ (coming : Coming). coming ≡ Refused (shown_of_gathering None (GatherFault.MixedArch 0 item))) result }
 {
     Refusal::Input(GatherFault::MixedArch(0, item).notice(None))
 }
@@ -69,7 +70,7 @@ pub fn walks_text<L: LookUp>(
     Ok(text)
 }
 
-/// The same by the rows of a section.
+/// The same by the rows of a section, whose functions are put in order once for all threads where they are not sorted.
 #[tactic(auto, unfolding(sf_model::specs::Walk::section_walk))]
 pub fn view_walks(
     alloc: Global,
@@ -80,7 +81,8 @@ pub fn view_walks(
     requires { length (threads_of core.now) ≤ 4096 }
     ensures { IfOk result (λ text. text.items ≡ spec.walks_text (λ thread. section_walk (table_of view.now).functions thread (memory_of core.now) depth) 0 (threads_of core.now)) }
 {
-    walks_text(alloc, view, core, depth)
+    let indexed = Indexed::new(alloc, *view)?;
+    walks_text(alloc, &indexed, core, depth)
 }
 
 /// The walks of the threads of a core file by the section of these bytes.

@@ -4,5 +4,5 @@ pub mod Joining
 pub mod Views
 pub mod Answers
 pub mod Fault
-pub mod Told
+pub mod FaultShown
 pub mod Parts

@@ -13,6 +13,7 @@ use Rattle.sf_merge.specs.declared.located.Located.{Located}
 use Rattle.sf_merge.specs.declared.fault.MergeFault.{MergeFault}
 use Rattle.sf_merge.specs.declared.fault.MergeFault.TheVariants.{MixedArch, TooManyFunctions, TooManyRows, Overlap, OutOfReach}
 use Rattle.sf_merge.specs.Located.{sized, InOrder}
+pub use Rattle.sf_model.specs.Firsts.{or_later, unless_fault, unless}
 
 -- ---- machines
 abbrev pub same_arch : Arch → Arch → Bool
@@ -71,10 +72,6 @@ abbrev pub reach_fault : (at : ℕ) → List Func → Option MergeFault
 reach_fault at functions = option_map OutOfReach (first_out_of_reach at 0 functions)
 
 -- ---- the first fault
-abbrev pub or_later : Option MergeFault → Option MergeFault → Option MergeFault
-or_later (Some fault) later = Some fault
-or_later None later = later
-
 -- of sections: their machines, and then the limits
 abbrev pub sections_fault : List Table → Option MergeFault
 sections_fault tables = or_later (mixed_fault tables) (limits_fault tables)
@@ -82,13 +79,6 @@ sections_fault tables = or_later (mixed_fault tables) (limits_fault tables)
 -- of their functions that hold an address, in order: overlaps, and then the reach
 abbrev pub functions_fault : (at : ℕ) → List Located → Option MergeFault
 functions_fault at ordered = or_later (overlap_fault ordered) (reach_fault at (written ordered))
-
-abbrev pub unless_fault : {X : Type 0} → Option MergeFault → X → Result X MergeFault
-unless_fault None x = Ok x
-unless_fault (Some fault) x = Err fault
-
-abbrev pub unless : Option MergeFault → Result (Unit {0}) MergeFault
-unless fault = unless_fault fault tt
 
 -- ---- what merging comes to: the functions that are written, or the first fault
 abbrev pub MergesUnless : Option MergeFault → List Table → (at : ℕ) → Result (List Func) MergeFault → Type 0

@@ -66,7 +66,7 @@ fn count_rows(functions: &[Func]) -> u32
 ///
 /// A section of another machine than the first one; then more than 2^21 functions or 2^24 rows in all
 /// sections together, two functions that share an address, and a function too far from the section, in this
-/// order; want of memory at any time. Functions without rows count for the limits and for shared addresses.
+/// order; memory may run out at any time. Functions without rows count for the limits and for shared addresses.
 pub fn merge(alloc: Global, views: &[View<'_>], at: u64) -> Result<MergedSection, MergeFault>
     requires some { 0 < length views.now }
     requires few { length views.now ≤ 512 }

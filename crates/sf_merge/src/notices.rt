@@ -3,8 +3,8 @@
 ghost use Rattle.std.specs.Prelude.{◌≡◌, ◌∷◌, [], IsTrue};
 ghost use Rattle.sf_model.specs.Notice.{HasLine};
 ghost use Rattle.sf_merge.specs.Fault.{is_refusal};
-ghost use Rattle.sf_model.specs.Told.{told_by};
-ghost use Rattle.sf_merge.specs.Told.{told_of_merging};
+ghost use Rattle.sf_model.specs.FaultShown.{shown_by};
+ghost use Rattle.sf_merge.specs.FaultShown.{shown_of_merging};
 
 use crate::fault::MergeFault;
 use arrayvec::ArrayVec;
@@ -42,10 +42,10 @@ fn one(start: u64) -> ArrayVec<u64, 4>
 }
 
 impl MergeFault {
-    /// The fault as its line shows it. The caller owes that it is no limit and no want of memory.
+    /// The fault as its line shows it. The caller owes that it is no limit and not `NoMemory`.
     pub fn notice(&self, item: Option<u32>) -> Notice
         requires { IsTrue (is_refusal self.now) }
-        ensures told { told_by result ≡ told_of_merging item self.now }
+        ensures shown { shown_by result ≡ shown_of_merging item self.now }
         ensures line { HasLine result }
     {
         let (number, values) = match self {

@@ -1,3 +1,5 @@
+pub mod Firsts
+pub mod Checking
 pub mod Content
 pub mod Function
 pub mod Memory
@@ -11,4 +13,4 @@ pub mod Lookup
 pub mod Union
 pub mod Walk
 pub mod Notice
-pub mod Told
+pub mod FaultShown

@@ -31,7 +31,7 @@ impl Model for Rows {
 }
 
 impl Rows {
-    /// The empty list. It takes no memory until a row is pushed.
+    /// The empty list. It allocates nothing until a row is pushed.
     pub fn new(alloc: Global) -> Rows
         ensures { result ≡ [] }
     {
@@ -40,7 +40,7 @@ impl Rows {
         }
     }
 
-    /// Appends a row. Where memory is wanting the list stays as it was.
+    /// Appends a row. Where memory runs out the list stays as it was.
     pub fn push(&mut self, row: Row) -> Result<(), AllocError>
         ensures { self.new ≡ (if is_ok result then self.old ++ row ∷ [] else self.old) }
     {

@@ -1,7 +1,7 @@
 pub mod Names
 pub mod Texts
 pub mod Scan
-pub mod Points
+pub mod Numbers
 pub mod FirstWith
 pub mod Faults
 pub mod Home

@@ -7,6 +7,6 @@ pub mod Module
 pub mod Reading
 pub mod Found
 pub mod Union
-pub mod Told
+pub mod FaultShown
 pub mod Span
 pub mod Views

@@ -1,59 +1,20 @@
--- How a process's entries are put in order: points of addresses, from each of which on the same entry comes first up to the next
--- point.
-use Rattle.std.specs.Prelude.{◌≡◌, ℕ, zero, suc, ◌<◌, ◌≤◌, Bool, ◌&&◌, nat_le, nat_lt, List, length, map, slice_index, slice_index_or, Option, None}
-use Rattle.std.specs.Borrow.{Bor}
-use Rattle.std.specs.List.{Contains, find}
-use Rattle.std.specs.Option.{option_and_then, option_map}
-use Rattle.sf_modules.specs.declared.mapped.Module.{Module}
-use Rattle.sf_modules.specs.declared.spans.Span.{Span}
-use Rattle.sf_modules.specs.Entry.{EntryView}
-use Rattle.sf_modules.specs.Found.{module_of}
-use Rattle.sf_modules.specs.Module.{ModuleView, module_view}
+-- A process's entries as spans of addresses, each leading to the module that it names.
+use Rattle.std.specs.Prelude.{ℕ, ◌-◌, bytes_eq, List, Option}
+use Rattle.std.specs.List.{find, position_from}
+use Rattle.std.specs.Option.{option_and_then}
+use Rattle.sf_lookup.specs.declared.span.Span.{Span}
+use Rattle.sf_modules.specs.Entry.{EntryView, holds}
+use Rattle.sf_modules.specs.Module.{ModuleView}
+use Rattle.sf_modules.specs.Name.{last_part}
 
--- a module as it is lent, or none
-abbrev pub seen : Option (Bor Module) → Option ModuleView
-seen lent = option_map (λ (m : Bor Module). module_view m.now) lent
+-- the number of the first module whose name has this last part
+abbrev pub number_with : (part : List ℕ) → List ModuleView → Option ℕ
+number_with part modules = position_from (λ (m : ModuleView). bytes_eq part (last_part m.name)) 0 modules
 
--- the addresses of an entry, and the module that it names
-pub record SpanView : Type 0 where
-  pub start : ℕ
-  pub end : ℕ
-  pub leads_to : Option ModuleView
+-- the addresses of an entry, and the number of the module that it names
+abbrev pub span_of : List ModuleView → EntryView → Span (Option ℕ)
+span_of modules e = record { start = e.start; size = e.end - e.start; leads_to = number_with (last_part e.name) modules }
 
-abbrev pub span_view : Span → SpanView
-span_view s = record { start = s.start; end = s.end; leads_to = seen s.leads_to }
-
-abbrev pub span_of : List ModuleView → EntryView → SpanView
-span_of modules e = record { start = e.start; end = e.end; leads_to = module_of modules e.name }
-
--- the span has the address
-abbrev pub covers : (pc : ℕ) → Span → Bool
-covers pc s = nat_le s.start pc && nat_lt pc s.end
-
--- the span has all addresses from first up to last
-abbrev pub has_all : (first last : ℕ) → Span → Bool
-has_all first last s = covers first s && covers last s
-
--- the span has some of the addresses from first up to last
-abbrev pub touches : (first last : ℕ) → Span → Bool
-touches first last s = nat_le s.start last && nat_lt first s.end
-
--- what the first span that has an address leads to
-abbrev pub answer_of : List Span → (pc : ℕ) → Option (Bor Module)
-answer_of spans pc = option_and_then (λ (s : Span). s.leads_to) (find (covers pc) spans)
-
--- a span's ends are points
-pub record HasEnds (points : List ℕ) (s : Span) : Type 0 where
-  pub start : Contains points s.start
-  pub end : Contains points s.end
-
--- n points are at an address or before it: those before the others
-pub record IsReached (points : List ℕ) (pc n : ℕ) : Type 0 where
-  pub within : n ≤ length points
-  pub reached : (k : ℕ) → k < n → slice_index points k ≤ pc
-  pub above : (k : ℕ) → n ≤ k → k < length points → pc < slice_index points k
-
--- the answer at the last of n points
-abbrev pub answer_at : List (Option (Bor Module)) → (n : ℕ) → Option (Bor Module)
-answer_at answers zero = None
-answer_at answers (suc i) = slice_index_or answers i None
+-- the number of the module at an address
+abbrev pub number_at : List EntryView → List ModuleView → (pc : ℕ) → Option ℕ
+number_at entries modules pc = option_and_then (λ (e : EntryView). number_with (last_part e.name) modules) (find (holds pc) entries)

@@ -1,20 +1,22 @@
 //! The modules of a process, put in order once for all walks.
 
-ghost use Rattle.std.specs.Prelude.{◌≡◌, ℕ, IfOk, length, map};
-ghost use Rattle.std.specs.List.Sorted.{IsNonDecreasing};
-ghost use Rattle.sf_modules.specs.Entry.{entry_view};
+ghost use Rattle.std.specs.Prelude.{◌≡◌, IfOk, map};
+ghost use Rattle.sf_lookup.specs.Indexed.{table_in};
+ghost use Rattle.sf_lookup.specs.Spans.{InOrder};
 ghost use Rattle.core_walk.specs.Walk.{listing, thread_state};
-ghost use Rattle.sf_modules.specs.Found.{module_at, modules_walk};
+ghost use Rattle.sf_modules.specs.Entry.{entry_view};
+ghost use Rattle.sf_modules.specs.Found.{modules_walk};
 ghost use Rattle.sf_modules.specs.Module.{module_view};
-ghost use Rattle.sf_modules.specs.Span.{IsReached, answer_at, seen};
+ghost use Rattle.sf_modules.specs.Span.{span_of};
+ghost use Rattle.sf_modules.specs.Union.{tables_of};
 
 use crate::entry::Entry;
 use crate::mapped::Module;
-use crate::spans::{points_of, push_answers, spans_of};
+use crate::spans::spans_of;
 use core_notes::Thread;
 use core_walk::{LookUp, walk_by};
 use sf_base::NoMemory;
-use sf_lookup::{Found, find};
+use sf_lookup::{Found, Indexed, Spans};
 use sf_model::{Arch, Memory, Walk};
 use std::alloc::Global;
 
@@ -24,29 +26,30 @@ use std::alloc::Global;
 pub struct Modules<'m> {
     entries: &'m [Entry<'m>],
     modules: &'m [Module<'m, 'm>],
-    points: Vec<u64>,
-    answers: Vec<Option<&'m Module<'m, 'm>>>,
-    ghost rise: { IsNonDecreasing points.items },
-    ghost counted: { length answers.items ≡ length points.items },
-    ghost right: { (pc n : ℕ) → IsReached points.items pc n → seen (answer_at answers.items n) ≡ module_at (map entry_view entries.now) (map module_view modules.now) pc },
+    spans: Spans<Option<usize>>,
+    sections: Vec<Indexed<'m>>,
+    ghost ordered: { InOrder spans (map (span_of (map module_view modules.now)) (map entry_view entries.now)) },
+    ghost indexed: { map table_in sections.items ≡ tables_of (map module_view modules.now) },
 }
 
-// How many points are at an address or before it.
-fn reached(points: &[u64], pc: u64) -> usize
-    requires { IsNonDecreasing points.now }
-    ensures { IsReached points.now pc result }
+// The modules' sections, put in order.
+fn sections_of<'a>(alloc: Global, modules: &[Module<'_, 'a>]) -> Result<Vec<Indexed<'a>>, NoMemory>
+    ensures { IfOk result (λ sections. map table_in sections.items ≡ tables_of (map module_view modules.now)) }
 {
-    points.partition_point(|point| *point <= pc)
+    let mut sections = Vec::new(alloc);
+    for item in modules {
+        sections.push(Indexed::new(alloc, item.view)?)?;
+    }
+    Ok(sections)
 }
 
 impl<'m> Modules<'m> {
     ghost use Rattle.std.specs.Prelude.{◌≡◌, IfOk, map};
-    ghost use Rattle.std.specs.Option.{option_map};
     ghost use Rattle.core_walk.specs.Walk.{listing, thread_state};
     ghost use Rattle.sf_modules.specs.Entry.{entry_view};
-    ghost use Rattle.sf_modules.specs.Found.{module_at, modules_walk};
+    ghost use Rattle.sf_modules.specs.Found.{modules_walk};
     ghost use Rattle.sf_modules.specs.Module.{module_view};
-    ghost use Rattle.sf_modules.specs.Span.{seen};
+    ghost use Rattle.sf_modules.specs.Span.{number_at};
     ghost use Rattle.sf_modules.specs.Views.{entries_in, modules_in};
 
     /// The entries and the modules, put in order: once for all walks of a process.
@@ -60,27 +63,21 @@ impl<'m> Modules<'m> {
         ensures entries { IfOk result (λ m. entries_in m ≡ map entry_view entries.now) }
         ensures modules { IfOk result (λ m. modules_in m ≡ map module_view modules.now) }
     {
-        let spans = spans_of(alloc, entries, modules)?;
-        let points = points_of(alloc, &spans)?;
-        let mut answers = Vec::new(alloc);
-        push_answers(alloc, &points, &spans, &mut answers)?;
+        let spans = Spans::new(alloc, &spans_of(alloc, entries, modules)?)?;
+        let sections = sections_of(alloc, modules)?;
         Ok(Modules {
             entries,
             modules,
-            points,
-            answers,
+            spans,
+            sections,
         })
     }
 
-    // The module at an address.
-    fn module_at(&self, pc: u64) -> Option<&'m Module<'m, 'm>>
-        ensures { seen result ≡ module_at (entries_in self.now) (modules_in self.now) pc }
+    // The number of the module at an address.
+    fn number_at(&self, pc: u64) -> Option<usize>
+        ensures { result ≡ number_at (entries_in self.now) (modules_in self.now) pc }
     {
-        let reached = reached(&self.points, pc);
-        match reached.checked_sub(1) {
-            Some(last) => self.answers[last],
-            None => None,
-        }
+        self.spans.first_at(pc)?
     }
 
     /// The frames of a thread, at most `depth`, from the innermost on, and why no more are listed: each is looked up in the
@@ -107,11 +104,9 @@ impl<'m> LookUp for Modules<'m> {
 
     ghost found_at = { λ m. found_in (entries_in m) (modules_in m) };
 
-    #[tactic(auto, unfolding(crate::specs::Found::found_in))]
     fn look_up(&self, pc: u64) -> Option<(Arch, Found)> {
-        let item = self.module_at(pc)?;
-        let found = find(&item.view, pc)?;
-        Some((item.view.arch(), found))
+        let number = self.number_at(pc)?;
+        self.sections[number].look_up(pc)
     }
 }
 

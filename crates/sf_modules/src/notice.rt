@@ -2,8 +2,8 @@
 
 ghost use Rattle.std.specs.Prelude.{◌≡◌, ◌∷◌, [], IsSome, IsTrue};
 ghost use Rattle.sf_model.specs.Notice.{HasLine};
-ghost use Rattle.sf_model.specs.Told.{told_by};
-ghost use Rattle.sf_modules.specs.Told.{is_refusal, told_of_module};
+ghost use Rattle.sf_model.specs.FaultShown.{shown_by};
+ghost use Rattle.sf_modules.specs.FaultShown.{is_refusal, shown_of_module};
 
 use crate::fault::ModuleFault;
 use arrayvec::ArrayVec;
@@ -46,7 +46,7 @@ impl ModuleFault {
     /// memory didn't run out.
     pub fn notice(&self, item: Option<u32>) -> Notice
         requires { IsTrue (is_refusal self.now) }
-        ensures shown { told_by result ≡ told_of_module item self.now }
+        ensures shown { shown_by result ≡ shown_of_module item self.now }
         ensures line { IsSome item → HasLine result }
     {
         match *self {

@@ -8,7 +8,8 @@ use Rattle.sf_model.specs.declared.function.Func.{Func}
 use Rattle.sf_model.specs.declared.omission.Omission.{Omission}
 use Rattle.sf_model.specs.declared.omission.Reason.{Reason}
 use Rattle.sf_model.specs.declared.omission.Reason.TheVariants.{EmptyRange, SizeTooLarge, ReturnColumn, SignalFrame}
-use Rattle.sf_express.specs.Expressed.{column_of, reason_of}
+use Rattle.cfa_machine.specs.Registers.{return_address}
+use Rattle.sf_express.specs.Expressed.{reason_of}
 use Rattle.sf_express.specs.Runs.{expressed, function_of, omission_of, unless_omitted, first_against, whole_or_row}
 use Rattle.sf_asm.specs.declared.entry.Outcome.{Outcome}
 use Rattle.sf_asm.specs.declared.entry.Outcome.TheVariants as outcome
@@ -58,7 +59,7 @@ whole_none (Some reason) row e = cc
 
 kept_sized : (f : Function) → omission_of f.arch (facts_of f) (says_of f) ≡ None → 0 < f.size
 unfolding omission_of
-kept_sized f e = sized_by (nat_le (2 ^ 32) f.size) (eqb f.column (column_of f.arch)) f.signal f.size (eqb f.size 0) refl
+kept_sized f e = sized_by (nat_le (2 ^ 32) f.size) (eqb f.column (return_address f.arch)) f.signal f.size (eqb f.size 0) refl
     (whole_none (reason_of f.arch (facts_of f)) (first_against (says_of f) (range_with_len 0 f.size)) e)
 
 pub case_of : (f : Function) → Case f

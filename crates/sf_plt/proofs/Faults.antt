@@ -161,7 +161,7 @@ are_writable arch fs apart few each =
     }
 
 -- ---- what was gathered
-apart_from : (limits : Option GatherFault) (pair : Option (Span × Span)) → or_later limits (option_map overlap_fault pair) ≡ None → pair ≡ None
+pub apart_from : (limits : Option GatherFault) (pair : Option (Span × Span)) → or_later limits (option_map overlap_fault pair) ≡ None → pair ≡ None
 apart_from None None e = refl
 apart_from None (Some pair) e = cc
 apart_from (Some fault) pair e = cc
@@ -276,7 +276,7 @@ out_of_reach before objects at functions sorted start h order few far =
     ∙ ap (λ (first : Option GatherFault). or_later (option_map link.Gather first) (option_map link.OutOfReach (first_out_of_reach at 0 (written_functions sorted)))) few
     ∙ ap (option_map link.OutOfReach) far)
 
-accepted_by : (at : ℕ) (sorted : List Function) → functions_fault (map entry_of sorted) ≡ None → plts_fault sorted ≡ None → first_out_of_reach at 0 (written_functions sorted) ≡ None → plt_link_fault at sorted ≡ None
+pub accepted_by : (at : ℕ) (sorted : List Function) → functions_fault (map entry_of sorted) ≡ None → plts_fault sorted ≡ None → first_out_of_reach at 0 (written_functions sorted) ≡ None → plt_link_fault at sorted ≡ None
 accepted_by at sorted checked few near =
     ap (λ (first : Option GatherFault). or_later (option_map link.Gather (or_later first (plts_fault sorted))) (option_map link.OutOfReach (first_out_of_reach at 0 (written_functions sorted)))) checked
     ∙ ap (λ (first : Option GatherFault). or_later (option_map link.Gather first) (option_map link.OutOfReach (first_out_of_reach at 0 (written_functions sorted)))) few

@@ -11,7 +11,8 @@ use Rattle.sf_model.specs.declared.machine.Base.{Base}
 use Rattle.sf_model.specs.declared.machine.Base.TheVariants.{Fp, Sp}
 use Rattle.sf_model.specs.declared.omission.Reason.TheVariants.{EmptyRange, SizeTooLarge, ReturnColumn, SignalFrame}
 use Rattle.cfa_insn.specs.Listing.{listing}
-use Rattle.sf_express.specs.Expressed.{column_of, reason_of, same_base}
+use Rattle.cfa_machine.specs.Registers.{return_address}
+use Rattle.sf_express.specs.Expressed.{reason_of, same_base}
 use Rattle.sf_asm.specs.Functions.{Function}
 use Rattle.sf_asm.specs.Kept.{facts_of}
 use Rattle.sf_plt.specs.Plt.{counts_from_stack, initial_content, is_amd64, is_plt, is_plt_text, without_nops}
@@ -77,7 +78,7 @@ size_by false false column signal e = refl
 
 pub size_small : (arch : Arch) (facts : FdeFacts) → reason_of arch facts ≡ None → facts.size < 2 ^ 32
 size_small arch facts e =
-    let is : nat_le (2 ^ 32) facts.size ≡ false = size_by (eqb facts.size 0) (nat_le (2 ^ 32) facts.size) (eqb facts.column (column_of arch)) facts.signal e in
+    let is : nat_le (2 ^ 32) facts.size ≡ false = size_by (eqb facts.size 0) (nat_le (2 ^ 32) facts.size) (eqb facts.column (return_address arch)) facts.signal e in
     below (2 ^ 32) facts.size is
   where
     below : (a b : ℕ) → nat_le a b ≡ false → b < a

@@ -11,3 +11,5 @@ pub mod Writable
 pub mod Sorted
 pub mod Faults
 pub mod Worked
+pub mod SomeLinked
+pub mod NeverMemory

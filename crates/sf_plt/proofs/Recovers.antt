@@ -23,7 +23,7 @@ use Rattle.cfa_machine.specs.declared.columns.Columns.{Columns}
 use Rattle.cfa_machine.specs.declared.fault.MachineFault.{MachineFault}
 use Rattle.cfa_machine.specs.declared.rule.CfaRule.{CfaRule}
 use Rattle.cfa_machine.specs.declared.rule.CfaRule.TheVariants as cfa
-use Rattle.cfa_machine.specs.At.{row_at_offset}
+use Rattle.cfa_machine.specs.RowAtOffset.{row_at_offset}
 use Rattle.cfa_machine.specs.Columns.{row_from}
 use Rattle.cfa_machine.specs.FirstFault.{first_fault}
 use Rattle.cfa_machine.specs.FullRow.{FullRow, cfa_offset, columns_of}

@@ -9,7 +9,7 @@ use Rattle.cfa_machine.specs.declared.effect.Effect.TheVariants.{Row, Advance}
 use Rattle.cfa_machine.specs.declared.effect.RowEffect.TheVariants.{Nothing, SetCfa, SetCfaOffset}
 use Rattle.cfa_machine.specs.declared.rule.CfaRule.{CfaRule}
 use Rattle.cfa_machine.specs.declared.rule.CfaRule.TheVariants as cfa
-use Rattle.cfa_machine.specs.At.{Full, full_after, full_at, initial_by, offset_behind, row_at_offset}
+use Rattle.cfa_machine.specs.RowAtOffset.{UnwindState, after_instruction, state_before, initial_by, offset_behind, row_at_offset}
 use Rattle.cfa_machine.specs.Effects.{effect_by}
 use Rattle.cfa_machine.specs.FullRow.{FullRow, no_row, cfa_offset}
 use Rattle.sf_asm.specs.Functions.{Function}
@@ -103,41 +103,41 @@ nop_effect f p other e = cc
 
 module _ (initial : FullRow) (code : ℕ) (f : ℤ) (o : ℕ) where
   -- one instruction
-  goes : (offset : ℕ) (s : Full) (p : ℕ) (i : Instruction) (items : List Item) (effect : Effect) → effect_by f i ≡ effect → offset_behind code effect offset ≤ o
-      → full_at initial code f o offset s (Ok (p, i) ∷ items) ≡ full_at initial code f o (offset_behind code effect offset) (full_after initial effect s) items
-  unfolding full_at
+  goes : (offset : ℕ) (s : UnwindState) (p : ℕ) (i : Instruction) (items : List Item) (effect : Effect) → effect_by f i ≡ effect → offset_behind code effect offset ≤ o
+      → state_before initial code f o offset s (Ok (p, i) ∷ items) ≡ state_before initial code f o (offset_behind code effect offset) (after_instruction initial effect s) items
+  unfolding state_before
   goes offset s p i items effect e le =
-      ap (λ (x : Effect). cond (nat_lt o (offset_behind code x offset)) s (full_at initial code f o (offset_behind code x offset) (full_after initial x s) items)) e
-      ∙ ap (λ (b : Bool). cond b s (full_at initial code f o (offset_behind code effect offset) (full_after initial effect s) items)) (le-ltb o (offset_behind code effect offset) le)
+      ap (λ (x : Effect). cond (nat_lt o (offset_behind code x offset)) s (state_before initial code f o (offset_behind code x offset) (after_instruction initial x s) items)) e
+      ∙ ap (λ (b : Bool). cond b s (state_before initial code f o (offset_behind code effect offset) (after_instruction initial effect s) items)) (le-ltb o (offset_behind code effect offset) le)
 
-  stops : (offset : ℕ) (s : Full) (p : ℕ) (i : Instruction) (items : List Item) (effect : Effect) → effect_by f i ≡ effect → o < offset_behind code effect offset
-      → full_at initial code f o offset s (Ok (p, i) ∷ items) ≡ s
-  unfolding full_at
+  stops : (offset : ℕ) (s : UnwindState) (p : ℕ) (i : Instruction) (items : List Item) (effect : Effect) → effect_by f i ≡ effect → o < offset_behind code effect offset
+      → state_before initial code f o offset s (Ok (p, i) ∷ items) ≡ s
+  unfolding state_before
   stops offset s p i items effect e lt =
-      ap (λ (x : Effect). cond (nat_lt o (offset_behind code x offset)) s (full_at initial code f o (offset_behind code x offset) (full_after initial x s) items)) e
-      ∙ ap (λ (b : Bool). cond b s (full_at initial code f o (offset_behind code effect offset) (full_after initial effect s) items)) (lt-ltb o (offset_behind code effect offset) lt)
+      ap (λ (x : Effect). cond (nat_lt o (offset_behind code x offset)) s (state_before initial code f o (offset_behind code x offset) (after_instruction initial x s) items)) e
+      ∙ ap (λ (b : Bool). cond b s (state_before initial code f o (offset_behind code effect offset) (after_instruction initial effect s) items)) (lt-ltb o (offset_behind code effect offset) lt)
 
-  at_end : (offset : ℕ) (s : Full) → full_at initial code f o offset s [] ≡ s
-  unfolding full_at
+  at_end : (offset : ℕ) (s : UnwindState) → state_before initial code f o offset s [] ≡ s
+  unfolding state_before
   at_end offset s = refl
 
   -- the same without those that do nothing
-  skips_nops : (offset : ℕ) (s : Full) (items : List Item) → offset ≤ o → full_at initial code f o offset s items ≡ full_at initial code f o offset s (without_nops items)
-  unfolding full_at
+  skips_nops : (offset : ℕ) (s : UnwindState) (items : List Item) → offset ≤ o → state_before initial code f o offset s items ≡ state_before initial code f o offset s (without_nops items)
+  unfolding state_before
   skips_nops offset s [] le = refl
   skips_nops offset s (Err fault ∷ items) le = refl
   skips_nops offset s (Ok (p, i) ∷ items) le =
-      at_nop (is_nop (Ok (p, i))) refl (skips_nops offset s items le) (λ below. skips_nops (offset_behind code (effect_by f i) offset) (full_after initial (effect_by f i) s) items below)
+      at_nop (is_nop (Ok (p, i))) refl (skips_nops offset s items le) (λ below. skips_nops (offset_behind code (effect_by f i) offset) (after_instruction initial (effect_by f i) s) items below)
     where
       at_test : (b : Bool) → nat_lt o (offset_behind code (effect_by f i) offset) ≡ b
-          → (offset_behind code (effect_by f i) offset ≤ o → full_at initial code f o (offset_behind code (effect_by f i) offset) (full_after initial (effect_by f i) s) items ≡ full_at initial code f o (offset_behind code (effect_by f i) offset) (full_after initial (effect_by f i) s) (without_nops items))
-          → cond b s (full_at initial code f o (offset_behind code (effect_by f i) offset) (full_after initial (effect_by f i) s) items) ≡ cond b s (full_at initial code f o (offset_behind code (effect_by f i) offset) (full_after initial (effect_by f i) s) (without_nops items))
+          → (offset_behind code (effect_by f i) offset ≤ o → state_before initial code f o (offset_behind code (effect_by f i) offset) (after_instruction initial (effect_by f i) s) items ≡ state_before initial code f o (offset_behind code (effect_by f i) offset) (after_instruction initial (effect_by f i) s) (without_nops items))
+          → cond b s (state_before initial code f o (offset_behind code (effect_by f i) offset) (after_instruction initial (effect_by f i) s) items) ≡ cond b s (state_before initial code f o (offset_behind code (effect_by f i) offset) (after_instruction initial (effect_by f i) s) (without_nops items))
       at_test true t later = refl
       at_test false t later = later (ltb-false o (offset_behind code (effect_by f i) offset) t)
 
-      at_nop : (b : Bool) → is_nop (Ok (p, i)) ≡ b → full_at initial code f o offset s items ≡ full_at initial code f o offset s (without_nops items)
-          → (offset_behind code (effect_by f i) offset ≤ o → full_at initial code f o (offset_behind code (effect_by f i) offset) (full_after initial (effect_by f i) s) items ≡ full_at initial code f o (offset_behind code (effect_by f i) offset) (full_after initial (effect_by f i) s) (without_nops items))
-          → full_at initial code f o offset s (Ok (p, i) ∷ items) ≡ full_at initial code f o offset s (cond (not b) (Ok (p, i) ∷ without_nops items) (without_nops items))
+      at_nop : (b : Bool) → is_nop (Ok (p, i)) ≡ b → state_before initial code f o offset s items ≡ state_before initial code f o offset s (without_nops items)
+          → (offset_behind code (effect_by f i) offset ≤ o → state_before initial code f o (offset_behind code (effect_by f i) offset) (after_instruction initial (effect_by f i) s) items ≡ state_before initial code f o (offset_behind code (effect_by f i) offset) (after_instruction initial (effect_by f i) s) (without_nops items))
+          → state_before initial code f o offset s (Ok (p, i) ∷ items) ≡ state_before initial code f o offset s (cond (not b) (Ok (p, i) ∷ without_nops items) (without_nops items))
       at_nop true e skipped later = goes offset s p i items (Row Nothing) (nop_effect f p i e) le ∙ skipped
       at_nop false e skipped later = at_test (nat_lt o (offset_behind code (effect_by f i) offset)) refl later
 
@@ -146,26 +146,26 @@ abbrev pub with_cfa : CfaRule → FullRow → FullRow
 with_cfa rule row = record row { cfa = rule }
 
 -- the states after the rules
-abbrev first_state : FullRow → Full
+abbrev first_state : FullRow → UnwindState
 first_state row = record { row = row; remembered = [] }
 
 module _ (f : ℤ) (initial : FullRow) (p q r s t : ℕ) (block : List ℕ) where
-  abbrev one : Full
+  abbrev one : UnwindState
   one = first_state (with_cfa (cfa_offset (pos 16) initial.cfa) initial)
 
-  abbrev two : Full
+  abbrev two : UnwindState
   two = first_state (with_cfa (cfa_offset (pos 24) (cfa_offset (pos 16) initial.cfa)) initial)
 
-  abbrev three : Full
+  abbrev three : UnwindState
   three = first_state (with_cfa cfa.Expression initial)
 
-  at_first : (o : ℕ) → o < 6 → full_at initial 1 f o 0 (first_state initial) (text_of p q r s t block) ≡ one
+  at_first : (o : ℕ) → o < 6 → state_before initial 1 f o 0 (first_state initial) (text_of p q r s t block) ≡ one
   unfolding effect_by
   at_first o lt =
       goes initial 1 f o 0 (first_state initial) p (def_cfa_offset 16) (Ok (q, advance_loc 6) ∷ Ok (r, def_cfa_offset 24) ∷ Ok (s, advance_loc 10) ∷ Ok (t, def_cfa_expression block) ∷ []) (Row (SetCfaOffset (pos 16))) refl (omega arith)
       ∙ stops initial 1 f o 0 one q (advance_loc 6) (Ok (r, def_cfa_offset 24) ∷ Ok (s, advance_loc 10) ∷ Ok (t, def_cfa_expression block) ∷ []) (Advance 6) refl (omega (arith, lt))
 
-  at_second : (o : ℕ) → 6 ≤ o → o < 16 → full_at initial 1 f o 0 (first_state initial) (text_of p q r s t block) ≡ two
+  at_second : (o : ℕ) → 6 ≤ o → o < 16 → state_before initial 1 f o 0 (first_state initial) (text_of p q r s t block) ≡ two
   unfolding effect_by
   at_second o le lt =
       goes initial 1 f o 0 (first_state initial) p (def_cfa_offset 16) (Ok (q, advance_loc 6) ∷ Ok (r, def_cfa_offset 24) ∷ Ok (s, advance_loc 10) ∷ Ok (t, def_cfa_expression block) ∷ []) (Row (SetCfaOffset (pos 16))) refl (omega arith)
@@ -173,7 +173,7 @@ module _ (f : ℤ) (initial : FullRow) (p q r s t : ℕ) (block : List ℕ) wher
       ∙ goes initial 1 f o 6 one r (def_cfa_offset 24) (Ok (s, advance_loc 10) ∷ Ok (t, def_cfa_expression block) ∷ []) (Row (SetCfaOffset (pos 24))) refl (omega (arith, le))
       ∙ stops initial 1 f o 6 two s (advance_loc 10) (Ok (t, def_cfa_expression block) ∷ []) (Advance 10) refl (omega (arith, lt))
 
-  at_third : (o : ℕ) → 16 ≤ o → full_at initial 1 f o 0 (first_state initial) (text_of p q r s t block) ≡ three
+  at_third : (o : ℕ) → 16 ≤ o → state_before initial 1 f o 0 (first_state initial) (text_of p q r s t block) ≡ three
   unfolding effect_by
   at_third o le =
       goes initial 1 f o 0 (first_state initial) p (def_cfa_offset 16) (Ok (q, advance_loc 6) ∷ Ok (r, def_cfa_offset 24) ∷ Ok (s, advance_loc 10) ∷ Ok (t, def_cfa_expression block) ∷ []) (Row (SetCfaOffset (pos 16))) refl (omega arith)
@@ -187,14 +187,14 @@ module _ (f : ℤ) (initial : FullRow) (p q r s t : ℕ) (block : List ℕ) wher
 abbrev pub initial_row : Function → FullRow
 initial_row f = initial_by f.factor no_row (listing f.initial)
 
-pub row_is : (f : Function) (o : ℕ) (state : Full) → f.code ≡ 1 → is_plt_text (without_nops (listing f.own)) ≡ true
-    → ((p q r s t : ℕ) (block : List ℕ) → full_at (initial_row f) 1 f.factor o 0 (first_state (initial_row f)) (text_of p q r s t block) ≡ state) → full_row f o ≡ state.row
+pub row_is : (f : Function) (o : ℕ) (state : UnwindState) → f.code ≡ 1 → is_plt_text (without_nops (listing f.own)) ≡ true
+    → ((p q r s t : ℕ) (block : List ℕ) → state_before (initial_row f) 1 f.factor o 0 (first_state (initial_row f)) (text_of p q r s t block) ≡ state) → full_row f o ≡ state.row
 row_is f o state code text h =
     let has = has_text (without_nops (listing f.own)) text in
-    ap (λ (c : ℕ). (full_at (initial_row f) c f.factor o 0 (first_state (initial_row f)) (listing f.own)).row) code
-    ∙ ap (λ (x : Full). x.row)
+    ap (λ (c : ℕ). (state_before (initial_row f) c f.factor o 0 (first_state (initial_row f)) (listing f.own)).row) code
+    ∙ ap (λ (x : UnwindState). x.row)
     (skips_nops (initial_row f) 1 f.factor o 0 (first_state (initial_row f)) (listing f.own) (omega arith)
-    ∙ ap (full_at (initial_row f) 1 f.factor o 0 (first_state (initial_row f))) has.is ∙ h has.p has.q has.r has.s has.t has.block)
+    ∙ ap (state_before (initial_row f) 1 f.factor o 0 (first_state (initial_row f))) has.is ∙ h has.p has.q has.r has.s has.t has.block)
 
 pub row_first : (f : Function) (o : ℕ) → f.code ≡ 1 → is_plt_text (without_nops (listing f.own)) ≡ true → o < 6 → full_row f o ≡ with_cfa (cfa_offset (pos 16) (initial_row f).cfa) (initial_row f)
 row_first f o code text lt = row_is f o (one f.factor (initial_row f) 0 0 0 0 0 []) code text (λ p q r s t block. at_first f.factor (initial_row f) p q r s t block o lt)
@@ -208,4 +208,4 @@ row_third f o code text le = row_is f o (three f.factor (initial_row f) 0 0 0 0 
 
 -- before its own instructions
 pub row_before : (f : Function) → row_at_offset f.code f.factor (listing f.initial) [] 0 ≡ initial_row f
-row_before f = ap (λ (x : Full). x.row) (at_end (initial_row f) f.code f.factor 0 0 (first_state (initial_row f)))
+row_before f = ap (λ (x : UnwindState). x.row) (at_end (initial_row f) f.code f.factor 0 0 (first_state (initial_row f)))

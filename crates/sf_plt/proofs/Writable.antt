@@ -19,7 +19,7 @@ use Rattle.cfa_machine.specs.declared.effect.RowEffect.TheVariants.{Nothing, Set
 use Rattle.cfa_machine.specs.declared.fault.MachineFault.{MachineFault}
 use Rattle.cfa_machine.specs.declared.rule.Rule.{Rule}
 use Rattle.cfa_machine.specs.declared.rule.Rule.TheVariants as rule
-use Rattle.cfa_machine.specs.At.{initial_by, row_defined}
+use Rattle.cfa_machine.specs.RowAtOffset.{initial_by, row_defined}
 use Rattle.cfa_machine.specs.Effects.{effect_by}
 use Rattle.cfa_machine.specs.FirstFault.{define_fault, first_fault, initial_fault, or_later}
 use Rattle.cfa_machine.specs.FullRow.{FullRow, no_row}

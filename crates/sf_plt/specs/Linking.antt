@@ -15,6 +15,7 @@ use Rattle.sf_asm.specs.Order.{entry_rows}
 use Rattle.sf_asm.specs.Sources.{AreByStart}
 use Rattle.sf_plt.specs.Plt.{plt_functions}
 use Rattle.sf_plt.specs.Written.{written_functions}
+pub use Rattle.sf_model.specs.Firsts.{unless_fault}
 
 -- the most functions and rows, where each procedure linkage table counts as one function more and as 4 rows
 abbrev pub further_fault : (most_functions most_rows functions rows plts : ℕ) → Option GatherFault
@@ -32,10 +33,6 @@ abbrev pub plt_link_fault : (at : ℕ) → List Function → Option LinkFault
 plt_link_fault at sorted =
     or_later (option_map Gather (or_later (functions_fault (map entry_of sorted)) (plts_fault sorted)))
     (option_map OutOfReach (first_out_of_reach at 0 (written_functions sorted)))
-
-abbrev pub unless_fault : {F : Type 0} → Option F → List Function → Result (List Function) F
-unless_fault None sorted = Ok sorted
-unless_fault (Some fault) sorted = Err fault
 
 abbrev pub LinksPltsFrom : (at : ℕ) → Result (List Function) GatherFault → Result (List Function) LinkFault → Type 0
 LinksPltsFrom at (Ok functions) result = (sorted : List Function) × AreByStart functions sorted × (result ≡ unless_fault (plt_link_fault at sorted) sorted)

@@ -1,8 +1,7 @@
 //! The limits of functions and rows with procedure linkage tables.
 
-ghost use Rattle.std.specs.Prelude.{◌≡◌, ◌≤◌, ◌^◌, IfErr, IsTrue};
+ghost use Rattle.std.specs.Prelude.{◌≡◌, ◌≤◌, ◌^◌};
 ghost use Rattle.sf_model.specs.Table.{row_count};
-ghost use Rattle.sf_asm.specs.Fault.{is_gather_answered};
 ghost use Rattle.sf_asm.specs.Functions.{unless};
 ghost use Rattle.sf_plt.specs.Linking.{further_fault};
 
@@ -30,8 +29,7 @@ const TABLE_ROWS: usize = 4;
 /// Tries the limits, where each table counts as one function more and as 4 rows: functions first, then rows.
 pub fn check_tables(limits: Limits, counts: Counts) -> Result<(), GatherFault>
     requires { (counts.functions ≤ 2 ^ 32) × (counts.rows ≤ 2 ^ 32) × (counts.tables ≤ 2 ^ 32) }
-    ensures exact { result ≡ unless (further_fault limits.functions limits.rows counts.functions counts.rows counts.tables) }
-    ensures answered { IfErr result (λ fault. IsTrue (is_gather_answered fault)) }
+    ensures { result ≡ unless (further_fault limits.functions limits.rows counts.functions counts.rows counts.tables) }
 {
     if counts.functions + counts.tables > limits.functions {
         return Err(GatherFault::TooManyFunctions);

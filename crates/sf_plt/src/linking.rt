@@ -4,7 +4,7 @@ ghost use Rattle.std.specs.Prelude.{◌≡◌, ◌≤◌, ◌<◌, ◌^◌, All,
 ghost use Rattle.std.specs.List.Sorted.{IsNonDecreasingBy, IsStableByKey, IsPermutation};
 ghost use Rattle.std.specs.Ordering.{nat_cmp};
 ghost use Rattle.sf_model.specs.Section.{AreBytes};
-ghost use Rattle.sf_asm.specs.Fault.{is_answered, is_gather_answered};
+ghost use Rattle.sf_asm.specs.Fault.{is_answered};
 ghost use Rattle.sf_asm.specs.Functions.{object_of};
 ghost use Rattle.sf_plt.specs.Answers.{IsFirstPltLinked, IsPltLinked};
 ghost use Rattle.sf_plt.specs.Linking.{wraps_gathering};
@@ -39,8 +39,7 @@ pub struct PltLinked {
 
 /// A fault of gathering, where out of memory stands alone.
 fn not_gathered(fault: GatherFault) -> LinkFault
-    ensures is { result ≡ wraps_gathering fault }
-    ensures answered { IsTrue (is_gather_answered fault) → IsTrue (is_answered result) }
+    ensures { result ≡ wraps_gathering fault }
 {
     match fault {
         GatherFault::NoMemory => LinkFault::NoMemory,

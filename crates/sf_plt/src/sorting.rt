@@ -83,7 +83,7 @@ pub fn sort_out(
         omitted: Vec::new(alloc),
     };
     for (index, source) in sources.iter().enumerate() {
-        match table_content(alloc, source)? {
+        match table_content(source) {
             Some(content) => sorted.add_table(alloc, arch, source, content)?,
             None => sorted.omitted.push(omitted[index])?,
         }

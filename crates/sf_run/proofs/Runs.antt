@@ -6,7 +6,7 @@ use Rattle.std.proofs.lemmas.List.{length-map}
 use Rattle.sf_base.specs.Contents.{contents_of}
 use Rattle.sf_base.specs.Faults.{Rose}
 use Rattle.sf_base.specs.Seen.{FilesSeen, SinkSeen, OnlyReads}
-use Rattle.sf_model.specs.Told.{told_by}
+use Rattle.sf_model.specs.FaultShown.{shown_by}
 use Rattle.sf_items.specs.declared.refusal.Limit.{Limit}
 use Rattle.sf_items.specs.declared.refusal.Limit.TheVariants.{Inputs}
 use Rattle.sf_items.specs.declared.refusal.Refusal.{Refusal}
@@ -154,7 +154,7 @@ answers_for answer command known before after e are ends fine = record { comes =
       | inl failed ↦ fine.writes failed.cause
       | inr failed ↦ fine.output failed.cause
     ])
-    accepted nothing status.Refused h = absurd (nothing.accepted (told_by h.0) (here _ h.2))
+    accepted nothing status.Refused h = absurd (nothing.accepted (shown_by h.0) (here _ h.2))
     accepted nothing status.Memory h = inr (inr refl)
     accepted nothing status.Limit h = absurd (nothing.within h.0 (here _ h.1))
 

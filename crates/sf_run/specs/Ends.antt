@@ -6,7 +6,7 @@ use Rattle.sf_base.specs.Seen.{FilesSeen, SinkSeen, OnlyReads}
 use Rattle.sf_base.specs.Written.{Appends, AppendsPrefix}
 use Rattle.sf_model.specs.declared.notice.Notice.{Notice}
 use Rattle.sf_model.specs.Notice.{HasLine}
-use Rattle.sf_model.specs.Told.{told_by}
+use Rattle.sf_model.specs.FaultShown.{shown_by}
 use Rattle.sf_text.specs.FaultLine.{fault_text}
 use Rattle.sf_items.specs.declared.refusal.Limit.{Limit}
 use Rattle.sf_items.specs.declared.refusal.Limit.TheVariants.{Inputs}
@@ -112,7 +112,7 @@ RunEnds status.Write command before after =
     (made : Outcome) × Leaves command before.files.contents made (λ section text.
     FileFailed (out_name command) section before after ⊎ OutputFailed (out_name command) section text before after)
 RunEnds status.Refused command before after =
-    (notice : Notice) × HasLine notice × RunComes command before.files.contents (Refused (told_by notice)) × TurnedAway before after (fault_text notice)
+    (notice : Notice) × HasLine notice × RunComes command before.files.contents (Refused (shown_by notice)) × TurnedAway before after (fault_text notice)
 RunEnds status.Memory command before after = TurnedAway before after memory_line
 RunEnds status.Limit command before after =
     (limit : Limit) × RunComes command before.files.contents (Exceeded limit) × TurnedAway before after (limit_line limit)

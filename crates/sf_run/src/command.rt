@@ -67,7 +67,7 @@ fn read_and_make<'a, F: Files>(
     load_and_make(alloc, &asked, files)
 }
 
-/// Runs a command. Its files are counted before memory is taken and before one is opened.
+/// Runs a command. Its files are counted before memory is allocated and before one is opened.
 fn run_command<F: Files, O: Sink, E: Sink>(
     alloc: Global,
     command: &Command<'_>,

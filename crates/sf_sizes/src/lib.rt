@@ -3,7 +3,7 @@
 //!
 //! A width is a number from 0 to 2, for 1, 2 and 4 bytes. Each width that is answered here is the least
 //! that holds what it is asked for, and a row's length is that of its bytes: `holds_unsigned`,
-//! `holds_row_offsets` and `spelled_row` of `sf_model` say which those are. No call takes memory or
+//! `holds_row_offsets` and `spelled_row` of `sf_model` say which those are. No call allocates or
 //! fails.
 #![tactic(auto)]
 

@@ -3,4 +3,4 @@ pub mod Pass
 pub mod Slimming
 pub mod Answers
 pub mod Shortest
-pub mod Told
+pub mod FaultShown

@@ -12,6 +12,7 @@ use Rattle.sf_merge.specs.Merging.{neighbours, overlap}
 use Rattle.sf_slim.specs.declared.fault.SlimFault.{SlimFault}
 use Rattle.sf_slim.specs.declared.fault.SlimFault.TheVariants.{Overlap, OutOfReach}
 use Rattle.sf_slim.specs.Slim.{is_live, slim_function}
+pub use Rattle.sf_model.specs.Firsts.{or_later, unless_fault}
 
 -- the functions of a table that hold an address, each with the number of its entry
 abbrev pub sized : Table → List Located
@@ -32,14 +33,6 @@ slimmed ordered = map slim_function (filter is_live (map (λ (l : Located). l.fu
 -- the first of them that lies too far from its start field, in a section at this address
 abbrev pub reach_fault : (at : ℕ) → List Func → Option SlimFault
 reach_fault at functions = option_map OutOfReach (first_out_of_reach at 0 functions)
-
-abbrev pub or_later : Option SlimFault → Option SlimFault → Option SlimFault
-or_later (Some fault) later = Some fault
-or_later None later = later
-
-abbrev pub unless_fault : {X : Type 0} → Option SlimFault → X → Result X SlimFault
-unless_fault None x = Ok x
-unless_fault (Some fault) x = Err fault
 
 -- slimming the section of these bytes, which says this table, for this address comes to this: its functions that hold an address
 -- are taken by start and then by entry

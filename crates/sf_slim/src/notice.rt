@@ -2,8 +2,8 @@
 
 ghost use Rattle.std.specs.Prelude.{◌≡◌, IsSome, IsTrue};
 ghost use Rattle.sf_model.specs.Notice.{HasLine};
-ghost use Rattle.sf_model.specs.Told.{told_by};
-ghost use Rattle.sf_slim.specs.Told.{is_refusal, told_of_slimming};
+ghost use Rattle.sf_model.specs.FaultShown.{shown_by};
+ghost use Rattle.sf_slim.specs.FaultShown.{is_refusal, shown_of_slimming};
 
 use crate::fault::SlimFault;
 use sf_decode::DecodeFault;
@@ -11,10 +11,10 @@ use sf_merge::MergeFault;
 use sf_model::Notice;
 
 impl SlimFault {
-    /// The fault of this item's section, as its line shows it. The caller owes that it is no want of memory.
+    /// The fault of this item's section, as its line shows it. The caller owes that it is not `NoMemory`.
     pub fn notice(&self, item: Option<u32>) -> Notice
         requires { IsTrue (is_refusal self.now) }
-        ensures shown { told_by result ≡ told_of_slimming item self.now }
+        ensures shown { shown_by result ≡ shown_of_slimming item self.now }
         ensures line { IsSome item → HasLine result }
     {
         match *self {

@@ -61,7 +61,7 @@ fn count_rows(functions: &[Func]) -> u32
 /// # Errors
 ///
 /// `Overlap` where two functions of the section share an address, those without rows among them; then
-/// `OutOfReach` where a function that is needed lies too far from the section; want of memory at any time.
+/// `OutOfReach` where a function that is needed lies too far from the section; memory may run out at any time.
 pub fn slim(alloc: Global, view: &View<'_>, at: u64) -> Result<Slimmed, SlimFault>
     // The section is that of what is needed.
     ensures slimmed { IfOk result (λ made. IsSlimmed (section_bytes view.now) (table_of view.now) at made.section.items made.functions made.rows) }

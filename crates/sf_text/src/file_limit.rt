@@ -8,7 +8,7 @@ ghost use Rattle.sf_text.specs.Merged.{file_limit_text};
 use crate::line::{Line, push_decimal, push_text};
 use sf_base::{Failed, Sink, put_all};
 
-/// Appends the line `limit file ITEM` to the sink. Takes no memory.
+/// Appends the line `limit file ITEM` to the sink. Allocates nothing.
 ///
 /// # Errors
 ///

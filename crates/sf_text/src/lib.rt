@@ -9,7 +9,7 @@
 //! [`fault_line`] and [`file_limit_line`] append `fault_text` and `file_limit_text`. The caller owes a notice
 //! that has a line to `fault_line`, and nothing to the others.
 //!
-//! `fault_line` and `file_limit_line` take no memory. The others build their text in one growing buffer, in the
+//! `fault_line` and `file_limit_line` allocate nothing. The others build their text in one growing buffer, in the
 //! time of its length; they fail for memory alone.
 #![tactic(auto)]
 

@@ -13,7 +13,7 @@ use crate::names::{name_of_fault, name_of_group};
 use sf_base::{Failed, Sink, put_all};
 use sf_model::{Group, Notice};
 
-/// Appends the fault's line to the sink. Takes no memory.
+/// Appends the fault's line to the sink. Allocates nothing.
 ///
 /// # Errors
 ///

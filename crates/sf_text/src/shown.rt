@@ -1,4 +1,4 @@
-//! Numbers as they are shown where memory may be taken.
+//! Numbers as they are shown where memory may be allocated.
 
 ghost use Rattle.std.specs.Prelude.{Some};
 ghost use Rattle.sf_text.specs.Number.{hexadecimal};

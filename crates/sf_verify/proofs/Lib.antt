@@ -9,3 +9,7 @@ pub mod Overlaps
 pub mod Sections
 pub mod Verdicts
 pub mod OneVerdict
+pub mod Signs
+pub mod Fitting
+pub mod SomeVerdict
+pub mod NeverMemory

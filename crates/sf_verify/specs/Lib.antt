@@ -5,4 +5,4 @@ pub mod Comparing
 pub mod Asking
 pub mod Counting
 pub mod Concluding
-pub mod Told
+pub mod FaultShown

@@ -2,8 +2,8 @@
 
 ghost use Rattle.std.specs.Prelude.{◌≡◌, IsSome, IsTrue};
 ghost use Rattle.sf_model.specs.Notice.{HasLine};
-ghost use Rattle.sf_model.specs.Told.{told_by};
-ghost use Rattle.sf_verify.specs.Told.{is_refusal, told_of_verifying};
+ghost use Rattle.sf_model.specs.FaultShown.{shown_by};
+ghost use Rattle.sf_verify.specs.FaultShown.{is_refusal, shown_of_verifying};
 
 use crate::fault::VerifyFault;
 use sf_decode::DecodeFault;
@@ -11,10 +11,10 @@ use sf_model::Notice;
 
 impl VerifyFault {
     /// The fault as its line shows it: of the section of this item, or of the inputs. The caller owes that it
-    /// is neither a limit nor want of memory.
+    /// is neither a limit nor `NoMemory`.
     pub fn notice(&self, item: Option<u32>) -> Notice
         requires { IsTrue (is_refusal self.now) }
-        ensures shown { told_by result ≡ told_of_verifying item self.now }
+        ensures shown { shown_by result ≡ shown_of_verifying item self.now }
         ensures line { IsSome item → HasLine result }
     {
         match self {

@@ -1,9 +1,8 @@
 //! Whether functions of a section share an address.
 
-ghost use Rattle.std.specs.Prelude.{◌≡◌, IfSome, IsTrue};
+ghost use Rattle.std.specs.Prelude.{◌≡◌};
 ghost use Rattle.sf_decode.specs.View.{section_bytes};
 ghost use Rattle.sf_merge.specs.Merging.{overlap};
-ghost use Rattle.sf_verify.specs.Told.{is_answered};
 ghost use Rattle.sf_verify.specs.Verifying.{section_fault};
 
 use crate::fault::VerifyFault;
@@ -19,8 +18,7 @@ fn shares_address(before: &Located, function: &Located) -> bool
 
 /// Tries each function against the one before it.
 pub fn shared_address(view: &View<'_>, ordered: &[Located]) -> Option<VerifyFault>
-    ensures is { result ≡ section_fault (section_bytes view.now) ordered.now }
-    ensures answered { IfSome result (λ fault. IsTrue (is_answered fault)) }
+    ensures { result ≡ section_fault (section_bytes view.now) ordered.now }
 {
     let Some((first, later)) = ordered.split_first() else {
         return None;

@@ -1,6 +1,6 @@
 //! A section against the inputs that it was made from.
 
-ghost use Rattle.std.specs.Prelude.{◌≡◌, ◌≤◌, ◌<◌, ◌^◌, All, length, map, Ok, IfOk, IfErr, IfSome, IsTrue};
+ghost use Rattle.std.specs.Prelude.{◌≡◌, ◌≤◌, ◌<◌, ◌^◌, All, length, map, Ok, IfOk, IfErr, IsTrue};
 ghost use Rattle.sf_asm.specs.Functions.{object_of};
 ghost use Rattle.sf_decode.specs.View.{section_bytes, table_of};
 ghost use Rattle.sf_asm.specs.Sources.{functions_lent};
@@ -8,8 +8,7 @@ ghost use Rattle.sf_verify.specs.Asking.{AreHolders, answers_of};
 ghost use Rattle.sf_verify.specs.Comparing.{AreComparable, functions_in};
 ghost use Rattle.sf_verify.specs.Concluding.{IsVerdictBy};
 ghost use Rattle.sf_verify.specs.Counting.{KeptRise, StartsRise};
-ghost use Rattle.sf_verify.specs.Told.{is_answered};
-ghost use Rattle.sf_asm.specs.Fault.{is_gather_answered};
+ghost use Rattle.sf_verify.specs.FaultShown.{is_answered};
 ghost use Rattle.sf_verify.specs.Verifying.{IsFirstFault, Verifies, refused};
 
 use crate::counts::{count_missing, count_plain};
@@ -26,10 +25,7 @@ use std::alloc::Global;
 
 /// A fault of the inputs, before which an overlap in the section comes where it is one of them.
 fn refused(section: Option<VerifyFault>, fault: GatherFault) -> VerifyFault
-    requires section { IfSome section (λ shared. IsTrue (is_answered shared)) }
-    requires fault { IsTrue (is_gather_answered fault) }
-    ensures is { result ≡ refused section fault }
-    ensures answered { IsTrue (is_answered result) }
+    ensures { result ≡ refused section fault }
 {
     match fault {
         GatherFault::NoMemory => VerifyFault::NoMemory,

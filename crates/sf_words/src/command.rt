@@ -74,7 +74,7 @@ pub struct ProcwalkFiles<'a> {
     pub files: &'a [String],
 }
 
-/// A command line that has one of the forms. It lends its words: reading them takes no memory.
+/// A command line that has one of the forms. It lends its words: reading them allocates nothing.
 #[derive(Clone, Copy)]
 pub enum Command<'a> {
     /// `link OUT@AT IN@BASE ..`

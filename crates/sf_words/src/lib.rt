@@ -1,6 +1,6 @@
 //! The words of a command line, from their forms to the files that a command reads.
 //!
-//! `command_words` finds the form and takes no memory, `read_words` reads each word, and `items` names the files in
+//! `command_words` finds the form and allocates nothing, `read_words` reads each word, and `items` names the files in
 //! order. What each form says stands in specs/Words.antt.
 #![tactic(auto)]
 

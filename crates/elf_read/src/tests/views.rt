@@ -98,7 +98,7 @@ fn entries_of_an_object(rt: HostRuntime) -> Result<(), Fail> {
     assert_eq!(rt; elf.symbol(6, 5), symbol);
     let group = elf.group(1).ok_or("section 1 is a group")?;
     assert!(rt; group.comdat);
-    assert_eq!(rt; group.signature, b"_Z1fv".as_slice());
+    assert_eq!(rt; group.signature.bytes(), b"_Z1fv".as_slice());
     assert_eq!(rt; group.count, 2);
     assert_eq!(rt; elf.member(1, 1), 3);
     assert!(rt; elf.group(2).is_none());

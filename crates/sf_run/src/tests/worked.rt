@@ -8,7 +8,7 @@ pub struct Worked {
     pub text: &'static str,
 }
 
-pub const WORKED: [Worked; 10] = [
+pub const WORKED: [Worked; 11] = [
     Worked {
         words: "link o@0x3000 eh-amd64:e@0x2000",
         files: &[("e", ONE_FUNCTION)],
@@ -70,6 +70,13 @@ pub const WORKED: [Worked; 10] = [
         section: Some(ONE_FUNCTION_SECTION),
         text: WALKED,
     },
+    Worked {
+        words: "procwalk c 64 a",
+        files: &[("c", MAPPED_CORE), ("a", MODULE)],
+        section: None,
+        text: "thread 0 pid 100\n  #0 pc 0x1004 cfa 0x7010\n  #1 pc 0x1005 cfa 0x7020\n  #2 pc 0x0\n  \
+               stop outside 0xffffffffffffffff\nthread 1 pid 101\n  #0 pc 0x1000 cfa 0x9008\n  stop unreadable 0x9000\n",
+    },
 ];
 
 /// For AMD64 and the address 0x2000: one function of 6 bytes at 0x1000.
@@ -103,3 +110,18 @@ const CORE: &str =
 /// The frames of that thread, by the section at 0x3000.
 const WALKED: &str =
     "thread 0 pid 100\n  #0 pc 0x1004 cfa 0x7010\n  #1 pc 0x1005 cfa 0x7020\n  #2 pc 0x0\n  stop outside 0xffffffffffffffff\n";
+
+/// That core file with a second thread, pid 101 at 0x1000 with the stack pointer 0x9000, and with a note on mapped files: the first page
+/// of `/bin/a` is at 0x1000.
+const MAPPED_CORE: &str =
+    "7f 45 4c 46 02 01 01 00*9 04 00 3e 00 01 00*11 40 00*19 40 00 38 00 02 00*7 04 00*7 b0 00*23 0c 03 00*6 0c 03 00*6 \
+     01 00*7 01 00*7 c0 03 00*7 70 00*14 20 00*7 20 00*7 01 00*7 05 00*3 50 01 00 00 01 00*3 43 4f 52 45 00*36 64 00*112 \
+     70 00*94 04 10 00*22 f0 6f 00*70 05 00*3 50 01 00 00 01 00*3 43 4f 52 45 00*36 65 00*208 10 00*23 90 00*70 05 00*3 \
+     2f 00*3 45 4c 49 46 43 4f 52 45 00*4 01 00*8 10 00*7 10 00*7 20 00*14 2f 62 69 6e 2f 61 00*6 10 70 00*6 05 10 00*22";
+
+/// A shared object for AMD64, loaded from its first byte on, with a section `.sframe` at 0x200: a function of 6 bytes at 0.
+const MODULE: &str =
+    "7f 45 4c 46 02 01 01 00*9 03 00 3e 00 01 00*11 40 00*7 d0 00*11 40 00 38 00 01 00 40 00 03 00 02 00 01 00*47 01 00*7 \
+     e2 de 02 01 03 00 f8 00 01 00*3 04 00*3 0f 00*7 14 00*4 fe ff ff 06 00*7 04 00*8 03 08 01 05 10 f0 04 04 10 f0 05 05 \
+     08 f0 00 00 2e 73 66 72 61 6d 65 00 2e 73 68 73 74 72 74 61 62 00*70 01 00*3 01 00*3 02 00*8 02 00*6 78 00*7 3f 00*15 \
+     01 00*15 09 00*3 03 00*19 b8 00*7 13 00*15 01 00*15";

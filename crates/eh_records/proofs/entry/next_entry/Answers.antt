@@ -1,5 +1,5 @@
 use Rattle.std.proofs.Common.{◌≡◌, []}
-use Rattle.eh_records.specs.Cut.{piece}
+use Rattle.eh_records.specs.RawRecord.{raw_record_view}
 use Rattle.eh_records.specs.Section.{entries_before, cuts}
 use Rattle.eh_records.specs.Step.{reader_cursor}
 use Rattle.eh_records.proofs.Before.{none_at_end, begins, is_cut, is_read, read_behind}
@@ -8,7 +8,7 @@ use Rattle.eh_records.proofs.entry.next_entry.Goals as goal
 pub returns-in-Ok-clause-gives : goal.returns-in-Ok-clause-gives
 returns-in-Ok-clause-gives c =
     let cut_read = rw c.in-Ok-Some.field-0-is at c.in-Ok-Some.ensures.exact in
-    begins c.args.arch c.args.section.now (reader_cursor c.args.rest.now) (piece c.in-Ok-Some.cut) (reader_cursor c.next_cut.new.rest) _ cut_read c.in-Ok.ensures.is
+    begins c.args.arch c.args.section.now (reader_cursor c.args.rest.now) (raw_record_view c.in-Ok-Some.cut) (reader_cursor c.next_record.new.rest) _ cut_read c.in-Ok.ensures.is
 
 pub returns-in-Ok-None-clause-gives : goal.returns-in-Ok-None-clause-gives
 returns-in-Ok-None-clause-gives c =
@@ -19,12 +19,12 @@ returns-in-Ok-None-clause-gives c =
 pub returns-in-Ok-clause-read : goal.returns-in-Ok-clause-read
 returns-in-Ok-clause-read c =
     let cut_read = rw c.in-Ok-Some.field-0-is at c.in-Ok-Some.ensures.exact in
-    read_behind c.args.arch c.args.section.now (reader_cursor c.args.rest.now) (piece c.in-Ok-Some.cut) (reader_cursor c.next_cut.new.rest) _ c.requires.read cut_read c.in-Ok.ensures.is
+    read_behind c.args.arch c.args.section.now (reader_cursor c.args.rest.now) (raw_record_view c.in-Ok-Some.cut) (reader_cursor c.next_record.new.rest) _ c.requires.read cut_read c.in-Ok.ensures.is
 
 pub unreachable-requires : goal.unreachable-requires
 unreachable-requires c =
     let cut_read = rw c.in-Ok-Some.field-0-is at c.in-Ok-Some.ensures.exact in
-    is_read c.args.arch c.args.section.now (reader_cursor c.args.rest.now) (piece c.in-Ok-Some.cut) (reader_cursor c.next_cut.new.rest) _ c.requires.read cut_read c.in-Err-read_here.ensures.is
+    is_read c.args.arch c.args.section.now (reader_cursor c.args.rest.now) (raw_record_view c.in-Ok-Some.cut) (reader_cursor c.next_record.new.rest) _ c.requires.read cut_read c.in-Err-read_here.ensures.is
 
 pub unreachable-requires-in-Err : goal.unreachable-requires-in-Err
 unreachable-requires-in-Err c = is_cut c.args.arch c.args.section.now (reader_cursor c.args.rest.now) _ c.requires.read c.in-Err.ensures.exact

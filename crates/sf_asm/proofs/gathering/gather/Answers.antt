@@ -1,4 +1,5 @@
 use Rattle.std.proofs.Common.{ℕ, ◌∙◌, arith, length, map, ap, sym}
+use Rattle.std.proofs.lemmas.Result.{err_from_is_err_and}
 use Rattle.std.proofs.lemmas.List.{length-map}
 use Rattle.sf_asm.specs.Entry.{kept_by_item}
 use Rattle.sf_asm.specs.Functions.{object_of}
@@ -6,6 +7,7 @@ use Rattle.sf_asm.specs.Inputs.{first_item}
 use Rattle.sf_asm.proofs.GatheredInputs.{gathered_within}
 use Rattle.sf_asm.proofs.HandedOut.{each_writable, is_of}
 use Rattle.sf_asm.proofs.Kept.{kept_of_checked, some_kept_of_checked}
+use Rattle.sf_asm.proofs.NeverMemory.{first_is_answered}
 use Rattle.sf_asm.proofs.gathering.gather.Goals as goal
 
 pub sort_out-requires : goal.sort_out-requires
@@ -29,3 +31,8 @@ pub returns-clause-kept : goal.returns-clause-kept
 returns-clause-kept c = rw c.in_ok-sort_out.ensures.arch
     (each_writable c.in_ok-read.read.arch _ _ c.in_ok-sort_out.field-0.kept.items c.in_ok-read.read.entries.items c.in_ok-sort_out.ensures.kept
     (λ item. some_kept_of_checked (is_of item) c.in_ok-read.read.arch c.in_ok-read.read.entries.items c.in_ok-read.ensures.sound c.in_ok-read.ensures.checked))
+
+pub returns-in_err-read-clause-answered : goal.returns-in_err-read-clause-answered
+returns-in_err-read-clause-answered c =
+    let p = err_from_is_err_and c.from_residual.result c.from_residual.ensures.1 in
+    rw (p.1, p.2) (first_is_answered c.args.before (map object_of c.args.inputs.now) c.in_err-read.field-0.0 c.in_err-read.ensures.fault)

@@ -1,15 +1,15 @@
-use Rattle.std.proofs.Common.{List, Result, Ok, map, ap, subst, sym, ◌∙◌}
+use Rattle.std.proofs.Common.{List, Ok, map, ap, subst, sym, ◌∙◌}
+use Rattle.std.proofs.lemmas.Result.{err_from_is_err_and}
 use Rattle.sf_model.specs.Function.{AreWritable}
 use Rattle.sf_asm.specs.declared.entry.Entry.{Entry}
-use Rattle.sf_asm.specs.declared.fault.GatherFault.{GatherFault}
 use Rattle.sf_asm.specs.Entry.{kept_of, omitted_of}
 use Rattle.sf_asm.specs.Functions.{object_of}
-use Rattle.sf_asm.specs.Kept.{entry_of}
 use Rattle.sf_asm.specs.Linking.{Gathers}
 use Rattle.sf_asm.proofs.ByStart.{are_by_start, ordered_are, sorted_functions, sources_are}
 use Rattle.sf_asm.proofs.GatheredInputs.{are_read}
 use Rattle.sf_asm.proofs.Kept.{kept_of_checked}
 use Rattle.sf_asm.proofs.Lending.{are_lent}
+use Rattle.sf_asm.proofs.NeverMemory.{first_is_answered}
 use Rattle.sf_asm.proofs.gathering.gather_with_sources.Goals as goal
 
 pub returns-clause-gathered : goal.returns-clause-gathered
@@ -30,3 +30,8 @@ returns-clause-gathered c =
       omitted_are = c.in_ok-together.ensures.omitted ∙ ap omitted_of is;
       sources_are = sources_are read.functions c.in_ok-read.read.sources.items c.order_sources.new.sources.items (are_lent _ read.functions _ read.are c.in_ok-read.ensures.lent) c.in_ok-order_sources.ensures.rising c.in_ok-order_sources.ensures.stable;
     }
+
+pub returns-in_err-read-clause-answered : goal.returns-in_err-read-clause-answered
+returns-in_err-read-clause-answered c =
+    let p = err_from_is_err_and c.from_residual.result c.from_residual.ensures.1 in
+    rw (p.1, p.2) (first_is_answered c.args.before (map object_of c.args.inputs.now) c.in_err-read.field-0.0 c.in_err-read.ensures.fault)

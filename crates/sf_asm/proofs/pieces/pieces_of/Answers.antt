@@ -4,8 +4,8 @@ use Rattle.sf_asm.proofs.pieces.pieces_of.Goals as goal
 
 pub returns-in-Ok-clause-said : goal.returns-in-Ok-clause-said
 returns-in-Ok-clause-said c =
-    (are_made (source_function c.args.source.now) c.in-Ok.pieces.items _ c.requires c.in_ok-begin.ensures.small c.in_ok-begin.ensures.begun c.in-Ok.ensures.exact).said
+    (are_made (source_function c.args.source.now) c.in-Ok.pieces.items _ c.requires c.begin.ensures.small c.begin.ensures.begun c.in-Ok.ensures.exact).said
 
 pub returns-in-Ok-clause-fits : goal.returns-in-Ok-clause-fits
 returns-in-Ok-clause-fits c =
-    (are_made (source_function c.args.source.now) c.in-Ok.pieces.items _ c.requires c.in_ok-begin.ensures.small c.in_ok-begin.ensures.begun c.in-Ok.ensures.exact).fit
+    (are_made (source_function c.args.source.now) c.in-Ok.pieces.items _ c.requires c.begin.ensures.small c.begin.ensures.begun c.in-Ok.ensures.exact).fit

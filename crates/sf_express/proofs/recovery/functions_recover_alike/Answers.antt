@@ -1,4 +1,4 @@
-use Rattle.cfa_machine.specs.At.{row_at_offset}
+use Rattle.cfa_machine.specs.RowAtOffset.{row_at_offset}
 use Rattle.sf_express.proofs.Alike.{found_at_offset}
 use Rattle.sf_express.proofs.recovery.functions_recover_alike.Goals as goal
 

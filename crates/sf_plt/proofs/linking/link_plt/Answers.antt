@@ -14,12 +14,16 @@ use Rattle.sf_plt.specs.Plt.{is_plt}
 use Rattle.sf_plt.specs.Sorting.{AreOmitted}
 use Rattle.sf_plt.specs.Written.{plt_pair, written_functions}
 use Rattle.sf_plt.proofs.Faults.{counted, first_gathered, machine_of_lent, made, out_of_reach, over, plt_linked, ready, tables_counted}
+use Rattle.sf_plt.proofs.NeverMemory.{first_is_answered}
 use Rattle.sf_plt.proofs.Sorted.{are_omitted, lines_alone}
 use Rattle.sf_plt.proofs.linking.link_plt.Goals as goal
 
 pub returns-in-Err-clause-fault : goal.returns-in-Err-clause-fault
 returns-in-Err-clause-fault c =
-    subst (IsFirstPltLinked c.args.before (map object_of c.args.inputs.now) c.args.at) (sym c.not_gathered.ensures.is) (first_gathered c.args.before (map object_of c.args.inputs.now) c.args.at c.in-Err.fault c.in-Err.ensures.fault)
+    subst (IsFirstPltLinked c.args.before (map object_of c.args.inputs.now) c.args.at) (sym c.not_gathered.ensures) (first_gathered c.args.before (map object_of c.args.inputs.now) c.args.at c.in-Err.fault c.in-Err.ensures.fault)
+
+pub returns-in-Err-clause-answered : goal.returns-in-Err-clause-answered
+returns-in-Err-clause-answered c = first_is_answered c.args.before (map object_of c.args.inputs.now) c.args.at _ (returns-in-Err-clause-fault c)
 
 pub sort_out-requires-clause-left : goal.sort_out-requires-clause-left
 sort_out-requires-clause-left c =
@@ -68,7 +72,10 @@ returns-in-Err-check_tables-clause-fault c =
     let sorted = c.in-Ok-sort_out.sorted in
     let plts : sorted.plts.items ≡ map span_of (filter is_plt lent) = c.in-Ok-sort_out.ensures.plts ∙ ap (λ (fs : List Function). map span_of (filter is_plt fs)) same in
     let tables = tables_counted c.len-tables.result sorted.plts.items lent (c.len-tables.ensures ∙ sorted.plts.ok.0) plts in
-    over c.args.before objects c.args.at found.arch found.kept.items found.omitted.items lent g (c.len-count.result + c.len.result) c.count_rows-rows.result c.len-tables.result functions rows tables c.in-Err-check_tables.fault c.in-Err-check_tables.ensures.exact
+    over c.args.before objects c.args.at found.arch found.kept.items found.omitted.items lent g (c.len-count.result + c.len.result) c.count_rows-rows.result c.len-tables.result functions rows tables c.in-Err-check_tables.fault c.in-Err-check_tables.ensures
+
+pub returns-in-Err-check_tables-clause-answered : goal.returns-in-Err-check_tables-clause-answered
+returns-in-Err-check_tables-clause-answered c = first_is_answered c.args.before (map object_of c.args.inputs.now) c.args.at _ (returns-in-Err-check_tables-clause-fault c)
 
 pub write-requires : goal.write-requires
 write-requires c =
@@ -85,7 +92,7 @@ write-requires c =
     let plts : sorted.plts.items ≡ map span_of (filter is_plt lent) = c.in-Ok-sort_out.ensures.plts ∙ ap (λ (fs : List Function). map span_of (filter is_plt fs)) same in
     let tables = tables_counted c.len-tables.result sorted.plts.items lent (c.len-tables.ensures ∙ sorted.plts.ok.0) plts in
     let written : sorted.written.items ≡ found.kept.items ++ flat_map plt_pair (filter is_plt lent) = c.in-Ok-sort_out.ensures.written ∙ ap (λ (fs : List Function). found.kept.items ++ flat_map plt_pair (filter is_plt fs)) same in
-    let m = made c.args.before objects found.arch found.kept.items found.omitted.items lent g (c.len-count.result + c.len.result) c.count_rows-rows.result c.len-tables.result functions rows tables c.in-Ok-check_tables.field-0 c.in-Ok-check_tables.ensures.exact
+    let m = made c.args.before objects found.arch found.kept.items found.omitted.items lent g (c.len-count.result + c.len.result) c.count_rows-rows.result c.len-tables.result functions rows tables c.in-Ok-check_tables.field-0 c.in-Ok-check_tables.ensures
     sorted.written.items c.order.new.functions.items written c.in-Ok-sort_out.ensures.sound c.in-Ok-order.ensures.moved c.in-Ok-order.ensures.rising c.in-Ok-order.ensures.stable in
     subst (AreWritable found.arch) (sym c.deref-4.ensures.value) m.writable
 
@@ -104,7 +111,7 @@ returns-in-Ok-write-clause-linked c =
     let plts : sorted.plts.items ≡ map span_of (filter is_plt lent) = c.in-Ok-sort_out.ensures.plts ∙ ap (λ (fs : List Function). map span_of (filter is_plt fs)) same in
     let tables = tables_counted c.len-tables.result sorted.plts.items lent (c.len-tables.ensures ∙ sorted.plts.ok.0) plts in
     let written : sorted.written.items ≡ found.kept.items ++ flat_map plt_pair (filter is_plt lent) = c.in-Ok-sort_out.ensures.written ∙ ap (λ (fs : List Function). found.kept.items ++ flat_map plt_pair (filter is_plt fs)) same in
-    let m = made c.args.before objects found.arch found.kept.items found.omitted.items lent g (c.len-count.result + c.len.result) c.count_rows-rows.result c.len-tables.result functions rows tables c.in-Ok-check_tables.field-0 c.in-Ok-check_tables.ensures.exact
+    let m = made c.args.before objects found.arch found.kept.items found.omitted.items lent g (c.len-count.result + c.len.result) c.count_rows-rows.result c.len-tables.result functions rows tables c.in-Ok-check_tables.field-0 c.in-Ok-check_tables.ensures
     sorted.written.items c.order.new.functions.items written c.in-Ok-sort_out.ensures.sound c.in-Ok-order.ensures.moved c.in-Ok-order.ensures.rising c.in-Ok-order.ensures.stable in
     let section = rw c.deref-4.ensures.value at c.in-Ok-write.ensures in
     let omitted : sorted.omitted.items ≡ omitted_of (map entry_of (others_in lent)) = c.in-Ok-sort_out.ensures.omitted ∙ ap (λ (fs : List Function). omitted_of (map entry_of (others_in fs))) same in
@@ -126,7 +133,7 @@ returns-in-Err-OutOfReach-clause-fault c =
     let plts : sorted.plts.items ≡ map span_of (filter is_plt lent) = c.in-Ok-sort_out.ensures.plts ∙ ap (λ (fs : List Function). map span_of (filter is_plt fs)) same in
     let tables = tables_counted c.len-tables.result sorted.plts.items lent (c.len-tables.ensures ∙ sorted.plts.ok.0) plts in
     let written : sorted.written.items ≡ found.kept.items ++ flat_map plt_pair (filter is_plt lent) = c.in-Ok-sort_out.ensures.written ∙ ap (λ (fs : List Function). found.kept.items ++ flat_map plt_pair (filter is_plt fs)) same in
-    let m = made c.args.before objects found.arch found.kept.items found.omitted.items lent g (c.len-count.result + c.len.result) c.count_rows-rows.result c.len-tables.result functions rows tables c.in-Ok-check_tables.field-0 c.in-Ok-check_tables.ensures.exact
+    let m = made c.args.before objects found.arch found.kept.items found.omitted.items lent g (c.len-count.result + c.len.result) c.count_rows-rows.result c.len-tables.result functions rows tables c.in-Ok-check_tables.field-0 c.in-Ok-check_tables.ensures
     sorted.written.items c.order.new.functions.items written c.in-Ok-sort_out.ensures.sound c.in-Ok-order.ensures.moved c.in-Ok-order.ensures.rising c.in-Ok-order.ensures.stable in
     let far : first_out_of_reach c.args.at 0 (written_functions g.sorted) ≡ Some c.in-Err-OutOfReach.start =
     ap (first_out_of_reach c.args.at 0) (sym m.is ∙ sym c.deref-4.ensures.value) ∙ reach_refused c.in-Err-OutOfReach.field-0 c.in-Err-OutOfReach.start _ c.in-Err-OutOfReach.field-0-is c.in-Err-OutOfReach.ensures.fault ∙ ap Some (sym c.in-Err-OutOfReach.start-is) in

@@ -27,9 +27,9 @@ loop-index-preserved c =
     let gs = functions_lent (take (k + 1) c.args.sources.now) in
     let on = lent_step c.args.sources.now k s c.loop-index-test.true c.index-sources-index.is in
     let inv = c.loop-index.invariant in
-    elim c.match-branch-2.branch [
+    elim c.match-table_content.branch [
       | in-Some+in_ok-add_table-in-Some w ↦
-          let t = table_chosen f w.in-Some.content c.in_ok-content.field-0 w.in-Some.is c.in_ok-content.ensures in
+          let t = table_chosen f w.in-Some.content c.table_content.result w.in-Some.is c.table_content.ensures in
           let done = w.in_ok-add_table-in-Some.ensures in
           record {
             written = ap (λ (x : Sorted). x.written.items) w.sorted-is ∙ written_on c.args.kept.items c.loop-index.sorted.written.items w.add_table.new.self.written.items fs gs f on t done.written inv.written;
@@ -38,7 +38,7 @@ loop-index-preserved c =
             sound = subst (λ (x : Sorted). All (IsWritable c.args.arch) x.written.items) (sym w.sorted-is) done.sound;
           }
       | in-None+in_ok-push-in-None w ↦
-          let t = none_chosen f c.in_ok-content.field-0 w.in-None.is c.in_ok-content.ensures in
+          let t = none_chosen f c.table_content.result w.in-None.is c.table_content.ensures in
           record {
             written = ap (λ (x : Sorted). x.written.items) w.sorted-is ∙ written_stays c.args.kept.items c.loop-index.sorted.written.items fs gs f on t inv.written;
             plts = ap (λ (x : Sorted). x.plts.items) w.sorted-is ∙ plts_stay c.loop-index.sorted.plts.items fs gs f on t inv.plts;

@@ -14,11 +14,11 @@ returns-then-not-has_form c = elim c.then-not-has_form.branch [
 pub returns-in-Sp : goal.returns-in-Sp
 returns-in-Sp c =
     let f = source_function c.args.source.now in
-    let given = sym c.in-Some.is ∙ c.in_ok-content.ensures in
-    given ∙ taken f (is_table f (sym c.has_form.ensures ∙ c.if-not-has_form.false) (sym c.is_plt_text.ensures ∙ c.if-not-is_plt_text.false) (ap counts_from_stack (sym given) ∙ from_stack c.in-Some.content c.in-Sp.is))
+    let given = sym c.in_ok-content.was ∙ c.initial_content.ensures in
+    given ∙ taken f (is_table f (sym c.has_form.ensures ∙ c.if-not-has_form.false) (sym c.is_plt_text.ensures ∙ c.if-not-is_plt_text.false) (ap counts_from_stack (sym given) ∙ from_stack c.in_ok-content.content c.in-Sp.is))
 
 pub returns-in-Fp : goal.returns-in-Fp
 returns-in-Fp c =
     let f = source_function c.args.source.now in
-    let given = sym c.in-Some.is ∙ c.in_ok-content.ensures in
-    no_stack f (ap counts_from_stack (sym given) ∙ from_frame c.in-Some.content c.in-Fp.is)
+    let given = sym c.in_ok-content.was ∙ c.initial_content.ensures in
+    no_stack f (ap counts_from_stack (sym given) ∙ from_frame c.in_ok-content.content c.in-Fp.is)

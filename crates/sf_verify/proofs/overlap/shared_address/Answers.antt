@@ -8,11 +8,11 @@ use Rattle.sf_verify.specs.Verifying.{section_fault}
 use Rattle.sf_verify.proofs.Overlaps.{overlap_stops, overlap_goes_on, one_alone, at_place, nothing_to_share}
 use Rattle.sf_verify.proofs.overlap.shared_address.Goals as goal
 
-pub returns-in_default-clause-is : goal.returns-in_default-clause-is
-returns-in_default-clause-is c = sym (nothing_to_share (section_bytes c.args.view.now) c.args.ordered.now c.in_default.ensures.cases)
+pub returns-in_default : goal.returns-in_default
+returns-in_default c = sym (nothing_to_share (section_bytes c.args.view.now) c.args.ordered.now c.in_default.ensures.cases)
 
-pub returns-then-shares_address-clause-is : goal.returns-then-shares_address-clause-is
-returns-then-shares_address-clause-is c =
+pub returns-then-shares_address : goal.returns-then-shares_address
+returns-then-shares_address c =
     let bytes = section_bytes c.args.view.now in
     let before = c.loop-function.before.now in
     let function = c.function-item.result in
@@ -32,8 +32,8 @@ loop-function-preserved c =
     let shares : overlap (before, function) ≡ false = sym c.shares_address.ensures ∙ c.if-shares_address.false in
     c.loop-function.invariant ∙ at_place bytes before function later i c.loop-function-test.true c.function-item.is ∙ overlap_goes_on bytes before function (drop (i + 1) later) shares
 
-pub returns-clause-is : goal.returns-clause-is
-returns-clause-is c =
+pub returns : goal.returns
+returns c =
     let bytes = section_bytes c.args.view.now in
     let before = c.loop-function.before.now in
     let none : drop c.loop-function.function-index c.in-Some.later.now ≡ [] = drop_all c.loop-function.function-index c.in-Some.later.now c.loop-function-test.false in

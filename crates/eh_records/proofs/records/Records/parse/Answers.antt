@@ -3,7 +3,7 @@ use Rattle.std.proofs.Common.{◌≡◌, ◌+◌, ◌<◌, [], length, Some, Non
 use Rattle.std.proofs.lemmas.Result.{err_from_is_err_and}
 use Rattle.sf_bytes.specs.Cursor.{Cursor}
 use Rattle.eh_records.specs.Cutting.{Stands}
-use Rattle.eh_records.specs.Cut.{Piece, piece}
+use Rattle.eh_records.specs.RawRecord.{RawRecordView, raw_record_view}
 use Rattle.eh_records.specs.Places.{IsRising, IsBefore}
 use Rattle.eh_records.specs.Section.{entries_of, fault_in, with_place}
 use Rattle.eh_records.specs.Step.{reader_cursor}
@@ -33,24 +33,24 @@ returns-in_err-read_after-clause-exact c =
     let cut_read = rw c.in-Some.is at c.in_ok-cut.ensures.exact in
     let read = rw c.as_slice.ensures.value at c.in_err-read_after.ensures.is in
     let fault : fault_in (entries_of c.args.arch c.args.bytes.now) ≡ Some c.in_err-read_after.field-0.0 =
-    sym c.loop-places.invariant.fault ∙ refused c.args.arch c.args.bytes.now c.loop-places.places.items (reader_cursor c.loop-places.rest) (piece c.in-Some.cut) (reader_cursor c.next_cut.new.rest) c.in_err-read_after.field-0.0 cut_read read in
+    sym c.loop-places.invariant.fault ∙ refused c.args.arch c.args.bytes.now c.loop-places.places.items (reader_cursor c.loop-places.rest) (raw_record_view c.in-Some.cut) (reader_cursor c.next_record.new.rest) c.in_err-read_after.field-0.0 cut_read read in
     rw (p.1, p.2) (inr (fault_is _ _ fault))
 
 pub loop-places-preserved : goal.loop-places-preserved
 loop-places-preserved c =
     let cut_read = rw c.in-Some.is at c.in_ok-cut.ensures.exact in
     let read = rw c.as_slice.ensures.value at c.in_ok-read_after.ensures.is in
-    let cut : Stands (reader_cursor c.loop-places.rest) (piece c.in-Some.cut) (reader_cursor c.next_cut.new.rest) = cut_is (reader_cursor c.loop-places.rest) (piece c.in-Some.cut) (reader_cursor c.next_cut.new.rest) cut_read in
-    let place : c.in-Some.cut.place ≡ c.loop-places.rest.part.place = ap (λ (q : Piece). q.place) cut.piece in
-    let end : c.next_cut.new.rest.part.place ≡ c.loop-places.rest.part.place + (4 + cut.len) = ap (λ (at : Cursor). at.place) cut.behind in
-    let further : c.in-Some.cut.place < c.next_cut.new.rest.part.place = omega arith in
+    let cut : Stands (reader_cursor c.loop-places.rest) (raw_record_view c.in-Some.cut) (reader_cursor c.next_record.new.rest) = cut_is (reader_cursor c.loop-places.rest) (raw_record_view c.in-Some.cut) (reader_cursor c.next_record.new.rest) cut_read in
+    let place : c.in-Some.cut.place ≡ c.loop-places.rest.part.place = ap (λ (q : RawRecordView). q.place) cut.raw_record_view in
+    let end : c.next_record.new.rest.part.place ≡ c.loop-places.rest.part.place + (4 + cut.len) = ap (λ (at : Cursor). at.place) cut.behind in
+    let further : c.in-Some.cut.place < c.next_record.new.rest.part.place = omega arith in
     let before : IsBefore c.in-Some.cut.place c.loop-places.places.items = rw place c.loop-places.invariant.before in
-    let noted : c.note_place.new.places.items ≡ with_place c.loop-places.places.items (piece c.in-Some.cut) = c.in_ok-note_place.ensures.noted in
+    let noted : c.note_place.new.places.items ≡ with_place c.loop-places.places.items (raw_record_view c.in-Some.cut) = c.in_ok-note_place.ensures.noted in
     record {
-      fault = rw noted (sym (goes_on c.args.arch c.args.bytes.now c.loop-places.places.items (reader_cursor c.loop-places.rest) (piece c.in-Some.cut) (reader_cursor c.next_cut.new.rest) _ cut_read read) ∙ c.loop-places.invariant.fault);
+      fault = rw noted (sym (goes_on c.args.arch c.args.bytes.now c.loop-places.places.items (reader_cursor c.loop-places.rest) (raw_record_view c.in-Some.cut) (reader_cursor c.next_record.new.rest) _ cut_read read) ∙ c.loop-places.invariant.fault);
       rising = subst IsRising (sym noted) (rising_with (c.in-Some.cut.id == 0) c.loop-places.places.items c.in-Some.cut.place c.loop-places.invariant.rising before);
       kept = c.in_ok-read_after.ensures.kept;
-      before = subst (IsBefore c.next_cut.new.rest.part.place) (sym noted) (before_with (c.in-Some.cut.id == 0) c.loop-places.places.items c.in-Some.cut.place c.next_cut.new.rest.part.place before further);
+      before = subst (IsBefore c.next_record.new.rest.part.place) (sym noted) (before_with (c.in-Some.cut.id == 0) c.loop-places.places.items c.in-Some.cut.place c.next_record.new.rest.part.place before further);
     }
 
 pub returns-clause-exact : goal.returns-clause-exact

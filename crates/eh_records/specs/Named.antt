@@ -1,0 +1,25 @@
+-- The common information entry of a frame description entry: the one that stands at the place that it names (LSB Core, "The
+-- .eh_frame section"). So two that name one place have the same alignment factors and the same initial instructions.
+use Rattle.std.specs.Prelude.{All, ◌≡◌, ℕ, List, Option, Some, None, Result, Ok, Err}
+use Rattle.sf_model.specs.declared.machine.Arch.{Arch}
+use Rattle.eh_records.specs.declared.fault.RecordFault.{RecordFault}
+use Rattle.eh_records.specs.declared.records.Records.{Records}
+use Rattle.eh_records.specs.Cie.{CieView, SharedView}
+use Rattle.eh_records.specs.Fde.{FdeView, cie_at_place}
+use Rattle.eh_records.specs.Section.{frames}
+use Rattle.eh_records.specs.View.{arch_of, bytes_of, entries}
+
+-- the common information entry that stands at a place of a section
+abbrev pub cie_if_read : Result SharedView RecordFault → Option CieView
+cie_if_read (Ok shared) = Some shared.cie
+cie_if_read (Err e) = None
+
+abbrev pub standing_cie : Arch → (section : List ℕ) → (place : ℕ) → Option CieView
+standing_cie arch section place = cie_if_read (cie_at_place arch section place)
+
+-- a frame description entry has the common information entry that stands at the place of its own
+abbrev pub HasNamed : Arch → (section : List ℕ) → FdeView → Type 0
+HasNamed arch section f = standing_cie arch section f.cie.place ≡ Some f.cie
+
+abbrev pub HaveNamed : Records → Type 0
+HaveNamed r = All (HasNamed (arch_of r) (bytes_of r)) (frames (entries r))

@@ -1,0 +1,62 @@
+-- Cutting records off a section (LSB Core, "The .eh_frame section"): a length word, a word that names the
+-- common information entry, and the rest of the record.
+use Rattle.std.specs.Prelude.{◌≡◌, ℕ, ◌-◌, length, Option, Some, None, Result, Ok, Err, nat_lt, ◌==◌, if◌then◌else◌}
+use Rattle.sf_bytes.specs.Cursor.{Cursor}
+use Rattle.eh_records.specs.declared.cut.RawRecord.{RawRecord}
+use Rattle.eh_records.specs.declared.reader.Reader.{Reader}
+use Rattle.eh_records.specs.declared.fault.RecordFault.{RecordFault}
+use Rattle.eh_records.specs.declared.fault.RecordFault.TheVariants.{Short, Extended, CiePointer}
+use Rattle.eh_records.specs.Step.{Step, ◌>>=◌, number_field, part_field, reader_cursor}
+
+-- a record: the place of its length word, the place of the word behind that and its number, and the rest
+pub record RawRecordView : Type 0 where
+  pub place : ℕ
+  pub id_place : ℕ
+  pub id : ℕ
+  pub body : Cursor
+
+abbrev pub raw_record_view : RawRecord → RawRecordView
+raw_record_view cut = record { place = cut.place; id_place = cut.id_place; id = cut.id; body = reader_cursor cut.body }
+
+-- a refused record carries its own place, whichever bytes it lacks
+abbrev pub whole : {X : Type 0} → ℕ → Step X → Step X
+whole place (Ok x) = Ok x
+whole place (Err e) = Err (Short place)
+
+-- the raw_record_view of a record that has this length, and the cursor behind it
+unfoldable pub piece_of : ℕ → ℕ → Cursor → Step RawRecordView
+piece_of place len at = do
+  body ← whole place (part_field len at)
+  id ← number_field 4 body.0
+  Ok (record { place = place; id_place = body.0.place; id = id.0; body = id.1 }, body.1)
+
+-- the next record, or none at the end and at a length word of 0
+abbrev pub sized : ℕ → ℕ → Cursor → Result (Option (RawRecordView × Cursor)) RecordFault
+sized place len at =
+    if len == 0 then Ok None
+    else if len == 4294967295 then Err (Extended place)
+    else if nat_lt len 4 then Err (Short place)
+    else (piece_of place len at >>= λ p. Ok (Some p))
+
+unfoldable pub raw_record_at : Cursor → Result (Option (RawRecordView × Cursor)) RecordFault
+raw_record_at at =
+    if length at.left == 0 then Ok None
+    else (number_field 4 at >>= λ len. sized at.place len.0 len.1)
+
+-- the place of the common information entry that a record names
+unfoldable pub named_place : RawRecordView → Result ℕ RecordFault
+named_place p = if nat_lt p.id_place p.id then Err (CiePointer p.id_place) else Ok (p.id_place - p.id)
+
+-- what a call answered is the record, and the reader is what is left
+abbrev pub CutAnswers : Reader → Result (Option RawRecord) RecordFault → Result (Option (RawRecordView × Cursor)) RecordFault → Type 0
+CutAnswers new (Ok None) read = read ≡ Ok None
+CutAnswers new (Ok (Some cut)) read = read ≡ Ok (Some (raw_record_view cut, reader_cursor new))
+CutAnswers new (Err e) read = read ≡ Err e
+
+-- what a call answered, seen by view, is what is read
+abbrev pub Is : {X Y : Type 0} → (X → Y) → Result X RecordFault → Result Y RecordFault → Type 0
+Is view (Ok x) read = read ≡ Ok (view x)
+Is view (Err e) read = read ≡ Err e
+
+abbrev pub NamedAnswers : Result ℕ RecordFault → Result ℕ RecordFault → Type 0
+NamedAnswers result read = Is (λ x. x) result read

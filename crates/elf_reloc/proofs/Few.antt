@@ -1,0 +1,93 @@
+-- A file has room for fewer than 2^32 relocations of one section.
+use Rattle.std.specs.Prelude.{◌&&◌, ◌||◌, ◌==◌}
+use Rattle.std.proofs.Common.{◌≡◌, ℕ, zero, suc, ◌+◌, ◌*◌, ◌/◌, ◌<◌, ◌≤◌, ◌^◌, Bool, true, false, IsTrue, List, [], ◌∷◌, ◌++◌, length, Ok, Err, refl, sym, ap, subst, ◌∙◌, arith, if◌then◌else◌}
+use Rattle.elf_read.specs.Header.{is_rel}
+use Rattle.elf_read.specs.Room.{is_rela, read_size, read_size_below, HasRoom}
+use Rattle.elf_read.specs.Sections.{section_count, sh_type, entry_count}
+use Rattle.elf_read.proofs.ReadSizes.{read_size_below-none, read_size_below-more}
+use Rattle.elf_place.specs.Place.{with_one}
+use Rattle.elf_place.specs.Relocations.{is_relocation_section, relocation_sections_below, relocation_sections}
+use Rattle.elf_reloc.specs.declared.fault.RelocFault.TheVariants.{RelSection}
+use Rattle.elf_reloc.specs.Reading.{Relocation, relocations_in, rel_check, has_addends}
+use Rattle.elf_reloc.proofs.GoingOn.{rel_check-first, relocations_in-length, relocations_in-none}
+
+-- ---- a list of sections to which one is added
+relocations_with : (file : List ℕ) (sections : List ℕ) (i : ℕ) → length (relocations_in file (sections ++ i ∷ [])) ≡ length (relocations_in file sections) + entry_count file i
+relocations_with file [] i =
+    let one = relocations_in-length file i [] in
+    let none : length (relocations_in file []) ≡ 0 = ap (λ (rs : List Relocation). length rs) (relocations_in-none file) in
+    omega (arith, one, none)
+relocations_with file (s ∷ sections) i =
+    let all = relocations_in-length file s (sections ++ i ∷ []) in
+    let before = relocations_in-length file s sections in
+    let rest = relocations_with file sections i in
+    omega (arith, all, before, rest)
+
+checked_with : (file : List ℕ) (sections : List ℕ) (i : ℕ) → rel_check file (sections ++ i ∷ []) ≡ Ok tt → (rel_check file sections ≡ Ok tt) × (has_addends file i ≡ true)
+unfolding rel_check
+checked_with file [] i h = (refl, at_once (has_addends file i) refl h)
+  where
+    at_once : (b : Bool) → has_addends file i ≡ b → (if b then rel_check file [] else Err (RelSection i)) ≡ Ok tt → has_addends file i ≡ true
+    at_once true is h = is
+    at_once false is h = absurd (cc h)
+checked_with file (s ∷ sections) i h = after (has_addends file s) refl (checked_with file sections i) h
+  where
+    after : (b : Bool) → has_addends file s ≡ b → (rel_check file (sections ++ i ∷ []) ≡ Ok tt → (rel_check file sections ≡ Ok tt) × (has_addends file i ≡ true)) → (if b then rel_check file (sections ++ i ∷ []) else Err (RelSection s)) ≡ Ok tt
+        → ((if has_addends file s then rel_check file sections else Err (RelSection s)) ≡ Ok tt) × (has_addends file i ≡ true)
+    after true is later rest =
+        let parts = later rest in
+        (ap (λ (b : Bool). if b then rel_check file sections else Err (RelSection s)) is ∙ parts.0, parts.1)
+    after false is later rest = absurd (cc rest)
+
+holds_rela : (file : List ℕ) (i : ℕ) → is_rel file ≡ true → has_addends file i ≡ true → is_rela file i ≡ true
+unfolding is_rela has_addends
+holds_rela file i object addends = ap (λ (b : Bool). b && (sh_type file i == 4)) object ∙ addends
+
+no_sections : (file : List ℕ) (target : ℕ) → length (relocations_in file (relocation_sections_below file target 0)) ≡ 0
+unfolding relocation_sections_below
+no_sections file target = ap (λ (rs : List Relocation). length rs) (relocations_in-none file)
+
+one_more : (file : List ℕ) (target n : ℕ) → relocation_sections_below file target (suc n) ≡ with_one (is_relocation_section file target n) n (relocation_sections_below file target n)
+unfolding relocation_sections_below
+one_more file target n = refl
+
+few_below : (file : List ℕ) (target n : ℕ) → is_rel file ≡ true → HasRoom file → rel_check file (relocation_sections_below file target n) ≡ Ok tt
+    → 24 * length (relocations_in file (relocation_sections_below file target n)) ≤ read_size_below file n
+few_below file target zero object room checked =
+    let none : length (relocations_in file (relocation_sections_below file target 0)) ≡ 0 = no_sections file target in
+    let size = read_size_below-none file in
+    omega (arith, none, size)
+few_below file target (suc n) object room checked =
+    added (is_relocation_section file target n) refl (subst (λ (ns : List ℕ). rel_check file ns ≡ Ok tt) (one_more file target n) checked)
+    (few_below file target n object room)
+  where
+    sizes : read_size_below file (suc n) ≡ read_size_below file n + read_size file n
+    sizes = let next : n + 1 ≡ suc n = omega arith in ap (read_size_below file) (sym next) ∙ read_size_below-more file n
+
+    whole : (b : Bool) → is_relocation_section file target n ≡ b → length (relocations_in file (relocation_sections_below file target (suc n))) ≡ length (relocations_in file (with_one b n (relocation_sections_below file target n)))
+    whole b is = ap (λ (ns : List ℕ). length (relocations_in file ns)) (one_more file target n ∙ ap (λ (b : Bool). with_one b n (relocation_sections_below file target n)) is)
+
+    added : (b : Bool) → is_relocation_section file target n ≡ b → rel_check file (with_one (is_relocation_section file target n) n (relocation_sections_below file target n)) ≡ Ok tt
+        → (rel_check file (relocation_sections_below file target n) ≡ Ok tt → 24 * length (relocations_in file (relocation_sections_below file target n)) ≤ read_size_below file n)
+        → 24 * length (relocations_in file (relocation_sections_below file target (suc n))) ≤ read_size_below file (suc n)
+    added true is h earlier =
+        let parts = checked_with file (relocation_sections_below file target n) n (subst (λ (b : Bool). rel_check file (with_one b n (relocation_sections_below file target n)) ≡ Ok tt) is h) in
+        let before = earlier parts.0 in
+        let here = room.entries n (holds_rela file n object parts.1) in
+        let count = relocations_with file (relocation_sections_below file target n) n in
+        let all = whole true is in
+        omega (arith, sizes, before, here, count, all)
+    added false is h earlier =
+        let before = earlier (subst (λ (b : Bool). rel_check file (with_one b n (relocation_sections_below file target n)) ≡ Ok tt) is h) in
+        let all = whole false is in
+        omega (arith, sizes, before, all)
+
+is_so : (b : Bool) → IsTrue b → b ≡ true
+is_so true h = refl
+is_so false h = absurd (cc h)
+
+pub few : (file : List ℕ) (target : ℕ) → IsTrue (is_rel file) → length file < 2 ^ 32 → HasRoom file → rel_check file (relocation_sections file target) ≡ Ok tt → length (relocations_in file (relocation_sections file target)) < 2 ^ 32
+few file target object small room checked =
+    let together = room.together (section_count file) (omega arith) in
+    let below = few_below file target (section_count file) (is_so (is_rel file) object) room checked in
+    omega (arith, small, together, below)

@@ -1,0 +1,28 @@
+-- The initial rows of a section's common information entries, kept by the places of the entries (LSB Core, "The .eh_frame section";
+-- DWARF 5, section 6.4.1).
+use Rattle.std.specs.Prelude.{ℕ, List, Option, Some, None}
+use Rattle.std.specs.BTreeMap.{get}
+use Rattle.std.specs.Option.{ForSome}
+use Rattle.std.specs.Ordering.{nat_cmp}
+use Rattle.sf_model.specs.declared.machine.Arch.{Arch}
+use Rattle.cfa_insn.specs.Listing.{listing}
+use Rattle.cfa_machine.specs.declared.columns.Columns.{Columns}
+use Rattle.cfa_machine.specs.Initial.{IsInitial}
+use Rattle.eh_records.specs.Cie.{CieView}
+use Rattle.eh_records.specs.Named.{standing_cie}
+use Rattle.sf_asm.specs.declared.initials.InitialAt.{InitialAt}
+use Rattle.sf_asm.specs.declared.initials.Initials.{Initials}
+
+-- a row is the one that the instructions of a common information entry give, where there is an entry
+abbrev pub IsInitialOf : Arch → Option CieView → Columns → Type 0
+IsInitialOf arch None row = Unit {0}
+IsInitialOf arch (Some cie) row = IsInitial arch cie.factor (listing cie.insns) row
+
+-- it is that of the entry that stands at a place of a section
+abbrev pub IsInitialAt : Arch → (section : List ℕ) → (place : ℕ) → Columns → Type 0
+IsInitialAt arch section place row = IsInitialOf arch (standing_cie arch section place) row
+
+-- each row that is kept is that of the entry at its place
+pub record AreInitial (arch : Arch) (section : List ℕ) (initials : Initials) : Type 0 where
+  pub last : ForSome initials.last (λ (k : InitialAt). IsInitialAt arch section k.place k.row)
+  pub long : (place : ℕ) → ForSome (get nat_cmp initials.long place) (λ (row : Columns). IsInitialAt arch section place row)

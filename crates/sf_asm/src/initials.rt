@@ -1,0 +1,106 @@
+//! The initial rows of a section's common information entries.
+
+ghost use Rattle.std.specs.Prelude.{◌≡◌, ◌⊎◌, ℕ, List, Some, Err, IfErr, IfOk, OnOk};
+ghost use Rattle.sf_bytes.specs.Cursor.{cursor};
+ghost use Rattle.sf_model.specs.declared.machine.Arch.{Arch as machine};
+ghost use Rattle.cfa_insn.specs.Listing.{listing};
+ghost use Rattle.cfa_machine.specs.declared.fault.MachineFault.TheVariants.{NoMemory};
+ghost use Rattle.cfa_machine.specs.Columns.{no_columns};
+ghost use Rattle.cfa_machine.specs.Initial.{IsInitial};
+ghost use Rattle.cfa_machine.specs.Pass.{initial_columns};
+ghost use Rattle.eh_records.specs.Cie.{cie_view};
+ghost use Rattle.eh_records.specs.Named.{standing_cie};
+ghost use Rattle.sf_asm.specs.Initials.{AreInitial};
+
+use crate::frames::CallFrameSection;
+use cfa_machine::{Columns, MachineFault, initial_row};
+use eh_records::Cie;
+use std::alloc::Global;
+use std::collections::BTreeMap;
+
+/// How many bytes of instructions an entry has at least whose row is kept for the whole section.
+const LONG: usize = 64;
+
+/// The initial row of the common information entry at a place of the section.
+#[derive(Clone, Copy, Debug)]
+pub struct InitialAt {
+    place: u32,
+    row: Columns,
+}
+
+/// Initial rows of a section's common information entries, so that the instructions of a long one are run once,
+/// whatever the order in which functions name the entries. The instructions of a short one are run again unless
+/// it is the one that was named last.
+#[derive(Drop)]
+pub struct Initials {
+    /// The row of the entry that was named last.
+    last: Option<InitialAt>,
+    /// The rows of the long entries that were named, by place.
+    long: BTreeMap<u32, Columns>,
+}
+
+impl Initials {
+    /// No rows yet.
+    pub fn new(alloc: Global) -> Initials
+        ensures { (arch : machine) (section : List ℕ) → AreInitial arch section result }
+    {
+        Initials {
+            last: None,
+            long: BTreeMap::new(alloc),
+        }
+    }
+
+    // The row of an entry whose instructions are long.
+    fn long_row(
+        &mut self,
+        section: &CallFrameSection<'_>,
+        cie: &Cie<'_>,
+    ) -> Result<Columns, MachineFault>
+        requires are { AreInitial section.now.arch section.now.bytes.now self.old }
+        requires named { standing_cie section.now.arch section.now.bytes.now cie.now.place ≡ Some (cie_view cie.now) }
+        ensures row { IfOk result (λ row. IsInitial section.now.arch cie.now.factor (listing (cursor cie.now.insns)) row) }
+        ensures fault { IfErr result (λ fault. (fault ≡ NoMemory) ⊎ (initial_columns section.now.arch cie.now.factor no_columns (listing (cursor cie.now.insns)) ≡ Err fault)) }
+        ensures are { OnOk result (AreInitial section.now.arch section.now.bytes.now self.new) }
+    {
+        if let Some(row) = self.long.get(&cie.place) {
+            return Ok(*row);
+        }
+        let row = initial_row(section.arch, cie.factor, cie.insns)?;
+        self.long.insert(cie.place, row)?;
+        Ok(row)
+    }
+
+    /// The initial row of a common information entry of the section.
+    ///
+    /// # Errors
+    ///
+    /// The first fault of its instructions, and `NoMemory` where memory runs out.
+    #[inline(always)]
+    pub fn row(
+        &mut self,
+        section: &CallFrameSection<'_>,
+        cie: &Cie<'_>,
+    ) -> Result<Columns, MachineFault>
+        requires are { AreInitial section.now.arch section.now.bytes.now self.old }
+        requires named { standing_cie section.now.arch section.now.bytes.now cie.now.place ≡ Some (cie_view cie.now) }
+        ensures row { IfOk result (λ row. IsInitial section.now.arch cie.now.factor (listing (cursor cie.now.insns)) row) }
+        ensures fault { IfErr result (λ fault. (fault ≡ NoMemory) ⊎ (initial_columns section.now.arch cie.now.factor no_columns (listing (cursor cie.now.insns)) ≡ Err fault)) }
+        ensures are { OnOk result (AreInitial section.now.arch section.now.bytes.now self.new) }
+    {
+        if let Some(last) = &self.last {
+            if last.place == cie.place {
+                return Ok(last.row);
+            }
+        }
+        let row = if cie.insns.bytes.len() < LONG {
+            initial_row(section.arch, cie.factor, cie.insns)?
+        } else {
+            self.long_row(section, cie)?
+        };
+        self.last = Some(InitialAt {
+            place: cie.place,
+            row,
+        });
+        Ok(row)
+    }
+}

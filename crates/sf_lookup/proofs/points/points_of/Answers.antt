@@ -1,0 +1,26 @@
+use Rattle.std.proofs.Common.{ℕ, All, List, ◌+◌, Vec, Global, sym, ap, subst, take, arith}
+use Rattle.std.proofs.lemmas.List.Sorted.{IsNonDecreasingBy-from_sort}
+use Rattle.sf_lookup.specs.Span.{HasEnds}
+use Rattle.sf_lookup.proofs.Covering.{ends_more, ends_moved, start_more}
+use Rattle.sf_lookup.proofs.points.points_of.Goals as goal
+use Rattle.sf_lookup.proofs.points.points_of.Goals.{in-Some+in_ok-push-2, in_default}
+
+pub loop-span-preserved : goal.loop-span-preserved
+loop-span-preserved g c =
+    let spans = c.args.spans.now in
+    let i = c.loop-span.span-index in
+    elim c.match-checked_add.branch [
+      | in-Some+in_ok-push-2 w ↦
+          subst (λ (points : List ℕ). All (HasEnds points) (take (i + 1) spans)) (sym (ap (λ (v : Vec ℕ Global). v.items) w.points-is))
+          (ends_more spans i c.span-item.result c.loop-span.points.items c.push.new.self.items w.push-in-Some.new.self.items w.in-Some.end c.loop-span-test.true c.span-item.is w.in-Some.ensures.1
+          c.in_ok-push.ensures.items w.in_ok-push-2.ensures.items c.loop-span.invariant)
+      | in_default w ↦
+          subst (λ (points : List ℕ). All (HasEnds points) (take (i + 1) spans)) (sym (ap (λ (v : Vec ℕ Global). v.items) w.points-is))
+          (start_more spans i c.span-item.result c.loop-span.points.items c.push.new.self.items c.loop-span-test.true c.span-item.is (let beyond = w.in_default.ensures in omega (beyond, arith)) c.in_ok-push.ensures.items c.loop-span.invariant)
+    ]
+
+pub returns-clause-rise : goal.returns-clause-rise
+returns-clause-rise g c = IsNonDecreasingBy-from_sort (λ (x : ℕ). x) c.sort.new.self.items c.in_ok-sort.ensures.sorted
+
+pub returns-clause-ends : goal.returns-clause-ends
+returns-clause-ends g c = ends_moved c.args.spans.now c.loop-span.span-index c.loop-span.points.items c.sort.new.self.items c.loop-span-test.false c.in_ok-sort.ensures.permutation c.loop-span.invariant

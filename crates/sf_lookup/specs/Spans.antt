@@ -1,0 +1,9 @@
+-- Which spans were put in order.
+use Rattle.std.specs.Prelude.{◌≡◌, ℕ, ◌^◌, ◌<◌, List}
+use Rattle.sf_lookup.specs.declared.span.Span.{Span}
+use Rattle.sf_lookup.specs.declared.spans.Spans.{Spans}
+use Rattle.sf_lookup.specs.Span.{IsReached, answer_at, answer_of}
+
+-- these spans: at each address the answer at the last point that it has reached is that of the first span that has the address
+abbrev pub InOrder : {A : Type 0} → Spans A → List (Span A) → Type 0
+InOrder ordered spans = (pc n : ℕ) → pc < 2 ^ 64 → IsReached ordered.points.items pc n → answer_at ordered.answers.items n ≡ answer_of spans pc

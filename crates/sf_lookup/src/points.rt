@@ -1,0 +1,32 @@
+//! The ends of spans: between two of them no span begins or ends.
+
+ghost use Rattle.std.specs.Prelude.{◌≡◌, All, IfOk};
+ghost use Rattle.std.specs.List.Sorted.{IsNonDecreasing};
+ghost use Rattle.sf_lookup.specs.Span.{HasEnds, IsReached};
+
+use crate::span::Span;
+use std::alloc::{AllocError, Global};
+
+/// The ends of spans, in order.
+pub fn points_of<A>(alloc: Global, spans: &[Span<A>]) -> Result<Vec<u64>, AllocError>
+    ensures rise { IfOk result (λ points. IsNonDecreasing points.items) }
+    ensures ends { IfOk result (λ points. All (HasEnds points.items) spans.now) }
+{
+    let mut points = Vec::new(alloc);
+    for span in spans {
+        points.push(span.start)?;
+        if let Some(end) = span.start.checked_add(span.size) {
+            points.push(end)?;
+        }
+    }
+    points.sort()?;
+    Ok(points)
+}
+
+/// How many points are at an address or before it.
+pub fn reached(points: &[u64], pc: u64) -> usize
+    requires { IsNonDecreasing points.now }
+    ensures { IsReached points.now pc result }
+{
+    points.partition_point(|point| *point <= pc)
+}

@@ -1,0 +1,16 @@
+-- The first of faults that may be there, and what comes where none is.
+use Rattle.std.specs.Prelude.{Option, Some, None, Result, Ok, Err}
+
+-- the first of two that is there
+abbrev pub or_later : {F : Type 0} → Option F → Option F → Option F
+or_later (Some fault) later = Some fault
+or_later None later = later
+
+-- this, where there is no fault
+abbrev pub unless_fault : {X F : Type 0} → Option F → X → Result X F
+unless_fault None x = Ok x
+unless_fault (Some fault) x = Err fault
+
+-- nothing, where there is no fault
+abbrev pub unless : {F : Type 0} → Option F → Result (Unit {0}) F
+unless fault = unless_fault fault tt

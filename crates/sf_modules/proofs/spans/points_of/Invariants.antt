@@ -1,6 +1,0 @@
-use Rattle.std.proofs.Common.{All, take}
-use Rattle.sf_modules.specs.Span.{HasEnds}
-use Rattle.sf_modules.proofs.spans.points_of.Given as goal
-
-abbrev pub invariant-loop-span : goal.invariant-loop-span
-invariant-loop-span l = All (HasEnds l.points.items) (take l.span-index l.spans)

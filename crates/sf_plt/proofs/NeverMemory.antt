@@ -1,0 +1,42 @@
+-- A fault of the definitions is a refusal or a limit, with procedure linkage tables as without them: inputs never come to `NoMemory`.
+use Rattle.std.specs.Prelude.{IsTrue, nat_lt}
+use Rattle.std.specs.Option.{option_map}
+use Rattle.std.proofs.Common.{ℕ, ◌+◌, ◌*◌, ◌^◌, List, length, map, sum_by, Option, Result, Ok, Err, refl, sym, subst, inl, inr}
+use Rattle.sf_model.specs.declared.machine.Arch.{Arch}
+use Rattle.sf_write.specs.Reach.{first_out_of_reach}
+use Rattle.sf_asm.specs.declared.fault.GatherFault.{GatherFault}
+use Rattle.sf_asm.specs.declared.fault.LinkFault.{LinkFault}
+use Rattle.sf_asm.specs.declared.fault.LinkFault.TheVariants.{Gather, OutOfReach}
+use Rattle.sf_asm.specs.Fault.{is_answered, is_gather_refusal, is_wrapped_answered}
+use Rattle.sf_asm.specs.Functions.{Function, Object}
+use Rattle.sf_asm.specs.Inputs.{all_functions}
+use Rattle.sf_asm.specs.Kept.{entry_of}
+use Rattle.sf_asm.specs.Linking.{functions_fault, or_later}
+use Rattle.sf_asm.specs.Order.{entry_rows}
+use Rattle.sf_asm.proofs.NeverMemory.{FaultIn, FaultIs, all_refused, any_mapped, earlier, either_in, functions_tried, mapped, refusal_or_limit, where_none}
+use Rattle.sf_plt.specs.Answers.{IsFirstPltLinked}
+use Rattle.sf_plt.specs.Linking.{LinksPltsFrom, plt_link_fault, plts_fault}
+use Rattle.sf_plt.specs.Plt.{plt_functions}
+use Rattle.sf_plt.specs.Written.{written_functions}
+
+limits : (sorted : List Function) → FaultIn is_wrapped_answered (plts_fault sorted)
+unfolding plts_fault
+limits sorted =
+    either_in is_wrapped_answered (nat_lt (2 ^ 21) (length sorted + length (plt_functions sorted))) _ _ refl
+    (either_in is_wrapped_answered (nat_lt (2 ^ 24) (sum_by entry_rows (map entry_of sorted) + 4 * length (plt_functions sorted))) _ _ refl tt)
+
+tried : (at : ℕ) (sorted : List Function) → FaultIn is_answered (plt_link_fault at sorted)
+tried at sorted =
+    earlier is_answered (option_map Gather (or_later (functions_fault (map entry_of sorted)) (plts_fault sorted))) _
+    (mapped is_wrapped_answered is_answered Gather (or_later (functions_fault (map entry_of sorted)) (plts_fault sorted)) (λ fault h. h)
+    (earlier is_wrapped_answered (functions_fault (map entry_of sorted)) (plts_fault sorted) (functions_tried (map entry_of sorted)) (limits sorted)))
+    (any_mapped is_answered OutOfReach (first_out_of_reach at 0 (written_functions sorted)) (λ start. refl))
+
+links_from : (at : ℕ) (given : Result (List Function) GatherFault) (result : Result (List Function) LinkFault) → FaultIs is_gather_refusal given → LinksPltsFrom at given result → FaultIs is_answered result
+links_from at (Ok functions) result h (sorted, order, is) = subst (FaultIs is_answered) (sym is) (where_none is_answered (plt_link_fault at sorted) sorted (tried at sorted))
+links_from at (Err fault) result h is = subst (FaultIs is_answered) (sym is) (refusal_or_limit fault h)
+
+-- a call returns that fault, or that memory ran out
+pub first_is_answered : (before : Option Arch) (objects : List Object) (at : ℕ) (fault : LinkFault) → IsFirstPltLinked before objects at fault → IsTrue (is_answered fault)
+first_is_answered before objects at fault (inl is) = subst (λ (f : LinkFault). IsTrue (is_answered f)) (sym is) refl
+first_is_answered before objects at fault (inr h) = links_from at (all_functions before objects) (Err fault) (all_refused before objects) h

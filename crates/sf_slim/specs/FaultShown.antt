@@ -1,0 +1,23 @@
+-- What the line of a fault shows: two functions that share an address are a fault of the section, as where one that says to be
+-- sorted has them, and a start out of reach is one of linking.
+use Rattle.std.specs.Prelude.{ℕ, Bool, true, false, [], ◌∷◌, Option, None}
+use Rattle.sf_model.specs.declared.notice.Group.TheVariants as group
+use Rattle.sf_model.specs.FaultShown.{FaultShown}
+use Rattle.sf_decode.specs.declared.fault.DecodeFault.TheVariants as decode
+use Rattle.sf_decode.specs.Fault.{number_and_place}
+use Rattle.sf_merge.specs.declared.fault.MergeFault.TheVariants as merge
+use Rattle.sf_merge.specs.FaultShown.{shown_of_merging}
+use Rattle.sf_slim.specs.declared.fault.SlimFault.{SlimFault}
+use Rattle.sf_slim.specs.declared.fault.SlimFault.TheVariants.{Overlap, OutOfReach, NoMemory}
+
+-- the item and the entry's place; the start, without an item; want of memory has no line
+abbrev pub shown_of_slimming : Option ℕ → SlimFault → FaultShown
+shown_of_slimming item (Overlap place) = record { item = item; group = group.Section; number = (number_and_place (decode.Overlap place)).0; values = place ∷ [] }
+shown_of_slimming item (OutOfReach start) = shown_of_merging None (merge.OutOfReach start)
+shown_of_slimming item NoMemory = shown_of_merging None merge.NoMemory
+
+-- all but want of memory
+abbrev pub is_refusal : SlimFault → Bool
+is_refusal (Overlap place) = true
+is_refusal (OutOfReach start) = true
+is_refusal NoMemory = false
