@@ -14,7 +14,7 @@ use Rattle.sf_decode.specs.View.{table_of}
 use Rattle.sf_merge.specs.declared.fault.MergeFault.{MergeFault}
 use Rattle.sf_merge.specs.declared.fault.MergeFault.TheVariants as merge
 use Rattle.sf_merge.specs.declared.located.Located.{Located}
-use Rattle.sf_merge.specs.Merging.{same_arch, is_other, mixed_with_first, mixed_fault, functions_in_all, rows_in_all, limits_fault, overlap, overlap_fault, shared_by}
+use Rattle.sf_merge.specs.Merging.{same_arch, is_other, mixed_with_first, mixed_fault, functions_in_all, rows_in_all, limits_fault, overlap, overlap_fault}
 
 -- what a part of the sections shows, from a number on
 pub tables_more : (views : List View) (i : ℕ) (v : View) → i < length views → v ≡ get_or views i v → map table_of (drop i views) ≡ table_of v ∷ map table_of (drop (i + 1) views)
@@ -93,10 +93,6 @@ pub no_tables_left : (views : List View) (i : ℕ) → length views ≤ i → ma
 no_tables_left views i le = ap (map table_of) (drop_all i views le)
 
 -- ---- overlaps
-pub overlap_stops : (before l : Located) (later : List Located) → overlap (before, l) ≡ true → overlap_fault (before ∷ l ∷ later) ≡ Some (shared_by (before, l))
-unfolding overlap_fault
-overlap_stops before l later e = rw e refl
-
 pub overlap_goes_on : (before l : Located) (later : List Located) → overlap (before, l) ≡ false → overlap_fault (before ∷ l ∷ later) ≡ overlap_fault (l ∷ later)
 unfolding overlap_fault
 overlap_goes_on before l later e = rw e refl
@@ -108,12 +104,3 @@ one_alone l = refl
 pub none_at_all : overlap_fault [] ≡ None
 unfolding overlap_fault
 none_at_all = refl
-
--- the function at a place of those that are left
-pub at_place : (before l : Located) (later : List Located) (i : ℕ) → i < length later → l ≡ get_or later i l → overlap_fault (before ∷ drop i later) ≡ overlap_fault (before ∷ l ∷ drop (i + 1) later)
-at_place before l later i lt is =
-    ap (λ ls. overlap_fault (before ∷ ls)) (drop_more later i l lt ∙ ap (λ (x : Located). x ∷ drop (i + 1) later) (sym is))
-
-pub nothing_to_share : (ls : List Located) → length ls ≡ 0 → overlap_fault ls ≡ None
-nothing_to_share [] e = none_at_all
-nothing_to_share (l ∷ ls) e = absurd (omega (e, arith))

@@ -1,6 +1,6 @@
 -- Sections merged as a linker does it (GNU SFrame specification, Version 2): the functions that are written, and why there may be
 -- none. The faults are tried in the order in which they stand here.
-use Rattle.std.specs.Prelude.{◌≡◌, ◌+◌, ◌^◌, ℕ, Bool, true, false, not, nat_lt, List, [], ◌∷◌, map, length, drop, sum_by, Option, Some, None, Result, Ok, Err, if◌then◌else◌}
+use Rattle.std.specs.Prelude.{◌≡◌, ◌+◌, ◌^◌, ℕ, Bool, true, false, not, nat_lt, List, [], ◌∷◌, map, length, drop, sum_by, Option, Some, None, Result, Err, if◌then◌else◌}
 use Rattle.std.specs.Option.{option_map}
 use Rattle.std.specs.List.{enumerate_from, filter, find, zip}
 use Rattle.sf_model.specs.declared.machine.Arch.{Arch}

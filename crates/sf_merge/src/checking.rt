@@ -3,10 +3,11 @@
 ghost use Rattle.std.specs.Prelude.{◌≡◌, ◌<◌, ◌≤◌, ◌+◌, Some, None, map, length, All, IfOk, OnOk, IfErr};
 ghost use Rattle.sf_model.specs.Table.{Table as table_fact};
 ghost use Rattle.sf_decode.specs.View.{table_of};
-ghost use Rattle.sf_merge.specs.Merging.{same_arch, mixed_fault, limits_fault, overlap, overlap_fault, unless};
+ghost use Rattle.sf_merge.specs.Merging.{same_arch, mixed_fault, limits_fault, overlap_fault, unless};
 
 use crate::fault::MergeFault;
 use crate::located::Located;
+use crate::overlap::first_overlap;
 use sf_decode::View;
 use sf_model::Arch;
 
@@ -62,32 +63,18 @@ pub fn check_limits(views: &[View<'_>]) -> Result<(), MergeFault>
     Ok(())
 }
 
-/// Whether the second function begins before the end of the first.
-#[inline(always)]
-fn shares_address(before: &Located, function: &Located) -> bool
-    ensures { result ≡ overlap (before.now, function.now) }
-{
-    u128::from(function.func.start) < u128::from(before.func.start) + u128::from(before.func.size)
-}
-
 /// Tries each function against the one before it.
+#[tactic(auto, unfolding(crate::specs::Merging::overlap_fault))]
 pub fn check_overlap(ordered: &[Located]) -> Result<(), MergeFault>
     ensures { result ≡ unless (overlap_fault ordered.now) }
 {
-    let Some((first, later)) = ordered.split_first() else {
-        return Ok(());
-    };
-    let mut before = first;
-    for function in later {
-        if shares_address(before, function) {
-            return Err(MergeFault::Overlap(
-                before.func.start,
-                before.item,
-                function.func.start,
-                function.item,
-            ));
-        }
-        before = function;
+    match first_overlap(ordered) {
+        Some((before, function)) => Err(MergeFault::Overlap(
+            before.func.start,
+            before.item,
+            function.func.start,
+            function.item,
+        )),
+        None => Ok(()),
     }
-    Ok(())
 }

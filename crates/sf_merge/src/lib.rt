@@ -5,7 +5,7 @@
 //! What merging comes to is one definition (`Merges` of `specs/Merging.antt`): these functions, or the first
 //! fault. The answer is the `Tight` and `Narrow` section, by the definitions of `sf_model`, of the tables'
 //! union (`IsUnion`). [`join`] makes lists of functions into one list by rising start. [`in_order`] reads the
-//! functions of one section, by start.
+//! functions of one section, by start, and [`first_overlap`] finds the first two that share an address.
 //!
 //! Laws: merging comes to one result ([`merging_comes_to_one_result`], [`merging_comes_to_a_result`]), so the
 //! answer is Ok exactly where the definition has no fault; a look-up in the union finds what the one section
@@ -24,6 +24,7 @@ mod laws;
 mod located;
 mod merging;
 mod notices;
+mod overlap;
 mod reading;
 
 pub use fault::MergeFault;
@@ -34,6 +35,7 @@ pub use laws::{
 };
 pub use located::{Located, Rank};
 pub use merging::{MergedSection, merge};
+pub use overlap::first_overlap;
 pub use reading::in_order;
 
 #[cfg(test)]

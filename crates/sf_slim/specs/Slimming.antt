@@ -1,5 +1,5 @@
 -- What slimming a section comes to (GNU SFrame specification, Version 2): the functions that are written, or the first fault.
-use Rattle.std.specs.Prelude.{◌≡◌, ℕ, List, map, Option, Some, None, Result, Ok, Err}
+use Rattle.std.specs.Prelude.{◌≡◌, ℕ, List, map, Option, Result}
 use Rattle.std.specs.Option.{option_map}
 use Rattle.std.specs.List.{filter, find}
 use Rattle.sf_model.specs.declared.function.Func.{Func}

@@ -2,33 +2,19 @@
 
 ghost use Rattle.std.specs.Prelude.{◌≡◌};
 ghost use Rattle.sf_decode.specs.View.{section_bytes};
-ghost use Rattle.sf_merge.specs.Merging.{overlap};
 ghost use Rattle.sf_slim.specs.Slimming.{overlap_fault, unless_fault};
 
 use crate::fault::SlimFault;
 use sf_decode::View;
-use sf_merge::Located;
-
-/// Whether the second function begins before the end of the first.
-fn shares_address(before: &Located, function: &Located) -> bool
-    ensures { result ≡ overlap (before.now, function.now) }
-{
-    u128::from(function.func.start) < u128::from(before.func.start) + u128::from(before.func.size)
-}
+use sf_merge::{Located, first_overlap};
 
 /// Tries each function against the one before it.
+#[tactic(auto, unfolding(crate::specs::Slimming::overlap_fault))]
 pub(crate) fn check_overlap(view: &View<'_>, ordered: &[Located]) -> Result<(), SlimFault>
     ensures { result ≡ unless_fault (overlap_fault (section_bytes view.now) ordered.now) tt }
 {
-    let Some((first, later)) = ordered.split_first() else {
-        return Ok(());
-    };
-    let mut before = first;
-    for function in later {
-        if shares_address(before, function) {
-            return Err(SlimFault::Overlap(view.entry_place(function.number)));
-        }
-        before = function;
+    match first_overlap(ordered) {
+        Some((_, function)) => Err(SlimFault::Overlap(view.entry_place(function.number))),
+        None => Ok(()),
     }
-    Ok(())
 }
