@@ -68,13 +68,25 @@ begins recovering thread before regs same = record {
   shown = none_shown before;
 }
 
-pub goes : (recovering : Recovering) (mask : Option ℕ) (count asked next : ℕ) (at caller : Caller) (now before : List KiblawenFrame) (frame : Frame) (x : KiblawenFrame) (whole : Listing) → count < length before
-    → next ≡ address_before caller.pc → Steps recovering mask asked at frame (Ok caller) → x ≡ frame_shown frame → Listed recovering mask count asked at now before whole
-    → Listed recovering mask (count + 1) next caller (set now count x) before whole
-goes recovering mask count asked next at caller now before frame x whole lt before_it step e h =
-    subst (λ (n : ℕ). Listed recovering mask (count + 1) n caller (set now count x) before whole) (sym before_it) (record {
+-- a step by what a sample is read as
+of_sample : (look_up : LookUp) (sample : KiblawenSample) (memory : List Region) (mask : Option ℕ) (asked : ℕ) (at : Caller) (frame : Frame) (next so : Result Caller Stop)
+    → memory ≡ memory_of sample → mask ≡ mask_of sample → next ≡ so → Steps (recover_by look_up memory) mask asked at frame next
+    → Steps (recover_by look_up (memory_of sample)) (mask_of sample) asked at frame so
+of_sample look_up sample memory mask asked at frame next so m k e step =
+    subst (λ (n : Result Caller Stop). Steps (recover_by look_up (memory_of sample)) (mask_of sample) asked at frame n) e
+    (subst (λ (o : Option ℕ). Steps (recover_by look_up (memory_of sample)) o asked at frame next) k
+    (subst (λ (r : List Region). Steps (recover_by look_up r) mask asked at frame next) m step))
+
+pub goes : (look_up : LookUp) (sample : KiblawenSample) {memory : List Region} {mask : Option ℕ} {count asked next : ℕ} {at caller : Caller} {now before : List KiblawenFrame} {frame : Frame} {x : KiblawenFrame} {so : Result Caller Stop} {whole : Listing}
+    → count < length before → next ≡ address_before caller.pc → memory ≡ memory_of sample → mask ≡ mask_of sample → so ≡ Ok caller → Steps (recover_by look_up memory) mask asked at frame so → x ≡ frame_shown frame
+    → Listed (recover_by look_up (memory_of sample)) (mask_of sample) count asked at now before whole
+    → Listed (recover_by look_up (memory_of sample)) (mask_of sample) (count + 1) next caller (set now count x) before whole
+goes look_up sample {memory} {mask} {count} {asked} {next} {at} {caller} {now} {before} {frame} {x} {so} {whole} lt before_it m k is step e h =
+    let recovering = recover_by look_up (memory_of sample) in
+    let taken = of_sample look_up sample memory mask asked at frame so (Ok caller) m k is step in
+    subst (λ (n : ℕ). Listed recovering (mask_of sample) (count + 1) n caller (set now count x) before whole) (sym before_it) (record {
       frames = h.frames ++ frame ∷ [];
-      walk = goes_on recovering mask (length before) count asked at caller h.frames (h.frames ++ frame ∷ []) frame whole lt step refl h.walk;
+      walk = goes_on recovering (mask_of sample) (length before) count asked at caller h.frames (h.frames ++ frame ∷ []) frame whole lt taken refl h.walk;
       shown = one_more h.frames frame count now before x lt e h.shown;
     })
 
@@ -94,12 +106,15 @@ stopped_with frames stop count now before whole e h =
       reason = ap (λ (l : Listing). l.stop) same;
     }
 
-pub halts : (recovering : Recovering) (mask : Option ℕ) (count asked : ℕ) (at : Caller) (now before : List KiblawenFrame) (frame : Frame) (x : KiblawenFrame) (stop : Stop) (whole : Listing) → count < length before
-    → Steps recovering mask asked at frame (Err stop) → x ≡ frame_shown frame → Listed recovering mask count asked at now before whole
+pub halts : (look_up : LookUp) (sample : KiblawenSample) {memory : List Region} {mask : Option ℕ} {count asked : ℕ} {at : Caller} {now before : List KiblawenFrame} {frame : Frame} {x : KiblawenFrame} {so : Result Caller Stop} {stop : Stop} {whole : Listing}
+    → count < length before → memory ≡ memory_of sample → mask ≡ mask_of sample → so ≡ Err stop → Steps (recover_by look_up memory) mask asked at frame so → x ≡ frame_shown frame
+    → Listed (recover_by look_up (memory_of sample)) (mask_of sample) count asked at now before whole
     → Stopped stop (count + 1) (set now count x) before whole
-halts recovering mask count asked at now before frame x stop whole lt step e h =
+halts look_up sample {memory} {mask} {count} {asked} {at} {now} {before} {frame} {x} {so} {stop} {whole} lt m k is step e h =
+    let recovering = recover_by look_up (memory_of sample) in
+    let taken = of_sample look_up sample memory mask asked at frame so (Err stop) m k is step in
     stopped_with (h.frames ++ frame ∷ []) stop (count + 1) (set now count x) before whole
-    (stops recovering mask (length before) count asked at h.frames (h.frames ++ frame ∷ []) frame stop whole lt step refl h.walk)
+    (stops recovering (mask_of sample) (length before) count asked at h.frames (h.frames ++ frame ∷ []) frame stop whole lt taken refl h.walk)
     (one_more h.frames frame count now before x lt e h.shown)
 
 -- the room is full, and then it has as many places as frames were listed
@@ -108,17 +123,8 @@ pub record Full (count : ℕ) (now before : List KiblawenFrame) (whole : Listing
   pub frames : length now ≡ length whole.frames
   pub reason : Depth ≡ whole.stop
 
-pub fills : (recovering : Recovering) (mask : Option ℕ) (count asked : ℕ) (at : Caller) (now before : List KiblawenFrame) (whole : Listing) → length before ≤ count
+pub fills : {recovering : Recovering} {mask : Option ℕ} {count asked : ℕ} {at : Caller} {now before : List KiblawenFrame} {whole : Listing} → length before ≤ count
     → Listed recovering mask count asked at now before whole → Full count now before whole
-fills recovering mask count asked at now before whole none h =
+fills {recovering} {mask} {count} {asked} {at} {now} {before} {whole} none h =
     let end = stopped_with h.frames Depth count now before whole (ends recovering mask (length before - count) asked at h.frames whole (omega (none, h.shown.within, arith)) h.walk) h.shown in
     record { room = end.room; frames = omega (none, h.shown.within, h.shown.room, end.frames, arith); reason = end.reason }
-
--- a step by what a sample is read as
-pub of_sample : (look_up : LookUp) (sample : KiblawenSample) (memory : List Region) (mask : Option ℕ) (asked : ℕ) (at : Caller) (frame : Frame) (next so : Result Caller Stop)
-    → memory ≡ memory_of sample → mask ≡ mask_of sample → next ≡ so → Steps (recover_by look_up memory) mask asked at frame next
-    → Steps (recover_by look_up (memory_of sample)) (mask_of sample) asked at frame so
-of_sample look_up sample memory mask asked at frame next so m k e step =
-    subst (λ (n : Result Caller Stop). Steps (recover_by look_up (memory_of sample)) (mask_of sample) asked at frame n) e
-    (subst (λ (o : Option ℕ). Steps (recover_by look_up (memory_of sample)) o asked at frame next) k
-    (subst (λ (r : List Region). Steps (recover_by look_up r) mask asked at frame next) m step))
