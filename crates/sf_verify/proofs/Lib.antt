@@ -5,7 +5,6 @@ pub mod Compared
 pub mod Swept
 pub mod Gathered
 pub mod Counted
-pub mod Overlaps
 pub mod Sections
 pub mod Verdicts
 pub mod OneVerdict
