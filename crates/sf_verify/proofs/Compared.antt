@@ -1,8 +1,7 @@
 -- What was compared so far, and what is compared next.
 use Rattle.std.specs.Prelude.{IsTrue, is_some, min, slice_get}
-use Rattle.std.specs.List.{All}
-use Rattle.std.proofs.Common.{◌≡◌, ℕ, zero, suc, ◌+◌, ◌-◌, ◌^◌, ◌<◌, ◌≤◌, Bool, true, false, List, [], ◌∷◌, get_or, length, Option, Some, None, refl, sym, ap, subst, ◌∙◌, arith, inl, inr}
-use Rattle.std.specs.Option.{option_and_then, option_map}
+use Rattle.std.proofs.Common.{◌≡◌, ℕ, zero, suc, ◌+◌, ◌-◌, ◌<◌, ◌≤◌, Bool, true, false, List, [], ◌∷◌, get_or, length, Option, Some, None, refl, sym, ap, subst, ◌∙◌, arith, inl, inr}
+use Rattle.std.specs.Option.{option_map}
 use Rattle.std.proofs.lemmas.Bool.{cases_lt}
 use Rattle.std.proofs.lemmas.List.{get_or_default}
 use Rattle.sf_model.specs.declared.content.Content.{Content}
@@ -18,8 +17,8 @@ use Rattle.sf_verify.specs.declared.dwarf.Known.{Known}
 use Rattle.sf_asm.specs.declared.said.Said.{Said}
 use Rattle.sf_verify.specs.declared.sweep.Difference.{Difference}
 use Rattle.sf_verify.specs.Agreement.{Agree, RecoverAlike, content_said, is_plain, is_plain_shape}
-use Rattle.sf_verify.specs.Asking.{AreHolders, IsHeld, IsKnown, IsReady, IsSame, Knows, says}
-use Rattle.sf_verify.specs.Comparing.{Compares, DifferWithin, edge, edge_of, func_says}
+use Rattle.sf_verify.specs.Asking.{IsKnown, IsReady, IsSame, Knows}
+use Rattle.sf_verify.specs.Comparing.{Compares, edge, edge_of, func_says}
 use Rattle.sf_asm.specs.Said.{Answers, with_key}
 use Rattle.sf_verify.proofs.Holding.{plain_says}
 use Rattle.sf_verify.proofs.Rows.{no_row_at_all, no_row_before, row_at_place}

@@ -1,8 +1,8 @@
 -- How many kept functions a section lacks.
-use Rattle.std.specs.Prelude.{nat_eq, not, ◌&&◌, ◌||◌}
+use Rattle.std.specs.Prelude.{not, ◌&&◌, ◌||◌}
 use Rattle.std.specs.List.{filter, list_any}
 use Rattle.std.specs.List.Sorted.{IsPermutation}
-use Rattle.std.proofs.Common.{◌≡◌, ℕ, zero, suc, ◌+◌, ◌-◌, ◌<◌, ◌≤◌, ◌==◌, Bool, true, false, cond, List, [], ◌∷◌, get_or, length, map, take, refl, sym, ap, subst, ◌∙◌, arith, inl, inr}
+use Rattle.std.proofs.Common.{◌≡◌, ℕ, zero, suc, ◌-◌, ◌<◌, ◌≤◌, ◌==◌, Bool, true, false, cond, List, [], ◌∷◌, get_or, length, map, take, refl, sym, ap, subst, ◌∙◌, arith, inl, inr}
 use Rattle.std.proofs.lemmas.Bool.{cases_lt, eqb-true}
 use Rattle.std.proofs.lemmas.List.{get_or_default}
 use Rattle.std.proofs.lemmas.List.Filters.{length-filter_both}
@@ -11,7 +11,7 @@ use Rattle.sf_model.specs.declared.function.Func.{Func}
 use Rattle.sf_merge.specs.declared.located.Located.{Located}
 use Rattle.sf_merge.proofs.Permutations.{filter_permuted}
 use Rattle.sf_asm.specs.Functions.{Function}
-use Rattle.sf_asm.specs.Kept.{facts_of, is_kept, kept_functions, says_of}
+use Rattle.sf_asm.specs.Kept.{is_kept, kept_functions}
 use Rattle.sf_verify.specs.Agreement.{is_missing, is_plain, stands_for}
 use Rattle.sf_verify.specs.Comparing.{functions_in}
 use Rattle.sf_verify.specs.Counting.{StartBefore, StartsRise, covers, is_absent}

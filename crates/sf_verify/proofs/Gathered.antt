@@ -3,7 +3,7 @@ use Rattle.std.specs.Prelude.{nat_le, nat_lt, not}
 use Rattle.std.specs.List.{All, cons_option, filter, filter_map, find, range_with_len}
 use Rattle.std.specs.List.Sorted.{IsPermutation, IsNonDecreasingBy}
 use Rattle.std.specs.Option.{option_and_then, option_map}
-use Rattle.std.proofs.Common.{◌≡◌, ℕ, zero, suc, ◌+◌, ◌-◌, ◌^◌, ◌<◌, ◌≤◌, Bool, true, false, cond, ◌&&◌, ◌==◌, eqb, leb, List, [], ◌∷◌, get_or, length, map, Option, Some, None, Result, Ok, Err, refl, sym, ap, subst, ◌∙◌, arith, inl, inr}
+use Rattle.std.proofs.Common.{◌≡◌, ℕ, zero, suc, ◌+◌, ◌-◌, ◌<◌, ◌≤◌, Bool, true, false, cond, List, [], ◌∷◌, get_or, length, map, Option, Some, None, Result, Ok, Err, refl, sym, ap, subst, ◌∙◌, arith}
 use Rattle.std.proofs.lemmas.Bool.{leb-true, ltb-true, le-leb, lt-ltb}
 use Rattle.std.proofs.lemmas.List.{length-map}
 use Rattle.std.proofs.lemmas.List.Elements.{All-nil, All-cons, All-head, All-tail, All-filter, All-map, filter_passes}
@@ -11,12 +11,11 @@ use Rattle.std.proofs.lemmas.List.Kept.{IsNonDecreasingBy-filter}
 use Rattle.std.proofs.lemmas.List.Sorted.{All-permutation}
 use Rattle.sf_model.specs.declared.content.Content.{Content}
 use Rattle.sf_model.specs.declared.function.Func.{Func}
-use Rattle.sf_model.specs.declared.function.Shape.TheVariants.{Plain}
 use Rattle.sf_model.specs.declared.machine.Arch.{Arch}
 use Rattle.sf_model.specs.declared.omission.Omission.{Omission}
 use Rattle.sf_model.specs.declared.omission.Reason.{Reason}
 use Rattle.sf_model.specs.declared.rows.Row.{Row}
-use Rattle.sf_model.specs.Function.{AreWritable, IsWritable}
+use Rattle.sf_model.specs.Function.{IsWritable}
 use Rattle.sf_model.specs.Lookup.{contains, row_at}
 use Rattle.sf_express.specs.Offsets.{as_said}
 use Rattle.sf_express.specs.Pieces.{content_in}
@@ -30,8 +29,8 @@ use Rattle.sf_asm.specs.Functions.{Function}
 use Rattle.sf_asm.specs.Kept.{entry_of, facts_of, is_kept, omitted_functions, says_of}
 use Rattle.sf_asm.specs.Order.{are_apart}
 use Rattle.sf_asm.specs.Sources.{function_start, functions_lent, source_function}
-use Rattle.sf_asm.proofs.Finding.{Member, OnePasses, found_alike}
-use Rattle.sf_asm.proofs.Holding.{IsFine, IsWithin, both, fine, has_form_if, is_within, kept_size, one_holds, within}
+use Rattle.sf_asm.proofs.Finding.{Member, found_alike}
+use Rattle.sf_asm.proofs.Holding.{IsFine, both, fine, has_form_if, is_within, one_holds, within}
 use Rattle.sf_asm.proofs.Members.{all_members, found, found_alone, in_filter, in_map, placed, some_found}
 use Rattle.sf_verify.specs.Asking.{AreHolders, IsRowed, RowsBegin, answers_of, by_holder}
 use Rattle.sf_verify.specs.Comparing.{func_says}

@@ -1,11 +1,10 @@
 -- Verifying comes to one result.
-use Rattle.std.proofs.Common.{◌≡◌, ℕ, ◌<◌, ◌≤◌, List, [], ◌∷◌, map, Option, Some, None, Result, Ok, Err, refl, sym, ap, subst, ◌∙◌, arith, inl, inr}
+use Rattle.std.proofs.Common.{◌≡◌, ℕ, ◌<◌, List, [], ◌∷◌, map, Option, Some, None, Result, Ok, Err, sym, ap, subst, ◌∙◌, arith, inl, inr}
 use Rattle.std.specs.List.{filter}
 use Rattle.std.proofs.lemmas.Bool.{cases_lt}
 use Rattle.std.proofs.lemmas.List.{append-nil}
 use Rattle.sf_model.specs.declared.content.Content.{Content}
 use Rattle.sf_model.specs.declared.function.Func.{Func}
-use Rattle.sf_model.specs.declared.machine.Arch.{Arch}
 use Rattle.sf_model.specs.declared.verdict.Verdict.{Verdict}
 use Rattle.sf_model.specs.declared.verdict.Verdict.TheVariants.{Agrees, Differs}
 use Rattle.sf_model.specs.Table.{Table}
@@ -15,14 +14,13 @@ use Rattle.sf_merge.specs.Located.{InOrder, has_bytes, located}
 use Rattle.sf_merge.proofs.OneOrder.{one_order as one_section_order}
 use Rattle.sf_asm.specs.declared.entry.Entry.{Entry}
 use Rattle.sf_asm.specs.declared.fault.GatherFault.{GatherFault}
-use Rattle.sf_asm.specs.Functions.{Function, Object, functions_of}
+use Rattle.sf_asm.specs.Functions.{Function, Object}
 use Rattle.sf_asm.specs.Inputs.{all_functions}
 use Rattle.sf_asm.specs.Kept.{entry_of}
-use Rattle.sf_asm.specs.Linking as linking
-use Rattle.sf_asm.specs.Linking.{Gathers, GathersFrom, functions_fault, unless_fault}
+use Rattle.sf_asm.specs.Linking.{GathersFrom, functions_fault, unless_fault}
 use Rattle.sf_asm.proofs.OneOrder.{one_order}
 use Rattle.sf_verify.specs.declared.fault.VerifyFault.{VerifyFault}
-use Rattle.sf_verify.specs.Agreement.{Agree, DifferFirst, IsVerdict, content_said}
+use Rattle.sf_verify.specs.Agreement.{DifferFirst, IsVerdict, content_said}
 use Rattle.sf_asm.specs.Said.{dwarf_at}
 use Rattle.sf_verify.specs.Said.{section_at}
 use Rattle.sf_verify.specs.Verifying.{Verifies, VerdictUnless, first_fault, section_fault, sized}

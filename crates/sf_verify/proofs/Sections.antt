@@ -1,15 +1,13 @@
 -- The functions of a section, in the order of their addresses.
 use Rattle.std.specs.Prelude.{nat_le, nat_lt, ◌&&◌, ◌||◌}
-use Rattle.std.specs.List.{All, AllPairs, enumerate_from, filter, find, list_any}
-use Rattle.std.specs.List.Sorted.{IsPermutation}
+use Rattle.std.specs.List.{All, filter, find, list_any}
 use Rattle.std.specs.Option.{option_and_then, option_map}
-use Rattle.std.proofs.Common.{◌≡◌, ℕ, zero, suc, ◌+◌, ◌<◌, ◌≤◌, Bool, true, false, cond, List, [], ◌∷◌, get_or, length, map, Option, Some, None, refl, sym, ap, subst, ◌∙◌, arith, inl, inr}
+use Rattle.std.proofs.Common.{◌≡◌, ℕ, suc, ◌+◌, ◌<◌, ◌≤◌, Bool, true, false, cond, List, [], ◌∷◌, get_or, length, map, Option, Some, None, refl, sym, ap, subst, ◌∙◌, arith, inl, inr}
 use Rattle.std.proofs.lemmas.Bool.{cases_lt, leb-true, ltb-true, lt-ltb}
 use Rattle.std.proofs.lemmas.List.{append-nil}
 use Rattle.std.proofs.lemmas.List.Elements.{All-nil, All-cons, All-head, All-tail, All-filter, filter_passes}
 use Rattle.std.proofs.lemmas.List.Sorted.{All-permutation, IsPermutation-map, list_any-IsPermutation}
 use Rattle.sf_model.specs.declared.function.Func.{Func}
-use Rattle.sf_model.specs.declared.machine.Arch.{Arch}
 use Rattle.sf_model.specs.Lookup.{contains, found_at, row_in_first}
 use Rattle.sf_model.specs.Table.{Table}
 use Rattle.sf_model.specs.Union.{all_functions}
@@ -19,12 +17,11 @@ use Rattle.sf_merge.specs.declared.located.Located.{Located}
 use Rattle.sf_merge.specs.Located.{InOrder, has_bytes, located}
 use Rattle.sf_merge.specs.Merging.{neighbours, overlap, overlap_fault, shared_by}
 use Rattle.sf_merge.specs.Views.{IsRead}
-use Rattle.sf_merge.proofs.Apart.{EndsBy, function_of, none_share}
+use Rattle.sf_merge.proofs.Apart.{none_share}
 use Rattle.sf_merge.proofs.Sound.{IsSound, all_sound}
 use Rattle.sf_merge.proofs.United.{functions_are}
-use Rattle.sf_asm.proofs.Finding.{Member, OnePasses, found_alike}
-use Rattle.sf_verify.specs.declared.fault.VerifyFault.{VerifyFault}
-use Rattle.sf_verify.specs.Comparing.{AreComparable, IsComparable, functions_in}
+use Rattle.sf_asm.proofs.Finding.{OnePasses, found_alike}
+use Rattle.sf_verify.specs.Comparing.{AreComparable, functions_in}
 use Rattle.sf_verify.specs.Counting.{StartsRise}
 use Rattle.sf_verify.specs.Said.{by_row, section_at}
 use Rattle.sf_verify.specs.Verifying as verifying

@@ -9,11 +9,11 @@ use Rattle.sf_model.specs.declared.function.Func.{Func}
 use Rattle.sf_model.specs.declared.function.Shape.{Shape}
 use Rattle.sf_model.specs.declared.function.Shape.TheVariants.{Plain, Repeat}
 use Rattle.sf_model.specs.declared.rows.Row.{Row}
-use Rattle.sf_model.specs.Lookup.{FoundRow, contains, found_at, offset_in_block, row_at, row_in_first}
+use Rattle.sf_model.specs.Lookup.{contains, found_at, offset_in_block, row_at, row_in_first}
 use Rattle.sf_merge.specs.declared.located.Located.{Located}
 use Rattle.sf_asm.specs.declared.said.Said.{Said}
 use Rattle.sf_verify.specs.declared.sweep.Difference.{Difference}
-use Rattle.sf_verify.specs.Agreement.{Agree, DifferFirst, content_said, is_plain, is_plain_shape}
+use Rattle.sf_verify.specs.Agreement.{Agree, DifferFirst, is_plain, is_plain_shape}
 use Rattle.sf_verify.specs.Comparing.{Compares, ComparesAll, DifferWithin, func_says, functions_in}
 use Rattle.sf_asm.specs.Said.{Answers}
 use Rattle.sf_verify.specs.Said.{by_row, section_at}

@@ -1,6 +1,6 @@
 -- Contents that are equal, with equal keys where they are signed, are those that recover alike.
-use Rattle.std.specs.Prelude.{◌&&◌, ◌||◌, not, IsTrue, ⊤}
-use Rattle.std.proofs.Common.{◌≡◌, ℕ, Bool, true, false, List, [], Option, Some, None, refl, sym, ap, subst, ◌∙◌, arith, rules}
+use Rattle.std.specs.Prelude.{◌&&◌, ◌||◌, not, IsTrue}
+use Rattle.std.proofs.Common.{◌≡◌, Bool, true, false, List, [], Some, refl, ap, ◌∙◌, rules}
 use Rattle.sf_model.specs.declared.machine.Arch.{Arch}
 use Rattle.sf_model.specs.declared.machine.Key.{Key}
 use Rattle.sf_model.specs.declared.machine.Key.TheVariants.{A, B}

@@ -1,10 +1,9 @@
 -- What verifying comes to, by what the code found.
-use Rattle.std.specs.Prelude.{IsTrue, not, ◌&&◌, ◌==◌, nat_lt}
-use Rattle.std.specs.List.{All, AllAdjacentBelow, filter, list_any}
+use Rattle.std.specs.Prelude.{◌&&◌, ◌==◌}
+use Rattle.std.specs.List.{AllAdjacentBelow, filter, list_any}
 use Rattle.std.specs.List.Sorted.{IsPermutation, IsSorted}
-use Rattle.std.specs.Option.{option_map}
-use Rattle.std.proofs.Common.{◌≡◌, ℕ, zero, suc, ◌+◌, ◌-◌, ◌<◌, ◌≤◌, Bool, true, false, cond, List, [], ◌∷◌, get_or, length, map, Option, Some, None, Result, Ok, Err, refl, sym, ap, subst, ◌∙◌, arith, inl, inr}
-use Rattle.std.proofs.lemmas.Bool.{eqb-true, ltb-true}
+use Rattle.std.proofs.Common.{◌≡◌, ℕ, zero, suc, ◌+◌, ◌-◌, ◌<◌, ◌≤◌, Bool, true, false, List, get_or, length, map, Option, Some, None, Ok, Err, refl, sym, ap, subst, ◌∙◌, arith, inl, inr}
+use Rattle.std.proofs.lemmas.Bool.{eqb-true}
 use Rattle.std.proofs.lemmas.List.Elements.{All-head}
 use Rattle.sf_model.specs.declared.function.Func.{Func}
 use Rattle.sf_model.specs.declared.machine.Arch.{Arch}
@@ -12,18 +11,16 @@ use Rattle.sf_model.specs.declared.omission.Omitted.{Omitted}
 use Rattle.sf_model.specs.declared.verdict.Verdict.{Verdict}
 use Rattle.sf_model.specs.declared.verdict.Verdict.TheVariants.{Agrees, Differs}
 use Rattle.sf_model.specs.Function.{AreWritable}
-use Rattle.sf_model.specs.Table.{Table}
 use Rattle.sf_decode.specs.declared.view.View.{View}
 use Rattle.sf_decode.specs.View.{section_bytes, table_of}
 use Rattle.sf_merge.specs.declared.located.Located.{Located}
 use Rattle.sf_merge.specs.Located.{InOrder, compared}
 use Rattle.sf_merge.specs.Views.{IsRead}
-use Rattle.sf_asm.specs.declared.entry.Entry.{Entry}
 use Rattle.sf_asm.specs.declared.fault.GatherFault.{GatherFault}
 use Rattle.sf_asm.specs.declared.fault.GatherFault.TheVariants as gather
 use Rattle.sf_asm.specs.declared.source.Source.{Source}
 use Rattle.sf_asm.specs.Answers.{IsFirstGathered}
-use Rattle.sf_asm.specs.Functions.{Function, Object, functions_of, machine_of}
+use Rattle.sf_asm.specs.Functions.{Function, Object, machine_of}
 use Rattle.sf_asm.specs.Inputs.{HaveMachine}
 use Rattle.sf_asm.specs.Kept.{entry_of, is_kept}
 use Rattle.sf_asm.specs.Sources.{AreWithSources, functions_lent}
@@ -31,14 +28,14 @@ use Rattle.sf_asm.proofs.Holding.{gathered_apart, kept_size}
 use Rattle.sf_asm.proofs.OneMachine.{machine_of_functions}
 use Rattle.sf_verify.specs.declared.fault.VerifyFault.{VerifyFault}
 use Rattle.sf_verify.specs.declared.fault.VerifyFault.TheVariants as verify
-use Rattle.sf_verify.specs.Agreement.{Agree, AgreeEverywhere, DifferFirst, IsVerdict, content_said, is_plain, stands_for}
+use Rattle.sf_verify.specs.Agreement.{Agree, DifferFirst, IsVerdict, content_said, is_plain, stands_for}
 use Rattle.sf_verify.specs.Asking.{AreHolders, answers_of}
 use Rattle.sf_verify.specs.Comparing.{AreComparable, functions_in}
 use Rattle.sf_verify.specs.Concluding.{IsVerdictBy}
 use Rattle.sf_verify.specs.Counting.{KeptRise, StartsRise, covers, is_absent}
 use Rattle.sf_asm.specs.Said.{Answers, dwarf_at}
 use Rattle.sf_verify.specs.Said.{section_at}
-use Rattle.sf_verify.specs.Verifying.{IsFirstFault, Verifies, VerdictUnless, first_fault, refused, section_fault, sized}
+use Rattle.sf_verify.specs.Verifying.{IsFirstFault, Verifies, VerdictUnless, refused, section_fault, sized}
 use Rattle.sf_verify.proofs.Counted.{missing_are}
 use Rattle.sf_verify.proofs.Gathered.{expressed_of, holders, holders_of_both, kept_are, same_answers}
 use Rattle.sf_verify.proofs.Sections.{any_sized, comparable, section_says, starts_rise}

@@ -4,7 +4,6 @@ use Rattle.sf_model.specs.declared.notice.Group.TheVariants as group
 use Rattle.sf_model.specs.FaultShown.{FaultShown}
 use Rattle.sf_decode.specs.declared.fault.DecodeFault.TheVariants as decode
 use Rattle.sf_decode.specs.Fault.{number_and_place}
-use Rattle.sf_asm.specs.declared.fault.GatherFault.{GatherFault}
 use Rattle.sf_asm.specs.Fault.{is_gather_refusal, is_wrapped_answered}
 use Rattle.sf_asm.specs.FaultShown.{shown_of_gathering, not_shown}
 use Rattle.sf_verify.specs.declared.fault.VerifyFault.{VerifyFault}

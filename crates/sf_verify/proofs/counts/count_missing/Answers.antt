@@ -1,6 +1,6 @@
 use Rattle.std.specs.Prelude.{not}
 use Rattle.std.specs.List.{filter, list_any}
-use Rattle.std.proofs.Common.{◌≡◌, ◌+◌, ◌≤◌, ◌<◌, Bool, cond, List, arith, get_or, length, take, ap, refl, sym, subst, rules, ◌∙◌}
+use Rattle.std.proofs.Common.{◌≡◌, ◌+◌, ◌≤◌, ◌<◌, Bool, arith, get_or, length, take, ap, sym, subst, ◌∙◌}
 use Rattle.std.proofs.lemmas.List.{get_or_default}
 use Rattle.std.proofs.lemmas.List.Filters.{length-filter_more}
 use Rattle.sf_model.specs.declared.function.Func.{Func}

@@ -1,9 +1,8 @@
-use Rattle.std.proofs.Common.{◌≡◌, ◌+◌, ◌≤◌, ◌<◌, Bool, cond, List, arith, get_or, length, take, ap, sym, ◌∙◌}
+use Rattle.std.proofs.Common.{◌≡◌, ◌+◌, ◌<◌, Bool, arith, get_or, length, take, ap, sym, ◌∙◌}
 use Rattle.std.specs.List.{filter}
 use Rattle.std.proofs.lemmas.List.Filters.{length-filter_more}
-use Rattle.sf_model.specs.declared.function.Func.{Func}
 use Rattle.sf_model.specs.declared.function.FuncHead.{FuncHead}
-use Rattle.sf_decode.specs.View.{function_of, head_of, table_of}
+use Rattle.sf_decode.specs.View.{function_of, table_of}
 use Rattle.sf_verify.specs.Agreement.{is_plain, is_plain_shape}
 use Rattle.sf_verify.proofs.Counted.{one_if, taken_most}
 use Rattle.sf_verify.proofs.counts.count_plain.Goals as goal

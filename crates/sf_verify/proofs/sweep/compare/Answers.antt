@@ -1,8 +1,5 @@
-use Rattle.std.proofs.Common.{◌≡◌, ◌+◌, ◌<◌, List, Option, None, false, true, ap, refl, sym, subst, ◌∙◌, arith, rules}
+use Rattle.std.proofs.Common.{◌≡◌, ◌+◌, None, sym, subst, ◌∙◌, arith}
 use Rattle.sf_merge.specs.declared.located.Located.{Located}
-use Rattle.sf_verify.specs.declared.dwarf.Dwarf.{Dwarf}
-use Rattle.sf_verify.specs.declared.sweep.Difference.{Difference}
-use Rattle.sf_verify.specs.Agreement.{is_plain}
 use Rattle.sf_verify.specs.Asking.{IsReady, says}
 use Rattle.sf_verify.specs.Comparing.{Compares, func_says, functions_in}
 use Rattle.sf_asm.specs.Said.{Answers}

@@ -1,8 +1,7 @@
 use Rattle.std.specs.List.{filter}
-use Rattle.std.proofs.Common.{◌≡◌, ◌-◌, ◌≤◌, List, Option, None, Some, arith, length, ap, refl, sym, subst, ◌∙◌}
+use Rattle.std.proofs.Common.{◌≡◌, List, Option, None, arith, length, ap, subst, ◌∙◌}
 use Rattle.sf_model.specs.declared.function.Func.{Func}
 use Rattle.sf_decode.specs.View.{table_of}
-use Rattle.sf_merge.specs.declared.located.Located.{Located}
 use Rattle.sf_asm.specs.declared.source.Source.{Source}
 use Rattle.sf_asm.specs.Sources.{functions_lent}
 use Rattle.sf_verify.specs.declared.sweep.Difference.{Difference}

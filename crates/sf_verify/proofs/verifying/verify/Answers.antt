@@ -1,5 +1,5 @@
 use Rattle.std.specs.Prelude.{IsTrue}
-use Rattle.std.proofs.Common.{◌≡◌, ◌∙◌, List, map, sym, subst}
+use Rattle.std.proofs.Common.{◌∙◌, List, map, sym, subst}
 use Rattle.sf_merge.specs.declared.located.Located.{Located}
 use Rattle.sf_asm.specs.Functions.{object_of}
 use Rattle.sf_decode.specs.View.{section_bytes}
