@@ -13,10 +13,11 @@ use Rattle.sf_plt.specs.Answers.{IsFirstPltLinked, others_in, span_of}
 use Rattle.sf_plt.specs.Plt.{is_plt}
 use Rattle.sf_plt.specs.Sorting.{AreOmitted}
 use Rattle.sf_plt.specs.Written.{plt_pair, written_functions}
-use Rattle.sf_plt.proofs.Faults.{counted, first_gathered, machine_of_lent, made, out_of_reach, over, plt_linked, ready, tables_counted}
+use Rattle.sf_plt.proofs.Faults.{Made, counted, first_gathered, machine_of_lent, made, out_of_reach, over, plt_linked, ready, tables_counted}
 use Rattle.sf_plt.proofs.NeverMemory.{first_is_answered}
 use Rattle.sf_plt.proofs.Sorted.{are_omitted, lines_alone}
 use Rattle.sf_plt.proofs.linking.link_plt.Goals as goal
+use Rattle.sf_plt.proofs.linking.link_plt.Goals.{After-deref-4, After-len-tables}
 
 pub returns-in-Err-clause-fault : goal.returns-in-Err-clause-fault
 returns-in-Err-clause-fault c =
@@ -41,100 +42,76 @@ sort_out-requires-clause-machine c =
     subst (λ (ss : List Source). All (λ (f : Function). f.arch ≡ found.arch) (functions_lent ss)) (sym c.deref-3.ensures.value)
     (machine_of_lent c.args.before (map object_of c.args.inputs.now) found.arch found.kept.items found.omitted.items (functions_lent found.sources.items) c.in-Ok.ensures.gathered c.in-Ok.ensures.machine)
 
+-- the functions that are lent
+abbrev lent : After-len-tables → List Function
+lent c = functions_lent c.in-Ok.gathered.sources.items
+
+same : (c : After-len-tables) → functions_lent c.deref-3.result.now ≡ lent c
+same c = ap functions_lent c.deref-3.ensures.value
+
+functions : (c : After-len-tables) → c.len-count.result + c.len.result ≡ length c.in-Ok.gathered.kept.items + length c.in-Ok.gathered.omitted.items
+functions c =
+    let kept_long : c.len-count.result ≡ length c.in-Ok.gathered.kept.items = c.len-count.ensures ∙ c.in-Ok.gathered.kept.ok.0 in
+    let omitted_long : c.len.result ≡ length c.in-Ok.gathered.omitted.items = c.len.ensures ∙ c.in-Ok.gathered.omitted.ok.0 in
+    omega (arith, kept_long, omitted_long)
+
+rows : (c : After-len-tables) → c.count_rows-rows.result ≡ row_count c.in-Ok.gathered.kept.items
+rows c = c.count_rows-rows.ensures ∙ ap row_count c.deref.ensures.value
+
+plts : (c : After-len-tables) → c.in-Ok-sort_out.sorted.plts.items ≡ map span_of (filter is_plt (lent c))
+plts c = c.in-Ok-sort_out.ensures.plts ∙ ap (λ (fs : List Function). map span_of (filter is_plt fs)) (same c)
+
+tables : (c : After-len-tables) → c.len-tables.result ≡ length (filter is_plt (lent c))
+tables c = tables_counted c.len-tables.result c.in-Ok-sort_out.sorted.plts.items (lent c) (c.len-tables.ensures ∙ c.in-Ok-sort_out.sorted.plts.ok.0) (plts c)
+
+-- what is written, in order
+in_order : (c : After-deref-4) → Made c.in-Ok.gathered.arch c.in-Ok.ensures.gathered.sorted c.order.new.functions.items
+in_order c =
+    let found = c.in-Ok.gathered in
+    let before = (goal.at.After-deref-4 c).After-len-tables in
+    let written : c.in-Ok-sort_out.sorted.written.items ≡ found.kept.items ++ flat_map plt_pair (filter is_plt (lent before)) = c.in-Ok-sort_out.ensures.written ∙ ap (λ (fs : List Function). found.kept.items ++ flat_map plt_pair (filter is_plt fs)) (same before) in
+    made c.args.before (map object_of c.args.inputs.now) found.arch found.kept.items found.omitted.items (lent before) c.in-Ok.ensures.gathered (c.len-count.result + c.len.result) c.count_rows-rows.result c.len-tables.result
+    (functions before) (rows before) (tables before) c.in-Ok-check_tables.field-0 c.in-Ok-check_tables.ensures
+    c.in-Ok-sort_out.sorted.written.items c.order.new.functions.items written c.in-Ok-sort_out.ensures.sound c.in-Ok-order.ensures.moved c.in-Ok-order.ensures.rising c.in-Ok-order.ensures.stable
+
 pub check_tables-requires : goal.check_tables-requires
 check_tables-requires c =
     let found = c.in-Ok.gathered in
-    let objects = map object_of c.args.inputs.now in
-    let lent = functions_lent found.sources.items in
-    let g = c.in-Ok.ensures.gathered in
-    let kept_long : c.len-count.result ≡ length found.kept.items = c.len-count.ensures ∙ found.kept.ok.0 in
-    let omitted_long : c.len.result ≡ length found.omitted.items = c.len.ensures ∙ found.omitted.ok.0 in
-    let functions : c.len-count.result + c.len.result ≡ length found.kept.items + length found.omitted.items = omega (arith, kept_long, omitted_long) in
-    let rows : c.count_rows-rows.result ≡ row_count found.kept.items = c.count_rows-rows.ensures ∙ ap row_count c.deref.ensures.value in
-    let same : functions_lent c.deref-3.result.now ≡ lent = ap functions_lent c.deref-3.ensures.value in
-    let sorted = c.in-Ok-sort_out.sorted in
-    let plts : sorted.plts.items ≡ map span_of (filter is_plt lent) = c.in-Ok-sort_out.ensures.plts ∙ ap (λ (fs : List Function). map span_of (filter is_plt fs)) same in
-    let tables = tables_counted c.len-tables.result sorted.plts.items lent (c.len-tables.ensures ∙ sorted.plts.ok.0) plts in
-    let k = counted c.args.before objects found.arch found.kept.items found.omitted.items lent g (c.len-count.result + c.len.result) c.count_rows-rows.result c.len-tables.result functions rows tables in
+    let before = (goal.at.check_tables-requires c).After-len-tables in
+    let k = counted c.args.before (map object_of c.args.inputs.now) found.arch found.kept.items found.omitted.items (lent before) c.in-Ok.ensures.gathered (c.len-count.result + c.len.result) c.count_rows-rows.result c.len-tables.result
+    (functions before) (rows before) (tables before) in
     (omega (arith, k.few), omega (arith, k.few_rows), omega (arith, k.few_tables))
 
 pub returns-in-Err-check_tables-clause-fault : goal.returns-in-Err-check_tables-clause-fault
 returns-in-Err-check_tables-clause-fault c =
     let found = c.in-Ok.gathered in
-    let objects = map object_of c.args.inputs.now in
-    let lent = functions_lent found.sources.items in
-    let g = c.in-Ok.ensures.gathered in
-    let kept_long : c.len-count.result ≡ length found.kept.items = c.len-count.ensures ∙ found.kept.ok.0 in
-    let omitted_long : c.len.result ≡ length found.omitted.items = c.len.ensures ∙ found.omitted.ok.0 in
-    let functions : c.len-count.result + c.len.result ≡ length found.kept.items + length found.omitted.items = omega (arith, kept_long, omitted_long) in
-    let rows : c.count_rows-rows.result ≡ row_count found.kept.items = c.count_rows-rows.ensures ∙ ap row_count c.deref.ensures.value in
-    let same : functions_lent c.deref-3.result.now ≡ lent = ap functions_lent c.deref-3.ensures.value in
-    let sorted = c.in-Ok-sort_out.sorted in
-    let plts : sorted.plts.items ≡ map span_of (filter is_plt lent) = c.in-Ok-sort_out.ensures.plts ∙ ap (λ (fs : List Function). map span_of (filter is_plt fs)) same in
-    let tables = tables_counted c.len-tables.result sorted.plts.items lent (c.len-tables.ensures ∙ sorted.plts.ok.0) plts in
-    over c.args.before objects c.args.at found.arch found.kept.items found.omitted.items lent g (c.len-count.result + c.len.result) c.count_rows-rows.result c.len-tables.result functions rows tables c.in-Err-check_tables.fault c.in-Err-check_tables.ensures
+    let before = (goal.at.returns-in-Err-check_tables-clause-fault c).After-len-tables in
+    over c.args.before (map object_of c.args.inputs.now) c.args.at found.arch found.kept.items found.omitted.items (lent before) c.in-Ok.ensures.gathered (c.len-count.result + c.len.result) c.count_rows-rows.result c.len-tables.result
+    (functions before) (rows before) (tables before) c.in-Err-check_tables.fault c.in-Err-check_tables.ensures
 
 pub returns-in-Err-check_tables-clause-answered : goal.returns-in-Err-check_tables-clause-answered
 returns-in-Err-check_tables-clause-answered c = first_is_answered c.args.before (map object_of c.args.inputs.now) c.args.at _ (returns-in-Err-check_tables-clause-fault c)
 
 pub write-requires : goal.write-requires
-write-requires c =
-    let found = c.in-Ok.gathered in
-    let objects = map object_of c.args.inputs.now in
-    let lent = functions_lent found.sources.items in
-    let g = c.in-Ok.ensures.gathered in
-    let kept_long : c.len-count.result ≡ length found.kept.items = c.len-count.ensures ∙ found.kept.ok.0 in
-    let omitted_long : c.len.result ≡ length found.omitted.items = c.len.ensures ∙ found.omitted.ok.0 in
-    let functions : c.len-count.result + c.len.result ≡ length found.kept.items + length found.omitted.items = omega (arith, kept_long, omitted_long) in
-    let rows : c.count_rows-rows.result ≡ row_count found.kept.items = c.count_rows-rows.ensures ∙ ap row_count c.deref.ensures.value in
-    let same : functions_lent c.deref-3.result.now ≡ lent = ap functions_lent c.deref-3.ensures.value in
-    let sorted = c.in-Ok-sort_out.sorted in
-    let plts : sorted.plts.items ≡ map span_of (filter is_plt lent) = c.in-Ok-sort_out.ensures.plts ∙ ap (λ (fs : List Function). map span_of (filter is_plt fs)) same in
-    let tables = tables_counted c.len-tables.result sorted.plts.items lent (c.len-tables.ensures ∙ sorted.plts.ok.0) plts in
-    let written : sorted.written.items ≡ found.kept.items ++ flat_map plt_pair (filter is_plt lent) = c.in-Ok-sort_out.ensures.written ∙ ap (λ (fs : List Function). found.kept.items ++ flat_map plt_pair (filter is_plt fs)) same in
-    let m = made c.args.before objects found.arch found.kept.items found.omitted.items lent g (c.len-count.result + c.len.result) c.count_rows-rows.result c.len-tables.result functions rows tables c.in-Ok-check_tables.field-0 c.in-Ok-check_tables.ensures
-    sorted.written.items c.order.new.functions.items written c.in-Ok-sort_out.ensures.sound c.in-Ok-order.ensures.moved c.in-Ok-order.ensures.rising c.in-Ok-order.ensures.stable in
-    subst (AreWritable found.arch) (sym c.deref-4.ensures.value) m.writable
+write-requires c = subst (AreWritable c.in-Ok.gathered.arch) (sym c.deref-4.ensures.value) (in_order c).writable
 
 pub returns-in-Ok-write-clause-linked : goal.returns-in-Ok-write-clause-linked
 returns-in-Ok-write-clause-linked c =
     let found = c.in-Ok.gathered in
-    let objects = map object_of c.args.inputs.now in
-    let lent = functions_lent found.sources.items in
-    let g = c.in-Ok.ensures.gathered in
-    let kept_long : c.len-count.result ≡ length found.kept.items = c.len-count.ensures ∙ found.kept.ok.0 in
-    let omitted_long : c.len.result ≡ length found.omitted.items = c.len.ensures ∙ found.omitted.ok.0 in
-    let functions : c.len-count.result + c.len.result ≡ length found.kept.items + length found.omitted.items = omega (arith, kept_long, omitted_long) in
-    let rows : c.count_rows-rows.result ≡ row_count found.kept.items = c.count_rows-rows.ensures ∙ ap row_count c.deref.ensures.value in
-    let same : functions_lent c.deref-3.result.now ≡ lent = ap functions_lent c.deref-3.ensures.value in
     let sorted = c.in-Ok-sort_out.sorted in
-    let plts : sorted.plts.items ≡ map span_of (filter is_plt lent) = c.in-Ok-sort_out.ensures.plts ∙ ap (λ (fs : List Function). map span_of (filter is_plt fs)) same in
-    let tables = tables_counted c.len-tables.result sorted.plts.items lent (c.len-tables.ensures ∙ sorted.plts.ok.0) plts in
-    let written : sorted.written.items ≡ found.kept.items ++ flat_map plt_pair (filter is_plt lent) = c.in-Ok-sort_out.ensures.written ∙ ap (λ (fs : List Function). found.kept.items ++ flat_map plt_pair (filter is_plt fs)) same in
-    let m = made c.args.before objects found.arch found.kept.items found.omitted.items lent g (c.len-count.result + c.len.result) c.count_rows-rows.result c.len-tables.result functions rows tables c.in-Ok-check_tables.field-0 c.in-Ok-check_tables.ensures
-    sorted.written.items c.order.new.functions.items written c.in-Ok-sort_out.ensures.sound c.in-Ok-order.ensures.moved c.in-Ok-order.ensures.rising c.in-Ok-order.ensures.stable in
+    let before = (goal.at.returns-in-Ok-write-clause-linked c).After-len-tables in
+    let m = in_order (goal.at.returns-in-Ok-write-clause-linked c).After-deref-4 in
     let section = rw c.deref-4.ensures.value at c.in-Ok-write.ensures in
-    let omitted : sorted.omitted.items ≡ omitted_of (map entry_of (others_in lent)) = c.in-Ok-sort_out.ensures.omitted ∙ ap (λ (fs : List Function). omitted_of (map entry_of (others_in fs))) same in
-    plt_linked c.args.before objects c.args.at c.in-Ok-write.section.items c.len-count.result sorted.omitted.items sorted.plts.items found.arch found.kept.items found.omitted.items lent g c.in-Ok.ensures.machine c.order.new.functions.items m.is m.few
-    section.section section.tight section.narrow section.in_reach kept_long omitted plts
+    let omitted : sorted.omitted.items ≡ omitted_of (map entry_of (others_in (lent before))) = c.in-Ok-sort_out.ensures.omitted ∙ ap (λ (fs : List Function). omitted_of (map entry_of (others_in fs))) (same before) in
+    plt_linked c.args.before (map object_of c.args.inputs.now) c.args.at c.in-Ok-write.section.items c.len-count.result sorted.omitted.items sorted.plts.items found.arch found.kept.items found.omitted.items (lent before) c.in-Ok.ensures.gathered
+    c.in-Ok.ensures.machine c.order.new.functions.items m.is m.few section.section section.tight section.narrow section.in_reach (c.len-count.ensures ∙ found.kept.ok.0) omitted (plts before)
 
 pub returns-in-Err-OutOfReach-clause-fault : goal.returns-in-Err-OutOfReach-clause-fault
 returns-in-Err-OutOfReach-clause-fault c =
     let found = c.in-Ok.gathered in
-    let objects = map object_of c.args.inputs.now in
-    let lent = functions_lent found.sources.items in
     let g = c.in-Ok.ensures.gathered in
-    let kept_long : c.len-count.result ≡ length found.kept.items = c.len-count.ensures ∙ found.kept.ok.0 in
-    let omitted_long : c.len.result ≡ length found.omitted.items = c.len.ensures ∙ found.omitted.ok.0 in
-    let functions : c.len-count.result + c.len.result ≡ length found.kept.items + length found.omitted.items = omega (arith, kept_long, omitted_long) in
-    let rows : c.count_rows-rows.result ≡ row_count found.kept.items = c.count_rows-rows.ensures ∙ ap row_count c.deref.ensures.value in
-    let same : functions_lent c.deref-3.result.now ≡ lent = ap functions_lent c.deref-3.ensures.value in
-    let sorted = c.in-Ok-sort_out.sorted in
-    let plts : sorted.plts.items ≡ map span_of (filter is_plt lent) = c.in-Ok-sort_out.ensures.plts ∙ ap (λ (fs : List Function). map span_of (filter is_plt fs)) same in
-    let tables = tables_counted c.len-tables.result sorted.plts.items lent (c.len-tables.ensures ∙ sorted.plts.ok.0) plts in
-    let written : sorted.written.items ≡ found.kept.items ++ flat_map plt_pair (filter is_plt lent) = c.in-Ok-sort_out.ensures.written ∙ ap (λ (fs : List Function). found.kept.items ++ flat_map plt_pair (filter is_plt fs)) same in
-    let m = made c.args.before objects found.arch found.kept.items found.omitted.items lent g (c.len-count.result + c.len.result) c.count_rows-rows.result c.len-tables.result functions rows tables c.in-Ok-check_tables.field-0 c.in-Ok-check_tables.ensures
-    sorted.written.items c.order.new.functions.items written c.in-Ok-sort_out.ensures.sound c.in-Ok-order.ensures.moved c.in-Ok-order.ensures.rising c.in-Ok-order.ensures.stable in
+    let objects = map object_of c.args.inputs.now in
+    let m = in_order (goal.at.returns-in-Err-OutOfReach-clause-fault c).After-deref-4 in
     let far : first_out_of_reach c.args.at 0 (written_functions g.sorted) ≡ Some c.in-Err-OutOfReach.start =
     ap (first_out_of_reach c.args.at 0) (sym m.is ∙ sym c.deref-4.ensures.value) ∙ reach_refused c.in-Err-OutOfReach.field-0 c.in-Err-OutOfReach.start _ c.in-Err-OutOfReach.field-0-is c.in-Err-OutOfReach.ensures.fault ∙ ap Some (sym c.in-Err-OutOfReach.start-is) in
-    inr (out_of_reach c.args.before objects c.args.at g.functions g.sorted c.in-Err-OutOfReach.start (ready c.args.before objects found.arch found.kept.items found.omitted.items lent g) g.by_start m.few far)
+    inr (out_of_reach c.args.before objects c.args.at g.functions g.sorted c.in-Err-OutOfReach.start (ready c.args.before objects found.arch found.kept.items found.omitted.items (functions_lent found.sources.items) g) g.by_start m.few far)
