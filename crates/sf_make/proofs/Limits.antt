@@ -1,13 +1,17 @@
 -- What the limits of loading say of items that exceed none.
 use Rattle.std.specs.Prelude.{nat_lt}
-use Rattle.std.proofs.Common.{◌≡◌, ℕ, ◌<◌, ◌≤◌, Bool, true, false, cond, List, Some, None, refl, ap, sym, ◌∙◌, arith}
+use Rattle.std.proofs.Common.{Vec, Global, ◌≡◌, ℕ, ◌<◌, ◌≤◌, Bool, true, false, cond, List, length, Some, None, refl, ap, sym, subst, ◌∙◌, arith}
 use Rattle.std.proofs.lemmas.Bool.{lt-ltb}
 use Rattle.std.proofs.lemmas.Bool.Decides.{nat_tests}
+use Rattle.std.proofs.lemmas.List.{length-map}
 use Rattle.sf_items.specs.declared.refusal.Limit.TheVariants.{Inputs}
 use Rattle.sf_items.specs.Loading.{items_limit}
+use Rattle.sf_words.specs.declared.asked.Asked.{Asked}
 use Rattle.sf_words.specs.Items.{counted_items, items_of}
+use Rattle.sf_words.specs.Parsed.{words_of}
 use Rattle.sf_words.specs.Words.{CommandWords}
 use Rattle.sf_make.specs.Comes.{command_limit}
+use Rattle.sf_make.proofs.Linked.{bytes_of}
 
 by_count : (command : CommandWords) (items : List (List ℕ)) (many : Bool) → nat_lt 512 (counted_items command) ≡ many → command_limit command items ≡ cond many (Some Inputs) (items_limit (items_of command) items)
 unfolding command_limit
@@ -31,3 +35,18 @@ few_limit command items h = by_count command items false (few (counted_items com
 
 pub many_limit : (command : CommandWords) (items : List (List ℕ)) → 512 < counted_items command → command_limit command items ≡ Some Inputs
 many_limit command items h = by_count command items true (lt-ltb 512 (counted_items command) h)
+
+-- a command that was asked for: it has few items, these exceed no limit, and there are as many as its words name
+pub record Within (command : CommandWords) (items : List (Vec ℕ Global)) : Type 0 where
+  pub few : counted_items command ≤ 512
+  pub limit : items_limit (items_of command) (bytes_of items) ≡ None
+  pub count : length items ≡ length (items_of command)
+
+pub within : (items : List (Vec ℕ Global)) {given asked : Asked} → given ≡ asked → command_limit (words_of given) (bytes_of items) ≡ None → length (bytes_of items) ≡ length (items_of (words_of given)) → Within (words_of asked) items
+within items {given} {asked} is none count =
+    let limits = within_limits (words_of asked) (bytes_of items) (subst (λ (a : Asked). command_limit (words_of a) (bytes_of items) ≡ None) is none) in
+    record {
+      few = limits.0;
+      limit = limits.1;
+      count = sym (length-map items (λ v. v.items)) ∙ count ∙ ap (λ (a : Asked). length (items_of (words_of a))) is;
+    }

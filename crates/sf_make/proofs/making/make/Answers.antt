@@ -2,15 +2,12 @@ use Rattle.std.proofs.Common.{Vec, Global, ◌≡◌, ◌-◌, ℕ, suc, List, �
 use Rattle.std.proofs.Math.ListN.{get_or-map}
 use Rattle.std.proofs.lemmas.List.{length-map}
 use Rattle.sf_items.specs.Loading.{bytes_limit, items_limit, of_kinds}
-use Rattle.sf_words.specs.declared.asked.Asked.{Asked}
-use Rattle.sf_words.specs.declared.asked.Asked.TheVariants as asked
 use Rattle.sf_words.specs.declared.item.ItemKind.TheVariants as kind
 use Rattle.sf_words.specs.declared.words.InputFile.{InputFile}
-use Rattle.sf_words.specs.Items.{file_item, input_item, items_of, section_item}
-use Rattle.sf_words.specs.Parsed.{input_of, section_of, walk_of, words_of}
-use Rattle.sf_make.specs.Comes.{command_limit}
+use Rattle.sf_words.specs.Items.{file_item, input_item, section_item}
+use Rattle.sf_words.specs.Parsed.{input_of, section_of, walk_of}
 use Rattle.sf_make.proofs.Backtraces.{behind_count, within_behind}
-use Rattle.sf_make.proofs.Limits.{within_limits}
+use Rattle.sf_make.proofs.Limits.{within}
 use Rattle.sf_make.proofs.Linked.{bytes_of}
 use Rattle.sf_make.proofs.Verified.{within_after}
 use Rattle.sf_make.proofs.Walks.{core_short}
@@ -18,50 +15,37 @@ use Rattle.sf_make.proofs.making.make.Goals as goal
 
 pub link_made-requires-clause-few : goal.link_made-requires-clause-few
 link_made-requires-clause-few c =
-    let within = subst (λ (a : Asked). command_limit (words_of a) (bytes_of c.args.items.now) ≡ None) c.in-Link.is c.requires.within in
-    let limits = within_limits (words_of (asked.Link c.in-Link.link)) (bytes_of c.args.items.now) within in
-    let count = subst (λ (a : Asked). length (bytes_of c.args.items.now) ≡ length (items_of (words_of a))) c.in-Link.is c.requires.items.count in
+    let w = within c.args.items.now c.in-Link.is c.requires.within c.requires.items.count in
     let inputs = length-map (map input_of c.in-Link.link.inputs.items) input_item in
-    let items = length-map c.args.items.now (λ v. v.items) in
-    omega (arith, limits.0, count, inputs, items)
+    omega (arith, w.few, w.count, inputs)
 
 pub link_made-requires-clause-within : goal.link_made-requires-clause-within
 link_made-requires-clause-within c =
-    let within = subst (λ (a : Asked). command_limit (words_of a) (bytes_of c.args.items.now) ≡ None) c.in-Link.is c.requires.within in
-    let limits = within_limits (words_of (asked.Link c.in-Link.link)) (bytes_of c.args.items.now) within in
-    subst (λ (files : List InputFile). items_limit (map input_item (map input_of files)) (bytes_of c.args.items.now) ≡ None) (sym c.deref.ensures.value) limits.1
+    let w = within c.args.items.now c.in-Link.is c.requires.within c.requires.items.count in
+    subst (λ (files : List InputFile). items_limit (map input_item (map input_of files)) (bytes_of c.args.items.now) ≡ None) (sym c.deref.ensures.value) w.limit
 
 pub link_plt_made-requires-clause-few : goal.link_plt_made-requires-clause-few
 link_plt_made-requires-clause-few c =
-    let within = subst (λ (a : Asked). command_limit (words_of a) (bytes_of c.args.items.now) ≡ None) c.in-LinkPlt.is c.requires.within in
-    let limits = within_limits (words_of (asked.LinkPlt c.in-LinkPlt.link)) (bytes_of c.args.items.now) within in
-    let count = subst (λ (a : Asked). length (bytes_of c.args.items.now) ≡ length (items_of (words_of a))) c.in-LinkPlt.is c.requires.items.count in
+    let w = within c.args.items.now c.in-LinkPlt.is c.requires.within c.requires.items.count in
     let inputs = length-map (map input_of c.in-LinkPlt.link.inputs.items) input_item in
-    let items = length-map c.args.items.now (λ v. v.items) in
-    omega (arith, limits.0, count, inputs, items)
+    omega (arith, w.few, w.count, inputs)
 
 pub link_plt_made-requires-clause-within : goal.link_plt_made-requires-clause-within
 link_plt_made-requires-clause-within c =
-    let within = subst (λ (a : Asked). command_limit (words_of a) (bytes_of c.args.items.now) ≡ None) c.in-LinkPlt.is c.requires.within in
-    let limits = within_limits (words_of (asked.LinkPlt c.in-LinkPlt.link)) (bytes_of c.args.items.now) within in
-    subst (λ (files : List InputFile). items_limit (map input_item (map input_of files)) (bytes_of c.args.items.now) ≡ None) (sym c.deref-in-LinkPlt.ensures.value) limits.1
+    let w = within c.args.items.now c.in-LinkPlt.is c.requires.within c.requires.items.count in
+    subst (λ (files : List InputFile). items_limit (map input_item (map input_of files)) (bytes_of c.args.items.now) ≡ None) (sym c.deref-in-LinkPlt.ensures.value) w.limit
 
 pub merge_made-requires-clause-few : goal.merge_made-requires-clause-few
 merge_made-requires-clause-few c =
-    let within = subst (λ (a : Asked). command_limit (words_of a) (bytes_of c.args.items.now) ≡ None) c.in-Merge.is c.requires.within in
-    let limits = within_limits (words_of (asked.Merge c.in-Merge.merge)) (bytes_of c.args.items.now) within in
-    let count = subst (λ (a : Asked). length (bytes_of c.args.items.now) ≡ length (items_of (words_of a))) c.in-Merge.is c.requires.items.count in
+    let w = within c.args.items.now c.in-Merge.is c.requires.within c.requires.items.count in
     let sections = length-map (map section_of c.in-Merge.merge.sections.items) section_item in
-    let items = length-map c.args.items.now (λ v. v.items) in
-    omega (arith, limits.0, count, sections, items)
+    omega (arith, w.few, w.count, sections)
 
 pub walk_made-requires : goal.walk_made-requires
 walk_made-requires c =
-    let within = subst (λ (a : Asked). command_limit (words_of a) (bytes_of c.args.items.now) ≡ None) c.in-Walk.is c.requires.within in
-    let limits = within_limits (words_of (asked.Walk c.in-Walk.walk)) (bytes_of c.args.items.now) within in
-    let count = subst (λ (a : Asked). length (bytes_of c.args.items.now) ≡ length (items_of (words_of a))) c.in-Walk.is c.requires.items.count in
+    let w = within c.args.items.now c.in-Walk.is c.requires.within c.requires.items.count in
     let core = c.index-items-1.result in
-    let short = core_short (walk_of c.in-Walk.walk) (bytes_of c.args.items.now) core.items count limits.1 in
+    let short = core_short (walk_of c.in-Walk.walk) (bytes_of c.args.items.now) core.items (length-map c.args.items.now (λ v. v.items) ∙ w.count) w.limit in
     let second : c.deref-in-Walk-2.result.now ≡ get_or (bytes_of c.args.items.now) 1 core.items =
     c.deref-in-Walk-2.ensures.value ∙ ap (λ (v : Vec ℕ Global). v.items) c.index-items-1.is ∙ sym (get_or-map (λ (v : Vec ℕ Global). v.items) c.args.items.now 1 core) in
     let long = ap length second in
@@ -70,76 +54,61 @@ walk_made-requires c =
 pub backtrace_made-requires-clause-few : goal.backtrace_made-requires-clause-few
 backtrace_made-requires-clause-few c =
     let inputs = map input_of c.in-Backtrace.backtrace.inputs.items in
-    let within = subst (λ (a : Asked). command_limit (words_of a) (bytes_of c.args.items.now) ≡ None) c.in-Backtrace.is c.requires.within in
-    let limits = within_limits (words_of (asked.Backtrace c.in-Backtrace.backtrace)) (bytes_of c.args.items.now) within in
-    let count = subst (λ (a : Asked). length (bytes_of c.args.items.now) ≡ length (items_of (words_of a))) c.in-Backtrace.is c.requires.items.count in
-    let all = sym (length-map c.args.items.now (λ v. v.items)) ∙ count ∙ ap (λ (n : ℕ). suc n) (length-map inputs input_item) in
+    let w = within c.args.items.now c.in-Backtrace.is c.requires.within c.requires.items.count in
+    let all = w.count ∙ ap (λ (n : ℕ). suc n) (length-map inputs input_item) in
     let behind = behind_count c.args.items.now (length inputs) all in
-    omega (arith, limits.0, behind)
+    omega (arith, w.few, behind)
 
 pub backtrace_made-requires-clause-within : goal.backtrace_made-requires-clause-within
 backtrace_made-requires-clause-within c =
     let backtrace = c.in-Backtrace.backtrace in
     let inputs = map input_of backtrace.inputs.items in
-    let within = subst (λ (a : Asked). command_limit (words_of a) (bytes_of c.args.items.now) ≡ None) c.in-Backtrace.is c.requires.within in
-    let limits = within_limits (words_of (asked.Backtrace backtrace)) (bytes_of c.args.items.now) within in
-    let count = subst (λ (a : Asked). length (bytes_of c.args.items.now) ≡ length (items_of (words_of a))) c.in-Backtrace.is c.requires.items.count in
-    let all = sym (length-map c.args.items.now (λ v. v.items)) ∙ count in
+    let w = within c.args.items.now c.in-Backtrace.is c.requires.within c.requires.items.count in
     let core = c.index-items-0-in-Backtrace.result in
     let first : c.deref-in-Backtrace-2.result.now ≡ (get_or c.args.items.now 0 core).items =
     c.deref-in-Backtrace-2.ensures.value ∙ ap (λ (v : Vec ℕ Global). v.items) c.index-items-0-in-Backtrace.is in
     let behind = bytes_of (take (length c.args.items.now - 1) (drop 1 c.args.items.now)) in
     subst (λ (files : List InputFile). bytes_limit 0 0 ((kind.Core, c.deref-in-Backtrace-2.result.now) ∷ of_kinds (map input_item (map input_of files)) behind) ≡ None) (sym c.deref-in-Backtrace.ensures.value)
     (subst (λ (b : List ℕ). bytes_limit 0 0 ((kind.Core, b) ∷ of_kinds (map input_item inputs) behind) ≡ None) (sym first)
-    (within_behind backtrace.core.now (map input_item inputs) c.args.items.now core (length (map input_item inputs)) all limits.1))
+    (within_behind backtrace.core.now (map input_item inputs) c.args.items.now core (length (map input_item inputs)) w.count w.limit))
 
 pub procwalk_made-requires-clause-few : goal.procwalk_made-requires-clause-few
 procwalk_made-requires-clause-few c =
     let files = map string_bytes c.in-Procwalk.procwalk.files.now in
-    let within = subst (λ (a : Asked). command_limit (words_of a) (bytes_of c.args.items.now) ≡ None) c.in-Procwalk.is c.requires.within in
-    let limits = within_limits (words_of (asked.Procwalk c.in-Procwalk.procwalk)) (bytes_of c.args.items.now) within in
-    let count = subst (λ (a : Asked). length (bytes_of c.args.items.now) ≡ length (items_of (words_of a))) c.in-Procwalk.is c.requires.items.count in
-    let all = sym (length-map c.args.items.now (λ v. v.items)) ∙ count ∙ ap (λ (n : ℕ). suc n) (length-map files file_item) in
+    let w = within c.args.items.now c.in-Procwalk.is c.requires.within c.requires.items.count in
+    let all = w.count ∙ ap (λ (n : ℕ). suc n) (length-map files file_item) in
     let behind = behind_count c.args.items.now (length files) all in
-    omega (arith, limits.0, behind)
+    omega (arith, w.few, behind)
 
 pub procwalk_made-requires-clause-within : goal.procwalk_made-requires-clause-within
 procwalk_made-requires-clause-within c =
     let procwalk = c.in-Procwalk.procwalk in
     let later = map file_item (map string_bytes procwalk.files.now) in
-    let within = subst (λ (a : Asked). command_limit (words_of a) (bytes_of c.args.items.now) ≡ None) c.in-Procwalk.is c.requires.within in
-    let limits = within_limits (words_of (asked.Procwalk procwalk)) (bytes_of c.args.items.now) within in
-    let count = subst (λ (a : Asked). length (bytes_of c.args.items.now) ≡ length (items_of (words_of a))) c.in-Procwalk.is c.requires.items.count in
-    let all = sym (length-map c.args.items.now (λ v. v.items)) ∙ count in
+    let w = within c.args.items.now c.in-Procwalk.is c.requires.within c.requires.items.count in
     let core = c.index-items-0-in-Procwalk.result in
     let first : c.deref-in-Procwalk.result.now ≡ (get_or c.args.items.now 0 core).items =
     c.deref-in-Procwalk.ensures.value ∙ ap (λ (v : Vec ℕ Global). v.items) c.index-items-0-in-Procwalk.is in
     let behind = bytes_of (take (length c.args.items.now - 1) (drop 1 c.args.items.now)) in
     subst (λ (b : List ℕ). bytes_limit 0 0 ((kind.Core, b) ∷ of_kinds later behind) ≡ None) (sym first)
-    (within_behind procwalk.core.now later c.args.items.now core (length later) all limits.1)
+    (within_behind procwalk.core.now later c.args.items.now core (length later) w.count w.limit)
 
 pub verify_made-requires-clause-few : goal.verify_made-requires-clause-few
 verify_made-requires-clause-few c =
     let inputs = map input_of c.in-Verify.verify.inputs.items in
-    let within = subst (λ (a : Asked). command_limit (words_of a) (bytes_of c.args.items.now) ≡ None) c.in-Verify.is c.requires.within in
-    let limits = within_limits (words_of (asked.Verify c.in-Verify.verify)) (bytes_of c.args.items.now) within in
-    let count = subst (λ (a : Asked). length (bytes_of c.args.items.now) ≡ length (items_of (words_of a))) c.in-Verify.is c.requires.items.count in
-    let all = sym (length-map c.args.items.now (λ v. v.items)) ∙ count ∙ ap (λ (n : ℕ). suc n) (length-map inputs input_item) in
+    let w = within c.args.items.now c.in-Verify.is c.requires.within c.requires.items.count in
+    let all = w.count ∙ ap (λ (n : ℕ). suc n) (length-map inputs input_item) in
     let behind = behind_count c.args.items.now (length inputs) all in
-    omega (arith, limits.0, behind)
+    omega (arith, w.few, behind)
 
 pub verify_made-requires-clause-within : goal.verify_made-requires-clause-within
 verify_made-requires-clause-within c =
     let verify = c.in-Verify.verify in
     let inputs = map input_of verify.inputs.items in
-    let within = subst (λ (a : Asked). command_limit (words_of a) (bytes_of c.args.items.now) ≡ None) c.in-Verify.is c.requires.within in
-    let limits = within_limits (words_of (asked.Verify verify)) (bytes_of c.args.items.now) within in
-    let count = subst (λ (a : Asked). length (bytes_of c.args.items.now) ≡ length (items_of (words_of a))) c.in-Verify.is c.requires.items.count in
-    let all = sym (length-map c.args.items.now (λ v. v.items)) ∙ count in
+    let w = within c.args.items.now c.in-Verify.is c.requires.within c.requires.items.count in
     let core = c.index-items-0-in-Verify.result in
     let first : c.deref-in-Verify.result.now ≡ (get_or c.args.items.now 0 core).items =
     c.deref-in-Verify.ensures.value ∙ ap (λ (v : Vec ℕ Global). v.items) c.index-items-0-in-Verify.is in
     let behind = bytes_of (take (length c.args.items.now - 1) (drop 1 c.args.items.now)) in
     subst (λ (files : List InputFile). bytes_limit 0 0 ((kind.Section, c.deref-in-Verify.result.now) ∷ of_kinds (map input_item (map input_of files)) behind) ≡ None) (sym c.deref-in-Verify-2.ensures.value)
     (subst (λ (b : List ℕ). bytes_limit 0 0 ((kind.Section, b) ∷ of_kinds (map input_item inputs) behind) ≡ None) (sym first)
-    (within_after (section_of verify.section) inputs c.args.items.now core (length (map input_item inputs)) all limits.1))
+    (within_after (section_of verify.section) inputs c.args.items.now core (length (map input_item inputs)) w.count w.limit))
