@@ -1,8 +1,9 @@
 -- The notes of a run of bytes, one after the other.
-use Rattle.std.proofs.Common.{◌≡◌, ℕ, zero, suc, ◌+◌, ◌-◌, ◌<◌, List, [], ◌∷◌, length, drop, Ok, Err, refl, sym, ap, ◌∙◌, arith, length-drop}
+use Rattle.std.proofs.Common.{◌≡◌, ℕ, suc, ◌+◌, ◌-◌, ◌<◌, List, [], ◌∷◌, length, drop, Ok, Err, refl, sym, ap, ◌∙◌, arith}
 use Rattle.sf_bytes.specs.declared.fault.ByteFault.{ByteFault}
 use Rattle.sf_bytes.specs.Cursor.{Cursor}
 use Rattle.sf_bytes.proofs.Fields.{passes-past}
+use Rattle.sf_bytes.proofs.Skipped.{behind}
 use Rattle.core_notes.specs.Note.{NoteView, note_at}
 use Rattle.core_notes.specs.Listing.{Item, notes_after, notes_from}
 use Rattle.core_notes.proofs.OneNote.{SomeBytes, note_passes, note_takes}
@@ -11,25 +12,9 @@ pub notes-nil : (skipped place : ℕ) → notes_after skipped place [] ≡ []
 unfolding notes_after
 notes-nil skipped place = refl
 
--- m bytes that are passed one by one are m bytes fewer
-skip : (m place : ℕ) (bytes : List ℕ) → notes_after (length bytes - (length bytes - m)) place bytes ≡ notes_after 0 (place + m) (drop m bytes)
+notes-suc : (n place b : ℕ) (bs : List ℕ) → notes_after (suc n) place (b ∷ bs) ≡ notes_after n (place + 1) bs
 unfolding notes_after
-skip zero place [] = refl
-skip (suc m) place [] = refl
-skip zero place (b ∷ bs) =
-    let none : length (b ∷ bs) - (length (b ∷ bs) - 0) ≡ 0 = omega arith in
-    let same : place + 0 ≡ place = omega arith in
-    rw (none, same) refl
-skip (suc m) place (b ∷ bs) =
-    let one : length (b ∷ bs) - (length (b ∷ bs) - suc m) ≡ suc (length bs - (length bs - m)) = omega arith in
-    let on : place + 1 + m ≡ place + suc m = omega arith in
-    rw one (skip m (place + 1) bs ∙ ap (λ (p : ℕ). notes_after 0 p (drop m bs)) on)
-
-later : (m place : ℕ) (bs : List ℕ) (after : Cursor) → after ≡ record { place = place + m; left = drop m bs } → notes_after (length bs - length after.left) place bs ≡ notes_from after
-later m place bs after e =
-    let len : length after.left ≡ length bs - m = ap (λ (c : Cursor). length c.left) e ∙ length-drop m bs in
-    let on : notes_from after ≡ notes_after 0 (place + m) (drop m bs) = ap notes_from e in
-    rw (len, on) (skip m place bs)
+notes-suc n place b bs = refl
 
 -- what is after the first byte of a note
 one_passed : (place b : ℕ) (bs : List ℕ) (after : Cursor) (s : SomeBytes (record { place = place; left = b ∷ bs }) after)
@@ -49,7 +34,7 @@ starts_with_note place [] n after some e = absurd (omega (some, arith))
 starts_with_note place (b ∷ bs) n after some e =
     let at : Cursor = record { place = place; left = b ∷ bs } in
     let s : SomeBytes at after = note_passes n at after (note_takes at n after e) in
-    rw e (ap (λ (items : List Item). Ok n ∷ items) (later (length s.run - 1) (place + 1) bs after (one_passed place b bs after s)))
+    rw e (ap (λ (items : List Item). Ok n ∷ items) (behind notes_after notes-nil notes-suc (length s.run - 1) (place + 1) bs after (one_passed place b bs after s)))
 
 pub starts_with_cut : (place : ℕ) (bytes : List ℕ) (f : ByteFault) → 0 < length bytes → note_at (record { place = place; left = bytes }) ≡ Err f → notes_after 0 place bytes ≡ Err place ∷ []
 unfolding notes_after

@@ -59,8 +59,3 @@ core_part file =
 -- all checks: the first that fails is the file's fault
 abbrev pub core_check : List ℕ → Check
 core_check file = elf_part (file_check file) >> core_part file
-
--- what a call answered, without its value
-abbrev pub verdict : {X : Type 0} → Result X CoreFault → Check
-verdict (Ok x) = Ok tt
-verdict (Err fault) = Err fault

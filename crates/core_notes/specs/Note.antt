@@ -1,8 +1,6 @@
 -- Notes (ELF64 gABI, "Note Section"): three words, which are the name's size, the descriptor's size and the type; then the
 -- name and the descriptor, each padded to a multiple of 4 bytes. The padding may end with the segment.
-use Rattle.std.specs.Prelude.{◌≡◌, ℕ, ◌-◌, ◌%◌, List, length, min, Result, Ok, Err}
-use Rattle.sf_bytes.specs.declared.fault.ByteFault.{ByteFault}
-use Rattle.sf_bytes.specs.declared.part.Part.{Part}
+use Rattle.std.specs.Prelude.{◌≡◌, ℕ, ◌-◌, ◌%◌, List, length, min, Ok}
 use Rattle.sf_bytes.specs.Cursor.{Cursor, Read, ◌>>=◌, cursor, past, number_at, part_at}
 use Rattle.sf_bytes.specs.Standing.{Passes, Stands, Number, Bytes}
 use Rattle.core_notes.specs.declared.note.Note.{Note}
@@ -58,8 +56,3 @@ note_at at = do
   name ← padded_at name_size.0 kind.1
   descriptor ← padded_at descriptor_size.0 name.1
   Ok (record { place = at.place; name = name.0.left; kind = kind.0; descriptor = descriptor.0 }, descriptor.1)
-
--- a call on a part gave what the reading gives, and left what it leaves; a fault says nothing of what is left
-abbrev pub Reads : {X Y : Type 0} → (X → Y) → Part → Result X ByteFault → Read Y → Type 0
-Reads view new (Ok x) read = read ≡ Ok (view x, cursor new)
-Reads view new (Err e) read = read ≡ Err e

@@ -1,8 +1,8 @@
 //! A note (ELF64 gABI, "Note Section").
 
 ghost use Rattle.std.specs.Prelude.{◌≡◌, length, min, OnOk};
-ghost use Rattle.sf_bytes.specs.Cursor.{cursor, past};
-ghost use Rattle.core_notes.specs.Note.{Reads, note_at, note_view, padded_at, padding};
+ghost use Rattle.sf_bytes.specs.Cursor.{Reads, cursor, past};
+ghost use Rattle.core_notes.specs.Note.{note_at, note_view, padded_at, padding};
 
 use crate::layout::NOTE_ALIGN;
 use sf_bytes::{ByteFault, Part};

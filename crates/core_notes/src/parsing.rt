@@ -1,9 +1,9 @@
 //! The checks of the notes, in their order.
 
 ghost use Rattle.std.specs.Prelude.{◌≡◌, ◌<◌, ◌-◌, ◌^◌, IfOk, OnOk, ◌≤◌, false, length, min};
+ghost use Rattle.elf_read.specs.Checking.{verdict};
 ghost use Rattle.elf_read.specs.Views.{file};
 ghost use Rattle.core_notes.specs.Checks as spec;
-ghost use Rattle.core_notes.specs.Checks.{verdict};
 ghost use Rattle.core_notes.specs.Listing.{items_left, whole_notes};
 ghost use Rattle.core_notes.specs.Note.{note_view};
 ghost use Rattle.core_notes.specs.Thread.{threads_in};

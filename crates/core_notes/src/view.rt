@@ -34,9 +34,9 @@ impl<'a> Core<'a> {
     ghost use Rattle.std.specs.List.{find};
     ghost use Rattle.std.specs.Option.{option_map};
     ghost use Rattle.sf_bytes.specs.Cursor.{cursor};
+    ghost use Rattle.elf_read.specs.Checking.{verdict};
     ghost use Rattle.elf_read.specs.Header.{arch_of};
     ghost use Rattle.core_notes.specs.declared.status.Thread.{Thread as thread};
-    ghost use Rattle.core_notes.specs.Checks.{verdict};
     ghost use Rattle.core_notes.specs.Core.{IsCore};
     ghost use Rattle.core_notes.specs.Note.{NoteView};
     ghost use Rattle.core_notes.specs.Thread as spec;

@@ -1,7 +1,8 @@
 -- Where the sections of a file lie (ELF64 gABI, "Sections", sh_addr and sh_addralign). `dropped` says of
 -- each section whether it is dropped.
-use Rattle.std.specs.Prelude.{◌≡◌, ℕ, zero, suc, ◌+◌, ◌-◌, ◌*◌, ◌/◌, ◌^◌, ◌==◌, ◌<◌, ◌≤◌, Bool, false, ◌&&◌, ◌||◌, not, List, [], ◌∷◌, ◌++◌, Option, Some, None, Result, Ok, Err, nat_le, nat_lt, slice_index_or, if◌then◌else◌}
+use Rattle.std.specs.Prelude.{ℕ, zero, suc, ◌+◌, ◌-◌, ◌*◌, ◌/◌, ◌^◌, ◌==◌, ◌<◌, ◌≤◌, Bool, false, ◌&&◌, ◌||◌, not, List, [], ◌∷◌, ◌++◌, Option, Some, None, Result, nat_le, nat_lt, slice_index_or, if◌then◌else◌}
 use Rattle.std.specs.Int.{is_power_of_two}
+use Rattle.sf_model.specs.Answers as answers
 use Rattle.elf_read.specs.Checking.{unless, where_so, ◌>>◌, each_below}
 use Rattle.elf_read.specs.Header.{is_rel}
 use Rattle.elf_read.specs.Sections.{sh_type, sh_addr, sh_size, sh_addralign, section_count, is_allocated, is_eh_frame}
@@ -82,17 +83,16 @@ eh_frames_below file dropped (suc n) = with_one (is_kept_eh_frame file dropped n
 unfoldable pub shift_of : List ℕ → ℕ → ℕ
 shift_of file base = if is_rel file then 0 else base
 
--- what a call answered, without its value
-abbrev pub verdict : {X : Type 0} → Result X PlaceFault → Result (Unit {0}) PlaceFault
-verdict (Ok x) = Ok tt
-verdict (Err e) = Err e
+-- ---- what a call returns
+-- the faults that a check gives: all but out of memory
+abbrev pub refusal_of : PlaceFault → Option PlaceFault
+refusal_of NoMemory = None
+refusal_of fault = Some fault
 
--- a fault is what the check says; that memory ran out says nothing of it
+-- a fault is what the check says, unless memory ran out
 abbrev pub Fails : PlaceFault → Result (Unit {0}) PlaceFault → Type 0
-Fails NoMemory check = Unit {0}
-Fails e check = check ≡ Err e
+Fails fault check = answers.Fails refusal_of fault check
 
--- what a call answered is what the check says, unless memory ran out
+-- what a call returned is what the check says, unless memory ran out
 abbrev pub Answers : {X : Type 0} → Result X PlaceFault → Result (Unit {0}) PlaceFault → Type 0
-Answers (Ok x) check = check ≡ Ok tt
-Answers (Err e) check = Fails e check
+Answers result check = answers.Gives refusal_of (λ x. tt) result check

@@ -1,7 +1,7 @@
 //! The addresses of sections.
 
 ghost use Rattle.std.specs.Prelude.{◌≡◌, ◌<◌, ◌≤◌, ◌^◌, length, IfOk};
-ghost use Rattle.elf_read.specs.Checking.{each_below};
+ghost use Rattle.elf_read.specs.Checking.{each_below, verdict};
 ghost use Rattle.elf_read.specs.Header.{is_rel};
 ghost use Rattle.elf_read.specs.Views.{file};
 ghost use Rattle.elf_place.specs.Dropped.{values_below};
@@ -82,7 +82,7 @@ fn place_section(
     ensures address { IfOk result (λ s. s.address ≡ by_cursor.address_from (file elf.now) dropped.now base cursor i) }
     ensures cursor { IfOk result (λ s. s.cursor ≡ by_cursor.cursor_from (file elf.now) dropped.now base cursor i) }
     ensures end { IfOk result (λ s. s.cursor ≤ 2 ^ 64) }
-    ensures exact { spec.verdict result ≡ by_cursor.overflow_from (file elf.now) dropped.now base cursor i }
+    ensures exact { verdict result ≡ by_cursor.overflow_from (file elf.now) dropped.now base cursor i }
 {
     if !is_placed(elf, dropped, i) {
         return Ok(Spot {

@@ -1,6 +1,5 @@
 -- What is checked of an ELF64 file, in order.
-use Rattle.std.specs.Prelude.{ℕ, List, Result, Ok, Err, if◌then◌else◌}
-use Rattle.elf_read.specs.declared.fault.ElfFault.{ElfFault}
+use Rattle.std.specs.Prelude.{ℕ, List, if◌then◌else◌}
 use Rattle.elf_read.specs.Header.{is_core}
 use Rattle.elf_read.specs.Sections.{section_count}
 use Rattle.elf_read.specs.Checking.{◌>>◌, where_so, each_below}
@@ -29,8 +28,3 @@ content_check file = if is_core file then core_check file else (sections_check f
 unfoldable pub file_check : List ℕ → Check
 file_check file =
     identity_check file >> purpose_check file >> table_check file >> content_check file
-
--- whether a call that answers something answered what the checks say
-abbrev pub verdict : {X : Type 0} → Result X ElfFault → Check
-verdict (Ok x) = Ok tt
-verdict (Err e) = Err e

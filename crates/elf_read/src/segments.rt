@@ -4,7 +4,7 @@ ghost use Rattle.std.specs.Prelude.{◌≡◌, ◌<◌, ◌^◌, IfOk, length};
 ghost use Rattle.elf_read.specs.Checks as spec;
 ghost use Rattle.elf_read.specs.Checking.{each_below};
 ghost use Rattle.elf_read.specs.Header.{e_phoff as phoff};
-ghost use Rattle.elf_read.specs.Parsing.{verdict};
+ghost use Rattle.elf_read.specs.Checking.{verdict};
 ghost use Rattle.elf_read.specs.Sections.{segment_total as total};
 
 use crate::check::require;

@@ -31,7 +31,7 @@ impl<'a> Elf<'a> {
     ghost use Rattle.elf_read.specs.Checks.{program_headers_check};
     ghost use Rattle.elf_read.specs.Header as head;
     ghost use Rattle.elf_read.specs.Number.{StandsAt};
-    ghost use Rattle.elf_read.specs.Parsing.{verdict};
+    ghost use Rattle.elf_read.specs.Checking.{verdict};
     ghost use Rattle.elf_read.specs.Sections as fields;
     ghost use Rattle.elf_read.specs.Views.{file, section_of, segment_bytes, symbol_of, rela_offset, rela_type, rela_addend, group_view, group_of};
 

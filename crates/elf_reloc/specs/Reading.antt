@@ -3,6 +3,7 @@
 use Rattle.std.specs.Prelude.{◌≡◌, ℕ, zero, suc, ◌+◌, ◌%◌, ◌^◌, ◌==◌, Bool, true, false, List, [], ◌∷◌, ◌++◌, length, Option, Some, None, Result, Ok, Err, nat_lt, if◌then◌else◌}
 use Rattle.std.specs.Option.{unwrap_or}
 use Rattle.std.specs.Int.{w64, cast_unsigned}
+use Rattle.sf_model.specs.Answers as answers
 use Rattle.elf_read.specs.Header.{is_rel, arch_of}
 use Rattle.elf_read.specs.Sections.{sh_type, sh_link, section_bytes, rela_symbol, entry_count}
 use Rattle.elf_read.specs.Views.{rela_offset, rela_type, rela_addend}
@@ -115,10 +116,15 @@ all_fixes fixes = Ok (record { fixes = fixes })
 unfoldable pub section_state : Placing → ℕ → Result State RelocFault
 section_state p section = if is_rel p.file then (object_fixes p section >>= all_fixes) else all_fixes []
 
--- a fault is what was asked; that memory ran out says nothing of it
+-- ---- what a call returns
+-- the faults that a reading gives: all but out of memory
+abbrev pub refusal_of : RelocFault → Option RelocFault
+refusal_of NoMemory = None
+refusal_of fault = Some fault
+
+-- a fault is that of the reading, unless memory ran out
 abbrev pub Fails : {X : Type 0} → RelocFault → Result X RelocFault → Type 0
-Fails NoMemory given = Unit {0}
-Fails e given = given ≡ Err e
+Fails fault given = answers.Fails refusal_of fault given
 
 -- what a call read so far
 abbrev pub state_of : FixesSoFar → State
@@ -138,7 +144,6 @@ abbrev pub Holds : {X : Type 0} → Result X RelocFault → FixesSoFar → Resul
 Holds (Ok x) new all = all ≡ Ok new.fixes.items
 Holds (Err e) new all = Fails e all
 
--- what a call answered is what is read
+-- what a call returned is what is read, unless memory ran out
 abbrev pub Gives : Result FixesSoFar RelocFault → Result State RelocFault → Type 0
-Gives (Ok r) given = given ≡ Ok (state_of r)
-Gives (Err e) given = Fails e given
+Gives result given = answers.Gives refusal_of state_of result given

@@ -1,11 +1,11 @@
 -- What fields hold once a section's relocations are applied.
 use Rattle.std.specs.Prelude.{◌≡◌, List, ◌⊎◌, Result, Ok, Err}
+use Rattle.std.specs.Option.{IfSome}
 use Rattle.elf_reloc.specs.declared.fault.RelocFault.{RelocFault}
-use Rattle.elf_reloc.specs.declared.fault.RelocFault.TheVariants.{NoMemory}
 use Rattle.elf_reloc.specs.declared.fix.RelocatedField.{RelocatedField}
 use Rattle.elf_reloc.specs.declared.relocs.Relocs.{Relocs}
 use Rattle.elf_reloc.specs.Order.{InOrder, overlap_check}
-use Rattle.elf_reloc.specs.Reading.{State}
+use Rattle.elf_reloc.specs.Reading.{State, refusal_of}
 
 -- the fields that are written, by rising place
 abbrev pub fixes_in : Relocs → List RelocatedField
@@ -26,10 +26,9 @@ pub record Overlaps (given : Result State RelocFault) (e : RelocFault) : Type 0 
   pub order : InOrder state.fixes sorted
   pub refused : overlap_check 0 sorted ≡ Err e
 
--- the first fault: of reading, and then of the fields; that memory ran out says nothing of it
+-- the first fault: of reading, and then of the fields; unless memory ran out
 abbrev pub Refuses : RelocFault → Result State RelocFault → Type 0
-Refuses NoMemory given = Unit {0}
-Refuses e given = (given ≡ Err e) ⊎ Overlaps given e
+Refuses fault given = IfSome (refusal_of fault) (λ refusal. (given ≡ Err refusal) ⊎ Overlaps given refusal)
 
 -- what a call answered is what a section's relocations give
 abbrev pub Relocated : Result Relocs RelocFault → Result State RelocFault → Type 0

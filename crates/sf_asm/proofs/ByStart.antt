@@ -12,7 +12,7 @@ use Rattle.sf_asm.specs.Functions.{Function}
 use Rattle.sf_asm.specs.Kept.{entry_of, is_kept, omitted_functions}
 use Rattle.sf_asm.specs.Linking.{InOrder, start_of}
 use Rattle.sf_asm.specs.Sources.{AreByStart, function_start, functions_lent, source_function, source_start}
-use Rattle.sf_asm.proofs.OneOrder.{tied, tied_means, NoneBelow, one_order_of}
+use Rattle.sf_model.proofs.StableOrder.{tied, tied_means, NoneBelow, one_order_of}
 
 -- one element more, before two filters
 two_filters : {X : Type 0} (p q : X → Bool) (x : X) (one other : List X) (a b : Bool) → p x ≡ a → q x ≡ b → filter p one ≡ filter q other → filter p (cond b (x ∷ one) one) ≡ filter q (cond a (x ∷ other) other)

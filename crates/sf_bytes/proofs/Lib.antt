@@ -4,4 +4,5 @@ pub mod Inside
 pub mod Lebs
 pub mod Run
 pub mod ShortLeb
+pub mod Skipped
 pub mod Texts

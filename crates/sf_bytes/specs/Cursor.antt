@@ -5,6 +5,7 @@ use Rattle.byteorder.specs.Endian.{little_number, twos_complement}
 use Rattle.sf_bytes.specs.declared.fault.ByteFault.{ByteFault}
 use Rattle.sf_bytes.specs.declared.fault.ByteFault.TheVariants.{Short}
 use Rattle.sf_bytes.specs.declared.part.Part.{Part}
+use Rattle.sf_bytes.specs.Answers.{Is}
 pub use Rattle.sf_bytes.specs.Steps.{◌>>=◌}
 
 -- a place, and the bytes that stand from it on
@@ -29,6 +30,10 @@ Read X = Result (X × Cursor) ByteFault
 abbrev pub Gives : {X Y : Type 0} → (X → Y) → Part → Part → Result X ByteFault → Read Y → Type 0
 Gives view old new (Ok x) read = read ≡ Ok (view x, cursor new)
 Gives view old new (Err e) read = (read ≡ Err e) × (cursor new ≡ cursor old)
+
+-- the same where a fault says nothing of the part
+abbrev pub Reads : {X Y F : Type 0} → (X → Y) → (new : Part) → Result X F → Result (Y × Cursor) F → Type 0
+Reads view new result read = Is (λ x. (view x, cursor new)) result read
 
 -- a part ends where it did, whatever was read from its front
 abbrev pub EndStays : Part → Part → Type 0

@@ -1,7 +1,7 @@
 -- Checks that answer the first fault.
-use Rattle.std.specs.Prelude.{ℕ, zero, suc, ◌+◌, Bool, Result, Ok, Err, if◌then◌else◌}
+use Rattle.std.specs.Prelude.{ℕ, zero, suc, ◌+◌, Result, Ok}
 use Rattle.sf_decode.specs.declared.fault.DecodeFault.{DecodeFault}
-pub use Rattle.sf_model.specs.Checking.{unless, where_so, ◌>>◌}
+pub use Rattle.sf_model.specs.Checking.{unless, where_so, ◌>>◌, verdict}
 
 -- nothing is wrong, or what is
 abbrev pub Check : Type 0
@@ -16,8 +16,3 @@ each_from first (suc count) check = check first >> each_from (first + 1) count c
 unfoldable pub sum_from : (first count : ℕ) → (ℕ → ℕ) → ℕ
 sum_from first zero number = 0
 sum_from first (suc count) number = number first + sum_from (first + 1) count number
-
--- whether a call that answers something answered what the checks say
-abbrev pub verdict : {X : Type 0} → Result X DecodeFault → Check
-verdict (Ok x) = Ok tt
-verdict (Err e) = Err e

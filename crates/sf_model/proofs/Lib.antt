@@ -4,6 +4,7 @@ pub mod Recoveries
 pub mod RowNumbers
 pub mod RowsSame
 pub mod SpelledLengths
+pub mod StableOrder
 pub mod TableSame
 pub mod TightOne
 pub mod Worked

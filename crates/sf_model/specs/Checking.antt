@@ -14,3 +14,8 @@ infixl 10 ◌>>◌
 abbrev pub ◌>>◌ : {E : Type 0} → Result (Unit {0}) E → Result (Unit {0}) E → Result (Unit {0}) E
 (Ok x) >> next = next
 (Err e) >> next = Err e
+
+-- what a call answered, without its value
+abbrev pub verdict : {X E : Type 0} → Result X E → Result (Unit {0}) E
+verdict (Ok x) = Ok tt
+verdict (Err e) = Err e

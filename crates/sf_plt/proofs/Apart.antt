@@ -12,7 +12,7 @@ use Rattle.sf_asm.specs.Entry.{kept_of}
 use Rattle.sf_asm.specs.Functions.{Function}
 use Rattle.sf_asm.specs.Kept.{entry_of}
 use Rattle.sf_asm.specs.Order.{are_apart}
-use Rattle.sf_asm.proofs.OneOrder.{NoneBelow, tied, tied_means, one_order_of}
+use Rattle.sf_model.proofs.StableOrder.{NoneBelow, tied, tied_means, one_order_of}
 use Rattle.sf_plt.specs.Plt.{plt_functions}
 use Rattle.sf_plt.specs.Sorting.{func_start}
 use Rattle.sf_plt.specs.Written.{first_entry, later_entries, pair_by, plt_pair, written_functions}

@@ -41,7 +41,7 @@ use Rattle.sf_asm.proofs.GatheredInputs.{are_read, by_parts}
 use Rattle.sf_asm.proofs.Kept.{not_overlapping_apart}
 use Rattle.sf_asm.proofs.Limits.{few_functions}
 use Rattle.sf_asm.proofs.OneMachine.{machine_of_functions}
-use Rattle.sf_asm.proofs.OneOrder.{one_order_of}
+use Rattle.sf_model.proofs.StableOrder.{one_order_of}
 use Rattle.sf_asm.specs.Sources.{function_start}
 use Rattle.sf_plt.specs.Answers.{IsFirstPltLinked, IsPltLinked, others_in, span_of}
 use Rattle.sf_plt.specs.Linking.{LinksPlts, LinksPltsFrom, further_fault, plt_link_fault, plts_fault, unless_fault, wraps_gathering}

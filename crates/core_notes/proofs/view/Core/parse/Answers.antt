@@ -1,8 +1,9 @@
 use Rattle.std.specs.Prelude.{IfOk, IsOkAnd}
 use Rattle.std.proofs.Common.{◌≡◌, ℕ, List, Result, Ok, Err, sym, ap, subst, ◌∙◌}
+use Rattle.elf_read.specs.Checking.{verdict}
 use Rattle.core_notes.specs.declared.fault.CoreFault.{CoreFault}
 use Rattle.core_notes.specs.declared.view.Core.{Core}
-use Rattle.core_notes.specs.Checks.{core_check, verdict}
+use Rattle.core_notes.specs.Checks.{core_check}
 use Rattle.core_notes.specs.Core.{IsCore}
 use Rattle.core_notes.specs.Listing.{items_of, whole_notes}
 use Rattle.core_notes.specs.Note.{NoteView}
