@@ -1,3 +1,3 @@
-pub mod Moves
+pub mod ReadsMoveOn
 pub mod Listings
 pub mod Spelled

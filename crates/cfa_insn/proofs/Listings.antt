@@ -1,35 +1,20 @@
 -- The first item of a listing, and the listing behind it.
-use Rattle.std.proofs.Common.{◌≡◌, ℕ, zero, suc, ◌+◌, ◌-◌, ◌<◌, List, [], ◌∷◌, length, drop, Ok, Err, refl, ap, subst, ◌∙◌, arith, length-drop}
+use Rattle.std.proofs.Common.{◌≡◌, ℕ, suc, ◌+◌, ◌<◌, List, [], ◌∷◌, length, Ok, Err, refl, ap, subst, arith}
 use Rattle.sf_bytes.specs.Cursor.{Cursor, past}
+use Rattle.sf_bytes.proofs.Skipped.{behind}
 use Rattle.cfa_insn.specs.declared.fault.InsnFault.{InsnFault}
 use Rattle.cfa_insn.specs.Instruction.{Instruction}
 use Rattle.cfa_insn.specs.Table.{instruction_at}
 use Rattle.cfa_insn.specs.Listing.{Item, listing, listing_after}
-use Rattle.cfa_insn.proofs.Moves.{IsBehind, Passed, instruction_passes}
+use Rattle.cfa_insn.proofs.ReadsMoveOn.{IsBehind, Passed, instruction_passes}
 
 pub listing-nil : (skipped place : ℕ) → listing_after skipped place [] ≡ []
 unfolding listing_after
 listing-nil skipped place = refl
 
--- m bytes that are passed one by one are m bytes fewer
-skip : (m place : ℕ) (bytes : List ℕ) → listing_after (length bytes - (length bytes - m)) place bytes ≡ listing_after 0 (place + m) (drop m bytes)
+listing-suc : (n place b : ℕ) (bs : List ℕ) → listing_after (suc n) place (b ∷ bs) ≡ listing_after n (place + 1) bs
 unfolding listing_after
-skip zero place [] = refl
-skip (suc m) place [] = refl
-skip zero place (b ∷ bs) =
-    let none : length (b ∷ bs) - (length (b ∷ bs) - 0) ≡ 0 = omega arith in
-    let same : place + 0 ≡ place = omega arith in
-    rw (none, same) refl
-skip (suc m) place (b ∷ bs) =
-    let one : length (b ∷ bs) - (length (b ∷ bs) - suc m) ≡ suc (length bs - (length bs - m)) = omega arith in
-    let on : place + 1 + m ≡ place + suc m = omega arith in
-    rw one (skip m (place + 1) bs ∙ ap (λ (p : ℕ). listing_after 0 p (drop m bs)) on)
-
-behind : (m place : ℕ) (bs : List ℕ) (after : Cursor) → after ≡ record { place = place + m; left = drop m bs } → listing_after (length bs - length after.left) place bs ≡ listing after
-behind m place bs after e =
-    let len : length after.left ≡ length bs - m = ap (λ (c : Cursor). length c.left) e ∙ length-drop m bs in
-    let on : listing after ≡ listing_after 0 (place + m) (drop m bs) = ap listing e in
-    rw (len, on) (skip m place bs)
+listing-suc n place b bs = refl
 
 pub starts_with_instruction : (place : ℕ) (bytes : List ℕ) (i : Instruction) (after : Cursor) → 0 < length bytes → instruction_at (record { place = place; left = bytes }) ≡ Ok (i, after)
     → listing_after 0 place bytes ≡ Ok (place, i) ∷ listing after
@@ -38,7 +23,7 @@ starts_with_instruction place [] i after some e = absurd (omega arith)
 starts_with_instruction place (b ∷ bs) i after some e =
     let at : Cursor = record { place = place; left = b ∷ bs } in
     let p : IsBehind (past 1 at) after = subst (Passed at) e (instruction_passes at) in
-    rw e (ap (λ (items : List Item). Ok (place, i) ∷ items) (behind p.count (place + 1) bs after p.is))
+    rw e (ap (λ (items : List Item). Ok (place, i) ∷ items) (behind listing_after listing-nil listing-suc p.count (place + 1) bs after p.is))
 
 pub starts_with_fault : (place : ℕ) (bytes : List ℕ) (f : InsnFault) → 0 < length bytes → instruction_at (record { place = place; left = bytes }) ≡ Err f → listing_after 0 place bytes ≡ Err f ∷ []
 unfolding listing_after

@@ -1,12 +1,11 @@
 -- The encoding of call frame instructions (DWARF 5, section 7.24): an opcode byte, then the operands that
 -- the table gives for it. U is an unsigned LEB128 number, S a signed one, and a block is its length U and
 -- that many bytes.
-use Rattle.std.specs.Prelude.{ℕ, ℤ, ◌%◌, ◌==◌, ◌≡◌, List, Option, Some, None, Result, Ok, Err, nat_lt, if◌then◌else◌}
-use Rattle.sf_bytes.specs.Cursor.{Cursor, Read, ◌>>=◌, cursor, number_at, part_at}
+use Rattle.std.specs.Prelude.{ℕ, ℤ, ◌%◌, ◌==◌, List, Option, Some, None, Result, Ok, Err, nat_lt, if◌then◌else◌}
+use Rattle.sf_bytes.specs.Cursor.{Cursor, Read, ◌>>=◌, number_at, part_at}
 use Rattle.sf_bytes.specs.Leb.{uleb_at, sleb_at}
 use Rattle.sf_bytes.specs.declared.fault.ByteFault.{ByteFault}
 use Rattle.sf_bytes.specs.declared.fault.ByteFault.TheVariants as bytes
-use Rattle.sf_bytes.specs.declared.part.Part.{Part}
 use Rattle.cfa_insn.specs.declared.fault.InsnFault.{InsnFault}
 use Rattle.cfa_insn.specs.declared.fault.InsnFault.TheVariants.{Opcode, Short, Leb}
 use Rattle.cfa_insn.specs.Instruction.{Instruction, advance_loc, offset, restore, nop, advance_loc_n, offset_extended, restore_extended, undefined, same_value, in_register, remember_state, restore_state, def_cfa, def_cfa_register, def_cfa_offset, def_cfa_expression, expression, offset_extended_sf, def_cfa_sf, def_cfa_offset_sf, val_offset, val_offset_sf, val_expression, negate_ra_state, args_size}
@@ -126,14 +125,3 @@ after_opcode place (Err e) = Err (placed place e)
 -- the instruction at the front, and the cursor behind it
 unfoldable pub instruction_at : Cursor → Result (Instruction × Cursor) InsnFault
 instruction_at at = after_opcode at.place (number_at 1 at)
-
--- what a call on a part answered, seen by view, is what the read gives, and on Ok the part is what the
--- read leaves
-abbrev pub Reads : {X Y : Type 0} → (X → Y) → Part → Result X ByteFault → Read Y → Type 0
-Reads view new (Ok x) read = read ≡ Ok (view x, cursor new)
-Reads view new (Err e) read = read ≡ Err e
-
--- the same for a whole instruction
-abbrev pub ReadsInstruction : {X : Type 0} → (X → Instruction) → Part → Result X InsnFault → Result (Instruction × Cursor) InsnFault → Type 0
-ReadsInstruction view new (Ok x) read = read ≡ Ok (view x, cursor new)
-ReadsInstruction view new (Err e) read = read ≡ Err e

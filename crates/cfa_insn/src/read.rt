@@ -2,9 +2,9 @@
 
 ghost use Rattle.std.specs.Prelude.{◌≡◌};
 ghost use Rattle.std.specs.Option.{option_map};
-ghost use Rattle.sf_bytes.specs.Cursor.{cursor};
+ghost use Rattle.sf_bytes.specs.Cursor.{Reads, cursor};
 ghost use Rattle.cfa_insn.specs.Instruction.{instruction};
-ghost use Rattle.cfa_insn.specs.Table.{Reads, ReadsInstruction, placed, block_at, extended_at, operands_at, instruction_at};
+ghost use Rattle.cfa_insn.specs.Table.{placed, block_at, extended_at, operands_at, instruction_at};
 ghost use Rattle.cfa_insn.specs.Listing.{GivesFirst, listing};
 
 use crate::fault::InsnFault;
@@ -99,7 +99,7 @@ fn placed_at(place: u64, fault: ByteFault) -> InsnFault
 #[tactic(auto, unfolding(crate::specs::Table::instruction_at))]
 #[inline(always)]
 pub fn instruction_of<'a>(part: &mut Part<'a>) -> Result<Insn<'a>, InsnFault>
-    ensures { ReadsInstruction instruction part.new result (instruction_at (cursor part.old)) }
+    ensures { Reads instruction part.new result (instruction_at (cursor part.old)) }
 {
     let place = part.place;
     let opcode = match part.get_u8() {

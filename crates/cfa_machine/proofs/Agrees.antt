@@ -15,7 +15,7 @@ use Rattle.cfa_machine.specs.declared.fault.MachineFault.{MachineFault}
 use Rattle.cfa_machine.specs.declared.columns.Columns.{Columns}
 use Rattle.cfa_machine.specs.Columns.{with_rule, restored, changed, with_cfa_register, with_cfa_offset}
 use Rattle.cfa_machine.specs.Effects.{effect_by}
-use Rattle.cfa_machine.specs.Pass.{◌>>=◌, defined, initial_columns}
+use Rattle.cfa_machine.specs.Pass.{◌>>=◌, cie_step, initial_columns}
 use Rattle.cfa_machine.specs.FullRow.{FullRow, rule_of, with_register_rule, cfa_register, cfa_offset, row_after, columns_of}
 use Rattle.cfa_machine.specs.RowAtOffset.{row_defined, initial_by}
 
@@ -68,7 +68,7 @@ restore_agrees Aarch64 r initial row =
     rw (sp, fp, ra, sign) refl
 
 -- ---- the common information entry
-pub define_agrees : (arch : Arch) (place : ℕ) (effect : Effect) (row : FullRow) → ChangesTo arch (defined arch place effect (columns_of arch row)) (row_defined effect row)
+pub define_agrees : (arch : Arch) (place : ℕ) (effect : Effect) (row : FullRow) → ChangesTo arch (cie_step arch place effect (columns_of arch row)) (row_defined effect row)
 define_agrees arch place (Row change) row = change_agrees arch place change row
 define_agrees arch place (Advance n) row = tt
 define_agrees arch place (Restore r) row = tt
@@ -82,5 +82,5 @@ define_then arch (Err e) between last next h g = tt
 pub initial_agrees : (arch : Arch) (f : ℤ) (row : FullRow) (items : List Item) → ChangesTo arch (initial_columns arch f (columns_of arch row) items) (initial_by f row items)
 unfolding initial_columns initial_by
 initial_agrees arch f row [] = refl
-initial_agrees arch f row (Ok (place, i) ∷ items) = define_then arch (defined arch place (effect_by f i) (columns_of arch row)) (row_defined (effect_by f i) row) _ _ (define_agrees arch place (effect_by f i) row) (initial_agrees arch f (row_defined (effect_by f i) row) items)
+initial_agrees arch f row (Ok (place, i) ∷ items) = define_then arch (cie_step arch place (effect_by f i) (columns_of arch row)) (row_defined (effect_by f i) row) _ _ (define_agrees arch place (effect_by f i) row) (initial_agrees arch f (row_defined (effect_by f i) row) items)
 initial_agrees arch f row (Err e ∷ items) = tt

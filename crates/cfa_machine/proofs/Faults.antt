@@ -17,12 +17,12 @@ use Rattle.cfa_machine.specs.declared.machine.FunctionContext.{FunctionContext}
 use Rattle.cfa_machine.specs.declared.row.DwRow.{DwRow}
 use Rattle.cfa_machine.specs.Columns.{no_columns, changed, with_cfa_register, with_cfa_offset}
 use Rattle.cfa_machine.specs.Effects.{effect_by}
-use Rattle.cfa_machine.specs.Pass.{◌>>=◌, State, defined, initial_columns, ran, with_remembered, with_recalled, in_front, rows_from, rows_by, Gives}
+use Rattle.cfa_machine.specs.Pass.{◌>>=◌, State, cie_step, initial_columns, step, with_remembered, with_recalled, in_front, rows_from, rows_by, Gives}
 use Rattle.cfa_machine.specs.FullRow.{FullRow, no_row, columns_of}
 use Rattle.cfa_machine.specs.RowAtOffset.{UnwindState, after_instruction, offset_behind, row_defined, initial_by}
 use Rattle.cfa_machine.specs.FirstFault.{or_later, unless_register, change_fault, define_fault, initial_fault, recall_fault, run_fault, function_fault, first_fault, Answers}
 use Rattle.cfa_machine.proofs.Agrees.{ChangesTo, define_agrees, initial_agrees}
-use Rattle.cfa_machine.proofs.Says.{Agrees, StepsAgree, ran_agrees, no_columns_there}
+use Rattle.cfa_machine.proofs.Says.{Agrees, StepsAgree, step_agrees, no_columns_there}
 
 -- the fault of an answer
 abbrev pub fault_of : {X : Type 0} → Result X MachineFault → Option MachineFault
@@ -49,7 +49,7 @@ change_faults Amd64 place NegateSign c = refl
 change_faults Aarch64 place NegateSign c = refl
 
 -- ---- the common information entry
-define_faults : (arch : Arch) (place : ℕ) (effect : Effect) (row : FullRow) → fault_of (defined arch place effect (columns_of arch row)) ≡ define_fault arch place effect row.cfa
+define_faults : (arch : Arch) (place : ℕ) (effect : Effect) (row : FullRow) → fault_of (cie_step arch place effect (columns_of arch row)) ≡ define_fault arch place effect row.cfa
 define_faults arch place (Row change) row = change_faults arch place change (columns_of arch row)
 define_faults arch place (Advance n) row = refl
 define_faults arch place (Restore r) row = refl
@@ -64,7 +64,7 @@ initial_faults : (arch : Arch) (f : ℤ) (row : FullRow) (items : List Item) →
 unfolding initial_columns initial_fault
 initial_faults arch f row [] = refl
 initial_faults arch f row (Err e ∷ items) = refl
-initial_faults arch f row (Ok (place, i) ∷ items) = define_then arch (defined arch place (effect_by f i) (columns_of arch row)) (row_defined (effect_by f i) row) _ _ _ (define_faults arch place (effect_by f i) row) (define_agrees arch place (effect_by f i) row) (initial_faults arch f (row_defined (effect_by f i) row) items)
+initial_faults arch f row (Ok (place, i) ∷ items) = define_then arch (cie_step arch place (effect_by f i) (columns_of arch row)) (row_defined (effect_by f i) row) _ _ _ (define_faults arch place (effect_by f i) row) (define_agrees arch place (effect_by f i) row) (initial_faults arch f (row_defined (effect_by f i) row) items)
 
 -- ---- the function
 length_of_columns : (arch : Arch) (rows : List FullRow) → length (map (columns_of arch) rows) ≡ length rows
@@ -83,7 +83,7 @@ recall_faults : (arch : Arch) (place : ℕ) (rows : List FullRow) → fault_of (
 recall_faults arch place [] = refl
 recall_faults arch place (row ∷ rows) = refl
 
-run_faults : (k : FunctionContext) (place : ℕ) (effect : Effect) (s : State) (n : ℕ) (full : UnwindState) → Agrees k s n full → fault_of (ran k place effect s) ≡ run_fault k.arch place effect full
+run_faults : (k : FunctionContext) (place : ℕ) (effect : Effect) (s : State) (n : ℕ) (full : UnwindState) → Agrees k s n full → fault_of (step k place effect s) ≡ run_fault k.arch place effect full
 run_faults k place (Row change) s n full h =
     fault_behind (changed k.arch place change s.columns) _ ∙ change_faults k.arch place change s.columns ∙ ap (λ (c : Columns). change_fault k.arch place change c.cfa) h.columns
 run_faults k place (Advance delta) s n full h = refl
@@ -107,7 +107,7 @@ rows_fault k initial f s n full (Ok (place, i) ∷ items) init h =
     let effect = effect_by f i in
     let m = offset_behind k.code effect n in
     let behind = after_instruction initial effect full in
-    run_then k s m behind (ran k place effect s) (λ t. rows_from k f t items) _ _ (run_faults k place effect s n full h) (ran_agrees k initial place effect s n full init h) (λ t agrees. rows_fault k initial f t m behind items init agrees)
+    run_then k s m behind (step k place effect s) (λ t. rows_from k f t items) _ _ (run_faults k place effect s n full h) (step_agrees k initial place effect s n full init h) (λ t agrees. rows_fault k initial f t m behind items init agrees)
 
 -- ---- both
 from_none : (arch : Arch) (f : ℤ) (cie : List Item) → fault_of (initial_columns arch f no_columns cie) ≡ initial_fault arch f no_row cie

@@ -20,7 +20,7 @@ use Rattle.cfa_machine.specs.declared.machine.FunctionContext.{FunctionContext}
 use Rattle.cfa_machine.specs.declared.row.DwRow.{DwRow}
 use Rattle.cfa_machine.specs.Columns.{no_columns, changed, with_cfa_register, with_cfa_offset, row_from}
 use Rattle.cfa_machine.specs.Effects.{effect_by}
-use Rattle.cfa_machine.specs.Pass.{◌>>=◌, State, defined, cie_items, initial_columns, advanced, with_recalled, ran, ran_more, in_front, rows_from, rows_by, Gives}
+use Rattle.cfa_machine.specs.Pass.{◌>>=◌, State, cie_step, cie_item_step, initial_columns, advanced, with_recalled, step, item_step, in_front, rows_from, rows_by, Gives}
 use Rattle.cfa_machine.specs.RowList.{RiseFrom, BeginAtZero, sign_fits, AreRows}
 
 -- ---- the sign
@@ -51,25 +51,25 @@ changed_sign Amd64 place NegateSign c h = tt
 changed_sign Aarch64 place NegateSign c h = record { fits = refl }
 
 -- ---- the common information entry
-defined_sign : (arch : Arch) (place : ℕ) (effect : Effect) (c : Columns) → SignFits arch c → SignsFit arch (defined arch place effect c)
-defined_sign arch place (Row change) c h = changed_sign arch place change c h
-defined_sign arch place (Advance n) c h = tt
-defined_sign arch place (Restore r) c h = tt
-defined_sign arch place Remember c h = tt
-defined_sign arch place Recall c h = tt
+cie_step_sign : (arch : Arch) (place : ℕ) (effect : Effect) (c : Columns) → SignFits arch c → SignsFit arch (cie_step arch place effect c)
+cie_step_sign arch place (Row change) c h = changed_sign arch place change c h
+cie_step_sign arch place (Advance n) c h = tt
+cie_step_sign arch place (Restore r) c h = tt
+cie_step_sign arch place Remember c h = tt
+cie_step_sign arch place Recall c h = tt
 
-defined_more_sign : (arch : Arch) (f : ℤ) (x : Item) (c : Columns) → SignFits arch c → SignsFit arch (cie_items arch f x c)
-defined_more_sign arch f (Ok (place, i)) c h = defined_sign arch place (effect_by f i) c h
-defined_more_sign arch f (Err e) c h = tt
+cie_item_step_sign : (arch : Arch) (f : ℤ) (x : Item) (c : Columns) → SignFits arch c → SignsFit arch (cie_item_step arch f x c)
+cie_item_step_sign arch f (Ok (place, i)) c h = cie_step_sign arch place (effect_by f i) c h
+cie_item_step_sign arch f (Err e) c h = tt
 
 then_sign : (arch : Arch) (d : Result Columns MachineFault) (next : Columns → Result Columns MachineFault) → SignsFit arch d → ((c : Columns) → SignFits arch c → SignsFit arch (next c)) → SignsFit arch (d >>= next)
 then_sign arch (Ok c) next h go = go c h
 then_sign arch (Err e) next h go = tt
 
-pub defined_by_sign : (arch : Arch) (f : ℤ) (c : Columns) (items : List Item) → SignFits arch c → SignsFit arch (initial_columns arch f c items)
+pub initial_columns_sign : (arch : Arch) (f : ℤ) (c : Columns) (items : List Item) → SignFits arch c → SignsFit arch (initial_columns arch f c items)
 unfolding initial_columns
-defined_by_sign arch f c [] h = h
-defined_by_sign arch f c (x ∷ items) h = then_sign arch (cie_items arch f x c) _ (defined_more_sign arch f x c h) (λ d g. defined_by_sign arch f d items g)
+initial_columns_sign arch f c [] h = h
+initial_columns_sign arch f c (x ∷ items) h = then_sign arch (cie_item_step arch f x c) _ (cie_item_step_sign arch f x c h) (λ d g. initial_columns_sign arch f d items g)
 
 -- ---- the function's states
 pub record StateFits (k : FunctionContext) (s : State) : Type 0 where
@@ -107,21 +107,21 @@ recall_goes : (k : FunctionContext) (place : ℕ) (s : State) (rows : List Colum
 recall_goes k place s [] h all = tt
 recall_goes k place s (c ∷ rows) h all = record { fits = record { sign = all 0 c (omega arith); remembered = All-tail (SignFits k.arch) c rows all; capped = h.capped }; moves = inl refl }
 
-ran_goes : (k : FunctionContext) (place : ℕ) (effect : Effect) (s : State) → StateFits k s → GoesOn k s (ran k place effect s)
-ran_goes k place (Row change) s h = change_goes k s (changed k.arch place change s.columns) h (changed_sign k.arch place change s.columns h.sign)
-ran_goes k place (Advance n) s h =
+step_goes : (k : FunctionContext) (place : ℕ) (effect : Effect) (s : State) → StateFits k s → GoesOn k s (step k place effect s)
+step_goes k place (Row change) s h = change_goes k s (changed k.arch place change s.columns) h (changed_sign k.arch place change s.columns h.sign)
+step_goes k place (Advance n) s h =
     let next : ℕ = advanced k.code n s.offset in
     let small : s.offset < 2 ^ 64 = h.capped in
     let le : s.offset ≤ next = omega arith in
     let capped : next < 2 ^ 64 = omega arith in
     record { fits = record { sign = h.sign; remembered = h.remembered; capped = capped }; moves = advance_moves k s (record s { offset = next }) (nat_lt s.offset next) (nat_lt s.offset k.size) le refl refl }
-ran_goes k place (Restore r) s h = record { fits = record { sign = record { fits = h.sign.fits }; remembered = h.remembered; capped = h.capped }; moves = inl refl }
-ran_goes k place Remember s h = remember_goes k place s (nat_lt (length s.remembered) 64) (StateDepth place) h
-ran_goes k place Recall s h = recall_goes k place s s.remembered h h.remembered
+step_goes k place (Restore r) s h = record { fits = record { sign = record { fits = h.sign.fits }; remembered = h.remembered; capped = h.capped }; moves = inl refl }
+step_goes k place Remember s h = remember_goes k place s (nat_lt (length s.remembered) 64) (StateDepth place) h
+step_goes k place Recall s h = recall_goes k place s s.remembered h h.remembered
 
-pub ran_more_goes : (k : FunctionContext) (f : ℤ) (x : Item) (s : State) → StateFits k s → GoesOn k s (ran_more k f x s)
-ran_more_goes k f (Ok (place, i)) s h = ran_goes k place (effect_by f i) s h
-ran_more_goes k f (Err e) s h = tt
+pub item_step_goes : (k : FunctionContext) (f : ℤ) (x : Item) (s : State) → StateFits k s → GoesOn k s (item_step k f x s)
+item_step_goes k f (Ok (place, i)) s h = step_goes k place (effect_by f i) s h
+item_step_goes k f (Err e) s h = tt
 
 -- ---- the rows
 abbrev pub StartsAt : ℕ → List DwRow → Type 0
@@ -178,7 +178,7 @@ last_rest k s false fits e =
 pub rows_from_rest : (k : FunctionContext) (f : ℤ) (s : State) (items : List Item) → StateFits k s → IsRest k s.offset (rows_from k f s items)
 unfolding rows_from
 rows_from_rest k f s [] fits = last_rest k s (nat_lt s.offset k.size) fits refl
-rows_from_rest k f s (x ∷ items) fits = rest_then k s (ran_more k f x s) (λ t. rows_from k f t items) fits (ran_more_goes k f x s fits) (λ t h. rows_from_rest k f t items h)
+rows_from_rest k f s (x ∷ items) fits = rest_then k s (item_step k f x s) (λ t. rows_from k f t items) fits (item_step_goes k f x s fits) (λ t h. rows_from_rest k f t items h)
 
 -- ---- a whole function
 abbrev pub AreRowsIfOk : Arch → ℕ → Result (List DwRow) MachineFault → Type 0
@@ -214,7 +214,7 @@ rows_from-are_rows : (arch : Arch) (code : ℕ) (f : ℤ) (size : ℕ) (initial 
 rows_from-are_rows arch code f size initial cie fde e =
     let k : FunctionContext = record { arch = arch; code = code; size = size; initial = initial } in
     let s : State = record { columns = initial; remembered = []; offset = 0 } in
-    let sign : SignFits arch initial = subst (SignsFit arch) (sym e) (defined_by_sign arch f no_columns cie (no_sign arch)) in
+    let sign : SignFits arch initial = subst (SignsFit arch) (sym e) (initial_columns_sign arch f no_columns cie (no_sign arch)) in
     whole k (rows_from k f s fde) (rows_from_rest k f s fde (record { sign = sign; remembered = All-nil (SignFits arch); capped = omega arith }))
 
 then_rows : (arch : Arch) (size : ℕ) (initial : Result Columns MachineFault) (next : Columns → Result (List DwRow) MachineFault) → ((c : Columns) → initial ≡ Ok c → AreRowsIfOk arch size (next c)) → AreRowsIfOk arch size (initial >>= next)

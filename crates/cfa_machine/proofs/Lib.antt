@@ -1,4 +1,4 @@
-pub mod Before
+pub mod InstructionLoops
 pub mod GoodRows
 pub mod Agrees
 pub mod Says

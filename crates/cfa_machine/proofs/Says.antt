@@ -15,11 +15,11 @@ use Rattle.cfa_machine.specs.declared.machine.FunctionContext.{FunctionContext}
 use Rattle.cfa_machine.specs.declared.row.DwRow.{DwRow}
 use Rattle.cfa_machine.specs.Columns.{no_columns, restored, changed, row_from}
 use Rattle.cfa_machine.specs.Effects.{effect_by}
-use Rattle.cfa_machine.specs.Pass.{◌>>=◌, State, initial_columns, advanced, row_before, with_recalled, ran, last_row, in_front, rows_from, rows_by, Gives}
+use Rattle.cfa_machine.specs.Pass.{◌>>=◌, State, initial_columns, advanced, row_before, with_recalled, step, last_row, in_front, rows_from, rows_by, Gives}
 use Rattle.cfa_machine.specs.RowList.{RiseFrom}
 use Rattle.cfa_machine.specs.FullRow.{FullRow, no_row, rule_of, with_register_rule, row_after, columns_of}
 use Rattle.cfa_machine.specs.RowAtOffset.{UnwindState, recalled, after_instruction, offset_behind, state_before, initial_by, row_at_offset, latest_at, SaysAt, SayAll}
-use Rattle.cfa_machine.proofs.GoodRows.{SignFits, SignsFit, StateFits, GoesOn, IsRest, ran_more_goes, rows_from_rest, defined_by_sign, no_sign}
+use Rattle.cfa_machine.proofs.GoodRows.{SignFits, SignsFit, StateFits, GoesOn, IsRest, item_step_goes, rows_from_rest, initial_columns_sign, no_sign}
 use Rattle.cfa_machine.proofs.Agrees.{ChangesTo, change_agrees, restore_agrees, initial_agrees}
 
 -- ---- the state of the pass and the full state at an offset
@@ -60,19 +60,19 @@ advance_caps code delta offset n e = rw e (plain (code * delta) n)
     plain : (by n : ℕ) → min (min n (2 ^ 64 - 1) + min by (2 ^ 64 - 1)) (2 ^ 64 - 1) ≡ min (n + by) (2 ^ 64 - 1)
     plain by n = omega arith
 
-pub ran_agrees : (k : FunctionContext) (initial : FullRow) (place : ℕ) (effect : Effect) (s : State) (n : ℕ) (full : UnwindState) → k.initial ≡ columns_of k.arch initial → Agrees k s n full
-    → StepsAgree k s (ran k place effect s) (offset_behind k.code effect n) (after_instruction initial effect full)
-ran_agrees k initial place (Row change) s n full init h =
+pub step_agrees : (k : FunctionContext) (initial : FullRow) (place : ℕ) (effect : Effect) (s : State) (n : ℕ) (full : UnwindState) → k.initial ≡ columns_of k.arch initial → Agrees k s n full
+    → StepsAgree k s (step k place effect s) (offset_behind k.code effect n) (after_instruction initial effect full)
+step_agrees k initial place (Row change) s n full init h =
     change_steps k s n full (changed k.arch place change s.columns) (row_after change full.row) h (subst (λ (c : Columns). ChangesTo k.arch (changed k.arch place change c) (row_after change full.row)) (sym h.columns) (change_agrees k.arch place change full.row))
-ran_agrees k initial place (Advance delta) s n full init h = record {
+step_agrees k initial place (Advance delta) s n full init h = record {
   agrees = record { columns = h.columns; remembered = h.remembered; offset = advance_caps k.code delta s.offset n h.offset };
   row_is = refl;
 }
-ran_agrees k initial place (Restore r) s n full init h =
+step_agrees k initial place (Restore r) s n full init h =
     let e : restored k.arch r k.initial s.columns ≡ columns_of k.arch (with_register_rule r (rule_of r initial.rules) full.row) = rw (init, h.columns) (restore_agrees k.arch r initial full.row) in
     record { agrees = record { columns = e; remembered = h.remembered; offset = h.offset }; row_is = no_row_here k.size s.offset s.columns }
-ran_agrees k initial place Remember s n full init h = remember_steps k s n full (nat_lt (length s.remembered) 64) (StateDepth place) h
-ran_agrees k initial place Recall s n full init h =
+step_agrees k initial place Remember s n full init h = remember_steps k s n full (nat_lt (length s.remembered) 64) (StateDepth place) h
+step_agrees k initial place Recall s n full init h =
     subst (λ (rows : List Columns). StepsAgree k s (with_recalled place rows >>= λ x. Ok (record s { columns = x.0; remembered = x.1 }, None)) n (recalled full.remembered full)) (sym h.remembered) (recall_steps k place s n full full.remembered h)
 
 -- ---- the row found at an offset
@@ -140,7 +140,7 @@ rows_say k initial f o s n full (Ok (place, i) ∷ items) init h fits le inside 
     let effect = effect_by f i in
     let m = offset_behind k.code effect n in
     let behind = after_instruction initial effect full in
-    then_says k o s n m full behind (state_before initial k.code f o m behind items) (ran k place effect s) (λ t. rows_from k f t items) h le inside small (ran_agrees k initial place effect s n full init h) (ran_more_goes k f (Ok (place, i)) s fits)
+    then_says k o s n m full behind (state_before initial k.code f o m behind items) (step k place effect s) (λ t. rows_from k f t items) h le inside small (step_agrees k initial place effect s n full init h) (item_step_goes k f (Ok (place, i)) s fits)
     (λ t agrees t_fits. record { rest = rows_from_rest k f t items t_fits; says = λ on. rows_say k initial f o t m behind items init agrees t_fits on inside small })
 
 -- ---- a whole function
@@ -162,7 +162,7 @@ rows_from-say arch code f size initial cie fde small e =
     let k : FunctionContext = record { arch = arch; code = code; size = size; initial = initial } in
     let s : State = record { columns = initial; remembered = []; offset = 0 } in
     let row : FullRow = initial_by f no_row cie in
-    let sign : SignFits arch initial = subst (SignsFit arch) (sym e) (defined_by_sign arch f no_columns cie (no_sign arch)) in
+    let sign : SignFits arch initial = subst (SignsFit arch) (sym e) (initial_columns_sign arch f no_columns cie (no_sign arch)) in
     let from_none : ChangesTo arch (initial_columns arch f no_columns cie) row = subst (λ (c : Columns). ChangesTo arch (initial_columns arch f c cie) row) (no_columns_there arch) (initial_agrees arch f no_row cie) in
     let init : initial ≡ columns_of arch row = subst (λ (d : Result Columns MachineFault). ChangesTo arch d row) (sym e) from_none in
     all_say arch code f size cie fde (rows_from k f s fde) (λ o lt. rows_say k row f o s 0 (record { row = row; remembered = [] }) fde init (record { columns = init; remembered = refl; offset = refl }) (record { sign = sign; remembered = All-nil (SignFits arch); capped = omega arith }) (omega arith) lt small)

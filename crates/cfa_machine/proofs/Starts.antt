@@ -12,11 +12,11 @@ use Rattle.cfa_machine.specs.declared.machine.FunctionContext.{FunctionContext}
 use Rattle.cfa_machine.specs.declared.row.DwRow.{DwRow}
 use Rattle.cfa_machine.specs.Columns.{no_columns, row_from}
 use Rattle.cfa_machine.specs.Effects.{effect_by}
-use Rattle.cfa_machine.specs.Pass.{◌>>=◌, State, initial_columns, ran, in_front, rows_from, rows_by, Gives}
+use Rattle.cfa_machine.specs.Pass.{◌>>=◌, State, initial_columns, step, in_front, rows_from, rows_by, Gives}
 use Rattle.cfa_machine.specs.FullRow.{FullRow, no_row, columns_of}
 use Rattle.cfa_machine.specs.RowAtOffset.{UnwindState, after_instruction, offset_behind, initial_by, reaches, has_start, StartWhereReached}
 use Rattle.cfa_machine.proofs.Agrees.{ChangesTo, initial_agrees}
-use Rattle.cfa_machine.proofs.Says.{Agrees, StepsAgree, ran_agrees, no_columns_there}
+use Rattle.cfa_machine.proofs.Says.{Agrees, StepsAgree, step_agrees, no_columns_there}
 
 not_equal : (n o : ℕ) → o < n → (n == o) ≡ false
 not_equal n o lt = ne_eqb n o (λ e. omega arith)
@@ -92,7 +92,7 @@ starts_are k initial f o s n full (Ok (place, i) ∷ items) init h lt small =
     let effect = effect_by f i in
     let m = offset_behind k.code effect n in
     let behind = after_instruction initial effect full in
-    starts_then k o s n m full behind (reaches k.code f o m items) (ran k place effect s) (λ t. rows_from k f t items) h (behind_on k.code effect n) lt small (λ e. subst (λ (x : ℕ). reaches k.code f o x items ≡ true) (sym e) (reaches_here k.code f o items)) (ran_agrees k initial place effect s n full init h)
+    starts_then k o s n m full behind (reaches k.code f o m items) (step k place effect s) (λ t. rows_from k f t items) h (behind_on k.code effect n) lt small (λ e. subst (λ (x : ℕ). reaches k.code f o x items ≡ true) (sym e) (reaches_here k.code f o items)) (step_agrees k initial place effect s n full init h)
     (λ t agrees. starts_are k initial f o t m behind items init agrees lt small)
 
 -- ---- a whole function

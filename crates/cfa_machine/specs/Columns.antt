@@ -1,5 +1,6 @@
 -- The part of a row that the one pass keeps.
-use Rattle.std.specs.Prelude.{◌≡◌, ℕ, ℤ, ◌==◌, not, false, Result, Ok, Err, if◌then◌else◌}
+use Rattle.std.specs.Prelude.{ℕ, ℤ, ◌==◌, not, false, Result, Ok, Err, if◌then◌else◌}
+use Rattle.sf_bytes.specs.Answers.{Is}
 use Rattle.sf_model.specs.declared.machine.Arch.{Arch}
 use Rattle.sf_model.specs.declared.machine.Arch.TheVariants.{Amd64, Aarch64}
 use Rattle.cfa_insn.specs.declared.fault.InsnFault.TheVariants.{Opcode}
@@ -67,8 +68,7 @@ changed arch place NegateSign c = with_sign_inverted arch place c
 
 -- what a call answered, and the row that it left, are what the change gives
 abbrev pub Changes : {U : Type 0} → (new : Columns) → Result U MachineFault → (given : Result Columns MachineFault) → Type 0
-Changes new (Ok u) given = given ≡ Ok new
-Changes new (Err e) given = given ≡ Err e
+Changes new result given = Is (λ u. new) result given
 
 abbrev pub row_from : ℕ → Columns → DwRow
 row_from start c = record { start = start; cfa = c.cfa; sp = c.sp; fp = c.fp; ra = c.ra; sign = c.sign; signed = c.signed }

@@ -1,6 +1,6 @@
 -- The first instruction that can't be read or run, the common information entry's first (DWARF 5, sections 6.4.2
 -- and 6.4.3): asked of the CFA rule and of how many rows are remembered alone.
-use Rattle.std.specs.Prelude.{◌≡◌, ℕ, ℤ, nat_lt, List, [], ◌∷◌, length, Option, Some, None, Result, Ok, Err, if◌then◌else◌}
+use Rattle.std.specs.Prelude.{ℕ, ℤ, nat_lt, List, [], ◌∷◌, length, Option, Some, None, Result, Ok, Err, if◌then◌else◌}
 use Rattle.sf_model.specs.declared.machine.Arch.{Arch}
 use Rattle.sf_model.specs.declared.machine.Arch.TheVariants.{Amd64, Aarch64}
 use Rattle.cfa_insn.specs.Listing.{Item}
@@ -12,8 +12,10 @@ use Rattle.cfa_machine.specs.declared.effect.RowEffect.TheVariants.{Nothing, Set
 use Rattle.cfa_machine.specs.declared.effect.Effect.{Effect}
 use Rattle.cfa_machine.specs.declared.effect.Effect.TheVariants.{Row, Advance, Restore, Remember, Recall}
 use Rattle.cfa_machine.specs.declared.fault.MachineFault.{MachineFault}
-use Rattle.cfa_machine.specs.declared.fault.MachineFault.TheVariants.{CieInstruction, StateEmpty, StateDepth, NoCfaRegister, Insn, NoMemory}
+use Rattle.cfa_machine.specs.declared.fault.MachineFault.TheVariants.{CieInstruction, StateEmpty, StateDepth, NoCfaRegister, Insn}
+use Rattle.sf_model.specs.Answers.{FailsFirst}
 use Rattle.cfa_machine.specs.Effects.{effect_by}
+use Rattle.cfa_machine.specs.Fault.{refusal_of}
 use Rattle.cfa_machine.specs.FullRow.{FullRow, no_row}
 use Rattle.cfa_machine.specs.RowAtOffset.{UnwindState, after_instruction, row_defined, initial_by}
 pub use Rattle.sf_model.specs.Firsts.{or_later}
@@ -72,12 +74,6 @@ abbrev pub first_fault : Arch → ℤ → (cie fde : List Item) → Option Machi
 first_fault arch f cie fde =
     or_later (initial_fault arch f no_row cie) (function_fault arch f (initial_by f no_row cie) (record { row = initial_by f no_row cie; remembered = [] }) fde)
 
--- an answer is Ok where there is no fault, and else the fault, unless memory is wanting
+-- a call succeeded where there is no fault, and else returned the fault, unless memory ran out
 abbrev pub Answers : {X : Type 0} → Result X MachineFault → Option MachineFault → Type 0
-Answers (Ok x) fault = fault ≡ None
-Answers (Err NoMemory) fault = Unit {0}
-Answers (Err (CieInstruction place)) fault = fault ≡ Some (CieInstruction place)
-Answers (Err (StateEmpty place)) fault = fault ≡ Some (StateEmpty place)
-Answers (Err (StateDepth place)) fault = fault ≡ Some (StateDepth place)
-Answers (Err (NoCfaRegister place)) fault = fault ≡ Some (NoCfaRegister place)
-Answers (Err (Insn e)) fault = fault ≡ Some (Insn e)
+Answers result fault = FailsFirst refusal_of result fault

@@ -7,6 +7,7 @@ pub mod Left
 pub mod RowList
 pub mod FullRow
 pub mod RowAtOffset
+pub mod Fault
 pub mod FirstFault
 pub mod Recovery
 pub mod ColumnRecovery

@@ -1,38 +1,40 @@
 -- One pass over a function's instructions, with the columns alone: the rows, each from the offset of an advance
 -- to the next, or the first fault.
-use Rattle.std.specs.Prelude.{◌≡◌, ◌<◌, ℕ, ℤ, ◌+◌, ◌*◌, ◌-◌, ◌^◌, min, ◌&&◌, nat_lt, List, [], ◌∷◌, length, reverse, Option, Some, None, Result, Ok, Err, if◌then◌else◌}
+use Rattle.std.specs.Prelude.{◌<◌, ℕ, ℤ, ◌+◌, ◌*◌, ◌-◌, ◌^◌, min, ◌&&◌, nat_lt, List, [], ◌∷◌, length, reverse, Option, Some, None, Result, Ok, Err, if◌then◌else◌}
 use Rattle.arrayvec.specs.ArrayVec.{ArrayVec}
 use Rattle.sf_model.specs.declared.machine.Arch.{Arch}
 use Rattle.cfa_insn.specs.Listing.{Item}
 use Rattle.cfa_machine.specs.declared.effect.Effect.{Effect}
 use Rattle.cfa_machine.specs.declared.effect.Effect.TheVariants.{Row, Advance, Restore, Remember, Recall}
 use Rattle.cfa_machine.specs.declared.fault.MachineFault.{MachineFault}
-use Rattle.cfa_machine.specs.declared.fault.MachineFault.TheVariants.{CieInstruction, StateEmpty, StateDepth, NoCfaRegister, Insn, NoMemory}
+use Rattle.cfa_machine.specs.declared.fault.MachineFault.TheVariants.{CieInstruction, StateEmpty, StateDepth, Insn}
 use Rattle.cfa_machine.specs.declared.columns.Columns.{Columns}
 use Rattle.cfa_machine.specs.declared.row.DwRow.{DwRow}
 use Rattle.cfa_machine.specs.declared.machine.FunctionContext.{FunctionContext}
 use Rattle.cfa_machine.specs.declared.machine.Machine.{Machine}
 use Rattle.cfa_machine.specs.Columns.{no_columns, changed, restored, row_from}
 use Rattle.cfa_machine.specs.Effects.{effect_by}
+pub use Rattle.cfa_machine.specs.Fault.{Fails, Gives}
+use Rattle.sf_bytes.specs.Answers.{Is}
 pub use Rattle.sf_bytes.specs.Steps.{◌>>=◌}
 
 -- ---- the common information entry
-abbrev pub defined : Arch → ℕ → Effect → Columns → Result Columns MachineFault
-defined arch place (Row change) c = changed arch place change c
-defined arch place (Advance n) c = Err (CieInstruction place)
-defined arch place (Restore r) c = Err (CieInstruction place)
-defined arch place Remember c = Err (CieInstruction place)
-defined arch place Recall c = Err (CieInstruction place)
+abbrev pub cie_step : Arch → ℕ → Effect → Columns → Result Columns MachineFault
+cie_step arch place (Row change) c = changed arch place change c
+cie_step arch place (Advance n) c = Err (CieInstruction place)
+cie_step arch place (Restore r) c = Err (CieInstruction place)
+cie_step arch place Remember c = Err (CieInstruction place)
+cie_step arch place Recall c = Err (CieInstruction place)
 
 -- the row after one more item
-abbrev pub cie_items : Arch → ℤ → Item → Columns → Result Columns MachineFault
-cie_items arch f (Ok (place, i)) c = defined arch place (effect_by f i) c
-cie_items arch f (Err e) c = Err (Insn e)
+abbrev pub cie_item_step : Arch → ℤ → Item → Columns → Result Columns MachineFault
+cie_item_step arch f (Ok (place, i)) c = cie_step arch place (effect_by f i) c
+cie_item_step arch f (Err e) c = Err (Insn e)
 
 -- the row after all of them, from c on
 unfoldable pub initial_columns : Arch → ℤ → Columns → List Item → Result Columns MachineFault
 initial_columns arch f c [] = Ok c
-initial_columns arch f c (x ∷ items) = cie_items arch f x c >>= λ d. initial_columns arch f d items
+initial_columns arch f c (x ∷ items) = cie_item_step arch f x c >>= λ d. initial_columns arch f d items
 
 -- ---- the function
 pub record State : Type 0 where
@@ -57,12 +59,12 @@ with_recalled place [] = Err (StateEmpty place)
 with_recalled place (c ∷ rows) = Ok (c, rows)
 
 -- one instruction at a place: the next state, and the row that ends
-abbrev pub ran : FunctionContext → ℕ → Effect → State → Result (State × Option DwRow) MachineFault
-ran k place (Row change) s = changed k.arch place change s.columns >>= λ c. Ok (record s { columns = c }, None)
-ran k place (Advance n) s = Ok (record s { offset = advanced k.code n s.offset }, row_before k.size (advanced k.code n s.offset) s.offset s.columns)
-ran k place (Restore r) s = Ok (record s { columns = restored k.arch r k.initial s.columns }, None)
-ran k place Remember s = with_remembered place s.columns s.remembered >>= λ rows. Ok (record s { remembered = rows }, None)
-ran k place Recall s = with_recalled place s.remembered >>= λ x. Ok (record s { columns = x.0; remembered = x.1 }, None)
+abbrev pub step : FunctionContext → ℕ → Effect → State → Result (State × Option DwRow) MachineFault
+step k place (Row change) s = changed k.arch place change s.columns >>= λ c. Ok (record s { columns = c }, None)
+step k place (Advance n) s = Ok (record s { offset = advanced k.code n s.offset }, row_before k.size (advanced k.code n s.offset) s.offset s.columns)
+step k place (Restore r) s = Ok (record s { columns = restored k.arch r k.initial s.columns }, None)
+step k place Remember s = with_remembered place s.columns s.remembered >>= λ rows. Ok (record s { remembered = rows }, None)
+step k place Recall s = with_recalled place s.remembered >>= λ x. Ok (record s { columns = x.0; remembered = x.1 }, None)
 
 abbrev pub last_row : (size : ℕ) → State → Option DwRow
 last_row size s = if nat_lt s.offset size then Some (row_from s.offset s.columns) else None
@@ -72,15 +74,15 @@ in_front None rows = rows
 in_front (Some row) rows = row ∷ rows
 
 -- the same for an item
-abbrev pub ran_more : FunctionContext → ℤ → Item → State → Result (State × Option DwRow) MachineFault
-ran_more k f (Ok (place, i)) s = ran k place (effect_by f i) s
-ran_more k f (Err e) s = Err (Insn e)
+abbrev pub item_step : FunctionContext → ℤ → Item → State → Result (State × Option DwRow) MachineFault
+item_step k f (Ok (place, i)) s = step k place (effect_by f i) s
+item_step k f (Err e) s = Err (Insn e)
 
 -- the rows that the instructions give from a state on
 unfoldable pub rows_from : FunctionContext → ℤ → State → List Item → Result (List DwRow) MachineFault
 rows_from k f s [] = Ok (in_front (last_row k.size s) [])
 rows_from k f s (x ∷ items) = do
-  o ← ran_more k f x s
+  o ← item_step k f x s
   rows ← rows_from k f o.0 items
   Ok (in_front o.1 rows)
 
@@ -102,10 +104,9 @@ abbrev pub ended : Columns → Option ℕ → Option DwRow
 ended c None = None
 ended c (Some start) = Some (row_from start c)
 
--- what a call answered is what the pass gives
+-- a call gave the start of the row that ends, and left the machine, as the step does
 abbrev pub Steps : Machine → Result (Option ℕ) MachineFault → Result (State × Option DwRow) MachineFault → Type 0
-Steps new (Ok start) given = given ≡ Ok (state new, ended new.columns start)
-Steps new (Err e) given = given ≡ Err e
+Steps new result given = Is (λ start. (state new, ended new.columns start)) result given
 
 -- a row that ends starts below the size
 abbrev pub StartsBelow : (size : ℕ) → Result (Option ℕ) MachineFault → Type 0
@@ -114,22 +115,7 @@ StartsBelow size (Ok None) = Unit {0}
 StartsBelow size (Err e) = Unit {0}
 
 abbrev pub Remembers : {U : Type 0} → ArrayVec Columns → Result U MachineFault → Result (List Columns) MachineFault → Type 0
-Remembers new (Ok u) given = given ≡ Ok (latest_first new)
-Remembers new (Err e) given = given ≡ Err e
+Remembers new result given = Is (λ u. latest_first new) result given
 
 abbrev pub Recalls : ArrayVec Columns → Result Columns MachineFault → Result (Columns × List Columns) MachineFault → Type 0
-Recalls new (Ok c) given = given ≡ Ok (c, latest_first new)
-Recalls new (Err e) given = given ≡ Err e
-
--- the same where memory may be wanting
-abbrev pub Fails : {Y : Type 0} → MachineFault → Result Y MachineFault → Type 0
-Fails NoMemory given = Unit {0}
-Fails (CieInstruction place) given = given ≡ Err (CieInstruction place)
-Fails (StateEmpty place) given = given ≡ Err (StateEmpty place)
-Fails (StateDepth place) given = given ≡ Err (StateDepth place)
-Fails (NoCfaRegister place) given = given ≡ Err (NoCfaRegister place)
-Fails (Insn e) given = given ≡ Err (Insn e)
-
-abbrev pub Gives : {X Y : Type 0} → (X → Y) → Result X MachineFault → Result Y MachineFault → Type 0
-Gives view (Ok x) given = given ≡ Ok (view x)
-Gives view (Err e) given = Fails e given
+Recalls new result given = Is (λ c. (c, latest_first new)) result given

@@ -3,7 +3,7 @@
 ghost use Rattle.std.specs.Prelude.{◌≡◌, ◌<◌, ◌&&◌, [], nat_lt, IfSome};
 ghost use Rattle.cfa_insn.specs.Listing.{item};
 ghost use Rattle.cfa_machine.specs.Columns.{Changes};
-ghost use Rattle.cfa_machine.specs.Pass.{state, defined, cie_items, ran, ran_more, ended, last_row, advanced, with_remembered, with_recalled, StartsBelow, Steps, Remembers, Recalls, latest_first};
+ghost use Rattle.cfa_machine.specs.Pass.{state, cie_step, cie_item_step, step, item_step, ended, last_row, advanced, with_remembered, with_recalled, StartsBelow, Steps, Remembers, Recalls, latest_first};
 
 use crate::columns::{Columns, change_row, restore_rule};
 use crate::effect::{Effect, effect_of};
@@ -47,7 +47,7 @@ fn define_at(
     effect: Effect,
     columns: &mut Columns,
 ) -> Result<(), MachineFault>
-    ensures { Changes columns.new result (defined arch place effect columns.old) }
+    ensures { Changes columns.new result (cie_step arch place effect columns.old) }
 {
     match effect {
         Effect::Row(change) => change_row(arch, place, change, columns),
@@ -66,7 +66,7 @@ pub fn define_row(
     read: Result<(u64, Insn<'_>), InsnFault>,
     columns: &mut Columns,
 ) -> Result<(), MachineFault>
-    ensures { Changes columns.new result (cie_items arch factor (item read.entry) columns.old) }
+    ensures { Changes columns.new result (cie_item_step arch factor (item read.entry) columns.old) }
 {
     match read {
         Ok((place, insn)) => define_at(arch, place, effect_of(factor, insn), columns),
@@ -152,7 +152,7 @@ impl Machine {
         factor: i64,
         read: Result<(u64, Insn<'_>), InsnFault>,
     ) -> Result<Option<u64>, MachineFault>
-        ensures steps { Steps self.new result (ran_more setup.now factor (item read.entry) (state self.old)) }
+        ensures steps { Steps self.new result (item_step setup.now factor (item read.entry) (state self.old)) }
         ensures below { StartsBelow setup.now.size result }
     {
         match read {
@@ -169,7 +169,7 @@ impl Machine {
         place: u64,
         effect: Effect,
     ) -> Result<Option<u64>, MachineFault>
-        ensures steps { Steps self.new result (ran setup.now place effect (state self.old)) }
+        ensures steps { Steps self.new result (step setup.now place effect (state self.old)) }
         ensures below { StartsBelow setup.now.size result }
     {
         match effect {

@@ -1,35 +1,20 @@
 -- The first record from a cursor on, and those behind it.
-use Rattle.std.proofs.Common.{◌≡◌, ℕ, zero, suc, ◌+◌, ◌-◌, ◌<◌, ◌≤◌, List, [], ◌∷◌, length, drop, Some, None, Ok, Err, refl, ap, ◌∙◌, arith, length-drop}
+use Rattle.std.proofs.Common.{◌≡◌, ℕ, suc, ◌+◌, ◌-◌, ◌<◌, ◌≤◌, List, [], ◌∷◌, length, drop, Some, None, Ok, Err, refl, ap, ◌∙◌, arith}
 use Rattle.sf_bytes.specs.Cursor.{Cursor, past}
+use Rattle.sf_bytes.proofs.Skipped.{behind}
 use Rattle.eh_records.specs.declared.fault.RecordFault.{RecordFault}
 use Rattle.eh_records.specs.Cutting.{Stands}
 use Rattle.eh_records.specs.RawRecord.{RawRecordView, raw_record_at}
 use Rattle.eh_records.specs.Section.{Cutting, cuts_after, cuts}
-use Rattle.eh_records.proofs.Moves.{cut_is, nothing_there}
+use Rattle.eh_records.proofs.RawRecords.{cut_is, nothing_there}
 
 cuts-nil : (skipped place : ℕ) → cuts_after skipped place [] ≡ []
 unfolding cuts_after
 cuts-nil skipped place = refl
 
--- m bytes that are passed one by one are m bytes fewer
-skip : (m place : ℕ) (bytes : List ℕ) → cuts_after (length bytes - (length bytes - m)) place bytes ≡ cuts_after 0 (place + m) (drop m bytes)
+cuts-suc : (n place b : ℕ) (bs : List ℕ) → cuts_after (suc n) place (b ∷ bs) ≡ cuts_after n (place + 1) bs
 unfolding cuts_after
-skip zero place [] = refl
-skip (suc m) place [] = refl
-skip zero place (b ∷ bs) =
-    let none : length (b ∷ bs) - (length (b ∷ bs) - 0) ≡ 0 = omega arith in
-    let same : place + 0 ≡ place = omega arith in
-    rw (none, same) refl
-skip (suc m) place (b ∷ bs) =
-    let one : length (b ∷ bs) - (length (b ∷ bs) - suc m) ≡ suc (length bs - (length bs - m)) = omega arith in
-    let on : place + 1 + m ≡ place + suc m = omega arith in
-    rw one (skip m (place + 1) bs ∙ ap (λ (p : ℕ). cuts_after 0 p (drop m bs)) on)
-
-behind : (m place : ℕ) (bs : List ℕ) (after : Cursor) → after ≡ record { place = place + m; left = drop m bs } → cuts_after (length bs - length after.left) place bs ≡ cuts after
-behind m place bs after e =
-    let len : length after.left ≡ length bs - m = ap (λ (c : Cursor). length c.left) e ∙ length-drop m bs in
-    let on : cuts after ≡ cuts_after 0 (place + m) (drop m bs) = ap cuts e in
-    rw (len, on) (skip m place bs)
+cuts-suc n place b bs = refl
 
 next_behind : (place b : ℕ) (bs : List ℕ) (p : RawRecordView) (after : Cursor) (k : ℕ) → 4 ≤ k → after ≡ past (4 + k) (record { place = place; left = b ∷ bs }) → cuts_after (length bs - length after.left) (place + 1) bs ≡ cuts after
 next_behind place b bs p after k enough e =
@@ -37,7 +22,7 @@ next_behind place b bs p after k enough e =
     let one : 4 + k ≡ suc (3 + k) = omega arith in
     let left : drop (4 + k) (b ∷ bs) ≡ drop (3 + k) bs = ap (λ (n : ℕ). drop n (b ∷ bs)) one in
     let after_is : after ≡ record { place = place + 1 + (3 + k); left = drop (3 + k) bs } = e ∙ cc in
-    behind (3 + k) (place + 1) bs after after_is
+    behind cuts_after cuts-nil cuts-suc (3 + k) (place + 1) bs after after_is
 
 starts_bytes : (place : ℕ) (bytes : List ℕ) (p : RawRecordView) (after : Cursor) → 0 < length bytes → raw_record_at (record { place = place; left = bytes }) ≡ Ok (Some (p, after))
     → cuts_after 0 place bytes ≡ Ok p ∷ cuts after

@@ -11,9 +11,9 @@ use Rattle.sf_model.specs.declared.machine.Arch.{Arch}
 use Rattle.sf_model.specs.declared.machine.Key.TheVariants as keys
 use Rattle.eh_records.specs.declared.fault.RecordFault.{RecordFault}
 use Rattle.eh_records.specs.declared.fault.RecordFault.TheVariants as faults
-use Rattle.eh_records.specs.Augmentation.{Said, said_plain, letters_at, data_at, form_at, personality_at, letter_at, said_by}
-use Rattle.eh_records.specs.Cie.{Numbers, SharedView, column_at, numbers_at, passed_data, said_at, cie_fields, cie_of}
-use Rattle.eh_records.specs.RawRecord.{RawRecordView, raw_record_at, piece_of, whole, sized, named_place}
+use Rattle.eh_records.specs.Augmentation.{AugmentationView, plain_augmentation, letters_at, data_at, form_at, personality_at, letter_at, augmentation_by}
+use Rattle.eh_records.specs.Cie.{Numbers, SharedView, column_at, numbers_at, passed_data, augmentation_at, cie_fields, cie_of}
+use Rattle.eh_records.specs.RawRecord.{RawRecordView, raw_record_at, record_of_length, whole, sized, named_place}
 use Rattle.eh_records.specs.Cutting.{with_common, start}
 use Rattle.eh_records.specs.Fde.{cie_at_place, lsda_in, lsda_at, entry_of, fde_of}
 use Rattle.eh_records.specs.Fields.{StringStands}
@@ -24,61 +24,61 @@ use Rattle.eh_records.proofs.Cuts.{starts_with_record, stops, faults as cut_faul
 use Rattle.eh_records.proofs.EntriesStand.{place_of, IsAgain, IsAt, at_start, at_after, is_among, among, named_back, entry_stands, places_by, known_by, found}
 use Rattle.eh_records.proofs.FieldsFail.{failed, fault_same, went, not_both, split, number_lacks, part_lacks, pointer_lacks, uleb_lacks, sleb_lacks, data_fails, string_fails, form_fails, personality_fails}
 use Rattle.eh_records.proofs.FieldsStand.{AreKnown, number_stands, uleb_stands, sleb_stands, pointer_stands, data_stands, saying_stands, string_stands, string_known, column_stands}
-use Rattle.eh_records.proofs.Moves.{through, ok_same, number_read, part_read}
+use Rattle.eh_records.proofs.RawRecords.{through, ok_same, number_read, part_read}
 use Rattle.eh_records.proofs.Stands.{next_of}
 
 -- ---- letters
-abbrev said_to : Said → Cursor → Step Said
-said_to said at = Ok (said, at)
+abbrev augmentation_to : AugmentationView → Cursor → Step AugmentationView
+augmentation_to augmentation at = Ok (augmentation, at)
 
-letter_by : (r p l s : Bool) (letter : ℕ) (said : Said) (at : Cursor) (e : RecordFault) → (letter == 82) ≡ r → (letter == 80) ≡ p → (letter == 76) ≡ l
+letter_by : (r p l s : Bool) (letter : ℕ) (augmentation : AugmentationView) (at : Cursor) (e : RecordFault) → (letter == 82) ≡ r → (letter == 80) ≡ p → (letter == 76) ≡ l
     → (
-    if r then (form_at at >>= λ f. said_to (record said { pointers = f.0 }) f.1)
-    else if p then (personality_at at >>= λ q. said_to (record said { personality = q.0 }) q.1)
-    else if l then (number_field 1 at >>= λ n. said_to (record said { lsda = Some n.0 }) n.1)
-    else if s then said_to (record said { signal = true }) at
-    else said_to (record said { key = keys.B }) at
+    if r then (form_at at >>= λ f. augmentation_to (record augmentation { pointers = f.0 }) f.1)
+    else if p then (personality_at at >>= λ q. augmentation_to (record augmentation { personality = q.0 }) q.1)
+    else if l then (number_field 1 at >>= λ n. augmentation_to (record augmentation { lsda = Some n.0 }) n.1)
+    else if s then augmentation_to (record augmentation { signal = true }) at
+    else augmentation_to (record augmentation { key = keys.B }) at
     ) ≡ failed e
     → SayingFails letter at e
-letter_by true p l s letter said at e tr tp tl h = elim (split (form_at at) _ e h) [
+letter_by true p l s letter augmentation at e tr tp tl h = elim (split (form_at at) _ e h) [
   | inl one ↦ inl (eqb-true _ _ tr, form_fails at e one)
   | inr w ↦ absurd (not_both _ e w.2)
 ]
-letter_by false true l s letter said at e tr tp tl h = elim (split (personality_at at) _ e h) [
+letter_by false true l s letter augmentation at e tr tp tl h = elim (split (personality_at at) _ e h) [
   | inl one ↦ inr (inl (eqb-true _ _ tp, personality_fails at e one))
   | inr w ↦ absurd (not_both _ e w.2)
 ]
-letter_by false false true s letter said at e tr tp tl h = elim (split (number_field 1 at) _ e h) [
+letter_by false false true s letter augmentation at e tr tp tl h = elim (split (number_field 1 at) _ e h) [
   | inl one ↦ inr (inr (eqb-true _ _ tl, number_lacks 1 at e one))
   | inr w ↦ absurd (not_both _ e w.2)
 ]
-letter_by false false false true letter said at e tr tp tl h = absurd (not_both _ e h)
-letter_by false false false false letter said at e tr tp tl h = absurd (not_both _ e h)
+letter_by false false false true letter augmentation at e tr tp tl h = absurd (not_both _ e h)
+letter_by false false false false letter augmentation at e tr tp tl h = absurd (not_both _ e h)
 
-saying_fails : (letter : ℕ) (said : Said) (at : Cursor) (e : RecordFault) → letter_at letter said at ≡ failed e → SayingFails letter at e
+saying_fails : (letter : ℕ) (augmentation : AugmentationView) (at : Cursor) (e : RecordFault) → letter_at letter augmentation at ≡ failed e → SayingFails letter at e
 unfolding letter_at
-saying_fails letter said at e h = letter_by (letter == 82) (letter == 80) (letter == 76) (letter == 83) letter said at e refl refl refl h
+saying_fails letter augmentation at e h = letter_by (letter == 82) (letter == 80) (letter == 76) (letter == 83) letter augmentation at e refl refl refl h
 
-sayings_fail : (arch : Arch) (letters : List ℕ) (said : Said) (at : Cursor) (e : RecordFault) → AreKnown arch letters → said_by letters said at ≡ failed e → SayingsFail letters at e
-unfolding said_by
-sayings_fail arch [] said at e known h = not_both said e h
-sayings_fail arch (b ∷ letters) said at e known h = elim (split (letter_at b said at) _ e h) [
-  | inl one ↦ inl (saying_fails b said at e one)
+sayings_fail : (arch : Arch) (letters : List ℕ) (augmentation : AugmentationView) (at : Cursor) (e : RecordFault) → AreKnown arch letters → augmentation_by letters augmentation at ≡ failed e → SayingsFail letters at e
+unfolding augmentation_by
+sayings_fail arch [] augmentation at e known h = not_both augmentation e h
+sayings_fail arch (b ∷ letters) augmentation at e known h = elim (split (letter_at b augmentation at) _ e h) [
+  | inl one ↦ inl (saying_fails b augmentation at e one)
   | inr w ↦
-      let s = saying_stands arch b said at w.0 known.0 w.1 in
+      let s = saying_stands arch b augmentation at w.0 known.0 w.1 in
       inr (s.saying, w.0.1, s.stands, sayings_fail arch letters w.0.0 w.0.1 e known.1 w.2)
 ]
 
-data_failed : (after : Cursor) (r : Result Said RecordFault) (e : RecordFault) → passed_data after r ≡ failed e → r ≡ failed e
-data_failed after (Ok said) e h = absurd (not_both (said, after) e h)
-data_failed after (Err d) e h = ap (λ (x : RecordFault). failed {X = Said} x) (fault_same {X = Said × Cursor} d e h)
+data_failed : (after : Cursor) (r : Result AugmentationView RecordFault) (e : RecordFault) → passed_data after r ≡ failed e → r ≡ failed e
+data_failed after (Ok augmentation) e h = absurd (not_both (augmentation, after) e h)
+data_failed after (Err d) e h = ap (λ (x : RecordFault). failed {X = AugmentationView} x) (fault_same {X = AugmentationView × Cursor} d e h)
 
-augmentation_fails : (arch : Arch) (letters : Option (List ℕ)) (at : Cursor) (e : RecordFault) → ((ls : List ℕ) → letters ≡ Some ls → AreKnown arch ls) → said_at letters at ≡ failed e → AugmentationFails letters at e
-unfolding said_at
-augmentation_fails arch None at e known h = not_both (said_plain, at) e h
+augmentation_fails : (arch : Arch) (letters : Option (List ℕ)) (at : Cursor) (e : RecordFault) → ((ls : List ℕ) → letters ≡ Some ls → AreKnown arch ls) → augmentation_at letters at ≡ failed e → AugmentationFails letters at e
+unfolding augmentation_at
+augmentation_fails arch None at e known h = not_both (plain_augmentation, at) e h
 augmentation_fails arch (Some letters) at e known h = elim (split (data_at at) _ e h) [
   | inl one ↦ inl (data_fails at e one)
-  | inr w ↦ inr (w.0.0, w.0.1, data_stands at w.0 w.1, sayings_fail arch letters said_plain w.0.0 e (known letters refl) (data_failed w.0.1 (said_by letters said_plain w.0.0) e w.2))
+  | inr w ↦ inr (w.0.0, w.0.1, data_stands at w.0 w.1, sayings_fail arch letters plain_augmentation w.0.0 e (known letters refl) (data_failed w.0.1 (augmentation_by letters plain_augmentation w.0.0) e w.2))
 ]
 
 column_by : (one : Bool) (version : ℕ) (at : Cursor) (e : RecordFault) → (version ≡ 1) ⊎ (version ≡ 3) → (version == 1) ≡ one → (if one then number_field 1 at else uleb_field at) ≡ failed e → ColumnFails version at e
@@ -117,10 +117,10 @@ numbers_fail arch p version a1 letters e byte known string h = elim (split (uleb
   ]
 ]
 
-said_fails : (arch : Arch) (p : RawRecordView) (version : ℕ) (a1 : Cursor) (letters : Option (List ℕ) × Cursor) (numbers : Numbers × Cursor) (e : RecordFault) → FieldStands (Number 1) version p.body a1 → (version ≡ 1) ⊎ (version ≡ 3)
-    → ((version == 1) || (version == 3)) ≡ true → letters_at arch a1 ≡ Ok letters → numbers_at version letters.1 ≡ Ok numbers → said_at letters.0 numbers.1 ≡ failed e → CieFails arch p e
+augmentation_data_fails : (arch : Arch) (p : RawRecordView) (version : ℕ) (a1 : Cursor) (letters : Option (List ℕ) × Cursor) (numbers : Numbers × Cursor) (e : RecordFault) → FieldStands (Number 1) version p.body a1 → (version ≡ 1) ⊎ (version ≡ 3)
+    → ((version == 1) || (version == 3)) ≡ true → letters_at arch a1 ≡ Ok letters → numbers_at version letters.1 ≡ Ok numbers → augmentation_at letters.0 numbers.1 ≡ failed e → CieFails arch p e
 unfolding numbers_at
-said_fails arch p version a1 letters numbers e byte known test string read h =
+augmentation_data_fails arch p version a1 letters numbers e byte known test string read h =
     let code = through (uleb_field letters.1) _ numbers read in
     let factor = through (sleb_field code.first.1) _ numbers code.rest in
     let column = through (column_at version factor.first.1) _ numbers factor.rest in
@@ -128,7 +128,7 @@ said_fails arch p version a1 letters numbers e byte known test string read h =
     let after : column.first.1 ≡ numbers.1 = ap (λ (y : Numbers × Cursor). y.1) same in
     no_data version code.first.0 column.first.0 factor.first.0 letters.0 a1 letters.1 code.first.1 factor.first.1 column.first.1 byte known (string_stands arch a1 letters string)
     (uleb_stands letters.1 code.first code.read) (sleb_stands code.first.1 factor.first factor.read) (column_stands version factor.first.1 column.first test column.read)
-    (augmentation_fails arch letters.0 column.first.1 e (known_of arch letters a1 string) (ap (said_at letters.0) after ∙ h))
+    (augmentation_fails arch letters.0 column.first.1 e (known_of arch letters a1 string) (ap (augmentation_at letters.0) after ∙ h))
 
 fields_fail : (arch : Arch) (p : RawRecordView) (version : ℕ) (a1 : Cursor) (e : RecordFault) → FieldStands (Number 1) version p.body a1 → (version ≡ 1) ⊎ (version ≡ 3) → ((version == 1) || (version == 3)) ≡ true
     → cie_fields arch p.place version a1 ≡ failed e → CieFails arch p e
@@ -137,9 +137,9 @@ fields_fail arch p version a1 e byte known test h = elim (split (letters_at arch
   | inl one ↦ no_string version a1 byte known (string_fails arch a1 e one)
   | inr letters ↦ elim (split (numbers_at version letters.0.1) _ e letters.2) [
     | inl one ↦ numbers_fail arch p version a1 letters.0 e byte known (string_stands arch a1 letters.0 letters.1) one
-    | inr numbers ↦ elim (split (said_at letters.0.0 numbers.0.1) _ e numbers.2) [
-      | inl one ↦ said_fails arch p version a1 letters.0 numbers.0 e byte known test letters.1 numbers.1 one
-      | inr said ↦ absurd (not_both _ e said.2)
+    | inr numbers ↦ elim (split (augmentation_at letters.0.0 numbers.0.1) _ e numbers.2) [
+      | inl one ↦ augmentation_data_fails arch p version a1 letters.0 numbers.0 e byte known test letters.1 numbers.1 one
+      | inr augmentation ↦ absurd (not_both _ e augmentation.2)
     ]
   ]
 ]
@@ -279,9 +279,9 @@ whole_ok : {X : Type 0} (place : ℕ) (s : Step X) (x : X × Cursor) → whole p
 whole_ok place (Ok y) x h = h
 whole_ok {X = X} place (Err f) x h = absurd (not_both x (faults.Short place) (sym h))
 
-piece_short : (place len : ℕ) (at : Cursor) (e : RecordFault) → 4 ≤ len → piece_of place len at ≡ failed e → (length at.left < len) × (e ≡ faults.Short place)
-unfolding piece_of
-piece_short place len at e enough h = elim (split (whole place (part_field len at)) _ e h) [
+record_short : (place len : ℕ) (at : Cursor) (e : RecordFault) → 4 ≤ len → record_of_length place len at ≡ failed e → (length at.left < len) × (e ≡ faults.Short place)
+unfolding record_of_length
+record_short place len at e enough h = elim (split (whole place (part_field len at)) _ e h) [
   | inl one ↦
       let f = whole_err place (part_field len at) e one in
       ((part_lacks len at f.0 f.1).0, whole_failed place (part_field len at) e one)
@@ -300,13 +300,13 @@ SizedFails len at e =
     ⊎ ((len ≢ 0) × (len ≢ 4294967295) × ((len < 4) ⊎ (length at.left < 4 + len)) × (e ≡ faults.Short at.place))
 
 sized_by : (a b c : Bool) (len : ℕ) (at rest : Cursor) (e : RecordFault) → length rest.left + 4 ≡ length at.left → (len == 0) ≡ a → (len == 4294967295) ≡ b → nat_lt len 4 ≡ c
-    → cond {A = Front} a (Ok None) (cond b (Err (faults.Extended at.place)) (cond c (Err (faults.Short at.place)) (piece_of at.place len rest >>= λ p. went (Some p)))) ≡ failed e → SizedFails len at e
+    → cond {A = Front} a (Ok None) (cond b (Err (faults.Extended at.place)) (cond c (Err (faults.Short at.place)) (record_of_length at.place len rest >>= λ p. went (Some p)))) ≡ failed e → SizedFails len at e
 sized_by true b c len at rest e left ta tb tc h = absurd (not_both _ e h)
 sized_by false true c len at rest e left ta tb tc h = inl (eqb-true _ _ tb, sym (fault_same {X = Option (RawRecordView × Cursor)} (faults.Extended at.place) e h))
 sized_by false false true len at rest e left ta tb tc h = inr (eqb-false _ _ ta, eqb-false _ _ tb, inl (ltb-true _ _ tc), sym (fault_same {X = Option (RawRecordView × Cursor)} (faults.Short at.place) e h))
-sized_by false false false len at rest e left ta tb tc h = elim (split (piece_of at.place len rest) (λ p. went (Some p)) e h) [
+sized_by false false false len at rest e left ta tb tc h = elim (split (record_of_length at.place len rest) (λ p. went (Some p)) e h) [
   | inl one ↦
-      let s = piece_short at.place len rest e (ltb-false _ _ tc) one in
+      let s = record_short at.place len rest e (ltb-false _ _ tc) one in
       let short : length rest.left < len = s.0 in
       inr (eqb-false _ _ ta, eqb-false _ _ tb, inr (omega (arith, short, left)), s.1)
   | inr w ↦ absurd (not_both _ e w.2)

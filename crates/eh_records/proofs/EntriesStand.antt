@@ -18,7 +18,7 @@ use Rattle.eh_records.specs.Section.{EntryView, Common, Frame, entry_here, entry
 use Rattle.eh_records.specs.Step.{◌>>=◌}
 use Rattle.eh_records.proofs.FieldsStand.{cie_read, cie_stands, fde_read, fde_stands}
 use Rattle.eh_records.proofs.Given.{AreGiven}
-use Rattle.eh_records.proofs.Moves.{through, ok_same, past-past}
+use Rattle.eh_records.proofs.RawRecords.{through, ok_same, past-past}
 use Rattle.eh_records.proofs.Stands.{stands_is}
 
 abbrev pub place_of : SharedView → ℕ

@@ -7,7 +7,7 @@ use Rattle.eh_records.specs.declared.fault.RecordFault.{RecordFault}
 use Rattle.eh_records.specs.RawRecord.{RawRecordView, raw_record_at}
 use Rattle.eh_records.specs.Section.{EntryView, Cutting, are_read, cuts, cuts_of, entry_here, entry_at, shared_place, with_place, entries_in, entries_of, entry_before, entries_before, fault_in}
 use Rattle.eh_records.specs.Step.{◌>>=◌}
-use Rattle.eh_records.proofs.Moves.{through, ok_same}
+use Rattle.eh_records.proofs.RawRecords.{through, ok_same}
 use Rattle.eh_records.proofs.Cuts.{starts_with_record, stops, faults}
 
 nil : (arch : Arch) (section cies : List ℕ) → entries_in arch section cies [] ≡ Ok []

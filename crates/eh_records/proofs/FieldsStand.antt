@@ -19,13 +19,13 @@ use Rattle.eh_pointer.specs.Pointer.{pointer_width, usable_width, format_of, abo
 use Rattle.eh_pointer.specs.Skipping.{passed, passed_width, pointer_passed}
 use Rattle.eh_records.specs.declared.fault.RecordFault.{RecordFault}
 use Rattle.eh_records.specs.declared.fault.RecordFault.TheVariants as faults
-use Rattle.eh_records.specs.Augmentation.{Form, Said, said_plain, has_key_letter, is_letter, is_new, are_letters, letters_in, letters_at, data_at, form_of, form_at, personality_field, personality_in, personality_at, letter_at, said_by}
-use Rattle.eh_records.specs.Cie.{CieView, Numbers, SharedView, cie_with_form, column_at, numbers_at, passed_data, said_at, cie_fields, cie_of}
+use Rattle.eh_records.specs.Augmentation.{Form, AugmentationView, plain_augmentation, has_key_letter, is_letter, is_new, are_letters, letters_in, letters_at, data_at, form_of, form_at, personality_field, personality_in, personality_at, letter_at, augmentation_by}
+use Rattle.eh_records.specs.Cie.{CieView, Numbers, SharedView, cie_with_form, column_at, numbers_at, passed_data, augmentation_at, cie_fields, cie_of}
 use Rattle.eh_records.specs.RawRecord.{RawRecordView}
 use Rattle.eh_records.specs.Fde.{FdeView, read_there, lsda_of_width, lsda_in, lsda_at, entry_of}
-use Rattle.eh_records.specs.Fields.{PointerStands, PassedStands, StringStands, Saying, pointers, personality, lsda, signal, key_b, PersonalityStands, SayingStands, SayingsStand, with_saying, all_said, DataStands, AugmentationStands, ColumnStands, CieStands, LsdaStands, FrameData, FrameDataStands, FdeStands}
+use Rattle.eh_records.specs.Fields.{PointerStands, PassedStands, StringStands, Saying, pointers, personality, lsda, signal, key_b, PersonalityStands, SayingStands, SayingsStand, with_saying, with_sayings, DataStands, AugmentationStands, ColumnStands, CieStands, LsdaStands, FrameData, FrameDataStands, FdeStands}
 use Rattle.eh_records.specs.Step.{Step, ◌>>=◌, placed, PointerField, number_field, uleb_field, sleb_field, text_field, part_field, pointer_field}
-use Rattle.eh_records.proofs.Moves.{through, ok_same}
+use Rattle.eh_records.proofs.RawRecords.{through, ok_same}
 
 -- ---- one field
 placed_is : {X : Type 0} (place : ℕ) (r : Read X) (x : X × Cursor) → placed place r ≡ Ok x → r ≡ Ok x
@@ -254,51 +254,51 @@ personality_read field at after s =
     ∙ chosen at.place s.encoding field s.after after s.pointer_stands
 
 -- ---- letters
-saying_read : (letter : ℕ) (s : Saying) (said : Said) (from to : Cursor) → SayingStands letter s from to → letter_at letter said from ≡ Ok (with_saying said s, to)
+saying_read : (letter : ℕ) (s : Saying) (augmentation : AugmentationView) (from to : Cursor) → SayingStands letter s from to → letter_at letter augmentation from ≡ Ok (with_saying augmentation s, to)
 unfolding letter_at
-saying_read letter (pointers form) said from to h =
-    ap (λ (l : ℕ). letter_at l said from) h.0 ∙ ap (λ (r : Step Form). r >>= λ f. Ok (record said { pointers = f.0 }, f.1)) (form_read form from to h.1 h.2)
-saying_read letter (personality field) said from to h =
-    ap (λ (l : ℕ). letter_at l said from) h.0 ∙ ap (λ (r : Step (Option PointerField)). r >>= λ p. Ok (record said { personality = p.0 }, p.1)) (personality_read field from to h.1)
-saying_read letter (lsda encoding) said from to h =
-    ap (λ (l : ℕ). letter_at l said from) h.0 ∙ ap (λ (r : Step ℕ). r >>= λ e. Ok (record said { lsda = Some e.0 }, e.1)) (number_read 1 from encoding to h.1)
-saying_read letter signal said from to h = ap (λ (l : ℕ). letter_at l said from) h.0 ∙ ap (λ (c : Cursor). Ok (record said { signal = true }, c)) (sym h.1)
-saying_read letter key_b said from to h = ap (λ (l : ℕ). letter_at l said from) h.0 ∙ ap (λ (c : Cursor). Ok (record said { key = keys.B }, c)) (sym h.1)
+saying_read letter (pointers form) augmentation from to h =
+    ap (λ (l : ℕ). letter_at l augmentation from) h.0 ∙ ap (λ (r : Step Form). r >>= λ f. Ok (record augmentation { pointers = f.0 }, f.1)) (form_read form from to h.1 h.2)
+saying_read letter (personality field) augmentation from to h =
+    ap (λ (l : ℕ). letter_at l augmentation from) h.0 ∙ ap (λ (r : Step (Option PointerField)). r >>= λ p. Ok (record augmentation { personality = p.0 }, p.1)) (personality_read field from to h.1)
+saying_read letter (lsda encoding) augmentation from to h =
+    ap (λ (l : ℕ). letter_at l augmentation from) h.0 ∙ ap (λ (r : Step ℕ). r >>= λ e. Ok (record augmentation { lsda = Some e.0 }, e.1)) (number_read 1 from encoding to h.1)
+saying_read letter signal augmentation from to h = ap (λ (l : ℕ). letter_at l augmentation from) h.0 ∙ ap (λ (c : Cursor). Ok (record augmentation { signal = true }, c)) (sym h.1)
+saying_read letter key_b augmentation from to h = ap (λ (l : ℕ). letter_at l augmentation from) h.0 ∙ ap (λ (c : Cursor). Ok (record augmentation { key = keys.B }, c)) (sym h.1)
 
-pub record Says (letter : ℕ) (said : Said) (at : Cursor) (x : Said × Cursor) : Type 0 where
+pub record Says (letter : ℕ) (augmentation : AugmentationView) (at : Cursor) (x : AugmentationView × Cursor) : Type 0 where
   pub saying : Saying
   pub stands : SayingStands letter saying at x.1
-  pub is : x.0 ≡ with_saying said saying
+  pub is : x.0 ≡ with_saying augmentation saying
 
-letter_by : (r p l s : Bool) (letter : ℕ) (said : Said) (at : Cursor) (x : Said × Cursor) → (letter == 82) ≡ r → (letter == 80) ≡ p → (letter == 76) ≡ l → (letter == 83) ≡ s
+letter_by : (r p l s : Bool) (letter : ℕ) (augmentation : AugmentationView) (at : Cursor) (x : AugmentationView × Cursor) → (letter == 82) ≡ r → (letter == 80) ≡ p → (letter == 76) ≡ l → (letter == 83) ≡ s
     → (p ≡ false → l ≡ false → s ≡ false → r ≡ false → letter ≡ 66)
     → (
-    if r then (form_at at >>= λ f. Ok (record said { pointers = f.0 }, f.1))
-    else if p then (personality_at at >>= λ q. Ok (record said { personality = q.0 }, q.1))
-    else if l then (number_field 1 at >>= λ e. Ok (record said { lsda = Some e.0 }, e.1))
-    else if s then Ok (record said { signal = true }, at)
-    else Ok (record said { key = keys.B }, at)
+    if r then (form_at at >>= λ f. Ok (record augmentation { pointers = f.0 }, f.1))
+    else if p then (personality_at at >>= λ q. Ok (record augmentation { personality = q.0 }, q.1))
+    else if l then (number_field 1 at >>= λ e. Ok (record augmentation { lsda = Some e.0 }, e.1))
+    else if s then Ok (record augmentation { signal = true }, at)
+    else Ok (record augmentation { key = keys.B }, at)
     ) ≡ Ok x
-    → Says letter said at x
-letter_by true p l s letter said at x tr tp tl ts b e =
+    → Says letter augmentation at x
+letter_by true p l s letter augmentation at x tr tp tl ts b e =
     let t = through (form_at at) _ x e in
     let f = form_stands at t.first t.read in
-    let same : (record said { pointers = t.first.0 }, t.first.1) ≡ x = ok_same _ x t.rest in
-    subst (λ (y : Said × Cursor). Says letter said at y) same (record { saying = pointers t.first.0; stands = (eqb-true _ _ tr, f.0, f.1); is = refl })
-letter_by false true l s letter said at x tr tp tl ts b e =
+    let same : (record augmentation { pointers = t.first.0 }, t.first.1) ≡ x = ok_same _ x t.rest in
+    subst (λ (y : AugmentationView × Cursor). Says letter augmentation at y) same (record { saying = pointers t.first.0; stands = (eqb-true _ _ tr, f.0, f.1); is = refl })
+letter_by false true l s letter augmentation at x tr tp tl ts b e =
     let t = through (personality_at at) _ x e in
-    let same : (record said { personality = t.first.0 }, t.first.1) ≡ x = ok_same _ x t.rest in
-    subst (λ (y : Said × Cursor). Says letter said at y) same (record { saying = personality t.first.0; stands = (eqb-true _ _ tp, personality_stands at t.first t.read); is = refl })
-letter_by false false true s letter said at x tr tp tl ts b e =
+    let same : (record augmentation { personality = t.first.0 }, t.first.1) ≡ x = ok_same _ x t.rest in
+    subst (λ (y : AugmentationView × Cursor). Says letter augmentation at y) same (record { saying = personality t.first.0; stands = (eqb-true _ _ tp, personality_stands at t.first t.read); is = refl })
+letter_by false false true s letter augmentation at x tr tp tl ts b e =
     let t = through (number_field 1 at) _ x e in
-    let same : (record said { lsda = Some t.first.0 }, t.first.1) ≡ x = ok_same _ x t.rest in
-    subst (λ (y : Said × Cursor). Says letter said at y) same (record { saying = lsda t.first.0; stands = (eqb-true _ _ tl, number_stands 1 at t.first t.read); is = refl })
-letter_by false false false true letter said at x tr tp tl ts b e =
-    let same : (record said { signal = true }, at) ≡ x = ok_same _ x e in
-    subst (λ (y : Said × Cursor). Says letter said at y) same (record { saying = signal; stands = (eqb-true _ _ ts, refl); is = refl })
-letter_by false false false false letter said at x tr tp tl ts b e =
-    let same : (record said { key = keys.B }, at) ≡ x = ok_same _ x e in
-    subst (λ (y : Said × Cursor). Says letter said at y) same (record { saying = key_b; stands = (b refl refl refl refl, refl); is = refl })
+    let same : (record augmentation { lsda = Some t.first.0 }, t.first.1) ≡ x = ok_same _ x t.rest in
+    subst (λ (y : AugmentationView × Cursor). Says letter augmentation at y) same (record { saying = lsda t.first.0; stands = (eqb-true _ _ tl, number_stands 1 at t.first t.read); is = refl })
+letter_by false false false true letter augmentation at x tr tp tl ts b e =
+    let same : (record augmentation { signal = true }, at) ≡ x = ok_same _ x e in
+    subst (λ (y : AugmentationView × Cursor). Says letter augmentation at y) same (record { saying = signal; stands = (eqb-true _ _ ts, refl); is = refl })
+letter_by false false false false letter augmentation at x tr tp tl ts b e =
+    let same : (record augmentation { key = keys.B }, at) ≡ x = ok_same _ x e in
+    subst (λ (y : AugmentationView × Cursor). Says letter augmentation at y) same (record { saying = key_b; stands = (b refl refl refl refl, refl); is = refl })
 
 last_letter : (r p s l b k : Bool) → (r || p || s || l || (b && k)) ≡ true → p ≡ false → l ≡ false → s ≡ false → r ≡ false → b ≡ true
 last_letter true p s l b k h ep el es er = absurd cc
@@ -308,10 +308,10 @@ last_letter false false false true b k h ep el es er = absurd cc
 last_letter false false false false true k h ep el es er = refl
 last_letter false false false false false k h ep el es er = absurd cc
 
-pub saying_stands : (arch : Arch) (letter : ℕ) (said : Said) (at : Cursor) (x : Said × Cursor) → is_letter arch letter ≡ true → letter_at letter said at ≡ Ok x → Says letter said at x
+pub saying_stands : (arch : Arch) (letter : ℕ) (augmentation : AugmentationView) (at : Cursor) (x : AugmentationView × Cursor) → is_letter arch letter ≡ true → letter_at letter augmentation at ≡ Ok x → Says letter augmentation at x
 unfolding letter_at
-saying_stands arch letter said at x known e =
-    letter_by (letter == 82) (letter == 80) (letter == 76) (letter == 83) letter said at x refl refl refl refl
+saying_stands arch letter augmentation at x known e =
+    letter_by (letter == 82) (letter == 80) (letter == 76) (letter == 83) letter augmentation at x refl refl refl refl
     (λ ep el es er. eqb-true _ _ (last_letter (letter == 82) (letter == 80) (letter == 83) (letter == 76) (letter == 66) (has_key_letter arch) known ep el es er))
     e
 
@@ -331,31 +331,31 @@ are_known arch before (b ∷ bs) h =
     let p = both (is_new arch before b) (are_letters arch (before ++ b ∷ []) bs) h in
     ((both (is_letter arch b) _ p.0).0, are_known arch (before ++ b ∷ []) bs p.1)
 
-sayings_read : (letters : List ℕ) (sayings : List Saying) (said : Said) (at : Cursor) → SayingsStand letters sayings at → said_by letters said at ≡ Ok (all_said said sayings)
-unfolding said_by
-sayings_read [] [] said at h = refl
-sayings_read [] (s ∷ sayings) said at h = absurd h
-sayings_read (b ∷ letters) [] said at h = absurd h
-sayings_read (b ∷ letters) (s ∷ sayings) said at h =
-    ap (λ (r : Step Said). r >>= λ next. said_by letters next.0 next.1) (saying_read b s said at h.0 h.1)
-    ∙ sayings_read letters sayings (with_saying said s) h.0 h.2
+sayings_read : (letters : List ℕ) (sayings : List Saying) (augmentation : AugmentationView) (at : Cursor) → SayingsStand letters sayings at → augmentation_by letters augmentation at ≡ Ok (with_sayings augmentation sayings)
+unfolding augmentation_by
+sayings_read [] [] augmentation at h = refl
+sayings_read [] (s ∷ sayings) augmentation at h = absurd h
+sayings_read (b ∷ letters) [] augmentation at h = absurd h
+sayings_read (b ∷ letters) (s ∷ sayings) augmentation at h =
+    ap (λ (r : Step AugmentationView). r >>= λ next. augmentation_by letters next.0 next.1) (saying_read b s augmentation at h.0 h.1)
+    ∙ sayings_read letters sayings (with_saying augmentation s) h.0 h.2
 
-record SayAll (letters : List ℕ) (said : Said) (at : Cursor) (result : Said) : Type 0 where
+record SayAll (letters : List ℕ) (augmentation : AugmentationView) (at : Cursor) (result : AugmentationView) : Type 0 where
   sayings : List Saying
   stand : SayingsStand letters sayings at
-  is : result ≡ all_said said sayings
+  is : result ≡ with_sayings augmentation sayings
 
-sayings_stand : (arch : Arch) (letters : List ℕ) (said : Said) (at : Cursor) (result : Said) → AreKnown arch letters → said_by letters said at ≡ Ok result → SayAll letters said at result
-unfolding said_by
-sayings_stand arch [] said at result known e = record { sayings = []; stand = tt; is = sym (ok_same said result e) }
-sayings_stand arch (b ∷ letters) said at result known e =
-    let t = through (letter_at b said at) _ result e in
-    let s = saying_stands arch b said at t.first known.0 t.read in
+sayings_stand : (arch : Arch) (letters : List ℕ) (augmentation : AugmentationView) (at : Cursor) (result : AugmentationView) → AreKnown arch letters → augmentation_by letters augmentation at ≡ Ok result → SayAll letters augmentation at result
+unfolding augmentation_by
+sayings_stand arch [] augmentation at result known e = record { sayings = []; stand = tt; is = sym (ok_same augmentation result e) }
+sayings_stand arch (b ∷ letters) augmentation at result known e =
+    let t = through (letter_at b augmentation at) _ result e in
+    let s = saying_stands arch b augmentation at t.first known.0 t.read in
     let rest = sayings_stand arch letters t.first.0 t.first.1 result known.1 t.rest in
     record {
       sayings = s.saying ∷ rest.sayings;
       stand = (t.first.1, s.stands, rest.stand);
-      is = rest.is ∙ ap (λ (d : Said). all_said d rest.sayings) s.is;
+      is = rest.is ∙ ap (λ (d : AugmentationView). with_sayings d rest.sayings) s.is;
     }
 
 -- ---- the augmentation string
@@ -391,21 +391,21 @@ pub string_known : (arch : Arch) (letters : List ℕ) (from to : Cursor) → Str
 string_known arch letters from to s = are_known arch [] letters s.1
 
 -- ---- what the augmentation says
-data_said : (after : Cursor) (r : Result Said RecordFault) (x : Said × Cursor) → passed_data after r ≡ Ok x → (r ≡ Ok x.0) × (x.1 ≡ after)
-data_said after (Ok said) x e =
-    let same : (said, after) ≡ x = ok_same _ x e in
-    (ap (λ (y : Said × Cursor). Ok y.0) same, sym (ap (λ (y : Said × Cursor). y.1) same))
-data_said after (Err f) x e = absurd cc
+data_augmentation : (after : Cursor) (r : Result AugmentationView RecordFault) (x : AugmentationView × Cursor) → passed_data after r ≡ Ok x → (r ≡ Ok x.0) × (x.1 ≡ after)
+data_augmentation after (Ok augmentation) x e =
+    let same : (augmentation, after) ≡ x = ok_same _ x e in
+    (ap (λ (y : AugmentationView × Cursor). Ok y.0) same, sym (ap (λ (y : AugmentationView × Cursor). y.1) same))
+data_augmentation after (Err f) x e = absurd cc
 
-augmentation_stands : (arch : Arch) (letters : Option (List ℕ)) (before start : Cursor) (at : Cursor) (x : Said × Cursor) → StringStands arch letters before start → said_at letters at ≡ Ok x → AugmentationStands letters x.0 at x.1
-unfolding said_at
+augmentation_stands : (arch : Arch) (letters : Option (List ℕ)) (before start : Cursor) (at : Cursor) (x : AugmentationView × Cursor) → StringStands arch letters before start → augmentation_at letters at ≡ Ok x → AugmentationStands letters x.0 at x.1
+unfolding augmentation_at
 augmentation_stands arch None before start at x s e =
-    let same : (said_plain, at) ≡ x = ok_same _ x e in
-    (sym (ap (λ (y : Said × Cursor). y.0) same), sym (ap (λ (y : Said × Cursor). y.1) same))
+    let same : (plain_augmentation, at) ≡ x = ok_same _ x e in
+    (sym (ap (λ (y : AugmentationView × Cursor). y.0) same), sym (ap (λ (y : AugmentationView × Cursor). y.1) same))
 augmentation_stands arch (Some letters) before start at x s e =
     let t = through (data_at at) _ x e in
-    let d = data_said t.first.1 (said_by letters said_plain t.first.0) x t.rest in
-    let all = sayings_stand arch letters said_plain t.first.0 x.0 (string_known arch letters before start s) d.0 in
+    let d = data_augmentation t.first.1 (augmentation_by letters plain_augmentation t.first.0) x t.rest in
+    let all = sayings_stand arch letters plain_augmentation t.first.0 x.0 (string_known arch letters before start s) d.0 in
     record {
       data_ = t.first.0;
       sayings = all.sayings;
@@ -414,13 +414,13 @@ augmentation_stands arch (Some letters) before start at x s e =
       together = all.is;
     }
 
-augmentation_read : (letters : Option (List ℕ)) (said : Said) (at after : Cursor) → AugmentationStands letters said at after → said_at letters at ≡ Ok (said, after)
-unfolding said_at
-augmentation_read None said at after s = ap (λ (d : Said). Ok (d, at)) (sym s.0) ∙ ap (λ (c : Cursor). Ok (said, c)) (sym s.1)
-augmentation_read (Some letters) said at after s =
-    ap (λ (r : Step Cursor). r >>= λ inner. passed_data inner.1 (said_by letters said_plain inner.0)) (data_read s.data_ at after s.data_stands)
-    ∙ ap (passed_data after) (sayings_read letters s.sayings said_plain s.data_ s.sayings_stand)
-    ∙ ap (λ (d : Said). Ok (d, after)) (sym s.together)
+augmentation_read : (letters : Option (List ℕ)) (augmentation : AugmentationView) (at after : Cursor) → AugmentationStands letters augmentation at after → augmentation_at letters at ≡ Ok (augmentation, after)
+unfolding augmentation_at
+augmentation_read None augmentation at after s = ap (λ (d : AugmentationView). Ok (d, at)) (sym s.0) ∙ ap (λ (c : Cursor). Ok (augmentation, c)) (sym s.1)
+augmentation_read (Some letters) augmentation at after s =
+    ap (λ (r : Step Cursor). r >>= λ inner. passed_data inner.1 (augmentation_by letters plain_augmentation inner.0)) (data_read s.data_ at after s.data_stands)
+    ∙ ap (passed_data after) (sayings_read letters s.sayings plain_augmentation s.data_ s.sayings_stand)
+    ∙ ap (λ (d : AugmentationView). Ok (d, after)) (sym s.together)
 
 -- ---- common information entries
 column_read : (version column : ℕ) (at after : Cursor) → ColumnStands version column at after → column_at version at ≡ Ok (column, after)
@@ -455,11 +455,11 @@ version_known version column from to (inr s) = ap (λ (v : ℕ). (v == 1) || (v 
 fields_read : (arch : Arch) (p : RawRecordView) (c : SharedView) → (s : CieStands arch p c) → cie_fields arch p.place s.version s.after_version ≡ Ok c
 unfolding cie_fields
 fields_read arch p c s =
-    ap (λ (r : Step (Option (List ℕ))). r >>= λ letters. numbers_at s.version letters.1 >>= λ numbers. said_at letters.0 numbers.1 >>= λ said. Ok (cie_with_form p.place numbers.0 (is_some letters.0) said.0 said.1))
+    ap (λ (r : Step (Option (List ℕ))). r >>= λ letters. numbers_at s.version letters.1 >>= λ numbers. augmentation_at letters.0 numbers.1 >>= λ augmentation. Ok (cie_with_form p.place numbers.0 (is_some letters.0) augmentation.0 augmentation.1))
     (string_read arch s.letters s.after_version s.after_string s.string_stands)
-    ∙ ap (λ (r : Step Numbers). r >>= λ numbers. said_at s.letters numbers.1 >>= λ said. Ok (cie_with_form p.place numbers.0 (is_some s.letters) said.0 said.1))
+    ∙ ap (λ (r : Step Numbers). r >>= λ numbers. augmentation_at s.letters numbers.1 >>= λ augmentation. Ok (cie_with_form p.place numbers.0 (is_some s.letters) augmentation.0 augmentation.1))
     (numbers_read s.version s.numbers s.after_string s.after_code s.after_factor s.after_column s.code_stands s.factor_stands s.column_stands)
-    ∙ ap (λ (r : Step Said). r >>= λ said. Ok (cie_with_form p.place s.numbers (is_some s.letters) said.0 said.1)) (augmentation_read s.letters s.said s.after_column s.insns s.augmentation_stands)
+    ∙ ap (λ (r : Step AugmentationView). r >>= λ augmentation. Ok (cie_with_form p.place s.numbers (is_some s.letters) augmentation.0 augmentation.1)) (augmentation_read s.letters s.augmentation s.after_column s.insns s.augmentation_stands)
     ∙ ap (λ (v : SharedView). Ok v) (sym s.entry)
 
 pub cie_read : (arch : Arch) (p : RawRecordView) (c : SharedView) → CieStands arch p c → cie_of arch p ≡ Ok c
@@ -479,27 +479,27 @@ fields_stand arch p c version at byte known e =
     let column = through (column_at version factor.first.1) _ numbers.first factor.rest in
     let same : (record { code = code.first.0; factor = factor.first.0; column = column.first.0 }, column.first.1) ≡ numbers.first = ok_same _ numbers.first column.rest in
     let is : Numbers = record { code = code.first.0; factor = factor.first.0; column = column.first.0 } in
-    let said = through (said_at letters.first.0 numbers.first.1) _ c numbers.rest in
+    let augmentation = through (augmentation_at letters.first.0 numbers.first.1) _ c numbers.rest in
     let after : column.first.1 ≡ numbers.first.1 = ap (λ (y : Numbers × Cursor). y.1) same in
     let string = string_stands arch at letters.first letters.read in
     record {
       version = version;
       letters = letters.first.0;
       numbers = is;
-      said = said.first.0;
+      augmentation = augmentation.first.0;
       after_version = at;
       after_string = letters.first.1;
       after_code = code.first.1;
       after_factor = factor.first.1;
       after_column = numbers.first.1;
-      insns = said.first.1;
+      insns = augmentation.first.1;
       version_stands = byte;
       string_stands = string;
       code_stands = uleb_stands letters.first.1 code.first code.read;
       factor_stands = sleb_stands code.first.1 factor.first factor.read;
       column_stands = subst (ColumnStands version column.first.0 factor.first.1) after (column_stands version factor.first.1 column.first known column.read);
-      augmentation_stands = augmentation_stands arch letters.first.0 at letters.first.1 numbers.first.1 said.first string said.read;
-      entry = sym (ok_same _ c said.rest) ∙ ap (λ (n : Numbers). cie_with_form p.place n (is_some letters.first.0) said.first.0 said.first.1) (sym (ap (λ (y : Numbers × Cursor). y.0) same));
+      augmentation_stands = augmentation_stands arch letters.first.0 at letters.first.1 numbers.first.1 augmentation.first string augmentation.read;
+      entry = sym (ok_same _ c augmentation.rest) ∙ ap (λ (n : Numbers). cie_with_form p.place n (is_some letters.first.0) augmentation.first.0 augmentation.first.1) (sym (ap (λ (y : Numbers × Cursor). y.0) same));
     }
 
 cie_by : (b : Bool) (arch : Arch) (p : RawRecordView) (c : SharedView) (version : ℕ) (at : Cursor) → ((version == 1) || (version == 3)) ≡ b → Stands (Number 1) version p.body at

@@ -6,7 +6,7 @@ use Rattle.sf_bytes.specs.Cursor.{Cursor}
 use Rattle.sf_model.specs.declared.machine.Arch.{Arch}
 use Rattle.eh_records.specs.declared.fault.RecordFault.{RecordFault}
 use Rattle.eh_records.specs.declared.fault.RecordFault.TheVariants.{CieVersion}
-use Rattle.eh_records.specs.Cie.{SharedView, CieView, cie_fields, cie_of, said_at, numbers_at}
+use Rattle.eh_records.specs.Cie.{SharedView, CieView, cie_fields, cie_of, augmentation_at, numbers_at}
 use Rattle.eh_records.specs.Augmentation.{letters_at}
 use Rattle.eh_records.specs.RawRecord.{RawRecordView, raw_record_at, named_place}
 use Rattle.eh_records.specs.Fde.{FdeView, fde_of, cie_in, cie_at_place}
@@ -14,7 +14,7 @@ use Rattle.eh_records.specs.Named.{HasNamed, cie_if_read, standing_cie}
 use Rattle.eh_records.specs.Section.{EntryView, Common, Frame, Cutting, frames, entry_here, entry_before, entries_before}
 use Rattle.eh_records.specs.Step.{◌>>=◌, number_field}
 use Rattle.eh_records.proofs.Keys.{same_cie}
-use Rattle.eh_records.proofs.Moves.{through, ok_same, cut_is}
+use Rattle.eh_records.proofs.RawRecords.{through, ok_same, cut_is}
 
 -- ---- an entry has the place at which it was read
 fields_place : (arch : Arch) (place version : ℕ) (at : Cursor) (shared : SharedView) → cie_fields arch place version at ≡ Ok shared → shared.cie.place ≡ place
@@ -22,7 +22,7 @@ unfolding cie_fields
 fields_place arch place version at shared e =
     let t = through (letters_at arch at) _ shared e in
     let u = through (numbers_at version t.first.1) _ shared t.rest in
-    let v = through (said_at t.first.0 u.first.1) _ shared u.rest in
+    let v = through (augmentation_at t.first.0 u.first.1) _ shared u.rest in
     sym (ap (λ (s : SharedView). s.cie.place) (ok_same _ shared v.rest))
 
 version_place : (arch : Arch) (p : RawRecordView) (version : ℕ × Cursor) (shared : SharedView) (b : Bool) → cond b (cie_fields arch p.place version.0 version.1) (Err (CieVersion p.body.place)) ≡ Ok shared → shared.cie.place ≡ p.place

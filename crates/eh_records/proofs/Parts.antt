@@ -11,7 +11,7 @@ use Rattle.sf_bytes.proofs.Inside.{Inside, end_of, inside-same, inside-inside, p
 use Rattle.sf_bytes.proofs.Lebs.{uleb_takes, sleb_takes}
 use Rattle.sf_bytes.proofs.Texts.{text_takes}
 use Rattle.eh_pointer.specs.Skipping.{pointer_passed}
-use Rattle.eh_pointer.proofs.Behind.{pointer_behind}
+use Rattle.eh_pointer.proofs.PassedPointer.{pointer_behind}
 
 -- the byte at a place
 abbrev byte_at : Cursor → ℕ → ℕ

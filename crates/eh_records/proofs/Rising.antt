@@ -13,11 +13,11 @@ use Rattle.eh_records.specs.Cutting.{Stands, AreCut, start}
 use Rattle.eh_records.specs.Raw.{HoldsRaw, HoldRaw, StandApart}
 use Rattle.eh_records.specs.Section.{EntryView, cuts_of, with_place, entry_fields, pointer_fields, entries_of, entries_before}
 use Rattle.eh_records.specs.Step.{PointerField}
-use Rattle.eh_records.proofs.Between.{Between, LieIn, AreRawIn, lower, not_above, both_between, both_raw, lie_wider, none_lies, stand_apart}
+use Rattle.eh_records.proofs.FieldsInOrder.{Between, LieIn, AreRawIn, lower, not_above, both_between, both_raw, lie_wider, none_lies, stand_apart}
 use Rattle.eh_records.proofs.Entries.{given_entries}
 use Rattle.eh_records.proofs.Faults.{here, read_again}
 use Rattle.eh_records.proofs.Given.{AreGiven}
-use Rattle.eh_records.proofs.Lie.{entry_lies}
+use Rattle.eh_records.proofs.FieldsInRecord.{entry_lies}
 use Rattle.eh_records.proofs.Parts.{IsPart, part-part, rest-part, run-part}
 
 -- a record's fields end where the next record begins
@@ -83,7 +83,7 @@ all_lie arch section cies (p ∷ ps) (e ∷ es) at (after, stands, rest) read =
 fields_lie : (arch : Arch) (section : List ℕ) (es : List EntryView) → entries_of arch section ≡ Ok es → LieIn (start section) (pointer_fields es)
 fields_lie arch section es whole =
     let e = given_entries arch section es whole in
-    all_lie arch section [] e.pieces es (start section) e.cut e.given
+    all_lie arch section [] e.records es (start section) e.cut e.given
 
 -- once no entry is left, what was listed are all fields, so they lie in the section
 pub listed_lie : (arch : Arch) (section : List ℕ) (fs : List PointerField) (left : List EntryView) → is_ok (entries_of arch section) ≡ true

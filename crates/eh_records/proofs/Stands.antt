@@ -9,12 +9,12 @@ use Rattle.sf_bytes.specs.declared.fault.ByteFault.TheVariants as byte_faults
 use Rattle.sf_bytes.specs.Cursor.{Cursor, Read, past, number_at, part_at}
 use Rattle.eh_records.specs.declared.fault.RecordFault.{RecordFault}
 use Rattle.eh_records.specs.declared.fault.RecordFault.TheVariants.{Short, Extended}
-use Rattle.eh_records.specs.RawRecord.{RawRecordView, raw_record_at, piece_of, whole, sized}
+use Rattle.eh_records.specs.RawRecord.{RawRecordView, raw_record_at, record_of_length, whole, sized}
 use Rattle.eh_records.specs.Cutting.{Stands, EndsWithZero, AreCut, all_cut}
 use Rattle.eh_records.specs.Section.{Cutting, cuts}
 use Rattle.eh_records.specs.Step.{Step, ◌>>=◌, placed, number_field, part_field}
 use Rattle.eh_records.proofs.Cuts.{starts_with_record, stops, faults}
-use Rattle.eh_records.proofs.Moves.{past-past, cut_is, end_is}
+use Rattle.eh_records.proofs.RawRecords.{past-past, cut_is, end_is}
 
 -- a field that lies in the bytes is read
 there_if : {X : Type 0} (n place : ℕ) (at : Cursor) (v : X) (b : Bool) → nat_lt (length at.left) n ≡ b → n ≤ length at.left
@@ -35,8 +35,8 @@ Found = Result (Option (RawRecordView × Cursor)) RecordFault
 
 -- the tests of a length word
 sized_some : (len : ℕ) (at1 : Cursor) (place : ℕ) (x : RawRecordView × Cursor) → (a b c : Bool) → (len == 0) ≡ a → (len == 4294967295) ≡ b → nat_lt len 4 ≡ c → 4 ≤ len → (len ≡ 4294967295 → ⊥)
-    → piece_of place len at1 ≡ Ok x
-    → cond {A = Found} a (Ok None) (cond b (Err (Extended place)) (cond c (Err (Short place)) (piece_of place len at1 >>= λ p. Ok (Some p)))) ≡ Ok (Some x)
+    → record_of_length place len at1 ≡ Ok x
+    → cond {A = Found} a (Ok None) (cond b (Err (Extended place)) (cond c (Err (Short place)) (record_of_length place len at1 >>= λ p. Ok (Some p)))) ≡ Ok (Some x)
 sized_some len at1 place x true b c ta tb tc enough short e = absurd (grind (arith, nat_tests))
 sized_some len at1 place x false true c ta tb tc enough short e = absurd (short (eqb-true len 4294967295 tb))
 sized_some len at1 place x false false true ta tb tc enough short e = absurd (grind (arith, nat_tests))
@@ -56,9 +56,9 @@ piece_there_is len at = record {
   body = record { place = at.place + 8; left = drop 4 (take len (drop 4 at.left)) };
 }
 
-piece_there : (len : ℕ) (at : Cursor) → 4 ≤ len → 4 + len ≤ length at.left → piece_of at.place len (past 4 at) ≡ Ok (piece_there_is len at, past (4 + len) at)
-unfolding piece_of
-piece_there len at enough within =
+record_there : (len : ℕ) (at : Cursor) → 4 ≤ len → 4 + len ≤ length at.left → record_of_length at.place len (past 4 at) ≡ Ok (piece_there_is len at, past (4 + len) at)
+unfolding record_of_length
+record_there len at enough within =
     let left : length (drop 4 at.left) ≡ length at.left - 4 = length-drop 4 at.left in
     let some : len ≤ length (drop 4 at.left) = omega arith in
     let inner : Cursor = record { place = at.place + 4; left = take len (drop 4 at.left) } in
@@ -76,8 +76,8 @@ unfolding raw_record_at
 stands_is at p after s =
     let four : 4 ≤ length at.left = omega (arith, s.within) in
     let read : number_field 4 at ≡ Ok (s.len, past 4 at) = number_there 4 at four ∙ ap (λ (n : ℕ). Ok (n, past 4 at)) s.word in
-    let raw_record_view : piece_of at.place s.len (past 4 at) ≡ Ok (p, after) =
-    piece_there s.len at s.enough s.within ∙ ap (λ (q : RawRecordView). Ok (q, past (4 + s.len) at)) (sym s.raw_record_view) ∙ ap (λ (c : Cursor). Ok (p, c)) (sym s.behind) in
+    let raw_record_view : record_of_length at.place s.len (past 4 at) ≡ Ok (p, after) =
+    record_there s.len at s.enough s.within ∙ ap (λ (q : RawRecordView). Ok (q, past (4 + s.len) at)) (sym s.raw_record_view) ∙ ap (λ (c : Cursor). Ok (p, c)) (sym s.behind) in
     let sized_is : sized at.place s.len (past 4 at) ≡ Ok (Some (p, after)) =
     sized_some s.len (past 4 at) at.place (p, after) (s.len == 0) (s.len == 4294967295) (nat_lt s.len 4) refl refl refl s.enough s.short raw_record_view in
     front_if at (length at.left == 0) (Ok (Some (p, after))) refl four (ap (λ (r : Step ℕ). r >>= λ len. sized at.place len.0 len.1) read ∙ sized_is)

@@ -24,7 +24,7 @@ pub record Form : Type 0 where
   pub width : ℕ
 
 -- what the letters say
-pub record Said : Type 0 where
+pub record AugmentationView : Type 0 where
   pub pointers : Form
   pub lsda : Option ℕ
   pub personality : Option PointerField
@@ -34,8 +34,8 @@ pub record Said : Type 0 where
 abbrev pub form_view : PointerForm → Form
 form_view f = record { encoding = f.encoding; width = f.width }
 
-abbrev pub said_view : Augmentation → Said
-said_view a = record { pointers = form_view a.pointers; lsda = a.lsda; personality = option_map pointer_view a.personality; signal = a.signal; key = a.key }
+abbrev pub augmentation_view : Augmentation → AugmentationView
+augmentation_view a = record { pointers = form_view a.pointers; lsda = a.lsda; personality = option_map pointer_view a.personality; signal = a.signal; key = a.key }
 
 abbrev pub has_key_letter : Arch → Bool
 has_key_letter Amd64 = false
@@ -92,19 +92,19 @@ unfoldable pub personality_at : Cursor → Step (Option PointerField)
 personality_at at = number_field 1 at >>= λ e. if e.0 == 255 then Ok (None, e.1) else personality_in at.place e.0 e.1 (pointer_passed e.0 e.1)
 
 -- what one letter says
-unfoldable pub letter_at : ℕ → Said → Cursor → Step Said
-letter_at letter said at =
-    if letter == 82 then (form_at at >>= λ f. Ok (record said { pointers = f.0 }, f.1))
-    else if letter == 80 then (personality_at at >>= λ p. Ok (record said { personality = p.0 }, p.1))
-    else if letter == 76 then (number_field 1 at >>= λ e. Ok (record said { lsda = Some e.0 }, e.1))
-    else if letter == 83 then Ok (record said { signal = true }, at)
-    else Ok (record said { key = keys.B }, at)
+unfoldable pub letter_at : ℕ → AugmentationView → Cursor → Step AugmentationView
+letter_at letter augmentation at =
+    if letter == 82 then (form_at at >>= λ f. Ok (record augmentation { pointers = f.0 }, f.1))
+    else if letter == 80 then (personality_at at >>= λ p. Ok (record augmentation { personality = p.0 }, p.1))
+    else if letter == 76 then (number_field 1 at >>= λ e. Ok (record augmentation { lsda = Some e.0 }, e.1))
+    else if letter == 83 then Ok (record augmentation { signal = true }, at)
+    else Ok (record augmentation { key = keys.B }, at)
 
 -- what an entry without augmentation says: absolute pointers of eight bytes, key A
-abbrev pub said_plain : Said
-said_plain = record { pointers = record { encoding = 0; width = 8 }; lsda = None; personality = None; signal = false; key = keys.A }
+abbrev pub plain_augmentation : AugmentationView
+plain_augmentation = record { pointers = record { encoding = 0; width = 8 }; lsda = None; personality = None; signal = false; key = keys.A }
 
 -- what the letters say, one after the other; bytes that are left over aren't read
-unfoldable pub said_by : List ℕ → Said → Cursor → Result Said RecordFault
-said_by [] said at = Ok said
-said_by (b ∷ bs) said at = letter_at b said at >>= λ next. said_by bs next.0 next.1
+unfoldable pub augmentation_by : List ℕ → AugmentationView → Cursor → Result AugmentationView RecordFault
+augmentation_by [] augmentation at = Ok augmentation
+augmentation_by (b ∷ bs) augmentation at = letter_at b augmentation at >>= λ next. augmentation_by bs next.0 next.1

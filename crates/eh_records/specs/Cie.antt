@@ -9,7 +9,7 @@ use Rattle.eh_records.specs.declared.cie.NumberFields.{NumberFields}
 use Rattle.eh_records.specs.declared.cie.CieWithForm.{CieWithForm}
 use Rattle.eh_records.specs.declared.fault.RecordFault.{RecordFault}
 use Rattle.eh_records.specs.declared.fault.RecordFault.TheVariants.{CieVersion}
-use Rattle.eh_records.specs.Augmentation.{Said, said_plain, letters_at, data_at, said_by}
+use Rattle.eh_records.specs.Augmentation.{AugmentationView, plain_augmentation, letters_at, data_at, augmentation_by}
 use Rattle.eh_records.specs.RawRecord.{RawRecordView}
 use Rattle.eh_records.specs.Step.{Step, ◌>>=◌, PointerField, pointer_view, number_field, uleb_field, sleb_field}
 
@@ -59,23 +59,23 @@ numbers_at version at = do
   Ok (record { code = code.0; factor = factor.0; column = column.0 }, column.1)
 
 -- what the augmentation data says, where there is one
-abbrev pub passed_data : Cursor → Result Said RecordFault → Step Said
-passed_data after (Ok said) = Ok (said, after)
+abbrev pub passed_data : Cursor → Result AugmentationView RecordFault → Step AugmentationView
+passed_data after (Ok augmentation) = Ok (augmentation, after)
 passed_data after (Err e) = Err e
 
-abbrev pub said_in : Option (List ℕ) → Cursor → Step Said
-said_in None at = Ok (said_plain, at)
-said_in (Some letters) at = data_at at >>= λ inner. passed_data inner.1 (said_by letters said_plain inner.0)
+abbrev pub augmentation_in : Option (List ℕ) → Cursor → Step AugmentationView
+augmentation_in None at = Ok (plain_augmentation, at)
+augmentation_in (Some letters) at = data_at at >>= λ inner. passed_data inner.1 (augmentation_by letters plain_augmentation inner.0)
 
-unfoldable pub said_at : Option (List ℕ) → Cursor → Step Said
-said_at letters at = said_in letters at
+unfoldable pub augmentation_at : Option (List ℕ) → Cursor → Step AugmentationView
+augmentation_at letters at = augmentation_in letters at
 
-abbrev pub cie_with_form : ℕ → Numbers → Bool → Said → Cursor → SharedView
-cie_with_form place numbers augmented said insns = record {
-  cie = record { place = place; code = numbers.code; factor = numbers.factor; column = numbers.column; encoding = said.pointers.encoding; signal = said.signal; key = said.key; personality = said.personality; insns = insns };
-  width = said.pointers.width;
+abbrev pub cie_with_form : ℕ → Numbers → Bool → AugmentationView → Cursor → SharedView
+cie_with_form place numbers augmented augmentation insns = record {
+  cie = record { place = place; code = numbers.code; factor = numbers.factor; column = numbers.column; encoding = augmentation.pointers.encoding; signal = augmentation.signal; key = augmentation.key; personality = augmentation.personality; insns = insns };
+  width = augmentation.pointers.width;
   augmented = augmented;
-  lsda = said.lsda;
+  lsda = augmentation.lsda;
 }
 
 -- the fields behind the version, from left to right
@@ -83,8 +83,8 @@ unfoldable pub cie_fields : Arch → ℕ → ℕ → Cursor → Result SharedVie
 cie_fields arch place version at = do
   letters ← letters_at arch at
   numbers ← numbers_at version letters.1
-  said ← said_at letters.0 numbers.1
-  Ok (cie_with_form place numbers.0 (is_some letters.0) said.0 said.1)
+  augmentation ← augmentation_at letters.0 numbers.1
+  Ok (cie_with_form place numbers.0 (is_some letters.0) augmentation.0 augmentation.1)
 
 -- the entry of a record
 unfoldable pub cie_of : Arch → RawRecordView → Result SharedView RecordFault

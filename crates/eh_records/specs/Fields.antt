@@ -8,7 +8,7 @@ use Rattle.sf_bytes.specs.Standing.{Stands, Number, Bytes, Text}
 use Rattle.sf_model.specs.declared.machine.Arch.{Arch}
 use Rattle.sf_model.specs.declared.machine.Key.TheVariants as keys
 use Rattle.eh_pointer.specs.Pointer.{pointer_width, usable_width, format_of, above_format}
-use Rattle.eh_records.specs.Augmentation.{Form, Said, said_plain, are_letters}
+use Rattle.eh_records.specs.Augmentation.{Form, AugmentationView, plain_augmentation, are_letters}
 use Rattle.eh_records.specs.Cie.{Numbers, SharedView, cie_with_form}
 use Rattle.eh_records.specs.RawRecord.{RawRecordView}
 use Rattle.eh_records.specs.Fde.{FdeView}
@@ -69,17 +69,17 @@ SayingsStand [] (s ∷ sayings) from = ⊥
 SayingsStand (b ∷ letters) [] from = ⊥
 SayingsStand (b ∷ letters) (s ∷ sayings) from = (to : Cursor) × SayingStands b s from to × SayingsStand letters sayings to
 
-abbrev pub with_saying : Said → Saying → Said
-with_saying said (pointers form) = record said { pointers = form }
-with_saying said (personality field) = record said { personality = field }
-with_saying said (lsda encoding) = record said { lsda = Some encoding }
-with_saying said signal = record said { signal = true }
-with_saying said key_b = record said { key = keys.B }
+abbrev pub with_saying : AugmentationView → Saying → AugmentationView
+with_saying augmentation (pointers form) = record augmentation { pointers = form }
+with_saying augmentation (personality field) = record augmentation { personality = field }
+with_saying augmentation (lsda encoding) = record augmentation { lsda = Some encoding }
+with_saying augmentation signal = record augmentation { signal = true }
+with_saying augmentation key_b = record augmentation { key = keys.B }
 
--- all that is said, where a letter that isn't there says what `said` has
-abbrev pub all_said : Said → List Saying → Said
-all_said said [] = said
-all_said said (s ∷ sayings) = all_said (with_saying said s) sayings
+-- the augmentation with what these letters say; a letter that isn't there changes nothing
+abbrev pub with_sayings : AugmentationView → List Saying → AugmentationView
+with_sayings augmentation [] = augmentation
+with_sayings augmentation (s ∷ sayings) = with_sayings (with_saying augmentation s) sayings
 
 -- the augmentation data: its length, and as many bytes
 pub record DataStands (data_ : Cursor) (from to : Cursor) : Type 0 where
@@ -90,16 +90,16 @@ pub record DataStands (data_ : Cursor) (from to : Cursor) : Type 0 where
   pub place : data_.place ≡ after.place
 
 -- what the augmentation data says; without a string there is none
-pub record LettersStand (letters : List ℕ) (said : Said) (from to : Cursor) : Type 0 where
+pub record LettersStand (letters : List ℕ) (augmentation : AugmentationView) (from to : Cursor) : Type 0 where
   pub data_ : Cursor
   pub sayings : List Saying
   pub data_stands : DataStands data_ from to
   pub sayings_stand : SayingsStand letters sayings data_
-  pub together : said ≡ all_said said_plain sayings
+  pub together : augmentation ≡ with_sayings plain_augmentation sayings
 
-abbrev pub AugmentationStands : Option (List ℕ) → Said → (from to : Cursor) → Type 0
-AugmentationStands None said from to = (said ≡ said_plain) × (to ≡ from)
-AugmentationStands (Some letters) said from to = LettersStand letters said from to
+abbrev pub AugmentationStands : Option (List ℕ) → AugmentationView → (from to : Cursor) → Type 0
+AugmentationStands None augmentation from to = (augmentation ≡ plain_augmentation) × (to ≡ from)
+AugmentationStands (Some letters) augmentation from to = LettersStand letters augmentation from to
 
 -- ---- common information entries
 -- the return address column: a byte in version 1, a LEB128 number in version 3
@@ -112,7 +112,7 @@ pub record CieStands (arch : Arch) (p : RawRecordView) (c : SharedView) : Type 0
   pub version : ℕ
   pub letters : Option (List ℕ)
   pub numbers : Numbers
-  pub said : Said
+  pub augmentation : AugmentationView
   pub after_version : Cursor
   pub after_string : Cursor
   pub after_code : Cursor
@@ -124,8 +124,8 @@ pub record CieStands (arch : Arch) (p : RawRecordView) (c : SharedView) : Type 0
   pub code_stands : Stands Uleb numbers.code after_string after_code
   pub factor_stands : Stands Sleb numbers.factor after_code after_factor
   pub column_stands : ColumnStands version numbers.column after_factor after_column
-  pub augmentation_stands : AugmentationStands letters said after_column insns
-  pub entry : c ≡ cie_with_form p.place numbers (is_some letters) said insns
+  pub augmentation_stands : AugmentationStands letters augmentation after_column insns
+  pub entry : c ≡ cie_with_form p.place numbers (is_some letters) augmentation insns
 
 -- ---- frame description entries
 -- the pointer to the language-specific data area stands at the front of the data, where its encoding fixes a width and the data is

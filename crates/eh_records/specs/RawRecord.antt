@@ -23,9 +23,9 @@ abbrev pub whole : {X : Type 0} → ℕ → Step X → Step X
 whole place (Ok x) = Ok x
 whole place (Err e) = Err (Short place)
 
--- the raw_record_view of a record that has this length, and the cursor behind it
-unfoldable pub piece_of : ℕ → ℕ → Cursor → Step RawRecordView
-piece_of place len at = do
+-- the record of this length whose length word is at a place, and the cursor after it
+unfoldable pub record_of_length : ℕ → ℕ → Cursor → Step RawRecordView
+record_of_length place len at = do
   body ← whole place (part_field len at)
   id ← number_field 4 body.0
   Ok (record { place = place; id_place = body.0.place; id = id.0; body = id.1 }, body.1)
@@ -36,7 +36,7 @@ sized place len at =
     if len == 0 then Ok None
     else if len == 4294967295 then Err (Extended place)
     else if nat_lt len 4 then Err (Short place)
-    else (piece_of place len at >>= λ p. Ok (Some p))
+    else (record_of_length place len at >>= λ p. Ok (Some p))
 
 unfoldable pub raw_record_at : Cursor → Result (Option (RawRecordView × Cursor)) RecordFault
 raw_record_at at =
@@ -52,11 +52,3 @@ abbrev pub CutAnswers : Reader → Result (Option RawRecord) RecordFault → Res
 CutAnswers new (Ok None) read = read ≡ Ok None
 CutAnswers new (Ok (Some cut)) read = read ≡ Ok (Some (raw_record_view cut, reader_cursor new))
 CutAnswers new (Err e) read = read ≡ Err e
-
--- what a call answered, seen by view, is what is read
-abbrev pub Is : {X Y : Type 0} → (X → Y) → Result X RecordFault → Result Y RecordFault → Type 0
-Is view (Ok x) read = read ≡ Ok (view x)
-Is view (Err e) read = read ≡ Err e
-
-abbrev pub NamedAnswers : Result ℕ RecordFault → Result ℕ RecordFault → Type 0
-NamedAnswers result read = Is (λ x. x) result read

@@ -3,7 +3,7 @@ use Rattle.std.specs.Prelude.{◌≡◌, ℕ, ℤ, List, Result, Ok, Err}
 use Rattle.sf_bytes.specs.declared.fault.ByteFault.{ByteFault}
 use Rattle.sf_bytes.specs.declared.fault.ByteFault.TheVariants as byte_faults
 use Rattle.sf_bytes.specs.declared.field.Field.{Field}
-use Rattle.sf_bytes.specs.Cursor.{Cursor, Read, cursor, part_at, number_at}
+use Rattle.sf_bytes.specs.Cursor.{Cursor, Read, Reads, cursor, part_at, number_at}
 use Rattle.sf_bytes.specs.Leb.{uleb_at, sleb_at}
 use Rattle.sf_bytes.specs.Text.{text_at}
 use Rattle.eh_records.specs.declared.fault.RecordFault.{RecordFault}
@@ -56,8 +56,7 @@ pointer_field width at = do
 
 -- what a call on a reader answered, seen by view, is what the step gives, and the reader is what it leaves
 abbrev pub Answers : {X Y : Type 0} → (X → Y) → Reader → Result X RecordFault → Step Y → Type 0
-Answers view new (Ok x) step = step ≡ Ok (view x, cursor new.part)
-Answers view new (Err e) step = step ≡ Err e
+Answers view new result step = Reads view new.part result step
 
 -- the cursor of a reader
 abbrev pub reader_cursor : Reader → Cursor

@@ -2,20 +2,21 @@
 
 ghost use Rattle.std.specs.Prelude.{◌≡◌, ◌<◌, ◌^◌, length};
 ghost use Rattle.std.specs.Option.{option_map};
+ghost use Rattle.sf_bytes.specs.Answers.{Is};
 ghost use Rattle.sf_bytes.specs.Cursor.{cursor};
-ghost use Rattle.eh_records.specs.Augmentation.{said_view};
-ghost use Rattle.eh_records.specs.Cie.{shared_view, cie_with_form, numbers_view, numbers_at, column_at, said_at, cie_fields, cie_of};
-ghost use Rattle.eh_records.specs.RawRecord.{Is, raw_record_view};
+ghost use Rattle.eh_records.specs.Augmentation.{augmentation_view};
+ghost use Rattle.eh_records.specs.Cie.{shared_view, cie_with_form, numbers_view, numbers_at, column_at, augmentation_at, cie_fields, cie_of};
+ghost use Rattle.eh_records.specs.RawRecord.{raw_record_view};
 ghost use Rattle.eh_records.specs.Fde.{cie_at_place};
 ghost use Rattle.eh_records.specs.Step.{Answers, reader_cursor};
 
 use crate::augmentation::Augmentation;
+use crate::augmentation_data::{plain, read_augmentation_data, read_data};
 use crate::cie::{Cie, CieWithForm, NumberFields};
 use crate::cut::{RawRecord, next_record};
 use crate::fault::RecordFault;
 use crate::letters::read_letters;
 use crate::reader::Reader;
-use crate::said::{plain, read_augmentation_data, read_data};
 use sf_bytes::Part;
 use sf_model::Arch;
 
@@ -48,12 +49,12 @@ fn read_numbers(version: u8, body: &mut Reader<'_>) -> Result<NumberFields, Reco
 }
 
 // What the augmentation data says, where there is one.
-#[tactic(auto, unfolding(crate::specs::Cie::said_at))]
+#[tactic(auto, unfolding(crate::specs::Cie::augmentation_at))]
 fn read_augmentation(
     letters: Option<&[u8]>,
     body: &mut Reader<'_>,
 ) -> Result<Augmentation, RecordFault>
-    ensures { Answers said_view body.new result (said_at (option_map (λ text. text.now) letters.entry) (reader_cursor body.old)) }
+    ensures { Answers augmentation_view body.new result (augmentation_at (option_map (λ text. text.now) letters.entry) (reader_cursor body.old)) }
 {
     match letters {
         Some(letters) => {
@@ -69,27 +70,27 @@ fn shared<'a>(
     place: u32,
     numbers: NumberFields,
     augmented: bool,
-    said: Augmentation,
+    augmentation: Augmentation,
     insns: Part<'a>,
 ) -> CieWithForm<'a>
-    ensures { shared_view result ≡ cie_with_form place (numbers_view numbers) augmented (said_view said) (cursor insns.entry) }
+    ensures { shared_view result ≡ cie_with_form place (numbers_view numbers) augmented (augmentation_view augmentation) (cursor insns.entry) }
 {
     let cie = Cie {
         place,
         code: numbers.code,
         factor: numbers.factor,
         column: numbers.column,
-        encoding: said.pointers.encoding,
-        signal: said.signal,
-        key: said.key,
-        personality: said.personality,
+        encoding: augmentation.pointers.encoding,
+        signal: augmentation.signal,
+        key: augmentation.key,
+        personality: augmentation.personality,
         insns,
     };
     CieWithForm {
         cie,
-        width: said.pointers.width,
+        width: augmentation.pointers.width,
         augmented,
-        lsda: said.lsda,
+        lsda: augmentation.lsda,
     }
 }
 
@@ -105,8 +106,8 @@ fn read_fields<'a>(
 {
     let letters = read_letters(&mut body, arch)?;
     let numbers = read_numbers(version, &mut body)?;
-    let said = read_augmentation(letters, &mut body)?;
-    Ok(shared(place, numbers, letters.is_some(), said, body.part))
+    let augmentation = read_augmentation(letters, &mut body)?;
+    Ok(shared(place, numbers, letters.is_some(), augmentation, body.part))
 }
 
 /// The common information entry of a record.

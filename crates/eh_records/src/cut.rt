@@ -1,7 +1,8 @@
 //! Cutting a section into records.
 
 ghost use Rattle.std.specs.Prelude.{◌≡◌, ◌<◌, ◌==◌, length, IfOk, IfSome};
-ghost use Rattle.eh_records.specs.RawRecord.{CutAnswers, NamedAnswers, raw_record_view, raw_record_at, named_place};
+ghost use Rattle.sf_bytes.specs.Answers.{Is};
+ghost use Rattle.eh_records.specs.RawRecord.{CutAnswers, raw_record_view, raw_record_at, named_place};
 ghost use Rattle.eh_records.specs.Step.{reader_cursor};
 
 use crate::fault::RecordFault;
@@ -36,7 +37,7 @@ impl RawRecord<'_> {
     #[tactic(auto, unfolding(crate::specs::RawRecord::named_place))]
     #[inline(always)]
     pub fn cie_place(&self) -> Result<u32, RecordFault>
-        ensures { NamedAnswers result (named_place (raw_record_view self.now)) }
+        ensures { Is (λ x. x) result (named_place (raw_record_view self.now)) }
     {
         match self.id_place.checked_sub(self.id) {
             Some(place) => Ok(place),
@@ -46,7 +47,7 @@ impl RawRecord<'_> {
 }
 
 /// Cuts the next record off, or answers none at the end and at a length word of 0.
-#[tactic(auto, unfolding(crate::specs::RawRecord::raw_record_at, crate::specs::RawRecord::piece_of))]
+#[tactic(auto, unfolding(crate::specs::RawRecord::raw_record_at, crate::specs::RawRecord::record_of_length))]
 #[inline(always)]
 pub fn next_record<'a>(rest: &mut Reader<'a>) -> Result<Option<RawRecord<'a>>, RecordFault>
     ensures exact { CutAnswers rest.new result (raw_record_at (reader_cursor rest.old)) }

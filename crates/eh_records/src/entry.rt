@@ -1,7 +1,8 @@
 //! The entries of a section, of both kinds.
 
 ghost use Rattle.std.specs.Prelude.{◌≡◌, ◌<◌, ◌^◌, length, true};
-ghost use Rattle.eh_records.specs.RawRecord.{Is, raw_record_view};
+ghost use Rattle.sf_bytes.specs.Answers.{Is};
+ghost use Rattle.eh_records.specs.RawRecord.{raw_record_view};
 ghost use Rattle.eh_records.specs.Entry.{entry_view, GivesFirst};
 ghost use Rattle.eh_records.specs.Kept.{IsKept};
 ghost use Rattle.eh_records.specs.Places.{IsRising};

@@ -2,19 +2,20 @@
 
 ghost use Rattle.std.specs.Prelude.{◌≡◌, ◌<◌, ◌^◌, length};
 ghost use Rattle.std.specs.Option.{option_map};
+ghost use Rattle.sf_bytes.specs.Answers.{Is};
 ghost use Rattle.eh_records.specs.Cie.{shared_view};
-ghost use Rattle.eh_records.specs.RawRecord.{Is, raw_record_view};
+ghost use Rattle.eh_records.specs.RawRecord.{raw_record_view};
 ghost use Rattle.eh_records.specs.Fde.{fde_view, lsda_in, lsda_at, entry_of, fde_of};
 ghost use Rattle.eh_records.specs.Kept.{IsKept};
 ghost use Rattle.eh_records.specs.Step.{Answers, pointer_view, reader_cursor};
 
+use crate::augmentation_data::read_data;
 use crate::cie::CieWithForm;
 use crate::cut::RawRecord;
 use crate::fault::RecordFault;
 use crate::fde::Fde;
 use crate::kept::CommonAt;
 use crate::reader::Reader;
-use crate::said::read_data;
 use eh_pointer::width;
 use sf_bytes::Field;
 use sf_model::Arch;

@@ -15,8 +15,8 @@ pub struct CommonAt<'a> {
 }
 
 impl<'a> CommonAt<'a> {
+    ghost use Rattle.sf_bytes.specs.Answers.{Is};
     ghost use Rattle.eh_records.specs.Cie.{shared_view};
-    ghost use Rattle.eh_records.specs.RawRecord.{Is};
     ghost use Rattle.eh_records.specs.Fde.{cie_at_place};
     ghost use Rattle.eh_records.specs.Kept.{IsKept};
 

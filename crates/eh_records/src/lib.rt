@@ -11,6 +11,7 @@
 #![tactic(auto)]
 
 mod augmentation;
+mod augmentation_data;
 mod cie;
 mod common;
 mod cut;
@@ -26,7 +27,6 @@ mod letters;
 mod places;
 mod reader;
 mod records;
-mod said;
 mod span;
 
 pub use cie::Cie;

@@ -2,7 +2,8 @@
 
 ghost use Rattle.std.specs.Prelude.{◌≡◌, ◌==◌, OnOk, IfErr};
 ghost use Rattle.std.specs.List.{list_any};
-ghost use Rattle.eh_records.specs.RawRecord.{Is, raw_record_view};
+ghost use Rattle.sf_bytes.specs.Answers.{Is};
+ghost use Rattle.eh_records.specs.RawRecord.{raw_record_view};
 ghost use Rattle.eh_records.specs.Places.{IsRising};
 ghost use Rattle.eh_records.specs.Section.{shared_place, with_place};
 ghost use Rattle.eh_records.specs.declared.fault.RecordFault.TheVariants.{NoMemory};

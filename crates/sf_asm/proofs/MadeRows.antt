@@ -21,7 +21,7 @@ use Rattle.sf_express.specs.declared.fault.ExpressFault.TheVariants.{Omit}
 use Rattle.sf_express.specs.Expressed.{expressed_rows, function_by, reason_of, with_rows}
 use Rattle.sf_express.specs.Run.{on_rows}
 use Rattle.sf_express.specs.Runs.{AreSaid, function_of}
-use Rattle.sf_express.proofs.Means.{answer_means}
+use Rattle.sf_express.proofs.ByOffsets.{answer_means}
 use Rattle.sf_express.proofs.Omitted.{answer_omits}
 use Rattle.sf_express.proofs.Writable.{FunctionFits, function_by-fits}
 use Rattle.sf_asm.specs.declared.entry.Outcome.{Outcome}

@@ -14,7 +14,7 @@ use Rattle.eh_records.specs.Fde.{FdeView}
 use Rattle.eh_records.specs.Section.{EntryView, entries_of, frames, pointer_fields}
 use Rattle.elf_reloc.specs.declared.fault.RelocFault.{RelocFault}
 use Rattle.elf_reloc.specs.declared.fix.RelocatedField.{RelocatedField}
-use Rattle.sf_express.specs.Parts.{content_of}
+use Rattle.sf_express.specs.Rules.{content_of}
 use Rattle.sf_express.specs.Offsets.{said}
 use Rattle.sf_express.specs.Runs.{AreSaid, function_of}
 use Rattle.sf_asm.specs.declared.entry.Entry.{Entry}

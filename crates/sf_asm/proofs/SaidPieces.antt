@@ -14,7 +14,7 @@ use Rattle.cfa_machine.specs.RowList.{sign_fits}
 use Rattle.cfa_machine.proofs.GoodRows.{AreRowsIfOk, rows_by-are_rows}
 use Rattle.cfa_machine.proofs.Says.{SaysAllIfOk, rows_by-say}
 use Rattle.sf_express.specs.declared.pieces.Piece.{Piece}
-use Rattle.sf_express.specs.Parts.{content_of}
+use Rattle.sf_express.specs.Rules.{content_of}
 use Rattle.sf_express.specs.Pieces.{AreSaidBy, content_in, piece_of, pieces_of, says_again}
 use Rattle.sf_express.specs.Run.{on_rows}
 use Rattle.sf_express.proofs.Said.{are_said_by}

@@ -31,7 +31,7 @@ use Rattle.cfa_machine.specs.RowAtOffset.{latest_at, SaysAt}
 use Rattle.cfa_machine.specs.ColumnRecovery.{columns_recover, columns_recover_from, return_register}
 use Rattle.cfa_machine.specs.Recovery.{RuleRecovery, register_value, frame_address_by, value_by}
 use Rattle.cfa_machine.proofs.ColumnRecovery.{recovery_of_columns}
-use Rattle.sf_express.specs.Parts.{◌>>=◌, fits_i32, narrowed, base_of, cfa_at, cfa_from, cfa_part, is_zero, sp_part, is_minus_8, saved_at, ra_part, fp_saved_at, fp_part, pair_part, sign_part, content_of}
+use Rattle.sf_express.specs.Rules.{◌>>=◌, fits_i32, narrowed, base_of, cfa_at, cfa_from, cfa_content, is_zero, stack_pointer_check, is_minus_8, return_address_at, return_address_content, frame_pointer_at, frame_pointer_content, frame_pointer_needs_return_address, sign_state_check, content_of}
 use Rattle.sf_express.specs.Offsets.{said, as_said, latest_content}
 use Rattle.sf_express.specs.Alike.{defined, RecoverAlike, ColumnsRecoverAlike, FoundAlike}
 use Rattle.sf_express.proofs.Writable.{made}
@@ -86,7 +86,7 @@ cfa_from_is arch r (Some base) n x regs is e =
     ap (option_map (λ (base : ℕ). moved base n)) (register_is arch r base regs is) ∙ ap (λ (k : ℕ). Some k) (offset_is base n (narrowed n) x regs refl e)
 cfa_from_is arch r None n x regs is e = cc
 
-frame_address_is : (arch : Arch) (r : CfaRule) (x : Base × ℤ) (regs : Regs) → cfa_part arch r ≡ Ok x → frame_address_by arch r regs ≡ Some (moved (base_value x.0 regs) x.1)
+frame_address_is : (arch : Arch) (r : CfaRule) (x : Base × ℤ) (regs : Regs) → cfa_content arch r ≡ Ok x → frame_address_by arch r regs ≡ Some (moved (base_value x.0 regs) x.1)
 frame_address_is arch cfa.Missing x regs e = cc
 frame_address_is arch cfa.Expression x regs e = cc
 frame_address_is arch (cfa.Reg r n) x regs e = cfa_from_is arch r (base_of arch r) n x regs refl e
@@ -96,7 +96,7 @@ sp_zero_is : (n : ℤ) (zero : Bool) (u : Unit {0}) (address : ℕ) → is_zero 
 sp_zero_is n true u address test e stays = ap (moved address) (zero_is n test) ∙ stays
 sp_zero_is n false u address test e stays = cc
 
-sp_is : (r : Rule) (u : Unit {0}) (address : ℕ) (present : Option Value) (memory : List Region) → moved address (pos 0) ≡ address → sp_part r ≡ Ok u → value_by memory (Some address) (Some (Known address)) present r ≡ Some (Known address)
+sp_is : (r : Rule) (u : Unit {0}) (address : ℕ) (present : Option Value) (memory : List Region) → moved address (pos 0) ≡ address → stack_pointer_check r ≡ Ok u → value_by memory (Some address) (Some (Known address)) present r ≡ Some (Known address)
 sp_is rule.Missing u address present memory stays e = refl
 sp_is (rule.ValOffset n) u address present memory stays e = ap (λ (k : ℕ). Some (Known k)) (sp_zero_is n (is_zero n) u address refl e stays)
 sp_is rule.Undefined u address present memory stays e = cc
@@ -113,19 +113,19 @@ fixed_is n true ra address test e =
     ap (λ (k : ℤ). Some (moved address k)) (minus_8_is n test) ∙ ap (λ (r : Ra). return_place r address) is
 fixed_is n false ra address test e = cc
 
-at_is : (n : ℤ) (found : Option ℤ) (ra : Ra) (address : ℕ) → narrowed n ≡ found → saved_at found ≡ Ok ra → Some (moved address n) ≡ return_place ra address
+at_is : (n : ℤ) (found : Option ℤ) (ra : Ra) (address : ℕ) → narrowed n ≡ found → return_address_at found ≡ Ok ra → Some (moved address n) ≡ return_place ra address
 at_is n (Some m) ra address narrow e =
     let is : At m ≡ ra = cc in
     ap (λ (k : ℤ). Some (moved address k)) (narrowed_is n m narrow) ∙ ap (λ (r : Ra). return_place r address) is
 at_is n None ra address narrow e = cc
 
-link_is : (ra : Ra) (address : ℕ) → ra_part Aarch64 rule.Missing ≡ Ok ra → None ≡ return_place ra address
+link_is : (ra : Ra) (address : ℕ) → return_address_content Aarch64 rule.Missing ≡ Ok ra → None ≡ return_place ra address
 link_is ra address e = let is : Link ≡ ra = cc in ap (λ (r : Ra). return_place r address) is
 
 abbrev place_value : List Region → (present : ℕ) → (place : Option ℕ) → Option Value
 place_value memory present place = Some (saved_or_kept memory present place)
 
-ra_is : (arch : Arch) (r : Rule) (ra : Ra) (address : ℕ) (regs : Regs) (memory : List Region) → ra_part arch r ≡ Ok ra
+ra_is : (arch : Arch) (r : Rule) (ra : Ra) (address : ℕ) (regs : Regs) (memory : List Region) → return_address_content arch r ≡ Ok ra
     → value_by memory (Some address) (return_register arch regs) (return_register arch regs) r ≡ Some (saved_or_kept memory regs.lr (return_place ra address))
 ra_is Amd64 (rule.Offset n) ra address regs memory e = ap (place_value memory regs.lr) (fixed_is n (is_minus_8 n) ra address refl e)
 ra_is Amd64 rule.Missing ra address regs memory e = cc
@@ -145,16 +145,16 @@ ra_is Aarch64 rule.Expression ra address regs memory e = cc
 ra_is Aarch64 rule.ValExpression ra address regs memory e = cc
 
 -- ---- the frame pointer
-fp_saved_is : (n : ℤ) (found fp : Option ℤ) (address : ℕ) → narrowed n ≡ found → fp_saved_at found ≡ Ok fp → Some (moved address n) ≡ pointer_place fp address
+fp_saved_is : (n : ℤ) (found fp : Option ℤ) (address : ℕ) → narrowed n ≡ found → frame_pointer_at found ≡ Ok fp → Some (moved address n) ≡ pointer_place fp address
 fp_saved_is n (Some m) fp address narrow e =
     let is : Some m ≡ fp = cc in
     ap (λ (k : ℤ). Some (moved address k)) (narrowed_is n m narrow) ∙ ap (λ (x : Option ℤ). pointer_place x address) is
 fp_saved_is n None fp address narrow e = cc
 
-fp_kept_is : (fp : Option ℤ) (address : ℕ) → fp_part rule.Missing ≡ Ok fp → None ≡ pointer_place fp address
+fp_kept_is : (fp : Option ℤ) (address : ℕ) → frame_pointer_content rule.Missing ≡ Ok fp → None ≡ pointer_place fp address
 fp_kept_is fp address e = let is : None ≡ fp = cc in ap (λ (x : Option ℤ). pointer_place x address) is
 
-fp_is : (r : Rule) (fp : Option ℤ) (address present : ℕ) (memory : List Region) → fp_part r ≡ Ok fp
+fp_is : (r : Rule) (fp : Option ℤ) (address present : ℕ) (memory : List Region) → frame_pointer_content r ≡ Ok fp
     → value_by memory (Some address) (Some (Known present)) (Some (Known present)) r ≡ Some (saved_or_kept memory present (pointer_place fp address))
 fp_is rule.Missing fp address present memory e = ap (place_value memory present) (fp_kept_is fp address e)
 fp_is rule.Same fp address present memory e = ap (place_value memory present) (fp_kept_is fp address e)
@@ -174,10 +174,10 @@ parts_are f ra ra' fp fp' sp sp' signed p q r = rw (p, q, r) refl
 
 -- what the parts of a row say of it
 record AreParts (arch : Arch) (columns : Columns) (x : Base × ℤ) (u : Unit {0}) (ra : Ra) (fp : Option ℤ) : Type 0 where
-  said_cfa : cfa_part arch columns.cfa ≡ Ok x
-  said_sp : sp_part columns.sp ≡ Ok u
-  said_ra : ra_part arch columns.ra ≡ Ok ra
-  said_fp : fp_part columns.fp ≡ Ok fp
+  said_cfa : cfa_content arch columns.cfa ≡ Ok x
+  said_sp : stack_pointer_check columns.sp ≡ Ok u
+  said_ra : return_address_content arch columns.ra ≡ Ok ra
+  said_fp : frame_pointer_content columns.fp ≡ Ok fp
 
 made_alike : (arch : Arch) (columns : Columns) (key : Key) (regs : Regs) (memory : List Region) (x : Base × ℤ) (u : Unit {0}) (ra : Ra) (fp : Option ℤ) → AreParts arch columns x u ra fp
     → columns_recover arch columns key regs memory ≡ defined (recovery (made x ra fp columns.signed) key regs memory)
@@ -196,8 +196,8 @@ made_is (Ok u) (Err reason) made content e = cc
 made_is (Err reason) sign made content e = cc
 
 parts_alike : (arch : Arch) (columns : Columns) (content : Content) (cfa : Result (Base × ℤ) Reason) (sp : Result (Unit {0}) Reason) (ra : Result Ra Reason) (fp : Result (Option ℤ) Reason) (sign : Result (Unit {0}) Reason)
-    → cfa_part arch columns.cfa ≡ cfa → sp_part columns.sp ≡ sp → ra_part arch columns.ra ≡ ra → fp_part columns.fp ≡ fp
-    → (cfa >>= λ x. (sp >>= λ _. (ra >>= λ ra. (fp >>= λ fp. (pair_part ra fp >>= λ _. (sign >>= λ _. Ok (made x ra fp columns.signed))))))) ≡ Ok content
+    → cfa_content arch columns.cfa ≡ cfa → stack_pointer_check columns.sp ≡ sp → return_address_content arch columns.ra ≡ ra → frame_pointer_content columns.fp ≡ fp
+    → (cfa >>= λ x. (sp >>= λ _. (ra >>= λ ra. (fp >>= λ fp. (frame_pointer_needs_return_address ra fp >>= λ _. (sign >>= λ _. Ok (made x ra fp columns.signed))))))) ≡ Ok content
     → (key : Key) (regs : Regs) (memory : List Region) → columns_recover arch columns key regs memory ≡ defined (recovery content key regs memory)
 parts_alike arch columns content (Err reason) sp ra fp sign p q r s e = λ key regs memory. cc
 parts_alike arch columns content (Ok x) (Err reason) ra fp sign p q r s e = λ key regs memory. cc
@@ -205,13 +205,13 @@ parts_alike arch columns content (Ok x) (Ok u) (Err reason) fp sign p q r s e = 
 parts_alike arch columns content (Ok x) (Ok u) (Ok ra) (Err reason) sign p q r s e = λ key regs memory. cc
 parts_alike arch columns content (Ok x) (Ok u) (Ok ra) (Ok fp) sign p q r s e = λ key regs memory.
     made_alike arch columns key regs memory x u ra fp (record { said_cfa = p; said_sp = q; said_ra = r; said_fp = s })
-    ∙ ap (λ (c : Content). defined (recovery c key regs memory)) (made_is (pair_part ra fp) sign (made x ra fp columns.signed) content e)
+    ∙ ap (λ (c : Content). defined (recovery c key regs memory)) (made_is (frame_pointer_needs_return_address ra fp) sign (made x ra fp columns.signed) content e)
 
 all_alike : (arch : Arch) (start : ℕ) (columns : Columns) (content : Content) → content_of arch (row_from start columns) ≡ Ok content
     → (key : Key) (regs : Regs) (memory : List Region) → columns_recover arch columns key regs memory ≡ defined (recovery content key regs memory)
 unfolding content_of
 all_alike arch start columns content e =
-    parts_alike arch columns content (cfa_part arch columns.cfa) (sp_part columns.sp) (ra_part arch columns.ra) (fp_part columns.fp) (sign_part arch columns.sign) refl refl refl refl e
+    parts_alike arch columns content (cfa_content arch columns.cfa) (stack_pointer_check columns.sp) (return_address_content arch columns.ra) (frame_pointer_content columns.fp) (sign_state_check arch columns.sign) refl refl refl refl e
 
 -- the stack pointer of a recovery is its canonical frame address
 pointer_is : (content : Content) (key : Key) (regs : Regs) (memory : List Region) → (defined (recovery content key regs memory)).stack_pointer ≡ option_map Known (defined (recovery content key regs memory)).frame_address

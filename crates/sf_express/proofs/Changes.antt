@@ -14,7 +14,7 @@ use Rattle.sf_model.specs.declared.omission.Reason.{Reason}
 use Rattle.sf_model.specs.declared.rows.Row.{Row}
 use Rattle.cfa_machine.specs.declared.row.DwRow.{DwRow}
 use Rattle.cfa_machine.specs.RowList.{BeginAtZero, AreRows}
-use Rattle.sf_express.specs.Parts.{content_of}
+use Rattle.sf_express.specs.Rules.{content_of}
 use Rattle.sf_express.specs.Expressed.{◌>>=◌, same_base, same_ra, same_fp, same_sign, same_content, repeats, reason_of, row_from, unless_repeated, expressed_rows}
 use Rattle.sf_express.specs.Offsets.{DifferFrom, StartAtZero, StandAtChanges}
 use Rattle.sf_express.proofs.Same.{repeated_is}

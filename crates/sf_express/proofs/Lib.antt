@@ -5,7 +5,7 @@ pub mod Omitted
 pub mod Changes
 pub mod Alike
 pub mod Runs
-pub mod Means
+pub mod ByOffsets
 pub mod Found
 pub mod Running
 pub mod Said

@@ -12,7 +12,7 @@ use Rattle.cfa_machine.specs.declared.row.DwRow.{DwRow}
 use Rattle.cfa_machine.specs.Columns.{row_from}
 use Rattle.cfa_machine.specs.Left.{behind_row}
 use Rattle.sf_express.specs.Expressed.{unless_repeated, expressed_rows}
-use Rattle.sf_express.specs.Parts.{content_of}
+use Rattle.sf_express.specs.Rules.{content_of}
 use Rattle.sf_express.specs.Run.{on_rows}
 use Rattle.sf_express.proofs.Kept.{after_kept, regroup}
 

@@ -1,8 +1,7 @@
 -- Pieces say at each offset what the rows say.
-use Rattle.std.specs.Prelude.{nat_le}
 use Rattle.std.specs.List.{All}
 use Rattle.std.specs.Option.{option_map}
-use Rattle.std.proofs.Common.{◌≡◌, ℕ, zero, suc, ◌+◌, ◌-◌, ◌<◌, ◌≤◌, Bool, true, false, cond, List, [], ◌∷◌, ◌++◌, get_or, length, Option, Some, None, Result, Ok, Err, refl, sym, ap, subst, ◌∙◌, arith, add-one, inl, inr}
+use Rattle.std.proofs.Common.{◌≡◌, ℕ, zero, suc, ◌+◌, ◌-◌, ◌<◌, ◌≤◌, Bool, true, false, cond, List, [], ◌∷◌, ◌++◌, get_or, length, Option, Some, None, Result, Ok, Err, refl, sym, ap, subst, ◌∙◌, arith, inl, inr}
 use Rattle.std.proofs.lemmas.Bool.{cases_lt, lt-leb, le-leb}
 use Rattle.std.proofs.lemmas.List.{append-nil}
 use Rattle.std.proofs.lemmas.List.Elements.{All-nil, All-cons, All-head, All-tail}
@@ -17,9 +16,8 @@ use Rattle.cfa_machine.specs.Columns.{row_from}
 use Rattle.cfa_machine.specs.Left.{behind_row}
 use Rattle.cfa_machine.specs.RowList.{AreRows, BeginAtZero, RiseFrom}
 use Rattle.sf_express.specs.declared.pieces.Piece.{Piece}
-use Rattle.sf_express.specs.Expressed.{same_content}
-use Rattle.sf_express.specs.Offsets.{said, said_at}
-use Rattle.sf_express.specs.Parts.{content_of}
+use Rattle.sf_express.specs.Offsets.{said}
+use Rattle.sf_express.specs.Rules.{content_of}
 use Rattle.sf_express.specs.Pieces.{ArePieces, AreSaidBy, PiecesBegin, PiecesDiffer, PiecesRise, PiecesSay, content_in, piece_of, pieces_of, said_by, same_saying, says_again, unless_again}
 use Rattle.sf_express.specs.Run.{on_rows}
 use Rattle.sf_express.specs.Runs.{AreSaid, Saying}

@@ -18,7 +18,7 @@ use Rattle.sf_model.specs.declared.rows.Row.{Row}
 use Rattle.cfa_machine.specs.declared.row.DwRow.{DwRow}
 use Rattle.cfa_machine.specs.RowList.{RiseFrom, sign_fits, AreRows}
 use Rattle.cfa_machine.specs.RowAtOffset.{latest_at}
-use Rattle.sf_express.specs.Parts.{content_of}
+use Rattle.sf_express.specs.Rules.{content_of}
 use Rattle.sf_express.specs.Expressed.{◌>>=◌, same_base, same_ra, same_fp, same_sign, same_content, repeats, row_from, unless_repeated, expressed_rows}
 use Rattle.sf_express.specs.Offsets.{said, latest_content, as_said, SayTheSame}
 use Rattle.sf_express.proofs.Writable.{made, StartsRise, KeptFit, kept_fit}

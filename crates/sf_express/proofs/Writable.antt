@@ -22,7 +22,7 @@ use Rattle.cfa_machine.specs.declared.rule.Rule.{Rule}
 use Rattle.cfa_machine.specs.declared.rule.Rule.TheVariants as rule
 use Rattle.cfa_machine.specs.declared.row.DwRow.{DwRow}
 use Rattle.cfa_machine.specs.RowList.{RiseFrom, sign_fits, AreRows}
-use Rattle.sf_express.specs.Parts.{◌>>=◌ as ◌>>>◌, narrowed, saved_at, is_minus_8, cfa_part, sp_part, ra_part, fp_part, pair_part, sign_part, content_of}
+use Rattle.sf_express.specs.Rules.{◌>>=◌ as ◌>>>◌, narrowed, return_address_at, is_minus_8, cfa_content, stack_pointer_check, return_address_content, frame_pointer_content, frame_pointer_needs_return_address, sign_state_check, content_of}
 use Rattle.sf_express.specs.Expressed.{◌>>=◌, repeats, reason_of, row_from, unless_repeated, expressed_rows, with_rows, function_by}
 
 -- ---- contents
@@ -39,11 +39,11 @@ fixed_fits : (b : Bool) → RaFits Amd64 (cond {A = Result Ra Reason} b (Ok Fixe
 fixed_fits true = tt
 fixed_fits false = tt
 
-saved_fits : (n : Option ℤ) → RaFits Aarch64 (saved_at n)
+saved_fits : (n : Option ℤ) → RaFits Aarch64 (return_address_at n)
 saved_fits (Some n) = tt
 saved_fits None = tt
 
-ra_fits : (arch : Arch) (r : Rule) → RaFits arch (ra_part arch r)
+ra_fits : (arch : Arch) (r : Rule) → RaFits arch (return_address_content arch r)
 ra_fits Amd64 (rule.Offset n) = fixed_fits (is_minus_8 n)
 ra_fits Amd64 rule.Missing = tt
 ra_fits Amd64 rule.Undefined = tt
@@ -68,7 +68,7 @@ ContentFits arch (Err e) = Unit {0}
 abbrev pub made : Base × ℤ → Ra → Option ℤ → Bool → Content
 made x ra fp signed = record { base = x.0; cfa = x.1; ra = ra; fp = fp; signed = signed }
 
-pair_fits : (arch : Arch) (x : Base × ℤ) (ra : Ra) (fp : Option ℤ) (sign : Result (Unit {0}) Reason) (signed : Bool) → RaFits arch (Ok ra) → IsTrue (sign_fits arch signed) → ContentFits arch (pair_part ra fp >>> λ _. (sign >>> λ _. Ok (made x ra fp signed)))
+pair_fits : (arch : Arch) (x : Base × ℤ) (ra : Ra) (fp : Option ℤ) (sign : Result (Unit {0}) Reason) (signed : Bool) → RaFits arch (Ok ra) → IsTrue (sign_fits arch signed) → ContentFits arch (frame_pointer_needs_return_address ra fp >>> λ _. (sign >>> λ _. Ok (made x ra fp signed)))
 pair_fits Amd64 x Fixed fp (Ok v) signed h g = g
 pair_fits Amd64 x Fixed fp (Err e) signed h g = tt
 pair_fits Amd64 x Link fp sign signed h g = absurd h
@@ -81,7 +81,7 @@ pair_fits Aarch64 x (At n) fp (Ok v) signed h g = refl
 pair_fits Aarch64 x (At n) fp (Err e) signed h g = tt
 
 parts_fit : (arch : Arch) (cfa : Result (Base × ℤ) Reason) (sp : Result (Unit {0}) Reason) (ra : Result Ra Reason) (fp : Result (Option ℤ) Reason) (sign : Result (Unit {0}) Reason) (signed : Bool) → RaFits arch ra → IsTrue (sign_fits arch signed)
-    → ContentFits arch (cfa >>> λ x. (sp >>> λ _. (ra >>> λ ra. (fp >>> λ fp. (pair_part ra fp >>> λ _. (sign >>> λ _. Ok (made x ra fp signed)))))))
+    → ContentFits arch (cfa >>> λ x. (sp >>> λ _. (ra >>> λ ra. (fp >>> λ fp. (frame_pointer_needs_return_address ra fp >>> λ _. (sign >>> λ _. Ok (made x ra fp signed)))))))
 parts_fit arch (Err e) sp ra fp sign signed h g = tt
 parts_fit arch (Ok x) (Err e) ra fp sign signed h g = tt
 parts_fit arch (Ok x) (Ok u) (Err e) fp sign signed h g = tt
@@ -90,7 +90,7 @@ parts_fit arch (Ok x) (Ok u) (Ok ra) (Ok fp) sign signed h g = pair_fits arch x 
 
 pub content_of-fits : (arch : Arch) (r : DwRow) → IsTrue (sign_fits arch r.signed) → ContentFits arch (content_of arch r)
 unfolding content_of
-content_of-fits arch r h = parts_fit arch (cfa_part arch r.cfa) (sp_part r.sp) (ra_part arch r.ra) (fp_part r.fp) (sign_part arch r.sign) r.signed (ra_fits arch r.ra) h
+content_of-fits arch r h = parts_fit arch (cfa_content arch r.cfa) (stack_pointer_check r.sp) (return_address_content arch r.ra) (frame_pointer_content r.fp) (sign_state_check arch r.sign) r.signed (ra_fits arch r.ra) h
 
 -- ---- rows
 abbrev pub StartsRise : ℕ → List Row → Type 0

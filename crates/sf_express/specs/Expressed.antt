@@ -1,6 +1,7 @@
 -- A function as SFrame Version 2 expresses it, or why it can't.
 use Rattle.std.specs.Prelude.{◌≡◌, ℕ, ℤ, ◌^◌, ◌==◌, nat_le, Bool, true, false, ◌&&◌, not, List, [], ◌∷◌, Option, Some, None, Result, Ok, Err, if◌then◌else◌}
 use Rattle.std.specs.Ordering.{int_eq}
+use Rattle.sf_model.specs.Answers as answers
 use Rattle.sf_model.specs.declared.machine.Base.{Base}
 use Rattle.sf_model.specs.declared.machine.Base.TheVariants.{Fp, Sp}
 use Rattle.sf_model.specs.declared.content.Ra.{Ra}
@@ -17,7 +18,7 @@ use Rattle.sf_model.specs.declared.rows.Row.{Row}
 use Rattle.cfa_machine.specs.declared.row.DwRow.{DwRow}
 use Rattle.sf_express.specs.declared.fault.ExpressFault.{ExpressFault}
 use Rattle.sf_express.specs.declared.fault.ExpressFault.TheVariants.{Omit, NoMemory}
-use Rattle.sf_express.specs.Parts.{content_of}
+use Rattle.sf_express.specs.Rules.{content_of}
 pub use Rattle.sf_bytes.specs.Steps.{◌>>=◌}
 use Rattle.cfa_machine.specs.Registers.{return_address}
 
@@ -96,16 +97,21 @@ abbrev pub function_by : Arch → FdeFacts → List DwRow → Result Func Omissi
 function_by arch facts rows = with_rows facts (reason_of arch facts) (expressed_rows arch None rows)
 
 -- ---- what a call answered is what the definition gives
+-- the row was returned, or the omission, and memory didn't run out
 abbrev pub Makes : Result Row ExpressFault → Result Row Omission → Type 0
 Makes (Ok row) given = given ≡ Ok row
 Makes (Err (Omit omission)) given = given ≡ Err omission
 Makes (Err NoMemory) given = ⊥
 
+-- the omission of a fault, which out of memory is not
+abbrev pub omission_of : ExpressFault → Option Omission
+omission_of (Omit omission) = Some omission
+omission_of NoMemory = None
+
 -- the omission was returned, or memory ran out
 abbrev pub Fails : {Y : Type 0} → ExpressFault → Result Y Omission → Type 0
-Fails (Omit omission) given = given ≡ Err omission
-Fails NoMemory given = Unit {0}
+Fails fault given = answers.Fails omission_of fault given
 
+-- the result, seen by view, is what the definition gives, unless memory ran out
 abbrev pub Gives : {X Y : Type 0} → (X → Y) → Result X ExpressFault → Result Y Omission → Type 0
-Gives view (Ok x) given = given ≡ Ok (view x)
-Gives view (Err e) given = Fails e given
+Gives view result given = answers.Gives omission_of view result given

@@ -12,7 +12,7 @@ use Rattle.sf_express.specs.declared.fault.ExpressFault.TheVariants.{Omit, NoMem
 use Rattle.sf_express.specs.Expressed.{reason_of}
 use Rattle.cfa_machine.specs.declared.row.DwRow.{DwRow}
 use Rattle.cfa_machine.specs.RowAtOffset.{latest_at}
-use Rattle.sf_express.specs.Parts.{content_of}
+use Rattle.sf_express.specs.Rules.{content_of}
 
 -- the content, or the reason against it, of the call frame instructions' row at an offset
 abbrev pub said : Arch → Option DwRow → Option (Result Content Reason)

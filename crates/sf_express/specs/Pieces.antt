@@ -9,7 +9,7 @@ use Rattle.sf_model.specs.declared.rows.Row.{Row}
 use Rattle.cfa_machine.specs.declared.row.DwRow.{DwRow}
 use Rattle.sf_express.specs.declared.pieces.Piece.{Piece}
 use Rattle.sf_express.specs.Expressed.{same_content}
-use Rattle.sf_express.specs.Parts.{content_of}
+use Rattle.sf_express.specs.Rules.{content_of}
 
 -- the content, where there is no reason against it
 abbrev pub content_in : Result Content Reason → Option Content

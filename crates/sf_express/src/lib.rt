@@ -13,10 +13,10 @@
 
 mod fault;
 mod function;
-mod part;
 mod pieces;
 mod recovery;
 mod row;
+mod rules;
 mod run;
 
 pub use fault::ExpressFault;

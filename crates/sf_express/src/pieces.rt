@@ -5,7 +5,7 @@ ghost use Rattle.cfa_machine.specs.Columns.{row_from};
 ghost use Rattle.cfa_machine.specs.Left.{present, rows_left};
 ghost use Rattle.cfa_machine.specs.Pass.{Gives};
 ghost use Rattle.sf_express.specs.declared.pieces.Piece.{Piece as piece};
-ghost use Rattle.sf_express.specs.Parts.{content_of};
+ghost use Rattle.sf_express.specs.Rules.{content_of};
 ghost use Rattle.sf_express.specs.Pieces as spec;
 ghost use Rattle.sf_express.specs.Pieces.{ArePieces, PiecesDiffer, said_by};
 ghost use Rattle.sf_express.specs.Run.{on_rows};

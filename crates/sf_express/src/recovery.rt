@@ -11,7 +11,7 @@ ghost use Rattle.cfa_machine.specs.declared.row.DwRow.{DwRow};
 ghost use Rattle.cfa_machine.specs.Columns.{row_from};
 ghost use Rattle.cfa_machine.specs.RowAtOffset.{row_at_offset, SayAll};
 ghost use Rattle.cfa_machine.specs.FullRow.{FullRow, columns_of};
-ghost use Rattle.sf_express.specs.Parts.{content_of};
+ghost use Rattle.sf_express.specs.Rules.{content_of};
 ghost use Rattle.sf_express.specs.Offsets.{latest_content, SayTheSame};
 ghost use Rattle.sf_express.specs.Alike.{RecoverAlike, ColumnsRecoverAlike, FoundAlike};
 

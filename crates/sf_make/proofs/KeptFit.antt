@@ -38,7 +38,7 @@ use Rattle.eh_records.proofs.Faults.{read_again}
 use Rattle.eh_records.proofs.Keys.{keys_fit}
 use Rattle.cfa_machine.specs.Registers.{return_address}
 use Rattle.sf_express.specs.Expressed.{reason_of}
-use Rattle.sf_express.specs.Parts.{◌>>=◌ as ◌>>>◌, base_of, cfa_from, cfa_part, content_of, fits_i32, fp_part, fp_saved_at, is_minus_8, narrowed, pair_part, ra_part, saved_at, sign_part, sp_part}
+use Rattle.sf_express.specs.Rules.{◌>>=◌ as ◌>>>◌, base_of, cfa_from, cfa_content, content_of, fits_i32, frame_pointer_content, frame_pointer_at, is_minus_8, narrowed, frame_pointer_needs_return_address, return_address_content, return_address_at, sign_state_check, stack_pointer_check}
 use Rattle.sf_express.specs.Runs.{Saying, begins, expressed, first_against, function_of, omission_of, row_there, rows_of, unless_omitted, whole_or_row}
 use Rattle.sf_express.proofs.Writable.{made}
 use Rattle.sf_asm.specs.declared.entry.Entry.{Entry}
@@ -192,12 +192,12 @@ cfa_from_in None n o e = tt
 cfa_from_in (Some base) n (Some m) e = rw e (narrowed_in n m e)
 cfa_from_in (Some base) n None e = rw e tt
 
-cfa_in : (arch : Arch) (r : CfaRule) → CfaIn (cfa_part arch r)
+cfa_in : (arch : Arch) (r : CfaRule) → CfaIn (cfa_content arch r)
 cfa_in arch cfa.Missing = tt
 cfa_in arch cfa.Expression = tt
 cfa_in arch (cfa.Reg r n) = cfa_from_in (base_of arch r) n (narrowed n) refl
 
-saved_in : (n : ℤ) (o : Option ℤ) → narrowed n ≡ o → RaIn (saved_at (narrowed n))
+saved_in : (n : ℤ) (o : Option ℤ) → narrowed n ≡ o → RaIn (return_address_at (narrowed n))
 saved_in n (Some m) e = rw e (narrowed_in n m e)
 saved_in n None e = rw e tt
 
@@ -205,7 +205,7 @@ fixed_in : (b : Bool) → RaIn (cond {A = Result Ra Reason} b (Ok Fixed) (Err Ra
 fixed_in true = tt
 fixed_in false = tt
 
-ra_in : (arch : Arch) (r : Rule) → RaIn (ra_part arch r)
+ra_in : (arch : Arch) (r : Rule) → RaIn (return_address_content arch r)
 ra_in Amd64 (rule.Offset n) = fixed_in (is_minus_8 n)
 ra_in Amd64 rule.Missing = tt
 ra_in Amd64 rule.Undefined = tt
@@ -223,11 +223,11 @@ ra_in Aarch64 (rule.Register r) = tt
 ra_in Aarch64 rule.Expression = tt
 ra_in Aarch64 rule.ValExpression = tt
 
-pointer_in : (n : ℤ) (o : Option ℤ) → narrowed n ≡ o → FpIn (fp_saved_at (narrowed n))
+pointer_in : (n : ℤ) (o : Option ℤ) → narrowed n ≡ o → FpIn (frame_pointer_at (narrowed n))
 pointer_in n (Some m) e = rw e (narrowed_in n m e)
 pointer_in n None e = rw e tt
 
-fp_in : (r : Rule) → FpIn (fp_part r)
+fp_in : (r : Rule) → FpIn (frame_pointer_content r)
 fp_in rule.Missing = tt
 fp_in rule.Same = tt
 fp_in (rule.Offset n) = pointer_in n (narrowed n) refl
@@ -247,16 +247,16 @@ last_in x ra fp (Ok u) (Err e) signed a b c = tt
 last_in x ra fp (Ok u) (Ok v) signed a b c = record { frame_address = a; return_address = b; frame_pointer = c }
 
 parts_in : (cfa : Result (Base × ℤ) Reason) (sp : Result (Unit {0}) Reason) (ra : Result Ra Reason) (fp : Result (Option ℤ) Reason) (sign : Result (Unit {0}) Reason) (signed : Bool) → CfaIn cfa → RaIn ra → FpIn fp
-    → ContentIn (cfa >>> λ x. (sp >>> λ _. (ra >>> λ ra. (fp >>> λ fp. (pair_part ra fp >>> λ _. (sign >>> λ _. Ok (made x ra fp signed)))))))
+    → ContentIn (cfa >>> λ x. (sp >>> λ _. (ra >>> λ ra. (fp >>> λ fp. (frame_pointer_needs_return_address ra fp >>> λ _. (sign >>> λ _. Ok (made x ra fp signed)))))))
 parts_in (Err e) sp ra fp sign signed a b c = tt
 parts_in (Ok x) (Err e) ra fp sign signed a b c = tt
 parts_in (Ok x) (Ok u) (Err e) fp sign signed a b c = tt
 parts_in (Ok x) (Ok u) (Ok ra) (Err e) sign signed a b c = tt
-parts_in (Ok x) (Ok u) (Ok ra) (Ok fp) sign signed a b c = last_in x ra fp (pair_part ra fp) sign signed a b c
+parts_in (Ok x) (Ok u) (Ok ra) (Ok fp) sign signed a b c = last_in x ra fp (frame_pointer_needs_return_address ra fp) sign signed a b c
 
 pub content_in : (arch : Arch) (r : DwRow) → ContentIn (content_of arch r)
 unfolding content_of
-content_in arch r = parts_in (cfa_part arch r.cfa) (sp_part r.sp) (ra_part arch r.ra) (fp_part r.fp) (sign_part arch r.sign) r.signed (cfa_in arch r.cfa) (ra_in arch r.ra) (fp_in r.fp)
+content_in arch r = parts_in (cfa_content arch r.cfa) (stack_pointer_check r.sp) (return_address_content arch r.ra) (frame_pointer_content r.fp) (sign_state_check arch r.sign) r.signed (cfa_in arch r.cfa) (ra_in arch r.ra) (fp_in r.fp)
 
 -- ---- rows
 -- a row that begins below a size, with offsets in range

@@ -20,7 +20,7 @@ use Rattle.cfa_machine.specs.Pass.{◌>>=◌, rows_by, rows_from}
 use Rattle.cfa_machine.proofs.Faults.{fault_of, rows_by-fault}
 use Rattle.cfa_machine.proofs.Says.{SaysAllIfOk, rows_by-say}
 use Rattle.sf_express.specs.Expressed.{reason_of, same_base}
-use Rattle.sf_express.specs.Parts.{content_of}
+use Rattle.sf_express.specs.Rules.{content_of}
 use Rattle.sf_asm.specs.Functions.{Function}
 use Rattle.sf_asm.specs.Kept.{facts_of}
 use Rattle.sf_plt.specs.Plt.{content_before, content_unless, counts_from_stack, initial_content, is_amd64, is_plt, is_plt_text, without_nops}

@@ -30,7 +30,7 @@ use Rattle.cfa_machine.specs.FullRow.{FullRow, cfa_offset, columns_of}
 use Rattle.cfa_machine.specs.Recovery.{RuleRecovery, recovery_from, recovery_by_rules, register_value}
 use Rattle.cfa_machine.specs.Registers.{frame_pointer, return_address, stack_pointer}
 use Rattle.sf_express.specs.Alike.{defined}
-use Rattle.sf_express.specs.Parts.{◌>>=◌, base_of, cfa_at, cfa_from, cfa_part, content_of, fp_part, narrowed, pair_part, ra_part, sign_part, sp_part}
+use Rattle.sf_express.specs.Rules.{◌>>=◌, base_of, cfa_at, cfa_from, cfa_content, content_of, frame_pointer_content, narrowed, frame_pointer_needs_return_address, return_address_content, sign_state_check, stack_pointer_check}
 use Rattle.sf_express.proofs.Alike.{recovers_alike}
 use Rattle.sf_express.proofs.Column.{own_column}
 use Rattle.sf_express.proofs.Writable.{made}
@@ -46,7 +46,7 @@ use Rattle.sf_plt.proofs.Values.{value_low, value_high}
 
 -- ---- a content with another canonical frame address
 abbrev pub by_parts : Result (Base × ℤ) Reason → Result (Unit {0}) Reason → Result Ra Reason → Result (Option ℤ) Reason → Result (Unit {0}) Reason → Bool → Result Content Reason
-by_parts cfa sp ra fp sign signed = cfa >>= λ x. (sp >>= λ _. (ra >>= λ ra. (fp >>= λ fp. (pair_part ra fp >>= λ _. (sign >>= λ _. Ok (made x ra fp signed))))))
+by_parts cfa sp ra fp sign signed = cfa >>= λ x. (sp >>= λ _. (ra >>= λ ra. (fp >>= λ fp. (frame_pointer_needs_return_address ra fp >>= λ _. (sign >>= λ _. Ok (made x ra fp signed))))))
 
 -- the canonical frame address of a content, and the same content with any other one
 pub record OtherCfa (cfa : Result (Base × ℤ) Reason) (sp : Result (Unit {0}) Reason) (ra : Result Ra Reason) (fp : Result (Option ℤ) Reason) (sign : Result (Unit {0}) Reason) (signed : Bool) (content : Content) : Type 0 where
@@ -73,7 +73,7 @@ other_cfa (Ok x) (Err reason) ra fp sign signed content e = absurd cc
 other_cfa (Ok x) (Ok u) (Err reason) fp sign signed content e = absurd cc
 other_cfa (Ok x) (Ok u) (Ok ra) (Err reason) sign signed content e = absurd cc
 other_cfa (Ok x) (Ok u) (Ok ra) (Ok fp) sign signed content e =
-    let two = other_pair x ra fp (pair_part ra fp) sign signed content e in
+    let two = other_pair x ra fp (frame_pointer_needs_return_address ra fp) sign signed content e in
     record { is = two.0; ra_is = ap Ok two.1; signed_is = two.2; other = two.3 }
 
 -- ---- the row before the own instructions
@@ -92,7 +92,7 @@ base_is (Some base) n other m e is = at_number (narrowed n) e
     at_number None e = cc
     at_number (Some k) e = let same : (base, k) ≡ (other, m) = cc in ap Some (ap (λ (p : Base × ℤ). p.0) same ∙ is)
 
-of_register : (arch : Arch) (rule : CfaRule) (base : Base) (m : ℤ) → cfa_part arch rule ≡ Ok (base, m) → base ≡ Sp → OfRegister arch rule
+of_register : (arch : Arch) (rule : CfaRule) (base : Base) (m : ℤ) → cfa_content arch rule ≡ Ok (base, m) → base ≡ Sp → OfRegister arch rule
 of_register arch cfa.Missing base m e is = absurd cc
 of_register arch cfa.Expression base m e is = absurd cc
 of_register arch (cfa.Reg r n) base m e is = record { register = r; offset = n; rule_is = refl; base = base_is (base_of arch r) n base m e is }
@@ -134,7 +134,7 @@ says : (f : Function) (content : Content) → initial_content f ≡ Some content
 unfolding content_of
 says f content e base =
     let c = columns f in
-    let two = other_cfa (cfa_part f.arch c.cfa) (sp_part c.sp) (ra_part f.arch c.ra) (fp_part c.fp) (sign_part f.arch c.sign) c.signed content (said_before f content e) in
+    let two = other_cfa (cfa_content f.arch c.cfa) (stack_pointer_check c.sp) (return_address_content f.arch c.ra) (frame_pointer_content c.fp) (sign_state_check f.arch c.sign) c.signed content (said_before f content e) in
     let of = of_register f.arch c.cfa content.base content.cfa two.is base in
     record {
       register = of.register;
@@ -142,9 +142,9 @@ says f content e base =
       rule_is = of.rule_is;
       value = λ regs. register_is f.arch of.register regs of.base;
       at = λ n small.
-          let part : cfa_part f.arch (cfa.Reg of.register (pos n)) ≡ Ok (content.base, pos n) =
+          let part : cfa_content f.arch (cfa.Reg of.register (pos n)) ≡ Ok (content.base, pos n) =
           ap (λ (b : Option Base). cfa_from b (pos n)) of.base ∙ ap (λ (t : Bool). cfa_at Sp (cond t (Some (pos n)) None)) small ∙ ap (λ (b : Base). Ok (b, pos n)) (sym base) in
-          ap (λ (x : Result (Base × ℤ) Reason). by_parts x (sp_part c.sp) (ra_part f.arch c.ra) (fp_part c.fp) (sign_part f.arch c.sign) c.signed) part ∙ two.other (content.base, pos n);
+          ap (λ (x : Result (Base × ℤ) Reason). by_parts x (stack_pointer_check c.sp) (return_address_content f.arch c.ra) (frame_pointer_content c.fp) (sign_state_check f.arch c.sign) c.signed) part ∙ two.other (content.base, pos n);
     }
 
 -- ---- what is recovered at an offset

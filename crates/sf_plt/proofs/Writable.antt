@@ -23,7 +23,7 @@ use Rattle.cfa_machine.specs.RowAtOffset.{initial_by, row_defined}
 use Rattle.cfa_machine.specs.Effects.{effect_by}
 use Rattle.cfa_machine.specs.FirstFault.{define_fault, first_fault, initial_fault, or_later}
 use Rattle.cfa_machine.specs.FullRow.{FullRow, no_row}
-use Rattle.sf_express.specs.Parts.{cfa_part, content_of, fp_part, is_minus_8, ra_part, sign_part, sp_part}
+use Rattle.sf_express.specs.Rules.{cfa_content, content_of, frame_pointer_content, is_minus_8, return_address_content, sign_state_check, stack_pointer_check}
 use Rattle.sf_asm.specs.Functions.{Function}
 use Rattle.sf_plt.specs.Plt.{content_before, content_unless, initial_content, is_plt}
 use Rattle.sf_plt.specs.Written.{first_entry, later_entries, row_saying}
@@ -36,7 +36,7 @@ fixed_by : (b : Bool) (reason : Reason) (ra : Ra) → cond {A = Result Ra Reason
 fixed_by true reason ra e = let is : Fixed ≡ ra = cc in sym is
 fixed_by false reason ra e = cc
 
-fixed : (r : Rule) (ra : Ra) → ra_part Amd64 r ≡ Ok ra → ra ≡ Fixed
+fixed : (r : Rule) (ra : Ra) → return_address_content Amd64 r ≡ Ok ra → ra ≡ Fixed
 fixed (rule.Offset n) ra e = fixed_by (is_minus_8 n) _ ra e
 fixed rule.Missing ra e = cc
 fixed rule.Undefined ra e = cc
@@ -87,8 +87,8 @@ fits : (f : Function) (content : Content) → f.arch ≡ Amd64 → initial_conte
 unfolding content_of
 fits f content arch e n =
     let c = columns f in
-    let parts = other_cfa (cfa_part f.arch c.cfa) (sp_part c.sp) (ra_part f.arch c.ra) (fp_part c.fp) (sign_part f.arch c.sign) c.signed content (said_before f content e) in
-    let ra : content.ra ≡ Fixed = fixed c.ra content.ra (ap (λ (a : Arch). ra_part a c.ra) (sym arch) ∙ parts.ra_is) in
+    let parts = other_cfa (cfa_content f.arch c.cfa) (stack_pointer_check c.sp) (return_address_content f.arch c.ra) (frame_pointer_content c.fp) (sign_state_check f.arch c.sign) c.signed content (said_before f content e) in
+    let ra : content.ra ≡ Fixed = fixed c.ra content.ra (ap (λ (a : Arch). return_address_content a c.ra) (sym arch) ∙ parts.ra_is) in
     let signed : content.signed ≡ false = sym parts.signed_is ∙ row_unsigned f content arch e in
     rw (arch, ra, signed) refl
 

@@ -1,7 +1,7 @@
 use Rattle.std.proofs.Common.{w64, FitsSigned, rules}
 use Rattle.std.proofs.lemmas.Result.{err_from_is_err_and}
 use Rattle.std.proofs.lemmas.Int.{to_z-of_z}
-use Rattle.cfa_machine.proofs.Before.{row_comes, no_row_comes, fault_comes, end_comes}
+use Rattle.cfa_machine.proofs.InstructionLoops.{row_comes, no_row_comes, fault_comes, end_comes}
 use Rattle.cfa_machine.proofs.runner.next_start.Goals as goal
 
 pub returns-in_err-start-clause-reaches : goal.returns-in_err-start-clause-reaches

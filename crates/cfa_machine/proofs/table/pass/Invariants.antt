@@ -3,7 +3,7 @@ use Rattle.sf_bytes.specs.Cursor.{cursor}
 use Rattle.cfa_insn.specs.Listing.{listing}
 use Rattle.cfa_machine.specs.Left.{rows_left, steps_left}
 use Rattle.cfa_machine.specs.Pass.{rows_by}
-use Rattle.cfa_machine.proofs.Before.{after_rows}
+use Rattle.cfa_machine.proofs.InstructionLoops.{after_rows}
 use Rattle.cfa_machine.proofs.table.pass.Given as goal
 
 abbrev pub invariant-loop-rows : goal.invariant-loop-rows

@@ -2,7 +2,7 @@ use Rattle.std.proofs.Common.{◌≡◌, []}
 use Rattle.eh_records.specs.RawRecord.{raw_record_view}
 use Rattle.eh_records.specs.Section.{entries_before, cuts}
 use Rattle.eh_records.specs.Step.{reader_cursor}
-use Rattle.eh_records.proofs.Before.{none_at_end, begins, is_cut, is_read, read_behind}
+use Rattle.eh_records.proofs.FirstEntry.{none_at_end, begins, is_cut, is_read, read_behind}
 use Rattle.eh_records.proofs.entry.next_entry.Goals as goal
 
 pub returns-in-Ok-clause-gives : goal.returns-in-Ok-clause-gives

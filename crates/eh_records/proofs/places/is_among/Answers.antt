@@ -1,6 +1,6 @@
 use Rattle.std.proofs.Common.{◌∙◌}
 use Rattle.std.proofs.lemmas.List.Sorted.{searched}
-use Rattle.eh_records.proofs.Among.{found}
+use Rattle.eh_records.proofs.RisingPlaces.{found}
 use Rattle.eh_records.proofs.places.is_among.Goals as goal
 
 pub returns : goal.returns

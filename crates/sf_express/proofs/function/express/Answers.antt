@@ -1,4 +1,4 @@
-use Rattle.sf_express.proofs.Means.{answer_means}
+use Rattle.sf_express.proofs.ByOffsets.{answer_means}
 use Rattle.sf_express.proofs.Omitted.{answer_omits}
 use Rattle.sf_express.proofs.function.express.Goals as goal
 

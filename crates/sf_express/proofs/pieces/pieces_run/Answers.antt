@@ -1,4 +1,4 @@
-use Rattle.cfa_machine.proofs.Before.{row_follows, none_follows}
+use Rattle.cfa_machine.proofs.InstructionLoops.{row_follows, none_follows}
 use Rattle.sf_express.proofs.Said.{goes_on, is_done}
 use Rattle.sf_express.proofs.pieces.pieces_run.Goals as goal
 

@@ -1,5 +1,5 @@
 use Rattle.std.proofs.Common.{rules}
-use Rattle.cfa_machine.proofs.Before.{row_follows, none_follows}
+use Rattle.cfa_machine.proofs.InstructionLoops.{row_follows, none_follows}
 use Rattle.sf_express.proofs.Running.{goes_on, omits, is_done, says_same}
 use Rattle.sf_express.proofs.run.run_rows.Goals as goal
 

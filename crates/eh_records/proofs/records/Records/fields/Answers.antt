@@ -5,7 +5,7 @@ use Rattle.eh_records.specs.Cutting.{start}
 use Rattle.eh_records.specs.Section.{are_read, cuts, entries_before, pointer_fields}
 use Rattle.eh_records.specs.Step.{pointer_view}
 use Rattle.eh_records.proofs.Faults.{each_read}
-use Rattle.eh_records.proofs.Between.{LieIn, rising, apart}
+use Rattle.eh_records.proofs.FieldsInOrder.{LieIn, rising, apart}
 use Rattle.eh_records.proofs.Rising.{listed_lie, lie_raw}
 use Rattle.eh_records.proofs.records.Records.fields.Goals as goal
 

@@ -7,9 +7,9 @@ use Rattle.eh_records.specs.RawRecord.{RawRecordView, raw_record_view}
 use Rattle.eh_records.specs.Places.{IsRising, IsBefore}
 use Rattle.eh_records.specs.Section.{entries_of, fault_in, with_place}
 use Rattle.eh_records.specs.Step.{reader_cursor}
-use Rattle.eh_records.proofs.Among.{rising_with, before_with}
+use Rattle.eh_records.proofs.RisingPlaces.{rising_with, before_with}
 use Rattle.eh_records.proofs.Faults.{fault_from, begins, goes_on, refused, uncut, ended, whole, is_whole, fault_is}
-use Rattle.eh_records.proofs.Moves.{cut_is}
+use Rattle.eh_records.proofs.RawRecords.{cut_is}
 use Rattle.eh_records.proofs.records.Records.parse.Goals as goal
 
 pub loop-places-init : goal.loop-places-init

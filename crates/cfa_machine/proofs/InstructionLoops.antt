@@ -8,26 +8,26 @@ use Rattle.cfa_machine.specs.declared.columns.Columns.{Columns}
 use Rattle.cfa_machine.specs.declared.machine.FunctionContext.{FunctionContext}
 use Rattle.cfa_machine.specs.declared.row.DwRow.{DwRow}
 use Rattle.cfa_machine.specs.Left.{Follows, behind_row}
-use Rattle.cfa_machine.specs.Pass.{◌>>=◌, State, cie_items, initial_columns, ended, ran_more, rows_from, in_front, last_row, Fails}
+use Rattle.cfa_machine.specs.Pass.{◌>>=◌, State, cie_item_step, initial_columns, ended, item_step, rows_from, in_front, last_row, Fails}
 
 -- ---- the common information entry
-pub defined_goes_on : (arch : Arch) (f : ℤ) (c : Columns) (x : Item) (d : Columns) (items rest : List Item) (whole : Result Columns MachineFault) → items ≡ x ∷ rest → Ok d ≡ cie_items arch f x c
+pub cie_goes_on : (arch : Arch) (f : ℤ) (c : Columns) (x : Item) (d : Columns) (items rest : List Item) (whole : Result Columns MachineFault) → items ≡ x ∷ rest → Ok d ≡ cie_item_step arch f x c
     → initial_columns arch f c items ≡ whole → initial_columns arch f d rest ≡ whole
 unfolding initial_columns
-defined_goes_on arch f c x d items rest whole next one so_far =
+cie_goes_on arch f c x d items rest whole next one so_far =
     let here : initial_columns arch f c items ≡ initial_columns arch f d rest = rw (next, ← one) refl in
     sym here ∙ so_far
 
-pub defined_ends : (arch : Arch) (f : ℤ) (c : Columns) (x : Item) (e : MachineFault) (items rest : List Item) (whole : Result Columns MachineFault) → items ≡ x ∷ rest → Err e ≡ cie_items arch f x c
+pub cie_ends : (arch : Arch) (f : ℤ) (c : Columns) (x : Item) (e : MachineFault) (items rest : List Item) (whole : Result Columns MachineFault) → items ≡ x ∷ rest → Err e ≡ cie_item_step arch f x c
     → initial_columns arch f c items ≡ whole → Err e ≡ whole
 unfolding initial_columns
-defined_ends arch f c x e items rest whole next one so_far =
+cie_ends arch f c x e items rest whole next one so_far =
     let here : initial_columns arch f c items ≡ Err e = rw (next, ← one) refl in
     sym here ∙ so_far
 
-pub defined_done : (arch : Arch) (f : ℤ) (c : Columns) (items : List Item) (whole : Result Columns MachineFault) → items ≡ [] → initial_columns arch f c items ≡ whole → Ok c ≡ whole
+pub cie_done : (arch : Arch) (f : ℤ) (c : Columns) (items : List Item) (whole : Result Columns MachineFault) → items ≡ [] → initial_columns arch f c items ≡ whole → Ok c ≡ whole
 unfolding initial_columns
-defined_done arch f c items whole none so_far =
+cie_done arch f c items whole none so_far =
     let here : initial_columns arch f c items ≡ Ok c = rw none refl in
     sym here ∙ so_far
 
@@ -36,21 +36,21 @@ nothing_in_front : (given : Result (List DwRow) MachineFault) → (given >>= λ 
 nothing_in_front (Ok rows) = refl
 nothing_in_front (Err e) = refl
 
-pub row_comes : (k : FunctionContext) (f : ℤ) (s : State) (x : Item) (t : State) (start : ℕ) (c : Columns) (found : Option ℕ) (items rest : List Item) (whole : Result (List DwRow) MachineFault) → items ≡ x ∷ rest → ran_more k f x s ≡ Ok (t, ended c found) → found ≡ Some start
+pub row_comes : (k : FunctionContext) (f : ℤ) (s : State) (x : Item) (t : State) (start : ℕ) (c : Columns) (found : Option ℕ) (items rest : List Item) (whole : Result (List DwRow) MachineFault) → items ≡ x ∷ rest → item_step k f x s ≡ Ok (t, ended c found) → found ≡ Some start
     → rows_from k f s items ≡ whole → whole ≡ behind_row start c (rows_from k f t rest)
 unfolding rows_from
 row_comes k f s x t start c found items rest whole next one there so_far =
     let here : rows_from k f s items ≡ behind_row start c (rows_from k f t rest) = rw (next, one, there) refl in
     sym so_far ∙ here
 
-pub no_row_comes : (k : FunctionContext) (f : ℤ) (s : State) (x : Item) (t : State) (c : Columns) (found : Option ℕ) (items rest : List Item) (whole : Result (List DwRow) MachineFault) → items ≡ x ∷ rest → ran_more k f x s ≡ Ok (t, ended c found) → found ≡ None
+pub no_row_comes : (k : FunctionContext) (f : ℤ) (s : State) (x : Item) (t : State) (c : Columns) (found : Option ℕ) (items rest : List Item) (whole : Result (List DwRow) MachineFault) → items ≡ x ∷ rest → item_step k f x s ≡ Ok (t, ended c found) → found ≡ None
     → rows_from k f s items ≡ whole → rows_from k f t rest ≡ whole
 unfolding rows_from
 no_row_comes k f s x t c found items rest whole next one there so_far =
     let here : rows_from k f s items ≡ rows_from k f t rest = rw (next, one, there) (nothing_in_front (rows_from k f t rest)) in
     sym here ∙ so_far
 
-pub fault_comes : (k : FunctionContext) (f : ℤ) (s : State) (x : Item) (e : MachineFault) (items rest : List Item) (whole : Result (List DwRow) MachineFault) → items ≡ x ∷ rest → ran_more k f x s ≡ Err e
+pub fault_comes : (k : FunctionContext) (f : ℤ) (s : State) (x : Item) (e : MachineFault) (items rest : List Item) (whole : Result (List DwRow) MachineFault) → items ≡ x ∷ rest → item_step k f x s ≡ Err e
     → rows_from k f s items ≡ whole → whole ≡ Err e
 unfolding rows_from
 fault_comes k f s x e items rest whole next one so_far =

@@ -10,15 +10,15 @@ use Rattle.eh_pointer.specs.Pointer.{pointer_width, usable_width}
 use Rattle.eh_pointer.specs.Skipping.{pointer_passed}
 use Rattle.eh_records.specs.declared.fault.RecordFault.{RecordFault}
 use Rattle.eh_records.specs.declared.fault.RecordFault.TheVariants.{Augmentation, CieVersion}
-use Rattle.eh_records.specs.Augmentation.{Said, Form, said_plain, letters_in, letters_at, data_at, form_of, form_at, personality_field, personality_in, personality_at, letter_at, said_by}
-use Rattle.eh_records.specs.Cie.{SharedView, column_at, numbers_at, Numbers, passed_data, said_at, cie_fields, cie_of}
+use Rattle.eh_records.specs.Augmentation.{AugmentationView, Form, plain_augmentation, letters_in, letters_at, data_at, form_of, form_at, personality_field, personality_in, personality_at, letter_at, augmentation_by}
+use Rattle.eh_records.specs.Cie.{SharedView, column_at, numbers_at, Numbers, passed_data, augmentation_at, cie_fields, cie_of}
 use Rattle.eh_records.specs.RawRecord.{RawRecordView, named_place}
 use Rattle.eh_records.specs.Fde.{FdeView, read_there, lsda_of_width, lsda_in, lsda_at, entry_of, cie_at_place, fde_of}
 use Rattle.eh_records.specs.Section.{EntryView, Common, Frame, optional, entry_fields, entry_here}
 use Rattle.eh_records.specs.Step.{Step, ◌>>=◌, PointerField, number_field, uleb_field, sleb_field, text_field, pointer_field}
-use Rattle.eh_records.proofs.Between.{LieIn, lower, higher, lie_wider, none_lies}
-use Rattle.eh_records.proofs.Moves.{through, ok_same}
-use Rattle.eh_records.proofs.Onward.{Pointed, number_on, uleb_on, sleb_on, text_on, data_on, pointer_on}
+use Rattle.eh_records.proofs.FieldsInOrder.{LieIn, lower, higher, lie_wider, none_lies}
+use Rattle.eh_records.proofs.RawRecords.{through, ok_same}
+use Rattle.eh_records.proofs.StepsLeaveParts.{Pointed, number_on, uleb_on, sleb_on, text_on, data_on, pointer_on}
 use Rattle.eh_records.proofs.Parts.{IsPart, number_there, part-part, pointer_part}
 
 -- a pointer field that was read lies there, and so do those that lie behind it
@@ -78,8 +78,8 @@ frame_lies shared p f e =
 -- ---- common information entries
 
 -- what is left lies in a cursor's bytes, and so does the personality pointer
-abbrev SaidIn : Cursor → Said × Cursor → Type 0
-SaidIn outer x = IsPart x.1 outer × LieIn outer (optional x.0.personality)
+abbrev AugmentationIn : Cursor → AugmentationView × Cursor → Type 0
+AugmentationIn outer x = IsPart x.1 outer × LieIn outer (optional x.0.personality)
 
 abbrev FieldIn : Cursor → Option PointerField × Cursor → Type 0
 FieldIn outer x = IsPart x.1 outer × LieIn outer (optional x.0)
@@ -120,47 +120,47 @@ personality_lies at x e =
     let t = through (number_field 1 at) _ x e in
     personality_if at.place at t.first x (t.first.0 == 255) (number_on 1 at t.first t.read) t.rest
 
-letter_if : (outer at : Cursor) (said : Said) (x : Said × Cursor) (r p l s : Bool) → IsPart at outer → LieIn outer (optional said.personality)
-    → cond {A = Step Said} r (form_at at >>= λ f. Ok (record said { pointers = f.0 }, f.1))
-    (cond p (personality_at at >>= λ f. Ok (record said { personality = f.0 }, f.1))
-    (cond l (number_field 1 at >>= λ e. Ok (record said { lsda = Some e.0 }, e.1))
-    (cond s (Ok (record said { signal = true }, at)) (Ok (record said { key = B }, at))))) ≡ Ok x
-    → SaidIn outer x
-letter_if outer at said x true p l s i h e =
+letter_if : (outer at : Cursor) (augmentation : AugmentationView) (x : AugmentationView × Cursor) (r p l s : Bool) → IsPart at outer → LieIn outer (optional augmentation.personality)
+    → cond {A = Step AugmentationView} r (form_at at >>= λ f. Ok (record augmentation { pointers = f.0 }, f.1))
+    (cond p (personality_at at >>= λ f. Ok (record augmentation { personality = f.0 }, f.1))
+    (cond l (number_field 1 at >>= λ e. Ok (record augmentation { lsda = Some e.0 }, e.1))
+    (cond s (Ok (record augmentation { signal = true }, at)) (Ok (record augmentation { key = B }, at))))) ≡ Ok x
+    → AugmentationIn outer x
+letter_if outer at augmentation x true p l s i h e =
     let t = through (form_at at) _ x e in
-    subst (SaidIn outer) (ok_same _ x t.rest) (part-part t.first.1 at outer (form_on at t.first t.read) i, h)
-letter_if outer at said x false true l s i h e =
+    subst (AugmentationIn outer) (ok_same _ x t.rest) (part-part t.first.1 at outer (form_on at t.first t.read) i, h)
+letter_if outer at augmentation x false true l s i h e =
     let t = through (personality_at at) _ x e in
-    subst (SaidIn outer) (ok_same _ x t.rest) (wider at outer t.first i (personality_lies at t.first t.read))
-letter_if outer at said x false false true s i h e =
+    subst (AugmentationIn outer) (ok_same _ x t.rest) (wider at outer t.first i (personality_lies at t.first t.read))
+letter_if outer at augmentation x false false true s i h e =
     let t = through (number_field 1 at) _ x e in
-    subst (SaidIn outer) (ok_same _ x t.rest) (part-part t.first.1 at outer (number_on 1 at t.first t.read) i, h)
-letter_if outer at said x false false false true i h e = subst (SaidIn outer) (ok_same _ x e) (i, h)
-letter_if outer at said x false false false false i h e = subst (SaidIn outer) (ok_same _ x e) (i, h)
+    subst (AugmentationIn outer) (ok_same _ x t.rest) (part-part t.first.1 at outer (number_on 1 at t.first t.read) i, h)
+letter_if outer at augmentation x false false false true i h e = subst (AugmentationIn outer) (ok_same _ x e) (i, h)
+letter_if outer at augmentation x false false false false i h e = subst (AugmentationIn outer) (ok_same _ x e) (i, h)
 
-letter_lies : (b : ℕ) (outer at : Cursor) (said : Said) (x : Said × Cursor) → IsPart at outer → LieIn outer (optional said.personality) → letter_at b said at ≡ Ok x → SaidIn outer x
+letter_lies : (b : ℕ) (outer at : Cursor) (augmentation : AugmentationView) (x : AugmentationView × Cursor) → IsPart at outer → LieIn outer (optional augmentation.personality) → letter_at b augmentation at ≡ Ok x → AugmentationIn outer x
 unfolding letter_at
-letter_lies b outer at said x i h e = letter_if outer at said x (b == 82) (b == 80) (b == 76) (b == 83) i h e
+letter_lies b outer at augmentation x i h e = letter_if outer at augmentation x (b == 82) (b == 80) (b == 76) (b == 83) i h e
 
-letters_lie : (letters : List ℕ) (outer at : Cursor) (said s : Said) → IsPart at outer → LieIn outer (optional said.personality) → said_by letters said at ≡ Ok s → LieIn outer (optional s.personality)
-unfolding said_by
-letters_lie [] outer at said s i h e = subst (λ (y : Said). LieIn outer (optional y.personality)) (ok_same said s e) h
-letters_lie (b ∷ bs) outer at said s i h e =
-    let t = through (letter_at b said at) _ s e in
-    let one = letter_lies b outer at said t.first i h t.read in
+letters_lie : (letters : List ℕ) (outer at : Cursor) (augmentation s : AugmentationView) → IsPart at outer → LieIn outer (optional augmentation.personality) → augmentation_by letters augmentation at ≡ Ok s → LieIn outer (optional s.personality)
+unfolding augmentation_by
+letters_lie [] outer at augmentation s i h e = subst (λ (y : AugmentationView). LieIn outer (optional y.personality)) (ok_same augmentation s e) h
+letters_lie (b ∷ bs) outer at augmentation s i h e =
+    let t = through (letter_at b augmentation at) _ s e in
+    let one = letter_lies b outer at augmentation t.first i h t.read in
     letters_lie bs outer t.first.1 t.first.0 s one.0 one.1 t.rest
 
-passed_said : (outer after : Cursor) (r : Result Said RecordFault) (x : Said × Cursor) → ((s : Said) → r ≡ Ok s → LieIn outer (optional s.personality)) → passed_data after r ≡ Ok x → LieIn outer (optional x.0.personality)
-passed_said outer after (Ok said) x h e = subst (λ (y : Said × Cursor). LieIn outer (optional y.0.personality)) (ok_same _ x e) (h said refl)
-passed_said outer after (Err f) x h e = absurd cc
+passed_augmentation : (outer after : Cursor) (r : Result AugmentationView RecordFault) (x : AugmentationView × Cursor) → ((s : AugmentationView) → r ≡ Ok s → LieIn outer (optional s.personality)) → passed_data after r ≡ Ok x → LieIn outer (optional x.0.personality)
+passed_augmentation outer after (Ok augmentation) x h e = subst (λ (y : AugmentationView × Cursor). LieIn outer (optional y.0.personality)) (ok_same _ x e) (h augmentation refl)
+passed_augmentation outer after (Err f) x h e = absurd cc
 
-said_lies : (letters : Option (List ℕ)) (at : Cursor) (x : Said × Cursor) → said_at letters at ≡ Ok x → LieIn at (optional x.0.personality)
-unfolding said_at
-said_lies None at x e = subst (λ (y : Said × Cursor). LieIn at (optional y.0.personality)) (ok_same _ x e) (none_lies at)
-said_lies (Some letters) at x e =
+augmentation_lies : (letters : Option (List ℕ)) (at : Cursor) (x : AugmentationView × Cursor) → augmentation_at letters at ≡ Ok x → LieIn at (optional x.0.personality)
+unfolding augmentation_at
+augmentation_lies None at x e = subst (λ (y : AugmentationView × Cursor). LieIn at (optional y.0.personality)) (ok_same _ x e) (none_lies at)
+augmentation_lies (Some letters) at x e =
     let t = through (data_at at) _ x e in
     let i : IsPart t.first.0 at = (data_on at t.first t.read).0 in
-    passed_said at t.first.1 (said_by letters said_plain t.first.0) x (λ s r. letters_lie letters at t.first.0 said_plain s i (none_lies at) r) t.rest
+    passed_augmentation at t.first.1 (augmentation_by letters plain_augmentation t.first.0) x (λ s r. letters_lie letters at t.first.0 plain_augmentation s i (none_lies at) r) t.rest
 
 column_if : (at : Cursor) (x : ℕ × Cursor) (b : Bool) → cond b (number_field 1 at) (uleb_field at) ≡ Ok x → IsPart x.1 at
 column_if at x true e = number_on 1 at x e
@@ -200,9 +200,9 @@ unfolding cie_fields
 fields_lie arch place version at shared e =
     let t = through (letters_at arch at) _ shared e in
     let u = through (numbers_at version t.first.1) _ shared t.rest in
-    let v = through (said_at t.first.0 u.first.1) _ shared u.rest in
+    let v = through (augmentation_at t.first.0 u.first.1) _ shared u.rest in
     let i = part-part u.first.1 t.first.1 at (numbers_on version t.first.1 u.first u.read) (letters_on arch at t.first t.read) in
-    let lies = lie_wider u.first.1 at (optional v.first.0.personality) i (said_lies t.first.0 u.first.1 v.first v.read) in
+    let lies = lie_wider u.first.1 at (optional v.first.0.personality) i (augmentation_lies t.first.0 u.first.1 v.first v.read) in
     subst (λ (s : SharedView). LieIn at (optional s.cie.personality)) (ok_same _ shared v.rest) lies
 
 version_lies : (arch : Arch) (p : RawRecordView) (version : ℕ × Cursor) (shared : SharedView) (b : Bool) → IsPart version.1 p.body

@@ -2,8 +2,8 @@
 
 ghost use Rattle.std.specs.Prelude.{◌≡◌, ◌<◌};
 ghost use Rattle.std.specs.Option.{option_map};
-ghost use Rattle.eh_records.specs.Augmentation.{form_view, said_view, said_plain, said_by, data_at, form_at, personality_at, letter_at};
-ghost use Rattle.eh_records.specs.RawRecord.{Is};
+ghost use Rattle.sf_bytes.specs.Answers.{Is};
+ghost use Rattle.eh_records.specs.Augmentation.{form_view, augmentation_view, plain_augmentation, augmentation_by, data_at, form_at, personality_at, letter_at};
 ghost use Rattle.eh_records.specs.Step.{Answers, reader_cursor, pointer_view};
 
 use crate::augmentation::{Augmentation, PointerForm};
@@ -66,41 +66,47 @@ fn read_personality(data: &mut Reader<'_>) -> Result<Option<Field>, RecordFault>
 #[tactic(auto, unfolding(crate::specs::Augmentation::letter_at))]
 fn read_letter(
     letter: u8,
-    said: Augmentation,
+    augmentation: Augmentation,
     data: &mut Reader<'_>,
 ) -> Result<Augmentation, RecordFault>
-    ensures { Answers said_view data.new result (letter_at letter (said_view said) (reader_cursor data.old)) }
+    ensures { Answers augmentation_view data.new result (letter_at letter (augmentation_view augmentation) (reader_cursor data.old)) }
 {
     match letter {
         b'R' => {
             let pointers = read_form(data)?;
-            Ok(Augmentation { pointers, ..said })
+            Ok(Augmentation {
+                pointers,
+                ..augmentation
+            })
         }
         b'P' => {
             let personality = read_personality(data)?;
             Ok(Augmentation {
                 personality,
-                ..said
+                ..augmentation
             })
         }
         b'L' => {
             let lsda = Some(data.byte()?);
-            Ok(Augmentation { lsda, ..said })
+            Ok(Augmentation {
+                lsda,
+                ..augmentation
+            })
         }
         b'S' => Ok(Augmentation {
             signal: true,
-            ..said
+            ..augmentation
         }),
         _ => Ok(Augmentation {
             key: Key::B,
-            ..said
+            ..augmentation
         }),
     }
 }
 
 /// What an entry without augmentation says.
 pub fn plain() -> Augmentation
-    ensures { said_view result ≡ said_plain }
+    ensures { augmentation_view result ≡ plain_augmentation }
 {
     Augmentation {
         pointers: PointerForm {
@@ -119,11 +125,11 @@ pub fn read_augmentation_data(
     letters: &[u8],
     mut left: Reader<'_>,
 ) -> Result<Augmentation, RecordFault>
-    ensures { Is said_view result (said_by letters.now said_plain (reader_cursor left.entry)) }
+    ensures { Is augmentation_view result (augmentation_by letters.now plain_augmentation (reader_cursor left.entry)) }
 {
-    let mut said = plain();
+    let mut augmentation = plain();
     for letter in letters {
-        said = read_letter(*letter, said, &mut left)?;
+        augmentation = read_letter(*letter, augmentation, &mut left)?;
     }
-    Ok(said)
+    Ok(augmentation)
 }

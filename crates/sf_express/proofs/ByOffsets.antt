@@ -16,7 +16,7 @@ use Rattle.cfa_machine.specs.RowList.{AreRows}
 use Rattle.cfa_machine.specs.RowAtOffset.{latest_at}
 use Rattle.sf_express.specs.declared.fault.ExpressFault.{ExpressFault}
 use Rattle.sf_express.specs.declared.fault.ExpressFault.TheVariants.{Omit, NoMemory}
-use Rattle.sf_express.specs.Parts.{content_of}
+use Rattle.sf_express.specs.Rules.{content_of}
 use Rattle.sf_express.specs.Expressed.{◌>>=◌, reason_of, row_from, unless_repeated, repeats, expressed_rows, with_rows, function_by, Gives}
 use Rattle.sf_express.specs.Offsets.{said, said_at, as_said, latest_content, SayTheSame, IsSayable, IsOmission, IsFirstReason, Omits}
 use Rattle.sf_express.specs.Runs.{Saying, against, or_later, first_against, whole_or_row, omission_of, rows_of, expressed, unless_omitted, function_of, AreSaid}

@@ -10,7 +10,7 @@ use Rattle.sf_bytes.specs.Cursor.{Cursor, Read, past, number_at, part_at}
 use Rattle.eh_records.specs.declared.fault.RecordFault.{RecordFault}
 use Rattle.eh_records.specs.declared.fault.RecordFault.TheVariants.{Short, Extended}
 use Rattle.eh_records.specs.Cutting.{Stands, EndsWithZero}
-use Rattle.eh_records.specs.RawRecord.{RawRecordView, raw_record_at, piece_of, whole, sized}
+use Rattle.eh_records.specs.RawRecord.{RawRecordView, raw_record_at, record_of_length, whole, sized}
 use Rattle.eh_records.specs.Step.{Step, ◌>>=◌, placed, number_field, part_field}
 
 -- a step that went on went through
@@ -97,9 +97,9 @@ built len at p after body after1 id rest word short enough four r1 r2 ep ea =
       behind = sym ea ∙ after_is ∙ past-past 4 len at;
     }
 
-piece_cut : (len : ℕ) (at at1 : Cursor) (x : RawRecordView × Cursor) → little_number 4 (take 4 at.left) ≡ len → (len ≡ 4294967295 → ⊥) → 4 ≤ len → 4 ≤ length at.left → at1 ≡ past 4 at → piece_of at.place len at1 ≡ Ok x → Stands at x.0 x.1
-unfolding piece_of
-piece_cut len at at1 x word short enough four e1 e =
+record_cut : (len : ℕ) (at at1 : Cursor) (x : RawRecordView × Cursor) → little_number 4 (take 4 at.left) ≡ len → (len ≡ 4294967295 → ⊥) → 4 ≤ len → 4 ≤ length at.left → at1 ≡ past 4 at → record_of_length at.place len at1 ≡ Ok x → Stands at x.0 x.1
+unfolding record_of_length
+record_cut len at at1 x word short enough four e1 e =
     let s1 = through (whole at.place (part_field len at1)) _ x e in
     let p1 = part_read len at1 s1.first (whole_is at.place (part_field len at1) s1.first s1.read) in
     let s2 = through (number_field 4 s1.first.0) _ x s1.rest in
@@ -114,17 +114,17 @@ FrontIs at (Ok (Some x)) = Stands at x.0 x.1
 FrontIs at (Ok None) = (at.left ≡ []) ⊎ EndsWithZero at
 FrontIs at (Err e) = Unit {0}
 
-front_some : (len : ℕ) (at at1 : Cursor) → little_number 4 (take 4 at.left) ≡ len → (len ≡ 4294967295 → ⊥) → 4 ≤ len → 4 ≤ length at.left → at1 ≡ past 4 at → (r : Step RawRecordView) → piece_of at.place len at1 ≡ r → FrontIs at (r >>= λ p. Ok (Some p))
-front_some len at at1 word short enough four e1 (Ok x) e = piece_cut len at at1 x word short enough four e1 e
+front_some : (len : ℕ) (at at1 : Cursor) → little_number 4 (take 4 at.left) ≡ len → (len ≡ 4294967295 → ⊥) → 4 ≤ len → 4 ≤ length at.left → at1 ≡ past 4 at → (r : Step RawRecordView) → record_of_length at.place len at1 ≡ r → FrontIs at (r >>= λ p. Ok (Some p))
+front_some len at at1 word short enough four e1 (Ok x) e = record_cut len at at1 x word short enough four e1 e
 front_some len at at1 word short enough four e1 (Err f) e = tt
 
 front_sized : (len : ℕ) (at at1 : Cursor) → little_number 4 (take 4 at.left) ≡ len → 4 ≤ length at.left → at1 ≡ past 4 at → (a b c : Bool) → (len == 0) ≡ a → (len == 4294967295) ≡ b → nat_lt len 4 ≡ c
-    → FrontIs at (cond a (Ok None) (cond b (Err (Extended at.place)) (cond c (Err (Short at.place)) (piece_of at.place len at1 >>= λ p. Ok (Some p)))))
+    → FrontIs at (cond a (Ok None) (cond b (Err (Extended at.place)) (cond c (Err (Short at.place)) (record_of_length at.place len at1 >>= λ p. Ok (Some p)))))
 front_sized len at at1 word four e1 true b c ta tb tc = inr (record { within = four; word = word ∙ eqb-true len 0 ta })
 front_sized len at at1 word four e1 false true c ta tb tc = tt
 front_sized len at at1 word four e1 false false true ta tb tc = tt
 front_sized len at at1 word four e1 false false false ta tb tc =
-    front_some len at at1 word (grind (arith, nat_tests)) (grind (arith, nat_tests)) four e1 (piece_of at.place len at1) refl
+    front_some len at at1 word (grind (arith, nat_tests)) (grind (arith, nat_tests)) four e1 (record_of_length at.place len at1) refl
 
 front_word : (at : Cursor) (r : Step ℕ) → number_field 4 at ≡ r → FrontIs at (r >>= λ len. sized at.place len.0 len.1)
 front_word at (Ok len) e =

@@ -7,7 +7,7 @@ use Rattle.sf_bytes.specs.Leb.{uleb_at, sleb_at}
 use Rattle.sf_bytes.specs.Text.{text_at}
 use Rattle.eh_records.specs.Augmentation.{data_at}
 use Rattle.eh_records.specs.Step.{placed, PointerField, number_field, uleb_field, sleb_field, text_field, part_field, pointer_field}
-use Rattle.eh_records.proofs.Moves.{through, ok_same, number_read}
+use Rattle.eh_records.proofs.RawRecords.{through, ok_same, number_read}
 use Rattle.eh_records.proofs.Parts.{IsPart, part-part, number_part, uleb_part, sleb_part, text_part, both_parts}
 
 read_on : {X : Type 0} (place : ℕ) (r : Read X) (at : Cursor) (x : X × Cursor) → ((y : X) (c : Cursor) → r ≡ Ok (y, c) → IsPart c at) → placed place r ≡ Ok x → IsPart x.1 at

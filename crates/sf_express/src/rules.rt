@@ -1,7 +1,7 @@
 //! What each rule of a row says in SFrame's form, or why SFrame has no form for it.
 
 ghost use Rattle.std.specs.Prelude.{◌≡◌};
-ghost use Rattle.sf_express.specs.Parts.{narrowed, base_of, cfa_part, sp_part, ra_part, fp_part, pair_part, sign_part};
+ghost use Rattle.sf_express.specs.Rules.{narrowed, base_of, cfa_content, stack_pointer_check, return_address_content, frame_pointer_content, frame_pointer_needs_return_address, sign_state_check};
 
 use cfa_machine::{CfaRule, Rule, frame_pointer_of, stack_pointer_of};
 use sf_model::{Arch, Base, Ra, Reason};
@@ -38,7 +38,7 @@ fn base(arch: Arch, register: u64) -> Option<Base>
 /// The canonical frame address: its base and its offset in bytes.
 #[inline(always)]
 pub fn cfa(arch: Arch, rule: CfaRule) -> Result<(Base, i32), Reason>
-    ensures { result ≡ cfa_part arch rule }
+    ensures { result ≡ cfa_content arch rule }
 {
     match rule {
         CfaRule::Missing => Err(Reason::NoCfa),
@@ -55,8 +55,8 @@ pub fn cfa(arch: Arch, rule: CfaRule) -> Result<(Base, i32), Reason>
 
 /// The stack pointer, which SFrame takes to be the canonical frame address.
 #[inline(always)]
-pub fn sp(rule: Rule) -> Result<(), Reason>
-    ensures { result ≡ sp_part rule }
+pub fn check_stack_pointer(rule: Rule) -> Result<(), Reason>
+    ensures { result ≡ stack_pointer_check rule }
 {
     match rule {
         Rule::Missing => Ok(()),
@@ -73,8 +73,8 @@ pub fn sp(rule: Rule) -> Result<(), Reason>
 
 // The return address of AMD64.
 #[inline(always)]
-fn ra_amd64(rule: Rule) -> Result<Ra, Reason>
-    ensures { result ≡ ra_part Arch.Amd64 rule }
+fn return_address_amd64(rule: Rule) -> Result<Ra, Reason>
+    ensures { result ≡ return_address_content Arch.Amd64 rule }
 {
     match rule {
         Rule::Offset(offset) => {
@@ -90,8 +90,8 @@ fn ra_amd64(rule: Rule) -> Result<Ra, Reason>
 
 // The return address of AArch64.
 #[inline(always)]
-fn ra_aarch64(rule: Rule) -> Result<Ra, Reason>
-    ensures { result ≡ ra_part Arch.Aarch64 rule }
+fn return_address_aarch64(rule: Rule) -> Result<Ra, Reason>
+    ensures { result ≡ return_address_content Arch.Aarch64 rule }
 {
     match rule {
         Rule::Missing => Ok(Ra::Link),
@@ -106,19 +106,19 @@ fn ra_aarch64(rule: Rule) -> Result<Ra, Reason>
 
 /// The return address.
 #[inline(always)]
-pub fn ra(arch: Arch, rule: Rule) -> Result<Ra, Reason>
-    ensures { result ≡ ra_part arch rule }
+pub fn return_address(arch: Arch, rule: Rule) -> Result<Ra, Reason>
+    ensures { result ≡ return_address_content arch rule }
 {
     match arch {
-        Arch::Amd64 => ra_amd64(rule),
-        Arch::Aarch64 => ra_aarch64(rule),
+        Arch::Amd64 => return_address_amd64(rule),
+        Arch::Aarch64 => return_address_aarch64(rule),
     }
 }
 
 /// The frame pointer: the offset that it is saved at, or none where it keeps its value.
 #[inline(always)]
-pub fn fp(rule: Rule) -> Result<Option<i32>, Reason>
-    ensures { result ≡ fp_part rule }
+pub fn frame_pointer(rule: Rule) -> Result<Option<i32>, Reason>
+    ensures { result ≡ frame_pointer_content rule }
 {
     match rule {
         Rule::Missing => Ok(None),
@@ -133,8 +133,8 @@ pub fn fp(rule: Rule) -> Result<Option<i32>, Reason>
 
 /// A saved frame pointer needs a saved return address.
 #[inline(always)]
-pub fn pair(ra: Ra, fp: Option<i32>) -> Result<(), Reason>
-    ensures { result ≡ pair_part ra fp }
+pub fn check_return_address_saved(ra: Ra, fp: Option<i32>) -> Result<(), Reason>
+    ensures { result ≡ frame_pointer_needs_return_address ra fp }
 {
     match (ra, fp) {
         (Ra::Link, Some(_)) => Err(Reason::FpWithoutRa),
@@ -146,8 +146,8 @@ pub fn pair(ra: Ra, fp: Option<i32>) -> Result<(), Reason>
 
 /// The register of the sign state, which may have no rule.
 #[inline(always)]
-pub fn sign(arch: Arch, rule: Rule) -> Result<(), Reason>
-    ensures { result ≡ sign_part arch rule }
+pub fn check_sign_state(arch: Arch, rule: Rule) -> Result<(), Reason>
+    ensures { result ≡ sign_state_check arch rule }
 {
     match (arch, rule) {
         (Arch::Amd64, _) => Ok(()),
