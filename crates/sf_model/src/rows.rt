@@ -48,6 +48,13 @@ impl Rows {
         Ok(())
     }
 
+    /// Takes all rows out, and keeps the memory.
+    pub fn clear(&mut self)
+        ensures { self.new ≡ [] }
+    {
+        self.items.clear();
+    }
+
     /// The rows in order.
     pub fn as_slice(&self) -> &[Row]
         ensures { result.now ≡ self.now }
