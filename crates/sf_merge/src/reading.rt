@@ -20,7 +20,7 @@ fn function(alloc: Global, view: &View<'_>, number: u32) -> Result<Func, NoMemor
     ensures { IfOk result (λ func. func ≡ function_of view.now number) }
 {
     let head = view.func(number);
-    let mut rows = Rows::new(alloc);
+    let mut rows = Rows::with_capacity(alloc, head.rows as usize)?;
     for row in view.rows(number) {
         rows.push(row)?;
     }

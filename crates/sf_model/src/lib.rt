@@ -10,7 +10,7 @@
 //! `section_has_one_table` and `tight_section_is_the_only_one`.
 //!
 //! `Rows` is the one type with a private field: contracts see it as the list of its rows. Only
-//! `Rows::push` allocates.
+//! `Rows::with_capacity` and `Rows::push` allocate.
 #![tactic(auto)]
 
 mod content;

@@ -1,6 +1,6 @@
 //! Rows of a function, and the list of them.
 
-ghost use Rattle.std.specs.Prelude.{◌≡◌, [], ◌∷◌, ◌++◌, if◌then◌else◌, is_ok};
+ghost use Rattle.std.specs.Prelude.{◌≡◌, [], ◌∷◌, ◌++◌, if◌then◌else◌, is_ok, IfOk};
 
 use crate::content::Content;
 use std::alloc::{AllocError, Global};
@@ -38,6 +38,15 @@ impl Rows {
         Rows {
             items: Vec::new(alloc),
         }
+    }
+
+    /// The empty list, with memory for `count` rows.
+    pub fn with_capacity(alloc: Global, count: usize) -> Result<Rows, AllocError>
+        ensures { IfOk result (λ rows. rows ≡ []) }
+    {
+        Ok(Rows {
+            items: Vec::with_capacity(alloc, count)?,
+        })
     }
 
     /// Appends a row. Where memory runs out the list stays as it was.
