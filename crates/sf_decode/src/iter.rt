@@ -20,9 +20,10 @@ impl<'a> RowIter<'a> {
     ghost use Rattle.sf_decode.specs.Row.{rows_in};
     ghost use Rattle.sf_decode.specs.View.{rows_left};
 
-    /// The iterator over so many rows from a place of the sub-section of rows on.
+    /// The iterator over so many rows from a place of the sub-section of rows on, by the width of their
+    /// starts. It reads any bytes: what lies past their end reads as 0.
     #[inline(always)]
-    pub(crate) fn new(
+    pub fn new(
         arch: Arch,
         rows: &'a [u8],
         start_width: u8,

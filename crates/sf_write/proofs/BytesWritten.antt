@@ -20,7 +20,8 @@ use Rattle.sf_model.proofs.RowNumbers.{below_if}
 use Rattle.sf_model.proofs.RowsSame.{base_small, sign_small, few_offsets}
 use Rattle.sf_sizes.specs.RowLength.{offset_width}
 use Rattle.sf_write.specs.Number.{word_bytes, signed_word_bytes}
-use Rattle.sf_write.specs.Room.{entry_fits}
+use Rattle.sf_decode.specs.View.{head_of}
+use Rattle.sf_write.specs.Room.{entry_fits, head_fits}
 use Rattle.sf_write.specs.Row.{narrow_row, start_width, rows_bytes, rows_len}
 use Rattle.sf_write.specs.Reach.{start_distance}
 use Rattle.sf_write.specs.Entry.{entry_info, entry_bytes, entries_bytes, repeat_size}
@@ -86,15 +87,15 @@ rows_at width [] = none
 rows_at width (r ∷ rows) =
     subst AreBytes (sym (flat_map-cons (narrow_row width) r rows)) (both (narrow_row width r) (flat_map (narrow_row width) rows) (row width r) (rows_at width rows))
 
-rows_of : (f : Func) → AreBytes (rows_bytes f.rows)
+pub rows_are_bytes : (rows : List Row) → AreBytes (rows_bytes rows)
 unfolding rows_bytes
-rows_of f = rows_at (start_width f.rows) f.rows
+rows_are_bytes rows = rows_at (start_width rows) rows
 
 all_rows : (functions : List Func) → AreBytes (flat_map (λ (f : Func). rows_bytes f.rows) functions)
 all_rows [] = none
 all_rows (f ∷ functions) =
     subst AreBytes (sym (flat_map-cons (λ (g : Func). rows_bytes g.rows) f functions))
-    (both (rows_bytes f.rows) (flat_map (λ (g : Func). rows_bytes g.rows) functions) (rows_of f) (all_rows functions))
+    (both (rows_bytes f.rows) (flat_map (λ (g : Func). rows_bytes g.rows) functions) (rows_are_bytes f.rows) (all_rows functions))
 
 shape_small : (shape : Shape) → shape_number shape ≤ 1
 shape_small Plain = omega arith
@@ -104,7 +105,7 @@ key_small : (key : Key) → key_number key ≤ 1
 key_small A = omega arith
 key_small B = omega arith
 
-entry_info_small : (f : Func) → entry_info f < 256
+entry_info_small : (f : Func) → entry_info (start_width f.rows) (head_of f) < 256
 unfolding entry_info
 entry_info_small f =
     let w : start_width f.rows ≤ 2 = least_is_there (holds_unsigned (last_start f.rows)) in
@@ -112,20 +113,22 @@ entry_info_small f =
     let k : key_number f.key ≤ 1 = key_small f.key in omega (w, s, k, arith)
 
 repeat_small : (f : Func) → IsTrue (entry_fits f) → repeat_size f.shape < 256
-unfolding entry_fits
-repeat_small f h = below_if (repeat_size f.shape) 256 (second_of _ (nat_lt (repeat_size f.shape) 256) h)
+unfolding entry_fits head_fits
+repeat_small f h =
+    below_if (repeat_size f.shape) 256
+    (second_of (nat_lt f.size 4294967296) (nat_lt (repeat_size f.shape) 256) (first_of (head_fits (head_of f)) (holds_unsigned (last_start f.rows) (start_width f.rows)) h))
 
-entry : (at number place : ℕ) (f : Func) → IsTrue (entry_fits f) → AreBytes (entry_bytes at number place f)
+entry : (at number place : ℕ) (f : Func) → IsTrue (entry_fits f) → AreBytes (entry_bytes at number place (start_width f.rows) (head_of f))
 unfolding entry_bytes
 entry at number place f h =
-    both _ (entry_info f ∷ repeat_size f.shape ∷ 0 ∷ 0 ∷ [])
+    both _ (entry_info (start_width f.rows) (head_of f) ∷ repeat_size f.shape ∷ 0 ∷ 0 ∷ [])
     (both _ (word_bytes (length f.rows)) (both _ (word_bytes place) (both (signed_word_bytes (start_distance at number f.start)) (word_bytes f.size) (signed_word _) (word _)) (word _)) (word _))
-    (cons (entry_info f) (repeat_size f.shape ∷ 0 ∷ 0 ∷ []) (entry_info_small f) (cons (repeat_size f.shape) (0 ∷ 0 ∷ []) (repeat_small f h) (below (0 ∷ 0 ∷ []) refl)))
+    (cons (entry_info (start_width f.rows) (head_of f)) (repeat_size f.shape ∷ 0 ∷ 0 ∷ []) (entry_info_small f) (cons (repeat_size f.shape) (0 ∷ 0 ∷ []) (repeat_small f h) (below (0 ∷ 0 ∷ []) refl)))
 
 entries : (at number place : ℕ) (functions : List Func) → IsTrue (list_all entry_fits functions) → AreBytes (entries_bytes at number place functions)
 entries at number place [] h = none
 entries at number place (f ∷ functions) h =
-    both (entry_bytes at number place f) (entries_bytes at (number + 1) (place + rows_len f.rows) functions)
+    both (entry_bytes at number place (start_width f.rows) (head_of f)) (entries_bytes at (number + 1) (place + rows_len f.rows) functions)
     (entry at number place f (first_of (entry_fits f) (list_all entry_fits functions) h))
     (entries at (number + 1) (place + rows_len f.rows) functions (second_of (entry_fits f) (list_all entry_fits functions) h))
 

@@ -12,7 +12,8 @@ use Rattle.sf_model.specs.Section.{number_in, shape_number, key_number, start_wi
 use Rattle.sf_model.specs.Tight.{last_start, IsZeroIfPlain}
 use Rattle.sf_model.proofs.RowNumbers.{below_if}
 use Rattle.sf_write.specs.Number.{word_bytes, signed_word_bytes}
-use Rattle.sf_write.specs.Room.{entry_fits}
+use Rattle.sf_decode.specs.View.{head_of}
+use Rattle.sf_write.specs.Room.{entry_fits, head_fits}
 use Rattle.sf_write.specs.Row.{start_width}
 use Rattle.sf_write.specs.Reach.{start_distance, is_in_reach}
 use Rattle.sf_write.specs.Entry.{entry_info, entry_bytes, repeat_size}
@@ -90,13 +91,13 @@ zero_if_plain Plain byte e = e
 zero_if_plain (Repeat size) byte e = tt
 
 size_fits : (f : Func) → IsTrue (entry_fits f) → f.size < 4294967296
-unfolding entry_fits
+unfolding entry_fits head_fits
 size_fits f h =
-    below_if f.size 4294967296 (first_of _ (holds_unsigned (last_start f.rows) (start_width f.rows)) (first_of _ (nat_lt (repeat_size f.shape) 256) h))
+    below_if f.size 4294967296 (first_of (nat_lt f.size 4294967296) (nat_lt (repeat_size f.shape) 256) (first_of (head_fits (head_of f)) (holds_unsigned (last_start f.rows) (start_width f.rows)) h))
 
 pub last_start_fits : (f : Func) → IsTrue (entry_fits f) → IsTrue (holds_unsigned (last_start f.rows) (start_width f.rows))
 unfolding entry_fits
-last_start_fits f h = second_of _ (holds_unsigned (last_start f.rows) (start_width f.rows)) (first_of _ (nat_lt (repeat_size f.shape) 256) h)
+last_start_fits f h = second_of (head_fits (head_of f)) (holds_unsigned (last_start f.rows) (start_width f.rows)) h
 
 -- what an entry says, beside what it says of its function
 pub record EntryWritten (arch : Arch) (bytes : List ℕ) (at place offset : ℕ) (f : Func) : Type 0 where
@@ -115,19 +116,19 @@ unfolding start_distance
 distance_is at number place start e = ap (λ k. pos start -ℤ pos (at + k)) (sym e)
 
 entry_reads : (bytes : List ℕ) (at number place offset : ℕ) (f : Func) (tail : List ℕ) → IsTrue (entry_fits f) → offset < 4294967296 → length f.rows < 4294967296
-    → is_in_reach at number f.start ≡ true → drop place bytes ≡ entry_bytes at number offset f ++ tail
-    → EntryReads bytes (start_distance at number f.start) place f.size offset (length f.rows) (entry_info f) (repeat_size f.shape)
+    → is_in_reach at number f.start ≡ true → drop place bytes ≡ entry_bytes at number offset (start_width f.rows) (head_of f) ++ tail
+    → EntryReads bytes (start_distance at number f.start) place f.size offset (length f.rows) (entry_info (start_width f.rows) (head_of f)) (repeat_size f.shape)
 unfolding entry_bytes
 entry_reads bytes at number place offset f tail fits low few near h =
-    reads bytes (start_distance at number f.start) place f.size offset (length f.rows) (entry_info f) (repeat_size f.shape) tail
+    reads bytes (start_distance at number f.start) place f.size offset (length f.rows) (entry_info (start_width f.rows) (head_of f)) (repeat_size f.shape) tail
     (held_if at number f.start near) (size_fits f fits) low few h
 
-info_parts : (f : Func) → entry_info f ≡ start_width f.rows + 16 * shape_number f.shape + 32 * key_number f.key
+info_parts : (f : Func) → entry_info (start_width f.rows) (head_of f) ≡ start_width f.rows + 16 * shape_number f.shape + 32 * key_number f.key
 unfolding entry_info
 info_parts f = refl
 
 pub entry_written : (arch : Arch) (bytes : List ℕ) (at number place offset : ℕ) (f : Func) (tail : List ℕ) → IsWritable arch f → IsTrue (entry_fits f) → offset < 4294967296
-    → length f.rows < 4294967296 → place ≡ 28 + 20 * number → is_in_reach at number f.start ≡ true → drop place bytes ≡ entry_bytes at number offset f ++ tail
+    → length f.rows < 4294967296 → place ≡ 28 + 20 * number → is_in_reach at number f.start ≡ true → drop place bytes ≡ entry_bytes at number offset (start_width f.rows) (head_of f) ++ tail
     → EntryWritten arch bytes at place offset f
 entry_written arch bytes at number place offset f tail writable fits low few e near h =
     let r = entry_reads bytes at number place offset f tail fits low few near h in

@@ -14,6 +14,7 @@ use Rattle.sf_model.specs.Table.{row_count}
 use Rattle.sf_model.specs.Width.{holds_unsigned, NoneLess}
 use Rattle.sf_model.specs.Section.{rows_len, row_bytes_of, start_width_at, AnyWidth, RowsStand, FunctionsStand}
 use Rattle.sf_model.specs.Tight.{last_start, LeastWidth, WithoutGaps, LeastWidths}
+use Rattle.sf_decode.specs.View.{head_of}
 use Rattle.sf_sizes.specs.RowLength.{offset_width}
 use Rattle.sf_write.specs.Row.{start_width, rows_bytes, rows_len as function_rows_len}
 use Rattle.sf_write.specs.Room.{rows_fit, entry_fits}
@@ -64,7 +65,7 @@ functions_written arch bytes at number place offset (f ∷ functions) tail writa
     let entries : List ℕ = entries_bytes at (number + 1) (offset + function_rows_len f.rows) functions in
     let entry : EntryWritten arch bytes at place offset f =
     entry_written arch bytes at number place offset f (entries ++ tail) here fit (omega (sum, small, arith)) (omega (counts, few, arith)) e reach.0
-    (h ∙ append_assoc (entry_bytes at number offset f) entries tail) in
+    (h ∙ append_assoc (entry_bytes at number offset (start_width f.rows) (head_of f)) entries tail) in
     let front : drop offset (row_bytes_of bytes) ≡ rows_bytes f.rows ++ all = g ∙ flat_map-cons (λ (x : Func). rows_bytes x.rows) f functions in
     let end : ℕ = offset + length (rows_bytes f.rows) in
     let any : RowsStand AnyWidth arch (row_bytes_of bytes) (start_width f.rows) offset end f.rows =
@@ -75,7 +76,7 @@ functions_written arch bytes at number place offset (f ∷ functions) tail writa
     functions_written arch bytes at (number + 1) (place + 20) (offset + function_rows_len f.rows) functions tail (All-tail (IsWritable arch) f functions writable)
     (second_of (entry_fits f) (list_all entry_fits functions) fits) (second_of (rows_fit f) (list_all rows_fit functions) room) reach.1
     (omega (e, arith)) (omega (counts, few, arith)) small (omega (sums, sum, arith))
-    (after bytes place 20 (entry_bytes at number offset f) (entries ++ tail) (h ∙ append_assoc (entry_bytes at number offset f) entries tail) (length-entry at number offset f))
+    (after bytes place 20 (entry_bytes at number offset (start_width f.rows) (head_of f)) (entries ++ tail) (h ∙ append_assoc (entry_bytes at number offset (start_width f.rows) (head_of f)) entries tail) (length-entry at number offset (start_width f.rows) (head_of f)))
     (after (row_bytes_of bytes) offset (function_rows_len f.rows) (rows_bytes f.rows) all front len) in
     let here_any : RowsStand AnyWidth arch (row_bytes_of bytes) (start_width_at bytes place) offset end f.rows =
     subst (λ w. RowsStand AnyWidth arch (row_bytes_of bytes) w offset end f.rows) (sym entry.width) any in

@@ -7,8 +7,10 @@ use Rattle.std.proofs.lemmas.List.Sums.{sum_by-cons}
 use Rattle.sf_model.specs.declared.machine.Arch.{Arch}
 use Rattle.sf_model.specs.declared.rows.Row.{Row}
 use Rattle.sf_model.specs.declared.function.Func.{Func}
+use Rattle.sf_model.specs.declared.function.FuncHead.{FuncHead}
 use Rattle.sf_model.specs.Table.{row_count}
 use Rattle.sf_model.proofs.SpelledLengths.{length-unsigned, length-signed, length-spelled_row}
+use Rattle.sf_decode.specs.View.{head_of}
 use Rattle.sf_sizes.specs.RowLength.{offset_width, row_len}
 use Rattle.sf_write.specs.Number.{word_bytes, signed_word_bytes}
 use Rattle.sf_write.specs.Row.{narrow_row, start_width, rows_bytes, rows_len}
@@ -52,16 +54,16 @@ length-all_rows (f ∷ functions) =
 entry-length : (a b c d e : List ℕ) → length a ≡ 4 → length b ≡ 4 → length c ≡ 4 → length d ≡ 4 → length e ≡ 4 → length (a ++ b ++ c ++ d ++ e) ≡ 20
 entry-length a b c d e p q r s t = simp (length-append, p, q, r, s, t)
 
-pub length-entry : (at number place : ℕ) (f : Func) → length (entry_bytes at number place f) ≡ 20
+pub length-entry : (at number place width : ℕ) (head : FuncHead) → length (entry_bytes at number place width head) ≡ 20
 unfolding entry_bytes
-length-entry at number place f =
-    entry-length _ _ _ _ _ (length-signed_word (start_distance at number f.start)) (length-word f.size) (length-word place) (length-word (length f.rows)) refl
+length-entry at number place width head =
+    entry-length _ _ _ _ _ (length-signed_word (start_distance at number head.start)) (length-word head.size) (length-word place) (length-word head.rows) refl
 
 pub length-entries : (at number place : ℕ) (functions : List Func) → length (entries_bytes at number place functions) ≡ 20 * length functions
 length-entries at number place [] = refl
 length-entries at number place (f ∷ functions) =
-    length-append (entry_bytes at number place f) (entries_bytes at (number + 1) (place + rows_len f.rows) functions)
-    ∙ omega (arith, length-entry at number place f, length-entries at (number + 1) (place + rows_len f.rows) functions)
+    length-append (entry_bytes at number place (start_width f.rows) (head_of f)) (entries_bytes at (number + 1) (place + rows_len f.rows) functions)
+    ∙ omega (arith, length-entry at number place (start_width f.rows) (head_of f), length-entries at (number + 1) (place + rows_len f.rows) functions)
 
 header-length : (a b c d e f : List ℕ) → length a ≡ 8 → length b ≡ 4 → length c ≡ 4 → length d ≡ 4 → length e ≡ 4 → length f ≡ 4 → length (a ++ b ++ c ++ d ++ e ++ f) ≡ 28
 header-length a b c d e f p q r s t u = simp (length-append, p, q, r, s, t, u)

@@ -1,10 +1,14 @@
 pub mod BytesWritten
 pub mod EntryWritten
 pub mod FunctionsWritten
+pub mod Kept
 pub mod LastStart
 pub mod Lengths
 pub mod NumbersFit
 pub mod Places
+pub mod RowsReadBack
 pub mod RowsWritten
 pub mod SectionWritten
+pub mod StoredEntries
+pub mod StoredFunctions
 pub mod Writing

@@ -24,7 +24,7 @@ use Rattle.sf_sizes.specs.Width.{least_width}
 use Rattle.sf_write.specs.Entry.{repeat_size}
 use Rattle.sf_write.specs.Numbers.{NumbersFit}
 use Rattle.sf_write.specs.Reach.{first_out_of_reach}
-use Rattle.sf_write.specs.Room.{entry_fits, offsets_fit, rows_fit}
+use Rattle.sf_write.specs.Room.{entry_fits, head_fits, offsets_fit, rows_fit}
 use Rattle.sf_write.specs.Row.{rows_len, start_width}
 use Rattle.sf_write.specs.Section.{row_section_len, section_bytes, table_of}
 use Rattle.sf_write.proofs.BytesWritten.{section_is_bytes}
@@ -84,13 +84,12 @@ last_small (r ∷ []) h = All-head (λ (r : Row). r.start < 2 ^ 32) r [] h
 last_small (r ∷ next ∷ rows) h = last_small (next ∷ rows) (All-tail (λ (r : Row). r.start < 2 ^ 32) r (next ∷ rows) h)
 
 function_entry_fits : (f : Func) → NumbersFit f → entry_fits f ≡ true
-unfolding entry_fits
+unfolding entry_fits head_fits
 function_entry_fits f h =
     let starts : holds_unsigned (last_start f.rows) (start_width f.rows) ≡ true =
     least_holds (holds_unsigned (last_start f.rows)) (lt-ltb (last_start f.rows) (2 ^ 32) (last_small f.rows h.starts)) in
-    both (nat_lt f.size (2 ^ 32) && holds_unsigned (last_start f.rows) (start_width f.rows)) (nat_lt (repeat_size f.shape) 256)
-    (both (nat_lt f.size (2 ^ 32)) (holds_unsigned (last_start f.rows) (start_width f.rows)) (lt-ltb f.size (2 ^ 32) h.size) starts)
-    (lt-ltb (repeat_size f.shape) 256 h.repeats)
+    both (nat_lt f.size (2 ^ 32) && nat_lt (repeat_size f.shape) 256) (holds_unsigned (last_start f.rows) (start_width f.rows))
+    (both (nat_lt f.size (2 ^ 32)) (nat_lt (repeat_size f.shape) 256) (lt-ltb f.size (2 ^ 32) h.size) (lt-ltb (repeat_size f.shape) 256 h.repeats)) starts
 
 all_by : (test : Func → Bool) → ((f : Func) → NumbersFit f → test f ≡ true) → (functions : List Func) → All NumbersFit functions → list_all test functions ≡ true
 all_by test each [] h = refl
@@ -132,11 +131,11 @@ short_rows_at width (r ∷ rows) le =
     let here = short_row width r.content le in
     let later = short_rows_at width rows le in omega (more, here, later, arith)
 
-short_rows : (rows : List Row) → rows_len rows ≤ 17 * length rows
+pub short_rows : (rows : List Row) → rows_len rows ≤ 17 * length rows
 unfolding rows_len
 short_rows rows = short_rows_at (start_width rows) rows (least_is_there (holds_unsigned (last_start rows)))
 
-short_functions : (functions : List Func) → row_section_len functions ≤ 17 * row_count functions
+pub short_functions : (functions : List Func) → row_section_len functions ≤ 17 * row_count functions
 short_functions [] = omega arith
 short_functions (f ∷ functions) =
     let bytes = sum_by-cons (λ (g : Func). rows_len g.rows) f functions in

@@ -6,3 +6,4 @@ pub mod Entry
 pub mod Reach
 pub mod Section
 pub mod Writable
+pub mod Stored

@@ -3,7 +3,7 @@ use Rattle.std.specs.Prelude.{ℕ, List, sum_by}
 use Rattle.std.specs.List.{flat_map}
 use Rattle.sf_model.specs.declared.rows.Row.{Row}
 use Rattle.sf_model.specs.Width.{holds_unsigned}
-use Rattle.sf_model.specs.RowBytes.{spelled_row}
+use Rattle.sf_model.specs.RowBytes.{spelled_row, StandsAt}
 use Rattle.sf_model.specs.Tight.{last_start}
 use Rattle.sf_sizes.specs.Width.{least_width}
 use Rattle.sf_sizes.specs.RowLength.{offset_width, row_len}
@@ -23,3 +23,7 @@ rows_bytes rows = flat_map (narrow_row (start_width rows)) rows
 -- how many bytes they are
 unfoldable pub rows_len : List Row → ℕ
 rows_len rows = sum_by (λ (row : Row). row_len (start_width rows) row.content) rows
+
+-- the bytes begin with these: what was there stays in front
+unfoldable pub BeginWith : (bytes front : List ℕ) → Type 0
+BeginWith bytes front = StandsAt bytes 0 front

@@ -3,6 +3,7 @@
 ghost use Rattle.std.specs.Prelude.{◌≡◌, ◌≤◌, ◌++◌, OnOk};
 ghost use Rattle.sf_model.specs.Width.{signed_bytes, unsigned_bytes};
 ghost use Rattle.sf_write.specs.Number.{signed_word_bytes, word_bytes};
+ghost use Rattle.sf_write.specs.Row.{BeginWith};
 
 use std::alloc::AllocError;
 
@@ -25,10 +26,12 @@ pub(crate) fn push_signed_word(bytes: &mut Vec<u8>, number: i32) -> Result<(), A
 }
 
 /// Appends the low bytes of a number, as many as the width has.
+#[tactic(auto, unfolding(crate::specs::Row::BeginWith))]
 #[inline(always)]
 pub(crate) fn push_narrow(bytes: &mut Vec<u8>, number: u32, width: u8) -> Result<(), AllocError>
     requires { width ≤ 2 }
-    ensures { OnOk result (bytes.new.items ≡ bytes.old.items ++ unsigned_bytes width number) }
+    ensures ok { OnOk result (bytes.new.items ≡ bytes.old.items ++ unsigned_bytes width number) }
+    ensures keeps { BeginWith bytes.new.items bytes.old.items }
 {
     let [first, second, third, fourth] = number.to_le_bytes();
     match width {
@@ -46,7 +49,8 @@ pub(crate) fn push_narrow_signed(
     width: u8,
 ) -> Result<(), AllocError>
     requires { width ≤ 2 }
-    ensures { OnOk result (bytes.new.items ≡ bytes.old.items ++ signed_bytes width number) }
+    ensures ok { OnOk result (bytes.new.items ≡ bytes.old.items ++ signed_bytes width number) }
+    ensures keeps { BeginWith bytes.new.items bytes.old.items }
 {
     push_narrow(bytes, number.cast_unsigned(), width)
 }

@@ -1,17 +1,17 @@
 //! A function's rows (SFrame Version 2, frame row entries).
 
-ghost use Rattle.std.specs.Prelude.{◌≡◌, ◌≤◌, ◌^◌, ◌*◌, ◌++◌, [], ◌∷◌, length, IsTrue, OnOk, option_to_list};
+ghost use Rattle.std.specs.Prelude.{◌≡◌, ◌≤◌, ◌++◌, [], ◌∷◌, IfOk, IsTrue, OnOk, option_to_list};
 ghost use Rattle.std.specs.List.{flat_map, list_all};
 ghost use Rattle.sf_model.specs.RowBytes.{holds_row_offsets, row_info_byte, row_offsets};
 ghost use Rattle.sf_model.specs.Tight.{last_start};
 ghost use Rattle.sf_model.specs.Width.{holds_unsigned, signed_bytes, unsigned_bytes, IsWidth};
 ghost use Rattle.sf_sizes.specs.RowLength.{offset_width};
 ghost use Rattle.sf_write.specs.Room.{offsets_fit};
-ghost use Rattle.sf_write.specs.Row.{narrow_row, start_width, rows_bytes, rows_len};
+ghost use Rattle.sf_write.specs.Row.{narrow_row, start_width, rows_bytes, BeginWith};
 
 use crate::number::{push_narrow, push_narrow_signed};
 use sf_model::{Base, Content, Row};
-use sf_sizes::{offset_count, offset_size, row_bytes, row_type, saved_offset};
+use sf_sizes::{offset_count, offset_size, row_type, saved_offset};
 use std::alloc::AllocError;
 
 /// The width of a function's row starts: the least that holds the last one.
@@ -33,42 +33,32 @@ fn last_start_of(rows: &[Row]) -> u32
     rows.last().map_or(0, |row| row.start)
 }
 
-/// How many bytes a function's rows have.
-#[tactic(auto, unfolding(crate::specs::Row::rows_len))]
-pub(crate) fn rows_len_of(rows: &[Row]) -> u32
-    requires { length rows.now ≤ 2 ^ 24 }
-    ensures value { result ≡ rows_len rows.now }
-    ensures most { result ≤ 17 * length rows.now }
-{
-    let kind = start_width_of(rows);
-    let mut len = 0;
-    for row in rows {
-        len += row_bytes(kind, &row.content);
-    }
-    len
-}
-
-/// Appends a function's rows.
+/// Appends a function's rows, and returns the width of their starts. Out of memory, what was there stays in
+/// front.
 #[tactic(auto, unfolding(crate::specs::Row::rows_bytes))]
-pub(crate) fn push_rows(bytes: &mut Vec<u8>, rows: &[Row]) -> Result<(), AllocError>
+pub(crate) fn push_rows(bytes: &mut Vec<u8>, rows: &[Row]) -> Result<u8, AllocError>
     ensures ok { OnOk result (bytes.new.items ≡ bytes.old.items ++ rows_bytes rows.now) }
     ensures fits { OnOk result (IsTrue (list_all offsets_fit rows.now)) }
+    ensures width { IfOk result (λ width. width ≡ start_width rows.now) }
+    ensures starts { OnOk result (IsTrue (holds_unsigned (last_start rows.now) (start_width rows.now))) }
+    ensures keeps { BeginWith bytes.new.items bytes.old.items }
 {
-    let kind = start_width_of(rows);
+    let width = start_width_of(rows);
     for row in rows {
-        push_row(bytes, kind, row)?;
+        push_row(bytes, width, row)?;
     }
-    Ok(())
+    Ok(width)
 }
 
 /// Appends a row: its start in bytes of the width `kind`, its info byte and its offsets. Most rows have a byte
 /// for each number, and no offset of the return address: they are appended at once.
-#[tactic(auto, unfolding(sf_model::specs::RowBytes::spelled_row, crate::specs::Room::offsets_fit))]
+#[tactic(auto, using(crate::proofs::Kept::begin_on, crate::proofs::Kept::begin_front), unfolding(sf_model::specs::RowBytes::spelled_row, crate::specs::Room::offsets_fit))]
 #[inline(always)]
 fn push_row(bytes: &mut Vec<u8>, kind: u8, row: &Row) -> Result<(), AllocError>
     requires { kind ≤ 2 }
     ensures ok { OnOk result (bytes.new.items ≡ bytes.old.items ++ narrow_row kind row.now) }
     ensures fits { OnOk result (IsTrue (offsets_fit row.now)) }
+    ensures keeps { BeginWith bytes.new.items bytes.old.items }
 {
     let content = &row.content;
     let info = info_of(content);
@@ -116,9 +106,11 @@ fn info_of(content: &Content) -> u8
 
 /// Appends a row's offsets in their order: of the canonical frame address, the return address and the
 /// frame pointer.
+#[tactic(auto, using(crate::proofs::Kept::begin_on))]
 #[inline(always)]
 fn push_offsets(bytes: &mut Vec<u8>, content: &Content) -> Result<(), AllocError>
-    ensures { OnOk result (bytes.new.items ≡ bytes.old.items ++ flat_map (signed_bytes (offset_width content.now)) (row_offsets content.now)) }
+    ensures ok { OnOk result (bytes.new.items ≡ bytes.old.items ++ flat_map (signed_bytes (offset_width content.now)) (row_offsets content.now)) }
+    ensures keeps { BeginWith bytes.new.items bytes.old.items }
 {
     let width = offset_size(content);
     push_narrow_signed(bytes, content.cfa, width)?;
@@ -127,10 +119,12 @@ fn push_offsets(bytes: &mut Vec<u8>, content: &Content) -> Result<(), AllocError
 }
 
 /// Appends an offset that may be absent.
+#[tactic(auto, unfolding(crate::specs::Row::BeginWith))]
 #[inline(always)]
 fn push_if_any(bytes: &mut Vec<u8>, offset: Option<i32>, width: u8) -> Result<(), AllocError>
     requires { width ≤ 2 }
-    ensures { OnOk result (bytes.new.items ≡ bytes.old.items ++ flat_map (signed_bytes width) (option_to_list offset)) }
+    ensures ok { OnOk result (bytes.new.items ≡ bytes.old.items ++ flat_map (signed_bytes width) (option_to_list offset)) }
+    ensures keeps { BeginWith bytes.new.items bytes.old.items }
 {
     match offset {
         Some(offset) => push_narrow_signed(bytes, offset, width),

@@ -1,32 +1,32 @@
 //! A whole section.
 
-ghost use Rattle.std.specs.Prelude.{◌≡◌, ◌++◌, ℕ, List, None, IsTrue, IfOk, OnOk, IfErr, vec_len};
+ghost use Rattle.std.specs.Prelude.{◌≡◌, ◌++◌, ℕ, List, None, All, map, IsTrue, IfOk, OnOk, IfErr, vec_len};
 ghost use Rattle.std.specs.List.{flat_map, list_all};
 ghost use Rattle.sf_model.specs.Function.{AreWritable};
 ghost use Rattle.sf_model.specs.Section.{AreBytes, Section};
 ghost use Rattle.sf_model.specs.Tight.{Narrow, Tight};
 ghost use Rattle.sf_model.specs.declared.function.Func.{Func as func_fact};
-ghost use Rattle.sf_write.specs.Room.{rows_fit};
 ghost use Rattle.sf_write.specs.Row.{rows_bytes};
 ghost use Rattle.sf_write.specs.Reach.{first_out_of_reach, Refuses};
 ghost use Rattle.sf_write.specs.Section.{section_bytes, section_len, table_of};
+ghost use Rattle.sf_write.specs.Stored.{IsStored, stored_in};
 
 use crate::entry::push_entries;
 use crate::fault::WriteFault;
 use crate::header::push_header;
 use crate::layout::{FUNCTION_ENTRY_LEN, HEADER_LEN};
-use crate::row::push_rows;
+use crate::stored::{StoredFunction, StoredRows};
 use crate::totals::totals_of;
 use sf_model::{Arch, Func};
 use std::alloc::{AllocError, Global};
 
 /// The section of these functions, in their order, for the address `at`: the one list of bytes that says
-/// their table with flags 0x5, without gaps and with the least widths. Memory is taken once.
+/// their table with flags 0x5, without gaps and with the least widths. It stores the rows, and then writes
+/// the section by [`write_stored`].
 ///
 /// # Errors
 ///
 /// `OutOfReach` names the first start that does not lie within -2^31 to 2^31-1 bytes of its own field.
-#[tactic(auto, unfolding(crate::specs::Section::section_bytes))]
 pub fn write(alloc: Global, arch: Arch, at: u64, funcs: &[Func]) -> Result<Vec<u8>, WriteFault>
     requires { AreWritable arch funcs.now }
     ensures section { IfOk result (λ v. Section v.items at (table_of arch funcs.now)) }
@@ -39,24 +39,61 @@ pub fn write(alloc: Global, arch: Arch, at: u64, funcs: &[Func]) -> Result<Vec<u
     ensures in_reach { OnOk result (first_out_of_reach at 0 funcs.now ≡ None) }
     ensures fault { IfErr result (λ e. Refuses e (first_out_of_reach at 0 funcs.now)) }
 {
-    let totals = totals_of(funcs);
-    let functions = funcs.len() as u32;
-    let len = HEADER_LEN + FUNCTION_ENTRY_LEN * functions + totals.row_bytes;
+    let mut rows = StoredRows::new(alloc);
+    let mut functions = Vec::with_capacity(alloc, funcs.len())?;
+    for func in funcs {
+        functions.push(rows.push(arch, func)?)?;
+    }
+    write_stored(alloc, arch, at, &rows, functions.as_slice())
+}
+
+/// The section of stored functions, in their order, for the address `at`: that which [`write`] makes of
+/// the functions. Their rows are copied range by range, and memory is allocated once, for the section.
+///
+/// # Errors
+///
+/// `OutOfReach` names the first start that does not lie within -2^31 to 2^31-1 bytes of its own field.
+#[tactic(auto, unfolding(crate::specs::Section::section_bytes))]
+pub fn write_stored(
+    alloc: Global,
+    arch: Arch,
+    at: u64,
+    rows: &StoredRows,
+    functions: &[StoredFunction],
+) -> Result<Vec<u8>, WriteFault>
+    requires stored { All (IsStored rows.now) functions.now }
+    requires writable { AreWritable arch (map (stored_in rows.now) functions.now) }
+    ensures section { IfOk result (λ v. Section v.items at (table_of arch (map (stored_in rows.now) functions.now))) }
+    ensures tight { IfOk result (λ v. Tight v.items at (table_of arch (map (stored_in rows.now) functions.now))) }
+    ensures narrow { IfOk result (λ v. Narrow v.items (table_of arch (map (stored_in rows.now) functions.now))) }
+    ensures only { IfOk result (λ v. (other : List ℕ) → AreBytes other → Tight other at (table_of arch (map (stored_in rows.now) functions.now)) → Narrow other (table_of arch (map (stored_in rows.now) functions.now)) → other ≡ v.items) }
+    ensures are_bytes { IfOk result (λ v. AreBytes v.items) }
+    ensures bytes { IfOk result (λ v. v.items ≡ section_bytes arch at (map (stored_in rows.now) functions.now)) }
+    ensures len { IfOk result (λ v. vec_len v ≡ section_len (map (stored_in rows.now) functions.now)) }
+    ensures in_reach { OnOk result (first_out_of_reach at 0 (map (stored_in rows.now) functions.now) ≡ None) }
+    ensures fault { IfErr result (λ e. Refuses e (first_out_of_reach at 0 (map (stored_in rows.now) functions.now))) }
+{
+    let totals = totals_of(functions);
+    let count = functions.len() as u32;
+    let len = HEADER_LEN + FUNCTION_ENTRY_LEN * count + totals.row_bytes;
     let mut bytes = Vec::with_capacity(alloc, len as usize)?;
-    push_header(&mut bytes, arch, functions, totals)?;
-    push_entries(&mut bytes, at, funcs)?;
-    push_all_rows(&mut bytes, funcs)?;
+    push_header(&mut bytes, arch, count, totals)?;
+    push_entries(&mut bytes, at, functions)?;
+    push_all_rows(&mut bytes, rows, functions)?;
     Ok(bytes)
 }
 
 /// Appends the rows of all functions.
-#[tactic(auto, unfolding(crate::specs::Room::rows_fit))]
-fn push_all_rows(bytes: &mut Vec<u8>, funcs: &[Func]) -> Result<(), AllocError>
-    ensures ok { OnOk result (bytes.new.items ≡ bytes.old.items ++ flat_map (λ (f : func_fact). rows_bytes f.rows) funcs.now) }
-    ensures fits { OnOk result (IsTrue (list_all rows_fit funcs.now)) }
+fn push_all_rows(
+    bytes: &mut Vec<u8>,
+    rows: &StoredRows,
+    functions: &[StoredFunction],
+) -> Result<(), AllocError>
+    requires { All (IsStored rows.now) functions.now }
+    ensures { OnOk result (bytes.new.items ≡ bytes.old.items ++ flat_map (λ (f : func_fact). rows_bytes f.rows) (map (stored_in rows.now) functions.now)) }
 {
-    for func in funcs {
-        push_rows(bytes, func.rows.as_slice())?;
+    for stored in functions {
+        bytes.extend_from_slice(rows.range(stored))?;
     }
     Ok(())
 }

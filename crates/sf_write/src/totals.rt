@@ -1,11 +1,9 @@
 //! How much a section holds in all.
 
 ghost use Rattle.std.specs.Prelude.{◌≡◌, ◌≤◌, ◌^◌, ◌*◌};
-ghost use Rattle.sf_model.specs.Table.{row_count};
-ghost use Rattle.sf_write.specs.Section.{row_section_len};
+ghost use Rattle.sf_write.specs.Stored.{stored_count, stored_len};
 
-use crate::row::rows_len_of;
-use sf_model::Func;
+use crate::stored::StoredFunction;
 
 /// The sizes of all rows together.
 #[derive(Clone, Copy)]
@@ -17,18 +15,17 @@ pub(crate) struct Totals {
 }
 
 /// Adds the rows of all functions up.
-pub(crate) fn totals_of(funcs: &[Func]) -> Totals
-    requires { row_count funcs.now ≤ 2 ^ 24 }
-    ensures rows { result.rows ≡ row_count funcs.now }
-    ensures len { result.row_bytes ≡ row_section_len funcs.now }
-    ensures most { result.row_bytes ≤ 17 * 2 ^ 24 }
+pub(crate) fn totals_of(functions: &[StoredFunction]) -> Totals
+    requires rows { stored_count functions.now ≤ 2 ^ 24 }
+    requires len { stored_len functions.now ≤ 17 * 2 ^ 24 }
+    ensures rows { result.rows ≡ stored_count functions.now }
+    ensures len { result.row_bytes ≡ stored_len functions.now }
 {
     let mut rows = 0;
     let mut row_bytes = 0;
-    for func in funcs {
-        let of_func = func.rows.as_slice();
-        rows += of_func.len() as u32;
-        row_bytes += rows_len_of(of_func);
+    for stored in functions {
+        rows += stored.head.rows;
+        row_bytes += stored.len;
     }
     Totals { rows, row_bytes }
 }

@@ -1,9 +1,7 @@
-use Rattle.std.proofs.Common.{◌≡◌, ◌*◌, ◌≤◌, take}
-use Rattle.sf_model.specs.Table.{row_count}
-use Rattle.sf_write.specs.Section.{row_section_len}
+use Rattle.std.proofs.Common.{◌≡◌, take}
+use Rattle.sf_write.specs.Stored.{stored_count, stored_len}
 use Rattle.sf_write.proofs.totals.totals_of.Given as goal
 
-abbrev pub invariant-loop-func : goal.invariant-loop-func
-invariant-loop-func l =
-    (l.rows ≡ row_count (take l.func-index l.funcs)) × (l.row_bytes ≡ row_section_len (take l.func-index l.funcs))
-    × (l.row_bytes ≤ 17 * l.rows)
+abbrev pub invariant-loop-stored : goal.invariant-loop-stored
+invariant-loop-stored l =
+    (l.rows ≡ stored_count (take l.stored-index l.functions)) × (l.row_bytes ≡ stored_len (take l.stored-index l.functions))

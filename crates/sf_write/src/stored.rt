@@ -1,0 +1,118 @@
+//! Functions whose rows are kept as the bytes that a section will hold, consecutive in one list.
+
+ghost use Rattle.std.specs.Prelude.{◌≡◌, IfOk};
+
+use crate::row::push_rows;
+use sf_decode::RowIter;
+use sf_model::{Arch, Func, FuncHead, Rows};
+use std::alloc::{AllocError, Global};
+
+/// The rows of many functions, as the bytes that a section will hold: about four bytes a row, and no
+/// allocation for each function.
+#[derive(Debug, Drop)]
+pub struct StoredRows {
+    bytes: Vec<u8>,
+}
+
+/// A function, and the range of its rows among those of many functions.
+#[derive(Clone, Copy, Debug)]
+pub struct StoredFunction {
+    /// The function without its rows.
+    pub head: FuncHead,
+    arch: Arch,
+    /// The width of its row starts.
+    pub(crate) width: u8,
+    /// The place of its rows in the bytes.
+    place: usize,
+    /// How many bytes they are.
+    pub(crate) len: u32,
+}
+
+impl StoredRows {
+    ghost use Rattle.std.specs.Prelude.{◌≡◌, ◌≤◌, ◌*◌, length, IfOk};
+    ghost use Rattle.sf_model.specs.Function.{IsWritable};
+    ghost use Rattle.sf_write.specs.declared.stored.StoredFunction.{StoredFunction as stored_fact};
+    ghost use Rattle.sf_write.specs.Row.{rows_bytes, rows_len};
+    ghost use Rattle.sf_write.specs.Stored.{IsStored, range_of, stored_in};
+
+    /// No rows. It allocates nothing until a function is stored.
+    pub fn new(alloc: Global) -> StoredRows {
+        StoredRows {
+            bytes: Vec::new(alloc),
+        }
+    }
+
+    /// Stores the rows of a function after those that are there. What was stored before stays as it is, also
+    /// where this fails.
+    ///
+    /// # Errors
+    ///
+    /// Out of memory; a function of 2^32 rows or bytes of rows, or more, counts as that.
+    pub fn push(&mut self, arch: Arch, func: &Func) -> Result<StoredFunction, AllocError>
+        requires { IsWritable arch func.now }
+        ensures pushed { IfOk result (λ f. IsStored self.new f × (stored_in self.new f ≡ func.now)) }
+        ensures keeps { (f : stored_fact) → IsStored self.old f → IsStored self.new f × (stored_in self.new f ≡ stored_in self.old f) }
+    {
+        let rows = func.rows.as_slice();
+        let place = self.bytes.len();
+        let width = push_rows(&mut self.bytes, rows)?;
+        let len = counted(self.bytes.len() - place)?;
+        let head = FuncHead {
+            start: func.start,
+            size: func.size,
+            shape: func.shape,
+            key: func.key,
+            rows: counted(rows.len())?,
+        };
+        Ok(StoredFunction {
+            head,
+            arch,
+            width,
+            place,
+            len,
+        })
+    }
+
+    /// A stored function with its rows, read from their bytes.
+    #[tactic(auto, unfolding(crate::specs::Stored::stored_in, crate::specs::Stored::function_by))]
+    pub fn function(&self, alloc: Global, stored: &StoredFunction) -> Result<Func, AllocError>
+        requires { IsStored self.now stored.now }
+        ensures { IfOk result (λ func. func ≡ stored_in self.now stored.now) }
+    {
+        let head = &stored.head;
+        let mut rows = Rows::new(alloc);
+        for row in RowIter::new(stored.arch, self.range(stored), stored.width, 0, head.rows) {
+            rows.push(row)?;
+        }
+        Ok(Func {
+            start: head.start,
+            size: head.size,
+            shape: head.shape,
+            key: head.key,
+            rows,
+        })
+    }
+
+    /// The bytes of a function's rows.
+    #[tactic(auto, using(crate::proofs::StoredFunctions::range_spelled, crate::proofs::StoredFunctions::range_length, crate::proofs::StoredFunctions::range_short))]
+    #[inline(always)]
+    pub(crate) fn range(&self, stored: &StoredFunction) -> &[u8]
+        requires { IsStored self.now stored.now }
+        ensures range { result.now ≡ range_of self.now stored.now }
+        ensures bytes { result.now ≡ rows_bytes (stored_in self.now stored.now).rows }
+        ensures len { length result.now ≡ rows_len (stored_in self.now stored.now).rows }
+        ensures most { length result.now ≤ 17 * length (stored_in self.now stored.now).rows }
+    {
+        let (_, rest) = self.bytes.as_slice().split_at(stored.place);
+        let (range, _) = rest.split_at(stored.len as usize);
+        range
+    }
+}
+
+/// A number as a `u32`, where it is one.
+#[inline(always)]
+fn counted(number: usize) -> Result<u32, AllocError>
+    ensures { IfOk result (λ n. n ≡ number) }
+{
+    u32::try_from(number).map_err(|_| AllocError)
+}
