@@ -1,10 +1,8 @@
 -- What the kept functions' rows recover at an address is what DWARF recovers there, and so walks list the same frames.
-use Rattle.std.specs.Prelude.{nat_le, nat_lt, is_none}
 use Rattle.std.specs.Option.{option_map}
-use Rattle.std.specs.List.{filter, find, cons_option, range_with_len, AllByRecursion}
-use Rattle.std.proofs.Common.{◌≡◌, ℕ, zero, suc, ◌+◌, ◌-◌, ◌<◌, ◌≤◌, Bool, true, false, cond, ◌&&◌, eqb, leb, List, [], ◌∷◌, map, Option, Some, None, Result, Ok, Err, refl, sym, ap, subst, ◌∙◌, arith, inl, inr}
-use Rattle.std.proofs.lemmas.Bool.{cases_lt, leb-true, ltb-true}
-use Rattle.std.proofs.lemmas.Bool.Decides.{nat_tests}
+use Rattle.std.specs.List.{filter, find, cons_option, AllByRecursion}
+use Rattle.std.proofs.Common.{◌≡◌, ℕ, ◌-◌, ◌<◌, Bool, true, false, cond, List, [], ◌∷◌, map, Option, Some, None, Result, Ok, Err, refl, sym, ap, subst, ◌∙◌, arith, inl, inr}
+use Rattle.std.proofs.lemmas.List.{map-id}
 use Rattle.std.proofs.lemmas.List.Sorted.{All-permutation}
 use Rattle.std.proofs.lemmas.List.Elements.{All-from_recursion, recursion_from_All}
 use Rattle.sf_model.specs.declared.content.Content.{Content}
@@ -19,10 +17,9 @@ use Rattle.sf_model.specs.declared.omission.Omission.{Omission}
 use Rattle.sf_model.specs.declared.omission.Reason.{Reason}
 use Rattle.cfa_machine.specs.Recovery.{recovery_by_rules}
 use Rattle.cfa_machine.specs.Registers.{return_address}
-use Rattle.sf_express.specs.Expressed.{reason_of}
 use Rattle.sf_express.specs.Offsets.{as_said}
 use Rattle.sf_express.specs.Alike.{defined}
-use Rattle.sf_express.specs.Runs.{Saying, against, or_later, first_against, whole_or_row, omission_of, rows_of, expressed, unless_omitted, function_of}
+use Rattle.sf_express.specs.Runs.{omission_of, rows_of, expressed, unless_omitted, function_of}
 use Rattle.sf_express.proofs.Found.{SaysContent, row_said}
 use Rattle.sf_express.proofs.Alike.{recovers_alike}
 use Rattle.sf_express.proofs.Column.{own_column}
@@ -35,7 +32,9 @@ use Rattle.sf_asm.specs.Kept.{full_row, says_of, facts_of, outcome_by, entry_of,
 use Rattle.sf_asm.specs.Linking.{InOrder, overlap_in}
 use Rattle.sf_asm.specs.Order.{are_apart}
 use Rattle.sf_asm.specs.Faithful.{holds_address, recovered_in, recovered_at}
-use Rattle.sf_asm.proofs.Finding.{Member, OnePasses, found_alike}
+use Rattle.sf_model.proofs.Unions.{Member, OnePasses}
+use Rattle.sf_asm.proofs.Finding.{found_alike}
+use Rattle.sf_asm.proofs.Holding.{IsWithin, fine, one_within, within, within_span}
 use Rattle.sf_asm.proofs.Kept.{not_overlapping_apart}
 
 -- ---- the kept function at an address, among the functions
@@ -103,118 +102,29 @@ unfolding function_of
 all_spanned [] = tt
 all_spanned (f ∷ fs) = (outcome_spanned f (omission_of f.arch (facts_of f) (says_of f)), all_spanned fs)
 
--- an address in a function
-record IsWithin (pc start size : ℕ) : Type 0 where
-  from : start ≤ pc
-  to : pc < start + size
-
-both : (a b : Bool) → (a && b) ≡ true → (a ≡ true) × (b ≡ true)
-both true b e = (refl, e)
-both false b e = cc
-
-within : (pc start size : ℕ) → (nat_le start pc && nat_lt pc (start + size)) ≡ true → IsWithin pc start size
-within pc start size e =
-    let two = both (nat_le start pc) (nat_lt pc (start + size)) e in
-    record { from = leb-true start pc two.0; to = ltb-true pc (start + size) two.1 }
-
 there_within : (pc : ℕ) (o : Outcome) (start size : ℕ) → HasSpan o start size → kept_there pc o ≡ true → IsWithin pc start size
-there_within pc (outcome.Kept f) start size h t = rw (sym h.0, sym h.1) (within pc f.start f.size t)
+there_within pc (outcome.Kept f) start size h t = rw (sym h.0, sym h.1) (within_span pc f.start f.size t)
 there_within pc (outcome.Left omission) start size h t = cc
 
--- the test of one function among functions that are apart
-abbrev apart_step : (end start size : ℕ) (rest skipped : Bool) → Bool
-apart_step end start size rest skipped = cond (eqb size 0) skipped (leb end start && rest)
+spanned_there : (es : List Entry) → AllByRecursion IsSpanned es → (e : Entry) → Member es e → IsSpanned e
+spanned_there [] h e m = absurd m
+spanned_there (d ∷ es) h e (inl is) = subst IsSpanned is h.0
+spanned_there (d ∷ es) h e (inr m) = spanned_there es h.1 e m
 
-past_one : (end pc start size : ℕ) (rest skipped : Bool) → apart_step end start size rest skipped ≡ true → IsWithin pc start size → (end ≤ pc) × (rest ≡ true)
-past_one end pc start size rest skipped h w =
-    let some : 0 < size = omega (arith, w.from, w.to) in
-    at_size (eqb size 0) refl some h
-  where
-    at_size : (b : Bool) → eqb size 0 ≡ b → 0 < size → cond b skipped (leb end start && rest) ≡ true → (end ≤ pc) × (rest ≡ true)
-    at_size true t some h = let is : size ≡ 0 = grind (arith, nat_tests) in absurd (omega (arith, some, is))
-    at_size false t some h = let two = both (leb end start) rest h in (let le = leb-true end start two.0 in omega (arith, le, w.from), two.1)
-
-past_end : (pc end : ℕ) (es : List Entry) → AllByRecursion IsSpanned es → are_apart end es ≡ true → (x : Entry) → Member es x → is_there pc x ≡ true → end ≤ pc
-past_end pc end [] spanned h x m t = absurd m
-past_end pc end (e ∷ es) spanned h x (inl is) t =
-    let w = there_within pc e.outcome e.span.start e.span.size spanned.0 (ap (is_there pc) is ∙ t) in
-    (past_one end pc e.span.start e.span.size (are_apart (e.span.start + e.span.size) es) (are_apart end es) h w).0
-past_end pc end (e ∷ es) spanned h x (inr m) t =
-    at_size (eqb e.span.size 0) refl h (λ rest. past_end pc end es spanned.1 rest x m t) (λ rest. past_end pc (e.span.start + e.span.size) es spanned.1 rest x m t)
-  where
-    at_size : (b : Bool) → eqb e.span.size 0 ≡ b → cond b (are_apart end es) (leb end e.span.start && are_apart (e.span.start + e.span.size) es) ≡ true
-        → (are_apart end es ≡ true → end ≤ pc) → (are_apart (e.span.start + e.span.size) es ≡ true → e.span.start + e.span.size ≤ pc) → end ≤ pc
-    at_size true s h skipped behind = skipped h
-    at_size false s h skipped behind =
-        let two = both (leb end e.span.start) (are_apart (e.span.start + e.span.size) es) h in
-        let low = leb-true end e.span.start two.0 in
-        let high = behind two.1 in
-        omega (arith, low, high)
-
-one_is_there : (pc end : ℕ) (es : List Entry) → AllByRecursion IsSpanned es → are_apart end es ≡ true → OnePasses (is_there pc) es
-one_is_there pc end [] spanned h = λ x y m n s t. absurd m
-one_is_there pc end (e ∷ es) spanned h = λ x y m n s t. at_members x y m n s t
-    (at_rest (eqb e.span.size 0) refl h (λ rest. one_is_there pc end es spanned.1 rest x y) (λ rest. one_is_there pc (e.span.start + e.span.size) es spanned.1 rest x y))
-  where
-    at_rest : {T : Type 0} (b : Bool) → eqb e.span.size 0 ≡ b → cond b (are_apart end es) (leb end e.span.start && are_apart (e.span.start + e.span.size) es) ≡ true
-        → (are_apart end es ≡ true → T) → (are_apart (e.span.start + e.span.size) es ≡ true → T) → T
-    at_rest true s h skipped behind = skipped h
-    at_rest false s h skipped behind = behind (both (leb end e.span.start) (are_apart (e.span.start + e.span.size) es) h).1
-
-    first_and_later : (x y : Entry) → e ≡ x → Member es y → is_there pc x ≡ true → is_there pc y ≡ true → ⊥
-    first_and_later x y is m s t =
-        let w = there_within pc e.outcome e.span.start e.span.size spanned.0 (ap (is_there pc) is ∙ s) in
-        let rest = (past_one end pc e.span.start e.span.size (are_apart (e.span.start + e.span.size) es) (are_apart end es) h w).1 in
-        let past = past_end pc (e.span.start + e.span.size) es spanned.1 rest y m t in
-        omega (arith, w.to, past)
-
-    at_members : (x y : Entry) → Member (e ∷ es) x → Member (e ∷ es) y → is_there pc x ≡ true → is_there pc y ≡ true
-        → (Member es x → Member es y → is_there pc x ≡ true → is_there pc y ≡ true → x ≡ y) → x ≡ y
-    at_members x y (inl a) (inl b) s t later = sym a ∙ b
-    at_members x y (inl a) (inr n) s t later = absurd (first_and_later x y a n s t)
-    at_members x y (inr m) (inl b) s t later = absurd (first_and_later y x b m t s)
-    at_members x y (inr m) (inr n) s t later = later m n s t
+one_is_there : (pc : ℕ) (es : List Entry) → AllByRecursion IsSpanned es → are_apart 0 es ≡ true → OnePasses (is_there pc) es
+one_is_there pc es spanned h =
+    one_within (λ (e : Entry). e) (is_there pc) pc 0 es (λ e m t. there_within pc e.outcome e.span.start e.span.size (spanned_there es spanned e m) t)
+    (subst (λ (all : List Entry). are_apart 0 all ≡ true) (sym (map-id es)) h)
 
 -- the kept function at an address, among functions in order
 find_in_order : (pc : ℕ) (fs : List Function) (ordered : List Entry) → InOrder (map entry_of fs) ordered → overlap_in (spans_of ordered) ≡ None
     → find (contains pc) (kept_of ordered) ≡ option_map expressed_of (find (holds_address pc) (kept_functions fs))
 find_in_order pc fs ordered order apart =
     let spanned = All-permutation IsSpanned (map entry_of fs) ordered order.moved (All-from_recursion IsSpanned (map entry_of fs) (all_spanned fs)) in
-    let one = one_is_there pc 0 ordered (recursion_from_All IsSpanned ordered spanned) (not_overlapping_apart ordered apart) in
+    let one = one_is_there pc ordered (recursion_from_All IsSpanned ordered spanned) (not_overlapping_apart ordered apart) in
     find_entry pc ordered ∙ sym (ap function_in_found (found_alike (is_there pc) (map entry_of fs) ordered order.moved one)) ∙ sym (find_entry pc (map entry_of fs)) ∙ find_kept pc fs
 
 -- ---- one function
--- each row of a kept function can be expressed
-fine_first : (o : ℕ) (x : Result Content Reason) (later : Option Omission) → or_later (against o x) later ≡ None → SaysContent x × (later ≡ None)
-fine_first o (Ok c) later e = (tt, e)
-fine_first o (Err reason) later e = cc
-
-all_fine : (says : Saying) (a n : ℕ) → first_against says (range_with_len a n) ≡ None → (o : ℕ) → a ≤ o → o < a + n → SaysContent (says o)
-all_fine says a zero e o le lt = absurd (omega (arith, le, lt))
-all_fine says a (suc n) e o le lt =
-    let first = fine_first a (says a) (first_against says (range_with_len (a + 1) n)) e in
-    elim (cases_lt a o) [
-      | inl above ↦ all_fine says (a + 1) n first.1 o (omega (arith, above)) (omega (arith, lt))
-      | inr not_above ↦ let is : o ≡ a = omega (arith, le, not_above) in subst (λ (k : ℕ). SaysContent (says k)) (sym is) first.0
-    ]
-
-no_reason : (whole : Option Reason) (row : Option Omission) → whole_or_row whole row ≡ None → row ≡ None
-no_reason None row e = e
-no_reason (Some reason) row e = cc
-
-no_reason_of_whole : (whole : Option Reason) (row : Option Omission) → whole_or_row whole row ≡ None → whole ≡ None
-no_reason_of_whole None row e = refl
-no_reason_of_whole (Some reason) row e = cc
-
-kept_column : (f : Function) → omission_of f.arch (facts_of f) (says_of f) ≡ None → f.column ≡ return_address f.arch
-unfolding omission_of
-kept_column f e = own_column f.arch (facts_of f) (no_reason_of_whole (reason_of f.arch (facts_of f)) (first_against (says_of f) (range_with_len 0 f.size)) e)
-
-kept_says : (f : Function) → omission_of f.arch (facts_of f) (says_of f) ≡ None → (o : ℕ) → o < f.size → SaysContent (says_of f o)
-unfolding omission_of
-kept_says f e o lt =
-    all_fine (says_of f) 0 f.size (no_reason (reason_of f.arch (facts_of f)) (first_against (says_of f) (range_with_len 0 f.size)) e) o (omega arith) (omega (arith, lt))
-
 -- what a row that is found recovers
 recovered_row : (f : Function) (o : ℕ) (found : Option Row) (said : Result Content Reason) (regs : Regs) (memory : List Region) → f.column ≡ return_address f.arch → says_of f o ≡ said → SaysContent said → as_said (option_map (λ (r : Row). r.content) found) ≡ Some said
     → option_map defined (option_map (λ (x : FoundRow). recovery x.row.content x.func.key regs memory) (option_map (λ (row : Row). record { func = expressed_of f; row = row }) found))
@@ -227,18 +137,13 @@ recovered_row f o (Some row) (Ok c) regs memory own e fine h =
     ap (λ (x : Content). Some (defined (recovery x f.key regs memory))) is ∙ sym (ap Some (alike.alike f.key regs memory))
     ∙ ap (λ (column : ℕ). Some (recovery_by_rules f.arch column (full_row f o) f.key regs memory)) (sym own)
 
-is_kept_none : (omission : Option Omission) → is_none omission ≡ true → omission ≡ None
-is_kept_none None e = refl
-is_kept_none (Some omission) e = cc
-
 pub function_recovers : (f : Function) (pc : ℕ) (regs : Regs) (memory : List Region) → is_kept f ≡ true → holds_address pc f ≡ true
     → option_map defined (option_map (λ (x : FoundRow). recovery x.row.content x.func.key regs memory) (row_in pc (expressed_of f))) ≡ Some (recovered_in memory pc regs f)
 function_recovers f pc regs memory kept holds =
-    let w = within pc f.start f.size holds in
+    let w = within pc f holds in
     let lt : pc - f.start < f.size = omega (arith, w.from, w.to) in
-    let none = is_kept_none (omission_of f.arch (facts_of f) (says_of f)) kept in
-    let fine = kept_says f none in
-    recovered_row f (pc - f.start) (row_at (pc - f.start) (rows_of (says_of f) f.size)) (says_of f (pc - f.start)) regs memory (kept_column f none) refl (fine (pc - f.start) lt) (row_said (says_of f) f.size fine (pc - f.start) lt)
+    let h = fine f kept in
+    recovered_row f (pc - f.start) (row_at (pc - f.start) (rows_of (says_of f) f.size)) (says_of f (pc - f.start)) regs memory (own_column f.arch (facts_of f) h.whole) refl (h.rows (pc - f.start) lt) (row_said (says_of f) f.size h.rows (pc - f.start) lt)
 
 -- what passes a search
 pub found_passes : (p q : Function → Bool) (fs : List Function) (f : Function) → find p (filter q fs) ≡ Some f → (p f ≡ true) × (q f ≡ true)

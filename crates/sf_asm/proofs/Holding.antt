@@ -27,7 +27,7 @@ use Rattle.sf_asm.specs.Kept.{entry_of, facts_of, is_kept, says_of}
 use Rattle.sf_asm.specs.Linking.{Gathers, limits_fault, or_later, overlap_fault, overlap_in}
 use Rattle.sf_asm.specs.Order.{are_apart}
 use Rattle.sf_asm.specs.Said.{form_content, has_form}
-use Rattle.sf_asm.proofs.Finding.{Member, OnePasses}
+use Rattle.sf_model.proofs.Unions.{Member, OnePasses}
 use Rattle.sf_asm.proofs.GatheredInputs.{are_read}
 use Rattle.sf_asm.proofs.Kept.{not_overlapping_apart}
 
@@ -40,10 +40,13 @@ pub record IsWithin (pc start size : ℕ) : Type 0 where
   pub from : start ≤ pc
   pub to : pc < start + size
 
+pub within_span : (pc start size : ℕ) → (nat_le start pc && nat_lt pc (start + size)) ≡ true → IsWithin pc start size
+within_span pc start size e =
+    let two = both (nat_le start pc) (nat_lt pc (start + size)) e in
+    record { from = leb-true start pc two.0; to = ltb-true pc (start + size) two.1 }
+
 pub within : (pc : ℕ) (f : Function) → holds_address pc f ≡ true → IsWithin pc f.start f.size
-within pc f e =
-    let two = both (nat_le f.start pc) (nat_lt pc (f.start + f.size)) e in
-    record { from = leb-true f.start pc two.0; to = ltb-true pc (f.start + f.size) two.1 }
+within pc f e = within_span pc f.start f.size e
 
 pub is_within : (pc : ℕ) (f : Function) → f.start ≤ pc → pc < f.start + f.size → holds_address pc f ≡ true
 is_within pc f low high = rw (le-leb f.start pc low, lt-ltb pc (f.start + f.size) high) refl
@@ -58,45 +61,53 @@ past_one end pc start size rest skipped h w =
     at_size true t some h = let is : size ≡ 0 = eqb-true size 0 t in absurd (omega (arith, some, is))
     at_size false t some h = let two = both (leb end start) rest h in (let le = leb-true end start two.0 in omega (arith, le, w.from), two.1)
 
-past_end : (pc end : ℕ) (fs : List Function) → are_apart end (map entry_of fs) ≡ true → (x : Function) → Member fs x → holds_address pc x ≡ true → end ≤ pc
-past_end pc end [] h x m t = absurd m
-past_end pc end (f ∷ fs) h x (inl is) t =
-    (past_one end pc f.start f.size (are_apart (f.start + f.size) (map entry_of fs)) (are_apart end (map entry_of fs)) h (within pc f (ap (holds_address pc) is ∙ t))).0
-past_end pc end (f ∷ fs) h x (inr m) t =
-    at_size (eqb f.size 0) refl h (λ rest. past_end pc end fs rest x m t) (λ rest. past_end pc (f.start + f.size) fs rest x m t)
-  where
-    at_size : (b : Bool) → eqb f.size 0 ≡ b → cond b (are_apart end (map entry_of fs)) (leb end f.start && are_apart (f.start + f.size) (map entry_of fs)) ≡ true
-        → (are_apart end (map entry_of fs) ≡ true → end ≤ pc) → (are_apart (f.start + f.size) (map entry_of fs) ≡ true → f.start + f.size ≤ pc) → end ≤ pc
-    at_size true s h skipped behind = skipped h
-    at_size false s h skipped behind =
-        let two = both (leb end f.start) (are_apart (f.start + f.size) (map entry_of fs)) h in
-        let low = leb-true end f.start two.0 in
-        let high = behind two.1 in
-        omega (arith, low, high)
+-- of elements whose entries are apart, one has an address at most
+module _ {X : Type 0} (entry : X → Entry) (p : X → Bool) (pc : ℕ) where
+  abbrev pub AreWithin : List X → Type 0
+  AreWithin xs = (x : X) → Member xs x → p x ≡ true → IsWithin pc (entry x).span.start (entry x).span.size
+
+  past_end : (end : ℕ) (xs : List X) → AreWithin xs → are_apart end (map entry xs) ≡ true → (x : X) → Member xs x → p x ≡ true → end ≤ pc
+  past_end end [] holds h x m t = absurd m
+  past_end end (y ∷ ys) holds h x (inl is) t =
+      (past_one end pc (entry y).span.start (entry y).span.size (are_apart ((entry y).span.start + (entry y).span.size) (map entry ys)) (are_apart end (map entry ys)) h (holds y (inl refl) (ap p is ∙ t))).0
+  past_end end (y ∷ ys) holds h x (inr m) t =
+      at_size (eqb (entry y).span.size 0) refl h (λ rest. past_end end ys (λ z n. holds z (inr n)) rest x m t) (λ rest. past_end ((entry y).span.start + (entry y).span.size) ys (λ z n. holds z (inr n)) rest x m t)
+    where
+      at_size : (b : Bool) → eqb (entry y).span.size 0 ≡ b → cond b (are_apart end (map entry ys)) (leb end (entry y).span.start && are_apart ((entry y).span.start + (entry y).span.size) (map entry ys)) ≡ true
+          → (are_apart end (map entry ys) ≡ true → end ≤ pc) → (are_apart ((entry y).span.start + (entry y).span.size) (map entry ys) ≡ true → (entry y).span.start + (entry y).span.size ≤ pc) → end ≤ pc
+      at_size true s h skipped behind = skipped h
+      at_size false s h skipped behind =
+          let two = both (leb end (entry y).span.start) (are_apart ((entry y).span.start + (entry y).span.size) (map entry ys)) h in
+          let low = leb-true end (entry y).span.start two.0 in
+          let high = behind two.1 in
+          omega (arith, low, high)
+
+  pub one_within : (end : ℕ) (xs : List X) → AreWithin xs → are_apart end (map entry xs) ≡ true → OnePasses p xs
+  one_within end [] holds h = λ x y m n s t. absurd m
+  one_within end (f ∷ fs) holds h = λ x y m n s t. at_members x y m n s t
+      (at_rest (eqb (entry f).span.size 0) refl h (λ rest. one_within end fs (λ z k. holds z (inr k)) rest x y) (λ rest. one_within ((entry f).span.start + (entry f).span.size) fs (λ z k. holds z (inr k)) rest x y))
+    where
+      at_rest : {T : Type 0} (b : Bool) → eqb (entry f).span.size 0 ≡ b → cond b (are_apart end (map entry fs)) (leb end (entry f).span.start && are_apart ((entry f).span.start + (entry f).span.size) (map entry fs)) ≡ true
+          → (are_apart end (map entry fs) ≡ true → T) → (are_apart ((entry f).span.start + (entry f).span.size) (map entry fs) ≡ true → T) → T
+      at_rest true s h skipped behind = skipped h
+      at_rest false s h skipped behind = behind (both (leb end (entry f).span.start) (are_apart ((entry f).span.start + (entry f).span.size) (map entry fs)) h).1
+
+      first_and_later : (x y : X) → f ≡ x → Member fs y → p x ≡ true → p y ≡ true → ⊥
+      first_and_later x y is m s t =
+          let w = holds f (inl refl) (ap p is ∙ s) in
+          let rest = (past_one end pc (entry f).span.start (entry f).span.size (are_apart ((entry f).span.start + (entry f).span.size) (map entry fs)) (are_apart end (map entry fs)) h w).1 in
+          let past = past_end ((entry f).span.start + (entry f).span.size) fs (λ z k. holds z (inr k)) rest y m t in
+          omega (arith, w.to, past)
+
+      at_members : (x y : X) → Member (f ∷ fs) x → Member (f ∷ fs) y → p x ≡ true → p y ≡ true
+          → (Member fs x → Member fs y → p x ≡ true → p y ≡ true → x ≡ y) → x ≡ y
+      at_members x y (inl a) (inl b) s t later = sym a ∙ b
+      at_members x y (inl a) (inr n) s t later = absurd (first_and_later x y a n s t)
+      at_members x y (inr m) (inl b) s t later = absurd (first_and_later y x b m t s)
+      at_members x y (inr m) (inr n) s t later = later m n s t
 
 pub one_holds : (pc end : ℕ) (fs : List Function) → are_apart end (map entry_of fs) ≡ true → OnePasses (holds_address pc) fs
-one_holds pc end [] h = λ x y m n s t. absurd m
-one_holds pc end (f ∷ fs) h = λ x y m n s t. at_members x y m n s t
-    (at_rest (eqb f.size 0) refl h (λ rest. one_holds pc end fs rest x y) (λ rest. one_holds pc (f.start + f.size) fs rest x y))
-  where
-    at_rest : {T : Type 0} (b : Bool) → eqb f.size 0 ≡ b → cond b (are_apart end (map entry_of fs)) (leb end f.start && are_apart (f.start + f.size) (map entry_of fs)) ≡ true
-        → (are_apart end (map entry_of fs) ≡ true → T) → (are_apart (f.start + f.size) (map entry_of fs) ≡ true → T) → T
-    at_rest true s h skipped behind = skipped h
-    at_rest false s h skipped behind = behind (both (leb end f.start) (are_apart (f.start + f.size) (map entry_of fs)) h).1
-
-    first_and_later : (x y : Function) → f ≡ x → Member fs y → holds_address pc x ≡ true → holds_address pc y ≡ true → ⊥
-    first_and_later x y is m s t =
-        let w = within pc f (ap (holds_address pc) is ∙ s) in
-        let rest = (past_one end pc f.start f.size (are_apart (f.start + f.size) (map entry_of fs)) (are_apart end (map entry_of fs)) h w).1 in
-        let past = past_end pc (f.start + f.size) fs rest y m t in
-        omega (arith, w.to, past)
-
-    at_members : (x y : Function) → Member (f ∷ fs) x → Member (f ∷ fs) y → holds_address pc x ≡ true → holds_address pc y ≡ true
-        → (Member fs x → Member fs y → holds_address pc x ≡ true → holds_address pc y ≡ true → x ≡ y) → x ≡ y
-    at_members x y (inl a) (inl b) s t later = sym a ∙ b
-    at_members x y (inl a) (inr n) s t later = absurd (first_and_later x y a n s t)
-    at_members x y (inr m) (inl b) s t later = absurd (first_and_later y x b m t s)
-    at_members x y (inr m) (inr n) s t later = later m n s t
+one_holds pc end fs h = one_within entry_of (holds_address pc) pc end fs (λ f m t. within pc f t) h
 
 -- ---- a kept function
 fine_first : (o : ℕ) (x : Result Content Reason) (later : Option Omission) → runs.or_later (against o x) later ≡ None → SaysContent x × (later ≡ None)

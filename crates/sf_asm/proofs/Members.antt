@@ -1,9 +1,9 @@
--- Elements of lists: of their filters and images, and which one is found.
-use Rattle.std.specs.List.{All, filter, find}
+-- Elements of lists: of their images, their places, and which one is found.
+use Rattle.std.specs.List.{All, find}
 use Rattle.std.specs.Option.{option_map}
-use Rattle.std.proofs.Common.{◌≡◌, ℕ, suc, ◌<◌, Bool, true, false, cond, List, [], ◌∷◌, get_or, length, map, Option, Some, None, refl, sym, ap, subst, ◌∙◌, arith, inl, inr}
+use Rattle.std.proofs.Common.{◌≡◌, ℕ, suc, ◌<◌, Bool, true, false, cond, List, [], ◌∷◌, get_or, length, map, Some, refl, ap, arith, inl, inr}
 use Rattle.std.proofs.lemmas.List.Elements.{All-nil, All-cons}
-use Rattle.sf_asm.proofs.Finding.{Member, OnePasses}
+use Rattle.sf_model.proofs.Unions.{Member}
 
 pub all_members : {X : Type 0} (xs : List X) → All (Member xs) xs
 all_members [] = All-nil (Member [])
@@ -11,15 +11,6 @@ all_members {X} (x ∷ xs) = All-cons (Member (x ∷ xs)) x xs (inl refl) (later
   where
     later : (ys : List X) → All (Member xs) ys → All (Member (x ∷ xs)) ys
     later ys h = λ k d lt. inr (h k d lt)
-
-pub in_filter : {X : Type 0} (p : X → Bool) (xs : List X) (x : X) → p x ≡ true → Member xs x → Member (filter p xs) x
-in_filter p [] x e m = m
-in_filter p (y ∷ ys) x e (inl is) = subst (λ (b : Bool). Member (cond b (y ∷ filter p ys) (filter p ys)) x) (sym (ap p is ∙ e)) (inl is)
-in_filter p (y ∷ ys) x e (inr m) = at_test (p y) (in_filter p ys x e m)
-  where
-    at_test : (b : Bool) → Member (filter p ys) x → Member (cond b (y ∷ filter p ys) (filter p ys)) x
-    at_test true m = inr m
-    at_test false m = m
 
 pub in_map : {X Y : Type 0} (f : X → Y) (xs : List X) (x : X) → Member xs x → Member (map f xs) (f x)
 in_map f [] x m = m
@@ -36,44 +27,6 @@ pub placed : {X : Type 0} (xs : List X) (x : X) → Member xs x → IsPlaced xs 
 placed [] x m = absurd m
 placed (y ∷ ys) x (inl is) = record { place = 0; within = omega arith; is = λ d. is }
 placed (y ∷ ys) x (inr m) = let h = placed ys x m in record { place = suc h.place; within = omega (arith, h.within); is = h.is }
-
--- the one that passes is found
-pub record IsFound {X : Type 0} (p : X → Bool) (xs : List X) (x : X) : Type 0 where
-  pub passes : p x ≡ true
-  pub within : Member xs x
-
-pub found : {X : Type 0} (p : X → Bool) (xs : List X) (x : X) → find p xs ≡ Some x → IsFound p xs x
-found p [] x e = cc
-found p (y ∷ ys) x e = at_test (p y) refl e (found p ys x)
-  where
-    at_test : (b : Bool) → p y ≡ b → cond b (Some y) (find p ys) ≡ Some x → (find p ys ≡ Some x → IsFound p ys x) → IsFound p (y ∷ ys) x
-    at_test true t e later = let is : y ≡ x = cc in record { passes = ap p (sym is) ∙ t; within = inl is }
-    at_test false t e later = let h = later e in record { passes = h.passes; within = inr h.within }
-
-pub some_found : {X : Type 0} (p : X → Bool) (xs : List X) (x : X) → p x ≡ true → Member xs x → find p xs ≡ None → ⊥
-some_found p [] x t m e = m
-some_found p (y ∷ ys) x t (inl is) e = let never = ap (λ (b : Bool). cond b (Some y) (find p ys)) (sym (ap p is ∙ t)) ∙ e in cc
-some_found p (y ∷ ys) x t (inr m) e = at_test (p y) e (some_found p ys x t m)
-  where
-    at_test : (b : Bool) → cond b (Some y) (find p ys) ≡ None → (find p ys ≡ None → ⊥) → ⊥
-    at_test true e later = cc
-    at_test false e later = later e
-
-pub found_alone : {X : Type 0} (p : X → Bool) (xs : List X) (x : X) → OnePasses p xs → Member xs x → p x ≡ true → find p xs ≡ Some x
-found_alone p xs x one m t = at_result (find p xs) refl
-  where
-    at_result : (r : Option _) → find p xs ≡ r → find p xs ≡ Some x
-    at_result None e = absurd (some_found p xs x t m e)
-    at_result (Some y) e = let h = found p xs y e in e ∙ ap Some (one y x h.within m h.passes t)
-
-pub out_of_filter : {X : Type 0} (p : X → Bool) (xs : List X) (x : X) → Member (filter p xs) x → Member xs x
-out_of_filter p [] x m = m
-out_of_filter p (y ∷ ys) x m = at_test (p y) m (out_of_filter p ys x)
-  where
-    at_test : (b : Bool) → Member (cond b (y ∷ filter p ys) (filter p ys)) x → (Member (filter p ys) x → Member ys x) → Member (y ∷ ys) x
-    at_test true (inl is) later = inl is
-    at_test true (inr m) later = inr (later m)
-    at_test false m later = inr (later m)
 
 pub find_in_map : {X Y : Type 0} (p : Y → Bool) (f : X → Y) (xs : List X) → find p (map f xs) ≡ option_map f (find (λ x. p (f x)) xs)
 find_in_map p f [] = refl

@@ -24,9 +24,10 @@ use Rattle.sf_asm.specs.Said.{IsSaidUpTo, RowAt, SaidTo, SaysUpTo, dwarf_at, for
 use Rattle.sf_asm.specs.Sources.{AreWithSources, functions_lent, source_function}
 use Rattle.sf_asm.specs.declared.said.Said.{Said}
 use Rattle.sf_asm.proofs.Agreeing.{expressed_of, find_kept, found_passes}
-use Rattle.sf_asm.proofs.Finding.{Member, found_alike}
+use Rattle.sf_model.proofs.Unions.{Member, found, found_alone, from_filter, in_filter, some_found}
+use Rattle.sf_asm.proofs.Finding.{found_alike}
 use Rattle.sf_asm.proofs.Holding.{IsWithin, gathered_apart, is_within, kept_said_by, one_holds, within}
-use Rattle.sf_asm.proofs.Members.{find_in_map, found, found_alone, in_filter, out_of_filter, placed, some_found}
+use Rattle.sf_asm.proofs.Members.{find_in_map, placed}
 
 -- ---- what calls found
 pub found_in : {X Y : Type 0} (view : X → Y) (p : Y → Bool) (found : Option X) (x : X) (asked items : List Y) → asked ≡ items → option_map view found ≡ find p asked → found ≡ Some x → find p items ≡ Some (view x)
@@ -162,7 +163,7 @@ module _ (functions sorted : List Function) (moved : IsPermutation functions sor
           let passes = found_passes (holds_address pc) is_kept sorted f is in
           let same : Some (expressed_of f) ≡ Some g = sym (ap (option_map expressed_of) is) ∙ e in
           let one : expressed_of f ≡ g = cc in
-          let m = out_of_filter is_kept sorted f (found (holds_address pc) (kept_functions sorted) f is).within in
+          let m = from_filter is_kept sorted f (found (holds_address pc) (kept_functions sorted) f is).within in
           record { f = f; kept = passes.1; is = sym one; holder = holder_of f m passes.0 }
 
   omitted_there : (sources : List Source) (s : Source) → functions_lent sources ≡ omitted_functions sorted → find (λ (x : Source). holds_address pc (source_function x)) sources ≡ Some s → IsHolder functions pc (source_function s)
@@ -170,7 +171,7 @@ module _ (functions sorted : List Function) (moved : IsPermutation functions sor
       let lent : find (holds_address pc) (omitted_functions sorted) ≡ Some (source_function s) =
       subst (λ (fs : List Function). find (holds_address pc) fs ≡ Some (source_function s)) are (find_in_map (holds_address pc) source_function sources ∙ ap (option_map source_function) e) in
       let h = found (holds_address pc) (omitted_functions sorted) (source_function s) lent in
-      holder_of (source_function s) (out_of_filter (λ (f : Function). not (is_kept f)) sorted (source_function s) h.within) h.passes
+      holder_of (source_function s) (from_filter (λ (f : Function). not (is_kept f)) sorted (source_function s) h.within) h.passes
 
   none_there : (sources : List Source) → functions_lent sources ≡ omitted_functions sorted → find (contains pc) (kept_of (map entry_of sorted)) ≡ None → find (λ (x : Source). holds_address pc (source_function x)) sources ≡ None → dwarf_at functions pc ≡ None
   unfolding dwarf_at

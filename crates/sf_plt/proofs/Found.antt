@@ -18,7 +18,8 @@ use Rattle.sf_asm.specs.Functions.{Function}
 use Rattle.sf_asm.specs.Kept.{entry_of, is_kept, kept_functions}
 use Rattle.sf_asm.specs.Order.{are_apart}
 use Rattle.sf_asm.proofs.Agreeing.{function_recovers}
-use Rattle.sf_asm.proofs.Finding.{Member, OnePasses, found_alike}
+use Rattle.sf_model.proofs.Unions.{Member, OnePasses}
+use Rattle.sf_asm.proofs.Finding.{found_alike}
 use Rattle.sf_plt.specs.Answers.{RecoversWithPlts}
 use Rattle.sf_plt.specs.Plt.{is_plt, plt_functions, recovered_in_plt}
 use Rattle.sf_plt.specs.Written.{first_entry, later_entries, or_else, pair_by, recovered_with_plts, written_functions}

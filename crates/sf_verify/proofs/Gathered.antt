@@ -29,9 +29,10 @@ use Rattle.sf_asm.specs.Functions.{Function}
 use Rattle.sf_asm.specs.Kept.{entry_of, facts_of, is_kept, omitted_functions, says_of}
 use Rattle.sf_asm.specs.Order.{are_apart}
 use Rattle.sf_asm.specs.Sources.{function_start, functions_lent, source_function}
-use Rattle.sf_asm.proofs.Finding.{Member, found_alike}
+use Rattle.sf_model.proofs.Unions.{Member, found, found_alone, in_filter, some_found}
+use Rattle.sf_asm.proofs.Finding.{found_alike}
 use Rattle.sf_asm.proofs.Holding.{IsFine, both, fine, has_form_if, is_within, one_holds, within}
-use Rattle.sf_asm.proofs.Members.{all_members, found, found_alone, in_filter, in_map, placed, some_found}
+use Rattle.sf_asm.proofs.Members.{all_members, in_map, placed}
 use Rattle.sf_verify.specs.Asking.{AreHolders, IsRowed, RowsBegin, answers_of, by_holder}
 use Rattle.sf_verify.specs.Comparing.{func_says}
 use Rattle.sf_asm.specs.Said.{Answers, dwarf_at, form_content, said_in, with_key}

@@ -20,7 +20,8 @@ use Rattle.sf_merge.specs.Views.{IsRead}
 use Rattle.sf_merge.proofs.Apart.{none_share}
 use Rattle.sf_merge.proofs.Sound.{IsSound, all_sound}
 use Rattle.sf_merge.proofs.United.{functions_are}
-use Rattle.sf_asm.proofs.Finding.{OnePasses, found_alike}
+use Rattle.sf_model.proofs.Unions.{OnePasses}
+use Rattle.sf_asm.proofs.Finding.{found_alike}
 use Rattle.sf_verify.specs.Comparing.{AreComparable, functions_in}
 use Rattle.sf_verify.specs.Counting.{StartsRise}
 use Rattle.sf_verify.specs.Said.{by_row, section_at}
