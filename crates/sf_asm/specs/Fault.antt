@@ -70,22 +70,7 @@ is_gather_refusal gather.TooManyRows = false
 is_gather_refusal (gather.Overlap start item other other_item) = true
 is_gather_refusal gather.NoMemory = false
 
--- a refusal, a limit, or want of memory on its own
-abbrev pub is_gather_answered : GatherFault → Bool
-is_gather_answered (gather.Input item fault) = is_input_refusal fault
-is_gather_answered (gather.MixedArch item other) = true
-is_gather_answered gather.TooManyFunctions = true
-is_gather_answered gather.TooManyRows = true
-is_gather_answered (gather.Overlap start item other other_item) = true
-is_gather_answered gather.NoMemory = true
-
--- a refusal of the inputs, which has a line
-abbrev pub is_refusal : LinkFault → Bool
-is_refusal (link.Gather fault) = is_gather_refusal fault
-is_refusal (link.OutOfReach start) = true
-is_refusal link.NoMemory = false
-
--- what the outermost call answers: a refusal, a limit, or want of memory on its own
+-- a refusal, or a limit
 abbrev pub is_wrapped_answered : GatherFault → Bool
 is_wrapped_answered (gather.Input item fault) = is_input_refusal fault
 is_wrapped_answered (gather.MixedArch item other) = true
@@ -94,6 +79,18 @@ is_wrapped_answered gather.TooManyRows = true
 is_wrapped_answered (gather.Overlap start item other other_item) = true
 is_wrapped_answered gather.NoMemory = false
 
+-- what gathering returns: a refusal, a limit, or out of memory on its own
+abbrev pub is_gather_answered : GatherFault → Bool
+is_gather_answered gather.NoMemory = true
+is_gather_answered fault = is_wrapped_answered fault
+
+-- a refusal of the inputs, which has a line
+abbrev pub is_refusal : LinkFault → Bool
+is_refusal (link.Gather fault) = is_gather_refusal fault
+is_refusal (link.OutOfReach start) = true
+is_refusal link.NoMemory = false
+
+-- what the outermost call returns: a refusal, a limit, or out of memory on its own
 abbrev pub is_answered : LinkFault → Bool
 is_answered (link.Gather fault) = is_wrapped_answered fault
 is_answered (link.OutOfReach start) = true

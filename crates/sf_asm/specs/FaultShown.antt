@@ -6,8 +6,7 @@ use Rattle.cfa_insn.specs.declared.fault.InsnFault.{InsnFault}
 use Rattle.cfa_insn.specs.declared.fault.InsnFault.TheVariants as insn
 use Rattle.cfa_machine.specs.declared.fault.MachineFault.{MachineFault}
 use Rattle.cfa_machine.specs.declared.fault.MachineFault.TheVariants as machine
-use Rattle.elf_read.specs.declared.fault.ElfFault.{ElfFault}
-use Rattle.elf_read.specs.declared.fault.ElfFault.TheVariants as elf
+use Rattle.elf_read.specs.FaultShown.{shown_of_elf}
 use Rattle.elf_place.specs.declared.fault.PlaceFault.{PlaceFault}
 use Rattle.elf_place.specs.declared.fault.PlaceFault.TheVariants as place_faults
 use Rattle.elf_reloc.specs.declared.fault.RelocFault.{RelocFault}
@@ -21,27 +20,9 @@ use Rattle.sf_asm.specs.declared.fault.GatherFault.TheVariants as gather
 use Rattle.sf_asm.specs.declared.fault.LinkFault.{LinkFault}
 use Rattle.sf_asm.specs.declared.fault.LinkFault.TheVariants as link
 
--- want of memory has no line
+-- out of memory has no line
 abbrev pub not_shown : Option ℕ → FaultShown
 not_shown item = record { item = item; group = group.Link; number = 0; values = [] }
-
--- of an ELF file: the place
-abbrev pub shown_of_file : Option ℕ → (number place : ℕ) → FaultShown
-shown_of_file item number place = record { item = item; group = group.Elf; number = number; values = place ∷ [] }
-
-abbrev pub shown_of_elf : Option ℕ → ElfFault → FaultShown
-shown_of_elf item (elf.Short place) = shown_of_file item 1 place
-shown_of_elf item (elf.NotElf place) = shown_of_file item 2 place
-shown_of_elf item (elf.Class place) = shown_of_file item 3 place
-shown_of_elf item (elf.Order place) = shown_of_file item 4 place
-shown_of_elf item (elf.Version place) = shown_of_file item 5 place
-shown_of_elf item (elf.Machine place) = shown_of_file item 6 place
-shown_of_elf item (elf.Kind place) = shown_of_file item 7 place
-shown_of_elf item (elf.EntrySize place) = shown_of_file item 8 place
-shown_of_elf item (elf.Strings place) = shown_of_file item 9 place
-shown_of_elf item (elf.OutOfFile place) = shown_of_file item 10 place
-shown_of_elf item (elf.Compressed place) = shown_of_file item 11 place
-shown_of_elf item (elf.SymbolIndex place) = shown_of_file item 12 place
 
 -- of placing: the section
 abbrev pub shown_of_section : Option ℕ → (number section : ℕ) → FaultShown

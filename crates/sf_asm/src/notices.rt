@@ -1,9 +1,9 @@
-//! Faults as numbers, for the line that tells them.
+//! Faults as numbers, for the line that shows them.
 
 ghost use Rattle.std.specs.Prelude.{◌≡◌, ◌∷◌, [], ℕ, Option, IsTrue, IsSome};
 ghost use Rattle.sf_model.specs.Notice.{HasLine, up_to};
 ghost use Rattle.sf_model.specs.FaultShown.{shown_by};
-ghost use Rattle.sf_asm.specs.FaultShown.{shown_of_file, shown_of_elf, shown_of_section, shown_of_placing, shown_of_relocation, shown_of_relocating, shown_of_place, shown_of_records, shown_of_instruction, shown_of_machine, shown_of_input, shown_of_gathering, shown_of_linking};
+ghost use Rattle.sf_asm.specs.FaultShown.{shown_of_section, shown_of_placing, shown_of_relocation, shown_of_relocating, shown_of_place, shown_of_records, shown_of_instruction, shown_of_machine, shown_of_input, shown_of_gathering, shown_of_linking};
 ghost use Rattle.sf_asm.specs.Fault.{is_place_refusal, is_reloc_refusal, is_record_refusal, is_machine_refusal, is_input_refusal, is_gather_refusal, is_refusal};
 
 use crate::fault::{AsmFault, GatherFault, LinkFault};
@@ -12,7 +12,6 @@ use cfa_insn::InsnFault;
 use cfa_machine::MachineFault;
 use eh_records::RecordFault;
 use elf_place::PlaceFault;
-use elf_read::ElfFault;
 use elf_reloc::RelocFault;
 use sf_model::{Group, Notice};
 
@@ -47,40 +46,6 @@ fn four(a: u64, b: u64, c: u64, d: u64) -> ArrayVec<u64, 4>
     let mut values = three(a, b, c);
     values.push(d);
     values
-}
-
-/// The number of a fault of an ELF file and the place that it carries.
-fn elf_number(fault: ElfFault) -> (u8, u64)
-    ensures shown { (item : Option ℕ) → shown_of_elf item fault ≡ shown_of_file item result.0 result.1 }
-    ensures number { IsTrue (up_to 12 result.0) }
-{
-    match fault {
-        ElfFault::Short(place) => (1, place),
-        ElfFault::NotElf(place) => (2, place),
-        ElfFault::Class(place) => (3, place),
-        ElfFault::Order(place) => (4, place),
-        ElfFault::Version(place) => (5, place),
-        ElfFault::Machine(place) => (6, place),
-        ElfFault::Kind(place) => (7, place),
-        ElfFault::EntrySize(place) => (8, place),
-        ElfFault::Strings(place) => (9, place),
-        ElfFault::OutOfFile(place) => (10, place),
-        ElfFault::Compressed(place) => (11, place),
-        ElfFault::SymbolIndex(place) => (12, place),
-    }
-}
-
-fn elf_notice(item: Option<u32>, fault: ElfFault) -> Notice
-    ensures shown { shown_by result ≡ shown_of_elf item fault }
-    ensures line { IsSome item → HasLine result }
-{
-    let (number, place) = elf_number(fault);
-    Notice {
-        item,
-        group: Group::Elf,
-        number,
-        values: one(place),
-    }
 }
 
 /// The number of a fault of placing and the section that it carries.
@@ -223,7 +188,7 @@ impl AsmFault {
         ensures line { IsSome item → HasLine result }
     {
         match self {
-            AsmFault::Elf(fault) => elf_notice(item, *fault),
+            AsmFault::Elf(fault) => fault.notice(item),
             AsmFault::Place(fault) => place_notice(item, *fault),
             AsmFault::Reloc(section, fault) => reloc_notice(item, *section, *fault),
             AsmFault::Record(section, fault) => record_notice(item, *section, *fault),
