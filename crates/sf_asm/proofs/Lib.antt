@@ -1,4 +1,6 @@
 pub mod Kept
+pub mod StoredRows
+pub mod Heads
 pub mod KeptRows
 pub mod Overlaps
 pub mod ReadFunctions

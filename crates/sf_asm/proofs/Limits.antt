@@ -8,7 +8,7 @@ use Rattle.sf_asm.specs.declared.entry.Entry.{Entry}
 use Rattle.sf_asm.specs.declared.fault.GatherFault.{GatherFault}
 use Rattle.sf_asm.specs.declared.fault.GatherFault.TheVariants as gather
 use Rattle.sf_asm.specs.Linking.{limits_fault}
-use Rattle.sf_asm.specs.Order.{entry_rows, rows_of}
+use Rattle.sf_asm.specs.Order.{entry_rows}
 
 abbrev by_tests : (functions rows : Bool) → Option GatherFault
 by_tests functions rows = cond functions (Some gather.TooManyFunctions) (cond rows (Some gather.TooManyRows) None)
@@ -27,16 +27,15 @@ pub within_limits : (entries : List Entry) → length entries ≤ 2 ^ 21 → sum
 within_limits entries few small = tested entries false false (le-ltb (2 ^ 21) (length entries) few) (le-ltb (2 ^ 24) (sum_by entry_rows entries) small)
 
 -- ---- sums of rows so far
-pub more_rows : (entries : List Entry) (i : ℕ) (entry : Entry) → i < length entries → entry ≡ get_or entries i entry → sum_by entry_rows (take i entries) + rows_of entry.outcome ≤ sum_by entry_rows entries
-more_rows entries i entry lt e =
-    let whole = sum_by-take-drop entry_rows entries i in
-    let left : drop i entries ≡ get_or entries i entry ∷ drop (suc i) entries = drop-cons entries i entry lt in
-    let sum : sum_by entry_rows (drop i entries) ≡ entry_rows (get_or entries i entry) + sum_by entry_rows (drop (suc i) entries) = ap (sum_by entry_rows) left ∙ sum_by-cons entry_rows (get_or entries i entry) (drop (suc i) entries) in
-    let one : entry_rows entry ≡ entry_rows (get_or entries i entry) = ap entry_rows e in
-    omega (arith, whole, sum, one)
+pub more_rows : {X : Type 0} (count : X → ℕ) (xs : List X) (i n : ℕ) (d : X) → i < length xs → n ≡ count (get_or xs i d) → sum_by count (take i xs) + n ≤ sum_by count xs
+more_rows count xs i n d lt e =
+    let whole = sum_by-take-drop count xs i in
+    let left : drop i xs ≡ get_or xs i d ∷ drop (suc i) xs = drop-cons xs i d lt in
+    let sum : sum_by count (drop i xs) ≡ count (get_or xs i d) + sum_by count (drop (suc i) xs) = ap (sum_by count) left ∙ sum_by-cons count (get_or xs i d) (drop (suc i) xs) in
+    omega (arith, whole, sum, e)
 
-pub all_rows : (entries : List Entry) (i : ℕ) → length entries ≤ i → sum_by entry_rows (take i entries) ≡ sum_by entry_rows entries
-all_rows entries i le = ap (sum_by entry_rows) (take_all i entries le)
+pub all_rows : {X : Type 0} (count : X → ℕ) (xs : List X) (i : ℕ) → length xs ≤ i → sum_by count (take i xs) ≡ sum_by count xs
+all_rows count xs i le = ap (sum_by count) (take_all i xs le)
 
 -- and back
 functions_within : (entries : List Entry) (b : Bool) → nat_lt (2 ^ 21) (length entries) ≡ b → limits_fault entries ≡ None → b ≡ false

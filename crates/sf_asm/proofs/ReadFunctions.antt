@@ -1,6 +1,6 @@
 -- What was read is what the definitions of functions come to.
 use Rattle.std.proofs.Math.Seq.{drop-cons}
-use Rattle.std.proofs.Common.{◌≡◌, ℕ, suc, ◌<◌, length, drop, get_or, Bool, true, false, cond, List, [], ◌∷◌, ◌++◌, map, Option, Some, None, Result, Ok, Err, refl, sym, ap, ◌∙◌, append_assoc}
+use Rattle.std.proofs.Common.{◌≡◌, ℕ, suc, ◌<◌, length, drop, get_or, Bool, true, false, cond, List, [], ◌∷◌, ◌++◌, map, Option, Some, None, Result, Ok, Err, refl, sym, ap, ◌∙◌, append_assoc, inl, inr}
 use Rattle.std.proofs.lemmas.List.{append-nil, map-append}
 use Rattle.sf_model.specs.declared.machine.Arch.{Arch}
 use Rattle.cfa_insn.specs.Listing.{listing}
@@ -21,7 +21,7 @@ use Rattle.sf_asm.specs.declared.entry.Entry.{Entry}
 use Rattle.sf_asm.specs.declared.entry.Outcome.{Outcome}
 use Rattle.sf_asm.specs.declared.fault.AsmFault.{AsmFault}
 use Rattle.sf_asm.specs.declared.fault.AsmFault.TheVariants as asm
-use Rattle.sf_asm.specs.Answers.{after_read, seen_as}
+use Rattle.sf_asm.specs.Answers.{ReadsMore, after_read, seen_as}
 use Rattle.sf_asm.specs.Functions.{◌>>=◌, Function, CallFrames, named, unless, span_in, fault_in, function_at, function_in, functions_in, section_functions, sections_functions}
 use Rattle.sf_asm.specs.Relocated.{Values, on_pointers, patched_values, pointer_check}
 use Rattle.sf_asm.specs.Kept.{full_row, says_of, facts_of, outcome_by, entry_of}
@@ -202,10 +202,15 @@ pub none_left : {X : Type 0} (view : List Function → List X) → IsListwise vi
 none_left {X} view parts arch item before = ap (λ (xs : List X). Ok (before ++ xs)) parts.none ∙ ap Ok (append-nil before)
 
 -- of one section
-pub alone : {X : Type 0} (view : List Function → List X) → IsListwise view → (arch : Arch) (item : ℕ) (s : CallFrames) (after : List X) → after_read [] (seen_as view (section_functions arch item s)) ≡ Ok after
-    → seen_as view (sections_functions arch item (s ∷ [])) ≡ Ok after
-alone view parts arch item s after e =
-    sym (from_none (seen_as view (sections_functions arch item (s ∷ [])))) ∙ section_read view parts arch item s [] [] after e ∙ none_left view parts arch item after
+pub alone : {X : Type 0} (view : List Function → List X) → IsListwise view → (arch : Arch) (item : ℕ) (s : CallFrames) (before after : List X) → after_read before (seen_as view (section_functions arch item s)) ≡ Ok after
+    → after_read before (seen_as view (sections_functions arch item (s ∷ []))) ≡ Ok after
+alone view parts arch item s before after e = section_read view parts arch item s [] before after e ∙ none_left view parts arch item after
+
+pub reads_alone : {X : Type 0} (arch : Arch) (item : ℕ) (s : CallFrames) (before after : List Entry) (result : Result X AsmFault) → ReadsMore result before after (section_functions arch item s)
+    → ReadsMore result before after (sections_functions arch item (s ∷ []))
+reads_alone arch item s before after (Ok x) h = alone (map entry_of) entries_listwise arch item s before after h
+reads_alone arch item s before after (Err fault) (inl wanting) = inl wanting
+reads_alone arch item s before after (Err fault) (inr e) = inr (section_refused arch item s [] fault e)
 
 -- the sections from a number on
 pub sections_more : {X : Type 0} (view : List Function → List X) → IsListwise view → (arch : Arch) (item : ℕ) (section : ℕ → CallFrames) (numbers : List ℕ) (k d : ℕ) (before after : List X) → k < length numbers
@@ -215,11 +220,10 @@ sections_more view parts arch item section numbers k d before after within e =
     ap (λ (xs : List ℕ). after_read before (seen_as view (sections_functions arch item (map section xs)))) (drop-cons numbers k d within)
     ∙ section_read view parts arch item (section (get_or numbers k d)) (map section (drop (suc k) numbers)) before after e
 
-pub sections_end : (arch : Arch) (item : ℕ) (section : ℕ → CallFrames) (numbers : List ℕ) (k d : ℕ) (before : List Entry) (fault : AsmFault) (given : Result (List Function) AsmFault) → k < length numbers
+pub sections_end : (arch : Arch) (item : ℕ) (section : ℕ → CallFrames) (numbers : List ℕ) (k d : ℕ) (first before : List Entry) (fault : AsmFault) (given : Result (List Function) AsmFault) → k < length numbers
     → section_functions arch item (section (get_or numbers k d)) ≡ Err fault
-    → after_read before (seen_as (map entry_of) (sections_functions arch item (map section (drop k numbers)))) ≡ seen_as (map entry_of) given → given ≡ Err fault
-sections_end arch item section numbers k d before fault given within e h =
-    refused_unseen [] given fault
-    (from_none (seen_as (map entry_of) given) ∙ sym h
-    ∙ ap (λ (xs : List ℕ). after_read before (seen_as (map entry_of) (sections_functions arch item (map section xs)))) (drop-cons numbers k d within)
+    → after_read before (seen_as (map entry_of) (sections_functions arch item (map section (drop k numbers)))) ≡ after_read first (seen_as (map entry_of) given) → given ≡ Err fault
+sections_end arch item section numbers k d first before fault given within e h =
+    refused_unseen first given fault
+    (sym h ∙ ap (λ (xs : List ℕ). after_read before (seen_as (map entry_of) (sections_functions arch item (map section xs)))) (drop-cons numbers k d within)
     ∙ ap (λ (r : Result (List Function) AsmFault). after_read before (seen_as (map entry_of) r)) (section_refused arch item (section (get_or numbers k d)) (map section (drop (suc k) numbers)) fault e))

@@ -49,13 +49,13 @@ starts set item objects h = record {
   lends = from_none (seen_as omitted_functions (functions_of item objects));
 }
 
-one_and_left : {X : Type 0} (view : List Function → List X) → IsListwise view → (before more : List X) (item : ℕ) (one : Result (List Function) AsmFault) (left : Result (List Function) GatherFault) → seen_as view one ≡ Ok more
-    → after_read before (seen_as view (named (gather.Input item) one >>= λ fs. left >>= λ gs. Ok (fs ++ gs))) ≡ after_read (before ++ more) (seen_as view left)
-one_and_left {X} view parts before more item (Ok fs) (Ok gs) e =
-    let is : view fs ≡ more = cc in
-    ap Ok (ap (λ (xs : List X). before ++ xs) (parts.both fs gs) ∙ sym (append_assoc before (view fs) (view gs)) ∙ ap (λ (xs : List X). (before ++ xs) ++ view gs) is)
-one_and_left view parts before more item (Ok fs) (Err fault) e = refl
-one_and_left view parts before more item (Err fault) left e = cc
+one_and_left : {X : Type 0} (view : List Function → List X) → IsListwise view → (before after : List X) (item : ℕ) (one : Result (List Function) AsmFault) (left : Result (List Function) GatherFault) → after_read before (seen_as view one) ≡ Ok after
+    → after_read before (seen_as view (named (gather.Input item) one >>= λ fs. left >>= λ gs. Ok (fs ++ gs))) ≡ after_read after (seen_as view left)
+one_and_left {X} view parts before after item (Ok fs) (Ok gs) e =
+    let is : before ++ view fs ≡ after = cc in
+    ap Ok (ap (λ (xs : List X). before ++ xs) (parts.both fs gs) ∙ sym (append_assoc before (view fs) (view gs)) ∙ ap (λ (xs : List X). xs ++ view gs) is)
+one_and_left view parts before after item (Ok fs) (Err fault) e = refl
+one_and_left view parts before after item (Err fault) left e = cc
 
 pub functions_after-cons : (seen : List (List ℕ)) (item : ℕ) (object : Object) (left : List Object)
     → functions_after seen item (object ∷ left) ≡ (named (gather.Input item) (object_functions item seen object) >>= λ fs. functions_after (seen_behind seen object) (item + 1) left >>= λ gs. Ok (fs ++ gs))
@@ -66,13 +66,14 @@ pub functions_after-nil : (seen : List (List ℕ)) (item : ℕ) → functions_af
 unfolding functions_after
 functions_after-nil seen item = refl
 
-pub goes_on : (set set' : Seen) (entries more : List Entry) (lent lent' : List Function) (item : ℕ) (object : Object) (left : List Object) (given : Result (List Function) GatherFault) → IsReadUpTo set entries lent item (object ∷ left) given
-    → ((signatures : List (List ℕ)) → HasSeen set signatures → seen_as (map entry_of) (object_functions item signatures object) ≡ Ok more) → ((signatures : List (List ℕ)) → HasSeen set signatures → seen_as omitted_functions (object_functions item signatures object) ≡ Ok lent')
-    → ((signatures : List (List ℕ)) → HasSeen set signatures → HasSeen set' (seen_behind signatures object)) → IsReadUpTo set' (entries ++ more) (lent ++ lent') (item + 1) left given
-goes_on set set' entries more lent lent' item object left given h reads lends sees = record {
+pub goes_on : (set set' : Seen) (entries entries' : List Entry) (lent lent' : List Function) (item : ℕ) (object : Object) (left : List Object) (given : Result (List Function) GatherFault) → IsReadUpTo set entries lent item (object ∷ left) given
+    → ((signatures : List (List ℕ)) → HasSeen set signatures → after_read entries (seen_as (map entry_of) (object_functions item signatures object)) ≡ Ok entries')
+    → ((signatures : List (List ℕ)) → HasSeen set signatures → after_read lent (seen_as omitted_functions (object_functions item signatures object)) ≡ Ok lent')
+    → ((signatures : List (List ℕ)) → HasSeen set signatures → HasSeen set' (seen_behind signatures object)) → IsReadUpTo set' entries' lent' (item + 1) left given
+goes_on set set' entries entries' lent lent' item object left given h reads lends sees = record {
   seen = seen_behind h.seen object;
   has = sees h.seen h.has;
-  reads = sym (one_and_left (map entry_of) entries_listwise entries more item (object_functions item h.seen object) (functions_after (seen_behind h.seen object) (item + 1) left) (reads h.seen h.has))
+  reads = sym (one_and_left (map entry_of) entries_listwise entries entries' item (object_functions item h.seen object) (functions_after (seen_behind h.seen object) (item + 1) left) (reads h.seen h.has))
       ∙ ap (λ (r : Result (List Function) GatherFault). after_read entries (seen_as (map entry_of) r)) (sym (functions_after-cons h.seen item object left)) ∙ h.reads;
   lends = sym (one_and_left omitted_functions omitted_listwise lent lent' item (object_functions item h.seen object) (functions_after (seen_behind h.seen object) (item + 1) left) (lends h.seen h.has))
       ∙ ap (λ (r : Result (List Function) GatherFault). after_read lent (seen_as omitted_functions r)) (sym (functions_after-cons h.seen item object left)) ∙ h.lends;
@@ -103,14 +104,14 @@ ends set entries lent item given h = (
 left_is : (inputs : List Input) (k : ℕ) (d : Input) → k < length inputs → map object_of (drop k inputs) ≡ object_of (get_or inputs k d) ∷ map object_of (drop (k + 1) inputs)
 left_is inputs k d lt = ap (map object_of) (drop-cons inputs k d lt) ∙ ap (λ (n : ℕ). object_of (get_or inputs k d) ∷ map object_of (drop n inputs)) (sym (add-one k))
 
-pub goes_on_at : (set set' : Seen) (entries more : List Entry) (lent lent' : List Function) (first k : ℕ) (inputs : List Input) (d : Input) (given : Result (List Function) GatherFault) → k < length inputs
+pub goes_on_at : (set set' : Seen) (entries entries' : List Entry) (lent lent' : List Function) (first k : ℕ) (inputs : List Input) (d : Input) (given : Result (List Function) GatherFault) → k < length inputs
     → IsReadUpTo set entries lent (first + k) (map object_of (drop k inputs)) given
-    → ((signatures : List (List ℕ)) → HasSeen set signatures → seen_as (map entry_of) (object_functions (first + k) signatures (object_of (get_or inputs k d))) ≡ Ok more)
-    → ((signatures : List (List ℕ)) → HasSeen set signatures → seen_as omitted_functions (object_functions (first + k) signatures (object_of (get_or inputs k d))) ≡ Ok lent')
-    → ((signatures : List (List ℕ)) → HasSeen set signatures → HasSeen set' (seen_behind signatures (object_of (get_or inputs k d)))) → IsReadUpTo set' (entries ++ more) (lent ++ lent') (first + (k + 1)) (map object_of (drop (k + 1) inputs)) given
-goes_on_at set set' entries more lent lent' first k inputs d given lt h reads lends sees =
-    subst (λ (item : ℕ). IsReadUpTo set' (entries ++ more) (lent ++ lent') item (map object_of (drop (k + 1) inputs)) given) (omega arith)
-    (goes_on set set' entries more lent lent' (first + k) (object_of (get_or inputs k d)) (map object_of (drop (k + 1) inputs)) given
+    → ((signatures : List (List ℕ)) → HasSeen set signatures → after_read entries (seen_as (map entry_of) (object_functions (first + k) signatures (object_of (get_or inputs k d)))) ≡ Ok entries')
+    → ((signatures : List (List ℕ)) → HasSeen set signatures → after_read lent (seen_as omitted_functions (object_functions (first + k) signatures (object_of (get_or inputs k d)))) ≡ Ok lent')
+    → ((signatures : List (List ℕ)) → HasSeen set signatures → HasSeen set' (seen_behind signatures (object_of (get_or inputs k d)))) → IsReadUpTo set' entries' lent' (first + (k + 1)) (map object_of (drop (k + 1) inputs)) given
+goes_on_at set set' entries entries' lent lent' first k inputs d given lt h reads lends sees =
+    subst (λ (item : ℕ). IsReadUpTo set' entries' lent' item (map object_of (drop (k + 1) inputs)) given) (omega arith)
+    (goes_on set set' entries entries' lent lent' (first + k) (object_of (get_or inputs k d)) (map object_of (drop (k + 1) inputs)) given
     (subst (λ (left : List Object). IsReadUpTo set entries lent (first + k) left given) (left_is inputs k d lt) h) reads lends sees)
 
 pub stops_at : (set : Seen) (entries : List Entry) (lent : List Function) (first k : ℕ) (inputs : List Input) (d : Input) (given : Result (List Function) GatherFault) (fault : GatherFault) → k < length inputs

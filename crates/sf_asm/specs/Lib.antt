@@ -1,4 +1,5 @@
 pub mod Entry
+pub mod Heads
 pub mod Fault
 pub mod Order
 pub mod Groups

@@ -9,7 +9,7 @@ use crate::fault::{GatherFault, LinkFault};
 use crate::gathering::gather_together;
 use crate::input::Input;
 use sf_model::Omitted;
-use sf_write::{WriteFault, write};
+use sf_write::{WriteFault, write_stored};
 use std::alloc::Global;
 
 /// A section, and what it holds.
@@ -42,7 +42,7 @@ pub fn assemble(alloc: Global, input: &Input<'_>, at: u64) -> Result<Linked, Lin
         Err(GatherFault::NoMemory) => return Err(LinkFault::NoMemory),
         Err(fault) => return Err(LinkFault::Gather(fault)),
     };
-    match write(alloc, gathered.arch, at, &gathered.kept) {
+    match write_stored(alloc, gathered.arch, at, &gathered.rows, &gathered.kept) {
         Ok(section) => Ok(Linked {
             section,
             kept: gathered.kept.len() as u32,

@@ -7,7 +7,7 @@ ghost use Rattle.elf_read.specs.Views.{file};
 ghost use Rattle.elf_place.specs.Place.{place_check};
 ghost use Rattle.elf_place.specs.Views as placed_views;
 ghost use Rattle.elf_reloc.specs.Reading.{section_address};
-ghost use Rattle.sf_asm.specs.Answers.{LendsAll, ReadsAll};
+ghost use Rattle.sf_asm.specs.Answers.{LendsMore, ReadsMore};
 ghost use Rattle.sf_asm.specs.declared.fault.AsmFault.TheVariants as asm;
 ghost use Rattle.sf_model.specs.declared.form.Form.TheVariants as Form;
 ghost use Rattle.sf_asm.specs.Entry.{IsSound};
@@ -19,10 +19,10 @@ ghost use Rattle.sf_asm.specs.Sections.{dropped_after, linked_check, placed_sect
 ghost use Rattle.sf_asm.specs.Seen.{HasSeen};
 ghost use Rattle.sf_asm.specs.Sources.{functions_lent};
 
-use crate::entry::Read;
 use crate::fault::AsmFault;
 use crate::frames::CallFrameSection;
 use crate::groups::Seen;
+use crate::read::Read;
 use crate::section::read_section;
 use elf_place::{PlaceFault, Placed};
 use elf_read::{Elf, ElfFault, Kind};
@@ -100,44 +100,45 @@ fn frames_at<'a>(arch: Arch, item: u32, placed: &Placed<'a>, number: u32) -> Cal
     }
 }
 
-/// The functions of all call frame sections of a placed file.
+/// The functions of all call frame sections of a placed file, after those that were read before.
 fn read_sections<'a>(
     alloc: Global,
     arch: Arch,
     item: u32,
     placed: &Placed<'a>,
-) -> Result<Read<'a>, AsmFault>
-    ensures exact { ReadsAll (λ read. read.entries.items) result (sections_functions arch item (map (placed_section (placed_views.placing placed.now) (placed_views.shift_in placed.now)) (placed_views.eh_frames placed.now))) }
-    ensures lent { IfOk result (λ read. LendsAll (functions_lent read.sources.items) (sections_functions arch item (map (placed_section (placed_views.placing placed.now) (placed_views.shift_in placed.now)) (placed_views.eh_frames placed.now)))) }
-    ensures arch { IfOk result (λ read. read.arch ≡ arch) }
-    ensures sound { IfOk result (λ read. All (IsSound arch) read.entries.items) }
+    read: &mut Read<'a>,
+) -> Result<(), AsmFault>
+    ensures exact { ReadsMore result read.old.entries read.new.entries (sections_functions arch item (map (placed_section (placed_views.placing placed.now) (placed_views.shift_in placed.now)) (placed_views.eh_frames placed.now))) }
+    ensures lent { OnOk result (LendsMore (functions_lent read.old.sources.items) (functions_lent read.new.sources.items) (sections_functions arch item (map (placed_section (placed_views.placing placed.now) (placed_views.shift_in placed.now)) (placed_views.eh_frames placed.now)))) }
+    ensures sound { OnOk result (All (IsSound arch) read.old.entries → All (IsSound arch) read.new.entries) }
 {
-    let mut read = Read::new(alloc, arch);
     let numbers = placed.eh_frames();
     for number in numbers {
         let section = frames_at(arch, item, placed, *number);
-        read_section(alloc, &section, Some(placed), &mut read)?;
+        read_section(alloc, &section, Some(placed), read)?;
     }
-    Ok(read)
+    Ok(())
 }
 
-/// The functions of a file that is loaded at `base`, in the order of its sections and records. The
-/// signatures of its groups are seen from now on.
+/// Reads the functions of a file that is loaded at `base`, in the order of its sections and records, after
+/// those that were read before, and returns its machine. The signatures of its groups are seen from now on.
 pub fn read_elf<'a>(
     alloc: Global,
     item: u32,
     bytes: &'a [u8],
     base: u64,
     seen: &mut Seen<'a>,
-) -> Result<Read<'a>, AsmFault>
+    read: &mut Read<'a>,
+) -> Result<Arch, AsmFault>
     requires { length bytes.now < 2 ^ 32 }
-    ensures exact { (signatures : List (List ℕ)) → HasSeen seen.old signatures → ReadsAll (λ read. read.entries.items) result (object_functions item signatures (record { form = Form.Elf; bytes = bytes.now; base = base })) }
-    ensures lent { IfOk result (λ read. (signatures : List (List ℕ)) → HasSeen seen.old signatures → LendsAll (functions_lent read.sources.items) (object_functions item signatures (record { form = Form.Elf; bytes = bytes.now; base = base }))) }
+    ensures exact { (signatures : List (List ℕ)) → HasSeen seen.old signatures → ReadsMore result read.old.entries read.new.entries (object_functions item signatures (record { form = Form.Elf; bytes = bytes.now; base = base })) }
+    ensures lent { OnOk result ((signatures : List (List ℕ)) → HasSeen seen.old signatures → LendsMore (functions_lent read.old.sources.items) (functions_lent read.new.sources.items) (object_functions item signatures (record { form = Form.Elf; bytes = bytes.now; base = base }))) }
     ensures seen { OnOk result ((signatures : List (List ℕ)) → HasSeen seen.old signatures → HasSeen seen.new (seen_after signatures bytes.now)) }
-    ensures arch { IfOk result (λ read. read.arch ≡ head.arch_of bytes.now) }
-    ensures sound { IfOk result (λ read. All (IsSound read.arch) read.entries.items) }
+    ensures arch { IfOk result (λ arch. arch ≡ head.arch_of bytes.now) }
+    ensures sound { IfOk result (λ arch. All (IsSound arch) read.old.entries → All (IsSound arch) read.new.entries) }
 {
     let elf = parse(bytes)?;
     let placed = place(alloc, &elf, base, seen)?;
-    read_sections(alloc, elf.arch(), item, &placed)
+    read_sections(alloc, elf.arch(), item, &placed, read)?;
+    Ok(elf.arch())
 }

@@ -11,16 +11,20 @@ ghost use Rattle.sf_asm.specs.Answers.{AreGathered, AreTogether, IsFirstGathered
 ghost use Rattle.sf_asm.specs.Functions.{functions_of, object_of, unless};
 ghost use Rattle.sf_asm.specs.Inputs.{HaveMachine, first_item as item_of_first};
 ghost use Rattle.sf_asm.specs.Linking.{Gathers, InOrder, functions_fault, limits_fault, overlap_fault, overlap_in, overlap_with};
-ghost use Rattle.sf_asm.specs.Order.{rows_of};
+ghost use Rattle.sf_asm.specs.Heads.{count_in, left_of, stored_of};
 ghost use Rattle.sf_asm.specs.Sources.{AreWithSources, functions_lent, source_start};
 ghost use Rattle.sf_asm.specs.Fault.{is_gather_answered};
+ghost use Rattle.sf_write.specs.Stored.{IsStored, stored_in};
 
-use crate::entry::{Entry, Outcome, Read};
+use crate::entries::Entries;
+use crate::entry::{Entry, Head, Outcome, StoredOutcome};
 use crate::fault::GatherFault;
 use crate::input::Input;
 use crate::inputs::{one_machine, read_all};
+use crate::read::{AllFunctions, Read};
 use crate::source::Source;
 use sf_model::{Arch, Func, Omitted, Span};
+use sf_write::{StoredFunction, StoredRows};
 use std::alloc::{AllocError, Global};
 
 /// The most functions of one run, omitted ones included.
@@ -47,8 +51,10 @@ pub struct Gathered {
 pub struct Together {
     /// The machine of all inputs.
     pub arch: Arch,
+    /// The rows of these functions.
+    pub rows: StoredRows,
     /// The functions that SFrame can express, by rising start.
-    pub kept: Vec<Func>,
+    pub kept: Vec<StoredFunction>,
     /// The functions that it can't, by start and then origin.
     pub omitted: Vec<Omitted>,
 }
@@ -67,16 +73,26 @@ pub struct WithSources<'a> {
     pub sources: Vec<Source<'a>>,
 }
 
+/// The functions of all inputs, in order.
+#[derive(Drop)]
+struct ReadInOrder<'a> {
+    arch: Arch,
+    entries: Entries,
+    /// Those of them that are left out, as their records say them, in the order of the inputs.
+    sources: Vec<Source<'a>>,
+}
+
 /// Tries the limits: functions first, then rows.
-fn check_limits(entries: &[Entry]) -> Result<(), GatherFault>
+fn check_limits(entries: &Entries) -> Result<(), GatherFault>
     ensures { result ≡ unless (limits_fault entries.now) }
 {
-    if entries.len() > FUNCTION_LIMIT {
+    let heads = entries.heads();
+    if heads.len() > FUNCTION_LIMIT {
         return Err(GatherFault::TooManyFunctions);
     }
     let mut total = 0usize;
-    for entry in entries {
-        let count = row_count(&entry.outcome);
+    for head in heads {
+        let count = row_count(&head.outcome);
         if count > ROW_LIMIT - total {
             return Err(GatherFault::TooManyRows);
         }
@@ -85,14 +101,14 @@ fn check_limits(entries: &[Entry]) -> Result<(), GatherFault>
     Ok(())
 }
 
-/// The rows of a kept function.
+/// The number of a kept function's rows.
 #[inline(always)]
-fn row_count(outcome: &Outcome) -> usize
-    ensures { result ≡ rows_of outcome.now }
+fn row_count(outcome: &StoredOutcome) -> usize
+    ensures { result ≡ count_in outcome.now }
 {
     match outcome {
-        Outcome::Kept(func) => func.rows.as_slice().len(),
-        Outcome::Left(_) => 0,
+        StoredOutcome::Kept(function) => function.head.rows as usize,
+        StoredOutcome::Left(_) => 0,
     }
 }
 
@@ -114,37 +130,28 @@ fn overlap_of(before: Option<Span>, span: Span) -> Option<GatherFault>
 }
 
 /// Tries each function that has bytes against the one before it.
-fn check_overlap(entries: &[Entry]) -> Result<(), GatherFault>
+fn check_overlap(entries: &Entries) -> Result<(), GatherFault>
     ensures { result ≡ unless (option_map overlap_fault (overlap_in (spans_of entries.now))) }
 {
     let mut before = None;
-    for entry in entries {
-        if entry.span.size == 0 {
+    for head in entries.heads() {
+        if head.span.size == 0 {
             continue;
         }
-        if let Some(fault) = overlap_of(before, entry.span) {
+        if let Some(fault) = overlap_of(before, head.span) {
             return Err(fault);
         }
-        before = Some(entry.span);
+        before = Some(head.span);
     }
     Ok(())
 }
 
 /// Tries the limits, and then overlaps.
-fn check(entries: &[Entry]) -> Result<(), GatherFault>
+fn check(entries: &Entries) -> Result<(), GatherFault>
     ensures { result ≡ unless (functions_fault entries.now) }
 {
     check_limits(entries)?;
     check_overlap(entries)
-}
-
-/// Brings functions into order by their starts. Those with one start stay in order.
-fn order(entries: &mut Vec<Entry>) -> Result<(), GatherFault>
-    ensures order { OnOk result (InOrder entries.old.items entries.new.items) }
-    ensures refused { IfErr result (λ fault. fault ≡ NoMemory) }
-{
-    entries.sort_by_key(|entry| entry.span.start)?;
-    Ok(())
 }
 
 /// The functions of all inputs, in order.
@@ -152,24 +159,28 @@ fn ordered<'a>(
     alloc: Global,
     inputs: &[Input<'a>],
     before: Option<Arch>,
-) -> Result<Read<'a>, GatherFault>
+) -> Result<ReadInOrder<'a>, GatherFault>
     requires some { (0 < length inputs.now) × (length inputs.now ≤ 512) }
     requires small { All (λ input. length input.bytes.now < 2 ^ 32) inputs.now }
-    ensures gathered { IfOk result (λ read. Gathers before (map object_of inputs.now) (Ok read.entries.items)) }
+    ensures gathered { IfOk result (λ read. Gathers before (map object_of inputs.now) (Ok read.entries)) }
     ensures lent { IfOk result (λ read. LendsAll (functions_lent read.sources.items) (functions_of (item_of_first before) (map object_of inputs.now))) }
     ensures machine { IfOk result (λ read. HaveMachine before (map object_of inputs.now) read.arch) }
-    ensures sound { IfOk result (λ read. All (IsSound read.arch) read.entries.items) }
-    ensures checked { IfOk result (λ read. functions_fault read.entries.items ≡ None) }
+    ensures sound { IfOk result (λ read. All (IsSound read.arch) read.entries) }
+    ensures checked { IfOk result (λ read. functions_fault read.entries ≡ None) }
     ensures fault { IfErr result (IsFirstGathered before (map object_of inputs.now)) }
 {
-    let mut all = read_all(alloc, first_item(before), inputs)?;
-    let arch = one_machine(before, &all.machines)?;
-    order(&mut all.entries)?;
-    check(&all.entries)?;
-    Ok(Read {
+    let AllFunctions { machines, read } = read_all(alloc, first_item(before), inputs)?;
+    let arch = one_machine(before, &machines)?;
+    let Read {
+        mut entries,
+        sources,
+    } = read;
+    entries.order()?;
+    check(&entries)?;
+    Ok(ReadInOrder {
         arch,
-        entries: all.entries,
-        sources: all.sources,
+        entries,
+        sources,
     })
 }
 
@@ -184,21 +195,17 @@ fn first_item(before: Option<Arch>) -> u32
 }
 
 /// The kept and the omitted functions, both in the order of all.
-fn kept_and_omitted(alloc: Global, arch: Arch, entries: Vec<Entry>) -> Result<Together, AllocError>
-    ensures arch { IfOk result (λ g. g.arch ≡ arch) }
-    ensures kept { IfOk result (λ g. g.kept.items ≡ kept_of entries.items) }
-    ensures omitted { IfOk result (λ g. g.omitted.items ≡ omitted_of entries.items) }
+fn part(alloc: Global, heads: Vec<Head>) -> Result<(Vec<StoredFunction>, Vec<Omitted>), AllocError>
+    ensures kept { IfOk result (λ parts. parts.0.items ≡ stored_of heads.items) }
+    ensures omitted { IfOk result (λ parts. parts.1.items ≡ left_of heads.items) }
 {
-    let mut together = Together {
-        arch,
-        kept: Vec::new(alloc),
-        omitted: Vec::new(alloc),
-    };
-    for entry in entries {
-        let Entry { span, outcome } = entry;
+    let mut kept = Vec::new(alloc);
+    let mut omitted = Vec::new(alloc);
+    for head in heads {
+        let Head { span, outcome } = head;
         match outcome {
-            Outcome::Kept(func) => together.kept.push(func)?,
-            Outcome::Left(omission) => together.omitted.push(Omitted {
+            StoredOutcome::Kept(function) => kept.push(function)?,
+            StoredOutcome::Left(omission) => omitted.push(Omitted {
                 start: span.start,
                 size: span.size,
                 origin: span.origin,
@@ -206,10 +213,28 @@ fn kept_and_omitted(alloc: Global, arch: Arch, entries: Vec<Entry>) -> Result<To
             })?,
         }
     }
-    Ok(together)
+    Ok((kept, omitted))
 }
 
-/// Gathers the functions of 1 to 512 inputs as [`gather`] does, into one list by rising start.
+/// The functions of one machine, kept ones apart from omitted ones.
+fn kept_and_omitted(alloc: Global, arch: Arch, entries: Entries) -> Result<Together, AllocError>
+    ensures arch { IfOk result (λ t. t.arch ≡ arch) }
+    ensures stored { IfOk result (λ t. All (IsStored t.rows) t.kept.items) }
+    ensures kept { IfOk result (λ t. map (stored_in t.rows) t.kept.items ≡ kept_of entries) }
+    ensures omitted { IfOk result (λ t. t.omitted.items ≡ omitted_of entries) }
+{
+    let (heads, rows) = entries.into_parts();
+    let (kept, omitted) = part(alloc, heads)?;
+    Ok(Together {
+        arch,
+        rows,
+        kept,
+        omitted,
+    })
+}
+
+/// Gathers the functions of 1 to 512 inputs as [`gather`] does, into one list by rising start. The rows of all
+/// stand in one list, too.
 ///
 /// # Errors
 ///
@@ -222,7 +247,9 @@ pub fn gather_together(
     requires some { (0 < length inputs.now) × (length inputs.now ≤ 512) }
     requires small { All (λ input. length input.bytes.now < 2 ^ 32) inputs.now }
     // The functions are those of the inputs by rising start, and one section can hold them.
-    ensures gathered { IfOk result (λ g. AreTogether before (map object_of inputs.now) g.arch g.kept.items g.omitted.items) }
+    ensures gathered { IfOk result (λ g. AreTogether before (map object_of inputs.now) g.arch (map (stored_in g.rows) g.kept.items) g.omitted.items) }
+    // Their rows are those of the list.
+    ensures stored { IfOk result (λ g. All (IsStored g.rows) g.kept.items) }
     // It's the machine of all items.
     ensures machine { IfOk result (λ g. HaveMachine before (map object_of inputs.now) g.arch) }
     // A fault is the first one.
@@ -241,6 +268,22 @@ fn order_sources(sources: &mut Vec<Source<'_>>) -> Result<(), GatherFault>
 {
     sources.sort_by_key(|source| source.facts.start)?;
     Ok(())
+}
+
+/// The functions, each with a list of its rows.
+fn functions(
+    alloc: Global,
+    rows: &StoredRows,
+    kept: &[StoredFunction],
+) -> Result<Vec<Func>, AllocError>
+    requires { All (IsStored rows.now) kept.now }
+    ensures { IfOk result (λ functions. functions.items ≡ map (stored_in rows.now) kept.now) }
+{
+    let mut functions = Vec::with_capacity(alloc, kept.len())?;
+    for stored in kept {
+        functions.push(rows.function(alloc, stored)?)?;
+    }
+    Ok(functions)
 }
 
 /// Gathers the functions of 1 to 512 inputs as [`gather_together`] does, and lends those that are left out
@@ -270,7 +313,7 @@ pub fn gather_with_sources<'a>(
     let together = kept_and_omitted(alloc, read.arch, read.entries)?;
     Ok(WithSources {
         arch: together.arch,
-        kept: together.kept,
+        kept: functions(alloc, &together.rows, &together.kept)?,
         omitted: together.omitted,
         sources: read.sources,
     })
@@ -353,5 +396,6 @@ pub fn gather(
 {
     let read = ordered(alloc, inputs, before)?;
     let first = first_item(before);
-    Ok(sort_out(alloc, read.arch, first, inputs.len(), read.entries)?)
+    let entries = read.entries.with_rows(alloc)?;
+    Ok(sort_out(alloc, read.arch, first, inputs.len(), entries)?)
 }

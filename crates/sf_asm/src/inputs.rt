@@ -2,7 +2,7 @@
 
 ghost use Rattle.std.specs.Prelude.{◌≡◌, ◌⊎◌, ◌≤◌, ◌<◌, ◌^◌, ℕ, List, All, length, map, not, Ok, Err, IfOk, IfErr, OnOk, position};
 ghost use Rattle.sf_model.specs.declared.machine.Arch.{Arch as machine};
-ghost use Rattle.sf_asm.specs.Answers.{LendsAll, seen_as};
+ghost use Rattle.sf_asm.specs.Answers.{LendsAll, LendsMore, after_read, seen_as};
 ghost use Rattle.sf_asm.specs.Entry.{IsSound};
 ghost use Rattle.sf_asm.specs.declared.fault.GatherFault.TheVariants.{Input as RefusedInput, NoMemory};
 ghost use Rattle.sf_asm.specs.Fault.{wraps_input};
@@ -12,10 +12,10 @@ ghost use Rattle.sf_asm.specs.Kept.{entry_of};
 ghost use Rattle.sf_asm.specs.Seen.{HasSeen};
 ghost use Rattle.sf_asm.specs.Sources.{functions_lent};
 
-use crate::entry::{AllFunctions, Read};
 use crate::fault::{AsmFault, GatherFault};
 use crate::groups::Seen;
 use crate::input::Input;
+use crate::read::{AllFunctions, Read};
 use crate::reading::read_input;
 use sf_model::Arch;
 use std::alloc::Global;
@@ -30,23 +30,25 @@ fn input_fault(item: u32, fault: AsmFault) -> GatherFault
     }
 }
 
-/// The functions of one input, as they stand in it.
+/// Reads the functions of one input, as they stand in it, after those that were read before, and returns its
+/// machine.
 fn read_item<'a>(
     alloc: Global,
     item: u32,
     input: &Input<'a>,
     seen: &mut Seen<'a>,
-) -> Result<Read<'a>, GatherFault>
+    read: &mut Read<'a>,
+) -> Result<Arch, GatherFault>
     requires { length input.now.bytes.now < 2 ^ 32 }
-    ensures reads { IfOk result (λ read. (signatures : List (List ℕ)) → HasSeen seen.old signatures → seen_as (map entry_of) (object_functions item signatures (object_of input.now)) ≡ Ok read.entries.items) }
-    ensures lent { IfOk result (λ read. (signatures : List (List ℕ)) → HasSeen seen.old signatures → LendsAll (functions_lent read.sources.items) (object_functions item signatures (object_of input.now))) }
+    ensures reads { OnOk result ((signatures : List (List ℕ)) → HasSeen seen.old signatures → after_read read.old.entries (seen_as (map entry_of) (object_functions item signatures (object_of input.now))) ≡ Ok read.new.entries) }
+    ensures lent { OnOk result ((signatures : List (List ℕ)) → HasSeen seen.old signatures → LendsMore (functions_lent read.old.sources.items) (functions_lent read.new.sources.items) (object_functions item signatures (object_of input.now))) }
     ensures seen { OnOk result ((signatures : List (List ℕ)) → HasSeen seen.old signatures → HasSeen seen.new (seen_behind signatures (object_of input.now))) }
-    ensures arch { IfOk result (λ read. read.arch ≡ machine_of (object_of input.now)) }
-    ensures sound { IfOk result (λ read. All (IsSound read.arch) read.entries.items) }
+    ensures arch { IfOk result (λ arch. arch ≡ machine_of (object_of input.now)) }
+    ensures sound { IfOk result (λ arch. All (IsSound arch) read.old.entries → All (IsSound arch) read.new.entries) }
     ensures fault { IfErr result (λ fault. (signatures : List (List ℕ)) → HasSeen seen.old signatures → (fault ≡ NoMemory) ⊎ (named (RefusedInput item) (object_functions item signatures (object_of input.now)) ≡ Err fault)) }
 {
-    match read_input(alloc, item, input, seen) {
-        Ok(read) => Ok(read),
+    match read_input(alloc, item, input, seen, read) {
+        Ok(arch) => Ok(arch),
         Err(fault) => Err(input_fault(item, fault)),
     }
 }
@@ -60,23 +62,21 @@ pub fn read_all<'a>(
 ) -> Result<AllFunctions<'a>, GatherFault>
     requires few { (first ≤ 1) × (length inputs.now ≤ 512) }
     requires small { All (λ input. length input.bytes.now < 2 ^ 32) inputs.now }
-    ensures reads { IfOk result (λ read. seen_as (map entry_of) (functions_of first (map object_of inputs.now)) ≡ Ok read.entries.items) }
-    ensures lent { IfOk result (λ read. LendsAll (functions_lent read.sources.items) (functions_of first (map object_of inputs.now))) }
-    ensures machines { IfOk result (λ read. read.machines.items ≡ map machine_of (map object_of inputs.now)) }
-    ensures sound { IfOk result (λ read. (arch : machine) → All (λ machine. machine ≡ arch) read.machines.items → All (IsSound arch) read.entries.items) }
+    ensures reads { IfOk result (λ all. seen_as (map entry_of) (functions_of first (map object_of inputs.now)) ≡ Ok all.read.entries) }
+    ensures lent { IfOk result (λ all. LendsAll (functions_lent all.read.sources.items) (functions_of first (map object_of inputs.now))) }
+    ensures machines { IfOk result (λ all. all.machines.items ≡ map machine_of (map object_of inputs.now)) }
+    ensures sound { IfOk result (λ all. (arch : machine) → All (λ machine. machine ≡ arch) all.machines.items → All (IsSound arch) all.read.entries) }
     ensures fault { IfErr result (λ fault. (fault ≡ NoMemory) ⊎ (functions_of first (map object_of inputs.now) ≡ Err fault)) }
 {
     let mut seen = Seen::new(alloc);
     let mut all = AllFunctions {
         machines: Vec::new(alloc),
-        entries: Vec::new(alloc),
-        sources: Vec::new(alloc),
+        read: Read::new(alloc),
     };
     for (index, input) in inputs.iter().enumerate() {
-        let mut read = read_item(alloc, first + index as u32, input, &mut seen)?;
-        all.machines.push(read.arch)?;
-        all.entries.append(&mut read.entries)?;
-        all.sources.append(&mut read.sources)?;
+        let item = first + index as u32;
+        let arch = read_item(alloc, item, input, &mut seen, &mut all.read)?;
+        all.machines.push(arch)?;
     }
     Ok(all)
 }

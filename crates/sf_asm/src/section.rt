@@ -28,18 +28,19 @@ ghost use Rattle.sf_asm.specs.Relocated.{pointer_check};
 ghost use Rattle.sf_asm.specs.Sources.{function_by_facts, functions_lent, source_function};
 ghost use Rattle.sf_asm.specs.Views.{AreChecked, IsReadFrom, overlaid, relocations_by, seen_section, written_by};
 
-use crate::entry::{Entry, OneRead, Outcome, Read};
+use crate::entry::{Entry, OneRead, Outcome};
 use crate::fault::AsmFault;
 use crate::frames::CallFrameSection;
 use crate::initials::Initials;
 use crate::overlay::Overlay;
+use crate::read::Read;
 use crate::source::Source;
 use cfa_machine::{Columns, MachineFault, Runner};
 use eh_records::{Fde, RecordFault, Records};
 use elf_place::Placed;
 use elf_reloc::RelocFault;
 use sf_express::express_run;
-use sf_model::{Arch, FdeFacts, Origin, Span};
+use sf_model::{Arch, FdeFacts, Origin, Rows, Span};
 use std::alloc::Global;
 
 /// A fault of a section's records; `NoMemory` is passed on unwrapped.
@@ -157,19 +158,21 @@ fn begin_rows<'a>(
     }
 }
 
-/// What becomes of the function that the runner was started on. Each of its instructions is run.
+/// What becomes of the function that the runner was started on. Each of its instructions is run, and its
+/// rows are made in the memory of `spare`.
 #[inline(always)]
 fn outcome_of(
     alloc: Global,
     section: &CallFrameSection<'_>,
     facts: &FdeFacts,
     run: &mut Runner<'_>,
+    spare: &mut Rows,
 ) -> Result<Outcome, AsmFault>
     requires { limit run.old ≡ facts.now.size }
     ensures given { IfOk result (λ outcome. on_rows (λ rows. outcome_by (function_by section.now.arch facts.now rows)) (rows_left run.old) ≡ Ok outcome) }
     ensures fault { IfErr result (λ fault. IsRowsFault section.now.number fault (rows_left run.old)) }
 {
-    match express_run(alloc, section.arch, facts, run) {
+    match express_run(alloc, section.arch, facts, run, spare) {
         Ok(Ok(function)) => Ok(Outcome::Kept(function)),
         Ok(Err(omission)) => Ok(Outcome::Left(omission)),
         Err(fault) => Err(machine_fault(section.number, fault)),
@@ -203,7 +206,7 @@ fn source_of<'a>(
     }
 }
 
-/// The function of one frame description entry.
+/// The function of one frame description entry, whose rows are made in the memory of `spare`.
 #[inline(always)]
 fn read_function<'a>(
     alloc: Global,
@@ -212,6 +215,7 @@ fn read_function<'a>(
     fde: &Fde<'a>,
     initials: &mut Initials,
     run: &mut Runner<'a>,
+    spare: &mut Rows,
 ) -> Result<OneRead<'a>, AsmFault>
     requires key { IsTrue (key_fits section.now.arch fde.now.cie.key) }
     requires initials { AreInitial section.now.arch section.now.bytes.now initials.old }
@@ -230,7 +234,7 @@ fn read_function<'a>(
         signal: fde.cie.signal,
         key: fde.cie.key,
     };
-    let outcome = outcome_of(alloc, section, &facts, run)?;
+    let outcome = outcome_of(alloc, section, &facts, run, spare)?;
     let origin = Origin {
         item: section.item,
         section: section.number,
@@ -257,20 +261,27 @@ fn read_frames<'a>(
 ) -> Result<(), AsmFault>
     requires machine { machine_of_records records.now ≡ section.now.arch }
     requires bytes { bytes_of_records records.now ≡ section.now.bytes.now }
-    requires sound { All (IsSound section.now.arch) read.old.entries.items }
-    ensures exact { (relocations : Result (List RelocatedField) reloc_fault) → ReadsMore result read.old.entries.items read.new.entries.items (functions_in section.now.arch section.now.item (seen_section section.now relocations) (overlaid (written_by overlay.now)) (frames (entries_of_records records.now))) }
+    ensures exact { (relocations : Result (List RelocatedField) reloc_fault) → ReadsMore result read.old.entries read.new.entries (functions_in section.now.arch section.now.item (seen_section section.now relocations) (overlaid (written_by overlay.now)) (frames (entries_of_records records.now))) }
     ensures lent { OnOk result ((relocations : Result (List RelocatedField) reloc_fault) → LendsMore (functions_lent read.old.sources.items) (functions_lent read.new.sources.items) (functions_in section.now.arch section.now.item (seen_section section.now relocations) (overlaid (written_by overlay.now)) (frames (entries_of_records records.now)))) }
-    ensures arch { read.new.arch ≡ read.old.arch }
-    ensures sound { OnOk result (All (IsSound section.now.arch) read.new.entries.items) }
+    ensures sound { OnOk result (All (IsSound section.now.arch) read.old.entries → All (IsSound section.now.arch) read.new.entries) }
 {
     let mut initials = Initials::new(alloc);
     let mut run = Runner::new();
+    let mut spare = Rows::new(alloc);
     for fde in records.fdes() {
         if overlay.dropped(fde.begin) {
             continue;
         }
-        let one = read_function(alloc, section, overlay, &fde, &mut initials, &mut run)?;
-        read.push(one)?;
+        let one = read_function(
+            alloc,
+            section,
+            overlay,
+            &fde,
+            &mut initials,
+            &mut run,
+            &mut spare,
+        )?;
+        read.push(section.arch, one, &mut spare)?;
     }
     Ok(())
 }
@@ -282,11 +293,9 @@ pub fn read_section<'a>(
     placed: Option<&Placed<'_>>,
     read: &mut Read<'a>,
 ) -> Result<(), AsmFault>
-    requires sound { All (IsSound section.now.arch) read.old.entries.items }
-    ensures exact { ReadsMore result read.old.entries.items read.new.entries.items (section_functions section.now.arch section.now.item (seen_section section.now (relocations_by (option_map (λ p. placing p.now) placed.entry) section.now.number))) }
+    ensures exact { ReadsMore result read.old.entries read.new.entries (section_functions section.now.arch section.now.item (seen_section section.now (relocations_by (option_map (λ p. placing p.now) placed.entry) section.now.number))) }
     ensures lent { OnOk result (LendsMore (functions_lent read.old.sources.items) (functions_lent read.new.sources.items) (section_functions section.now.arch section.now.item (seen_section section.now (relocations_by (option_map (λ p. placing p.now) placed.entry) section.now.number)))) }
-    ensures arch { read.new.arch ≡ read.old.arch }
-    ensures sound { OnOk result (All (IsSound section.now.arch) read.new.entries.items) }
+    ensures sound { OnOk result (All (IsSound section.now.arch) read.old.entries → All (IsSound section.now.arch) read.new.entries) }
 {
     let records = records_of(alloc, section)?;
     let overlay = overlay_of(alloc, placed, section.number)?;

@@ -1,5 +1,7 @@
 -- A function in SFrame's form, from rows that are made one by one.
 use Rattle.std.specs.Prelude.{◌≡◌, is_ok, true, List, Result, Ok, Err}
+use Rattle.sf_model.specs.declared.omission.Omission.{Omission}
+use Rattle.sf_model.specs.declared.rows.Row.{Row}
 use Rattle.cfa_machine.specs.declared.fault.MachineFault.{MachineFault}
 use Rattle.cfa_machine.specs.declared.row.DwRow.{DwRow}
 
@@ -12,3 +14,8 @@ on_rows f (Err e) = Err e
 abbrev pub RunsAll : {U : Type 0} → Result U MachineFault → Result (List DwRow) MachineFault → Type 0
 RunsAll (Ok u) left = is_ok left ≡ true
 RunsAll (Err e) left = left ≡ Err e
+
+-- the rows that were made, or the omission in their place
+abbrev pub unless_omitted : {U : Type 0} → List Row → Result U Omission → Result (List Row) Omission
+unless_omitted rows (Ok u) = Ok rows
+unless_omitted rows (Err omission) = Err omission

@@ -4,13 +4,14 @@ ghost use Rattle.std.specs.Prelude.{◌≡◌, ◌≤◌, ◌^◌, None};
 ghost use Rattle.cfa_machine.specs.Left.{limit, rows_left};
 ghost use Rattle.cfa_machine.specs.Pass.{Gives};
 ghost use Rattle.sf_express.specs.Expressed.{expressed_rows, function_by};
-ghost use Rattle.sf_express.specs.Run.{RunsAll, on_rows};
+ghost use Rattle.sf_express.specs.Run.{RunsAll, on_rows, unless_omitted};
 
 use crate::function::{append, function_reason, function_with};
 use crate::row::content_at;
 use cfa_machine::{MachineFault, Runner};
 use sf_model::{Arch, FdeFacts, Func, Omission, Row, Rows};
 use std::alloc::Global;
+use std::mem;
 
 // Runs the rest of the instructions.
 #[inline(never)]
@@ -21,23 +22,23 @@ fn run_all(run: &mut Runner<'_>) -> Result<(), MachineFault>
     Ok(())
 }
 
-// The rows in SFrame's form, or the omission of the first that has none.
+// Makes `kept` the rows in SFrame's form, or gives the omission of the first that has none.
 #[inline(always)]
 fn run_rows(
-    alloc: Global,
     arch: Arch,
     run: &mut Runner<'_>,
-) -> Result<Result<Rows, Omission>, MachineFault>
+    kept: &mut Rows,
+) -> Result<Result<(), Omission>, MachineFault>
     requires { limit run.old ≤ 2 ^ 32 }
-    ensures { Gives (λ kept. kept) result (on_rows (expressed_rows arch None) (rows_left run.old)) }
+    ensures { Gives (unless_omitted kept.new) result (on_rows (expressed_rows arch None) (rows_left run.old)) }
 {
-    let mut kept = Rows::new(alloc);
+    kept.clear();
     let mut last = None;
     while let Some(start) = run.next_row()? {
         let start = start as u32;
         match content_at(arch, run.columns()) {
             Ok(content) => {
-                append(&mut kept, last, Row { start, content })?;
+                append(kept, last, Row { start, content })?;
                 last = Some(content);
             }
             Err(reason) => {
@@ -49,11 +50,11 @@ fn run_rows(
             }
         }
     }
-    Ok(Ok(kept))
+    Ok(Ok(()))
 }
 
 /// The function that a runner was started on, as [`express`](crate::express) gives it, or its first omission.
-/// No list of its rows is made.
+/// Its rows are made in the memory of `spare`, whatever rows it has.
 ///
 /// # Errors
 ///
@@ -65,6 +66,7 @@ pub fn express_run(
     arch: Arch,
     facts: &FdeFacts,
     run: &mut Runner<'_>,
+    spare: &mut Rows,
 ) -> Result<Result<Func, Omission>, MachineFault>
     requires { limit run.old ≡ facts.now.size }
     ensures exact { Gives (λ function. function) result (on_rows (function_by arch facts.now) (rows_left run.old)) }
@@ -76,8 +78,11 @@ pub fn express_run(
             offset: None,
         }));
     }
-    match run_rows(alloc, arch, run)? {
-        Ok(rows) => Ok(Ok(function_with(facts, rows))),
+    match run_rows(arch, run, spare)? {
+        Ok(()) => {
+            let rows = mem::replace(spare, Rows::new(alloc));
+            Ok(Ok(function_with(facts, rows)))
+        }
         Err(omission) => Ok(Err(omission)),
     }
 }

@@ -8,7 +8,7 @@ ghost use Rattle.sf_asm.specs.Functions.{object_of};
 
 use sf_asm::{GatherFault, Input, LinkFault, Linked, gather_together};
 use sf_model::Arch;
-use sf_write::{WriteFault, write};
+use sf_write::{WriteFault, write_stored};
 use std::alloc::Global;
 
 /// Makes the SFrame section of 1 to 512 inputs, for the address `at`. `before` is the machine of an item
@@ -40,7 +40,7 @@ pub fn link(
         Err(GatherFault::NoMemory) => return Err(LinkFault::NoMemory),
         Err(fault) => return Err(LinkFault::Gather(fault)),
     };
-    match write(alloc, gathered.arch, at, &gathered.kept) {
+    match write_stored(alloc, gathered.arch, at, &gathered.rows, &gathered.kept) {
         Ok(section) => Ok(Linked {
             section,
             kept: gathered.kept.len() as u32,

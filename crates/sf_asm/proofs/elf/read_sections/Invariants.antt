@@ -10,10 +10,9 @@ use Rattle.sf_asm.proofs.elf.read_sections.Given as goal
 
 abbrev pub invariant-loop-number : goal.invariant-loop-number
 invariant-loop-number l = record {
-  sound : All (IsSound l.arch) l.read.entries.items;
-  reads : after_read l.read.entries.items (seen_as (map entry_of) (sections_functions l.arch l.item (map (placed_section (placing l.placed) (shift_in l.placed)) (drop l.number-index l.numbers))))
-      ≡ seen_as (map entry_of) (sections_functions l.arch l.item (map (placed_section (placing l.placed) (shift_in l.placed)) l.numbers));
+  sound : All (IsSound l.arch) l.initial.read.entries → All (IsSound l.arch) l.read.entries;
+  reads : after_read l.read.entries (seen_as (map entry_of) (sections_functions l.arch l.item (map (placed_section (placing l.placed) (shift_in l.placed)) (drop l.number-index l.numbers))))
+      ≡ after_read l.initial.read.entries (seen_as (map entry_of) (sections_functions l.arch l.item (map (placed_section (placing l.placed) (shift_in l.placed)) l.numbers)));
   lent : after_read (functions_lent l.read.sources.items) (seen_as omitted_functions (sections_functions l.arch l.item (map (placed_section (placing l.placed) (shift_in l.placed)) (drop l.number-index l.numbers))))
-      ≡ seen_as omitted_functions (sections_functions l.arch l.item (map (placed_section (placing l.placed) (shift_in l.placed)) l.numbers));
-  arch : l.read.arch ≡ l.arch;
+      ≡ after_read (functions_lent l.initial.read.sources.items) (seen_as omitted_functions (sections_functions l.arch l.item (map (placed_section (placing l.placed) (shift_in l.placed)) l.numbers)));
 }

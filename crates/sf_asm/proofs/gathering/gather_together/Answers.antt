@@ -8,10 +8,10 @@ use Rattle.sf_asm.proofs.gathering.gather_together.Goals as goal
 
 pub returns-clause-gathered : goal.returns-clause-gathered
 returns-clause-gathered c = record {
-  ordered = c.in_ok-read.read.entries.items;
+  ordered = c.in_ok-read.read.entries;
   is = c.in_ok-read.ensures.gathered;
   kept_are = c.in_ok-kept_and_omitted.ensures.kept;
-  writable = rw c.in_ok-kept_and_omitted.ensures.arch (subst (AreWritable c.in_ok-read.read.arch) (sym c.in_ok-kept_and_omitted.ensures.kept) (kept_of_checked c.in_ok-read.read.arch c.in_ok-read.read.entries.items c.in_ok-read.ensures.sound c.in_ok-read.ensures.checked));
+  writable = rw c.in_ok-kept_and_omitted.ensures.arch (subst (AreWritable c.in_ok-read.read.arch) (sym c.in_ok-kept_and_omitted.ensures.kept) (kept_of_checked c.in_ok-read.read.arch c.in_ok-read.read.entries c.in_ok-read.ensures.sound c.in_ok-read.ensures.checked));
   omitted_are = c.in_ok-kept_and_omitted.ensures.omitted;
 }
 

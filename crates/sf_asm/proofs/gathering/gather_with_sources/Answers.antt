@@ -1,6 +1,7 @@
 use Rattle.std.proofs.Common.{List, Ok, map, ap, subst, sym, ◌∙◌}
 use Rattle.std.proofs.lemmas.Result.{err_from_is_err_and}
 use Rattle.sf_model.specs.Function.{AreWritable}
+use Rattle.sf_write.specs.Stored.{stored_in}
 use Rattle.sf_asm.specs.declared.entry.Entry.{Entry}
 use Rattle.sf_asm.specs.Entry.{kept_of, omitted_of}
 use Rattle.sf_asm.specs.Functions.{object_of}
@@ -15,10 +16,10 @@ use Rattle.sf_asm.proofs.gathering.gather_with_sources.Goals as goal
 pub returns-clause-gathered : goal.returns-clause-gathered
 returns-clause-gathered c =
     let objects = map object_of c.args.inputs.now in
-    let entries = c.in_ok-read.read.entries.items in
+    let entries = c.in_ok-read.read.entries in
     let read = are_read c.args.before objects entries c.in_ok-read.ensures.gathered in
     let is = ordered_are read.functions entries read.in_order in
-    let kept = c.in_ok-together.ensures.kept in
+    let kept = c.in_ok-functions.ensures ∙ ap (map (stored_in c.in_ok-together.together.rows)) c.deref.ensures.value ∙ c.in_ok-together.ensures.kept in
     record {
       functions = read.functions;
       are = read.are;

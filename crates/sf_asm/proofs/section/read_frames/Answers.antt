@@ -1,4 +1,4 @@
-use Rattle.std.proofs.Common.{◌≡◌, ℕ, List, [], ◌∷◌, map, refl, ap, sym, subst, ◌∙◌}
+use Rattle.std.proofs.Common.{◌≡◌, ℕ, List, [], ◌∷◌, map, ap, sym, subst, ◌∙◌}
 use Rattle.std.specs.List.{All}
 use Rattle.std.proofs.lemmas.List.Elements.{All-append, All-from_recursion, All-tail}
 use Rattle.std.specs.Prelude.{IsTrue}
@@ -28,13 +28,12 @@ loop-fde-init c =
     subst (λ (section : List ℕ). All (HasNamed c.args.section.now.arch section) (frames (entries c.args.records.now))) c.requires.bytes
     (subst (λ (arch : Arch). All (HasNamed arch (bytes_of c.args.records.now)) (frames (entries c.args.records.now))) c.requires.machine c.fdes-fde-items.ensures.named) in
     record {
-      sound = c.requires.sound;
+      sound = λ h. h;
       keys = subst (λ (fs : List FdeView). All (λ (f : FdeView). IsTrue (key_fits c.args.section.now.arch f.cie.key)) fs) (sym left) keys;
       named = subst (λ (fs : List FdeView). All (HasNamed c.args.section.now.arch c.args.section.now.bytes.now) fs) (sym left) named;
       initials = c.new-initials.ensures c.args.section.now.arch c.args.section.now.bytes.now;
-      reads = λ relocations. ap (λ (fs : List FdeView). after_read c.args.read.now.entries.items (read_of c.args.section.now.arch c.args.section.now.item (seen_section c.args.section.now relocations) (overlaid (written_by c.args.overlay.now)) fs)) left;
+      reads = λ relocations. ap (λ (fs : List FdeView). after_read c.args.read.now.entries (read_of c.args.section.now.arch c.args.section.now.item (seen_section c.args.section.now relocations) (overlaid (written_by c.args.overlay.now)) fs)) left;
       lent = λ relocations. ap (λ (fs : List FdeView). after_read (functions_lent c.args.read.now.sources.items) (seen_as omitted_functions (functions_in c.args.section.now.arch c.args.section.now.item (seen_section c.args.section.now relocations) (overlaid (written_by c.args.overlay.now)) fs))) left;
-      arch = refl;
     }
 
 pub loop-fde-preserved-then-dropped : goal.loop-fde-preserved-then-dropped
@@ -47,9 +46,8 @@ loop-fde-preserved-then-dropped c =
       keys = All-tail (λ (f : FdeView). IsTrue (key_fits c.args.section.now.arch f.cie.key)) (fde_view c.in-Some.fde) (frames_left c.next.new.self) keys;
       named = All-tail (HasNamed c.args.section.now.arch c.args.section.now.bytes.now) (fde_view c.in-Some.fde) (frames_left c.next.new.self) named;
       initials = c.loop-fde.invariant.initials;
-      reads = λ relocations. passes_on (map entry_of) c.args.section.now.arch c.args.section.now.item (seen_section c.args.section.now relocations) (overlaid (written_by c.args.overlay.now)) c.loop-fde.read.entries.items (fde_view c.in-Some.fde) (frames_left c.loop-fde.fde-iterator) (frames_left c.next.new.self) _ left (sym c.dropped.ensures ∙ c.if-dropped.true) (c.loop-fde.invariant.reads relocations);
+      reads = λ relocations. passes_on (map entry_of) c.args.section.now.arch c.args.section.now.item (seen_section c.args.section.now relocations) (overlaid (written_by c.args.overlay.now)) c.loop-fde.read.entries (fde_view c.in-Some.fde) (frames_left c.loop-fde.fde-iterator) (frames_left c.next.new.self) _ left (sym c.dropped.ensures ∙ c.if-dropped.true) (c.loop-fde.invariant.reads relocations);
       lent = λ relocations. passes_on omitted_functions c.args.section.now.arch c.args.section.now.item (seen_section c.args.section.now relocations) (overlaid (written_by c.args.overlay.now)) (functions_lent c.loop-fde.read.sources.items) (fde_view c.in-Some.fde) (frames_left c.loop-fde.fde-iterator) (frames_left c.next.new.self) _ left (sym c.dropped.ensures ∙ c.if-dropped.true) (c.loop-fde.invariant.lent relocations);
-      arch = c.loop-fde.invariant.arch;
     }
 
 pub loop-fde-preserved : goal.loop-fde-preserved
@@ -59,7 +57,7 @@ loop-fde-preserved c =
     let named : All (HasNamed c.args.section.now.arch c.args.section.now.bytes.now) (fde_view c.in-Some.fde ∷ frames_left c.next.new.self) = rw left at c.loop-fde.invariant.named in
     let one = c.in_ok-one.one in
     record {
-      sound = subst (All (IsSound c.args.section.now.arch)) (sym c.in_ok-push.ensures.entries) (All-append (IsSound c.args.section.now.arch) c.loop-fde.read.entries.items (one.entry ∷ []) c.loop-fde.invariant.sound (All-from_recursion (IsSound c.args.section.now.arch) (one.entry ∷ []) (c.in_ok-one.ensures.sound, tt)));
+      sound = λ h. subst (All (IsSound c.args.section.now.arch)) (sym c.in_ok-push.ensures.entries) (All-append (IsSound c.args.section.now.arch) c.loop-fde.read.entries (one.entry ∷ []) (c.loop-fde.invariant.sound h) (All-from_recursion (IsSound c.args.section.now.arch) (one.entry ∷ []) (c.in_ok-one.ensures.sound, tt)));
       keys = All-tail (λ (f : FdeView). IsTrue (key_fits c.args.section.now.arch f.cie.key)) (fde_view c.in-Some.fde) (frames_left c.next.new.self) keys;
       named = All-tail (HasNamed c.args.section.now.arch c.args.section.now.bytes.now) (fde_view c.in-Some.fde) (frames_left c.next.new.self) named;
       initials = c.in_ok-one.ensures.initials;
@@ -67,7 +65,7 @@ loop-fde-preserved c =
           let section = seen_section c.args.section.now relocations in
           let values = overlaid (written_by c.args.overlay.now) in
           ap (λ (before : List Entry). after_read before (read_of c.args.section.now.arch c.args.section.now.item section values (frames_left c.next.new.self))) c.in_ok-push.ensures.entries
-          ∙ goes_on (map entry_of) entries_listwise c.args.section.now.arch c.args.section.now.item section values c.loop-fde.read.entries.items (one.entry ∷ []) (fde_view c.in-Some.fde) (frames_left c.loop-fde.fde-iterator) (frames_left c.next.new.self) _ left (sym c.dropped.ensures ∙ c.if-dropped.false)
+          ∙ goes_on (map entry_of) entries_listwise c.args.section.now.arch c.args.section.now.item section values c.loop-fde.read.entries (one.entry ∷ []) (fde_view c.in-Some.fde) (frames_left c.loop-fde.fde-iterator) (frames_left c.next.new.self) _ left (sym c.dropped.ensures ∙ c.if-dropped.false)
           (one_entry _ one.entry (c.in_ok-one.ensures.exact relocations)) (c.loop-fde.invariant.reads relocations);
       lent = λ relocations.
           let section = seen_section c.args.section.now relocations in
@@ -76,5 +74,4 @@ loop-fde-preserved c =
           ∙ goes_on omitted_functions omitted_listwise c.args.section.now.arch c.args.section.now.item section values (functions_lent c.loop-fde.read.sources.items) (if_left one.entry.outcome (source_function one.source)) (fde_view c.in-Some.fde) (frames_left c.loop-fde.fde-iterator) (frames_left c.next.new.self) _ left
           (sym c.dropped.ensures ∙ c.if-dropped.false)
           (one_lent _ one.entry (source_function one.source) (c.in_ok-one.ensures.exact relocations) (c.in_ok-one.ensures.source relocations)) (c.loop-fde.invariant.lent relocations);
-      arch = c.in_ok-push.ensures.arch ∙ c.loop-fde.invariant.arch;
     }

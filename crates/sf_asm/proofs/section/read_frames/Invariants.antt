@@ -19,15 +19,14 @@ use Rattle.sf_asm.proofs.section.read_frames.Given as goal
 
 abbrev pub invariant-loop-fde : goal.invariant-loop-fde
 invariant-loop-fde l = record {
-  sound : All (IsSound l.section.arch) l.read.entries.items;
+  sound : All (IsSound l.section.arch) l.fn.read.entries → All (IsSound l.section.arch) l.read.entries;
   keys : All (λ (f : FdeView). IsTrue (key_fits l.section.arch f.cie.key)) (frames_left l.fde-iterator);
   named : All (HasNamed l.section.arch l.section.bytes.now) (frames_left l.fde-iterator);
   initials : AreInitial l.section.arch l.section.bytes.now l.initials;
   reads : (relocations : Result (List RelocatedField) RelocFault)
-      → after_read l.read.entries.items (read_of l.section.arch l.section.item (seen_section l.section relocations) (overlaid (written_by l.overlay)) (frames_left l.fde-iterator))
-      ≡ after_read l.fn.read.entries.items (seen_as (map entry_of) (functions_in l.section.arch l.section.item (seen_section l.section relocations) (overlaid (written_by l.overlay)) (frames (entries l.records))));
+      → after_read l.read.entries (read_of l.section.arch l.section.item (seen_section l.section relocations) (overlaid (written_by l.overlay)) (frames_left l.fde-iterator))
+      ≡ after_read l.fn.read.entries (seen_as (map entry_of) (functions_in l.section.arch l.section.item (seen_section l.section relocations) (overlaid (written_by l.overlay)) (frames (entries l.records))));
   lent : (relocations : Result (List RelocatedField) RelocFault)
       → after_read (functions_lent l.read.sources.items) (seen_as omitted_functions (functions_in l.section.arch l.section.item (seen_section l.section relocations) (overlaid (written_by l.overlay)) (frames_left l.fde-iterator)))
       ≡ after_read (functions_lent l.fn.read.sources.items) (seen_as omitted_functions (functions_in l.section.arch l.section.item (seen_section l.section relocations) (overlaid (written_by l.overlay)) (frames (entries l.records))));
-  arch : l.read.arch ≡ l.fn.read.arch;
 }

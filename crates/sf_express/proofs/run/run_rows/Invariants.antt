@@ -5,11 +5,11 @@ use Rattle.sf_express.specs.Run.{on_rows}
 use Rattle.sf_express.proofs.Running.{kept_and_left}
 use Rattle.sf_express.proofs.run.run_rows.Given as goal
 
-abbrev pub invariant-loop-kept : goal.invariant-loop-kept
-invariant-loop-kept l = record {
+abbrev pub invariant-loop-start : goal.invariant-loop-start
+invariant-loop-start l = record {
   same : kept_and_left l.arch l.kept l.last (rows_left l.run) ≡ on_rows (expressed_rows l.arch None) (rows_left l.initial.run);
   limit : limit l.run ≡ limit l.initial.run;
 }
 
-abbrev pub decreases-loop-kept : goal.decreases-loop-kept
-decreases-loop-kept l = steps_left l.run
+abbrev pub decreases-loop-start : goal.decreases-loop-start
+decreases-loop-start l = steps_left l.run

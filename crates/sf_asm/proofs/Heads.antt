@@ -1,0 +1,187 @@
+-- Functions whose rows are kept in one list.
+use Rattle.std.specs.List.{AllByRecursion, filter}
+use Rattle.std.specs.List.Sorted.{IsPermutation, IsNonDecreasingBy, IsStableByKey, ties}
+use Rattle.std.specs.Ordering.{is_lt, nat_cmp}
+use Rattle.std.proofs.Common.{◌≡◌, ◌+◌, ◌<◌, ℕ, zero, suc, Bool, true, false, All, List, [], ◌∷◌, ◌++◌, length, get_or, map, sum_by, None, refl, sym, ap, ◌∙◌, arith}
+use Rattle.std.proofs.lemmas.List.{append-nil, map-append, length-map}
+use Rattle.std.proofs.lemmas.List.Elements.{All-append, All-from_recursion, filter_map-append, recursion_from_All}
+use Rattle.std.proofs.lemmas.List.Sorted.{IsPermutation-map}
+use Rattle.std.proofs.lemmas.List.Sums.{sum_by-cons}
+use Rattle.sf_model.specs.declared.omission.Omission.{Omission}
+use Rattle.sf_model.specs.declared.omission.Omitted.{Omitted}
+use Rattle.sf_model.specs.declared.omission.Reason.TheVariants.{EmptyRange}
+use Rattle.sf_model.specs.declared.omission.Span.{Span}
+use Rattle.sf_write.specs.declared.stored.StoredFunction.{StoredFunction}
+use Rattle.sf_write.specs.declared.stored.StoredRows.{StoredRows}
+use Rattle.sf_write.specs.Stored.{IsStored, stored_in}
+use Rattle.sf_model.specs.declared.function.Func.{Func}
+use Rattle.sf_asm.specs.declared.entry.Entry.{Entry}
+use Rattle.sf_asm.specs.declared.entry.Outcome.TheVariants as outcome
+use Rattle.sf_asm.specs.declared.entry.Head.{Head}
+use Rattle.sf_asm.specs.declared.entry.StoredOutcome.{StoredOutcome}
+use Rattle.sf_asm.specs.declared.entry.StoredOutcome.TheVariants.{Kept, Left}
+use Rattle.sf_asm.specs.Entry.{kept_of, omitted_of, spans_of}
+use Rattle.sf_asm.specs.Heads.{AreHeads, HasRows, HaveRows, count_in, entries_in, entry_in, left_at, left_of, outcome_in, stored_at, stored_of}
+use Rattle.sf_asm.specs.Linking.{InOrder, start_of}
+use Rattle.sf_asm.specs.Order.{entry_rows}
+use Rattle.sf_asm.proofs.StoredRows.{rows_counted}
+
+-- ---- more rows are stored
+-- each function that is stored in one list is the same in the other
+abbrev pub Keeps : (old new : StoredRows) → Type 0
+Keeps old new = (f : StoredFunction) → IsStored old f → IsStored new f × (stored_in new f ≡ stored_in old f)
+
+abbrev pub Has : StoredRows → Head → Type 0
+Has rows h = HasRows rows h.outcome
+
+has_still : (old new : StoredRows) → Keeps old new → (o : StoredOutcome) → HasRows old o → HasRows new o
+has_still old new keeps (Kept f) h = (keeps f h).0
+has_still old new keeps (Left omission) h = tt
+
+same_still : (old new : StoredRows) → Keeps old new → (o : StoredOutcome) → HasRows old o → outcome_in new o ≡ outcome_in old o
+same_still old new keeps (Kept f) h = ap outcome.Kept (keeps f h).1
+same_still old new keeps (Left omission) h = refl
+
+have_by_recursion : (old new : StoredRows) → Keeps old new → (heads : List Head) → AllByRecursion (Has old) heads → AllByRecursion (Has new) heads
+have_by_recursion old new keeps [] h = tt
+have_by_recursion old new keeps (x ∷ xs) h = (has_still old new keeps x.outcome h.0, have_by_recursion old new keeps xs h.1)
+
+same_by_recursion : (old new : StoredRows) → Keeps old new → (heads : List Head) → AllByRecursion (Has old) heads → entries_in new heads ≡ entries_in old heads
+same_by_recursion old new keeps [] h = refl
+same_by_recursion old new keeps (x ∷ xs) h =
+    ap (λ (e : Entry). e ∷ entries_in new xs) (ap (λ o. record { span = x.span; outcome = o }) (same_still old new keeps x.outcome h.0))
+    ∙ ap (λ (es : List Entry). entry_in old x ∷ es) (same_by_recursion old new keeps xs h.1)
+
+pub have_still : (old new : StoredRows) (heads : List Head) → Keeps old new → HaveRows old heads → HaveRows new heads
+have_still old new heads keeps h = All-from_recursion (Has new) heads (have_by_recursion old new keeps heads (recursion_from_All (Has old) heads h))
+
+pub entries_still : (old new : StoredRows) (heads : List Head) → Keeps old new → HaveRows old heads → entries_in new heads ≡ entries_in old heads
+entries_still old new heads keeps h = same_by_recursion old new keeps heads (recursion_from_All (Has old) heads h)
+
+-- ---- one more function
+pub have_more : (rows : StoredRows) (heads : List Head) (x : Head) → HaveRows rows heads → HasRows rows x.outcome → HaveRows rows (heads ++ x ∷ [])
+have_more rows heads x h one = All-append (Has rows) heads (x ∷ []) h (All-from_recursion (Has rows) (x ∷ []) (one, tt))
+
+pub entries_more : (rows : StoredRows) (heads : List Head) (x : Head) → entries_in rows (heads ++ x ∷ []) ≡ entries_in rows heads ++ entry_in rows x ∷ []
+entries_more rows heads x = map-append (entry_in rows) heads (x ∷ [])
+
+-- ---- in order
+filter_one : {X Y : Type 0} (f : X → Y) (p : Y → Bool) (x : X) (xs : List X) (b : Bool) → p (f x) ≡ b → filter p (map f xs) ≡ map f (filter (λ (y : X). p (f y)) xs) → filter p (map f (x ∷ xs)) ≡ map f (filter (λ (y : X). p (f y)) (x ∷ xs))
+filter_one {X} {Y} f p x xs true t others = rw t (ap (λ (ys : List Y). f x ∷ ys) others)
+filter_one f p x xs false t others = rw t others
+
+filter-map : {X Y : Type 0} (f : X → Y) (p : Y → Bool) (xs : List X) → filter p (map f xs) ≡ map f (filter (λ (x : X). p (f x)) xs)
+filter-map f p [] = refl
+filter-map f p (x ∷ xs) = filter_one f p x xs (p (f x)) refl (filter-map f p xs)
+
+abbrev pub head_start : Head → ℕ
+head_start h = h.span.start
+
+-- a head at this address
+abbrev at_start : Span → Head
+at_start span = record { span = span; outcome = Left record { reason = EmptyRange; offset = None } }
+
+get_or-entries : (rows : StoredRows) (heads : List Head) (i : ℕ) (d : Entry) (e : Head) → i < length heads → get_or (entries_in rows heads) i d ≡ entry_in rows (get_or heads i e)
+get_or-entries rows [] i d e lt = absurd (omega (arith, lt))
+get_or-entries rows (x ∷ xs) zero d e lt = refl
+get_or-entries rows (x ∷ xs) (suc i) d e lt = get_or-entries rows xs i d e (omega (arith, lt))
+
+rising_entries : (rows : StoredRows) (heads : List Head) → IsNonDecreasingBy head_start heads → IsNonDecreasingBy start_of (entries_in rows heads)
+rising_entries rows heads h = λ i j d le lt.
+    let e = at_start d.span in
+    let same = length-map heads (entry_in rows) in
+    rw (get_or-entries rows heads i d e (omega (arith, le, lt, same)), get_or-entries rows heads j d e (omega (arith, lt, same))) (h i j e le (omega (arith, lt, same)))
+
+stable_entries : (rows : StoredRows) (old new : List Head) → IsStableByKey head_start nat_cmp old new → IsStableByKey start_of nat_cmp (entries_in rows old) (entries_in rows new)
+stable_entries rows old new h = λ x.
+    let test = ties (λ (a b : Entry). is_lt (nat_cmp (start_of a) (start_of b))) x in
+    filter-map (entry_in rows) test new ∙ ap (map (entry_in rows)) (h (at_start x.span)) ∙ sym (filter-map (entry_in rows) test old)
+
+pub in_order : (rows : StoredRows) (old new : List Head) → IsPermutation old new → IsNonDecreasingBy head_start new → IsStableByKey head_start nat_cmp old new → InOrder (entries_in rows old) (entries_in rows new)
+in_order rows old new moved rising stable = record {
+  moved = IsPermutation-map (entry_in rows) old new moved;
+  rising = rising_entries rows new rising;
+  stable = stable_entries rows old new stable;
+}
+
+-- ---- numbers of rows, and addresses
+abbrev pub head_rows : Head → ℕ
+head_rows h = count_in h.outcome
+
+count_is : (rows : StoredRows) (span : Span) (o : StoredOutcome) → HasRows rows o → count_in o ≡ entry_rows (entry_in rows record { span = span; outcome = o })
+count_is rows span (Kept f) h = sym (rows_counted rows f h)
+count_is rows span (Left omission) h = refl
+
+counts_by_recursion : (rows : StoredRows) (heads : List Head) → AllByRecursion (Has rows) heads → sum_by head_rows heads ≡ sum_by entry_rows (entries_in rows heads)
+counts_by_recursion rows [] h = refl
+counts_by_recursion rows (x ∷ xs) h =
+    let one = count_is rows x.span x.outcome h.0 in
+    let others = counts_by_recursion rows xs h.1 in
+    sum_by-cons head_rows x xs ∙ ap (λ (n : ℕ). n + sum_by head_rows xs) one ∙ ap (λ (n : ℕ). entry_rows (entry_in rows x) + n) others ∙ sym (sum_by-cons entry_rows (entry_in rows x) (entries_in rows xs))
+
+pub counts_are : (heads : List Head) (entries : List Entry) → AreHeads heads entries → sum_by head_rows heads ≡ sum_by entry_rows entries
+counts_are heads entries h = counts_by_recursion h.rows heads (recursion_from_All (Has h.rows) heads h.stored) ∙ ap (sum_by entry_rows) (sym h.are)
+
+pub lengths_are : (heads : List Head) (entries : List Entry) → AreHeads heads entries → length heads ≡ length entries
+lengths_are heads entries h = sym (length-map heads (entry_in h.rows)) ∙ ap length (sym h.are)
+
+abbrev pub head_spans : List Head → List Span
+head_spans heads = map (λ (h : Head). h.span) heads
+
+spans_in : (rows : StoredRows) (heads : List Head) → head_spans heads ≡ spans_of (entries_in rows heads)
+spans_in rows [] = refl
+spans_in rows (x ∷ xs) = ap (λ (spans : List Span). x.span ∷ spans) (spans_in rows xs)
+
+pub spans_are : (heads : List Head) (entries : List Entry) → AreHeads heads entries → head_spans heads ≡ spans_of entries
+spans_are heads entries h = spans_in h.rows heads ∙ ap spans_of (sym h.are)
+
+-- ---- kept and omitted ones
+kept_one : (rows : StoredRows) (span : Span) (o : StoredOutcome) (heads : List Head) → map (stored_in rows) (stored_of heads) ≡ kept_of (entries_in rows heads)
+    → map (stored_in rows) (stored_of (record { span = span; outcome = o } ∷ heads)) ≡ kept_of (entries_in rows (record { span = span; outcome = o } ∷ heads))
+kept_one rows span (Kept f) heads e = ap (λ (fs : List Func). stored_in rows f ∷ fs) e
+kept_one rows span (Left omission) heads e = e
+
+pub kept_are : (rows : StoredRows) (heads : List Head) → map (stored_in rows) (stored_of heads) ≡ kept_of (entries_in rows heads)
+kept_are rows [] = refl
+kept_are rows (x ∷ xs) = kept_one rows x.span x.outcome xs (kept_are rows xs)
+
+left_one : (rows : StoredRows) (span : Span) (o : StoredOutcome) (heads : List Head) → left_of heads ≡ omitted_of (entries_in rows heads)
+    → left_of (record { span = span; outcome = o } ∷ heads) ≡ omitted_of (entries_in rows (record { span = span; outcome = o } ∷ heads))
+left_one rows span (Kept f) heads e = e
+left_one rows span (Left omission) heads e = ap (λ (os : List Omitted). record { start = span.start; size = span.size; origin = span.origin; omission = omission } ∷ os) e
+
+pub left_are : (rows : StoredRows) (heads : List Head) → left_of heads ≡ omitted_of (entries_in rows heads)
+left_are rows [] = refl
+left_are rows (x ∷ xs) = left_one rows x.span x.outcome xs (left_are rows xs)
+
+stored_one : (rows : StoredRows) (span : Span) (o : StoredOutcome) (heads : List Head) → HasRows rows o → AllByRecursion (IsStored rows) (stored_of heads)
+    → AllByRecursion (IsStored rows) (stored_of (record { span = span; outcome = o } ∷ heads))
+stored_one rows span (Kept f) heads one others = (one, others)
+stored_one rows span (Left omission) heads one others = others
+
+stored_by_recursion : (rows : StoredRows) (heads : List Head) → AllByRecursion (Has rows) heads → AllByRecursion (IsStored rows) (stored_of heads)
+stored_by_recursion rows [] h = tt
+stored_by_recursion rows (x ∷ xs) h = stored_one rows x.span x.outcome xs h.0 (stored_by_recursion rows xs h.1)
+
+pub all_stored : (rows : StoredRows) (heads : List Head) → HaveRows rows heads → All (IsStored rows) (stored_of heads)
+all_stored rows heads h = All-from_recursion (IsStored rows) (stored_of heads) (stored_by_recursion rows heads (recursion_from_All (Has rows) heads h))
+
+-- ---- one more head
+stored_last : (heads : List Head) (x : Head) (o : StoredOutcome) → x.outcome ≡ o → stored_of (heads ++ x ∷ []) ≡ stored_of heads ++ stored_of (record { span = x.span; outcome = o } ∷ [])
+stored_last heads x o is = filter_map-append (λ (h : Head). stored_at h.outcome) heads (x ∷ []) ∙ ap (λ (o : StoredOutcome). stored_of heads ++ stored_of (record { span = x.span; outcome = o } ∷ [])) is
+
+left_last : (heads : List Head) (x : Head) (o : StoredOutcome) → x.outcome ≡ o → left_of (heads ++ x ∷ []) ≡ left_of heads ++ left_of (record { span = x.span; outcome = o } ∷ [])
+left_last heads x o is = filter_map-append (λ (h : Head). left_at h.span h.outcome) heads (x ∷ []) ∙ ap (λ (o : StoredOutcome). left_of heads ++ left_of (record { span = x.span; outcome = o } ∷ [])) is
+
+pub stored_of-kept : (heads : List Head) (x : Head) (f : StoredFunction) → x.outcome ≡ Kept f → stored_of (heads ++ x ∷ []) ≡ stored_of heads ++ f ∷ []
+stored_of-kept heads x f is = stored_last heads x (Kept f) is
+
+pub stored_of-left : (heads : List Head) (x : Head) (omission : Omission) → x.outcome ≡ Left omission → stored_of (heads ++ x ∷ []) ≡ stored_of heads
+stored_of-left heads x omission is = stored_last heads x (Left omission) is ∙ append-nil (stored_of heads)
+
+pub left_of-kept : (heads : List Head) (x : Head) (f : StoredFunction) → x.outcome ≡ Kept f → left_of (heads ++ x ∷ []) ≡ left_of heads
+left_of-kept heads x f is = left_last heads x (Kept f) is ∙ append-nil (left_of heads)
+
+pub left_of-left : (heads : List Head) (x : Head) (omission : Omission) → x.outcome ≡ Left omission
+    → left_of (heads ++ x ∷ []) ≡ left_of heads ++ record { start = x.span.start; size = x.span.size; origin = x.span.origin; omission = omission } ∷ []
+left_of-left heads x omission is = left_last heads x (Left omission) is

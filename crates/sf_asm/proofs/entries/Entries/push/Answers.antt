@@ -1,0 +1,13 @@
+use Rattle.std.proofs.Common.{◌++◌, ◌∷◌, [], List, ap, ◌∙◌}
+use Rattle.sf_asm.specs.declared.entry.Entry.{Entry}
+use Rattle.sf_asm.specs.Heads.{entries_in, entry_in}
+use Rattle.sf_asm.proofs.Heads.{entries_more, entries_still}
+use Rattle.sf_asm.proofs.entries.Entries.push.Goals as goal
+
+pub returns : goal.returns
+returns c =
+    let new = c.store.new.rows in
+    let heads = c.self.inside.heads.items in
+    ap (entries_in new) c.in_ok-push.ensures.items ∙ entries_more new heads c.in_ok-head.head
+    ∙ ap (λ (es : List Entry). es ++ entry_in new c.in_ok-head.head ∷ []) (entries_still c.self.inside.rows new heads c.store.ensures.keeps c.self.invariant ∙ c.self.view_is)
+    ∙ ap (λ (e : Entry). c.args.self.now ++ e ∷ []) c.in_ok-head.ensures.stored.1
