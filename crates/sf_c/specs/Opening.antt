@@ -1,5 +1,5 @@
 -- What opening returns: the number of the first fault and its place (the numbers are those of the line of a refused section).
-use Rattle.std.specs.Prelude.{ℕ, List, Option, Some, None, Ok, Err}
+use Rattle.std.specs.Prelude.{ℕ, List, [], Option, Some, None, Ok, Err}
 use Rattle.sf_model.specs.Table.{Table}
 use Rattle.sf_decode.specs.Checking.{Check}
 use Rattle.sf_decode.specs.Decoding.{table_in}
@@ -19,3 +19,8 @@ fault_place (Err fault) = (number_and_place fault).1
 abbrev pub table_if_sound : Check → List ℕ → (at : ℕ) → Option Table
 table_if_sound (Ok x) bytes at = Some (table_in bytes at)
 table_if_sound (Err fault) bytes at = None
+
+-- the bytes that are lent to a section from then on: those that were checked where nothing is wrong with them, else none
+abbrev pub bytes_if_sound : Check → List ℕ → List ℕ
+bytes_if_sound (Ok x) bytes = bytes
+bytes_if_sound (Err fault) bytes = []

@@ -1,9 +1,9 @@
 //! Opening and closing a section.
 
-ghost use Rattle.std.specs.Prelude.{◌≡◌, None};
+ghost use Rattle.std.specs.Prelude.{◌≡◌, [], None};
 ghost use Rattle.sf_decode.specs.Decoding.{section_check};
-ghost use Rattle.sf_decode.specs.Kept.{table_lent};
-ghost use Rattle.sf_c.specs.Opening.{fault_number, fault_place, table_if_sound};
+ghost use Rattle.sf_decode.specs.Kept.{bytes_lent, table_lent};
+ghost use Rattle.sf_c.specs.Opening.{bytes_if_sound, fault_number, fault_place, table_if_sound};
 
 use sf_decode::LentSection;
 
@@ -19,6 +19,8 @@ pub extern "C" fn kiblawen_open<'a>(
     ensures number { result ≡ fault_number (section_check bytes.now at) }
     ensures place { place.new ≡ fault_place (section_check bytes.now at) }
     ensures table { table_lent section.new ≡ table_if_sound (section_check bytes.now at) bytes.now at }
+    // A section that is refused keeps none of the bytes, nor those that it had before.
+    ensures bytes { bytes_lent section.new ≡ bytes_if_sound (section_check bytes.now at) bytes.now }
 {
     match LentSection::open(bytes, at) {
         Ok(opened) => {
@@ -37,7 +39,8 @@ pub extern "C" fn kiblawen_open<'a>(
 /// Closes a section. It lends nothing any more, and its bytes are the caller's again.
 #[unsafe(no_mangle)]
 pub extern "C" fn kiblawen_close(section: &mut LentSection<'_>)
-    ensures { table_lent section.new ≡ None }
+    ensures table { table_lent section.new ≡ None }
+    ensures bytes { bytes_lent section.new ≡ [] }
 {
     *section = LentSection::closed();
 }

@@ -62,16 +62,17 @@ pub struct LentSection<'a> {
 }
 
 impl<'a> LentSection<'a> {
-    ghost use Rattle.std.specs.Prelude.{◌≡◌, IfOk, IfSome, Some, None};
+    ghost use Rattle.std.specs.Prelude.{◌≡◌, [], IfOk, IfSome, Some, None};
     ghost use Rattle.std.specs.Option.{option_map};
     ghost use Rattle.sf_decode.specs.Checking.{verdict};
     ghost use Rattle.sf_decode.specs.Decoding.{table_in};
     ghost use Rattle.sf_decode.specs.View.{section_address, section_bytes, table_of};
     ghost use Rattle.sf_decode.specs.Kept.{address_lent, bytes_lent, functions_lent, functions_shown, table_lent};
 
-    /// A section that is closed: it lends no view.
+    /// A section that is closed: it lends no view, and no bytes are lent to it.
     pub fn closed() -> LentSection<'a>
-        ensures { table_lent result ≡ None }
+        ensures table { table_lent result ≡ None }
+        ensures bytes { bytes_lent result ≡ [] }
     {
         LentSection {
             bytes: &[],
