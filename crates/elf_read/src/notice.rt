@@ -6,7 +6,6 @@ ghost use Rattle.sf_model.specs.FaultShown.{shown_by};
 ghost use Rattle.elf_read.specs.FaultShown.{number_and_place, shown_of_elf};
 
 use crate::fault::ElfFault;
-use arrayvec::ArrayVec;
 use sf_model::{Group, Notice};
 
 // The fault's number, and the place that it carries.
@@ -38,13 +37,6 @@ impl ElfFault {
         ensures line { IsSome item → HasLine result }
     {
         let (number, place) = number_and_place_of(*self);
-        let mut values = ArrayVec::new();
-        values.push(place);
-        Notice {
-            item,
-            group: Group::Elf,
-            number,
-            values,
-        }
+        Notice::with_value(item, Group::Elf, number, place)
     }
 }

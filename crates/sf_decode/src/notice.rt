@@ -1,11 +1,10 @@
-//! Faults as numbers, for the line that tells them.
+//! Faults as numbers, for the line that shows them.
 
 ghost use Rattle.std.specs.Prelude.{◌≡◌, ◌∷◌, [], IsSome, IsTrue};
 ghost use Rattle.sf_model.specs.Notice.{HasLine};
 ghost use Rattle.sf_decode.specs.Fault.{number_and_place, is_refusal};
 
 use crate::fault::DecodeFault;
-use arrayvec::ArrayVec;
 use sf_model::{Group, Notice};
 
 // The fault's number, and the place that it carries.
@@ -61,13 +60,6 @@ impl DecodeFault {
         ensures line { IsSome item → HasLine result }
     {
         let (number, place) = number_and_place_of(*self);
-        let mut values = ArrayVec::new();
-        values.push(place);
-        Notice {
-            item,
-            group: Group::Section,
-            number,
-            values,
-        }
+        Notice::with_value(item, Group::Section, number, place)
     }
 }

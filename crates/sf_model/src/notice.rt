@@ -1,5 +1,7 @@
 //! How a fault is handed to what prints it.
 
+ghost use Rattle.std.specs.Prelude.{◌≡◌, ◌∷◌, []};
+
 use arrayvec::ArrayVec;
 
 /// The part of the work that found a fault.
@@ -38,4 +40,38 @@ pub struct Notice {
     pub number: u8,
     /// The values in the order in which they are shown.
     pub values: ArrayVec<u64, 4>,
+}
+
+impl Notice {
+    /// The fault of this number, with no value.
+    pub fn new(item: Option<u32>, group: Group, number: u8) -> Notice
+        ensures item { result.item ≡ item }
+        ensures group { result.group ≡ group }
+        ensures number { result.number ≡ number }
+        ensures values { result.values.items ≡ [] }
+    {
+        Notice {
+            item,
+            group,
+            number,
+            values: ArrayVec::new(),
+        }
+    }
+
+    /// The fault of this number, with one value.
+    pub fn with_value(item: Option<u32>, group: Group, number: u8, value: u64) -> Notice
+        ensures item { result.item ≡ item }
+        ensures group { result.group ≡ group }
+        ensures number { result.number ≡ number }
+        ensures values { result.values.items ≡ value ∷ [] }
+    {
+        let mut values = ArrayVec::new();
+        values.push(value);
+        Notice {
+            item,
+            group,
+            number,
+            values,
+        }
+    }
 }
