@@ -68,12 +68,7 @@ fn place_notice(item: Option<u32>, fault: PlaceFault) -> Notice
     ensures line { IsSome item → HasLine result }
 {
     let (number, section) = place_number(fault);
-    Notice {
-        item,
-        group: Group::Place,
-        number,
-        values: one(u64::from(section)),
-    }
+    Notice::with_value(item, Group::Place, number, u64::from(section))
 }
 
 /// The number of a fault of the relocations and the number that it carries.
@@ -243,7 +238,7 @@ impl LinkFault {
     {
         match self {
             LinkFault::Gather(fault) => fault.notice(item),
-            LinkFault::OutOfReach(start) => link_notice(item, 3, one(*start)),
+            LinkFault::OutOfReach(start) => Notice::with_value(item, Group::Link, 3, *start),
             LinkFault::NoMemory => unreachable!(),
         }
     }
