@@ -1,5 +1,5 @@
 -- Fields of a record, read from left to right. A fault carries the place of the field's first byte.
-use Rattle.std.specs.Prelude.{◌≡◌, ℕ, ℤ, List, Result, Ok, Err}
+use Rattle.std.specs.Prelude.{ℕ, ℤ, List, Result, Ok, Err}
 use Rattle.sf_bytes.specs.declared.fault.ByteFault.{ByteFault}
 use Rattle.sf_bytes.specs.declared.fault.ByteFault.TheVariants as byte_faults
 use Rattle.sf_bytes.specs.declared.field.Field.{Field}

@@ -14,7 +14,9 @@ pub struct Reader<'a> {
 
 impl<'a> Reader<'a> {
     ghost use Rattle.std.specs.Prelude.{◌≡◌, ◌≤◌, OnOk, IfOk, IsTrue, drop};
+    ghost use Rattle.sf_bytes.specs.Cursor.{EndStays, cursor};
     ghost use Rattle.sf_bytes.specs.Field.{is_field_width};
+    ghost use Rattle.sf_bytes.specs.Steps.{named};
     ghost use Rattle.eh_records.specs.Step.{Answers, reader_cursor, fault_of, number_field, uleb_field, sleb_field, text_field, part_field, pointer_field, pointer_view};
 
     // The fault of a field that stands at a place.
@@ -52,15 +54,15 @@ impl<'a> Reader<'a> {
         self.part.place as u32
     }
 
-    /// The next byte.
-    #[tactic(auto, unfolding(crate::specs::Step::number_field))]
+    // Passes what a read of the next bytes passed, and returns its value; a fault carries the place of the first byte.
     #[inline(always)]
-    pub fn byte(&mut self) -> Result<u8, RecordFault>
-        ensures exact { Answers (λ x. x) self.new result (number_field 1 (reader_cursor self.old)) }
+    fn pass<T>(&mut self, part: Part<'a>, read: Result<T, ByteFault>) -> Result<T, RecordFault>
+        requires { EndStays self.old.part part }
+        ensures value { result ≡ named (fault_of self.old.part.place) read }
+        ensures left { OnOk read (cursor self.new.part ≡ cursor part.entry) }
     {
         let place = self.place();
-        let mut part = self.part;
-        match part.get_u8() {
+        match read {
             Ok(value) => {
                 self.part = part;
                 Ok(value)
@@ -69,21 +71,26 @@ impl<'a> Reader<'a> {
         }
     }
 
+    /// The next byte.
+    #[tactic(auto, unfolding(crate::specs::Step::number_field))]
+    #[inline(always)]
+    pub fn byte(&mut self) -> Result<u8, RecordFault>
+        ensures exact { Answers (λ x. x) self.new result (number_field 1 (reader_cursor self.old)) }
+    {
+        let mut part = self.part;
+        let read = part.get_u8();
+        self.pass(part, read)
+    }
+
     /// The number in the next two bytes.
     #[tactic(auto, unfolding(crate::specs::Step::number_field))]
     #[inline(always)]
     pub fn half(&mut self) -> Result<u16, RecordFault>
         ensures exact { Answers (λ x. x) self.new result (number_field 2 (reader_cursor self.old)) }
     {
-        let place = self.place();
         let mut part = self.part;
-        match part.get_u16() {
-            Ok(value) => {
-                self.part = part;
-                Ok(value)
-            }
-            Err(fault) => Err(Self::fault_at(place, fault)),
-        }
+        let read = part.get_u16();
+        self.pass(part, read)
     }
 
     /// The number in the next four bytes.
@@ -93,15 +100,9 @@ impl<'a> Reader<'a> {
         ensures exact { Answers (λ x. x) self.new result (number_field 4 (reader_cursor self.old)) }
         ensures left { OnOk result (length self.new.part.bytes.now + 4 ≡ length self.old.part.bytes.now) }
     {
-        let place = self.place();
         let mut part = self.part;
-        match part.get_u32() {
-            Ok(value) => {
-                self.part = part;
-                Ok(value)
-            }
-            Err(fault) => Err(Self::fault_at(place, fault)),
-        }
+        let read = part.get_u32();
+        self.pass(part, read)
     }
 
     /// The number in the next eight bytes.
@@ -110,15 +111,9 @@ impl<'a> Reader<'a> {
     pub fn double(&mut self) -> Result<u64, RecordFault>
         ensures exact { Answers (λ x. x) self.new result (number_field 8 (reader_cursor self.old)) }
     {
-        let place = self.place();
         let mut part = self.part;
-        match part.get_u64() {
-            Ok(value) => {
-                self.part = part;
-                Ok(value)
-            }
-            Err(fault) => Err(Self::fault_at(place, fault)),
-        }
+        let read = part.get_u64();
+        self.pass(part, read)
     }
 
     /// The next unsigned LEB128 number.
@@ -127,15 +122,9 @@ impl<'a> Reader<'a> {
     pub fn uleb(&mut self) -> Result<u64, RecordFault>
         ensures exact { Answers (λ x. x) self.new result (uleb_field (reader_cursor self.old)) }
     {
-        let place = self.place();
         let mut part = self.part;
-        match part.uleb() {
-            Ok(value) => {
-                self.part = part;
-                Ok(value)
-            }
-            Err(fault) => Err(Self::fault_at(place, fault)),
-        }
+        let read = part.uleb();
+        self.pass(part, read)
     }
 
     /// The next signed LEB128 number.
@@ -144,15 +133,9 @@ impl<'a> Reader<'a> {
     pub fn sleb(&mut self) -> Result<i64, RecordFault>
         ensures exact { Answers (λ x. x) self.new result (sleb_field (reader_cursor self.old)) }
     {
-        let place = self.place();
         let mut part = self.part;
-        match part.sleb() {
-            Ok(value) => {
-                self.part = part;
-                Ok(value)
-            }
-            Err(fault) => Err(Self::fault_at(place, fault)),
-        }
+        let read = part.sleb();
+        self.pass(part, read)
     }
 
     /// The bytes before the next zero byte, which is passed.
@@ -161,15 +144,9 @@ impl<'a> Reader<'a> {
     pub fn text(&mut self) -> Result<&'a [u8], RecordFault>
         ensures exact { Answers (λ text. text.now) self.new result (text_field (reader_cursor self.old)) }
     {
-        let place = self.place();
         let mut part = self.part;
-        match part.text0() {
-            Ok(value) => {
-                self.part = part;
-                Ok(value)
-            }
-            Err(fault) => Err(Self::fault_at(place, fault)),
-        }
+        let read = part.text0();
+        self.pass(part, read)
     }
 
     /// The next `len` bytes, as a reader of their own.
@@ -179,15 +156,10 @@ impl<'a> Reader<'a> {
         ensures exact { Answers (reader_cursor) self.new result (part_field len (reader_cursor self.old)) }
         ensures left { OnOk result (length self.new.part.bytes.now + len ≡ length self.old.part.bytes.now) }
     {
-        let place = self.place();
         let mut part = self.part;
-        match part.take(len) {
-            Ok(taken) => {
-                self.part = part;
-                Ok(Reader { part: taken })
-            }
-            Err(fault) => Err(Self::fault_at(place, fault)),
-        }
+        let read = part.take(len);
+        let taken = self.pass(part, read)?;
+        Ok(Reader { part: taken })
     }
 
     /// The number in the next `width` bytes.
