@@ -1,7 +1,7 @@
 -- What is read, brought into order and checked is what the section's relocations come to.
 use Rattle.std.specs.Prelude.{◌⊎◌, ◌==◌}
 use Rattle.std.specs.Option.{option_map}
-use Rattle.std.proofs.Common.{◌≡◌, ℕ, Bool, true, false, cond, List, [], ◌∷◌, map, Option, Some, None, Result, Ok, Err, refl, sym, ap, ◌∙◌, inl, inr}
+use Rattle.std.proofs.Common.{◌≡◌, ℕ, Bool, true, false, cond, List, [], ◌∷◌, map, Option, Some, None, Result, Ok, Err, refl, ap, ◌∙◌, inl, inr}
 use Rattle.sf_bytes.specs.declared.field.Field.{Field}
 use Rattle.sf_bytes.specs.Rising.{field_place}
 use Rattle.elf_read.specs.Sections.{section_bytes}

@@ -1,6 +1,6 @@
 -- A file has room for fewer than 2^32 relocations of one section.
-use Rattle.std.specs.Prelude.{◌&&◌, ◌||◌, ◌==◌}
-use Rattle.std.proofs.Common.{◌≡◌, ℕ, zero, suc, ◌+◌, ◌*◌, ◌/◌, ◌<◌, ◌≤◌, ◌^◌, Bool, true, false, IsTrue, List, [], ◌∷◌, ◌++◌, length, Ok, Err, refl, sym, ap, subst, ◌∙◌, arith, if◌then◌else◌}
+use Rattle.std.specs.Prelude.{◌&&◌, ◌==◌}
+use Rattle.std.proofs.Common.{◌≡◌, ℕ, zero, suc, ◌+◌, ◌*◌, ◌<◌, ◌≤◌, ◌^◌, Bool, true, false, IsTrue, List, [], ◌∷◌, ◌++◌, length, Ok, Err, refl, sym, ap, subst, ◌∙◌, arith, if◌then◌else◌}
 use Rattle.elf_read.specs.Header.{is_rel}
 use Rattle.elf_read.specs.Room.{is_rela, read_size, read_size_below, HasRoom}
 use Rattle.elf_read.specs.Sections.{section_count, sh_type, entry_count}
@@ -9,7 +9,7 @@ use Rattle.elf_place.specs.Place.{with_one}
 use Rattle.elf_place.specs.Relocations.{is_relocation_section, relocation_sections_below, relocation_sections}
 use Rattle.elf_reloc.specs.declared.fault.RelocFault.TheVariants.{RelSection}
 use Rattle.elf_reloc.specs.Reading.{Relocation, relocations_in, rel_check, has_addends}
-use Rattle.elf_reloc.proofs.GoingOn.{rel_check-first, relocations_in-length, relocations_in-none}
+use Rattle.elf_reloc.proofs.GoingOn.{relocations_in-length, relocations_in-none}
 
 -- ---- a list of sections to which one is added
 relocations_with : (file : List ℕ) (sections : List ℕ) (i : ℕ) → length (relocations_in file (sections ++ i ∷ [])) ≡ length (relocations_in file sections) + entry_count file i

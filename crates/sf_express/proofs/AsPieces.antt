@@ -9,7 +9,7 @@ use Rattle.sf_model.specs.declared.omission.Reason.{Reason}
 use Rattle.sf_model.specs.declared.rows.Row.{Row}
 use Rattle.sf_express.specs.declared.pieces.Piece.{Piece}
 use Rattle.sf_express.specs.Offsets.{DifferFrom, as_said, latest_content}
-use Rattle.sf_express.specs.Pieces.{ArePieces, AreSaidBy, PiecesBegin, PiecesDiffer, PiecesRise, content_in, piece_of_row, said_by}
+use Rattle.sf_express.specs.Pieces.{AreSaidBy, PiecesBegin, PiecesDiffer, PiecesRise, content_in, piece_of_row, said_by}
 use Rattle.sf_express.specs.Runs.{Saying, begins, row_there, rows_among, rows_of}
 use Rattle.sf_express.proofs.Found.{SaysContent, content_said, found_before, latest_said, rise_among}
 use Rattle.sf_express.proofs.Runs.{FoundBefore, begins_not, found_on, skips, takes}
