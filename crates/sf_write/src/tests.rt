@@ -66,6 +66,20 @@ fn section_of_two(alloc: Global, arch: Arch, rows: &[Row]) -> Result<Vec<u8>, Fa
     Ok(write(alloc, arch, 0x3000, &functions)?)
 }
 
+/// The section of the same two functions at 0x3000, stored in the other order, and the first one's rows as
+/// they are read back.
+fn section_of_two_stored(alloc: Global, arch: Arch, rows: &[Row]) -> Result<(Vec<u8>, Func), Fail>
+    requires { IsTrue (are_writable arch (function_of 0x1000 6 Key.A rows.now ∷ function_of 0x9000 6 Key.A rows.now ∷ [])) }
+{
+    let first = function(alloc, 0x1000, 6, Key::A, rows)?;
+    let second = function(alloc, 0x9000, 6, Key::A, rows)?;
+    let mut stored = StoredRows::new(alloc);
+    let last = stored.push(arch, &second)?;
+    let functions = [stored.push(arch, &first)?, last];
+    let section = write_stored(alloc, arch, 0x3000, &stored, &functions)?;
+    Ok((section, stored.function(alloc, &functions[0])?))
+}
+
 #[test]
 fn a_function_of_amd64_alone_and_twice(rt: HostRuntime) -> Result<(), Fail> {
     let rows = [
@@ -87,6 +101,9 @@ fn a_function_of_amd64_alone_and_twice(rt: HostRuntime) -> Result<(), Fail> {
 \xd0\x5f\x00\x00\x06\x00\x00\x00\x0f\x00\x00\x00\x04\x00\x00\x00\x00\x00\x00\x00\
 \x00\x03\x08\x01\x05\x10\xf0\x04\x04\x10\xf0\x05\x05\x08\xf0\x00\x03\x08\x01\x05\x10\xf0\x04\x04\x10\xf0\x05\x05\x08\xf0";
     assert_eq!(rt; twice.as_slice(), expected.as_slice());
+    let (stored, first) = section_of_two_stored(rt.alloc(), Arch::Amd64, &rows)?;
+    assert_eq!(rt; stored.as_slice(), expected.as_slice());
+    assert_eq!(rt; first.rows.as_slice(), rows.as_slice());
     Ok(())
 }
 
