@@ -131,7 +131,7 @@ short_rows_at width (r ∷ rows) le =
     let here = short_row width r.content le in
     let later = short_rows_at width rows le in omega (more, here, later, arith)
 
-pub short_rows : (rows : List Row) → rows_len rows ≤ 17 * length rows
+short_rows : (rows : List Row) → rows_len rows ≤ 17 * length rows
 unfolding rows_len
 short_rows rows = short_rows_at (start_width rows) rows (least_is_there (holds_unsigned (last_start rows)))
 

@@ -1,5 +1,5 @@
 -- A function whose rows are spelled is read back, and what is stored says what its entry and its rows are.
-use Rattle.std.proofs.Common.{◌≡◌, ◌≤◌, ◌+◌, ◌*◌, ◌&&◌, ℕ, Bool, true, false, IsTrue, List, [], ◌∷◌, ◌++◌, length, take, drop, refl, sym, ap, subst, ◌∙◌, arith, length-append}
+use Rattle.std.proofs.Common.{◌≡◌, ◌≤◌, ◌+◌, ◌&&◌, ℕ, Bool, true, false, IsTrue, List, [], ◌∷◌, ◌++◌, length, take, drop, refl, sym, ap, subst, ◌∙◌, arith, length-append}
 use Rattle.std.proofs.Math.Seq.{drop-append_seam, take-length}
 use Rattle.std.proofs.lemmas.List.Elements.{All-head, All-tail}
 use Rattle.std.specs.Prelude.{All, map}
@@ -20,7 +20,6 @@ use Rattle.sf_write.specs.Room.{offsets_fit, rows_fit}
 use Rattle.sf_write.specs.Row.{rows_bytes, rows_len, start_width}
 use Rattle.sf_write.specs.Stored.{IsSpelled, IsStored, function_by, range_of, stored_in}
 use Rattle.sf_write.proofs.Lengths.{length-rows}
-use Rattle.sf_write.proofs.NumbersFit.{short_rows}
 use Rattle.sf_write.proofs.RowsReadBack.{read_back}
 use Rattle.sf_write.proofs.RowsWritten.{least_is_there}
 
@@ -100,9 +99,6 @@ range_spelled rows f h = h.spelled.rows
 
 pub range_length : (rows : StoredRows) (f : StoredFunction) → IsStored rows f → length (range_of rows f) ≡ rows_len (stored_in rows f).rows
 range_length rows f h = ap length (range_spelled rows f h) ∙ length-rows (stored_in rows f).rows
-
-pub range_short : (rows : StoredRows) (f : StoredFunction) → IsStored rows f → length (range_of rows f) ≤ 17 * length (stored_in rows f).rows
-range_short rows f h = let len = range_length rows f h in let short = short_rows (stored_in rows f).rows in omega (len, short, arith)
 
 pub both : (a b : Bool) → IsTrue a → IsTrue b → IsTrue (a && b)
 both true b e g = g

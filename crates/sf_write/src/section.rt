@@ -1,7 +1,7 @@
 //! A whole section.
 
-ghost use Rattle.std.specs.Prelude.{◌≡◌, ◌++◌, ℕ, List, None, All, map, IsTrue, IfOk, OnOk, IfErr, vec_len};
-ghost use Rattle.std.specs.List.{flat_map, list_all};
+ghost use Rattle.std.specs.Prelude.{◌≡◌, ◌++◌, ℕ, List, None, All, map, IfOk, OnOk, IfErr, vec_len};
+ghost use Rattle.std.specs.List.{flat_map};
 ghost use Rattle.sf_model.specs.Function.{AreWritable};
 ghost use Rattle.sf_model.specs.Section.{AreBytes, Section};
 ghost use Rattle.sf_model.specs.Tight.{Narrow, Tight};

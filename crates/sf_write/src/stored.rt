@@ -29,10 +29,10 @@ pub struct StoredFunction {
 }
 
 impl StoredRows {
-    ghost use Rattle.std.specs.Prelude.{◌≡◌, ◌≤◌, ◌*◌, length, IfOk};
+    ghost use Rattle.std.specs.Prelude.{◌≡◌, IfOk};
     ghost use Rattle.sf_model.specs.Function.{IsWritable};
     ghost use Rattle.sf_write.specs.declared.stored.StoredFunction.{StoredFunction as stored_fact};
-    ghost use Rattle.sf_write.specs.Row.{rows_bytes, rows_len};
+    ghost use Rattle.sf_write.specs.Row.{rows_bytes};
     ghost use Rattle.sf_write.specs.Stored.{IsStored, range_of, stored_in};
 
     /// No rows. It allocates nothing until a function is stored.
@@ -94,14 +94,12 @@ impl StoredRows {
     }
 
     /// The bytes of a function's rows.
-    #[tactic(auto, using(crate::proofs::StoredFunctions::range_spelled, crate::proofs::StoredFunctions::range_length, crate::proofs::StoredFunctions::range_short))]
+    #[tactic(auto, using(crate::proofs::StoredFunctions::range_spelled))]
     #[inline(always)]
     pub(crate) fn range(&self, stored: &StoredFunction) -> &[u8]
         requires { IsStored self.now stored.now }
         ensures range { result.now ≡ range_of self.now stored.now }
         ensures bytes { result.now ≡ rows_bytes (stored_in self.now stored.now).rows }
-        ensures len { length result.now ≡ rows_len (stored_in self.now stored.now).rows }
-        ensures most { length result.now ≤ 17 * length (stored_in self.now stored.now).rows }
     {
         let (_, rest) = self.bytes.as_slice().split_at(stored.place);
         let (range, _) = rest.split_at(stored.len as usize);
@@ -109,7 +107,7 @@ impl StoredRows {
     }
 }
 
-/// A number as a `u32`, where it is one.
+/// A number as a `u32`. One that has more bits counts as out of memory.
 #[inline(always)]
 fn counted(number: usize) -> Result<u32, AllocError>
     ensures { IfOk result (λ n. n ≡ number) }
