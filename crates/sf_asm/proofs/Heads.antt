@@ -13,7 +13,8 @@ use Rattle.sf_model.specs.declared.omission.Reason.TheVariants.{EmptyRange}
 use Rattle.sf_model.specs.declared.omission.Span.{Span}
 use Rattle.sf_write.specs.declared.stored.StoredFunction.{StoredFunction}
 use Rattle.sf_write.specs.declared.stored.StoredRows.{StoredRows}
-use Rattle.sf_write.specs.Stored.{IsStored, stored_in}
+use Rattle.sf_decode.proofs.Checked.{rows_length}
+use Rattle.sf_write.specs.Stored.{IsStored, function_by, range_of, stored_in}
 use Rattle.sf_model.specs.declared.function.Func.{Func}
 use Rattle.sf_asm.specs.declared.entry.Entry.{Entry}
 use Rattle.sf_asm.specs.declared.entry.Outcome.TheVariants as outcome
@@ -24,7 +25,6 @@ use Rattle.sf_asm.specs.Entry.{kept_of, omitted_of, spans_of}
 use Rattle.sf_asm.specs.Heads.{AreHeads, HasRows, HaveRows, count_in, entries_in, entry_in, left_at, left_of, outcome_in, stored_at, stored_of}
 use Rattle.sf_asm.specs.Linking.{InOrder, start_of}
 use Rattle.sf_asm.specs.Order.{entry_rows}
-use Rattle.sf_asm.proofs.StoredRows.{rows_counted}
 
 -- ---- more rows are stored
 -- each function that is stored in one list is the same in the other
@@ -108,19 +108,22 @@ in_order rows old new moved rising stable = record {
 abbrev pub head_rows : Head → ℕ
 head_rows h = count_in h.outcome
 
-count_is : (rows : StoredRows) (span : Span) (o : StoredOutcome) → HasRows rows o → count_in o ≡ entry_rows (entry_in rows record { span = span; outcome = o })
-count_is rows span (Kept f) h = sym (rows_counted rows f h)
-count_is rows span (Left omission) h = refl
+rows_counted : (rows : StoredRows) (f : StoredFunction) → length (stored_in rows f).rows ≡ f.head.rows
+unfolding stored_in function_by
+rows_counted rows f = rows_length f.arch (range_of rows f) f.width 0 f.head.rows
 
-counts_by_recursion : (rows : StoredRows) (heads : List Head) → AllByRecursion (Has rows) heads → sum_by head_rows heads ≡ sum_by entry_rows (entries_in rows heads)
-counts_by_recursion rows [] h = refl
-counts_by_recursion rows (x ∷ xs) h =
-    let one = count_is rows x.span x.outcome h.0 in
-    let others = counts_by_recursion rows xs h.1 in
-    sum_by-cons head_rows x xs ∙ ap (λ (n : ℕ). n + sum_by head_rows xs) one ∙ ap (λ (n : ℕ). entry_rows (entry_in rows x) + n) others ∙ sym (sum_by-cons entry_rows (entry_in rows x) (entries_in rows xs))
+count_is : (rows : StoredRows) (span : Span) (o : StoredOutcome) → count_in o ≡ entry_rows (entry_in rows record { span = span; outcome = o })
+count_is rows span (Kept f) = sym (rows_counted rows f)
+count_is rows span (Left omission) = refl
+
+counts_in : (rows : StoredRows) (heads : List Head) → sum_by head_rows heads ≡ sum_by entry_rows (entries_in rows heads)
+counts_in rows [] = refl
+counts_in rows (x ∷ xs) =
+    sum_by-cons head_rows x xs ∙ ap (λ (n : ℕ). n + sum_by head_rows xs) (count_is rows x.span x.outcome) ∙ ap (λ (n : ℕ). entry_rows (entry_in rows x) + n) (counts_in rows xs)
+    ∙ sym (sum_by-cons entry_rows (entry_in rows x) (entries_in rows xs))
 
 pub counts_are : (heads : List Head) (entries : List Entry) → AreHeads heads entries → sum_by head_rows heads ≡ sum_by entry_rows entries
-counts_are heads entries h = counts_by_recursion h.rows heads (recursion_from_All (Has h.rows) heads h.stored) ∙ ap (sum_by entry_rows) (sym h.are)
+counts_are heads entries h = counts_in h.rows heads ∙ ap (sum_by entry_rows) (sym h.are)
 
 pub lengths_are : (heads : List Head) (entries : List Entry) → AreHeads heads entries → length heads ≡ length entries
 lengths_are heads entries h = sym (length-map heads (entry_in h.rows)) ∙ ap length (sym h.are)

@@ -1,5 +1,4 @@
 pub mod Kept
-pub mod StoredRows
 pub mod Heads
 pub mod KeptRows
 pub mod Overlaps

@@ -35,7 +35,6 @@ HaveRows rows heads = All (λ (h : Head). HasRows rows h.outcome) heads
 -- these are the heads of these functions
 pub record AreHeads (heads : List Head) (entries : List Entry) : Type 0 where
   pub rows : StoredRows
-  pub stored : HaveRows rows heads
   pub are : entries ≡ entries_in rows heads
 
 -- the number of a kept function's rows

@@ -3,10 +3,10 @@
 //! [`gather`] reads the records of 1 to 512 inputs, runs the instructions of each frame description entry and
 //! sorts out what SFrame Version 2 can express: the functions that are kept, a list for each input by rising
 //! start, the functions that are left out, with their reasons, and the addresses of all. [`gather_together`]
-//! makes one list of the functions that are kept; [`gather_with_sources`] also lends the functions that are left
-//! out as their records say them. [`row_at`] says what call frame information says at an address, in any of the
-//! functions. [`assemble`] writes the section of one input. An input has fewer than 2^32 bytes. All five
-//! allocate; no section is copied.
+//! makes one list of the functions that are kept, and one of their rows; [`gather_with_sources`] also lends the
+//! functions that are left out as their records say them. [`row_at`] says what call frame information says at an
+//! address, in any of the functions. [`assemble`] writes the section of one input. An input has fewer than 2^32
+//! bytes. All five allocate; no section is copied.
 //!
 //! [`kept_functions_recover_alike`], [`walks_are_alike`], [`linking_comes_to_one_result`],
 //! [`accepted_inputs_are_linked`] and [`inputs_that_can_be_gathered_are`] are laws: the kept functions recover

@@ -1,8 +1,16 @@
-use Rattle.std.proofs.Common.{◌++◌, ◌∷◌, [], List, ap, ◌∙◌}
+use Rattle.std.proofs.Common.{◌++◌, ◌∷◌, [], List, ap, subst, sym, ◌∙◌}
 use Rattle.sf_asm.specs.declared.entry.Entry.{Entry}
-use Rattle.sf_asm.specs.Heads.{entries_in, entry_in}
-use Rattle.sf_asm.proofs.Heads.{entries_more, entries_still}
+use Rattle.sf_asm.specs.Heads.{HaveRows, entries_in, entry_in}
+use Rattle.sf_asm.proofs.Heads.{entries_more, entries_still, have_more, have_still}
 use Rattle.sf_asm.proofs.entries.Entries.push.Goals as goal
+
+pub invariant_of-self-2 : goal.invariant_of-self-2
+invariant_of-self-2 c =
+    let old = c.self.inside.rows in
+    let new = c.store.new.rows in
+    let heads = c.self.inside.heads.items in
+    subst (HaveRows new) (sym c.in_ok-push.ensures.items)
+    (have_more new heads c.in_ok-head.head (have_still old new heads c.store.ensures.keeps c.self.invariant) c.in_ok-head.ensures.stored.0)
 
 pub returns : goal.returns
 returns c =
