@@ -25,11 +25,11 @@ pub fn read_data<'a>(body: &mut Reader<'a>) -> Result<Reader<'a>, RecordFault>
 
 // The form of function pointers, from its encoding.
 #[tactic(auto, unfolding(crate::specs::Augmentation::form_at))]
-fn read_form(data: &mut Reader<'_>) -> Result<PointerForm, RecordFault>
-    ensures { Answers form_view data.new result (form_at (reader_cursor data.old)) }
+fn read_form(left: &mut Reader<'_>) -> Result<PointerForm, RecordFault>
+    ensures { Answers form_view left.new result (form_at (reader_cursor left.old)) }
 {
-    let place = data.place();
-    let encoding = data.byte()?;
+    let place = left.place();
+    let encoding = left.byte()?;
     match usable(encoding) {
         Some(width) => Ok(PointerForm { encoding, width }),
         None => Err(RecordFault::Encoding(place)),
@@ -38,24 +38,24 @@ fn read_form(data: &mut Reader<'_>) -> Result<PointerForm, RecordFault>
 
 // Passes a personality pointer, and answers it where its width is fixed.
 #[tactic(auto, unfolding(crate::specs::Augmentation::personality_at))]
-fn read_personality(data: &mut Reader<'_>) -> Result<Option<Field>, RecordFault>
-    ensures { Answers (λ field. option_map pointer_view field) data.new result (personality_at (reader_cursor data.old)) }
+fn read_personality(left: &mut Reader<'_>) -> Result<Option<Field>, RecordFault>
+    ensures { Answers (λ field. option_map pointer_view field) left.new result (personality_at (reader_cursor left.old)) }
 {
-    let encoding_place = data.place();
-    let encoding = data.byte()?;
+    let encoding_place = left.place();
+    let encoding = left.byte()?;
     if encoding == OMIT {
         return Ok(None);
     }
-    let place = data.place();
-    let mut after = data.part;
+    let place = left.place();
+    let mut after = left.part;
     match skip(&mut after, encoding) {
         Err(PointerFault::Encoding) => Err(RecordFault::Encoding(encoding_place)),
         Err(PointerFault::Short) => Err(RecordFault::Short(place)),
         Err(PointerFault::Leb) => Err(RecordFault::Leb(place)),
         Ok(()) => match width(encoding) {
-            Some(bytes) => Ok(Some(data.pointer(bytes)?)),
+            Some(bytes) => Ok(Some(left.pointer(bytes)?)),
             None => {
-                data.part = after;
+                left.part = after;
                 Ok(None)
             }
         },
@@ -67,27 +67,27 @@ fn read_personality(data: &mut Reader<'_>) -> Result<Option<Field>, RecordFault>
 fn read_letter(
     letter: u8,
     augmentation: Augmentation,
-    data: &mut Reader<'_>,
+    left: &mut Reader<'_>,
 ) -> Result<Augmentation, RecordFault>
-    ensures { Answers augmentation_view data.new result (letter_at letter (augmentation_view augmentation) (reader_cursor data.old)) }
+    ensures { Answers augmentation_view left.new result (letter_at letter (augmentation_view augmentation) (reader_cursor left.old)) }
 {
     match letter {
         b'R' => {
-            let pointers = read_form(data)?;
+            let pointers = read_form(left)?;
             Ok(Augmentation {
                 pointers,
                 ..augmentation
             })
         }
         b'P' => {
-            let personality = read_personality(data)?;
+            let personality = read_personality(left)?;
             Ok(Augmentation {
                 personality,
                 ..augmentation
             })
         }
         b'L' => {
-            let lsda = Some(data.byte()?);
+            let lsda = Some(left.byte()?);
             Ok(Augmentation {
                 lsda,
                 ..augmentation

@@ -12,7 +12,7 @@ returns-in_err-augmentation c =
 
 pub loop-letter-preserved : goal.loop-letter-preserved
 loop-letter-preserved c =
-    sym (goes_on c.args.letters.now c.loop-letter.letter-index (augmentation_view c.loop-letter.augmentation) (reader_cursor c.loop-letter.left) (augmentation_view c.in_ok-augmentation.augmentation) (reader_cursor c.read_letter.new.data) c.loop-letter-test.true c.in_ok-augmentation.ensures) ∙ c.loop-letter.invariant
+    sym (goes_on c.args.letters.now c.loop-letter.letter-index (augmentation_view c.loop-letter.augmentation) (reader_cursor c.loop-letter.left) (augmentation_view c.in_ok-augmentation.augmentation) (reader_cursor c.read_letter.new.left) c.loop-letter-test.true c.in_ok-augmentation.ensures) ∙ c.loop-letter.invariant
 
 pub returns : goal.returns
 returns c =
