@@ -31,12 +31,12 @@ abbrev pub seen_as : {A B F : Type 0} → (A → B) → Result A F → Result B 
 seen_as view (Ok x) = Ok (view x)
 seen_as view (Err fault) = Err fault
 
--- what was read of one function is what becomes of it; or its fault was answered, or memory was wanting
+-- what was read of one function is what becomes of it; or its fault was answered, or memory ran out
 abbrev pub ReadsOne : Result OneRead AsmFault → Result Function AsmFault → Type 0
 ReadsOne (Ok read) given = seen_as entry_of given ≡ Ok read.entry
 ReadsOne (Err fault) given = (fault ≡ asm.NoMemory) ⊎ (given ≡ Err fault)
 
--- the fault of the first instruction of a section's function that can't be run was answered, or memory was wanting
+-- the fault of the first instruction of a section's function that can't be run was answered, or memory ran out
 abbrev pub IsRunFault : (section : ℕ) → AsmFault → Option MachineFault → Type 0
 IsRunFault section fault first = (fault ≡ asm.NoMemory) ⊎ (named (asm.Machine section) (unless first) ≡ Err fault)
 
@@ -44,11 +44,11 @@ IsRunFault section fault first = (fault ≡ asm.NoMemory) ⊎ (named (asm.Machin
 abbrev pub IsRowsFault : {X : Type 0} → (section : ℕ) → AsmFault → Result X MachineFault → Type 0
 IsRowsFault section fault given = (fault ≡ asm.NoMemory) ⊎ (named (asm.Machine section) given ≡ Err fault)
 
--- the fault of a section's records was answered, or memory was wanting
+-- the fault of a section's records was answered, or memory ran out
 abbrev pub IsRecordsFault : (section : ℕ) → AsmFault → Result (List EntryView) RecordFault → Type 0
 IsRecordsFault section fault given = (fault ≡ asm.NoMemory) ⊎ (named (asm.Record section) given ≡ Err fault)
 
--- the fault of a section's relocations was answered, or memory was wanting
+-- the fault of a section's relocations was answered, or memory ran out
 abbrev pub IsRelocFault : {X : Type 0} → (section : ℕ) → AsmFault → Result X RelocFault → Type 0
 IsRelocFault section fault given = (fault ≡ asm.NoMemory) ⊎ (named (asm.Reloc section) given ≡ Err fault)
 
@@ -57,7 +57,7 @@ abbrev pub after_read : {X F : Type 0} → List X → Result (List X) F → Resu
 after_read before (Ok others) = Ok (before ++ others)
 after_read before (Err fault) = Err fault
 
--- what was read of all functions stands behind what was read before; or the first fault was answered, or memory was wanting
+-- what was read of all functions stands behind what was read before; or the first fault was answered, or memory ran out
 abbrev pub ReadsMore : {X : Type 0} → Result X AsmFault → (before after : List Entry) → Result (List Function) AsmFault → Type 0
 ReadsMore (Ok x) before after given = after_read before (seen_as (map entry_of) given) ≡ Ok after
 ReadsMore (Err fault) before after given = (fault ≡ asm.NoMemory) ⊎ (given ≡ Err fault)
@@ -95,7 +95,7 @@ pub record AreTogether (before : Option Arch) (objects : List Object) (arch : Ar
   pub writable : AreWritable arch kept
   pub omitted_are : omitted ≡ omitted_of ordered
 
--- a fault of gathering is the first one, or memory was wanting
+-- a fault of gathering is the first one, or memory ran out
 abbrev pub IsFirstGathered : (before : Option Arch) → List Object → GatherFault → Type 0
 IsFirstGathered before objects fault = (fault ≡ gather.NoMemory) ⊎ Gathers before objects (Err fault)
 
@@ -120,6 +120,6 @@ pub record IsLinked (before : Option Arch) (objects : List Object) (at : ℕ) (s
 abbrev pub IsAssembled : Object → (at : ℕ) → (section : List ℕ) → (kept : ℕ) → (omitted : List Omitted) → Type 0
 IsAssembled object at section kept omitted = IsLinked None (object ∷ []) at section kept omitted
 
--- a fault of linking is the first one, or memory was wanting
+-- a fault of linking is the first one, or memory ran out
 abbrev pub IsFirstLinked : (before : Option Arch) → List Object → (at : ℕ) → LinkFault → Type 0
 IsFirstLinked before objects at fault = (fault ≡ link.NoMemory) ⊎ Links before objects at (Err fault)

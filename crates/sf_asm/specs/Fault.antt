@@ -15,7 +15,7 @@ use Rattle.sf_asm.specs.declared.fault.GatherFault.TheVariants as gather
 use Rattle.sf_asm.specs.declared.fault.LinkFault.{LinkFault}
 use Rattle.sf_asm.specs.declared.fault.LinkFault.TheVariants as link
 
--- a fault of placing, or of one section's relocations, records or instructions as the input's, where want of memory stands alone
+-- a fault of placing, or of one section's relocations, records or instructions as the input's, where out of memory stands alone
 abbrev pub wraps_place : PlaceFault → AsmFault
 wraps_place place_faults.NoMemory = asm.NoMemory
 wraps_place fault = asm.Place fault
@@ -36,7 +36,7 @@ abbrev pub wraps_input : (item : ℕ) → AsmFault → GatherFault
 wraps_input item asm.NoMemory = gather.NoMemory
 wraps_input item fault = gather.Input item fault
 
--- all but want of memory
+-- all but out of memory
 abbrev pub is_place_refusal : PlaceFault → Bool
 is_place_refusal place_faults.NoMemory = false
 is_place_refusal fault = true

@@ -22,7 +22,7 @@ ghost use Rattle.sf_asm.specs.Sources.{functions_lent};
 use crate::fault::AsmFault;
 use crate::frames::CallFrameSection;
 use crate::groups::Seen;
-use crate::read::Read;
+use crate::read::ReadFunctions;
 use crate::section::read_section;
 use elf_place::{PlaceFault, Placed};
 use elf_read::{Elf, ElfFault, Kind};
@@ -106,7 +106,7 @@ fn read_sections<'a>(
     arch: Arch,
     item: u32,
     placed: &Placed<'a>,
-    read: &mut Read<'a>,
+    read: &mut ReadFunctions<'a>,
 ) -> Result<(), AsmFault>
     ensures exact { ReadsMore result read.old.entries read.new.entries (sections_functions arch item (map (placed_section (placed_views.placing placed.now) (placed_views.shift_in placed.now)) (placed_views.eh_frames placed.now))) }
     ensures lent { OnOk result (LendsMore (functions_lent read.old.sources.items) (functions_lent read.new.sources.items) (sections_functions arch item (map (placed_section (placed_views.placing placed.now) (placed_views.shift_in placed.now)) (placed_views.eh_frames placed.now)))) }
@@ -128,7 +128,7 @@ pub fn read_elf<'a>(
     bytes: &'a [u8],
     base: u64,
     seen: &mut Seen<'a>,
-    read: &mut Read<'a>,
+    read: &mut ReadFunctions<'a>,
 ) -> Result<Arch, AsmFault>
     requires { length bytes.now < 2 ^ 32 }
     ensures exact { (signatures : List (List ℕ)) → HasSeen seen.old signatures → ReadsMore result read.old.entries read.new.entries (object_functions item signatures (record { form = Form.Elf; bytes = bytes.now; base = base })) }

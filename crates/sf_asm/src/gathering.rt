@@ -21,7 +21,7 @@ use crate::entry::{Entry, Head, Outcome, StoredOutcome};
 use crate::fault::GatherFault;
 use crate::input::Input;
 use crate::inputs::{one_machine, read_all};
-use crate::read::{AllFunctions, Read};
+use crate::read::{AllFunctions, ReadFunctions};
 use crate::source::Source;
 use sf_model::{Arch, Func, Omitted, Span};
 use sf_write::{StoredFunction, StoredRows};
@@ -171,7 +171,7 @@ fn ordered<'a>(
 {
     let AllFunctions { machines, read } = read_all(alloc, first_item(before), inputs)?;
     let arch = one_machine(before, &machines)?;
-    let Read {
+    let ReadFunctions {
         mut entries,
         sources,
     } = read;

@@ -15,7 +15,7 @@ ghost use Rattle.sf_asm.specs.Sources.{functions_lent};
 use crate::fault::{AsmFault, GatherFault};
 use crate::groups::Seen;
 use crate::input::Input;
-use crate::read::{AllFunctions, Read};
+use crate::read::{AllFunctions, ReadFunctions};
 use crate::reading::read_input;
 use sf_model::Arch;
 use std::alloc::Global;
@@ -37,7 +37,7 @@ fn read_item<'a>(
     item: u32,
     input: &Input<'a>,
     seen: &mut Seen<'a>,
-    read: &mut Read<'a>,
+    read: &mut ReadFunctions<'a>,
 ) -> Result<Arch, GatherFault>
     requires { length input.now.bytes.now < 2 ^ 32 }
     ensures reads { OnOk result ((signatures : List (List ℕ)) → HasSeen seen.old signatures → after_read read.old.entries (seen_as (map entry_of) (object_functions item signatures (object_of input.now))) ≡ Ok read.new.entries) }
@@ -71,7 +71,7 @@ pub fn read_all<'a>(
     let mut seen = Seen::new(alloc);
     let mut all = AllFunctions {
         machines: Vec::new(alloc),
-        read: Read::new(alloc),
+        read: ReadFunctions::new(alloc),
     };
     for (index, input) in inputs.iter().enumerate() {
         let item = first + index as u32;

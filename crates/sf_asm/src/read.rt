@@ -14,7 +14,7 @@ use std::alloc::Global;
 
 /// The functions that were read.
 #[derive(Drop)]
-pub struct Read<'a> {
+pub struct ReadFunctions<'a> {
     /// The functions, in the order of the inputs, sections and records.
     pub entries: Entries,
     /// Those of them that are left out, as their records say them, in the same order.
@@ -27,16 +27,16 @@ pub struct AllFunctions<'a> {
     /// The machine of each input.
     pub machines: Vec<Arch>,
     /// The functions.
-    pub read: Read<'a>,
+    pub read: ReadFunctions<'a>,
 }
 
-impl<'a> Read<'a> {
+impl<'a> ReadFunctions<'a> {
     /// No functions.
-    pub fn new(alloc: Global) -> Read<'a>
+    pub fn new(alloc: Global) -> ReadFunctions<'a>
         ensures entries { result.entries ≡ [] }
         ensures sources { result.sources.items ≡ [] }
     {
-        Read {
+        ReadFunctions {
             entries: Entries::new(alloc),
             sources: Vec::new(alloc),
         }

@@ -12,7 +12,7 @@ use crate::fault::AsmFault;
 use crate::frames::CallFrameSection;
 use crate::groups::Seen;
 use crate::input::Input;
-use crate::read::Read;
+use crate::read::ReadFunctions;
 use crate::section::read_section;
 use sf_model::{Arch, Form};
 use std::alloc::Global;
@@ -26,7 +26,7 @@ fn read_bare<'a>(
     arch: Arch,
     item: u32,
     input: &Input<'a>,
-    read: &mut Read<'a>,
+    read: &mut ReadFunctions<'a>,
 ) -> Result<(), AsmFault>
     requires { length input.now.bytes.now < 2 ^ 32 }
     ensures exact { ReadsMore result read.old.entries read.new.entries (sections_functions arch item (bare_section input.now.bytes.now input.now.base ∷ [])) }
@@ -51,7 +51,7 @@ pub fn read_input<'a>(
     item: u32,
     input: &Input<'a>,
     seen: &mut Seen<'a>,
-    read: &mut Read<'a>,
+    read: &mut ReadFunctions<'a>,
 ) -> Result<Arch, AsmFault>
     requires { length input.now.bytes.now < 2 ^ 32 }
     ensures exact { (signatures : List (List ℕ)) → HasSeen seen.old signatures → ReadsMore result read.old.entries read.new.entries (object_functions item signatures (object_of input.now)) }

@@ -33,7 +33,7 @@ use crate::fault::AsmFault;
 use crate::frames::CallFrameSection;
 use crate::initials::Initials;
 use crate::overlay::Overlay;
-use crate::read::Read;
+use crate::read::ReadFunctions;
 use crate::source::Source;
 use cfa_machine::{Columns, MachineFault, Runner};
 use eh_records::{Fde, RecordFault, Records};
@@ -257,7 +257,7 @@ fn read_frames<'a>(
     section: &CallFrameSection<'a>,
     overlay: &Overlay,
     records: &Records<'a>,
-    read: &mut Read<'a>,
+    read: &mut ReadFunctions<'a>,
 ) -> Result<(), AsmFault>
     requires machine { machine_of_records records.now ≡ section.now.arch }
     requires bytes { bytes_of_records records.now ≡ section.now.bytes.now }
@@ -291,7 +291,7 @@ pub fn read_section<'a>(
     alloc: Global,
     section: &CallFrameSection<'a>,
     placed: Option<&Placed<'_>>,
-    read: &mut Read<'a>,
+    read: &mut ReadFunctions<'a>,
 ) -> Result<(), AsmFault>
     ensures exact { ReadsMore result read.old.entries read.new.entries (section_functions section.now.arch section.now.item (seen_section section.now (relocations_by (option_map (λ p. placing p.now) placed.entry) section.now.number))) }
     ensures lent { OnOk result (LendsMore (functions_lent read.old.sources.items) (functions_lent read.new.sources.items) (section_functions section.now.arch section.now.item (seen_section section.now (relocations_by (option_map (λ p. placing p.now) placed.entry) section.now.number)))) }

@@ -23,6 +23,6 @@ pub record IsSlimmed (bytes : List ℕ) (table : Table) (at : ℕ) (section : Li
   pub function_count : functions ≡ length needed
   pub row_count : rows ≡ row_count needed
 
--- the fault is the first one, or memory was wanting
+-- the fault is the first one, or memory ran out
 abbrev pub IsFirstFault : (bytes : List ℕ) → Table → (at : ℕ) → SlimFault → Type 0
 IsFirstFault bytes table at fault = (fault ≡ NoMemory) ⊎ Slims bytes table at (Err fault)

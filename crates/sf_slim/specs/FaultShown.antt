@@ -10,13 +10,13 @@ use Rattle.sf_merge.specs.FaultShown.{shown_of_merging}
 use Rattle.sf_slim.specs.declared.fault.SlimFault.{SlimFault}
 use Rattle.sf_slim.specs.declared.fault.SlimFault.TheVariants.{Overlap, OutOfReach, NoMemory}
 
--- the item and the entry's place; the start, without an item; want of memory has no line
+-- the item and the entry's place; the start, without an item; out of memory has no line
 abbrev pub shown_of_slimming : Option ℕ → SlimFault → FaultShown
 shown_of_slimming item (Overlap place) = record { item = item; group = group.Section; number = (number_and_place (decode.Overlap place)).0; values = place ∷ [] }
 shown_of_slimming item (OutOfReach start) = shown_of_merging None (merge.OutOfReach start)
 shown_of_slimming item NoMemory = shown_of_merging None merge.NoMemory
 
--- all but want of memory
+-- all but out of memory
 abbrev pub is_refusal : SlimFault → Bool
 is_refusal (Overlap place) = true
 is_refusal (OutOfReach start) = true

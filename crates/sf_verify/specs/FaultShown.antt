@@ -9,7 +9,7 @@ use Rattle.sf_asm.specs.FaultShown.{shown_of_gathering, not_shown}
 use Rattle.sf_verify.specs.declared.fault.VerifyFault.{VerifyFault}
 use Rattle.sf_verify.specs.declared.fault.VerifyFault.TheVariants.{Gather, Overlap, NoMemory}
 
--- an overlap in the section is a fault of the section, as where one that says to be sorted has it; want of memory has no line
+-- an overlap in the section is a fault of the section, as where one that says to be sorted has it; out of memory has no line
 abbrev pub shown_of_verifying : Option ℕ → VerifyFault → FaultShown
 shown_of_verifying item (Gather fault) = shown_of_gathering None fault
 shown_of_verifying item (Overlap place) = record { item = item; group = group.Section; number = (number_and_place (decode.Overlap place)).0; values = place ∷ [] }
@@ -21,7 +21,7 @@ is_refusal (Gather fault) = is_gather_refusal fault
 is_refusal (Overlap place) = true
 is_refusal NoMemory = false
 
--- what the call returns: a refusal, a limit, or want of memory on its own
+-- what the call returns: a refusal, a limit, or that memory ran out
 abbrev pub is_answered : VerifyFault → Bool
 is_answered (Gather fault) = is_wrapped_answered fault
 is_answered (Overlap place) = true
