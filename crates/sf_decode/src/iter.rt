@@ -23,13 +23,7 @@ impl<'a> RowIter<'a> {
     /// The iterator over so many rows from a place of the sub-section of rows on, by the width of their
     /// starts. It reads any bytes: what lies past their end reads as 0.
     #[inline(always)]
-    pub fn new(
-        arch: Arch,
-        rows: &'a [u8],
-        start_width: u8,
-        first: u32,
-        count: u32,
-    ) -> RowIter<'a>
+    pub fn new(arch: Arch, rows: &'a [u8], start_width: u8, first: u32, count: u32) -> RowIter<'a>
         ensures { rows_left result ≡ rows_in arch rows.now start_width first count }
     {
         RowIter {
