@@ -1,6 +1,5 @@
 pub mod Permutations
 pub mod Ranked
-pub mod Written
 pub mod Checks
 pub mod Read
 pub mod Apart
@@ -14,3 +13,4 @@ pub mod SomeResult
 pub mod OneRising
 pub mod InParts
 pub mod PartsCan
+pub mod Heads

@@ -1,5 +1,5 @@
 -- What the standard's definition of a section says of its functions.
-use Rattle.std.proofs.Common.{◌≡◌, ℕ, ◌+◌, ◌^◌, ◌≤◌, IsTrue, List, [], ◌∷◌, All, length, map, refl, subst, arith}
+use Rattle.std.proofs.Common.{◌≡◌, ℕ, ◌+◌, ◌^◌, ◌<◌, ◌≤◌, IsTrue, List, [], ◌∷◌, All, length, map, get_or, refl, sym, subst, arith}
 use Rattle.std.proofs.lemmas.List.Elements.{All-nil, All-cons, All-head, All-tail, All-append}
 use Rattle.sf_model.specs.declared.machine.Arch.{Arch}
 use Rattle.sf_model.specs.declared.rows.Row.{Row}
@@ -7,7 +7,7 @@ use Rattle.sf_model.specs.declared.function.Shape.{Shape}
 use Rattle.sf_model.specs.declared.function.Shape.TheVariants.{Plain, Repeat}
 use Rattle.sf_model.specs.declared.function.Func.{Func}
 use Rattle.sf_model.specs.Content.{content_fits}
-use Rattle.sf_model.specs.Function.{RowsRise, key_fits, shape_fits}
+use Rattle.sf_model.specs.Function.{IsWritable, RowsRise, key_fits, shape_fits}
 use Rattle.sf_model.specs.RowBytes.{spelled_row}
 use Rattle.sf_model.specs.Section.{AnyWidth, EntryStands, FunctionRowsStand, FunctionsStand, IsRepeatSize, RowsStand}
 use Rattle.sf_model.specs.Table.{Table}
@@ -15,6 +15,7 @@ use Rattle.sf_model.specs.Union.{all_functions}
 use Rattle.sf_decode.specs.declared.view.View.{View}
 use Rattle.sf_decode.specs.View.{table_of}
 use Rattle.sf_decode.proofs.Holds.{not_eq}
+use Rattle.sf_merge.specs.Heads.{IsStorable}
 use Rattle.sf_merge.specs.Views.{IsRead}
 
 -- the contents of a function's rows are those of its machine
@@ -63,3 +64,10 @@ all_sound arch (v ∷ views) read machines =
     All-append (IsSound arch) (table_of v).functions (all_functions (map table_of views))
     (subst (λ (a : Arch). All (IsSound a) (table_of v).functions) machine (view_sound v (All-head IsRead v views read)))
     (all_sound arch views (All-tail IsRead v views read) (All-tail (λ (table : Table). table.arch ≡ arch) (table_of v) (map table_of views) machines))
+
+-- a function of a section can be stored
+pub storable : (view : View) (number : ℕ) (arch : Arch) (f : Func) → IsRead view → arch ≡ (table_of view).arch → number < length (table_of view).functions → get_or (table_of view).functions number f ≡ f → 0 < f.size
+    → IsStorable arch f
+storable view number arch f read machine lt is size rows =
+    let sound = subst (IsSound (table_of view).arch) is (view_sound view read number f lt) in
+    subst (λ (a : Arch). IsWritable a f) (sym machine) record { size = size; end = sound.end; has_rows = rows; rows_rise = sound.rise; contents = sound.fits; key = sound.key; shape = sound.shape }

@@ -1,5 +1,6 @@
 pub mod Located
 pub mod Merging
+pub mod Heads
 pub mod Joining
 pub mod Views
 pub mod Answers

@@ -48,12 +48,15 @@ limits_fault tables =
 
 -- ---- overlaps
 -- each but the last, with the one behind it
-abbrev pub neighbours : List Located → List (Located × Located)
+abbrev pub neighbours : {X : Type 0} → List X → List (X × X)
 neighbours ordered = zip ordered (drop 1 ordered)
 
--- the second begins before the end of the first
+-- by these starts and sizes, the second begins before the end of the first
+abbrev pub overlap_by : {X : Type 0} (start size : X → ℕ) → X × X → Bool
+overlap_by start size pair = nat_lt (start pair.1) (start pair.0 + size pair.0)
+
 abbrev pub overlap : Located × Located → Bool
-overlap pair = nat_lt pair.1.func.start (pair.0.func.start + pair.0.func.size)
+overlap = overlap_by (λ (l : Located). l.func.start) (λ (l : Located). l.func.size)
 
 abbrev pub shared_by : Located × Located → MergeFault
 shared_by pair = Overlap pair.0.func.start pair.0.item pair.1.func.start pair.1.item

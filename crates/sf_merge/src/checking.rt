@@ -1,13 +1,17 @@
 //! The checks of sections that are to be merged.
 
 ghost use Rattle.std.specs.Prelude.{◌≡◌, ◌<◌, ◌≤◌, ◌+◌, Some, None, map, length, All, IfOk, OnOk, IfErr};
+ghost use Rattle.std.specs.List.{find};
+ghost use Rattle.std.specs.Option.{option_map};
 ghost use Rattle.sf_model.specs.Table.{Table as table_fact};
 ghost use Rattle.sf_decode.specs.View.{table_of};
-ghost use Rattle.sf_merge.specs.Merging.{same_arch, mixed_fault, limits_fault, overlap_fault, unless};
+ghost use Rattle.sf_merge.specs.Heads.{heads_overlap, shared_by_heads};
+ghost use Rattle.sf_merge.specs.Merging.{neighbours, same_arch, mixed_fault, limits_fault, overlap_fault, unless};
 
 use crate::fault::MergeFault;
-use crate::located::Located;
-use crate::overlap::first_overlap;
+use crate::functions::LocatedFunctions;
+use crate::head::LocatedHead;
+use crate::overlap::{HasAddresses, first_overlap};
 use sf_decode::View;
 use sf_model::Arch;
 
@@ -63,18 +67,24 @@ pub fn check_limits(views: &[View<'_>]) -> Result<(), MergeFault>
     Ok(())
 }
 
-/// Tries each function against the one before it.
-#[tactic(auto, unfolding(crate::specs::Merging::overlap_fault))]
-pub fn check_overlap(ordered: &[Located]) -> Result<(), MergeFault>
-    ensures { result ≡ unless (overlap_fault ordered.now) }
+/// Tries the head of each function against the one before it.
+fn check_heads(heads: &[LocatedHead]) -> Result<(), MergeFault>
+    ensures { result ≡ unless (option_map shared_by_heads (find heads_overlap (neighbours heads.now))) }
 {
-    match first_overlap(ordered) {
+    match first_overlap(heads) {
         Some((before, function)) => Err(MergeFault::Overlap(
-            before.func.start,
+            before.start(),
             before.item,
-            function.func.start,
+            function.start(),
             function.item,
         )),
         None => Ok(()),
     }
+}
+
+/// Tries each function against the one before it.
+pub fn check_overlap(ordered: &LocatedFunctions) -> Result<(), MergeFault>
+    ensures { result ≡ unless (overlap_fault ordered.now) }
+{
+    check_heads(ordered.heads())
 }

@@ -5,7 +5,8 @@
 //! What merging comes to is one definition (`Merges` of `specs/Merging.antt`): these functions, or the first
 //! fault. The answer is the `Tight` and `Narrow` section, by the definitions of `sf_model`, of the tables'
 //! union (`IsUnion`). [`join`] makes lists of functions into one list by rising start. [`in_order`] reads the
-//! functions of one section, by start, and [`first_overlap`] finds the first two that share an address.
+//! functions of one section, by start, and [`first_overlap`] finds the first two that share an address, with
+//! rows or without.
 //!
 //! Laws: merging comes to one result ([`merging_comes_to_one_result`], [`merging_comes_to_a_result`]), so the
 //! answer is Ok exactly where the definition has no fault; a look-up in the union finds what the one section
@@ -13,12 +14,16 @@
 //! bytes of all merged at once ([`merging_in_parts`]).
 //!
 //! The caller owes `merge` from 1 to 512 sections, and `join` lists that rise, of functions with bytes that
-//! share no address. Both allocate. All functions are sorted once: n functions cost about n log n steps, and
-//! one pass where they are in order, as those of one section by rising start are.
+//! share no address. Both allocate. `merge` allocates nothing for each function: it keeps a head of each in
+//! one list, and stores the rows of all in another, as the bytes of the section that is made. All functions are
+//! sorted once: n functions cost about n log n steps, and one pass where they are in order, as those of one
+//! section by rising start are.
 #![tactic(auto)]
 
 mod checking;
 mod fault;
+mod functions;
+mod head;
 mod joining;
 mod laws;
 mod located;
@@ -35,7 +40,7 @@ pub use laws::{
 };
 pub use located::{Located, Rank};
 pub use merging::{MergedSection, merge};
-pub use overlap::first_overlap;
+pub use overlap::{HasAddresses, first_overlap};
 pub use reading::in_order;
 
 #[cfg(test)]

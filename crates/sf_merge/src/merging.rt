@@ -1,42 +1,45 @@
 //! Sections made into one.
 
-ghost use Rattle.std.specs.Prelude.{◌≡◌, ◌<◌, ◌≤◌, ◌^◌, map, length, IfOk, IfErr};
-ghost use Rattle.sf_model.specs.Union.{is_of_use};
+ghost use Rattle.std.specs.Prelude.{◌≡◌, ◌<◌, ◌≤◌, ◌^◌, All, map, length, IfOk, IfErr};
 ghost use Rattle.sf_decode.specs.View.{table_of};
-ghost use Rattle.sf_model.specs.Table.{row_count};
+ghost use Rattle.sf_write.specs.Stored.{IsStored, stored_count, stored_in};
 ghost use Rattle.sf_merge.specs.Answers.{IsMerged, IsFirstFault};
+ghost use Rattle.sf_merge.specs.Heads.{stored_of};
 ghost use Rattle.sf_merge.specs.Merging.{written};
 
 use crate::checking::{check_limits, check_machines, check_overlap};
 use crate::fault::{MergeFault, write_fault};
-use crate::located::Located;
+use crate::functions::LocatedFunctions;
+use crate::head::{FunctionHead, LocatedHead};
 use crate::reading::all_in_order;
 use sf_base::NoMemory;
 use sf_decode::View;
-use sf_model::Func;
-use sf_write::write;
+use sf_write::{StoredFunction, StoredRows, write_stored};
 use std::alloc::Global;
 
-/// Whether a function holds an address and has a row.
-#[inline(always)]
-fn is_of_use(func: &Func) -> bool
-    ensures { result ≡ is_of_use func.now }
-{
-    func.size != 0 && !func.rows.as_slice().is_empty()
-}
-
-/// The functions that hold an address and have a row.
-#[tactic(auto, using(crate::proofs::Written::written_kept, crate::proofs::Written::written_left))]
-fn written(alloc: Global, ordered: Vec<Located>) -> Result<Vec<Func>, NoMemory>
-    ensures { IfOk result (λ functions. functions.items ≡ written ordered.items) }
+/// The functions that have rows.
+fn with_rows(alloc: Global, heads: Vec<LocatedHead>) -> Result<Vec<StoredFunction>, NoMemory>
+    ensures { IfOk result (λ functions. functions.items ≡ stored_of heads.items) }
 {
     let mut functions = Vec::new(alloc);
-    for located in ordered {
-        if is_of_use(&located.func) {
-            functions.push(located.func)?;
+    for located in heads {
+        if let FunctionHead::WithRows(function) = located.head {
+            functions.push(function)?;
         }
     }
     Ok(functions)
+}
+
+/// The functions that hold an address and have a row, and their rows.
+fn written(
+    alloc: Global,
+    ordered: LocatedFunctions,
+) -> Result<(Vec<StoredFunction>, StoredRows), NoMemory>
+    ensures stored { IfOk result (λ w. All (IsStored w.1) w.0.items) }
+    ensures written { IfOk result (λ w. map (stored_in w.1) w.0.items ≡ written ordered) }
+{
+    let (heads, rows) = ordered.into_parts();
+    Ok((with_rows(alloc, heads)?, rows))
 }
 
 /// A merged section, and how many functions and rows it has.
@@ -48,13 +51,13 @@ pub struct MergedSection {
 }
 
 /// How many rows functions have.
-fn count_rows(functions: &[Func]) -> u32
-    requires { row_count functions.now ≤ 2 ^ 24 }
-    ensures { result ≡ row_count functions.now }
+fn count_rows(functions: &[StoredFunction]) -> u32
+    requires { stored_count functions.now ≤ 2 ^ 24 }
+    ensures { result ≡ stored_count functions.now }
 {
     let mut rows = 0;
-    for func in functions {
-        rows += func.rows.as_slice().len() as u32;
+    for function in functions {
+        rows += function.head.rows;
     }
     rows
 }
@@ -79,8 +82,8 @@ pub fn merge(alloc: Global, views: &[View<'_>], at: u64) -> Result<MergedSection
     check_limits(views)?;
     let ordered = all_in_order(alloc, views)?;
     check_overlap(&ordered)?;
-    let functions = written(alloc, ordered)?;
-    match write(alloc, arch, at, &functions) {
+    let (functions, rows) = written(alloc, ordered)?;
+    match write_stored(alloc, arch, at, &rows, &functions) {
         Ok(section) => Ok(MergedSection {
             section,
             functions: functions.len() as u32,

@@ -3,21 +3,54 @@
 ghost use Rattle.std.specs.Prelude.{◌≡◌};
 ghost use Rattle.std.specs.Option.{option_map};
 ghost use Rattle.std.specs.List.{find};
-ghost use Rattle.sf_merge.specs.Merging.{neighbours, overlap};
+ghost use Rattle.sf_merge.specs.Merging.{neighbours, overlap_by};
 
 use crate::located::Located;
 
+/// Something that takes up addresses.
+pub trait HasAddresses {
+    ghost use Rattle.std.specs.Prelude.{ℕ};
+
+    ghost first_address: { Self → ℕ };
+
+    ghost size_of: { Self → ℕ };
+
+    /// Its first address.
+    fn start(&self) -> u64
+        ensures { result ≡ first_address self.now };
+
+    /// Its size in bytes.
+    fn size(&self) -> u32
+        ensures { result ≡ size_of self.now };
+}
+
+impl HasAddresses for Located {
+    ghost first_address = { λ l. l.func.start };
+
+    ghost size_of = { λ l. l.func.size };
+
+    #[inline(always)]
+    fn start(&self) -> u64 {
+        self.func.start
+    }
+
+    #[inline(always)]
+    fn size(&self) -> u32 {
+        self.func.size
+    }
+}
+
 /// Whether the second function begins before the end of the first.
 #[inline(always)]
-fn shares_address(before: &Located, function: &Located) -> bool
-    ensures { result ≡ overlap (before.now, function.now) }
+fn shares_address<F: HasAddresses>(before: &F, function: &F) -> bool
+    ensures { result ≡ overlap_by F.first_address F.size_of (before.now, function.now) }
 {
-    u128::from(function.func.start) < u128::from(before.func.start) + u128::from(before.func.size)
+    u128::from(function.start()) < u128::from(before.start()) + u128::from(before.size())
 }
 
 /// The first two neighbours that share an address.
-pub fn first_overlap(ordered: &[Located]) -> Option<(&Located, &Located)>
-    ensures { option_map (λ pair. (pair.0.now, pair.1.now)) result ≡ find overlap (neighbours ordered.now) }
+pub fn first_overlap<F: HasAddresses>(ordered: &[F]) -> Option<(&F, &F)>
+    ensures { option_map (λ pair. (pair.0.now, pair.1.now)) result ≡ find (overlap_by F.first_address F.size_of) (neighbours ordered.now) }
 {
     let (first, later) = ordered.split_first()?;
     let mut before = first;

@@ -7,11 +7,50 @@ ghost use Rattle.sf_decode.specs.View.{table_of, function_of};
 ghost use Rattle.sf_merge.specs.Located.{compared, has_bytes, located, sized, InOrder};
 ghost use Rattle.sf_merge.specs.Views.{IsRead};
 
+use crate::functions::LocatedFunctions;
 use crate::located::Located;
 use sf_base::NoMemory;
 use sf_decode::{View, functions_are_numbered, view_is_a_section};
-use sf_model::{Func, Rows};
+use sf_model::{Func, Key, Rows, Shape};
 use std::alloc::Global;
+
+/// A function to read into, with memory for rows.
+fn empty_function(alloc: Global, rows: u32) -> Result<Func, NoMemory> {
+    Ok(Func {
+        start: 0,
+        size: 0,
+        shape: Shape::Plain,
+        key: Key::A,
+        rows: Rows::with_capacity(alloc, rows as usize)?,
+    })
+}
+
+/// Reads the rows of an entry. Those that were in the list are taken out.
+#[inline(always)]
+fn read_rows(view: &View<'_>, number: u32, rows: &mut Rows) -> Result<(), NoMemory>
+    requires { number < length (table_of view.now).functions }
+    ensures { OnOk result (rows.new ≡ (function_of view.now number).rows) }
+{
+    rows.clear();
+    for row in view.rows(number) {
+        rows.push(row)?;
+    }
+    Ok(())
+}
+
+/// Reads the function of an entry, with its rows, over the one that is there.
+#[inline(always)]
+fn read_function(view: &View<'_>, number: u32, func: &mut Func) -> Result<(), NoMemory>
+    requires { number < length (table_of view.now).functions }
+    ensures { OnOk result (func.new ≡ function_of view.now number) }
+{
+    let head = view.func(number);
+    func.start = head.start;
+    func.size = head.size;
+    func.shape = head.shape;
+    func.key = head.key;
+    read_rows(view, number, &mut func.rows)
+}
 
 /// The function of an entry, with its rows.
 #[inline(always)]
@@ -19,18 +58,9 @@ fn function(alloc: Global, view: &View<'_>, number: u32) -> Result<Func, NoMemor
     requires { number < length (table_of view.now).functions }
     ensures { IfOk result (λ func. func ≡ function_of view.now number) }
 {
-    let head = view.func(number);
-    let mut rows = Rows::with_capacity(alloc, head.rows as usize)?;
-    for row in view.rows(number) {
-        rows.push(row)?;
-    }
-    Ok(Func {
-        start: head.start,
-        size: head.size,
-        shape: head.shape,
-        key: head.key,
-        rows,
-    })
+    let mut func = empty_function(alloc, view.func(number).rows)?;
+    read_function(view, number, &mut func)?;
+    Ok(func)
 }
 
 /// Appends the functions of a section that have bytes, by entry.
@@ -72,19 +102,41 @@ pub fn in_order(alloc: Global, item: u32, view: &View<'_>) -> Result<Vec<Located
     Ok(functions)
 }
 
+/// Stores the functions of a section that have bytes, by entry. Each is read over `spare`.
+fn store_functions(
+    all: &mut LocatedFunctions,
+    item: u32,
+    view: &View<'_>,
+    spare: &mut Func,
+) -> Result<(), NoMemory>
+    ensures all { OnOk result (all.new ≡ all.old ++ filter has_bytes (located item (table_of view.now))) }
+    ensures read { IsRead view.now }
+{
+    view_is_a_section(view);
+    functions_are_numbered(view);
+    for number in 0..view.len() {
+        if view.func(number).size != 0 {
+            read_function(view, number, spare)?;
+            all.push(view.arch(), item, number, spare)?;
+        }
+    }
+    Ok(())
+}
+
 /// The functions of all sections that have bytes, in order. They are sorted once, which costs one pass where
 /// they are in order.
-pub fn all_in_order(alloc: Global, views: &[View<'_>]) -> Result<Vec<Located>, NoMemory>
+pub fn all_in_order(alloc: Global, views: &[View<'_>]) -> Result<LocatedFunctions, NoMemory>
     requires { length views.now ≤ 512 }
-    ensures order { IfOk result (λ v. InOrder (sized (map table_of views.now)) v.items) }
+    ensures order { IfOk result (λ all. InOrder (sized (map table_of views.now)) all) }
     ensures read { OnOk result (All IsRead views.now) }
 {
-    let mut all = Vec::new(alloc);
+    let mut all = LocatedFunctions::new(alloc);
+    let mut spare = empty_function(alloc, 0)?;
     let mut item = 0;
     for view in views {
-        push_functions(alloc, &mut all, item, view)?;
+        store_functions(&mut all, item, view, &mut spare)?;
         item += 1;
     }
-    all.sort_by_key(|function| function.rank())?;
+    all.order()?;
     Ok(all)
 }

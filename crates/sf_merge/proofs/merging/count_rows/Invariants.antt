@@ -1,6 +1,6 @@
 use Rattle.std.proofs.Common.{◌≡◌, ◌+◌, drop}
-use Rattle.sf_model.specs.Table.{row_count}
+use Rattle.sf_write.specs.Stored.{stored_count}
 use Rattle.sf_merge.proofs.merging.count_rows.Given as goal
 
-abbrev pub invariant-loop-func : goal.invariant-loop-func
-invariant-loop-func l = l.rows + row_count (drop l.func-index l.functions) ≡ row_count l.functions
+abbrev pub invariant-loop-function : goal.invariant-loop-function
+invariant-loop-function l = l.rows + stored_count (drop l.function-index l.functions) ≡ stored_count l.functions

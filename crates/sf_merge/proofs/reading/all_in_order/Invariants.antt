@@ -8,6 +8,6 @@ use Rattle.sf_merge.proofs.reading.all_in_order.Given as goal
 abbrev pub invariant-loop-view : goal.invariant-loop-view
 invariant-loop-view l = record {
   item : l.item ≡ l.view-index;
-  all : sized (map table_of l.views) ≡ l.all.items ++ sized_from l.item (map table_of (drop l.view-index l.views));
+  all : sized (map table_of l.views) ≡ l.all ++ sized_from l.item (map table_of (drop l.view-index l.views));
   read : All IsRead (take l.view-index l.views);
 }

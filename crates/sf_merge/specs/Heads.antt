@@ -1,0 +1,71 @@
+-- GNU SFrame specification, Version 2, function descriptor entries: functions of several sections whose rows are stored in one list, with
+-- a head for each.
+use Rattle.std.specs.Prelude.{◌≡◌, ◌<◌, Bool, true, List, [], All, map, length, Option, Some, None}
+use Rattle.std.specs.List.{filter_map}
+use Rattle.sf_model.specs.declared.machine.Arch.{Arch}
+use Rattle.sf_model.specs.declared.function.Func.{Func}
+use Rattle.sf_model.specs.declared.function.FuncHead.{FuncHead}
+use Rattle.sf_model.specs.Function.{IsWritable}
+use Rattle.sf_model.specs.Union.{is_of_use}
+use Rattle.sf_write.specs.declared.stored.StoredFunction.{StoredFunction}
+use Rattle.sf_write.specs.declared.stored.StoredRows.{StoredRows}
+use Rattle.sf_write.specs.Stored.{IsStored, stored_in}
+use Rattle.sf_merge.specs.declared.fault.MergeFault.{MergeFault}
+use Rattle.sf_merge.specs.declared.fault.MergeFault.TheVariants.{Overlap}
+use Rattle.sf_merge.specs.declared.head.FunctionHead.{FunctionHead}
+use Rattle.sf_merge.specs.declared.head.FunctionHead.TheVariants.{WithRows, WithoutRows}
+use Rattle.sf_merge.specs.declared.head.LocatedHead.{LocatedHead}
+use Rattle.sf_merge.specs.declared.located.Located.{Located}
+use Rattle.sf_merge.specs.declared.located.Rank.{Rank}
+use Rattle.sf_merge.specs.Merging.{overlap_by}
+
+-- the function without its rows
+abbrev pub plain_head : FunctionHead → FuncHead
+plain_head (WithRows f) = f.head
+plain_head (WithoutRows head) = head
+
+abbrev pub head_rank : LocatedHead → Rank
+head_rank h = record { start = (plain_head h.head).start; item = h.item; number = h.number }
+
+-- the function with its rows
+abbrev pub function_in : StoredRows → FunctionHead → Func
+function_in rows (WithRows f) = stored_in rows f
+function_in rows (WithoutRows head) = record { start = head.start; size = head.size; shape = head.shape; key = head.key; rows = [] }
+
+abbrev pub located_in : StoredRows → LocatedHead → Located
+located_in rows h = record { func = function_in rows h.head; item = h.item; number = h.number }
+
+abbrev pub all_in : StoredRows → List LocatedHead → List Located
+all_in rows heads = map (located_in rows) heads
+
+-- the rows of the function are stored, and it holds an address; or it has no rows
+abbrev pub HasRows : StoredRows → FunctionHead → Type 0
+HasRows rows (WithRows f) = IsStored rows f × (is_of_use (stored_in rows f) ≡ true)
+HasRows rows (WithoutRows head) = Unit {0}
+
+abbrev pub HaveRows : StoredRows → List LocatedHead → Type 0
+HaveRows rows heads = All (λ (h : LocatedHead). HasRows rows h.head) heads
+
+-- where it has rows, a section of this machine can hold it
+abbrev pub IsStorable : Arch → Func → Type 0
+IsStorable arch f = 0 < length f.rows → IsWritable arch f
+
+-- these are the heads of these functions
+pub record AreHeads (heads : List LocatedHead) (ordered : List Located) : Type 0 where
+  pub rows : StoredRows
+  pub are : ordered ≡ all_in rows heads
+
+-- those with rows, in order
+abbrev pub stored_at : FunctionHead → Option StoredFunction
+stored_at (WithRows f) = Some f
+stored_at (WithoutRows head) = None
+
+abbrev pub stored_of : List LocatedHead → List StoredFunction
+stored_of heads = filter_map (λ (h : LocatedHead). stored_at h.head) heads
+
+-- the second begins before the end of the first
+abbrev pub heads_overlap : LocatedHead × LocatedHead → Bool
+heads_overlap = overlap_by (λ (h : LocatedHead). (plain_head h.head).start) (λ (h : LocatedHead). (plain_head h.head).size)
+
+abbrev pub shared_by_heads : LocatedHead × LocatedHead → MergeFault
+shared_by_heads pair = Overlap (plain_head pair.0.head).start pair.0.item (plain_head pair.1.head).start pair.1.item

@@ -1,0 +1,100 @@
+//! Functions of several sections, whose rows are stored in one list.
+
+ghost use Rattle.std.specs.Prelude.{◌≡◌, ◌++◌, [], ◌∷◌, IfOk, OnOk};
+ghost use Rattle.sf_merge.specs.Heads.{AreHeads, HasRows, HaveRows, IsStorable, all_in, function_in};
+ghost use Rattle.sf_merge.specs.Located.{InOrder};
+ghost use Rattle.sf_write.specs.declared.stored.StoredFunction.{StoredFunction as stored_fact};
+ghost use Rattle.sf_write.specs.Stored.{IsStored, stored_in};
+
+use crate::head::{FunctionHead, LocatedHead};
+use sf_base::NoMemory;
+use sf_model::{Arch, Func, FuncHead};
+use sf_write::StoredRows;
+use std::alloc::{AllocError, Global};
+use std::marker::Model;
+
+/// Functions of several sections, which a contract sees as the list of them. Nothing is allocated for each
+/// function: a head is kept of it, and its rows are stored after those of the others.
+#[derive(Drop)]
+pub struct LocatedFunctions {
+    heads: Vec<LocatedHead>,
+    rows: StoredRows,
+}
+
+impl Model for LocatedFunctions {
+    ghost use Rattle.std.specs.Prelude.{List};
+    ghost use Rattle.sf_merge.specs.declared.located.Located.{Located as located};
+    ghost use Rattle.sf_merge.specs.Heads.{HaveRows, all_in};
+
+    ghost Value = { List located };
+
+    ghost view = { λ f. all_in f.rows f.heads.items };
+
+    ghost invariant = { λ f. HaveRows f.rows f.heads.items };
+}
+
+/// Stores the rows of a function that has bytes, where it has any.
+#[inline(always)]
+fn store(rows: &mut StoredRows, arch: Arch, func: &Func) -> Result<FunctionHead, AllocError>
+    requires { IsStorable arch func.now }
+    ensures stored { IfOk result (λ head. HasRows rows.new head × (function_in rows.new head ≡ func.now)) }
+    ensures keeps { (f : stored_fact) → IsStored rows.old f → IsStored rows.new f × (stored_in rows.new f ≡ stored_in rows.old f) }
+{
+    if func.rows.as_slice().is_empty() {
+        return Ok(FunctionHead::WithoutRows(FuncHead {
+            start: func.start,
+            size: func.size,
+            shape: func.shape,
+            key: func.key,
+            rows: 0,
+        }));
+    }
+    Ok(FunctionHead::WithRows(rows.push(arch, func)?))
+}
+
+impl LocatedFunctions {
+    /// No functions.
+    pub fn new(alloc: Global) -> LocatedFunctions
+        ensures { result ≡ [] }
+    {
+        LocatedFunctions {
+            heads: Vec::new(alloc),
+            rows: StoredRows::new(alloc),
+        }
+    }
+
+    /// Adds a function of a section for this machine.
+    #[inline(always)]
+    pub fn push(&mut self, arch: Arch, item: u32, number: u32, func: &Func) -> Result<(), NoMemory>
+        requires { IsStorable arch func.now }
+        ensures { OnOk result (self.new ≡ self.old ++ record { func = func.now; item = item; number = number } ∷ []) }
+    {
+        let head = store(&mut self.rows, arch, func)?;
+        self.heads.push(LocatedHead { head, item, number })?;
+        Ok(())
+    }
+
+    /// Brings the functions into order. Where they are in order it costs one pass.
+    pub fn order(&mut self) -> Result<(), NoMemory>
+        ensures { OnOk result (InOrder self.old self.new) }
+    {
+        self.heads.sort_by_key(|head| head.rank())?;
+        Ok(())
+    }
+
+    /// The functions without their rows.
+    pub fn heads(&self) -> &[LocatedHead]
+        ensures { AreHeads result.now self.now }
+    {
+        self.heads.as_slice()
+    }
+
+    /// The functions without their rows, and the rows of all.
+    pub fn into_parts(self) -> (Vec<LocatedHead>, StoredRows)
+        ensures are { self ≡ all_in result.1 result.0.items }
+        ensures stored { HaveRows result.1 result.0.items }
+    {
+        let LocatedFunctions { heads, rows } = self;
+        (heads, rows)
+    }
+}

@@ -1,0 +1,74 @@
+//! Functions of several sections without their rows, each with its section and its entry.
+
+ghost use Rattle.std.specs.Prelude.{◌≡◌};
+ghost use Rattle.sf_merge.specs.Heads.{head_rank, plain_head};
+
+use crate::located::Rank;
+use crate::overlap::HasAddresses;
+use sf_model::FuncHead;
+use sf_write::StoredFunction;
+
+/// A function whose rows, where it has any, are stored.
+#[derive(Clone, Copy)]
+pub enum FunctionHead {
+    /// It has rows.
+    WithRows(StoredFunction),
+    /// It has none.
+    WithoutRows(FuncHead),
+}
+
+impl FunctionHead {
+    /// The function without its rows.
+    #[inline(always)]
+    pub fn plain(&self) -> &FuncHead
+        ensures { result.now ≡ plain_head self.now }
+    {
+        match self {
+            FunctionHead::WithRows(function) => &function.head,
+            FunctionHead::WithoutRows(head) => head,
+        }
+    }
+}
+
+/// A function of one of several sections, whose rows are stored.
+#[derive(Clone, Copy)]
+pub struct LocatedHead {
+    /// The function.
+    pub head: FunctionHead,
+    /// The number of its section, from 0.
+    pub item: u32,
+    /// The number of its entry in the section, from 0.
+    pub number: u32,
+}
+
+impl LocatedHead {
+    /// Its place in the order of all functions.
+    #[inline(always)]
+    pub fn rank(&self) -> Rank
+        ensures { result ≡ head_rank self.now }
+    {
+        Rank {
+            start: self.head.plain().start,
+            item: self.item,
+            number: self.number,
+        }
+    }
+}
+
+impl HasAddresses for LocatedHead {
+    ghost use Rattle.sf_merge.specs.Heads.{plain_head};
+
+    ghost first_address = { λ h. (plain_head h.head).start };
+
+    ghost size_of = { λ h. (plain_head h.head).size };
+
+    #[inline(always)]
+    fn start(&self) -> u64 {
+        self.head.plain().start
+    }
+
+    #[inline(always)]
+    fn size(&self) -> u32 {
+        self.head.plain().size
+    }
+}
