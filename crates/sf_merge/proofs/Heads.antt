@@ -1,16 +1,15 @@
 -- Functions whose rows are stored in one list.
-use Rattle.std.specs.List.{AllByRecursion, filter_map, find, zip}
+use Rattle.std.specs.List.{AllByRecursion, find, zip}
 use Rattle.std.specs.List.Sorted.{IsPermutation, IsSorted, IsSortedByKey}
 use Rattle.std.specs.Option.{option_map}
 use Rattle.std.specs.Ordering.{is_lt}
-use Rattle.std.proofs.Common.{◌≡◌, ◌+◌, ◌<◌, ◌&&◌, ℕ, Bool, true, false, cond, All, List, [], ◌∷◌, ◌++◌, length, get_or, map, Some, refl, sym, ap, ◌∙◌, arith}
+use Rattle.std.proofs.Common.{◌≡◌, ◌+◌, ◌&&◌, ℕ, Bool, true, false, cond, All, List, [], ◌∷◌, ◌++◌, get_or, map, Some, refl, sym, ap, ◌∙◌, arith}
 use Rattle.std.specs.Prelude.{nat_lt}
 use Rattle.std.proofs.lemmas.List.{append-nil, get_or-map, length-map, map-append}
 use Rattle.std.proofs.lemmas.List.Elements.{All-from_recursion, filter_map-append, recursion_from_All}
 use Rattle.std.proofs.lemmas.List.Sorted.{IsPermutation-map}
 use Rattle.sf_model.specs.declared.function.Func.{Func}
 use Rattle.sf_model.specs.declared.function.FuncHead.{FuncHead}
-use Rattle.sf_model.specs.Union.{is_of_use}
 use Rattle.sf_write.specs.declared.stored.StoredFunction.{StoredFunction}
 use Rattle.sf_write.specs.declared.stored.StoredRows.{StoredRows}
 use Rattle.sf_write.specs.Stored.{IsStored, function_by, stored_in}

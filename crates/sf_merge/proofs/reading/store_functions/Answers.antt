@@ -1,6 +1,5 @@
 use Rattle.std.proofs.Common.{◌≡◌, ◌+◌, ◌<◌, List, [], ◌∷◌, ◌++◌, length, drop, ap, sym, subst, ◌∙◌, arith}
 use Rattle.std.specs.List.{filter}
-use Rattle.sf_model.specs.declared.function.Func.{Func}
 use Rattle.sf_model.specs.declared.function.FuncHead.{FuncHead}
 use Rattle.sf_decode.specs.View.{table_of, function_of}
 use Rattle.sf_merge.specs.declared.located.Located.{Located}
