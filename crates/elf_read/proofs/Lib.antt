@@ -1,5 +1,6 @@
 pub mod Each
 pub mod Least
 pub mod Texts
+pub mod FirstZero
 pub mod ReadSizes
 mod LeastCompressed

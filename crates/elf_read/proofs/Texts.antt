@@ -61,7 +61,7 @@ text_told place table text =
     ∙ told_by_front (front (drop place table)) text
     ∙ ap (λ (ys : List ℕ). pointwise same ys text) (sym (text_front place table))
 
-has_by : (place : ℕ) (table : List ℕ) (b : Bool) → nat_lt (position_or_len is_zero (drop place table)) (length (drop place table)) ≡ b → has_text place table ≡ b
+pub has_by : (place : ℕ) (table : List ℕ) (b : Bool) → nat_lt (position_or_len is_zero (drop place table)) (length (drop place table)) ≡ b → has_text place table ≡ b
 unfolding has_text
 has_by place table true h = ap (λ (b : Bool). is_some (cond b (Some (position_or_len is_zero (drop place table))) None)) h
 has_by place table false h = ap (λ (b : Bool). is_some (cond b (Some (position_or_len is_zero (drop place table))) None)) h

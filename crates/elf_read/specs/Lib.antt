@@ -9,3 +9,4 @@ pub mod Compressed
 pub mod Parsing
 pub mod Views
 pub mod FaultShown
+pub mod Zeros

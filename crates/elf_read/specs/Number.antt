@@ -1,6 +1,6 @@
 -- Numbers and bytes at places (ELF64 gABI, "Data Representation"): little-endian, without sign.
 use Rattle.std.specs.Prelude.{◌≡◌, ℕ, ◌+◌, ◌*◌, ◌/◌, ◌%◌, ◌==◌, Bool, List, length, take, drop, Option, Some, None, is_some, nat_lt, nat_le, if◌then◌else◌}
-use Rattle.std.specs.List.{position}
+use Rattle.std.specs.List.{position, position_or_len}
 use Rattle.byteorder.specs.Endian.{little_number}
 
 -- the number in the first bytes, where there are as many
@@ -43,3 +43,7 @@ has_text place table = is_some (position (λ b. b == 0) (drop place table))
 -- texts stand at exactly the places below a number
 abbrev pub EndsTexts : List ℕ → ℕ → Type 0
 EndsTexts table end = (place : ℕ) → has_text place table ≡ nat_lt place end
+
+-- the place of the first zero byte from a place on, or where there is none the first place past the bytes
+abbrev pub zero_from : List ℕ → ℕ → ℕ
+zero_from bytes place = place + position_or_len (λ b. b == 0) (drop place bytes)

@@ -37,6 +37,7 @@ mod segments;
 mod text;
 mod used;
 mod view;
+mod zeros;
 
 pub use entry::{GroupHead, Rela, Section, Segment, Symbol};
 pub use fault::ElfFault;

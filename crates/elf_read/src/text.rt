@@ -1,14 +1,14 @@
 //! Texts of string tables.
 
-ghost use Rattle.std.specs.Prelude.{◌≡◌, ◌==◌, ◌<◌, ◌^◌, ℕ, length, is_some};
+ghost use Rattle.std.specs.Prelude.{◌≡◌, ◌==◌, ◌<◌, ◌^◌, ℕ, length};
 ghost use Rattle.std.specs.Cmp.Lexicographic.{pointwise};
 ghost use Rattle.std.specs.List.{position};
-ghost use Rattle.elf_read.specs.Number.{text_in, has_text, EndsTexts};
+ghost use Rattle.elf_read.specs.Number.{text_in, EndsTexts};
 
 use crate::number::{bytes_at, bytes_from};
 
-// How many bytes stand before the first zero byte.
-fn text_len(bytes: &[u8]) -> Option<usize>
+/// How many bytes stand before the first zero byte.
+pub fn text_len(bytes: &[u8]) -> Option<usize>
     ensures { result ≡ position (λ b. b == 0) bytes.now }
 {
     bytes.iter().position(|byte| *byte == 0)
@@ -52,18 +52,6 @@ impl<'a> Text<'a> {
             [] => true,
         }
     }
-}
-
-/// Whether a text begins at that place of a string table and ends there with a zero byte. A table's last byte is zero
-/// (gABI, "String Table"), and then no other is looked at.
-#[tactic(auto, unfolding(crate::specs::Number::has_text))]
-pub fn text_stands(table: &[u8], place: u64) -> bool
-    ensures { result ≡ has_text place table.now }
-{
-    if place < table.len() as u64 && table[table.len() - 1] == 0 {
-        return true;
-    }
-    text_len(bytes_from(table, place)).is_some()
 }
 
 /// Whether the text at a place of a string table is this one. No more of the table is looked at.

@@ -5,6 +5,7 @@ ghost use Rattle.elf_read.specs.Checking.{each_below};
 ghost use Rattle.elf_read.specs.Header.{e_shoff as shoff};
 ghost use Rattle.elf_read.specs.Sections as fields;
 ghost use Rattle.elf_read.specs.Used as spec;
+ghost use Rattle.elf_read.specs.Zeros.{AreZeros};
 
 use crate::check::require;
 use crate::entries::{
@@ -17,8 +18,8 @@ use crate::names::is_string_table;
 use crate::section_header::{
     header_place, sh_entsize, sh_info, sh_link, sh_offset, sh_size, sh_type,
 };
-use crate::sections::{is_eh_frame, section_bytes, section_count};
-use crate::text::text_stands;
+use crate::sections::{is_eh_frame, section_count};
+use crate::zeros::Zeros;
 
 // Whether a number is that of a section with call frame information.
 #[tactic(auto, unfolding(crate::specs::Used::names_eh_frame))]
@@ -101,13 +102,15 @@ pub fn check_relas(file: &[u8], count: u32) -> Result<(), ElfFault>
 
 // Whether the name of a group's symbol stands in its table's string table.
 #[tactic(auto, unfolding(crate::specs::Used::has_signature))]
-fn has_signature(file: &[u8], i: u32) -> bool
+fn has_signature(file: &[u8], zeros: &Zeros, i: u32) -> bool
+    requires small { length file.now < 2 ^ 32 }
+    requires zeros { AreZeros file.now zeros.now }
     ensures { result ≡ spec.has_signature file.now i }
 {
     let table = sh_link(file, i);
     let strings = sh_link(file, table);
     let name = st_name(file, table, sh_info(file, i));
-    is_string_table(file, strings) && text_stands(section_bytes(file, strings), u64::from(name))
+    is_string_table(file, strings) && zeros.text_stands(file, strings, u64::from(name))
 }
 
 // Whether a section is made of at least one word.
@@ -121,8 +124,10 @@ fn is_word_table(file: &[u8], i: u32) -> bool
 
 // A group's size, its symbol table, its symbol, and the name of that.
 #[tactic(auto, unfolding(crate::specs::Used::group_tables))]
-fn check_group_tables(file: &[u8], i: u32) -> Result<(), ElfFault>
-    requires { shoff file.now < 2 ^ 32 }
+fn check_group_tables(file: &[u8], zeros: &Zeros, i: u32) -> Result<(), ElfFault>
+    requires small { length file.now < 2 ^ 32 }
+    requires headers { shoff file.now < 2 ^ 32 }
+    requires zeros { AreZeros file.now zeros.now }
     ensures { result ≡ spec.group_tables file.now i }
 {
     let header = header_place(file, i);
@@ -137,7 +142,7 @@ fn check_group_tables(file: &[u8], i: u32) -> Result<(), ElfFault>
         is_symbol(file, link, sh_info(file, i)),
         ElfFault::SymbolIndex(header),
     )?;
-    require(has_signature(file, i), ElfFault::Strings(header))
+    require(has_signature(file, zeros, i), ElfFault::Strings(header))
 }
 
 // A member is the number of a section.
@@ -166,15 +171,16 @@ fn check_members_upto(file: &[u8], i: u32, count: u32) -> Result<(), ElfFault>
 
 // A group's tables and members, where the section is one.
 #[tactic(auto, unfolding(crate::specs::Used::group_check, crate::specs::Used::members_check))]
-fn check_group(file: &[u8], i: u32) -> Result<(), ElfFault>
+fn check_group(file: &[u8], zeros: &Zeros, i: u32) -> Result<(), ElfFault>
     requires small { length file.now < 2 ^ 32 }
     requires headers { shoff file.now < 2 ^ 32 }
+    requires zeros { AreZeros file.now zeros.now }
     ensures { result ≡ spec.group_check file.now i }
 {
     if !is_group(file, i) {
         return Ok(());
     }
-    check_group_tables(file, i)?;
+    check_group_tables(file, zeros, i)?;
     check_members_upto(file, i, member_count(file, i) as u32)
 }
 
@@ -184,8 +190,9 @@ pub fn check_groups(file: &[u8], count: u32) -> Result<(), ElfFault>
     requires headers { shoff file.now < 2 ^ 32 }
     ensures { result ≡ each_below count (spec.group_check file.now) }
 {
+    let zeros = Zeros::of_tables(file, count);
     for i in 0..count {
-        check_group(file, i)?;
+        check_group(file, &zeros, i)?;
     }
     Ok(())
 }

@@ -1,0 +1,92 @@
+-- The first zero byte from a place on, by what is known from another place on.
+use Rattle.std.proofs.Common.{◌≡◌, ℕ, zero, suc, ◌+◌, ◌-◌, ◌*◌, ◌/◌, ◌%◌, ◌<◌, ◌≤◌, ◌==◌, Bool, true, false, not, cond, Some, None, List, [], ◌∷◌, length, take, drop, min, nat_lt, refl, sym, ap, ◌∙◌, arith, inl, inr, lt-ltb, le-ltb}
+use Rattle.std.specs.List.{position, position_or_len}
+use Rattle.std.specs.Option.{unwrap_or}
+use Rattle.std.proofs.lemmas.Bool.{cases_lt}
+use Rattle.std.proofs.lemmas.List.{drop-drop, length-drop}
+use Rattle.std.proofs.lemmas.List.Sums.{prefix_len-le-length}
+use Rattle.std.proofs.lemmas.Nat.{mul-le, div-add-mod'}
+use Rattle.elf_read.specs.Number.{has_text, zero_from}
+use Rattle.elf_read.specs.Sections.{section_bytes, sh_offset}
+use Rattle.elf_read.proofs.Texts.{has_by, text_place}
+
+abbrev is_zero : ℕ → Bool
+is_zero b = b == 0
+
+abbrev not_zero : ℕ → Bool
+not_zero b = not (is_zero b)
+
+-- how many bytes come before the first zero byte
+abbrev pub before_zero : List ℕ → ℕ
+before_zero xs = position_or_len is_zero xs
+
+pub before_zero-within : (xs : List ℕ) → before_zero xs ≤ length xs
+before_zero-within xs = prefix_len-le-length not_zero xs
+
+or_all : (xs : List ℕ) (b : Bool) → nat_lt (before_zero xs) (length xs) ≡ b → unwrap_or (cond b (Some (before_zero xs)) None) (length xs) ≡ before_zero xs
+or_all xs true is = refl
+or_all xs false is = elim (cases_lt (before_zero xs) (length xs)) [
+  | inl below ↦ absurd (cc (sym (lt-ltb _ _ below) ∙ is))
+  | inr past ↦ let upto : before_zero xs ≤ length xs = before_zero-within xs in omega (arith, past, upto)
+]
+
+-- the place of the first zero byte, or else the length
+pub before_zero-is : (xs : List ℕ) → unwrap_or (position is_zero xs) (length xs) ≡ before_zero xs
+before_zero-is xs = or_all xs (nat_lt (before_zero xs) (length xs)) refl
+
+taken_by : (b : Bool) (n k m : ℕ) → k ≡ min n m → cond (not b) (1 + k) 0 ≡ min (suc n) (cond (not b) (1 + m) 0)
+taken_by true n k m is = omega arith
+taken_by false n k m is = omega (arith, is)
+
+-- of the first n bytes
+pub before_zero-take : (n : ℕ) (xs : List ℕ) → before_zero (take n xs) ≡ min n (before_zero xs)
+before_zero-take zero xs = omega arith
+before_zero-take (suc n) [] = omega arith
+before_zero-take (suc n) (x ∷ xs) = taken_by (is_zero x) n (before_zero (take n xs)) (before_zero xs) (before_zero-take n xs)
+
+skipped_by : (b : Bool) (n k m : ℕ) → suc n ≤ cond (not b) (1 + m) 0 → (n ≤ m → n + k ≡ m) → suc n + k ≡ cond (not b) (1 + m) 0
+skipped_by true n k m low is = absurd (omega (arith, low))
+skipped_by false n k m low is = let same : n + k ≡ m = is (omega (arith, low)) in omega (arith, same)
+
+-- past n bytes of which none is zero
+before_zero-drop : (n : ℕ) (xs : List ℕ) → n ≤ before_zero xs → n + before_zero (drop n xs) ≡ before_zero xs
+before_zero-drop zero xs low = omega arith
+before_zero-drop (suc n) [] low = absurd (omega (arith, low))
+before_zero-drop (suc n) (x ∷ xs) low = skipped_by (is_zero x) n (before_zero (drop n xs)) (before_zero xs) low (before_zero-drop n xs)
+
+-- a place that is not past the first zero byte has the same one
+pub zero_from-later : (bytes : List ℕ) (place n : ℕ) → n ≤ before_zero (drop place bytes) → zero_from bytes (place + n) ≡ zero_from bytes place
+zero_from-later bytes place n low =
+    let rest : before_zero (drop (place + n) bytes) ≡ before_zero (drop n (drop place bytes)) = ap before_zero (sym (drop-drop n place bytes)) in
+    let all : n + before_zero (drop n (drop place bytes)) ≡ before_zero (drop place bytes) = before_zero-drop n (drop place bytes) low in
+    omega (arith, rest, all)
+
+-- no place of a part's first byte is past the first zero byte from the part before on
+pub zero_from-next_part : (bytes : List ℕ) (at len found : ℕ) → found ≡ zero_from bytes ((at - 1) * len) → at * len ≤ found → found ≡ zero_from bytes (at * len)
+zero_from-next_part bytes at len found is low =
+    let before = (at - 1) * len in
+    let less : before ≤ at * len = mul-le (at - 1) len at len (omega arith) (omega arith) in
+    let sum : before + (at * len - before) ≡ at * len = omega (arith, less) in
+    is ∙ sym (zero_from-later bytes before (at * len - before) (omega (arith, is, low, less))) ∙ ap (zero_from bytes) sum
+
+-- the first byte of the next part
+pub next_part : (place len : ℕ) → 0 < len → place % len < len → (place / len + 1) * len ≡ place + (len - place % len)
+next_part place len some below =
+    let whole : place / len * len + place % len ≡ place = div-add-mod' place len in
+    let more : (place / len + 1) * len ≡ place / len * len + len = omega arith in
+    omega (arith, whole, more, below)
+
+-- a text stands in a section where a zero byte comes before the section's end
+pub zero_within : (file : List ℕ) (i place first end found : ℕ) → place < length (section_bytes file i) → first ≡ sh_offset file i + place → end ≡ sh_offset file i + length (section_bytes file i)
+    → found ≡ zero_from file first → nat_lt found end ≡ has_text place (section_bytes file i)
+zero_within file i place first end found some at to is =
+    let bytes = section_bytes file i in
+    let rest = drop place bytes in
+    let len : length rest ≡ length bytes - place = length-drop place bytes in
+    let part : rest ≡ take (length rest) (drop first file) = text_place file i place first rest refl (λ _. at) in
+    let before : before_zero rest ≡ min (length rest) (before_zero (drop first file)) = ap before_zero part ∙ before_zero-take (length rest) (drop first file) in
+    let test : nat_lt found end ≡ nat_lt (before_zero rest) (length rest) = elim (cases_lt found end) [
+      | inl below ↦ lt-ltb _ _ below ∙ sym (lt-ltb (before_zero rest) (length rest) (omega (arith, below, some, len, before, at, to, is)))
+      | inr past ↦ le-ltb _ _ past ∙ sym (le-ltb (before_zero rest) (length rest) (omega (arith, past, some, len, before, at, to, is)))
+    ] in
+    test ∙ sym (has_by place bytes (nat_lt (before_zero rest) (length rest)) refl)
