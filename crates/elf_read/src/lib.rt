@@ -11,7 +11,8 @@
 //!
 //! The caller owes a file of fewer than 2^32 bytes. Nothing allocates. Each check goes once over the
 //! headers, and those of relocations and group members once over the ones that are used, which have room in the
-//! file together ([`room_law`]).
+//! file together ([`room_law`]). A text in a string table that doesn't end with a zero byte is looked through as far as
+//! the next of 2048 parts of the file.
 #![tactic(auto)]
 
 mod check;
@@ -43,7 +44,7 @@ pub use entry::{GroupHead, Rela, Section, Segment, Symbol};
 pub use fault::ElfFault;
 pub use kind::Kind;
 pub use laws::{compressed_law, room_law};
-pub use number::u64_at;
+pub use number::{u32_at, u64_at};
 pub use text::Text;
 pub use view::Elf;
 
