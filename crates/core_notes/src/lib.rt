@@ -23,7 +23,6 @@ mod memory;
 mod note;
 mod notes;
 mod notice;
-mod number;
 mod parsing;
 mod segment;
 mod status;

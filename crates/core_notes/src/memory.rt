@@ -10,9 +10,8 @@ ghost use Rattle.core_notes.specs.Memory.{file_regions, is_holder};
 ghost use Rattle.core_notes.specs.Segment.{segment_view, segments};
 
 use crate::layout::PT_LOAD;
-use crate::number::u64_at;
 use crate::segment::segment_at;
-use elf_read::{Elf, Segment};
+use elf_read::{Elf, Segment, u64_at};
 
 /// Whether a segment is memory that holds the eight bytes from an address on.
 #[inline(always)]

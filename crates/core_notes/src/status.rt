@@ -10,7 +10,7 @@ use crate::layout::{
     PRSTATUS_LEN_AMD64,
 };
 use crate::note::Note;
-use crate::number::{u32_at, u64_at};
+use elf_read::{u32_at, u64_at};
 use sf_model::{Arch, Regs};
 
 /// A thread as it was stopped.
