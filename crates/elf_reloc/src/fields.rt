@@ -1,13 +1,14 @@
 //! Pointer fields on which relocations lie.
 
 ghost use Rattle.std.specs.Prelude.{◌≡◌, ◌<◌, ◌^◌, IfSome};
-ghost use Rattle.sf_bytes.specs.Rising.{AreRising, field_place};
+ghost use Rattle.sf_bytes.specs.Rising.{AreRising};
 ghost use Rattle.elf_reloc.specs.Fields as spec;
-ghost use Rattle.elf_reloc.specs.Order.{first_at, lies_on, place_check};
+ghost use Rattle.elf_reloc.specs.Order.{lies_on, place_check};
 ghost use Rattle.elf_reloc.specs.Table as table;
 
 use crate::fault::RelocFault;
 use crate::fix::RelocatedField;
+use crate::order::find_at;
 use crate::table::{low_bits, width_of};
 use sf_bytes::Field;
 
@@ -22,24 +23,12 @@ pub fn fix_bits(fix: RelocatedField) -> Option<u64>
     }
 }
 
-// The field at a place.
-fn field_at(fields: &[Field], place: u64) -> Option<Field>
-    requires { AreRising fields.now }
-    ensures { result ≡ first_at field_place place fields.now }
-{
-    let i = fields.partition_point(|field| field.place < place);
-    match fields.get(i) {
-        Some(field) if field.place == place => Some(*field),
-        _ => None,
-    }
-}
-
 // Whether a field that is written lies on one of these.
 fn lies(fields: &[Field], fix: RelocatedField) -> bool
     requires { AreRising fields.now }
     ensures { result ≡ lies_on fields.now fix }
 {
-    match field_at(fields, fix.place) {
+    match find_at(fields, fix.place) {
         Some(field) => field.width == width_of(fix.range),
         None => false,
     }

@@ -2,12 +2,13 @@
 
 ghost use Rattle.std.specs.Prelude.{◌≡◌, OnOk, IfErr};
 ghost use Rattle.std.specs.List.Sorted.{IsNonDecreasingBy};
-ghost use Rattle.elf_reloc.specs.Order.{InOrder, overlap_check, first_at, place_of};
+ghost use Rattle.elf_reloc.specs.Order.{InOrder, overlap_check, first_at};
 ghost use Rattle.elf_reloc.specs.declared.fault.RelocFault.TheVariants.{NoMemory};
 
 use crate::fault::RelocFault;
 use crate::fix::RelocatedField;
 use crate::table::width_of;
+use sf_bytes::Field;
 
 /// Brings fields into the order of their places. Those at one place stay in order.
 pub fn bring_into_order(fixes: &mut Vec<RelocatedField>) -> Result<(), RelocFault>
@@ -32,14 +33,43 @@ pub fn check_overlap(fixes: &[RelocatedField]) -> Result<(), RelocFault>
     Ok(())
 }
 
-/// The field at a place.
-pub fn fix_at(fixes: &[RelocatedField], place: u64) -> Option<RelocatedField>
-    requires { IsNonDecreasingBy place_of fixes.now }
-    ensures { result ≡ first_at place_of place fixes.now }
+/// Something with a place in a section.
+pub trait HasPlace {
+    ghost use Rattle.std.specs.Prelude.{ℕ};
+
+    ghost place_in: { Self → ℕ };
+
+    /// Its place in the section, in bytes.
+    fn place(&self) -> u64
+        ensures { result ≡ place_in self.now };
+}
+
+impl HasPlace for RelocatedField {
+    ghost place_in = { λ f. f.place };
+
+    #[inline(always)]
+    fn place(&self) -> u64 {
+        self.place
+    }
+}
+
+impl HasPlace for Field {
+    ghost place_in = { λ f. f.place };
+
+    #[inline(always)]
+    fn place(&self) -> u64 {
+        self.place
+    }
+}
+
+/// The first at a place.
+pub fn find_at<P: HasPlace + Copy>(list: &[P], place: u64) -> Option<P>
+    requires { IsNonDecreasingBy P.place_in list.now }
+    ensures { result ≡ first_at P.place_in place list.now }
 {
-    let i = fixes.partition_point(|fix| fix.place < place);
-    match fixes.get(i) {
-        Some(fix) if fix.place == place => Some(*fix),
+    let i = list.partition_point(|it| it.place() < place);
+    match list.get(i) {
+        Some(found) if found.place() == place => Some(*found),
         _ => None,
     }
 }

@@ -6,7 +6,7 @@ ghost use Rattle.elf_reloc.specs.Order.{place_of};
 use crate::fault::RelocFault;
 use crate::fields::{check_places, fix_bits};
 use crate::fix::RelocatedField;
-use crate::order::{bring_into_order, check_overlap, fix_at};
+use crate::order::{bring_into_order, check_overlap, find_at};
 use crate::reading::read_relocations;
 use crate::table::width_of;
 use elf_place::Placed;
@@ -69,7 +69,7 @@ impl Relocs {
     pub fn dropped(&self, field: Field) -> bool
         ensures { result ≡ is_dropped_in (fixes_in self.now) field.place field.width }
     {
-        match fix_at(&self.fixes, field.place) {
+        match find_at(&self.fixes, field.place) {
             Some(fix) if width_of(fix.range) == field.width => fix.dropped,
             _ => false,
         }
@@ -82,7 +82,7 @@ impl Values for Relocs {
     ghost field_bits = { λ r place width raw. bits_in r.fixes.items place width raw };
 
     fn bits(&self, field: Field) -> Option<u64> {
-        match fix_at(&self.fixes, field.place) {
+        match find_at(&self.fixes, field.place) {
             Some(fix) if width_of(fix.range) == field.width => fix_bits(fix),
             _ => Some(field.raw),
         }
