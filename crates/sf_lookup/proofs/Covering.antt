@@ -1,5 +1,5 @@
 -- Spans and points: which span answers at an address.
-use Rattle.std.specs.Prelude.{nat_le, nat_lt}
+use Rattle.std.specs.Prelude.{nat_le, nat_lt, ◌⊎◌}
 use Rattle.std.specs.List.{Contains, filter, find, position, slice_get}
 use Rattle.std.specs.List.Sorted.{IsNonDecreasing, IsPermutation}
 use Rattle.std.specs.Option.{option_map}
@@ -82,37 +82,36 @@ within spans front first last (Err e) decides is = is
 place_of : (points : List ℕ) (x : ℕ) → Contains points x → (k : ℕ) × (k < length points) × (get_or points k 0 ≡ x)
 place_of points x (k, lt, is) = (k, lt, get_or_default points k 0 x lt ∙ is)
 
-same_from : (points : List ℕ) (pc i : ℕ) → IsNonDecreasing points → IsReached points pc (suc i) → (x : ℕ) → Contains points x → nat_le x (get_or points i 0) ≡ nat_le x pc
-same_from points pc i rise h x c =
+-- a point comes after the address, or not after the last point that was reached
+on_a_side : (points : List ℕ) (pc i : ℕ) → IsNonDecreasing points → IsReached points pc (suc i) → (x : ℕ) → Contains points x → (pc < x) ⊎ (x ≤ get_or points i 0)
+on_a_side points pc i rise h x c =
     let place = place_of points x c in
     let k = place.0 in
     let is : get_or points k 0 ≡ x = place.2 in
     elim (cases_lt i k) [
       | inl after ↦
           let above : pc < get_or points k 0 = h.above k (omega (after, arith)) place.1 in
-          let last : get_or points i 0 ≤ pc = h.reached i (omega arith) in
-          lt-leb x (get_or points i 0) (omega (above, last, is, arith)) ∙ sym (lt-leb x pc (omega (above, is, arith)))
+          inl (omega (above, is, arith))
       | inr upto ↦
           let low : get_or points k 0 ≤ get_or points i 0 = rise k i 0 upto (omega (h.within, arith)) in
-          let last : get_or points i 0 ≤ pc = h.reached i (omega arith) in
-          le-leb x (get_or points i 0) (omega (low, is, arith)) ∙ sym (le-leb x pc (omega (low, last, is, arith)))
+          inr (omega (low, is, arith))
+    ]
+
+same_from : (points : List ℕ) (pc i : ℕ) → IsNonDecreasing points → IsReached points pc (suc i) → (x : ℕ) → Contains points x → nat_le x (get_or points i 0) ≡ nat_le x pc
+same_from points pc i rise h x c =
+    let last : get_or points i 0 ≤ pc = h.reached i (omega arith) in
+    elim (on_a_side points pc i rise h x c) [
+      | inl above ↦ lt-leb x (get_or points i 0) (omega (above, last, arith)) ∙ sym (lt-leb x pc above)
+      | inr low ↦ le-leb x (get_or points i 0) low ∙ sym (le-leb x pc (omega (low, last, arith)))
     ]
 
 -- the same of an end, which comes after the address
 same_to : (points : List ℕ) (pc i : ℕ) → IsNonDecreasing points → IsReached points pc (suc i) → (x : ℕ) → Contains points x → nat_lt (get_or points i 0) x ≡ nat_lt pc x
 same_to points pc i rise h x c =
-    let place = place_of points x c in
-    let k = place.0 in
-    let is : get_or points k 0 ≡ x = place.2 in
-    elim (cases_lt i k) [
-      | inl after ↦
-          let above : pc < get_or points k 0 = h.above k (omega (after, arith)) place.1 in
-          let last : get_or points i 0 ≤ pc = h.reached i (omega arith) in
-          lt-ltb (get_or points i 0) x (omega (above, last, is, arith)) ∙ sym (lt-ltb pc x (omega (above, is, arith)))
-      | inr upto ↦
-          let low : get_or points k 0 ≤ get_or points i 0 = rise k i 0 upto (omega (h.within, arith)) in
-          let last : get_or points i 0 ≤ pc = h.reached i (omega arith) in
-          le-ltb (get_or points i 0) x (omega (low, is, arith)) ∙ sym (le-ltb pc x (omega (low, last, is, arith)))
+    let last : get_or points i 0 ≤ pc = h.reached i (omega arith) in
+    elim (on_a_side points pc i rise h x c) [
+      | inl above ↦ lt-ltb (get_or points i 0) x (omega (above, last, arith)) ∙ sym (lt-ltb pc x above)
+      | inr low ↦ le-ltb (get_or points i 0) x low ∙ sym (le-ltb pc x (omega (low, last, arith)))
     ]
 
 -- an end beyond all addresses comes after both

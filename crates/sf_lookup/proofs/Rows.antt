@@ -1,23 +1,19 @@
--- The latest of rising rows that begins by an offset.
+-- Rows that rise, and the latest of them that begins by an offset.
 use Rattle.std.specs.Prelude.{nat_le, ◌&&◌, if◌then◌else◌}
 use Rattle.std.specs.List.{filter, find}
-use Rattle.std.proofs.Common.{◌≡◌, ℕ, suc, ◌+◌, ◌<◌, ◌≤◌, Bool, true, false, cond, List, [], ◌∷◌, Option, Some, None, get_or, refl, sym, ap, subst, ◌∙◌, arith}
+use Rattle.std.proofs.Common.{◌≡◌, ℕ, zero, suc, ◌+◌, ◌<◌, ◌≤◌, Bool, true, false, cond, List, [], ◌∷◌, Option, Some, None, get_or, length, refl, sym, ap, subst, ◌∙◌, arith}
 use Rattle.std.proofs.lemmas.Bool.{lt-leb, le-leb, leb-false}
 use Rattle.sf_model.specs.declared.rows.Row.{Row}
 use Rattle.sf_model.specs.Function.{RowsRise}
 use Rattle.sf_model.specs.Lookup.{begins_by, begins_last, row_at}
 
--- the latest row, or the one found before; it ends at the first row that begins behind the offset
-abbrev pub latest : (offset : ℕ) → Option Row → List Row → Option Row
-latest offset found [] = found
-latest offset found (r ∷ rows) = if nat_le r.start offset then latest offset (Some r) rows else found
-
+-- ---- rows that rise
 -- each start is above the one before, and the first at least this
-abbrev Rise : (least : ℕ) → List Row → Type 0
+abbrev pub Rise : (least : ℕ) → List Row → Type 0
 Rise least [] = Unit {0}
 Rise least (r ∷ rows) = (least ≤ r.start) × Rise (r.start + 1) rows
 
--- the same of all but the first
+-- so do all but the first
 later_rise : (r : Row) (rows : List Row) → RowsRise (r ∷ rows) → RowsRise rows
 later_rise r rows h k d lt =
     let same : suc k + 1 ≡ suc (k + 1) = omega arith in
@@ -29,13 +25,48 @@ rises_on r (s ∷ rows) h =
     let first : r.start < s.start = h 0 r (omega arith) in
     (omega (first, arith), rises_on s rows (later_rise r (s ∷ rows) h))
 
-rises : (rows : List Row) → RowsRise rows → Rise 0 rows
+pub rises : (rows : List Row) → RowsRise rows → Rise 0 rows
 rises [] h = tt
 rises (r ∷ rows) h = (omega arith, rises_on r rows h)
 
-rise_lower : (least more : ℕ) (rows : List Row) → least ≤ more → Rise more rows → Rise least rows
+pub rise_lower : (least more : ℕ) (rows : List Row) → least ≤ more → Rise more rows → Rise least rows
 rise_lower least more [] le h = tt
 rise_lower least more (r ∷ rows) le h = (omega (le, h.0, arith), h.1)
+
+-- all of them start there or after
+pub starts_from : (least : ℕ) (rows : List Row) (i : ℕ) (d : Row) → Rise least rows → i < length rows → least ≤ (get_or rows i d).start
+starts_from least [] i d h lt = absurd (omega (arith, lt))
+starts_from least (r ∷ rows) zero d h lt = h.0
+starts_from least (r ∷ rows) (suc i) d h lt = let later = starts_from (r.start + 1) rows i d h.1 (omega (arith, lt)) in omega (arith, later, h.0)
+
+-- the converse
+pub all_rise : (least : ℕ) (rows : List Row) → Rise least rows → RowsRise rows
+all_rise least [] h k d lt = absurd (omega (lt, arith))
+all_rise least (r ∷ rows) h zero d lt =
+    let next = starts_from (r.start + 1) rows 0 d h.1 (omega (lt, arith)) in
+    omega (next, arith)
+all_rise least (r ∷ rows) h (suc k) d lt =
+    let same : suc (k + 1) ≡ suc k + 1 = omega arith in
+    subst (λ j. (get_or rows k d).start < (get_or (r ∷ rows) j d).start) same (all_rise (r.start + 1) rows h.1 k d (omega (lt, arith)))
+
+-- ---- the latest row
+-- the latest row, or the one found before; it ends at the first row that begins behind the offset
+abbrev pub latest : (offset : ℕ) → Option Row → List Row → Option Row
+latest offset found [] = found
+latest offset found (r ∷ rows) = if nat_le r.start offset then latest offset (Some r) rows else found
+
+-- a row that begins by the offset is the one found so far
+pub latest_begun : (offset : ℕ) (found : Option Row) (r : Row) (rows : List Row) → r.start ≤ offset → latest offset found (r ∷ rows) ≡ latest offset (Some r) rows
+latest_begun offset found r rows le = rw (le-leb r.start offset le) refl
+
+-- a row that begins behind the offset ends the search
+pub latest_stops : (offset : ℕ) (found : Option Row) (r : Row) (rows : List Row) → offset < r.start → latest offset found (r ∷ rows) ≡ found
+latest_stops offset found r rows lt = rw (lt-leb r.start offset lt) refl
+
+-- rows that all begin behind the offset change nothing
+pub latest_stays : (offset least : ℕ) (found : Option Row) (rows : List Row) → offset < least → Rise least rows → latest offset found rows ≡ found
+latest_stays offset least found [] lt h = refl
+latest_stays offset least found (r ∷ rows) lt h = latest_stops offset found r rows (omega (lt, h.0, arith))
 
 -- rows that all begin behind the offset
 none_begun : (offset least : ℕ) (rows : List Row) → offset < least → Rise least rows → filter (begins_by offset) rows ≡ []
@@ -104,7 +135,3 @@ unfolding row_at
 latest_holds offset rows h =
     let rise = rises rows h in
     latest_is offset 0 None rows rise ∙ sym (last_is 0 (filter (begins_by offset) rows) (rise_filter (begins_by offset) 0 rows rise))
-
--- a row that begins behind the offset ends the search
-pub latest_stops : (offset : ℕ) (found : Option Row) (r : Row) (rows : List Row) → offset < r.start → latest offset found (r ∷ rows) ≡ found
-latest_stops offset found r rows lt = rw (lt-leb r.start offset lt) refl
