@@ -29,9 +29,9 @@ pub fn is_same(last: Content, content: Content) -> bool
         && last.signed == content.signed
 }
 
-// Whether a content is that of the row before.
+/// Whether a content is that of the row before, if there is one.
 #[inline(always)]
-fn is_repeated(last: Option<Content>, content: Content) -> bool
+pub fn is_repeated(last: Option<Content>, content: Content) -> bool
     ensures { result ≡ repeats last content }
 {
     match last {

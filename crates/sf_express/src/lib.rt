@@ -3,7 +3,7 @@
 //! [`content`] gives what a row of the call frame instructions says in the form of a frame row entry, or
 //! the first reason why none does, and [`content_at`] the same of its columns. [`express`] gives the whole function as a section holds it, or the
 //! first reason of the function or else of the row with the least offset. Neighbouring rows that say the
-//! same are one row.
+//! same are one row: [`is_same`] compares two contents, and [`is_repeated`] a content with that of the row before.
 //!
 //! [`rows_recover_alike`] and [`functions_recover_alike`] are laws: what SFrame expresses recovers the same of
 //! the caller's frame as the call frame instructions.
@@ -20,7 +20,7 @@ mod rules;
 mod run;
 
 pub use fault::ExpressFault;
-pub use function::express;
+pub use function::{express, is_repeated, is_same};
 pub use pieces::{Piece, piece_at, pieces_of_rows, pieces_run};
 pub use recovery::{functions_recover_alike, rows_recover_alike};
 pub use row::{content, content_at};
