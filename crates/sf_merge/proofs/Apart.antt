@@ -2,9 +2,9 @@
 use Rattle.std.specs.Prelude.{nat_lt}
 use Rattle.std.specs.List.{find, AllAdjacentBelow, AllPairs}
 use Rattle.std.specs.Option.{option_map}
-use Rattle.std.proofs.Common.{◌≡◌, ◌+◌, ◌<◌, ◌≤◌, Bool, true, false, cond, ◌&&◌, List, [], ◌∷◌, All, length, get_or, map, Option, Some, None, refl, arith, inl, inr}
-use Rattle.std.proofs.lemmas.Bool.{ltb-true, ltb-false}
-use Rattle.std.proofs.lemmas.List.Elements.{All-nil, All-cons, All-weaker, All-map}
+use Rattle.std.proofs.Common.{◌≡◌, ◌+◌, ◌<◌, ◌≤◌, Bool, true, false, cond, List, [], ◌∷◌, All, length, get_or, map, Option, Some, None, refl, arith, inl, inr}
+use Rattle.std.proofs.lemmas.Bool.{and_parts, ltb-true, ltb-false}
+use Rattle.std.proofs.lemmas.List.Elements.{All-nil, All-cons, All-head, All-tail, All-weaker, All-map}
 use Rattle.std.proofs.lemmas.List.Kept.{AllPairs-cons, AllPairs-filter}
 use Rattle.sf_model.specs.declared.function.Func.{Func}
 use Rattle.sf_model.specs.Union.{is_of_use, IsApart}
@@ -18,6 +18,10 @@ EndsBy f g = f.start + f.size ≤ g.start
 
 abbrev pub function_of : Located → Func
 function_of l = l.func
+
+pub all_back : {X Y : Type 0} (P : Y → Type 0) (f : X → Y) (xs : List X) → All P (map f xs) → All (λ x. P (f x)) xs
+all_back P f [] h = All-nil (λ x. P (f x))
+all_back P f (x ∷ xs) h = All-cons (λ x. P (f x)) x xs (All-head P (f x) (map f xs) h) (all_back P f xs (All-tail P (f x) (map f xs) h))
 
 pub pairs_none : {X : Type 0} (R : X → X → Type 0) → AllPairs R []
 pairs_none R = λ i j d lt within. absurd (omega (within, arith))
@@ -74,13 +78,9 @@ pub record Useful (f : Func) : Type 0 where
   pub size : 0 < f.size
   pub rows : 0 < length f.rows
 
-both : (a b : Bool) → (a && b) ≡ true → (a ≡ true) × (b ≡ true)
-both true b e = (refl, e)
-both false b e = cc
-
 pub useful : (f : Func) → is_of_use f ≡ true → Useful f
 useful f e =
-    let two = both (nat_lt 0 f.size) (nat_lt 0 (length f.rows)) e in
+    let two = and_parts (nat_lt 0 f.size) (nat_lt 0 (length f.rows)) e in
     record { size = ltb-true 0 f.size two.0; rows = ltb-true 0 (length f.rows) two.1 }
 
 pub rises : (fs : List Func) → All (λ (f : Func). 0 < f.size) fs → AllAdjacentBelow EndsBy fs (length fs) → AllAdjacentBelow (λ (f : Func) (g : Func). f.start < g.start) fs (length fs)

@@ -5,6 +5,7 @@ pub mod Read
 pub mod Apart
 pub mod United
 pub mod Sound
+pub mod OneSection
 pub mod Merged
 pub mod Joined
 pub mod OneOrder

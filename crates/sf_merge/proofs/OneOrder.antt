@@ -1,12 +1,13 @@
 -- There is one order of the functions of sections by start, section and entry, and so merging comes to one result.
 use Rattle.std.specs.Prelude.{nat_lt, not}
+use Rattle.std.specs.Cmp.{nat_cmp_is}
 use Rattle.std.specs.List.{enumerate_from, flat_map}
 use Rattle.std.specs.List.Sorted.{IsPermutation, IsSorted}
 use Rattle.std.specs.Ordering.{is_lt, nat_cmp, ordering_then}
 use Rattle.std.specs.declared.cmp.Ordering.{Ordering}
 use Rattle.std.specs.declared.cmp.Ordering.TheVariants.{Less, Equal, Greater}
 use Rattle.std.proofs.Common.{◌≡◌, ℕ, suc, ◌+◌, ◌<◌, ◌≤◌, Bool, true, false, cond, ◌&&◌, eqb, List, [], ◌∷◌, All, length, get_or, map, Option, Some, None, Result, refl, sym, ap, subst, ◌∙◌, arith, inl, inr}
-use Rattle.std.proofs.lemmas.Bool.{cases_lt, lt-ltb, le-ltb, ltb-false}
+use Rattle.std.proofs.lemmas.Bool.{cases_lt, ltb-false}
 use Rattle.std.proofs.lemmas.List.{get_or-map}
 use Rattle.std.proofs.lemmas.List.FromFn.{length-enumerate_from, get_or-enumerate_from}
 use Rattle.std.proofs.lemmas.List.Elements.{All-nil, All-head, All-tail, All-append, All-filter, All-from_get_or, All-map}
@@ -16,7 +17,6 @@ use Rattle.sf_model.specs.declared.machine.Key.TheVariants.{A}
 use Rattle.sf_model.specs.declared.function.Func.{Func}
 use Rattle.sf_model.specs.declared.function.Shape.TheVariants.{Plain}
 use Rattle.sf_model.specs.Table.{Table}
-use Rattle.sf_decode.proofs.Holds.{if_eq}
 use Rattle.sf_merge.specs.declared.fault.MergeFault.{MergeFault}
 use Rattle.sf_merge.specs.declared.located.Located.{Located}
 use Rattle.sf_merge.specs.Located.{before, at_entry, located, all_located, has_bytes, sized, compared, InOrder}
@@ -87,13 +87,6 @@ count_behind x e es fs h = at_test (tied x e) h
     at_test false h = h
 
 -- ---- what is tied has one section and one entry
-less : (x y : ℕ) → x < y → nat_cmp x y ≡ Less
-less x y lt = ap (λ (b : Bool). cond b Less (cond (eqb x y) Equal Greater)) (lt-ltb x y lt)
-
-same : (x y : ℕ) → x ≡ y → nat_cmp x y ≡ Equal
-same x y e =
-    ap (λ (b : Bool). cond b Less (cond (eqb x y) Equal Greater)) (le-ltb x y (omega (e, arith))) ∙ ap (λ (b : Bool). cond b Equal Greater) (if_eq x y e)
-
 record Level (x y : ℕ) (r s : Ordering) : Type 0 where
   same_number : x ≡ y
   one : is_lt r ≡ false
@@ -101,15 +94,15 @@ record Level (x y : ℕ) (r s : Ordering) : Type 0 where
 
 level : (x y : ℕ) (r s : Ordering) → is_lt (ordering_then (nat_cmp x y) r) ≡ false → is_lt (ordering_then (nat_cmp y x) s) ≡ false → Level x y r s
 level x y r s e f = elim (cases_lt x y) [
-  | inl lt ↦ let no = ap (λ o. is_lt (ordering_then o r)) (sym (less x y lt)) ∙ e in cc
+  | inl lt ↦ let no = ap (λ o. is_lt (ordering_then o r)) (nat_cmp_is x y Less lt) ∙ e in cc
   | inr not_less ↦ elim (cases_lt y x) [
-    | inl lt ↦ let no = ap (λ o. is_lt (ordering_then o s)) (sym (less y x lt)) ∙ f in cc
+    | inl lt ↦ let no = ap (λ o. is_lt (ordering_then o s)) (nat_cmp_is y x Less lt) ∙ f in cc
     | inr not_more ↦
         let is : x ≡ y = omega (not_less, not_more, arith) in
         record {
           same_number = is;
-          one = ap (λ o. is_lt (ordering_then o r)) (sym (same x y is)) ∙ e;
-          other = ap (λ o. is_lt (ordering_then o s)) (sym (same y x (sym is))) ∙ f;
+          one = ap (λ o. is_lt (ordering_then o r)) (nat_cmp_is x y Equal is) ∙ e;
+          other = ap (λ o. is_lt (ordering_then o s)) (nat_cmp_is y x Equal (sym is)) ∙ f;
         }
   ]
 ]

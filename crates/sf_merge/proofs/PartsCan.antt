@@ -1,13 +1,14 @@
 -- Where sections can be merged at once, those that are left after merging some can be merged as well, unless a function is too far.
+use Rattle.std.specs.Cmp.{nat_cmp_is}
 use Rattle.std.specs.List.{AllPairs, enumerate_from, filter, find}
 use Rattle.std.specs.List.Sorted.{IsPermutation, IsSorted}
 use Rattle.std.specs.Option.{option_map}
 use Rattle.std.specs.Ordering.{is_lt, nat_cmp, ordering_then}
 use Rattle.std.specs.declared.cmp.Ordering.{Ordering}
-use Rattle.std.specs.declared.cmp.Ordering.TheVariants.{Less, Equal, Greater}
+use Rattle.std.specs.declared.cmp.Ordering.TheVariants.{Less}
 use Rattle.std.specs.Prelude.{not}
-use Rattle.std.proofs.Common.{◌≡◌, ◌<◌, ◌≤◌, ◌+◌, ◌^◌, ℕ, suc, Bool, true, false, cond, eqb, List, [], ◌∷◌, ◌++◌, All, length, map, Option, Some, None, Ok, Err, refl, sym, ap, subst, ◌∙◌, arith, inl, inr}
-use Rattle.std.proofs.lemmas.Bool.{cases_lt, lt-ltb, le-ltb, ltb-true}
+use Rattle.std.proofs.Common.{◌≡◌, ◌<◌, ◌≤◌, ◌+◌, ◌^◌, ℕ, Bool, true, false, cond, List, [], ◌∷◌, ◌++◌, All, length, map, Option, Some, None, Ok, Err, refl, sym, ap, subst, ◌∙◌, arith, inl, inr}
+use Rattle.std.proofs.lemmas.Bool.{cases_lt, le-ltb, ltb-true}
 use Rattle.std.proofs.lemmas.List.{length-map, map-append}
 use Rattle.std.proofs.lemmas.List.Concat.{flat_map-append, length-flat_map}
 use Rattle.std.proofs.lemmas.List.Elements.{All-nil, All-cons, All-head, All-tail, All-append, All-filter, filter_passes}
@@ -19,6 +20,7 @@ use Rattle.sf_model.specs.declared.machine.Arch.TheVariants.{Amd64, Aarch64}
 use Rattle.sf_model.specs.declared.function.Func.{Func}
 use Rattle.sf_model.specs.Table.{Table, row_count}
 use Rattle.sf_model.specs.Union.{IsApart, all_functions, is_of_use}
+use Rattle.sf_model.proofs.Unions.{pairs_head, pairs_tail}
 use Rattle.sf_write.specs.Reach.{first_out_of_reach}
 use Rattle.sf_write.specs.Section.{table_of}
 use Rattle.sf_merge.specs.declared.fault.MergeFault.{MergeFault}
@@ -27,7 +29,7 @@ use Rattle.sf_merge.specs.declared.located.Located.{Located}
 use Rattle.sf_merge.specs.Located.{InOrder, all_located, before, compared, has_bytes, sized}
 use Rattle.sf_merge.specs.Merging.{Merges, MergesUnless, functions_fault, functions_in_all, is_other, limits_fault, mixed_fault, mixed_with_first, or_later, overlap_fault, reach_fault, rows_in_all, same_arch, sections_fault, unless_fault, written}
 use Rattle.sf_merge.specs.Parts.{AreMerged, AreMergedInParts, IsTooFar, Part, SomeAreMerged, tables_of}
-use Rattle.sf_merge.proofs.Apart.{function_of, turned}
+use Rattle.sf_merge.proofs.Apart.{all_back, function_of, pairs_none, turned}
 use Rattle.sf_merge.proofs.Checks.{few_functions, few_rows, none_at_all, one_alone, overlap_goes_on, within_limits}
 use Rattle.sf_merge.proofs.InParts.{chosen, merged, next_tables, others, said, some, used, used_stay}
 use Rattle.sf_merge.proofs.Joined.{apart_by}
@@ -38,15 +40,6 @@ use Rattle.sf_merge.proofs.Ranked.{first_least, rest_sorted}
 use Rattle.sf_merge.proofs.United.{functions_are, united}
 
 -- ---- pairs
-first_with : {X : Type 0} (R : X → X → Type 0) (x : X) (xs : List X) → AllPairs R (x ∷ xs) → All (R x) xs
-first_with R x xs h = λ k d lt. h 0 (suc k) d (omega arith) (omega (lt, arith))
-
-rest_with : {X : Type 0} (R : X → X → Type 0) (x : X) (xs : List X) → AllPairs R (x ∷ xs) → AllPairs R xs
-rest_with R x xs h = λ i j d lt within. h (suc i) (suc j) d (omega (lt, arith)) (omega (within, arith))
-
-no_pairs : {X : Type 0} (R : X → X → Type 0) → AllPairs R []
-no_pairs R = λ i j d lt within. absurd (omega (within, arith))
-
 all_left : {X : Type 0} (P : X → Type 0) (xs ys : List X) → All P (xs ++ ys) → All P xs
 all_left P [] ys h = All-nil P
 all_left P (x ∷ xs) ys h = All-cons P x xs (All-head P x (xs ++ ys) h) (all_left P xs ys (All-tail P x (xs ++ ys) h))
@@ -56,29 +49,25 @@ all_right P [] ys h = h
 all_right P (x ∷ xs) ys h = all_right P xs ys (All-tail P x (xs ++ ys) h)
 
 pairs_left : {X : Type 0} (R : X → X → Type 0) (xs ys : List X) → AllPairs R (xs ++ ys) → AllPairs R xs
-pairs_left R [] ys h = no_pairs R
-pairs_left R (x ∷ xs) ys h = AllPairs-cons R x xs (all_left (R x) xs ys (first_with R x (xs ++ ys) h)) (pairs_left R xs ys (rest_with R x (xs ++ ys) h))
+pairs_left R [] ys h = pairs_none R
+pairs_left R (x ∷ xs) ys h = AllPairs-cons R x xs (all_left (R x) xs ys (pairs_head R x (xs ++ ys) h)) (pairs_left R xs ys (pairs_tail R x (xs ++ ys) h))
 
 pairs_filtered : {X : Type 0} (R : X → X → Type 0) (p : X → Bool) (xs ys : List X) → AllPairs R (xs ++ ys) → AllPairs R (filter p xs ++ ys)
 pairs_filtered R p [] ys h = h
-pairs_filtered R p (x ∷ xs) ys h = at_test (p x) (pairs_filtered R p xs ys (rest_with R x (xs ++ ys) h))
+pairs_filtered R p (x ∷ xs) ys h = at_test (p x) (pairs_filtered R p xs ys (pairs_tail R x (xs ++ ys) h))
   where
     with_x : All (R x) (xs ++ ys)
-    with_x = first_with R x (xs ++ ys) h
+    with_x = pairs_head R x (xs ++ ys) h
 
     at_test : (b : Bool) → AllPairs R (filter p xs ++ ys) → AllPairs R (cond b (x ∷ filter p xs) (filter p xs) ++ ys)
     at_test true rest =
         AllPairs-cons R x (filter p xs ++ ys) (All-append (R x) (filter p xs) ys (All-filter p (R x) xs (all_left (R x) xs ys with_x)) (all_right (R x) xs ys with_x)) rest
     at_test false rest = rest
 
-all_back : {X Y : Type 0} (P : Y → Type 0) (f : X → Y) (xs : List X) → All P (map f xs) → All (λ x. P (f x)) xs
-all_back P f [] h = All-nil (λ x. P (f x))
-all_back P f (x ∷ xs) h = All-cons (λ x. P (f x)) x xs (All-head P (f x) (map f xs) h) (all_back P f xs (All-tail P (f x) (map f xs) h))
-
 pairs_back : {X Y : Type 0} (R : Y → Y → Type 0) (f : X → Y) (xs : List X) → AllPairs R (map f xs) → AllPairs (λ x y. R (f x) (f y)) xs
-pairs_back R f [] h = no_pairs (λ x y. R (f x) (f y))
+pairs_back R f [] h = pairs_none (λ x y. R (f x) (f y))
 pairs_back R f (x ∷ xs) h =
-    AllPairs-cons (λ x y. R (f x) (f y)) x xs (all_back (R (f x)) f xs (first_with R (f x) (map f xs) h)) (pairs_back R f xs (rest_with R (f x) (map f xs) h))
+    AllPairs-cons (λ x y. R (f x) (f y)) x xs (all_back (R (f x)) f xs (pairs_head R (f x) (map f xs) h)) (pairs_back R f xs (pairs_tail R (f x) (map f xs) h))
 
 -- ---- sections of one machine, within the limits, whose functions share no address
 abbrev Has : Arch → Table → Type 0
@@ -194,12 +183,9 @@ no_mixed : (arch : Arch) (tables : List Table) → All (Has arch) tables → mix
 no_mixed arch [] h = refl
 no_mixed arch (t ∷ ts) h = none_mixed arch t.arch 0 (t ∷ ts) (All-head (Has arch) t ts h) h
 
-less : (x y : ℕ) → x < y → nat_cmp x y ≡ Less
-less x y lt = ap (λ (b : Bool). cond b Less (cond (eqb x y) Equal Greater)) (lt-ltb x y lt)
-
 starts_rise : (l m : Located) → before m l ≡ false → l.func.start ≤ m.func.start
 starts_rise l m e = elim (cases_lt m.func.start l.func.start) [
-  | inl lt ↦ let earlier : before m l ≡ true = ap (λ (c : Ordering). is_lt (ordering_then c (ordering_then (nat_cmp m.item l.item) (nat_cmp m.number l.number)))) (less m.func.start l.func.start lt) in cc
+  | inl lt ↦ let earlier : before m l ≡ true = ap (λ (c : Ordering). is_lt (ordering_then c (ordering_then (nat_cmp m.item l.item) (nat_cmp m.number l.number)))) (sym (nat_cmp_is m.func.start l.func.start Less lt)) in cc
   | inr le ↦ le
 ]
 
@@ -216,8 +202,8 @@ no_overlap (l ∷ m ∷ ls) up sizes apart =
     let rest = All-tail Holds l (m ∷ ls) sizes in
     let le = starts_rise l m (All-head (λ y. before y l ≡ false) m ls (All-tail (λ y. before y l ≡ false) l (m ∷ ls) (first_least l (m ∷ ls) up))) in
     let ends = apart_by l.func m.func (ltb-true 0 l.func.size (All-head Holds l (m ∷ ls) sizes)) (ltb-true 0 m.func.size (All-head Holds m ls rest)) le
-    (All-head (AreApart l) m ls (first_with AreApart l (m ∷ ls) apart)) in
-    overlap_goes_on l m ls (le-ltb m.func.start (l.func.start + l.func.size) ends) ∙ no_overlap (m ∷ ls) (rest_sorted l (m ∷ ls) up) rest (rest_with AreApart l (m ∷ ls) apart)
+    (All-head (AreApart l) m ls (pairs_head AreApart l (m ∷ ls) apart)) in
+    overlap_goes_on l m ls (le-ltb m.func.start (l.func.start + l.func.size) ends) ∙ no_overlap (m ∷ ls) (rest_sorted l (m ∷ ls) up) rest (pairs_tail AreApart l (m ∷ ls) apart)
 
 none_overlap : (arch : Arch) (tables : List Table) (ordered : List Located) → CanBe arch tables → InOrder (sized tables) ordered → overlap_fault ordered ≡ None
 none_overlap arch tables ordered h order =

@@ -53,7 +53,7 @@ functions_sound arch bytes flags at place [] h = All-nil (IsSound arch)
 functions_sound arch bytes flags at place (f ∷ functions) (entry, rows, later) =
     All-cons (IsSound arch) f functions (entry_sound arch bytes _ place f entry rows) (functions_sound arch bytes flags at (place + 20) functions later)
 
-view_sound : (view : View) → IsRead view → All (IsSound (table_of view).arch) (table_of view).functions
+pub view_sound : (view : View) → IsRead view → All (IsSound (table_of view).arch) (table_of view).functions
 view_sound view h = functions_sound (table_of view).arch _ (table_of view).flags _ _ (table_of view).functions h.functions
 
 -- those of all sections of one machine

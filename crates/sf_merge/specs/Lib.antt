@@ -1,5 +1,6 @@
 pub mod Located
 pub mod Merging
+pub mod OneSection
 pub mod Heads
 pub mod Joining
 pub mod Views

@@ -5,8 +5,8 @@
 //! What merging comes to is one definition (`Merges` of `specs/Merging.antt`): these functions, or the first
 //! fault. The answer is the `Tight` and `Narrow` section, by the definitions of `sf_model`, of the tables'
 //! union (`IsUnion`). [`join`] makes lists of functions into one list by rising start. [`in_order`] reads the
-//! functions of one section, by start, and [`first_overlap`] finds the first two that share an address, with
-//! rows or without.
+//! functions of one section, by start, and [`shared_entry`] finds the entry of the first one that shares an
+//! address with the one before it, with rows or without.
 //!
 //! Laws: merging comes to one result ([`merging_comes_to_one_result`], [`merging_comes_to_a_result`]), so the
 //! answer is Ok exactly where the definition has no fault; a look-up in the union finds what the one section
@@ -40,7 +40,7 @@ pub use laws::{
 };
 pub use located::{Located, Rank};
 pub use merging::{MergedSection, merge};
-pub use overlap::{HasAddresses, first_overlap};
+pub use overlap::shared_entry;
 pub use reading::in_order;
 
 #[cfg(test)]

@@ -3,9 +3,12 @@
 ghost use Rattle.std.specs.Prelude.{◌≡◌};
 ghost use Rattle.std.specs.Option.{option_map};
 ghost use Rattle.std.specs.List.{find};
+ghost use Rattle.sf_decode.specs.View.{section_bytes};
 ghost use Rattle.sf_merge.specs.Merging.{neighbours, overlap_by};
+ghost use Rattle.sf_merge.specs.OneSection as spec;
 
 use crate::located::Located;
+use sf_decode::View;
 
 /// Something that takes up addresses.
 pub trait HasAddresses {
@@ -61,4 +64,14 @@ pub fn first_overlap<F: HasAddresses>(ordered: &[F]) -> Option<(&F, &F)>
         before = function;
     }
     None
+}
+
+/// The place of the function descriptor entry of the later one of the first two neighbours that share an
+/// address, of the functions of a section in order.
+#[tactic(auto, unfolding(crate::specs::OneSection::shared_entry))]
+pub fn shared_entry(view: &View<'_>, ordered: &[Located]) -> Option<u64>
+    ensures { result ≡ spec.shared_entry (section_bytes view.now) ordered.now }
+{
+    let (_, function) = first_overlap(ordered)?;
+    Some(view.entry_place(function.number))
 }

@@ -1,0 +1,22 @@
+-- GNU SFrame specification, Version 2, function descriptor entries: the functions of one section, and two of them that share an
+-- address.
+use Rattle.std.specs.Prelude.{ℕ, List, Option}
+use Rattle.std.specs.List.{filter, find}
+use Rattle.std.specs.Option.{option_map}
+use Rattle.sf_model.specs.Table.{Table}
+use Rattle.sf_decode.specs.Entry.{entry_place}
+use Rattle.sf_merge.specs.declared.located.Located.{Located}
+use Rattle.sf_merge.specs.Located.{has_bytes, located}
+use Rattle.sf_merge.specs.Merging.{neighbours, overlap}
+
+-- the functions of a table that hold an address, each with the number of its entry
+abbrev pub sized : Table → List Located
+sized table = filter has_bytes (located 0 table)
+
+-- the place of the entry of the second
+abbrev pub later_entry : (bytes : List ℕ) → Located × Located → ℕ
+later_entry bytes pair = entry_place bytes pair.1.number
+
+-- that of the first two neighbours that share an address
+unfoldable pub shared_entry : (bytes : List ℕ) → List Located → Option ℕ
+shared_entry bytes ordered = option_map (later_entry bytes) (find overlap (neighbours ordered))
