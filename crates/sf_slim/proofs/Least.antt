@@ -14,6 +14,7 @@ use Rattle.sf_model.specs.declared.rows.Row.{Row}
 use Rattle.sf_model.specs.Lookup.{begins_by, begins_last, row_at}
 use Rattle.sf_model.specs.Width.{holds_unsigned, width_len}
 use Rattle.sf_model.specs.Tight.{last_start}
+use Rattle.sf_model.proofs.TightOne.{zero_held}
 use Rattle.sf_sizes.specs.RowLength.{row_len}
 use Rattle.sf_sizes.specs.Width.{least_width}
 use Rattle.sf_express.proofs.Changes.{content_itself}
@@ -99,9 +100,6 @@ first_row r rows e =
 abbrev pub BeginsOne : (start : ℕ) → Content → List Row → Type 0
 BeginsOne start c rows = (r : Row) × IsOne r rows × (r.start ≡ start) × (r.content ≡ c)
 
-true_is_not_false : (x : Bool) → x ≡ true → x ≡ false → ⊥
-true_is_not_false x t f = cc
-
 some_row : (x : Option Row) (c : Content) → option_map (λ (r : Row). r.content) x ≡ Some c → (r : Row) × (x ≡ Some r) × (r.content ≡ c)
 some_row None c e = cc
 some_row (Some r) c e = (r, refl, cc)
@@ -119,7 +117,7 @@ begins_one rows (suc o) c e b =
       | inr before ↦
           let was : content_at rows o ≡ Some c = ap (option_map (λ (r : Row). r.content)) before ∙ ap (λ (x : Content). Some x) found.2 in
           let unchanged : begins (content_at rows) (suc o) ≡ false = rw (was, e, content_itself c) refl in
-          absurd (true_is_not_false (begins (content_at rows) (suc o)) b unchanged)
+          let no : true ≡ false = sym b ∙ unchanged in cc
     ]
 
 -- ---- the bytes of the rows from an offset on
@@ -211,12 +209,6 @@ held_from width rows h a (suc n) =
     one_offset (HoldsStarts width) rows a n rest
     (λ c one. All-cons (λ (r : Row). IsTrue (holds_unsigned r.start width)) (record { start = a; content = c }) (rows_among (content_at rows) (range_with_len (a + 1) n))
     (subst (λ (k : ℕ). IsTrue (holds_unsigned k width)) one.2 (held_one width one.0 rows h one.1)) rest)
-
-zero_held : (width : ℕ) → width ≤ 2 → IsTrue (holds_unsigned 0 width)
-zero_held zero le = search rules
-zero_held (suc zero) le = search rules
-zero_held (suc (suc zero)) le = search rules
-zero_held (suc (suc (suc n))) le = absurd (omega (arith, le))
 
 last_held : (width : ℕ) (rows : List Row) → width ≤ 2 → HoldsStarts width rows → IsTrue (holds_unsigned (last_start rows) width)
 last_held width [] le h = zero_held width le

@@ -1,14 +1,14 @@
 -- What is written of a section: functions that one section can hold, and those that are needed.
-use Rattle.std.specs.Prelude.{nat_lt, not, ◌&&◌, IsTrue, sum_by}
+use Rattle.std.specs.Prelude.{nat_lt, not, IsTrue, sum_by}
 use Rattle.std.specs.List.{filter, AllPairs}
 use Rattle.std.specs.List.Sorted.{IsPermutation}
 use Rattle.std.proofs.Common.{◌≡◌, ℕ, suc, ◌+◌, ◌<◌, ◌≤◌, Bool, true, false, cond, List, [], ◌∷◌, All, get_or, length, map, Option, Some, None, refl, sym, ap, subst, ◌∙◌, arith}
-use Rattle.std.proofs.lemmas.Bool.{lt-ltb, ltb-true}
+use Rattle.std.proofs.lemmas.Bool.{and_parts, lt-ltb, ltb-true}
 use Rattle.std.proofs.lemmas.List.{append-nil, length-map}
-use Rattle.std.proofs.lemmas.List.Elements.{All-nil, All-cons, All-head, All-tail, All-weaker, All-map, All-filter, filter_passes}
+use Rattle.std.proofs.lemmas.List.Elements.{All-cons, All-head, All-tail, All-weaker, All-map, All-filter, filter_passes}
 use Rattle.std.proofs.lemmas.List.Filters.{length-filter_both, sum_by-filter_both}
 use Rattle.std.proofs.lemmas.List.Kept.{AllPairs-filter}
-use Rattle.std.proofs.lemmas.List.Sorted.{All-permutation, length_permutation, sum_by-IsPermutation, IsPermutation-map}
+use Rattle.std.proofs.lemmas.List.Sorted.{length_permutation, sum_by-IsPermutation, IsPermutation-map}
 use Rattle.std.proofs.lemmas.List.Sums.{sum_by-cons}
 use Rattle.sf_model.specs.declared.machine.Arch.{Arch}
 use Rattle.sf_model.specs.declared.content.Content.{Content}
@@ -19,27 +19,24 @@ use Rattle.sf_model.specs.declared.rows.Row.{Row}
 use Rattle.sf_model.specs.Content.{content_fits}
 use Rattle.sf_model.specs.Function.{AreWritable, IsWritable, RowsRise}
 use Rattle.sf_model.specs.Table.{Table, row_count}
-use Rattle.sf_model.specs.Union.{all_functions, IsApart}
+use Rattle.sf_model.specs.Union.{IsApart}
 use Rattle.sf_decode.specs.declared.view.View.{View}
 use Rattle.sf_decode.specs.View.{section_bytes, table_of}
 use Rattle.sf_merge.specs.declared.located.Located.{Located}
-use Rattle.sf_merge.specs.Located.{at_entry, located, all_located, has_bytes, compared, InOrder}
-use Rattle.sf_merge.specs.Located as merged
+use Rattle.sf_merge.specs.Located.{located, has_bytes, InOrder}
 use Rattle.sf_merge.specs.Views.{IsRead}
 use Rattle.sf_merge.proofs.Apart.{EndsBy, adjacent, function_of, none_share, pairs_map, rises}
+use Rattle.sf_merge.proofs.OneSection as section
+use Rattle.sf_merge.proofs.OneSection.{in_tables, located_functions, located_sound}
 use Rattle.sf_merge.proofs.Permutations.{filter_permuted}
-use Rattle.sf_merge.proofs.Sound.{IsSound, RowsFit, all_sound}
-use Rattle.sf_merge.proofs.United.{apart, functions_are}
+use Rattle.sf_merge.proofs.Sound.{IsSound, RowsFit}
+use Rattle.sf_merge.proofs.United.{apart}
 use Rattle.sf_slim.specs.Slim.{is_live, slim_function, slim_rows_of, IsSlim}
 use Rattle.sf_slim.specs.Pass.{answers, first_holds, is_in_block, is_kept, kept, kept_function, kept_of}
 use Rattle.sf_slim.specs.Slimming.{overlap_fault, sized, slimmed}
 use Rattle.sf_slim.proofs.Live.{live_is}
 use Rattle.sf_slim.proofs.Overlaps.{none_shared}
 use Rattle.sf_slim.proofs.Sweep.{kept_new, kept_rows_rise, slim_is_kept}
-
-both : (a b : Bool) → (a && b) ≡ true → (a ≡ true) × (b ≡ true)
-both true b e = (refl, e)
-both false b e = cc
 
 -- ---- one function
 pub slim_of_is : (shape : Shape) (size : ℕ) (rows : List Row) → RowsRise rows → slim_rows_of shape size rows ≡ kept_of shape size rows
@@ -65,7 +62,7 @@ keeps_first (Repeat block) size r rows lt = omega arith
 answers_by : (f : Func) (rows : List Row) → f.rows ≡ rows → first_holds f.shape f.size rows ≡ true → Answers f
 answers_by f [] is e = cc
 answers_by f (r ∷ rows) is e =
-    let two = both (nat_lt r.start f.size) (is_in_block f.shape r.start) e in
+    let two = and_parts (nat_lt r.start f.size) (is_in_block f.shape r.start) e in
     let lt = ltb-true r.start f.size two.0 in
     record {
       size = omega (lt, arith);
@@ -160,37 +157,9 @@ fewer_rows (f ∷ functions) =
     at_test false e rest own = omega (e, rest, arith)
 
 -- ---- the functions in order
-pub in_tables : (table : Table) (ordered : List Located) → InOrder (sized table) ordered → InOrder (merged.sized (table ∷ [])) ordered
-in_tables table ordered order = subst (λ (ls : List Located). InOrder (filter has_bytes ls) ordered) (sym (append-nil (located 0 table))) order
-
-those_of : (table : Table) → all_functions (table ∷ []) ≡ table.functions
-those_of table = append-nil table.functions
-
-functions_of : List Located → List Func
-functions_of ls = map function_of ls
-
-all_back : {X Y : Type 0} (P : Y → Type 0) (f : X → Y) (xs : List X) → All P (map f xs) → All (λ x. P (f x)) xs
-all_back P f [] h = All-nil (λ x. P (f x))
-all_back P f (x ∷ xs) h = All-cons (λ x. P (f x)) x xs (All-head P (f x) (map f xs) h) (all_back P f xs (All-tail P (f x) (map f xs) h))
-
-located_functions : (table : Table) → map function_of (located 0 table) ≡ table.functions
-located_functions table =
-    ap (map function_of) (sym (append-nil (located 0 table))) ∙ functions_are (table ∷ []) ∙ those_of table
-
-located_sound : (view : View) → IsRead view → All (λ l. IsSound (table_of view).arch (function_of l)) (located 0 (table_of view))
-located_sound view read =
-    let table = table_of view in
-    let arch = table.arch in
-    let sound : All (IsSound arch) (all_functions (table ∷ [])) =
-    all_sound arch (view ∷ []) (All-cons IsRead view [] read (All-nil IsRead)) (All-cons (λ (t : Table). t.arch ≡ arch) table [] refl (All-nil (λ (t : Table). t.arch ≡ arch))) in
-    all_back (IsSound arch) function_of (located 0 table) (subst (All (IsSound arch)) (those_of table ∙ sym (located_functions table)) sound)
-
 pub ordered_sound : (view : View) (ordered : List Located) → IsRead view → InOrder (sized (table_of view)) ordered → All (IsSound (table_of view).arch) (map function_of ordered)
 ordered_sound view ordered read order =
-    let table = table_of view in
-    let arch = table.arch in
-    let left = All-filter has_bytes (λ l. IsSound arch (function_of l)) (located 0 table) (located_sound view read) in
-    All-map (IsSound arch) function_of ordered (All-permutation (λ l. IsSound arch (function_of l)) (sized table) ordered order.moved left)
+    All-map (IsSound (table_of view).arch) function_of ordered (section.ordered_sound view ordered read order)
 
 pub slimmed_is : (arch : Arch) (ordered : List Located) → All (IsSound arch) (map function_of ordered) → slimmed ordered ≡ needed (map function_of ordered)
 unfolding slimmed
@@ -209,9 +178,6 @@ few_functions table ordered order =
     let all_mapped = length-map (located 0 table) function_of in
     let sum = length-filter_both has_bytes (λ l. not (has_bytes l)) (λ l. refl) (located 0 table) in
     omega (same, mapped, all, all_mapped, sum, arith)
-
-rows_of : Located → ℕ
-rows_of l = length l.func.rows
 
 sum_mapped : (ls : List Located) → row_count (map function_of ls) ≡ sum_by (λ (l : Located). length l.func.rows) ls
 sum_mapped [] = refl
@@ -290,7 +256,7 @@ pub is_slim : (view : View) (ordered : List Located) → IsRead view → InOrder
 is_slim view ordered read order e =
     let functions = map function_of ordered in
     record {
-      apart = subst (AllPairs IsApart) (those_of (table_of view))
+      apart = subst (AllPairs IsApart) (append-nil (table_of view).functions)
           (apart (table_of view ∷ []) ordered (in_tables (table_of view) ordered order) (none_shared (section_bytes view) ordered e));
       taken = subst (IsPermutation (map slim_function (filter is_live (table_of view).functions)))
           (slim_is_needed (table_of view).arch functions (ordered_sound view ordered read order)) (taken view ordered read order);

@@ -4,9 +4,9 @@ use Rattle.sf_model.specs.declared.function.Func.{Func}
 use Rattle.sf_model.specs.Table.{Table}
 use Rattle.sf_merge.specs.declared.located.Located.{Located}
 use Rattle.sf_merge.proofs.OneOrder.{one_order}
+use Rattle.sf_merge.proofs.OneSection.{in_tables}
 use Rattle.sf_slim.specs.declared.fault.SlimFault.{SlimFault}
 use Rattle.sf_slim.specs.Slimming.{or_later, overlap_fault, reach_fault, slimmed, unless_fault, Slims}
-use Rattle.sf_slim.proofs.Needed.{in_tables}
 
 pub one_result : (bytes : List ℕ) (table : Table) (at : ℕ) (one other : Result (List Func) SlimFault) → Slims bytes table at one → Slims bytes table at other → one ≡ other
 one_result bytes table at one other (es, order, e) (fs, order', e') =

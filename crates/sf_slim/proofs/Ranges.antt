@@ -1,7 +1,7 @@
 -- The offsets of rows that stand in a section are numbers of 32 signed bits.
-use Rattle.std.specs.Prelude.{negsuc, option_to_list, ◌&&◌}
+use Rattle.std.specs.Prelude.{negsuc, option_to_list}
 use Rattle.std.specs.List.{list_all}
-use Rattle.std.proofs.Common.{◌≡◌, ℕ, zero, suc, ◌+◌, ◌<◌, ◌≤◌, ◌^◌, w32, ℤ, pos, Bool, true, false, IsTrue, FitsSigned, List, [], ◌∷◌, ◌++◌, All, length, Option, Some, None, refl, arith}
+use Rattle.std.proofs.Common.{ℕ, zero, suc, ◌+◌, ◌<◌, ◌≤◌, ◌^◌, w32, ℤ, pos, true, IsTrue, FitsSigned, List, [], ◌∷◌, ◌++◌, All, length, Option, Some, None, arith}
 use Rattle.std.proofs.lemmas.Bool.{ltb-true}
 use Rattle.std.proofs.lemmas.List.Elements.{All-nil, All-cons}
 use Rattle.sf_model.specs.declared.machine.Arch.{Arch}
@@ -14,14 +14,7 @@ use Rattle.sf_model.specs.Content.{OffsetsInRange, PointerInRange, ReturnInRange
 use Rattle.sf_model.specs.RowBytes.{holds_row_offsets, return_offset, spelled_row}
 use Rattle.sf_model.specs.Section.{AnyWidth, FunctionsStand, RowsStand}
 use Rattle.sf_model.specs.Width.{holds_signed}
-
-first_of : (a b : Bool) → IsTrue (a && b) → IsTrue a
-first_of true b h = refl
-first_of false b h = h
-
-second_of : (a b : Bool) → IsTrue (a && b) → IsTrue b
-second_of true b h = h
-second_of false b h = let no : false ≡ true = h in cc
+use Rattle.sf_decode.proofs.Holds.{first_of, second_of}
 
 in_four : (width : ℕ) (z : ℤ) → width ≤ 2 → IsTrue (holds_signed z width) → FitsSigned w32 z
 in_four zero (pos n) le h = let lt : n < 2 ^ 7 = ltb-true n (2 ^ 7) h in record { sfits = omega (lt, arith) }

@@ -2,68 +2,21 @@
 use Rattle.std.specs.Prelude.{nat_lt, not}
 use Rattle.std.specs.Option.{option_map}
 use Rattle.std.specs.List.{range_with_len}
-use Rattle.std.proofs.Common.{◌≡◌, ℕ, zero, suc, ◌+◌, ◌<◌, ◌≤◌, Bool, true, false, cond, List, [], ◌∷◌, get_or, length, Option, Some, None, refl, sym, ap, subst, ◌∙◌, arith, inl, inr}
-use Rattle.std.proofs.lemmas.Bool.{cases_lt, lt-ltb, le-ltb, le-leb}
+use Rattle.std.proofs.Common.{◌≡◌, ℕ, zero, suc, ◌+◌, ◌<◌, ◌≤◌, Bool, true, false, cond, List, [], ◌∷◌, Option, Some, None, refl, sym, ap, subst, ◌∙◌, arith, inl, inr}
+use Rattle.std.proofs.lemmas.Bool.{cases_lt, lt-ltb, le-ltb}
 use Rattle.sf_model.specs.declared.content.Content.{Content}
 use Rattle.sf_model.specs.declared.rows.Row.{Row}
 use Rattle.sf_model.specs.Function.{RowsRise}
 use Rattle.sf_express.specs.Expressed.{repeats}
 use Rattle.sf_express.proofs.Changes.{content_itself}
 use Rattle.sf_express.proofs.Same.{repeated_is}
-use Rattle.sf_lookup.proofs.Rows.{latest, latest_holds, latest_stops}
+use Rattle.sf_lookup.proofs.Rows.{Rise, all_rise, latest, latest_begun, latest_holds, latest_stays, latest_stops, rise_lower, rises}
 use Rattle.sf_slim.specs.Slim.{Answers, begins, content_at, rows_among, same_answer, slim_rows}
 use Rattle.sf_slim.specs.Pass.{is_kept, kept}
 use Rattle.sf_slim.proofs.Least.{skips, nothing, takes}
 
 abbrev pub contents : Option Row → Option Content
 contents found = option_map (λ (r : Row). r.content) found
-
--- ---- rows that rise
--- each start is above the one before, and the first at least this
-abbrev pub Rise : (least : ℕ) → List Row → Type 0
-Rise least [] = Unit {0}
-Rise least (r ∷ rows) = (least ≤ r.start) × Rise (r.start + 1) rows
-
-later_rise : (r : Row) (rows : List Row) → RowsRise (r ∷ rows) → RowsRise rows
-later_rise r rows h k d lt =
-    let same : suc k + 1 ≡ suc (k + 1) = omega arith in
-    subst (λ j. (get_or rows k d).start < (get_or (r ∷ rows) j d).start) same (h (suc k) d (omega (lt, arith)))
-
-rises_on : (r : Row) (rows : List Row) → RowsRise (r ∷ rows) → Rise (r.start + 1) rows
-rises_on r [] h = tt
-rises_on r (s ∷ rows) h =
-    let first : r.start < s.start = h 0 r (omega arith) in
-    (omega (first, arith), rises_on s rows (later_rise r (s ∷ rows) h))
-
-pub rises : (rows : List Row) → RowsRise rows → Rise 0 rows
-rises [] h = tt
-rises (r ∷ rows) h = (omega arith, rises_on r rows h)
-
-pub rise_lower : (least more : ℕ) (rows : List Row) → least ≤ more → Rise more rows → Rise least rows
-rise_lower least more [] le h = tt
-rise_lower least more (r ∷ rows) le h = (omega (le, h.0, arith), h.1)
-
--- the converse
-first_above : (least : ℕ) (rows : List Row) (d : Row) → Rise least rows → 0 < length rows → least ≤ (get_or rows 0 d).start
-first_above least [] d h lt = absurd (omega (lt, arith))
-first_above least (r ∷ rows) d h lt = h.0
-
-pub all_rise : (least : ℕ) (rows : List Row) → Rise least rows → RowsRise rows
-all_rise least [] h k d lt = absurd (omega (lt, arith))
-all_rise least (r ∷ rows) h zero d lt =
-    let next = first_above (r.start + 1) rows d h.1 (omega (lt, arith)) in
-    omega (next, arith)
-all_rise least (r ∷ rows) h (suc k) d lt =
-    let same : suc (k + 1) ≡ suc k + 1 = omega arith in
-    subst (λ j. (get_or rows k d).start < (get_or (r ∷ rows) j d).start) same (all_rise (r.start + 1) rows h.1 k d (omega (lt, arith)))
-
--- rows that begin after an offset change nothing there
-pub reached : (o least : ℕ) (found : Option Row) (rows : List Row) → o < least → Rise least rows → latest o found rows ≡ found
-reached o least found [] lt h = refl
-reached o least found (r ∷ rows) lt h = latest_stops o found r rows (omega (lt, h.0, arith))
-
-begun : (o : ℕ) (found : Option Row) (r : Row) (rows : List Row) → r.start ≤ o → latest o found (r ∷ rows) ≡ latest o (Some r) rows
-begun o found r rows le = rw (le-leb r.start o le) refl
 
 -- ---- rows past the size
 none_kept : (last : Option Content) (size least : ℕ) (rows : List Row) → size ≤ least → Rise least rows → kept last size rows ≡ []
@@ -123,10 +76,10 @@ swept says size (suc n) a found (r ∷ rows) e rise before at = elim (cases_lt a
       ∙ swept says size n (a + 1) found (r ∷ rows) (omega (e, arith)) (omega (ahead, arith), rise.1) (next says a (contents found) here) (λ o le. at o (omega (le, arith)))
   | inr not_ahead ↦
       let is : r.start ≡ a = omega (not_ahead, rise.0, arith) in
-      let here : says a ≡ Some r.content = at a (omega arith) ∙ ap contents (begun a found r rows (omega (is, arith)) ∙ reached a (r.start + 1) (Some r) rows (omega (is, arith)) rise.1) in
+      let here : says a ≡ Some r.content = at a (omega arith) ∙ ap contents (latest_begun a found r rows (omega (is, arith)) ∙ latest_stays a (r.start + 1) (Some r) rows (omega (is, arith)) rise.1) in
       let later : rows_among says (range_with_len (a + 1) n) ≡ kept (Some r.content) size rows =
       swept says size n (a + 1) (Some r) rows (omega (e, arith)) (rise_lower (a + 1) (r.start + 1) rows (omega (is, arith)) rise.1) (next says a (Some r.content) here)
-      (λ o le. at o (omega (le, arith)) ∙ ap contents (begun o found r rows (omega (is, le, arith)))) in
+      (λ o le. at o (omega (le, arith)) ∙ ap contents (latest_begun o found r rows (omega (is, le, arith)))) in
       let within : r.start < size = omega (is, e, arith) in
       at_test (repeats (contents found) r.content) refl is here later within
 ]
@@ -162,7 +115,7 @@ kept_says : (o size least : ℕ) (found : Option Row) (last : Option Row) (rows 
 kept_says o size least found last [] lt h e = e
 kept_says o size least found last (r ∷ rows) lt h e = elim (cases_lt o r.start) [
   | inl ahead ↦
-      ap contents (reached o r.start last (kept (contents found) size (r ∷ rows)) ahead (kept_rise (contents found) size r.start (r ∷ rows) (omega arith, h.1)))
+      ap contents (latest_stays o r.start last (kept (contents found) size (r ∷ rows)) ahead (kept_rise (contents found) size r.start (r ∷ rows) (omega arith, h.1)))
       ∙ e ∙ sym (ap contents (latest_stops o found r rows ahead))
   | inr not_ahead ↦
       let by : r.start ≤ o = omega (not_ahead, arith) in
@@ -177,12 +130,12 @@ kept_says o size least found last (r ∷ rows) lt h e = elim (cases_lt o r.start
     at_test true t by within later =
         ap (λ (rs : List Row). contents (latest o last rs)) (kept_again (contents found) size r rows within t)
         ∙ later last (e ∙ repeated_is (contents found) r.content t)
-        ∙ sym (ap contents (begun o found r rows by))
+        ∙ sym (ap contents (latest_begun o found r rows by))
     at_test false t by within later =
         ap (λ (rs : List Row). contents (latest o last rs)) (kept_new (contents found) size r rows within t)
-        ∙ ap contents (begun o last r (kept (Some r.content) size rows) by)
+        ∙ ap contents (latest_begun o last r (kept (Some r.content) size rows) by)
         ∙ later (Some r) refl
-        ∙ sym (ap contents (begun o found r rows by))
+        ∙ sym (ap contents (latest_begun o found r rows by))
 
 -- below the size the rows that are needed say what all rows say
 pub slim_says : (size : ℕ) (rows : List Row) → RowsRise rows → (o : ℕ) → o < size → content_at (slim_rows size rows) o ≡ content_at rows o

@@ -1,30 +1,22 @@
 -- What slimming a section comes to (GNU SFrame specification, Version 2): the functions that are written, or the first fault.
 use Rattle.std.specs.Prelude.{◌≡◌, ℕ, List, map, Option, Result}
 use Rattle.std.specs.Option.{option_map}
-use Rattle.std.specs.List.{filter, find}
+use Rattle.std.specs.List.{filter}
 use Rattle.sf_model.specs.declared.function.Func.{Func}
 use Rattle.sf_model.specs.Table.{Table}
 use Rattle.sf_write.specs.Reach.{first_out_of_reach}
-use Rattle.sf_decode.specs.Entry.{entry_place}
 use Rattle.sf_merge.specs.declared.located.Located.{Located}
-use Rattle.sf_merge.specs.Located.{has_bytes, located, InOrder}
-use Rattle.sf_merge.specs.Merging.{neighbours, overlap}
+use Rattle.sf_merge.specs.Located.{InOrder}
+use Rattle.sf_merge.specs.OneSection.{shared_entry}
 use Rattle.sf_slim.specs.declared.fault.SlimFault.{SlimFault}
 use Rattle.sf_slim.specs.declared.fault.SlimFault.TheVariants.{Overlap, OutOfReach}
 use Rattle.sf_slim.specs.Slim.{is_live, slim_function}
 pub use Rattle.sf_model.specs.Firsts.{or_later, unless_fault}
+pub use Rattle.sf_merge.specs.OneSection.{sized}
 
--- the functions of a table that hold an address, each with the number of its entry
-abbrev pub sized : Table → List Located
-sized table = filter has_bytes (located 0 table)
-
--- the place of the entry of the second
-abbrev pub shared_by : (bytes : List ℕ) → Located × Located → SlimFault
-shared_by bytes pair = Overlap (entry_place bytes pair.1.number)
-
--- the first two neighbours that share an address
+-- the first two neighbours that share an address: the place of the entry of the second
 unfoldable pub overlap_fault : (bytes : List ℕ) → List Located → Option SlimFault
-overlap_fault bytes ordered = option_map (shared_by bytes) (find overlap (neighbours ordered))
+overlap_fault bytes ordered = option_map Overlap (shared_entry bytes ordered)
 
 -- the functions that are written
 unfoldable pub slimmed : List Located → List Func

@@ -1,35 +1,12 @@
 //! One pass over a function's rows.
 
 ghost use Rattle.std.specs.Prelude.{◌≡◌, None, IfOk};
-ghost use Rattle.sf_express.specs.Expressed.{repeats, same_content};
 ghost use Rattle.sf_slim.specs.Pass as spec;
 
 use sf_base::NoMemory;
+use sf_express::is_repeated;
 use sf_model::{Content, Func, Row, Rows, Shape};
 use std::alloc::Global;
-
-/// Whether two contents are the same.
-#[inline(always)]
-fn is_same(last: Content, content: Content) -> bool
-    ensures { result ≡ same_content last content }
-{
-    last.base == content.base
-        && last.cfa == content.cfa
-        && last.ra == content.ra
-        && last.fp == content.fp
-        && last.signed == content.signed
-}
-
-/// Whether a content is that of the row before.
-#[inline(always)]
-fn is_repeated(last: Option<Content>, content: Content) -> bool
-    ensures { result ≡ repeats last content }
-{
-    match last {
-        None => false,
-        Some(last) => is_same(last, content),
-    }
-}
 
 /// Whether a row begins within the function and says something new.
 #[inline(always)]
