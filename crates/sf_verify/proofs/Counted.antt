@@ -3,7 +3,7 @@ use Rattle.std.specs.Prelude.{not, ◌&&◌, ◌||◌}
 use Rattle.std.specs.List.{filter, list_any}
 use Rattle.std.specs.List.Sorted.{IsPermutation}
 use Rattle.std.proofs.Common.{◌≡◌, ℕ, zero, suc, ◌-◌, ◌<◌, ◌≤◌, ◌==◌, Bool, true, false, cond, List, [], ◌∷◌, get_or, length, map, take, refl, sym, ap, subst, ◌∙◌, arith, inl, inr}
-use Rattle.std.proofs.lemmas.Bool.{cases_lt, eqb-true}
+use Rattle.std.proofs.lemmas.Bool.{and_parts, cases_lt, eqb-true}
 use Rattle.std.proofs.lemmas.List.{get_or_default}
 use Rattle.std.proofs.lemmas.List.Filters.{length-filter_both}
 use Rattle.std.proofs.lemmas.List.Sorted.{length_permutation}
@@ -18,14 +18,10 @@ use Rattle.sf_verify.specs.Counting.{StartBefore, StartsRise, covers, is_absent}
 use Rattle.sf_verify.proofs.Gathered.{expressed_of}
 
 -- ---- one kept function, among functions by rising start
-both : (a b : Bool) → (a && b) ≡ true → (a ≡ true) × (b ≡ true)
-both true b e = (refl, e)
-both false b e = cc
-
 covered_start : (kept g : Func) → covers kept g ≡ true → g.start ≡ kept.start
 covered_start kept g e =
-    let two = both (is_plain g && (g.start == kept.start)) (g.size == kept.size) e in
-    let one = both (is_plain g) (g.start == kept.start) two.0 in
+    let two = and_parts (is_plain g && (g.start == kept.start)) (g.size == kept.size) e in
+    let one = and_parts (is_plain g) (g.start == kept.start) two.0 in
     eqb-true g.start kept.start one.1
 
 other_start : (kept g : Func) (b : Bool) → covers kept g ≡ b → (g.start ≡ kept.start → ⊥) → b ≡ false

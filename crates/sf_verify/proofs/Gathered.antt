@@ -1,12 +1,12 @@
 -- What the gathered functions of inputs say at each address, in the two lists of kept and omitted ones.
-use Rattle.std.specs.Prelude.{nat_le, nat_lt, not}
+use Rattle.std.specs.Prelude.{not}
 use Rattle.std.specs.List.{All, cons_option, filter, filter_map, find, range_with_len}
 use Rattle.std.specs.List.Sorted.{IsPermutation, IsNonDecreasingBy}
 use Rattle.std.specs.Option.{option_and_then, option_map}
 use Rattle.std.proofs.Common.{◌≡◌, ℕ, zero, suc, ◌+◌, ◌-◌, ◌<◌, ◌≤◌, Bool, true, false, cond, List, [], ◌∷◌, get_or, length, map, Option, Some, None, Result, Ok, Err, refl, sym, ap, subst, ◌∙◌, arith}
-use Rattle.std.proofs.lemmas.Bool.{leb-true, ltb-true, le-leb, lt-ltb}
+use Rattle.std.proofs.lemmas.Bool.{le-leb, lt-ltb}
 use Rattle.std.proofs.lemmas.List.{length-map}
-use Rattle.std.proofs.lemmas.List.Elements.{All-nil, All-cons, All-head, All-tail, All-filter, All-map, filter_passes}
+use Rattle.std.proofs.lemmas.List.Elements.{All-nil, All-cons, All-filter, All-map, filter_passes}
 use Rattle.std.proofs.lemmas.List.Kept.{IsNonDecreasingBy-filter}
 use Rattle.std.proofs.lemmas.List.Sorted.{All-permutation}
 use Rattle.sf_model.specs.declared.content.Content.{Content}
@@ -29,9 +29,11 @@ use Rattle.sf_asm.specs.Functions.{Function}
 use Rattle.sf_asm.specs.Kept.{entry_of, facts_of, is_kept, omitted_functions, says_of}
 use Rattle.sf_asm.specs.Order.{are_apart}
 use Rattle.sf_asm.specs.Sources.{function_start, functions_lent, source_function}
+use Rattle.sf_merge.proofs.Apart.{all_back}
+use Rattle.sf_model.proofs.Unions as unions
 use Rattle.sf_model.proofs.Unions.{Member, found, found_alone, in_filter, some_found}
 use Rattle.sf_asm.proofs.Finding.{found_alike}
-use Rattle.sf_asm.proofs.Holding.{IsFine, both, fine, has_form_if, is_within, one_holds, within}
+use Rattle.sf_asm.proofs.Holding.{IsFine, fine, has_form_if, is_within, one_holds, within}
 use Rattle.sf_asm.proofs.Members.{all_members, in_map, placed}
 use Rattle.sf_verify.specs.Asking.{AreHolders, IsRowed, RowsBegin, answers_of, by_holder}
 use Rattle.sf_verify.specs.Comparing.{func_says}
@@ -98,10 +100,6 @@ mapped f (x ∷ xs) (suc i) d e lt = mapped f xs i d e (omega (arith, lt))
 some_at : {X : Type 0} (xs : List X) (i : ℕ) → i < length xs → X
 some_at [] i lt = absurd (omega (arith, lt))
 some_at (x ∷ xs) i lt = x
-
-all_back : {X Y : Type 0} (P : Y → Type 0) (f : X → Y) (xs : List X) → All P (map f xs) → All (λ x. P (f x)) xs
-all_back P f [] h = All-nil (λ x. P (f x))
-all_back P f (x ∷ xs) h = All-cons (λ x. P (f x)) x xs (All-head P (f x) (map f xs) h) (all_back P f xs (All-tail P (f x) (map f xs) h))
 
 kept_one : (f : Function) (omission : Option Omission) (others : List Function) → omission_of f.arch (facts_of f) (says_of f) ≡ omission → kept_of (map entry_of others) ≡ map expressed_of (filter is_kept others)
     → kept_of (map entry_of (f ∷ others)) ≡ map expressed_of (filter is_kept (f ∷ others))
@@ -209,9 +207,6 @@ holders arch functions sorted kept sources moved apart kept_is sources_are risin
 
 -- ---- both lists say the same
 module _ (arch : Arch) (answers : Answers) (kept : List Func) (sources : List Source) (h : AreHolders arch answers kept sources) where
-  contained : (pc : ℕ) (k : Func) → contains pc k ≡ true → (k.start ≤ pc) × (pc < k.start + k.size)
-  contained pc k e = let two = both (nat_le k.start pc) (nat_lt pc (k.start + k.size)) e in (leb-true k.start pc two.0, ltb-true pc (k.start + k.size) two.1)
-
   by_lent : (pc : ℕ) (o : Option Function) → find (contains pc) kept ≡ None → find (holds_address pc) (functions_lent sources) ≡ o → by_holder pc None o ≡ answers pc
   by_lent pc None none e = sym (h.none_says pc
       (λ i d lt low high. some_found (contains pc) kept (get_or kept i d) (rw (le-leb (get_or kept i d).start pc low, lt-ltb pc ((get_or kept i d).start + (get_or kept i d).size) high) refl) (all_members kept i d lt) none)
@@ -230,10 +225,10 @@ module _ (arch : Arch) (answers : Answers) (kept : List Func) (sources : List So
   by_found pc None e = by_lent pc (find (holds_address pc) (functions_lent sources)) e refl
   by_found pc (Some k) e =
       let t = found (contains pc) kept k e in
-      let two = contained pc k t.passes in
+      let has = unions.within pc k t.passes in
       let p = placed kept k t.within in
       let is = p.is k in
-      sym (h.kept_says p.place k p.within pc (subst (λ (g : Func). g.start ≤ pc) (sym is) two.0) (subst (λ (g : Func). pc < g.start + g.size) (sym is) two.1) ∙ ap (λ (g : Func). func_says g pc) is)
+      sym (h.kept_says p.place k p.within pc (subst (λ (g : Func). g.start ≤ pc) (sym is) has.from) (subst (λ (g : Func). pc < g.start + g.size) (sym is) has.to) ∙ ap (λ (g : Func). func_says g pc) is)
 
   pub same_answers : (pc : ℕ) → answers_of kept (functions_lent sources) pc ≡ answers pc
   unfolding answers_of

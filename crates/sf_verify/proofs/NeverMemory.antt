@@ -1,20 +1,20 @@
 -- Which faults verifying returns: of the section, that two functions share an address; of the inputs, what gathering them returns.
 use Rattle.std.specs.Prelude.{IsTrue}
-use Rattle.std.specs.List.{find}
 use Rattle.std.proofs.Common.{◌≡◌, ℕ, List, Option, Some, None, refl, sym, subst}
 use Rattle.sf_merge.specs.declared.located.Located.{Located}
-use Rattle.sf_merge.specs.Merging.{neighbours, overlap}
+use Rattle.sf_merge.specs.OneSection.{shared_entry}
 use Rattle.sf_asm.specs.declared.fault.GatherFault.{GatherFault}
 use Rattle.sf_asm.specs.declared.fault.GatherFault.TheVariants as gather
 use Rattle.sf_asm.specs.Fault.{is_gather_answered}
 use Rattle.sf_asm.proofs.NeverMemory.{FaultIn, any_mapped}
 use Rattle.sf_verify.specs.declared.fault.VerifyFault.{VerifyFault}
+use Rattle.sf_verify.specs.declared.fault.VerifyFault.TheVariants.{Overlap}
 use Rattle.sf_verify.specs.FaultShown.{is_answered}
-use Rattle.sf_verify.specs.Verifying.{refused, section_fault, shared_by}
+use Rattle.sf_verify.specs.Verifying.{refused, section_fault}
 
 in_section : (bytes : List ℕ) (ordered : List Located) → FaultIn is_answered (section_fault bytes ordered)
 unfolding section_fault
-in_section bytes ordered = any_mapped is_answered (shared_by bytes) (find overlap (neighbours ordered)) (λ pair. refl)
+in_section bytes ordered = any_mapped is_answered Overlap (shared_entry bytes ordered) (λ place. refl)
 
 pub shared_is_answered : (bytes : List ℕ) (ordered : List Located) (fault : VerifyFault) → Some fault ≡ section_fault bytes ordered → IsTrue (is_answered fault)
 shared_is_answered bytes ordered fault is = subst (FaultIn is_answered) (sym is) (in_section bytes ordered)

@@ -1,17 +1,14 @@
 -- Verifying comes to one result.
 use Rattle.std.proofs.Common.{◌≡◌, ℕ, ◌<◌, List, [], ◌∷◌, map, Option, Some, None, Result, Ok, Err, sym, ap, subst, ◌∙◌, arith, inl, inr}
-use Rattle.std.specs.List.{filter}
 use Rattle.std.proofs.lemmas.Bool.{cases_lt}
-use Rattle.std.proofs.lemmas.List.{append-nil}
 use Rattle.sf_model.specs.declared.content.Content.{Content}
 use Rattle.sf_model.specs.declared.function.Func.{Func}
 use Rattle.sf_model.specs.declared.verdict.Verdict.{Verdict}
 use Rattle.sf_model.specs.declared.verdict.Verdict.TheVariants.{Agrees, Differs}
 use Rattle.sf_model.specs.Table.{Table}
 use Rattle.sf_merge.specs.declared.located.Located.{Located}
-use Rattle.sf_merge.specs.Located as merged
-use Rattle.sf_merge.specs.Located.{InOrder, has_bytes, located}
 use Rattle.sf_merge.proofs.OneOrder.{one_order as one_section_order}
+use Rattle.sf_merge.proofs.OneSection.{in_tables}
 use Rattle.sf_asm.specs.declared.entry.Entry.{Entry}
 use Rattle.sf_asm.specs.declared.fault.GatherFault.{GatherFault}
 use Rattle.sf_asm.specs.Functions.{Function, Object}
@@ -23,17 +20,13 @@ use Rattle.sf_verify.specs.declared.fault.VerifyFault.{VerifyFault}
 use Rattle.sf_verify.specs.Agreement.{DifferFirst, IsVerdict, content_said}
 use Rattle.sf_asm.specs.Said.{dwarf_at}
 use Rattle.sf_verify.specs.Said.{section_at}
-use Rattle.sf_verify.specs.Verifying.{Verifies, VerdictUnless, first_fault, section_fault, sized}
+use Rattle.sf_verify.specs.Verifying.{Verifies, VerdictUnless, first_fault, section_fault}
 
 -- ---- the inputs
 gathered_one : (given : Result (List Function) GatherFault) (r r' : Result (List Entry) GatherFault) → GathersFrom given r → GathersFrom given r' → r ≡ r'
 gathered_one (Ok functions) r r' (es, order, is) (fs, order', is') =
     is ∙ ap (λ (xs : List Entry). unless_fault (functions_fault xs) xs) (one_order (map entry_of functions) es fs order order') ∙ sym is'
 gathered_one (Err fault) r r' is is' = is ∙ sym is'
-
--- ---- the section
-in_tables : (table : Table) (ordered : List Located) → InOrder (sized table) ordered → InOrder (merged.sized (table ∷ [])) ordered
-in_tables table ordered order = subst (λ (ls : List Located). InOrder (filter has_bytes ls) ordered) (sym (append-nil (located 0 table))) order
 
 -- ---- the verdict
 not_below : (section : List Func) (functions : List Function) (pc pc' : ℕ) (ours ours' : Content) (theirs theirs' : Option Content) → DifferFirst (section_at section) (dwarf_at functions) pc ours theirs → DifferFirst (section_at section) (dwarf_at functions) pc' ours' theirs' → pc < pc' → ⊥

@@ -3,7 +3,6 @@ use Rattle.std.specs.Prelude.{IsTrue, nat_le}
 use Rattle.std.specs.List.{All}
 use Rattle.std.specs.Option.{option_map}
 use Rattle.std.proofs.Common.{◌≡◌, ℕ, zero, suc, ◌+◌, ◌<◌, ◌≤◌, Bool, true, false, List, [], ◌∷◌, get_or, length, map, Option, Some, None, refl, sym, ap, subst, ◌∙◌, arith}
-use Rattle.std.proofs.lemmas.Bool.{le-leb}
 use Rattle.std.proofs.lemmas.List.Elements.{All-nil, All-cons, All-head, All-tail}
 use Rattle.sf_model.specs.declared.content.Content.{Content}
 use Rattle.sf_model.specs.declared.machine.Arch.{Arch}
@@ -11,51 +10,27 @@ use Rattle.sf_model.specs.declared.rows.Row.{Row}
 use Rattle.sf_model.specs.Content.{content_fits}
 use Rattle.sf_model.specs.Function.{RowsRise}
 use Rattle.sf_model.specs.Lookup.{row_at}
-use Rattle.sf_lookup.proofs.Rows.{latest, latest_holds, latest_stops}
+use Rattle.sf_lookup.proofs.Rows.{Rise, latest, latest_begun, latest_holds, latest_stops, rises, starts_from}
 use Rattle.sf_express.specs.declared.pieces.Piece.{Piece}
 use Rattle.sf_express.specs.Pieces.{ArePieces, PiecesBegin, PiecesRise, piece_of_row, said_by}
 use Rattle.sf_asm.specs.Said.{AllFit, IfFits}
 use Rattle.sf_verify.specs.Asking.{RowsBegin}
 
--- each start is above the one before, and the first at least this
-abbrev pub Rise : (least : ℕ) → List Row → Type 0
-Rise least [] = Unit {0}
-Rise least (r ∷ rows) = (least ≤ r.start) × Rise (r.start + 1) rows
-
-later_rise : (r : Row) (rows : List Row) → RowsRise (r ∷ rows) → RowsRise rows
-later_rise r rows h k d lt =
-    let same : suc k + 1 ≡ suc (k + 1) = omega arith in
-    subst (λ j. (get_or rows k d).start < (get_or (r ∷ rows) j d).start) same (h (suc k) d (omega (lt, arith)))
-
-rises_on : (r : Row) (rows : List Row) → RowsRise (r ∷ rows) → Rise (r.start + 1) rows
-rises_on r [] h = tt
-rises_on r (s ∷ rows) h =
-    let first : r.start < s.start = h 0 r (omega arith) in
-    (omega (first, arith), rises_on s rows (later_rise r (s ∷ rows) h))
-
-pub rises : (rows : List Row) → RowsRise rows → Rise 0 rows
-rises [] h = tt
-rises (r ∷ rows) h = (omega arith, rises_on r rows h)
-
-first_least : (least : ℕ) (rows : List Row) (i : ℕ) (d : Row) → Rise least rows → i < length rows → least ≤ (get_or rows i d).start
-first_least least [] i d h lt = absurd (omega (arith, lt))
-first_least least (r ∷ rows) zero d h lt = h.0
-first_least least (r ∷ rows) (suc i) d h lt = let later = first_least (r.start + 1) rows i d h.1 (omega (arith, lt)) in omega (arith, later, h.0)
-
 -- the row that begins last by an offset
 latest_at_place : (o least i : ℕ) (found : Option Row) (rows : List Row) (d : Row) → Rise least rows → i < length rows → (get_or rows i d).start ≤ o
     → (i + 1 < length rows → o < (get_or rows (i + 1) d).start) → latest o found rows ≡ Some (get_or rows i d)
 latest_at_place o least i found [] d h lt by before = absurd (omega (arith, lt))
-latest_at_place o least zero found (r ∷ []) d h lt by before = rw (le-leb r.start o by) refl
+latest_at_place o least zero found (r ∷ []) d h lt by before = latest_begun o found r [] by
 latest_at_place o least zero found (r ∷ s ∷ rows) d h lt by before =
     let after : o < s.start = before (omega arith) in
-    rw (le-leb r.start o by) (latest_stops o (Some r) s rows after)
+    latest_begun o found r (s ∷ rows) by ∙ latest_stops o (Some r) s rows after
 latest_at_place o least (suc i) found (r ∷ rows) d h lt by before =
-    let there = first_least (r.start + 1) rows i d h.1 (omega (arith, lt)) in
+    let there = starts_from (r.start + 1) rows i d h.1 (omega (arith, lt)) in
     let here : r.start ≤ o = omega (arith, there, by) in
     let same : suc i + 1 ≡ suc (i + 1) = omega arith in
-    rw (le-leb r.start o here) (latest_at_place o (r.start + 1) i (Some r) rows d h.1 (omega (arith, lt)) by
-    (λ more. subst (λ (k : ℕ). o < (get_or (r ∷ rows) k d).start) same (before (omega (arith, more)))))
+    latest_begun o found r rows here
+    ∙ latest_at_place o (r.start + 1) i (Some r) rows d h.1 (omega (arith, lt)) by
+    (λ more. subst (λ (k : ℕ). o < (get_or (r ∷ rows) k d).start) same (before (omega (arith, more))))
 
 pub row_at_place : (o i : ℕ) (rows : List Row) (d : Row) → RowsRise rows → i < length rows → (get_or rows i d).start ≤ o → (i + 1 < length rows → o < (get_or rows (i + 1) d).start)
     → row_at o rows ≡ Some (get_or rows i d)

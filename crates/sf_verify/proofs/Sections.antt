@@ -1,67 +1,46 @@
 -- The functions of a section, in the order of their addresses.
-use Rattle.std.specs.Prelude.{nat_le, nat_lt, ◌&&◌, ◌||◌}
+use Rattle.std.specs.Prelude.{◌||◌}
 use Rattle.std.specs.List.{All, filter, find, list_any}
 use Rattle.std.specs.Option.{option_and_then, option_map}
-use Rattle.std.proofs.Common.{◌≡◌, ℕ, suc, ◌+◌, ◌<◌, ◌≤◌, Bool, true, false, cond, List, [], ◌∷◌, get_or, length, map, Option, Some, None, refl, sym, ap, subst, ◌∙◌, arith, inl, inr}
-use Rattle.std.proofs.lemmas.Bool.{cases_lt, leb-true, ltb-true, lt-ltb}
-use Rattle.std.proofs.lemmas.List.{append-nil}
-use Rattle.std.proofs.lemmas.List.Elements.{All-nil, All-cons, All-head, All-tail, All-filter, filter_passes}
+use Rattle.std.proofs.Common.{◌≡◌, ℕ, suc, ◌+◌, ◌<◌, ◌≤◌, Bool, true, false, cond, List, [], ◌∷◌, get_or, length, Option, Some, None, refl, sym, ap, subst, ◌∙◌, arith, inl, inr}
+use Rattle.std.proofs.lemmas.Bool.{cases_lt, ltb-true, lt-ltb}
+use Rattle.std.proofs.lemmas.List.Elements.{filter_passes}
 use Rattle.std.proofs.lemmas.List.Sorted.{All-permutation, IsPermutation-map, list_any-IsPermutation}
 use Rattle.sf_model.specs.declared.function.Func.{Func}
 use Rattle.sf_model.specs.Lookup.{contains, found_at, row_in_first}
 use Rattle.sf_model.specs.Table.{Table}
-use Rattle.sf_model.specs.Union.{all_functions}
 use Rattle.sf_decode.specs.declared.view.View.{View}
 use Rattle.sf_decode.specs.View.{section_bytes, table_of}
 use Rattle.sf_merge.specs.declared.located.Located.{Located}
 use Rattle.sf_merge.specs.Located.{InOrder, has_bytes, located}
-use Rattle.sf_merge.specs.Merging.{neighbours, overlap, overlap_fault, shared_by}
+use Rattle.sf_merge.specs.Merging.{overlap_fault}
+use Rattle.sf_merge.specs.OneSection.{shared_entry}
 use Rattle.sf_merge.specs.Views.{IsRead}
 use Rattle.sf_merge.proofs.Apart.{none_share}
-use Rattle.sf_merge.proofs.Sound.{IsSound, all_sound}
-use Rattle.sf_merge.proofs.United.{functions_are}
-use Rattle.sf_model.proofs.Unions.{OnePasses}
+use Rattle.sf_merge.proofs.OneSection as section
+use Rattle.sf_merge.proofs.OneSection.{located_functions, ordered_sound}
+use Rattle.sf_model.proofs.Unions.{IsWithin, OnePasses, within}
 use Rattle.sf_asm.proofs.Finding.{found_alike}
+use Rattle.sf_verify.specs.declared.fault.VerifyFault.TheVariants.{Overlap}
 use Rattle.sf_verify.specs.Comparing.{AreComparable, functions_in}
 use Rattle.sf_verify.specs.Counting.{StartsRise}
 use Rattle.sf_verify.specs.Said.{by_row, section_at}
-use Rattle.sf_verify.specs.Verifying as verifying
 use Rattle.sf_verify.specs.Verifying.{section_fault, sized}
 use Rattle.sf_asm.proofs.Members.{placed}
 use Rattle.sf_verify.proofs.Gathered.{mapped}
 
--- ---- all functions of a table
-located_functions : (table : Table) → functions_in (located 0 table) ≡ table.functions
-located_functions table = ap functions_in (sym (append-nil (located 0 table))) ∙ functions_are (table ∷ []) ∙ append-nil table.functions
-
-all_back : {X Y : Type 0} (P : Y → Type 0) (f : X → Y) (xs : List X) → All P (map f xs) → All (λ x. P (f x)) xs
-all_back P f [] h = All-nil (λ x. P (f x))
-all_back P f (x ∷ xs) h = All-cons (λ x. P (f x)) x xs (All-head P (f x) (map f xs) h) (all_back P f xs (All-tail P (f x) (map f xs) h))
-
-located_sound : (view : View) → IsRead view → All (λ (l : Located). IsSound (table_of view).arch l.func) (located 0 (table_of view))
-located_sound view read =
-    let table = table_of view in
-    let arch = table.arch in
-    let sound : All (IsSound arch) (all_functions (table ∷ [])) =
-    all_sound arch (view ∷ []) (All-cons IsRead view [] read (All-nil IsRead)) (All-cons (λ (t : Table). t.arch ≡ arch) table [] refl (All-nil (λ (t : Table). t.arch ≡ arch))) in
-    all_back (IsSound arch) (λ (l : Located). l.func) (located 0 table) (subst (All (IsSound arch)) (append-nil table.functions ∙ sym (located_functions table)) sound)
-
-ordered_sound : (view : View) (ordered : List Located) → IsRead view → InOrder (sized (table_of view)) ordered → All (λ (l : Located). IsSound (table_of view).arch l.func) ordered
-ordered_sound view ordered read order =
-    let arch = (table_of view).arch in
-    All-permutation (λ (l : Located). IsSound arch l.func) (sized (table_of view)) ordered order.moved (All-filter has_bytes (λ (l : Located). IsSound arch l.func) (located 0 (table_of view)) (located_sound view read))
-
+-- ---- they have bytes
 ordered_bytes : (table : Table) (ordered : List Located) → InOrder (sized table) ordered → All (λ (l : Located). has_bytes l ≡ true) ordered
 ordered_bytes table ordered order = All-permutation (λ (l : Located). has_bytes l ≡ true) (sized table) ordered order.moved (filter_passes has_bytes (located 0 table))
 
 -- ---- they share no address
-none_found : (bytes : List ℕ) (o : Option (Located × Located)) → option_map (verifying.shared_by bytes) o ≡ None → option_map shared_by o ≡ None
-none_found bytes None e = refl
-none_found bytes (Some pair) e = cc
+none_named : (place : Option ℕ) → option_map Overlap place ≡ None → place ≡ None
+none_named None e = refl
+none_named (Some place) e = cc
 
 none_shared : (bytes : List ℕ) (ls : List Located) → section_fault bytes ls ≡ None → overlap_fault ls ≡ None
-unfolding section_fault overlap_fault
-none_shared bytes ls e = none_found bytes (find overlap (neighbours ls)) e
+unfolding section_fault
+none_shared bytes ls e = section.none_shared bytes ls (none_named (shared_entry bytes ls) e)
 
 apart : (bytes : List ℕ) (ls : List Located) → section_fault bytes ls ≡ None → (i j : ℕ) (d : Located) → i < j → j < length ls → (get_or ls i d).func.start + (get_or ls i d).func.size ≤ (get_or ls j d).func.start
 apart bytes ls e = none_share ls (none_shared bytes ls e)
@@ -79,13 +58,6 @@ starts_rise bytes table ordered order e i j d lt within =
     omega (arith, ends, some)
 
 -- ---- look-ups
-both : (a b : Bool) → (a && b) ≡ true → (a ≡ true) × (b ≡ true)
-both true b e = (refl, e)
-both false b e = cc
-
-contained : (pc : ℕ) (f : Func) → contains pc f ≡ true → (f.start ≤ pc) × (pc < f.start + f.size)
-contained pc f e = let two = both (nat_le f.start pc) (nat_lt pc (f.start + f.size)) e in (leb-true f.start pc two.0, ltb-true pc (f.start + f.size) two.1)
-
 one_contains : (pc : ℕ) (ls : List Located) → ((i j : ℕ) (d : Located) → i < j → j < length ls → (get_or ls i d).func.start + (get_or ls i d).func.size ≤ (get_or ls j d).func.start) → OnePasses (contains pc) (functions_in ls)
 one_contains pc ls h = λ x y m n s t.
     let p = placed (functions_in ls) x m in
@@ -95,7 +67,7 @@ one_contains pc ls h = λ x y m n s t.
     let q_lt : q.place < length ls = subst (λ (k : ℕ). q.place < k) (length_in ls) q.within in
     let x_is : (get_or ls p.place d).func ≡ x = sym (mapped (λ (l : Located). l.func) ls p.place x d p_lt) ∙ p.is x in
     let y_is : (get_or ls q.place d).func ≡ y = sym (mapped (λ (l : Located). l.func) ls q.place x d q_lt) ∙ q.is x in
-    by_places x y d p.place q.place p_lt q_lt x_is y_is (contained pc x s) (contained pc y t)
+    by_places x y d p.place q.place p_lt q_lt x_is y_is (within pc x s) (within pc y t)
   where
     length_in : (ls : List Located) → length (functions_in ls) ≡ length ls
     length_in [] = refl
@@ -104,11 +76,11 @@ one_contains pc ls h = λ x y m n s t.
     never : (i j : ℕ) (d : Located) → i < j → j < length ls → pc < (get_or ls i d).func.start + (get_or ls i d).func.size → (get_or ls j d).func.start ≤ pc → ⊥
     never i j d lt within to from = let ends = h i j d lt within in omega (arith, ends, to, from)
 
-    by_places : (x y : Func) (d : Located) (i j : ℕ) → i < length ls → j < length ls → (get_or ls i d).func ≡ x → (get_or ls j d).func ≡ y → (x.start ≤ pc) × (pc < x.start + x.size) → (y.start ≤ pc) × (pc < y.start + y.size) → x ≡ y
+    by_places : (x y : Func) (d : Located) (i j : ℕ) → i < length ls → j < length ls → (get_or ls i d).func ≡ x → (get_or ls j d).func ≡ y → IsWithin pc x → IsWithin pc y → x ≡ y
     by_places x y d i j i_lt j_lt x_is y_is a b = elim (cases_lt i j) [
-      | inl lt ↦ absurd (never i j d lt j_lt (subst (λ (f : Func). pc < f.start + f.size) (sym x_is) a.1) (subst (λ (f : Func). f.start ≤ pc) (sym y_is) b.0))
+      | inl lt ↦ absurd (never i j d lt j_lt (subst (λ (f : Func). pc < f.start + f.size) (sym x_is) a.to) (subst (λ (f : Func). f.start ≤ pc) (sym y_is) b.from))
       | inr not_lt ↦ elim (cases_lt j i) [
-        | inl gt ↦ absurd (never j i d gt i_lt (subst (λ (f : Func). pc < f.start + f.size) (sym y_is) b.1) (subst (λ (f : Func). f.start ≤ pc) (sym x_is) a.0))
+        | inl gt ↦ absurd (never j i d gt i_lt (subst (λ (f : Func). pc < f.start + f.size) (sym y_is) b.to) (subst (λ (f : Func). f.start ≤ pc) (sym x_is) a.from))
         | inr not_gt ↦ let same : i ≡ j = omega (arith, not_lt, not_gt) in sym x_is ∙ ap (λ (k : ℕ). (get_or ls k d).func) same ∙ y_is
       ]
     ]
@@ -119,7 +91,7 @@ find_sized pc [] = refl
 find_sized pc (l ∷ ls) = at_size (has_bytes l) refl (find_sized pc ls)
   where
     not_there : (b : Bool) → contains pc l.func ≡ b → has_bytes l ≡ false → b ≡ false
-    not_there true e none = let two = contained pc l.func e in let some = lt-ltb 0 l.func.size (omega (arith, two.0, two.1)) in cc
+    not_there true e none = let has = within pc l.func e in let some = lt-ltb 0 l.func.size (omega (arith, has.from, has.to)) in cc
     not_there false e none = refl
 
     at_size : (b : Bool) → has_bytes l ≡ b → find (contains pc) (functions_in (filter has_bytes ls)) ≡ find (contains pc) (functions_in ls)

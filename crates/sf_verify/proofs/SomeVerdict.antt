@@ -1,9 +1,9 @@
 -- Verifying comes to a result: there is a least address at which a section and the inputs differ, or they agree at each.
-use Rattle.std.specs.Prelude.{IfSome, not, nat_le, nat_lt, ◌&&◌}
+use Rattle.std.specs.Prelude.{IfSome, not}
 use Rattle.std.specs.List.{All, filter, find}
 use Rattle.std.specs.Option.{option_and_then}
 use Rattle.std.proofs.Common.{◌≡◌, ◌⊎◌, ℕ, zero, suc, ◌+◌, ◌<◌, ◌≤◌, Bool, true, false, cond, List, [], ◌∷◌, length, map, Option, Some, None, Result, Ok, Err, refl, sym, ap, subst, arith, inl, inr}
-use Rattle.std.proofs.lemmas.Bool.{cases_lt, ltb-true}
+use Rattle.std.proofs.lemmas.Bool.{cases_lt}
 use Rattle.std.proofs.lemmas.List.Elements.{All-head, All-tail}
 use Rattle.sf_model.specs.declared.content.Content.{Content}
 use Rattle.sf_model.specs.declared.function.Func.{Func}
@@ -12,6 +12,7 @@ use Rattle.sf_model.specs.declared.verdict.Verdict.{Verdict}
 use Rattle.sf_model.specs.declared.verdict.Verdict.TheVariants.{Agrees, Differs}
 use Rattle.sf_model.specs.Lookup.{contains, found_at, row_in_first}
 use Rattle.sf_model.specs.Table.{Table}
+use Rattle.sf_model.proofs.Unions.{within}
 use Rattle.sf_merge.proofs.SomeResult.{some_order}
 use Rattle.sf_asm.specs.declared.entry.Entry.{Entry}
 use Rattle.sf_asm.specs.declared.fault.GatherFault.{GatherFault}
@@ -69,16 +70,12 @@ abbrev all_ends : List Func → ℕ
 all_ends [] = 0
 all_ends (f ∷ functions) = f.start + f.size + all_ends functions
 
-both : (a b : Bool) → (a && b) ≡ true → (a ≡ true) × (b ≡ true)
-both true b e = (refl, e)
-both false b e = cc
-
 none_contains : (pc : ℕ) (functions : List Func) → all_ends functions ≤ pc → find (contains pc) functions ≡ None
 none_contains pc [] le = refl
 none_contains pc (f ∷ functions) le = at_test (contains pc f) refl (none_contains pc functions (omega (arith, le)))
   where
     at_test : (b : Bool) → contains pc f ≡ b → find (contains pc) functions ≡ None → cond b (Some f) (find (contains pc) functions) ≡ None
-    at_test true t later = let below = ltb-true pc (f.start + f.size) (both (nat_le f.start pc) (nat_lt pc (f.start + f.size)) t).1 in absurd (omega (arith, below, le))
+    at_test true t later = let has = within pc f t in absurd (omega (arith, has.to, le))
     at_test false t later = later
 
 nothing_said : (pc : ℕ) (functions : List Func) → all_ends functions ≤ pc → section_at functions pc ≡ None

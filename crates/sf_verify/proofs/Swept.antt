@@ -1,15 +1,16 @@
 -- The functions of a section, compared one after the other.
-use Rattle.std.specs.Prelude.{is_some, nat_le, nat_lt, ◌&&◌}
+use Rattle.std.specs.Prelude.{is_some}
 use Rattle.std.specs.List.{find}
 use Rattle.std.specs.Option.{option_and_then, option_map}
 use Rattle.std.proofs.Common.{◌≡◌, ℕ, zero, suc, ◌+◌, ◌-◌, ◌<◌, ◌≤◌, Bool, true, false, cond, List, [], ◌∷◌, get_or, length, Option, Some, None, refl, sym, ap, subst, ◌∙◌, arith, inl, inr}
-use Rattle.std.proofs.lemmas.Bool.{cases_lt, leb-true, le-leb, lt-ltb, ltb-true}
+use Rattle.std.proofs.lemmas.Bool.{cases_lt, le-leb, lt-ltb}
 use Rattle.std.proofs.lemmas.List.{get_or_default}
 use Rattle.sf_model.specs.declared.function.Func.{Func}
 use Rattle.sf_model.specs.declared.function.Shape.{Shape}
 use Rattle.sf_model.specs.declared.function.Shape.TheVariants.{Plain, Repeat}
 use Rattle.sf_model.specs.declared.rows.Row.{Row}
 use Rattle.sf_model.specs.Lookup.{contains, found_at, offset_in_block, row_at, row_in_first}
+use Rattle.sf_model.proofs.Unions.{within}
 use Rattle.sf_merge.specs.declared.located.Located.{Located}
 use Rattle.sf_asm.specs.declared.said.Said.{Said}
 use Rattle.sf_verify.specs.declared.sweep.Difference.{Difference}
@@ -22,13 +23,6 @@ use Rattle.sf_verify.proofs.Compared.{compare_alike}
 -- they agree at each address of a function
 abbrev pub AgreeOver : (section dwarf : Answers) → Func → Type 0
 AgreeOver section dwarf f = (pc : ℕ) → f.start ≤ pc → pc < f.start + f.size → Agree (section pc) (dwarf pc)
-
-both : (a b : Bool) → (a && b) ≡ true → (a ≡ true) × (b ≡ true)
-both true b e = (refl, e)
-both false b e = cc
-
-contains_is : (pc : ℕ) (f : Func) → contains pc f ≡ true → (f.start ≤ pc) × (pc < f.start + f.size)
-contains_is pc f e = let two = both (nat_le f.start pc) (nat_lt pc (f.start + f.size)) e in (leb-true f.start pc two.0, ltb-true pc (f.start + f.size) two.1)
 
 is_contained : (pc : ℕ) (f : Func) → f.start ≤ pc → pc < f.start + f.size → contains pc f ≡ true
 is_contained pc f low high = rw (le-leb f.start pc low, lt-ltb pc (f.start + f.size) high) refl
@@ -58,7 +52,7 @@ find_at pc (l ∷ functions) zero d lt t before = rw t refl
 find_at pc (l ∷ functions) (suc place) d lt t before = rw (before 0 (omega arith)) (find_at pc functions place d (omega (arith, lt)) t (λ i less. before (suc i) (omega (arith, less))))
 
 not_contained : (pc : ℕ) (f : Func) (b : Bool) → contains pc f ≡ b → ((f.start ≤ pc) → (pc < f.start + f.size) → ⊥) → b ≡ false
-not_contained pc f true e never = let two = contains_is pc f e in absurd (never two.0 two.1)
+not_contained pc f true e never = let has = within pc f e in absurd (never has.from has.to)
 not_contained pc f false e never = refl
 
 -- what the section says at an address of a function
@@ -88,13 +82,13 @@ agree_below functions dwarf place end over above pc lt = at_found (find (contain
     at_found (Some f) e =
         let first = found_first pc functions f e in
         let d : Located = record { func = f; item = 0; number = 0 } in
-        let has = contains_is pc f first.has in
+        let has = within pc f first.has in
         let is = first.is d in
         elim (cases_lt first.place place) [
-          | inl before ↦ over first.place d before first.within pc (subst (λ (g : Func). g.start ≤ pc) (sym is) has.0) (subst (λ (g : Func). pc < g.start + g.size) (sym is) has.1)
+          | inl before ↦ over first.place d before first.within pc (subst (λ (g : Func). g.start ≤ pc) (sym is) has.from) (subst (λ (g : Func). pc < g.start + g.size) (sym is) has.to)
           | inr not_before ↦
               let up = subst (λ (g : Func). end ≤ g.start) is (above first.place d (omega (arith, not_before)) first.within) in
-              absurd (omega (arith, up, has.0, lt))
+              absurd (omega (arith, up, has.from, lt))
         ]
 
 pub agree_everywhere : (functions : List Located) (dwarf : Answers) (place : ℕ) → length functions ≤ place → ((i : ℕ) (d : Located) → i < place → i < length functions → AgreeOver (section_at (functions_in functions)) dwarf (get_or functions i d).func)

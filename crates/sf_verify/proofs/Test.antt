@@ -1,6 +1,7 @@
 -- Contents that are equal, with equal keys where they are signed, are those that recover alike.
 use Rattle.std.specs.Prelude.{◌&&◌, ◌||◌, not, IsTrue}
 use Rattle.std.proofs.Common.{◌≡◌, Bool, true, false, List, [], Some, refl, ap, ◌∙◌, rules}
+use Rattle.std.proofs.lemmas.Bool.{and_parts}
 use Rattle.sf_model.specs.declared.machine.Arch.{Arch}
 use Rattle.sf_model.specs.declared.machine.Key.{Key}
 use Rattle.sf_model.specs.declared.machine.Key.TheVariants.{A, B}
@@ -14,10 +15,6 @@ use Rattle.sf_express.proofs.Same.{content_same}
 use Rattle.sf_express.proofs.Changes.{content_itself}
 use Rattle.sf_verify.specs.Agreement.{IsFitting, RecoverAlike, agree, same_key}
 use Rattle.sf_asm.specs.declared.said.Said.{Said}
-
-both : (a b : Bool) → (a && b) ≡ true → (a ≡ true) × (b ≡ true)
-both true b e = (refl, e)
-both false b e = cc
 
 key_same : (j k : Key) → same_key j k ≡ true → j ≡ k
 key_same A A e = refl
@@ -40,7 +37,7 @@ one_content c j k regs memory e = rw e refl
 
 pub alike : (s d : Said) → agree s d ≡ true → RecoverAlike s d
 alike s d e =
-    let parts = both (same_content s.content d.content) (not s.content.signed || same_key s.key d.key) e in
+    let parts = and_parts (same_content s.content d.content) (not s.content.signed || same_key s.key d.key) e in
     let same = content_same s.content d.content parts.0 in
     let keys = signed_same s.content.signed s.key d.key parts.1 in
     λ regs memory. one_content s.content s.key d.key regs memory keys ∙ ap (λ (c : Content). recovery c d.key regs memory) same

@@ -2,8 +2,8 @@
 use Rattle.std.specs.Prelude.{◌&&◌, ◌==◌}
 use Rattle.std.specs.List.{AllAdjacentBelow, filter, list_any}
 use Rattle.std.specs.List.Sorted.{IsPermutation, IsSorted}
-use Rattle.std.proofs.Common.{◌≡◌, ℕ, zero, suc, ◌+◌, ◌-◌, ◌<◌, ◌≤◌, Bool, true, false, List, get_or, length, map, Option, Some, None, Ok, Err, refl, sym, ap, subst, ◌∙◌, arith, inl, inr}
-use Rattle.std.proofs.lemmas.Bool.{eqb-true}
+use Rattle.std.proofs.Common.{◌≡◌, ℕ, zero, suc, ◌+◌, ◌-◌, ◌<◌, ◌≤◌, true, List, get_or, length, map, Option, Some, None, Ok, Err, refl, sym, ap, subst, ◌∙◌, arith, inl, inr}
+use Rattle.std.proofs.lemmas.Bool.{and_parts, eqb-true}
 use Rattle.std.proofs.lemmas.List.Elements.{All-head}
 use Rattle.sf_model.specs.declared.function.Func.{Func}
 use Rattle.sf_model.specs.declared.machine.Arch.{Arch}
@@ -91,17 +91,13 @@ have_holders before objects arch kept omitted sources h machine =
     holders arch h.functions h.sorted kept sources h.by_start.moved apart h.kept_are h.sources_are h.by_start.rising h.writable.each machines
 
 -- ---- the results
-both : (a b : Bool) → (a && b) ≡ true → (a ≡ true) × (b ≡ true)
-both true b e = (refl, e)
-both false b e = cc
-
 pub same_machine : (before arch : Arch) (objects : List Object) → HaveMachine (Some before) objects arch → before ≡ arch
 same_machine before arch objects machine = All-head (λ (m : Arch). m ≡ arch) before (map machine_of objects) machine
 
 -- a function that is covered holds an address
 covered_size : (f : Function) (g : Func) → is_kept f ≡ true → 0 < f.size → covers (expressed_of f) g ≡ true → 0 < g.size
 covered_size f g kept some e =
-    let two = both (is_plain g && (g.start == f.start)) (g.size == f.size) e in
+    let two = and_parts (is_plain g && (g.start == f.start)) (g.size == f.size) e in
     let same = eqb-true g.size f.size two.1 in
     omega (arith, same, some)
 

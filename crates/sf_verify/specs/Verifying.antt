@@ -1,14 +1,12 @@
 -- What verifying a section against inputs comes to: the verdict, or the first fault. The section is item 0, and the inputs are numbered
 -- from 1 on.
 use Rattle.std.specs.Prelude.{◌≡◌, ◌⊎◌, ℕ, List, Option, Some, None, Result, Ok, Err}
-use Rattle.std.specs.List.{filter, find}
 use Rattle.std.specs.Option.{option_map}
 use Rattle.sf_model.specs.declared.verdict.Verdict.{Verdict}
 use Rattle.sf_model.specs.Table.{Table}
-use Rattle.sf_decode.specs.Entry.{entry_place}
 use Rattle.sf_merge.specs.declared.located.Located.{Located}
-use Rattle.sf_merge.specs.Located.{InOrder, has_bytes, located}
-use Rattle.sf_merge.specs.Merging.{neighbours, overlap}
+use Rattle.sf_merge.specs.Located.{InOrder}
+use Rattle.sf_merge.specs.OneSection.{shared_entry}
 use Rattle.sf_asm.specs.declared.entry.Entry.{Entry}
 use Rattle.sf_asm.specs.declared.fault.GatherFault.{GatherFault}
 use Rattle.sf_asm.specs.declared.fault.GatherFault.TheVariants as gather
@@ -17,18 +15,11 @@ use Rattle.sf_asm.specs.Linking.{Gathers}
 use Rattle.sf_verify.specs.declared.fault.VerifyFault.{VerifyFault}
 use Rattle.sf_verify.specs.declared.fault.VerifyFault.TheVariants.{Gather, Overlap, NoMemory}
 use Rattle.sf_verify.specs.Agreement.{IsVerdict}
+pub use Rattle.sf_merge.specs.OneSection.{sized}
 
--- the functions of a table that hold an address, each with the number of its entry
-abbrev pub sized : Table → List Located
-sized table = filter has_bytes (located 0 table)
-
--- the place of the entry of the second
-abbrev pub shared_by : (bytes : List ℕ) → Located × Located → VerifyFault
-shared_by bytes pair = Overlap (entry_place bytes pair.1.number)
-
--- the first two neighbours of the section that share an address
+-- the first two neighbours of the section that share an address: the place of the entry of the second
 unfoldable pub section_fault : (bytes : List ℕ) → List Located → Option VerifyFault
-section_fault bytes ordered = option_map (shared_by bytes) (find overlap (neighbours ordered))
+section_fault bytes ordered = option_map Overlap (shared_entry bytes ordered)
 
 -- a fault of the inputs; where two of their functions share an address, the section was tried before
 abbrev pub refused : (section : Option VerifyFault) → GatherFault → VerifyFault

@@ -2,25 +2,13 @@
 
 ghost use Rattle.std.specs.Prelude.{◌≡◌, IsTrue, FitsSigned, false};
 ghost use Rattle.std.specs.Int.{w32};
-ghost use Rattle.sf_express.specs.Expressed.{same_content};
 ghost use Rattle.sf_model.specs.Content.{OffsetsInRange, PointerInRange, ReturnInRange, content_fits};
 ghost use Rattle.sf_verify.specs.Agreement as spec;
 ghost use Rattle.sf_verify.specs.Agreement.{RecoverAlike};
 
 use sf_asm::Said;
+use sf_express::is_same;
 use sf_model::{Arch, Content, Key, Ra};
-
-/// Whether two contents are the same.
-#[inline(always)]
-fn is_same(ours: Content, theirs: Content) -> bool
-    ensures { result ≡ same_content ours theirs }
-{
-    ours.base == theirs.base
-        && ours.cfa == theirs.cfa
-        && ours.ra == theirs.ra
-        && ours.fp == theirs.fp
-        && ours.signed == theirs.signed
-}
 
 /// Whether two keys are the same.
 #[inline(always)]

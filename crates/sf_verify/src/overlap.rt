@@ -6,13 +6,13 @@ ghost use Rattle.sf_verify.specs.Verifying.{section_fault};
 
 use crate::fault::VerifyFault;
 use sf_decode::View;
-use sf_merge::{Located, first_overlap};
+use sf_merge::{Located, shared_entry};
 
 /// Tries each function against the one before it.
 #[tactic(auto, unfolding(crate::specs::Verifying::section_fault))]
 pub fn shared_address(view: &View<'_>, ordered: &[Located]) -> Option<VerifyFault>
     ensures { result ≡ section_fault (section_bytes view.now) ordered.now }
 {
-    let (_, function) = first_overlap(ordered)?;
-    Some(VerifyFault::Overlap(view.entry_place(function.number)))
+    let place = shared_entry(view, ordered)?;
+    Some(VerifyFault::Overlap(place))
 }
