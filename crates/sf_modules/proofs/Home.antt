@@ -1,14 +1,14 @@
 -- Where each address of a function leads to the function's own module, the modules answer as the union of their tables does.
-use Rattle.std.specs.List.{Contains, find}
+use Rattle.std.specs.List.{find}
 use Rattle.std.specs.Option.{option_and_then}
-use Rattle.std.proofs.Common.{◌≡◌, ℕ, Bool, true, List, [], ◌∷◌, All, get_or, map, Option, Some, None, refl, sym, ap, subst, ◌∙◌, inl, inr}
+use Rattle.std.proofs.Common.{◌≡◌, ℕ, true, List, [], ◌∷◌, All, Option, Some, None, refl, sym, ap, ◌∙◌, inl, inr}
 use Rattle.std.proofs.lemmas.List.Elements.{All-cons, All-nil}
 use Rattle.sf_model.specs.declared.machine.Arch.{Arch}
 use Rattle.sf_model.specs.declared.function.Func.{Func}
 use Rattle.sf_model.specs.Lookup.{FoundRow, contains, found_at}
 use Rattle.sf_model.specs.Table.{Table}
 use Rattle.sf_model.specs.Union.{IsUnion}
-use Rattle.sf_model.proofs.Unions.{Member, answered, contained, found, found_by, member, unanswered}
+use Rattle.sf_model.proofs.Unions.{Member, answered, contained, found, found_by, unanswered}
 use Rattle.sf_modules.specs.Entry.{EntryView, holds}
 use Rattle.sf_modules.specs.Found.{found_in, module_at, module_of}
 use Rattle.sf_modules.specs.Module.{ModuleView}

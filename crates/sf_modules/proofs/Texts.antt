@@ -1,7 +1,7 @@
 -- The texts of bytes, one after the other.
 use Rattle.std.specs.Prelude.{is_some}
 use Rattle.std.specs.Option.{option_and_then, option_map}
-use Rattle.std.proofs.Common.{◌≡◌, ℕ, zero, suc, ◌+◌, ◌-◌, ◌<◌, ◌≤◌, ◌++◌, Bool, true, false, List, [], ◌∷◌, map, Option, Some, None, refl, sym, ap, ◌∙◌, ◌*◌, drop, arith, append_assoc, append-nil}
+use Rattle.std.proofs.Common.{◌≡◌, ℕ, suc, ◌+◌, ◌-◌, ◌<◌, ◌≤◌, ◌++◌, List, [], ◌∷◌, Option, Some, None, refl, sym, ap, ◌∙◌, ◌*◌, drop, arith, append_assoc, append-nil}
 use Rattle.sf_modules.specs.Entry.{EntryView}
 use Rattle.sf_modules.specs.Note.{AreEntries, entries_from, entry_at, entry_count, names_part, page_size, text_front, texts_in}
 

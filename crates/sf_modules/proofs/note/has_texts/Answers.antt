@@ -1,5 +1,5 @@
 use Rattle.std.specs.Prelude.{is_some}
-use Rattle.std.proofs.Common.{List, ℕ, Option, sym, ap, ◌∙◌, arith}
+use Rattle.std.proofs.Common.{List, ℕ, Option, sym, ap, ◌∙◌}
 use Rattle.sf_modules.proofs.Texts.{has-next, texts-end, texts-stop}
 use Rattle.sf_modules.proofs.note.has_texts.Goals as goal
 

@@ -1,15 +1,13 @@
 use Rattle.std.specs.Prelude.{is_some, map}
 use Rattle.std.specs.Option.{option_map}
-use Rattle.std.proofs.Common.{◌≡◌, ◌-◌, ◌++◌, ◌∷◌, [], ℕ, List, Bool, Option, Some, None, Result, Ok, Err, true, false, Bor, sym, ap, subst, ◌∙◌, arith}
+use Rattle.std.proofs.Common.{◌≡◌, ◌-◌, ◌++◌, ◌∷◌, [], ℕ, List, Option, Some, true, false, Bor, sym, ap, ◌∙◌}
 use Rattle.std.proofs.lemmas.List.{map-append}
 use Rattle.std.proofs.lemmas.Result.{err_from_is_err_and}
 use Rattle.sf_bytes.specs.Cursor.{cursor}
 use Rattle.elf_read.specs.Checking.{each_below}
 use Rattle.elf_read.proofs.Each.{each_below-more, each_below-none, each_below-stop}
 use Rattle.sf_modules.specs.declared.entry.Entry.{Entry}
-use Rattle.sf_modules.specs.declared.fault.ModuleFault.{ModuleFault}
 use Rattle.sf_modules.specs.Entry.{EntryView, entry_view}
-use Rattle.sf_modules.specs.Fault.{Answers}
 use Rattle.sf_modules.specs.Note.{entry_check, entry_count, text_front, texts_in}
 use Rattle.sf_modules.proofs.Faults.{answers_fault}
 use Rattle.sf_modules.proofs.Texts.{entries-all, entries-next, has-next, texts-start, texts-stop, with_left}
