@@ -39,10 +39,11 @@ ordered_sound view ordered read order =
     All-permutation (λ (l : Located). IsSound table.arch l.func) (sized table) ordered order.moved sound
 
 -- ---- they share no address where no entry is named
-none_found : (bytes : List ℕ) (o : Option (Located × Located)) → option_map (later_entry bytes) o ≡ None → option_map shared_by o ≡ None
-none_found bytes None e = refl
-none_found bytes (Some pair) e = cc
+none_found : {F : Type 0} (fault : ℕ → F) (bytes : List ℕ) (o : Option (Located × Located)) → option_map fault (option_map (later_entry bytes) o) ≡ None → option_map shared_by o ≡ None
+none_found fault bytes None e = refl
+none_found fault bytes (Some pair) e = cc
 
-pub none_shared : (bytes : List ℕ) (ls : List Located) → shared_entry bytes ls ≡ None → overlap_fault ls ≡ None
+-- with the fault that a caller makes of the entry's place
+pub none_shared : {F : Type 0} (fault : ℕ → F) (bytes : List ℕ) (ls : List Located) → option_map fault (shared_entry bytes ls) ≡ None → overlap_fault ls ≡ None
 unfolding shared_entry overlap_fault
-none_shared bytes ls e = none_found bytes (find overlap (neighbours ls)) e
+none_shared fault bytes ls e = none_found fault bytes (find overlap (neighbours ls)) e

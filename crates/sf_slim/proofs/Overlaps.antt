@@ -1,22 +1,16 @@
 -- The first neighbours that share an address.
-use Rattle.std.specs.Option.{option_map}
 use Rattle.std.proofs.Common.{◌≡◌, ℕ, List, Option, Some, None, Ok, refl}
 use Rattle.sf_merge.specs.declared.located.Located.{Located}
 use Rattle.sf_merge.specs.Merging as merging
-use Rattle.sf_merge.specs.OneSection.{shared_entry}
 use Rattle.sf_merge.proofs.OneSection as section
 use Rattle.sf_slim.specs.declared.fault.SlimFault.{SlimFault}
 use Rattle.sf_slim.specs.declared.fault.SlimFault.TheVariants.{Overlap}
 use Rattle.sf_slim.specs.Slimming.{overlap_fault, unless_fault}
 
 -- no fault, and so none of sections that are merged
-none_named : (place : Option ℕ) → option_map Overlap place ≡ None → place ≡ None
-none_named None e = refl
-none_named (Some place) e = cc
-
 pub none_shared : (bytes : List ℕ) (ls : List Located) → overlap_fault bytes ls ≡ None → merging.overlap_fault ls ≡ None
 unfolding overlap_fault
-none_shared bytes ls e = section.none_shared bytes ls (none_named (shared_entry bytes ls) e)
+none_shared bytes ls e = section.none_shared Overlap bytes ls e
 
 pub no_fault : {X : Type 0} (x : X) (o : Option SlimFault) → Ok x ≡ unless_fault o x → o ≡ None
 no_fault x None e = refl

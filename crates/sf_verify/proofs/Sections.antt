@@ -1,7 +1,7 @@
 -- The functions of a section, in the order of their addresses.
 use Rattle.std.specs.Prelude.{◌||◌}
 use Rattle.std.specs.List.{All, filter, find, list_any}
-use Rattle.std.specs.Option.{option_and_then, option_map}
+use Rattle.std.specs.Option.{option_and_then}
 use Rattle.std.proofs.Common.{◌≡◌, ℕ, suc, ◌+◌, ◌<◌, ◌≤◌, Bool, true, false, cond, List, [], ◌∷◌, get_or, length, Option, Some, None, refl, sym, ap, subst, ◌∙◌, arith, inl, inr}
 use Rattle.std.proofs.lemmas.Bool.{cases_lt, ltb-true, lt-ltb}
 use Rattle.std.proofs.lemmas.List.Elements.{filter_passes}
@@ -14,7 +14,6 @@ use Rattle.sf_decode.specs.View.{section_bytes, table_of}
 use Rattle.sf_merge.specs.declared.located.Located.{Located}
 use Rattle.sf_merge.specs.Located.{InOrder, has_bytes, located}
 use Rattle.sf_merge.specs.Merging.{overlap_fault}
-use Rattle.sf_merge.specs.OneSection.{shared_entry}
 use Rattle.sf_merge.specs.Views.{IsRead}
 use Rattle.sf_merge.proofs.Apart.{none_share}
 use Rattle.sf_merge.proofs.OneSection as section
@@ -34,13 +33,9 @@ ordered_bytes : (table : Table) (ordered : List Located) → InOrder (sized tabl
 ordered_bytes table ordered order = All-permutation (λ (l : Located). has_bytes l ≡ true) (sized table) ordered order.moved (filter_passes has_bytes (located 0 table))
 
 -- ---- they share no address
-none_named : (place : Option ℕ) → option_map Overlap place ≡ None → place ≡ None
-none_named None e = refl
-none_named (Some place) e = cc
-
 none_shared : (bytes : List ℕ) (ls : List Located) → section_fault bytes ls ≡ None → overlap_fault ls ≡ None
 unfolding section_fault
-none_shared bytes ls e = section.none_shared bytes ls (none_named (shared_entry bytes ls) e)
+none_shared bytes ls e = section.none_shared Overlap bytes ls e
 
 apart : (bytes : List ℕ) (ls : List Located) → section_fault bytes ls ≡ None → (i j : ℕ) (d : Located) → i < j → j < length ls → (get_or ls i d).func.start + (get_or ls i d).func.size ≤ (get_or ls j d).func.start
 apart bytes ls e = none_share ls (none_shared bytes ls e)
