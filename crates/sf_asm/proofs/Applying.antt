@@ -1,42 +1,16 @@
 -- What is written over the pointer fields of a section is what applying its relocations comes to.
-use Rattle.std.specs.Prelude.{◌==◌}
-use Rattle.std.specs.Option.{option_map}
-use Rattle.std.proofs.Common.{◌≡◌, ℕ, Bool, true, false, cond, List, [], ◌∷◌, map, Option, Some, None, Result, Ok, Err, refl, ap, ◌∙◌}
+use Rattle.std.proofs.Common.{◌≡◌, ℕ, List, map, Result, Ok, Err, refl}
 use Rattle.eh_records.specs.Step.{PointerField}
 use Rattle.elf_place.specs.Views.{Placing}
 use Rattle.elf_read.specs.Sections.{section_bytes}
 use Rattle.elf_reloc.specs.declared.fault.RelocFault.{RelocFault}
-use Rattle.elf_reloc.specs.declared.fault.RelocFault.TheVariants as faults
 use Rattle.elf_reloc.specs.declared.fix.RelocatedField.{RelocatedField}
-use Rattle.elf_reloc.specs.Applied.{Slot, Applied, by_place, slot_place, has_slot_width, is_slot, slot_check, applied_of, applied_to}
-use Rattle.elf_reloc.specs.Order.{first_at, overlap_check}
+use Rattle.elf_reloc.specs.Applied.{Slot, Applied, by_place, applied_of, applied_to}
+use Rattle.elf_reloc.specs.Order.{overlap_check}
 use Rattle.elf_reloc.specs.Reading.{State, section_state}
 use Rattle.elf_reloc.proofs.Applying.{applied_unread, applied_overlapping, applied_checked}
-use Rattle.sf_asm.specs.Relocated.{without_overlap, relocations_of, pointer_place, has_width_of, is_pointer, pointer_check, pointer_slot, on_pointers}
+use Rattle.sf_asm.specs.Relocated.{without_overlap, relocations_of, pointer_check, pointer_slot, on_pointers}
 use Rattle.sf_bytes.specs.Steps.{◌>>=◌}
-
-at_test : (b : Bool) (g : PointerField) (rest : Option PointerField) (other : Option Slot) → other ≡ option_map pointer_slot rest → cond b (Some (pointer_slot g)) other ≡ option_map pointer_slot (cond b (Some g) rest)
-at_test true g rest other e = refl
-at_test false g rest other e = e
-
-first_slot : (place : ℕ) (fields : List PointerField) → first_at slot_place place (map pointer_slot fields) ≡ option_map pointer_slot (first_at pointer_place place fields)
-unfolding first_at
-first_slot place [] = refl
-first_slot place (g ∷ gs) = at_test (g.place == place) g (first_at pointer_place place gs) _ (first_slot place gs)
-
-slot_width : (f : RelocatedField) (o : Option PointerField) → has_slot_width f (option_map pointer_slot o) ≡ has_width_of f o
-slot_width f None = refl
-slot_width f (Some g) = refl
-
-slot_lies : (fields : List PointerField) (f : RelocatedField) → is_slot (map pointer_slot fields) f ≡ is_pointer fields f
-slot_lies fields f = ap (has_slot_width f) (first_slot f.place fields) ∙ slot_width f (first_at pointer_place f.place fields)
-
-slots_checked : (fields : List PointerField) (fixes : List RelocatedField) → slot_check (map pointer_slot fields) fixes ≡ pointer_check fields fixes
-unfolding slot_check pointer_check
-slots_checked fields [] = refl
-slots_checked fields (f ∷ fs) =
-    ap (λ (b : Bool). cond b (slot_check (map pointer_slot fields) fs) (Err (faults.Place f.index))) (slot_lies fields f)
-    ∙ ap (λ (r : Result (Unit {0}) RelocFault). cond (is_pointer fields f) r (Err (faults.Place f.index))) (slots_checked fields fs)
 
 abbrev okay : List RelocatedField → Result (List RelocatedField) RelocFault
 okay fixes = Ok fixes
@@ -47,8 +21,8 @@ as_applied section slots fixes = Ok (applied_of fixes section slots)
 by_check : (p : Placing) (section : ℕ) (fields : List PointerField) (state : State) (check : Result (Unit {0}) RelocFault) → section_state p section ≡ Ok state → overlap_check 0 (by_place state.fixes) ≡ Ok tt
     → pointer_check fields (by_place state.fixes) ≡ check
     → applied_to p section (map pointer_slot fields) ≡ ((check >>= λ _. okay (by_place state.fixes)) >>= as_applied (section_bytes p.file section) (map pointer_slot fields))
-by_check p section fields state (Ok u) read apart checked = applied_checked p section (map pointer_slot fields) state (Ok u) read apart (slots_checked fields (by_place state.fixes) ∙ checked)
-by_check p section fields state (Err e) read apart checked = applied_checked p section (map pointer_slot fields) state (Err e) read apart (slots_checked fields (by_place state.fixes) ∙ checked)
+by_check p section fields state (Ok u) read apart checked = applied_checked p section (map pointer_slot fields) state (Ok u) read apart checked
+by_check p section fields state (Err e) read apart checked = applied_checked p section (map pointer_slot fields) state (Err e) read apart checked
 
 by_overlap : (p : Placing) (section : ℕ) (fields : List PointerField) (state : State) (overlap : Result (Unit {0}) RelocFault) → section_state p section ≡ Ok state → overlap_check 0 (by_place state.fixes) ≡ overlap
     → applied_to p section (map pointer_slot fields) ≡ (((overlap >>= λ _. okay (by_place state.fixes)) >>= on_pointers fields) >>= as_applied (section_bytes p.file section) (map pointer_slot fields))

@@ -25,7 +25,6 @@ use Rattle.eh_records.specs.Fde.{FdeView}
 use Rattle.eh_records.specs.Refused.{IsOfRecords}
 use Rattle.eh_records.specs.Section.{EntryView, entries_of, frames, pointer_fields}
 use Rattle.eh_records.specs.Span.{span_of, start_of}
-use Rattle.eh_records.specs.Step.{PointerField}
 use Rattle.eh_records.proofs.EntriesFail.{is_refused}
 use Rattle.eh_records.proofs.OfRecords.{of_records}
 use Rattle.eh_pointer.specs.Pointer.{pointer_bits}
@@ -39,6 +38,7 @@ use Rattle.elf_place.specs.declared.fault.PlaceFault.TheVariants as place_faults
 use Rattle.elf_place.specs.Place.{align_check, bits_check, eh_frames_below, overflow_check, place_check, shift_of}
 use Rattle.elf_place.specs.Relocations.{relocation_sections}
 use Rattle.elf_place.specs.Views.{Placing}
+use Rattle.elf_reloc.specs.Applied.{Slot, is_slot, slot_check}
 use Rattle.elf_reloc.specs.declared.fault.RelocFault.{RelocFault}
 use Rattle.elf_reloc.specs.declared.fix.RelocatedField.{RelocatedField}
 use Rattle.elf_reloc.specs.declared.table.Effect.{Effect as RelocEffect}
@@ -61,7 +61,7 @@ use Rattle.sf_asm.specs.Inputs.{all_functions, differing, first_item, machines_o
 use Rattle.sf_asm.specs.Entry.{spans_of}
 use Rattle.sf_asm.specs.Linking.{Gathers, GathersFrom, functions_fault, limits_fault, or_later, overlap_fault, overlap_in, unless_fault}
 use Rattle.sf_asm.specs.Order.{entry_rows}
-use Rattle.sf_asm.specs.Relocated.{Values, by_place, is_pointer, on_pointers, patched_values, pointer_check, relocations_of}
+use Rattle.sf_asm.specs.Relocated.{Values, by_place, on_pointers, patched_values, pointer_check, pointer_slot, relocations_of}
 use Rattle.sf_asm.specs.Sections.{dropped_after, elf_sections, linked_check, linked_kind, placed_section, placing_of}
 
 -- ---- which faults there are
@@ -204,10 +204,10 @@ relocating p section =
     in_turn is_reloc_refusal (section_state p section) _ (reading p section)
     (λ state. in_turn is_reloc_refusal (overlap_check 0 (by_place state.fixes)) _ (not_twice 0 (by_place state.fixes)) (λ x. tt))
 
-on_fields : (fields : List PointerField) (fixes : List RelocatedField) → FaultIs is_reloc_refusal (pointer_check fields fixes)
-unfolding pointer_check
-on_fields fields [] = tt
-on_fields fields (f ∷ fs) = either is_reloc_refusal (is_pointer fields f) _ _ (on_fields fields fs) refl
+on_slots : (slots : List Slot) (fixes : List RelocatedField) → FaultIs is_reloc_refusal (slot_check slots fixes)
+unfolding slot_check
+on_slots slots [] = tt
+on_slots slots (f ∷ fs) = either is_reloc_refusal (is_slot slots f) _ _ (on_slots slots fs) refl
 
 -- ---- records
 of_record : (fault : RecordFault) → IsOfRecords fault → IsTrue (is_record_refusal fault)
@@ -314,7 +314,7 @@ one_section arch item section h =
     (λ found. in_turn is_input_refusal (named (asm.Reloc section.number) (section.relocations >>= on_pointers (pointer_fields found))) _
     (renamed is_reloc_refusal is_input_refusal (asm.Reloc section.number) (section.relocations >>= on_pointers (pointer_fields found)) (λ fault k. k)
     (in_turn is_reloc_refusal section.relocations (on_pointers (pointer_fields found)) h
-    (λ fixes. in_turn is_reloc_refusal (pointer_check (pointer_fields found) fixes) _ (on_fields (pointer_fields found) fixes) (λ x. tt))))
+    (λ fixes. in_turn is_reloc_refusal (pointer_check (pointer_fields found) fixes) _ (on_slots (map pointer_slot (pointer_fields found)) fixes) (λ x. tt))))
     (λ fixes. all_in arch item section (patched_values fixes section.bytes) (frames found)))
 
 placed_sections : (arch : Arch) (item : ℕ) (p : Placing) (shift : ℕ) (sections : List ℕ) → FaultIs is_input_refusal (sections_functions arch item (map (placed_section p shift) sections))

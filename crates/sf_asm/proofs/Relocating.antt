@@ -1,23 +1,24 @@
 -- What was read of a section's relocations is what is defined.
 use Rattle.std.specs.Prelude.{◌⊎◌, ◌==◌, OnOk, IfOk, IfErr}
-use Rattle.std.proofs.Common.{◌≡◌, ℕ, Bool, true, false, cond, List, [], ◌∷◌, length, map, Option, Some, None, Result, Ok, Err, refl, sym, ap, ◌∙◌, inl, inr, arith}
+use Rattle.std.proofs.Common.{◌≡◌, ℕ, true, false, List, [], ◌∷◌, length, map, Some, Result, Ok, Err, refl, sym, ap, ◌∙◌, inl, inr, arith}
 use Rattle.std.proofs.lemmas.Bool.Decides.{nat_tests}
-use Rattle.std.specs.Option.{option_map}
 use Rattle.sf_bytes.specs.declared.field.Field.{Field}
-use Rattle.sf_bytes.specs.Rising.{AreApart, field_place}
+use Rattle.sf_bytes.specs.Rising.{AreApart}
 use Rattle.eh_records.specs.Step.{PointerField, pointer_view}
 use Rattle.elf_place.specs.Views.{Placing}
 use Rattle.elf_reloc.specs.declared.fault.RelocFault.{RelocFault}
 use Rattle.elf_reloc.specs.declared.fault.RelocFault.TheVariants as faults
 use Rattle.elf_reloc.specs.declared.fix.RelocatedField.{RelocatedField}
 use Rattle.elf_reloc.specs.declared.relocs.Relocs.{Relocs}
+use Rattle.elf_reloc.specs.Applied.{Slot, slot_check, slot_of}
 use Rattle.elf_reloc.specs.Fields.{bits_in, is_dropped_in}
-use Rattle.elf_reloc.specs.Order.{first_at, has_width, lies_on, place_check}
+use Rattle.elf_reloc.specs.Order.{first_at, place_check}
 use Rattle.elf_reloc.specs.Reading.{State, section_state}
 use Rattle.elf_reloc.specs.Views.{Reads, Overlaps, Refuses, Relocated, fixes_in}
 use Rattle.sf_bytes.specs.Steps.{◌>>=◌}
-use Rattle.sf_asm.specs.Relocated.{by_place, without_overlap, relocations_of, pointer_place, has_width_of, is_pointer, pointer_check}
+use Rattle.sf_asm.specs.Relocated.{by_place, without_overlap, relocations_of, pointer_check, pointer_slot}
 use Rattle.sf_asm.specs.Views.{AreChecked}
+use Rattle.elf_reloc.proofs.Applying.{slots_checked}
 use Rattle.elf_reloc.proofs.SortedFixes.{is_by_place}
 
 -- ---- reading
@@ -61,28 +62,12 @@ unfolding relocations_of
 relocations_refused p section e r = refuses_from (section_state p section) e r
 
 -- ---- pointer fields
-at_test : (b : Bool) (g : Field) (rest : Option Field) (other : Option PointerField) → other ≡ option_map pointer_view rest → cond b (Some (pointer_view g)) other ≡ option_map pointer_view (cond b (Some g) rest)
-at_test true g rest other e = refl
-at_test false g rest other e = e
-
-first_viewed : (place : ℕ) (fields : List Field) → first_at pointer_place place (map pointer_view fields) ≡ option_map pointer_view (first_at field_place place fields)
-unfolding first_at
-first_viewed place [] = refl
-first_viewed place (g ∷ gs) = at_test (g.place == place) g (first_at field_place place gs) _ (first_viewed place gs)
-
-width_viewed : (f : RelocatedField) (o : Option Field) → has_width_of f (option_map pointer_view o) ≡ has_width o f
-width_viewed f None = refl
-width_viewed f (Some g) = refl
-
-pointer_viewed : (fields : List Field) (f : RelocatedField) → is_pointer (map pointer_view fields) f ≡ lies_on fields f
-pointer_viewed fields f = ap (has_width_of f) (first_viewed f.place fields) ∙ width_viewed f (first_at field_place f.place fields)
+slots_viewed : (fields : List Field) → map pointer_slot (map pointer_view fields) ≡ map slot_of fields
+slots_viewed [] = refl
+slots_viewed (g ∷ gs) = ap (λ (slots : List Slot). slot_of g ∷ slots) (slots_viewed gs)
 
 check_viewed : (fields : List Field) (fixes : List RelocatedField) → pointer_check (map pointer_view fields) fixes ≡ place_check fields fixes
-unfolding pointer_check place_check
-check_viewed fields [] = refl
-check_viewed fields (f ∷ fs) =
-    ap (λ (b : Bool). cond b (pointer_check (map pointer_view fields) fs) (Err (faults.Place f.index))) (pointer_viewed fields f)
-    ∙ ap (λ (r : Result (Unit {0}) RelocFault). cond (lies_on fields f) r (Err (faults.Place f.index))) (check_viewed fields fs)
+check_viewed fields fixes = ap (λ (slots : List Slot). slot_check slots fixes) (slots_viewed fields) ∙ slots_checked fields fixes
 
 pub checked : (pointers : List PointerField) (fields : List Field) (fixes : List RelocatedField) (r : Result (Unit {0}) RelocFault) → map pointer_view fields ≡ pointers → r ≡ place_check fields fixes → pointer_check pointers fixes ≡ r
 checked pointers fields fixes r p q = ap (λ (gs : List PointerField). pointer_check gs fixes) (sym p) ∙ check_viewed fields fixes ∙ sym q
@@ -98,7 +83,7 @@ nothing_listed [] t = refl
 nothing_listed (f ∷ fs) t = absurd (grind (arith, nat_tests))
 
 pub none_checked : (pointers : List PointerField) → pointer_check pointers [] ≡ Ok tt
-unfolding pointer_check
+unfolding slot_check
 none_checked pointers = refl
 
 pub on_ok : (x r : Result (Unit {0}) RelocFault) → x ≡ r → OnOk r (x ≡ Ok tt)

@@ -1,18 +1,16 @@
 -- What the relocations of a call frame section write (ELF64 gABI, "Relocation"), the first fault of theirs, and what the section's
 -- pointer fields hold then.
-use Rattle.std.specs.Prelude.{ℕ, Bool, false, ◌==◌, List, [], ◌∷◌, drop, map, Option, Some, None, Result, Ok, Err, if◌then◌else◌}
+use Rattle.std.specs.Prelude.{ℕ, Bool, List, drop, map, Option, Some, None, Result, Ok, if◌then◌else◌}
 use Rattle.byteorder.specs.Endian.{little_number}
 use Rattle.eh_records.specs.Step.{PointerField}
 use Rattle.elf_place.specs.Views.{Placing}
 use Rattle.elf_read.specs.Sections.{section_bytes}
 use Rattle.elf_reloc.specs.declared.fault.RelocFault.{RelocFault}
-use Rattle.elf_reloc.specs.declared.fault.RelocFault.TheVariants.{Place}
 use Rattle.elf_reloc.specs.declared.fix.RelocatedField.{RelocatedField}
-use Rattle.elf_reloc.specs.Applied.{Slot, Applied, applied_of}
-use Rattle.elf_reloc.specs.Order.{first_at, overlap_check}
+use Rattle.elf_reloc.specs.Applied.{Slot, Applied, applied_of, slot_check}
+use Rattle.elf_reloc.specs.Order.{overlap_check}
 use Rattle.elf_reloc.specs.Patched.{patched}
 use Rattle.elf_reloc.specs.Reading.{section_state}
-use Rattle.elf_reloc.specs.Table.{width_of}
 pub use Rattle.elf_reloc.specs.Applied.{placed_among, by_place, is_unresolved_at, names_dropped_at}
 use Rattle.sf_bytes.specs.Steps.{◌>>=◌}
 
@@ -26,28 +24,16 @@ unfoldable pub relocations_of : Placing → (section : ℕ) → Result (List Rel
 relocations_of p section = section_state p section >>= λ state. without_overlap (by_place state.fixes)
 
 -- ---- pointer fields
-abbrev pub pointer_place : PointerField → ℕ
-pointer_place g = g.place
-
-abbrev pub has_width_of : RelocatedField → Option PointerField → Bool
-has_width_of f None = false
-has_width_of f (Some g) = g.width == width_of f.range
-
--- what is written is a pointer field, at its place and of its width
-abbrev pub is_pointer : List PointerField → RelocatedField → Bool
-is_pointer fields f = has_width_of f (first_at pointer_place f.place fields)
-
--- the first by place that isn't
-unfoldable pub pointer_check : List PointerField → List RelocatedField → Result (Unit {0}) RelocFault
-pointer_check fields [] = Ok tt
-pointer_check fields (f ∷ fs) = if is_pointer fields f then pointer_check fields fs else Err (Place f.index)
-
-abbrev pub on_pointers : List PointerField → List RelocatedField → Result (List RelocatedField) RelocFault
-on_pointers fields fixes = pointer_check fields fixes >>= λ _. Ok fixes
-
 -- its place and width alone
 abbrev pub pointer_slot : PointerField → Slot
 pointer_slot g = record { place = g.place; width = g.width }
+
+-- what is written is a pointer field, at its place and of its width, or else the first by place that isn't
+abbrev pub pointer_check : List PointerField → List RelocatedField → Result (Unit {0}) RelocFault
+pointer_check fields fixes = slot_check (map pointer_slot fields) fixes
+
+abbrev pub on_pointers : List PointerField → List RelocatedField → Result (List RelocatedField) RelocFault
+on_pointers fields fixes = pointer_check fields fixes >>= λ _. Ok fixes
 
 -- what the pointer fields of a section hold, where that is known, and which of them name a dropped section
 pub record Values : Type 0 where
