@@ -100,8 +100,10 @@ pub outcome_is_sound : (f : Function) (outcome : Outcome) → f.start + f.size �
 outcome_is_sound f outcome end key e = sound_by f (rows_of f) outcome (rows_by-are_rows _ _ _ _ _ _) end key e
 
 -- what was made of the rows that were left is made of those of the function
-pub made_here : (f : Function) (left : Result (List DwRow) MachineFault) (outcome : Outcome) → left ≡ rows_of f → made_of f left ≡ Ok outcome → made_of f (rows_of f) ≡ Ok outcome
-made_here f left outcome is e = subst (λ (x : Result (List DwRow) MachineFault). made_of f x ≡ Ok outcome) is e
+pub made_here : (f : Function) (facts : FdeFacts) (left : Result (List DwRow) MachineFault) (outcome : Outcome) → facts ≡ facts_of f → left ≡ rows_of f → on_rows (λ rows. outcome_by (function_by f.arch facts rows)) left ≡ Ok outcome → made_of f (rows_of f) ≡ Ok outcome
+made_here f facts left outcome same is e =
+    subst (λ (x : Result (List DwRow) MachineFault). made_of f x ≡ Ok outcome) is
+    (subst (λ (x : FdeFacts). on_rows (λ rows. outcome_by (function_by f.arch x rows)) left ≡ Ok outcome) same e)
 
 pub refused_here : (section : ℕ) (f : Function) (left : Result (List DwRow) MachineFault) (fault : AsmFault) → left ≡ rows_of f → named (asm.Machine section) left ≡ Err fault → named (asm.Machine section) (rows_of f) ≡ Err fault
 refused_here section f left fault is e = subst (λ (x : Result (List DwRow) MachineFault). named (asm.Machine section) x ≡ Err fault) is e

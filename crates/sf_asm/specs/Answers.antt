@@ -12,7 +12,6 @@ use Rattle.sf_model.specs.Function.{AreWritable}
 use Rattle.sf_model.specs.Tight.{Narrow, Tight}
 use Rattle.sf_write.specs.Section.{table_of}
 use Rattle.sf_asm.specs.declared.entry.Entry.{Entry}
-use Rattle.sf_asm.specs.declared.entry.OneRead.{OneRead}
 use Rattle.sf_asm.specs.declared.fault.AsmFault.{AsmFault}
 use Rattle.sf_asm.specs.declared.fault.AsmFault.TheVariants as asm
 use Rattle.sf_asm.specs.declared.fault.GatherFault.{GatherFault}
@@ -32,8 +31,8 @@ seen_as view (Ok x) = Ok (view x)
 seen_as view (Err fault) = Err fault
 
 -- what was read of one function is what becomes of it; or its fault was answered, or memory ran out
-abbrev pub ReadsOne : Result OneRead AsmFault → Result Function AsmFault → Type 0
-ReadsOne (Ok read) given = seen_as entry_of given ≡ Ok read.entry
+abbrev pub ReadsOne : Result Entry AsmFault → Result Function AsmFault → Type 0
+ReadsOne (Ok entry) given = seen_as entry_of given ≡ Ok entry
 ReadsOne (Err fault) given = (fault ≡ asm.NoMemory) ⊎ (given ≡ Err fault)
 
 -- the fault of the first instruction of a section's function that can't be run was answered, or memory ran out

@@ -4,10 +4,9 @@ use Rattle.std.specs.List.Sorted.{IsPermutation, IsNonDecreasingBy, IsStableByKe
 use Rattle.std.specs.Ordering.{nat_cmp}
 use Rattle.sf_bytes.specs.Cursor.{cursor}
 use Rattle.sf_model.specs.declared.machine.Arch.{Arch}
-use Rattle.sf_model.specs.declared.facts.FdeFacts.{FdeFacts}
 use Rattle.sf_model.specs.declared.function.Func.{Func}
 use Rattle.sf_model.specs.declared.omission.Omitted.{Omitted}
-use Rattle.sf_model.specs.declared.omission.Origin.{Origin}
+use Rattle.sf_model.specs.declared.omission.Span.{Span}
 use Rattle.eh_records.specs.declared.fde.Fde.{Fde}
 use Rattle.sf_model.specs.Function.{AreWritable}
 use Rattle.sf_asm.specs.declared.entry.Outcome.{Outcome}
@@ -35,20 +34,20 @@ source_function s = record {
   origin = s.origin;
 }
 
--- a function by what was read of its entry
-abbrev pub function_by_facts : Arch → FdeFacts → Fde → Origin → Function
-function_by_facts arch facts f origin = record {
+-- a function by its frame description entry, its addresses and its origin
+abbrev pub function_by_span : Arch → Fde → Span → Function
+function_by_span arch f span = record {
   arch = arch;
-  start = facts.start;
-  size = facts.size;
-  column = facts.column;
-  signal = facts.signal;
-  key = facts.key;
+  start = span.start;
+  size = span.size;
+  column = f.cie.column;
+  signal = f.cie.signal;
+  key = f.cie.key;
   code = f.cie.code;
   factor = f.cie.factor;
   initial = cursor f.cie.insns;
   own = cursor f.insns;
-  origin = origin;
+  origin = span.origin;
 }
 
 abbrev pub functions_lent : List Source → List Function

@@ -1,6 +1,5 @@
 //! A function that was read, kept or left out.
 
-use crate::source::Source;
 use sf_model::{Func, Omission, Span};
 use sf_write::StoredFunction;
 
@@ -18,15 +17,6 @@ pub enum Outcome {
 pub struct Entry {
     pub span: Span,
     pub outcome: Outcome,
-}
-
-/// One function that was read.
-#[derive(Drop)]
-pub struct OneRead<'a> {
-    /// What became of it.
-    pub entry: Entry,
-    /// What its records say.
-    pub source: Source<'a>,
 }
 
 /// What became of a function whose rows are kept in the list of all.

@@ -11,7 +11,7 @@ ghost use Rattle.sf_asm.specs.Said.{AllFit, form_content, has_form};
 ghost use Rattle.sf_asm.specs.Sources.{source_function};
 
 use crate::source::Source;
-use cfa_machine::Runner;
+use cfa_machine::{MachineFault, Runner};
 use sf_base::NoMemory;
 use sf_express::{Piece, pieces_run};
 use sf_model::Arch;
@@ -43,8 +43,7 @@ fn begin<'a>(source: &Source<'a>, run: &mut Runner<'a>)
     );
 }
 
-/// What an omitted function says whose frames SFrame has a form for. Its instructions were run when it was read,
-/// so that no fault comes.
+/// What an omitted function says whose frames SFrame has a form for. Its instructions were run when it was read.
 fn pieces_of<'a>(
     alloc: Global,
     source: &Source<'a>,
@@ -57,7 +56,8 @@ fn pieces_of<'a>(
     begin(source, run);
     match pieces_run(alloc, source.arch, run) {
         Ok(pieces) => Ok(pieces),
-        Err(_) => Err(NoMemory),
+        Err(MachineFault::NoMemory) => Err(NoMemory),
+        Err(_) => unreachable!(),
     }
 }
 

@@ -1,11 +1,10 @@
 //! The functions of one call frame section, in the order of its records.
 
-ghost use Rattle.std.specs.Prelude.{◌≡◌, ◌≤◌, ◌+◌, ◌^◌, List, All, Result, Ok, IfOk, IfErr, OnOk, IsTrue};
+ghost use Rattle.std.specs.Prelude.{◌≡◌, ◌≤◌, ◌+◌, ◌^◌, ◌++◌, [], ◌∷◌, List, All, Result, Ok, IfOk, IfErr, OnOk, IsTrue, is_ok, true};
 ghost use Rattle.std.specs.Option.{option_map};
 ghost use Rattle.sf_bytes.specs.Cursor.{cursor};
 ghost use Rattle.sf_model.specs.Function.{key_fits};
 ghost use Rattle.cfa_insn.specs.Listing.{listing};
-ghost use Rattle.cfa_machine.specs.Initial.{IsInitial};
 ghost use Rattle.cfa_machine.specs.Left.{limit, rows_left};
 ghost use Rattle.cfa_machine.specs.Pass.{rows_by};
 ghost use Rattle.eh_records.specs.Fde.{fde_view};
@@ -20,22 +19,22 @@ ghost use Rattle.sf_express.specs.Run.{on_rows};
 ghost use Rattle.sf_asm.specs.Answers.{IsRecordsFault, IsRelocFault, IsRowsFault, LendsMore, ReadsMore, ReadsOne};
 ghost use Rattle.sf_asm.specs.Entry.{IsSound};
 ghost use Rattle.sf_asm.specs.Fault.{wraps_record, wraps_reloc, wraps_machine};
-ghost use Rattle.sf_asm.specs.declared.fault.AsmFault.TheVariants.{Record};
+ghost use Rattle.sf_asm.specs.declared.fault.AsmFault.TheVariants.{NoMemory, Record};
 ghost use Rattle.sf_asm.specs.Functions.{function_in, functions_in, named, section_functions, span_in};
 ghost use Rattle.sf_asm.specs.Initials.{AreInitial};
 ghost use Rattle.sf_asm.specs.Kept.{outcome_by};
 ghost use Rattle.sf_asm.specs.Relocated.{pointer_check};
-ghost use Rattle.sf_asm.specs.Sources.{function_by_facts, functions_lent, source_function};
+ghost use Rattle.sf_asm.specs.Sources.{function_by_span, functions_lent, if_left};
 ghost use Rattle.sf_asm.specs.Views.{AreChecked, IsReadFrom, overlaid, relocations_by, seen_section, written_by};
 
-use crate::entry::{Entry, OneRead, Outcome};
+use crate::entry::{Entry, Outcome};
 use crate::fault::AsmFault;
 use crate::frames::CallFrameSection;
 use crate::initials::Initials;
 use crate::overlay::Overlay;
 use crate::read::ReadFunctions;
 use crate::source::Source;
-use cfa_machine::{Columns, MachineFault, Runner};
+use cfa_machine::{MachineFault, Runner};
 use eh_records::{Fde, RecordFault, Records};
 use elf_place::Placed;
 use elf_reloc::RelocFault;
@@ -131,7 +130,7 @@ fn span_of(
     }
 }
 
-/// Starts the runner on the rows of a function, whose initial row is returned.
+/// Starts the runner on the rows of a function.
 #[inline(always)]
 fn begin_rows<'a>(
     section: &CallFrameSection<'a>,
@@ -139,11 +138,10 @@ fn begin_rows<'a>(
     size: u64,
     initials: &mut Initials,
     run: &mut Runner<'a>,
-) -> Result<Columns, AsmFault>
+) -> Result<(), AsmFault>
     requires initials { AreInitial section.now.arch section.now.bytes.now initials.old }
     requires named { HasNamed section.now.arch section.now.bytes.now (fde_view fde.now) }
     ensures initials { OnOk result (AreInitial section.now.arch section.now.bytes.now initials.new) }
-    ensures initial { IfOk result (λ row. IsInitial section.now.arch fde.now.cie.factor (listing (cursor fde.now.cie.insns)) row) }
     ensures begins { OnOk result (rows_left run.new ≡ rows_by section.now.arch fde.now.cie.code fde.now.cie.factor size (listing (cursor fde.now.cie.insns)) (listing (cursor fde.now.insns))) }
     ensures limit { OnOk result (limit run.new ≡ size) }
     ensures fault { IfErr result (λ fault. IsRowsFault section.now.number fault (rows_by section.now.arch fde.now.cie.code fde.now.cie.factor size (listing (cursor fde.now.cie.insns)) (listing (cursor fde.now.insns)))) }
@@ -152,7 +150,7 @@ fn begin_rows<'a>(
     match initials.row(section, &cie) {
         Ok(initial) => {
             run.start_from(initial, section.arch, cie.code, cie.factor, fde.insns, size);
-            Ok(initial)
+            Ok(())
         }
         Err(fault) => Err(machine_fault(section.number, fault)),
     }
@@ -179,31 +177,79 @@ fn outcome_of(
     }
 }
 
-/// A function as its records say it.
+/// What the records say of a function with this start and size.
 #[inline(always)]
-fn source_of<'a>(
+fn facts_of(fde: &Fde<'_>, start: u64, size: u64) -> FdeFacts
+    ensures { result ≡ record { start = start; size = size; column = fde.now.cie.column; signal = fde.now.cie.signal; key = fde.now.cie.key } }
+{
+    FdeFacts {
+        start,
+        size,
+        column: fde.cie.column,
+        signal: fde.cie.signal,
+        key: fde.cie.key,
+    }
+}
+
+/// Lends a function as its records say it, each of whose instructions was run.
+#[inline(never)]
+fn lend_source<'a>(
     section: &CallFrameSection<'a>,
     fde: &Fde<'a>,
-    facts: FdeFacts,
-    initial: Columns,
-    origin: Origin,
-) -> Source<'a>
-    requires ends { facts.start + facts.size ≤ 2 ^ 64 }
-    requires initial { IsInitial section.now.arch fde.now.cie.factor (listing (cursor fde.now.cie.insns)) initial }
-    requires key { IsTrue (key_fits section.now.arch facts.key) }
-    ensures { source_function result ≡ function_by_facts section.now.arch facts fde.now origin }
+    span: Span,
+    initials: &mut Initials,
+    sources: &mut Vec<Source<'a>>,
+) -> Result<(), AsmFault>
+    requires key { IsTrue (key_fits section.now.arch fde.now.cie.key) }
+    requires initials { AreInitial section.now.arch section.now.bytes.now initials.old }
+    requires named { HasNamed section.now.arch section.now.bytes.now (fde_view fde.now) }
+    requires end { span.start + span.size ≤ 2 ^ 64 }
+    requires ran { is_ok (rows_by section.now.arch fde.now.cie.code fde.now.cie.factor span.size (listing (cursor fde.now.cie.insns)) (listing (cursor fde.now.insns))) ≡ true }
+    ensures initials { OnOk result (AreInitial section.now.arch section.now.bytes.now initials.new) }
+    ensures lent { OnOk result (functions_lent sources.new.items ≡ functions_lent sources.old.items ++ function_by_span section.now.arch fde.now span ∷ []) }
+    ensures refused { IfErr result (λ fault. fault ≡ NoMemory) }
 {
     let cie = fde.cie;
-    Source {
+    let row = match initials.row(section, &cie) {
+        Ok(row) => row,
+        Err(MachineFault::NoMemory) => return Err(AsmFault::NoMemory),
+        Err(_) => unreachable!(),
+    };
+    sources.push(Source {
         arch: section.arch,
-        facts,
+        facts: facts_of(fde, span.start, span.size),
         code: cie.code,
         factor: cie.factor,
         initial: cie.insns,
-        row: initial,
+        row,
         own: fde.insns,
-        origin,
+        origin: span.origin,
+    })?;
+    Ok(())
+}
+
+/// Lends a function where it's left out.
+#[inline(always)]
+fn lend<'a>(
+    section: &CallFrameSection<'a>,
+    fde: &Fde<'a>,
+    entry: &Entry,
+    initials: &mut Initials,
+    sources: &mut Vec<Source<'a>>,
+) -> Result<(), AsmFault>
+    requires key { IsTrue (key_fits section.now.arch fde.now.cie.key) }
+    requires initials { AreInitial section.now.arch section.now.bytes.now initials.old }
+    requires named { HasNamed section.now.arch section.now.bytes.now (fde_view fde.now) }
+    requires end { entry.now.span.start + entry.now.span.size ≤ 2 ^ 64 }
+    requires ran { is_ok (rows_by section.now.arch fde.now.cie.code fde.now.cie.factor entry.now.span.size (listing (cursor fde.now.cie.insns)) (listing (cursor fde.now.insns))) ≡ true }
+    ensures initials { OnOk result (AreInitial section.now.arch section.now.bytes.now initials.new) }
+    ensures lent { OnOk result (functions_lent sources.new.items ≡ functions_lent sources.old.items ++ if_left entry.now.outcome (function_by_span section.now.arch fde.now entry.now.span)) }
+    ensures refused { IfErr result (λ fault. fault ≡ NoMemory) }
+{
+    if let Outcome::Left(_) = entry.outcome {
+        lend_source(section, fde, entry.span, initials, sources)?;
     }
+    Ok(())
 }
 
 /// The function of one frame description entry, whose rows are made in the memory of `spare`.
@@ -216,24 +262,20 @@ fn read_function<'a>(
     initials: &mut Initials,
     run: &mut Runner<'a>,
     spare: &mut Rows,
-) -> Result<OneRead<'a>, AsmFault>
+) -> Result<Entry, AsmFault>
     requires key { IsTrue (key_fits section.now.arch fde.now.cie.key) }
     requires initials { AreInitial section.now.arch section.now.bytes.now initials.old }
     requires named { HasNamed section.now.arch section.now.bytes.now (fde_view fde.now) }
     ensures initials { OnOk result (AreInitial section.now.arch section.now.bytes.now initials.new) }
     ensures exact { (relocations : Result (List RelocatedField) reloc_fault) → ReadsOne result (function_in section.now.arch section.now.item (seen_section section.now relocations) (overlaid (written_by overlay.now)) (fde_view fde.now)) }
-    ensures source { IfOk result (λ read. (relocations : Result (List RelocatedField) reloc_fault) → function_in section.now.arch section.now.item (seen_section section.now relocations) (overlaid (written_by overlay.now)) (fde_view fde.now) ≡ Ok (source_function read.source)) }
-    ensures sound { IfOk result (λ read. IsSound section.now.arch read.entry) }
+    ensures function { IfOk result (λ entry. (relocations : Result (List RelocatedField) reloc_fault) → function_in section.now.arch section.now.item (seen_section section.now relocations) (overlaid (written_by overlay.now)) (fde_view fde.now) ≡ Ok (function_by_span section.now.arch fde.now entry.span)) }
+    ensures end { IfOk result (λ entry. entry.span.start + entry.span.size ≤ 2 ^ 64) }
+    ensures ran { IfOk result (λ entry. is_ok (rows_by section.now.arch fde.now.cie.code fde.now.cie.factor entry.span.size (listing (cursor fde.now.cie.insns)) (listing (cursor fde.now.insns))) ≡ true) }
+    ensures sound { IfOk result (λ entry. IsSound section.now.arch entry) }
 {
     let (start, size) = span_of(section, overlay, fde)?;
-    let initial = begin_rows(section, fde, size, initials, run)?;
-    let facts = FdeFacts {
-        start,
-        size,
-        column: fde.cie.column,
-        signal: fde.cie.signal,
-        key: fde.cie.key,
-    };
+    begin_rows(section, fde, size, initials, run)?;
+    let facts = facts_of(fde, start, size);
     let outcome = outcome_of(alloc, section, &facts, run, spare)?;
     let origin = Origin {
         item: section.item,
@@ -245,10 +287,7 @@ fn read_function<'a>(
         size,
         origin,
     };
-    Ok(OneRead {
-        entry: Entry { span, outcome },
-        source: source_of(section, fde, facts, initial, origin),
-    })
+    Ok(Entry { span, outcome })
 }
 
 /// The functions of the records, after those that were read before.
@@ -272,7 +311,7 @@ fn read_frames<'a>(
         if overlay.dropped(fde.begin) {
             continue;
         }
-        let one = read_function(
+        let entry = read_function(
             alloc,
             section,
             overlay,
@@ -281,7 +320,8 @@ fn read_frames<'a>(
             &mut run,
             &mut spare,
         )?;
-        read.push(section.arch, one, &mut spare)?;
+        lend(section, &fde, &entry, &mut initials, &mut read.sources)?;
+        read.entries.push(section.arch, entry, &mut spare)?;
     }
     Ok(())
 }

@@ -1,10 +1,11 @@
 //! Functions as their records say them.
 
-ghost use Rattle.std.specs.Prelude.{◌≤◌, ◌+◌, ◌^◌, IsTrue};
+ghost use Rattle.std.specs.Prelude.{◌≡◌, ◌≤◌, ◌+◌, ◌^◌, IsTrue, is_ok, true};
 ghost use Rattle.sf_bytes.specs.Cursor.{cursor};
 ghost use Rattle.sf_model.specs.Function.{key_fits};
 ghost use Rattle.cfa_insn.specs.Listing.{listing};
 ghost use Rattle.cfa_machine.specs.Initial.{IsInitial};
+ghost use Rattle.cfa_machine.specs.Pass.{rows_by};
 
 use cfa_machine::Columns;
 use sf_bytes::Part;
@@ -33,4 +34,5 @@ pub struct Source<'a> {
     ghost ends: { facts.start + facts.size ≤ 2 ^ 64 },
     ghost has_key: { IsTrue (key_fits arch facts.key) },
     ghost given: { IsInitial arch factor (listing (cursor initial)) row },
+    ghost ran: { is_ok (rows_by arch code factor facts.size (listing (cursor initial)) (listing (cursor own))) ≡ true },
 }

@@ -13,7 +13,7 @@ use Rattle.sf_asm.specs.Answers.{after_read, seen_as}
 use Rattle.sf_asm.specs.Entry.{IsSound}
 use Rattle.sf_asm.specs.Functions.{Function, functions_in}
 use Rattle.sf_asm.specs.Kept.{entry_of, omitted_functions}
-use Rattle.sf_asm.specs.Sources.{functions_lent, if_left, source_function}
+use Rattle.sf_asm.specs.Sources.{function_by_span, functions_lent, if_left}
 use Rattle.sf_asm.specs.Views.{overlaid, seen_section, written_by}
 use Rattle.sf_asm.proofs.ReadFunctions.{read_of, goes_on, passes_on, entries_listwise, one_entry}
 use Rattle.sf_asm.proofs.Lending.{omitted_listwise, one_lent}
@@ -55,23 +55,23 @@ loop-fde-preserved c =
     let left : frames_left c.loop-fde.fde-iterator ≡ fde_view c.in-Some.fde ∷ frames_left c.next.new.self = c.in-Some.ensures.steps in
     let keys : All (λ (f : FdeView). IsTrue (key_fits c.args.section.now.arch f.cie.key)) (fde_view c.in-Some.fde ∷ frames_left c.next.new.self) = rw left at c.loop-fde.invariant.keys in
     let named : All (HasNamed c.args.section.now.arch c.args.section.now.bytes.now) (fde_view c.in-Some.fde ∷ frames_left c.next.new.self) = rw left at c.loop-fde.invariant.named in
-    let one = c.in_ok-one.one in
+    let entry = c.in_ok-entry.entry in
     record {
-      sound = λ h. subst (All (IsSound c.args.section.now.arch)) (sym c.in_ok-push.ensures.entries) (All-append (IsSound c.args.section.now.arch) c.loop-fde.read.entries (one.entry ∷ []) (c.loop-fde.invariant.sound h) (All-from_recursion (IsSound c.args.section.now.arch) (one.entry ∷ []) (c.in_ok-one.ensures.sound, tt)));
+      sound = λ h. subst (All (IsSound c.args.section.now.arch)) (sym c.in_ok-push.ensures) (All-append (IsSound c.args.section.now.arch) c.loop-fde.read.entries (entry ∷ []) (c.loop-fde.invariant.sound h) (All-from_recursion (IsSound c.args.section.now.arch) (entry ∷ []) (c.in_ok-entry.ensures.sound, tt)));
       keys = All-tail (λ (f : FdeView). IsTrue (key_fits c.args.section.now.arch f.cie.key)) (fde_view c.in-Some.fde) (frames_left c.next.new.self) keys;
       named = All-tail (HasNamed c.args.section.now.arch c.args.section.now.bytes.now) (fde_view c.in-Some.fde) (frames_left c.next.new.self) named;
-      initials = c.in_ok-one.ensures.initials;
+      initials = c.in_ok-lend.ensures.initials;
       reads = λ relocations.
           let section = seen_section c.args.section.now relocations in
           let values = overlaid (written_by c.args.overlay.now) in
-          ap (λ (before : List Entry). after_read before (read_of c.args.section.now.arch c.args.section.now.item section values (frames_left c.next.new.self))) c.in_ok-push.ensures.entries
-          ∙ goes_on (map entry_of) entries_listwise c.args.section.now.arch c.args.section.now.item section values c.loop-fde.read.entries (one.entry ∷ []) (fde_view c.in-Some.fde) (frames_left c.loop-fde.fde-iterator) (frames_left c.next.new.self) _ left (sym c.dropped.ensures ∙ c.if-dropped.false)
-          (one_entry _ one.entry (c.in_ok-one.ensures.exact relocations)) (c.loop-fde.invariant.reads relocations);
+          ap (λ (before : List Entry). after_read before (read_of c.args.section.now.arch c.args.section.now.item section values (frames_left c.next.new.self))) c.in_ok-push.ensures
+          ∙ goes_on (map entry_of) entries_listwise c.args.section.now.arch c.args.section.now.item section values c.loop-fde.read.entries (entry ∷ []) (fde_view c.in-Some.fde) (frames_left c.loop-fde.fde-iterator) (frames_left c.next.new.self) _ left (sym c.dropped.ensures ∙ c.if-dropped.false)
+          (one_entry _ entry (c.in_ok-entry.ensures.exact relocations)) (c.loop-fde.invariant.reads relocations);
       lent = λ relocations.
           let section = seen_section c.args.section.now relocations in
           let values = overlaid (written_by c.args.overlay.now) in
-          ap (λ (before : List Function). after_read before (seen_as omitted_functions (functions_in c.args.section.now.arch c.args.section.now.item section values (frames_left c.next.new.self)))) c.in_ok-push.ensures.lent
-          ∙ goes_on omitted_functions omitted_listwise c.args.section.now.arch c.args.section.now.item section values (functions_lent c.loop-fde.read.sources.items) (if_left one.entry.outcome (source_function one.source)) (fde_view c.in-Some.fde) (frames_left c.loop-fde.fde-iterator) (frames_left c.next.new.self) _ left
+          ap (λ (before : List Function). after_read before (seen_as omitted_functions (functions_in c.args.section.now.arch c.args.section.now.item section values (frames_left c.next.new.self)))) c.in_ok-lend.ensures.lent
+          ∙ goes_on omitted_functions omitted_listwise c.args.section.now.arch c.args.section.now.item section values (functions_lent c.loop-fde.read.sources.items) (if_left entry.outcome (function_by_span c.args.section.now.arch c.in-Some.fde entry.span)) (fde_view c.in-Some.fde) (frames_left c.loop-fde.fde-iterator) (frames_left c.next.new.self) _ left
           (sym c.dropped.ensures ∙ c.if-dropped.false)
-          (one_lent _ one.entry (source_function one.source) (c.in_ok-one.ensures.exact relocations) (c.in_ok-one.ensures.source relocations)) (c.loop-fde.invariant.lent relocations);
+          (one_lent _ entry (function_by_span c.args.section.now.arch c.in-Some.fde entry.span) (c.in_ok-entry.ensures.exact relocations) (c.in_ok-entry.ensures.function relocations)) (c.loop-fde.invariant.lent relocations);
     }
