@@ -112,6 +112,7 @@ fn read_fields<'a>(
 
 /// The common information entry of a record.
 #[tactic(auto, unfolding(crate::specs::Cie::cie_of))]
+#[inline(never)]
 pub fn read_cie<'a>(cut: &RawRecord<'a>, arch: Arch) -> Result<CieWithForm<'a>, RecordFault>
     ensures { Is shared_view result (cie_of arch (raw_record_view cut.now)) }
 {

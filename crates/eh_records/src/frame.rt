@@ -22,6 +22,7 @@ use sf_model::Arch;
 
 // The pointer to a language-specific data area at the front of the augmentation data, where the encoding
 // has a fixed width and the data is that long.
+#[inline(always)]
 fn lsda_of(encoding: Option<u8>, mut left: Reader<'_>) -> Option<Field>
     ensures { option_map pointer_view result ≡ lsda_in encoding (reader_cursor left.entry) }
 {
@@ -31,6 +32,7 @@ fn lsda_of(encoding: Option<u8>, mut left: Reader<'_>) -> Option<Field>
 
 // That pointer, and the augmentation data passed.
 #[tactic(auto, unfolding(crate::specs::Fde::lsda_at))]
+#[inline(always)]
 fn read_lsda(shared: &CieWithForm<'_>, body: &mut Reader<'_>) -> Result<Option<Field>, RecordFault>
     ensures { Answers (λ field. option_map pointer_view field) body.new result (lsda_at (shared_view shared.now) (reader_cursor body.old)) }
 {
@@ -43,6 +45,7 @@ fn read_lsda(shared: &CieWithForm<'_>, body: &mut Reader<'_>) -> Result<Option<F
 
 /// The frame description entry of a record whose common information entry is known.
 #[tactic(auto, unfolding(crate::specs::Fde::entry_of))]
+#[inline(always)]
 pub fn read_entry<'a>(cut: &RawRecord<'a>, shared: &CieWithForm<'a>) -> Result<Fde<'a>, RecordFault>
     ensures { Is fde_view result (entry_of (shared_view shared.now) (raw_record_view cut.now)) }
 {
@@ -63,6 +66,7 @@ pub fn read_entry<'a>(cut: &RawRecord<'a>, shared: &CieWithForm<'a>) -> Result<F
 /// The frame description entry of a record, with the common information entry that it names, which is read
 /// again unless it is the one that is kept.
 #[tactic(auto, unfolding(crate::specs::Fde::fde_of))]
+#[inline(always)]
 pub fn read_fde<'a>(
     kept: &mut Option<CommonAt<'a>>,
     section: &'a [u8],

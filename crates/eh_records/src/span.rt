@@ -14,6 +14,7 @@ impl Fde<'_> {
     ///
     /// `Unresolved` where the start or the size field has no value, `FunctionEnd` where the start plus the
     /// size is above 2^64, both with the place of the start field.
+    #[inline(always)]
     pub fn span<V: Values>(
         &self,
         address: u64,
