@@ -1,10 +1,10 @@
 //! A function's rows (SFrame Version 2, frame row entries).
 
-ghost use Rattle.std.specs.Prelude.{◌≡◌, ◌≤◌, ◌++◌, [], ◌∷◌, IfOk, IsTrue, OnOk, option_to_list};
+ghost use Rattle.std.specs.Prelude.{◌≡◌, ◌≤◌, ◌+◌, ◌*◌, ◌++◌, [], ◌∷◌, is_some, option_to_list, IfOk, IfSome, IsTrue, OnOk, OnSome};
 ghost use Rattle.std.specs.List.{flat_map, list_all};
-ghost use Rattle.sf_model.specs.RowBytes.{holds_row_offsets, row_info_byte, row_offsets};
+ghost use Rattle.sf_model.specs.RowBytes.{base_number, holds_row_offsets, row_info_byte, row_offsets, signed_number};
 ghost use Rattle.sf_model.specs.Tight.{last_start};
-ghost use Rattle.sf_model.specs.Width.{holds_unsigned, signed_bytes, unsigned_bytes, IsWidth};
+ghost use Rattle.sf_model.specs.Width.{holds_signed, holds_unsigned, signed_bytes, IsWidth};
 ghost use Rattle.sf_sizes.specs.RowLength.{offset_width};
 ghost use Rattle.sf_write.specs.Room.{offsets_fit};
 ghost use Rattle.sf_write.specs.Row.{narrow_row, start_width, rows_bytes, BeginWith};
@@ -50,9 +50,9 @@ pub(crate) fn push_rows(bytes: &mut Vec<u8>, rows: &[Row]) -> Result<u8, AllocEr
     Ok(width)
 }
 
-/// Appends a row: its start in bytes of the width `kind`, its info byte and its offsets. Most rows have a byte
-/// for each number, and no offset of the return address: they are appended at once.
-#[tactic(auto, using(crate::proofs::Kept::begin_on, crate::proofs::Kept::begin_front), unfolding(sf_model::specs::RowBytes::spelled_row, crate::specs::Room::offsets_fit))]
+/// Appends a row: its start in bytes of the width `kind`, its info byte and its offsets. Most rows have a start of
+/// one or two bytes and a byte for each offset, and none of the return address: they are appended at once.
+#[tactic(auto, using(crate::proofs::Kept::begin_front), unfolding(sf_model::specs::RowBytes::spelled_row, crate::specs::Room::offsets_fit))]
 #[inline(always)]
 fn push_row(bytes: &mut Vec<u8>, kind: u8, row: &Row) -> Result<(), AllocError>
     requires { kind ≤ 2 }
@@ -60,35 +60,61 @@ fn push_row(bytes: &mut Vec<u8>, kind: u8, row: &Row) -> Result<(), AllocError>
     ensures fits { OnOk result (IsTrue (offsets_fit row.now)) }
     ensures keeps { BeginWith bytes.new.items bytes.old.items }
 {
-    let content = &row.content;
-    let info = info_of(content);
-    let start = low_byte(row.start);
-    let cfa = low_byte(content.cfa.cast_unsigned());
-    match (
-        kind,
-        offset_size(content),
-        saved_offset(content.ra),
-        content.fp,
-    ) {
-        (0, 0, None, None) => bytes.extend_from_slice(&[start, info, cfa]),
-        (0, 0, None, Some(fp)) => {
-            bytes.extend_from_slice(&[start, info, cfa, low_byte(fp.cast_unsigned())])
-        }
-        _ => {
-            push_narrow(bytes, row.start, kind)?;
-            bytes.push(info)?;
-            push_offsets(bytes, content)
-        }
+    let [low, high, _, _] = row.start.to_le_bytes();
+    match (short_content(&row.content), kind) {
+        (Some((info, cfa, None)), 0) => bytes.extend_from_slice(&[low, info, cfa]),
+        (Some((info, cfa, None)), 1) => bytes.extend_from_slice(&[low, high, info, cfa]),
+        (Some((info, cfa, Some(fp))), 0) => bytes.extend_from_slice(&[low, info, cfa, fp]),
+        (Some((info, cfa, Some(fp))), 1) => bytes.extend_from_slice(&[low, high, info, cfa, fp]),
+        _ => push_any_row(bytes, kind, row),
     }
 }
 
-/// The low byte of a number.
+/// The info byte of a content, the canonical frame address's offset and the frame pointer's, where each offset
+/// has room in a byte and none is the return address's.
 #[inline(always)]
-fn low_byte(number: u32) -> u8
-    ensures { result ∷ [] ≡ unsigned_bytes 0 number }
+fn short_content(content: &Content) -> Option<(u8, u8, Option<u8>)>
+    ensures bytes { IfSome result (λ parts. parts.0 ∷ parts.1 ∷ option_to_list parts.2 ≡ row_info_byte (offset_width content.now) content.now ∷ flat_map (signed_bytes (offset_width content.now)) (row_offsets content.now)) }
+    ensures fits { OnSome result (IsTrue (holds_row_offsets content.now (offset_width content.now))) }
 {
-    let [low, _, _, _] = number.to_le_bytes();
-    low
+    if saved_offset(content.ra).is_some() {
+        return None;
+    }
+    let cfa = byte_of(content.cfa)?;
+    let flags = flags_of(content);
+    match content.fp {
+        None => Some((flags + 2, cfa, None)),
+        Some(fp) => Some((flags + 4, cfa, Some(byte_of(fp)?))),
+    }
+}
+
+/// An offset in a signed byte, where it has room there.
+#[inline(always)]
+fn byte_of(offset: i32) -> Option<u8>
+    ensures value { IfSome result (λ byte. byte ∷ [] ≡ signed_bytes 0 offset) }
+    ensures fits { is_some result ≡ holds_signed offset 0 }
+{
+    if -0x80 <= offset && offset <= 0x7f {
+        let [low, _, _, _] = offset.cast_unsigned().to_le_bytes();
+        Some(low)
+    } else {
+        None
+    }
+}
+
+/// Appends a row by its start, its info byte and its offsets, of any width and number.
+#[tactic(auto, using(crate::proofs::Kept::begin_on, crate::proofs::Kept::begin_front), unfolding(sf_model::specs::RowBytes::spelled_row, crate::specs::Room::offsets_fit))]
+#[inline(never)]
+fn push_any_row(bytes: &mut Vec<u8>, kind: u8, row: &Row) -> Result<(), AllocError>
+    requires { kind ≤ 2 }
+    ensures ok { OnOk result (bytes.new.items ≡ bytes.old.items ++ narrow_row kind row.now) }
+    ensures fits { OnOk result (IsTrue (offsets_fit row.now)) }
+    ensures keeps { BeginWith bytes.new.items bytes.old.items }
+{
+    let content = &row.content;
+    push_narrow(bytes, row.start, kind)?;
+    bytes.push(info_of(content))?;
+    push_offsets(bytes, content)
 }
 
 /// The info byte of a row.
@@ -97,11 +123,19 @@ fn info_of(content: &Content) -> u8
     ensures value { result ≡ row_info_byte (offset_width content.now) content.now }
     ensures fits { IsTrue (holds_row_offsets content.now (offset_width content.now)) }
 {
+    flags_of(content) + 2 * offset_count(content) + 32 * offset_size(content)
+}
+
+/// The bits of the info byte for the base and for a signed return address.
+#[inline(always)]
+fn flags_of(content: &Content) -> u8
+    ensures { result ≡ base_number content.now.base + 128 * signed_number content.now.signed }
+{
     let base = match content.base {
         Base::Fp => 0,
         Base::Sp => 1,
     };
-    base + 2 * offset_count(content) + 32 * offset_size(content) + 128 * u8::from(content.signed)
+    base + 128 * u8::from(content.signed)
 }
 
 /// Appends a row's offsets in their order: of the canonical frame address, the return address and the
