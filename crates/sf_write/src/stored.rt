@@ -19,13 +19,13 @@ pub struct StoredRows {
 pub struct StoredFunction {
     /// The function without its rows.
     pub head: FuncHead,
-    arch: Arch,
-    /// The width of its row starts.
-    pub(crate) width: u8,
     /// The place of its rows in the bytes.
     place: usize,
     /// How many bytes they are.
     pub(crate) len: u32,
+    arch: Arch,
+    /// The width of its row starts.
+    pub(crate) width: u8,
 }
 
 impl StoredRows {
@@ -66,10 +66,10 @@ impl StoredRows {
         };
         Ok(StoredFunction {
             head,
-            arch,
-            width,
             place,
             len,
+            arch,
+            width,
         })
     }
 
