@@ -25,7 +25,7 @@ first_out_of_reach at number [] = None
 first_out_of_reach at number (f ∷ functions) =
     if is_in_reach at number f.start then first_out_of_reach at (number + 1) functions else Some f.start
 
--- a refusal names the start that is out of reach; want of memory says nothing
+-- a refusal names the start that is out of reach; out of memory says nothing
 abbrev pub Refuses : WriteFault → Option ℕ → Type 0
 Refuses (OutOfReach start) out_of_reach = out_of_reach ≡ Some start
 Refuses NoMemory out_of_reach = ⊤
