@@ -1,3 +1,4 @@
 pub mod ReadsMoveOn
 pub mod Listings
 pub mod Spelled
+pub mod Frequent

@@ -1,5 +1,6 @@
 pub mod Instruction
 pub mod Table
 pub mod Listing
+pub mod Frequent
 pub mod Remaining
 pub mod Spelling

@@ -2,7 +2,9 @@
 
 use crate::fault::InsnFault;
 use crate::insn::Insn;
-use crate::read::first_of;
+use crate::read::{
+    ADVANCE_LOC, DEF_CFA_OFFSET, NOP, OFFSET, RESTORE, first_byte, first_of, short_uleb,
+};
 use sf_bytes::Part;
 
 /// The instructions of a part with their places. After a fault it ends.
@@ -13,9 +15,12 @@ pub struct Insns<'a> {
 
 impl<'a> Insns<'a> {
     ghost use Rattle.std.specs.Prelude.{◌≡◌};
+    ghost use Rattle.std.specs.Option.{option_map};
     ghost use Rattle.sf_bytes.specs.Cursor.{cursor};
+    ghost use Rattle.cfa_insn.specs.Instruction.{advance_loc, def_cfa_offset, nop, offset};
+    ghost use Rattle.cfa_insn.specs.Frequent.{advance_loc_front, def_cfa_offset_front, nop_front, offset_front};
     ghost use Rattle.cfa_insn.specs.Listing.{listing};
-    ghost use Rattle.cfa_insn.specs.Remaining.{items_left};
+    ghost use Rattle.cfa_insn.specs.Remaining.{Takes, TakesIf, bytes_left, items_left, place_left};
 
     /// The instructions of the part's bytes.
     #[inline(always)]
@@ -23,6 +28,68 @@ impl<'a> Insns<'a> {
         ensures { items_left result ≡ listing (cursor part.entry) }
     {
         Insns { part }
+    }
+
+    /// Takes a `DW_CFA_advance_loc`, and gives its advance. None, and nothing is taken, where another instruction is next.
+    #[inline(always)]
+    pub fn next_advance_loc(&mut self) -> Option<u8>
+        ensures is { result ≡ advance_loc_front (bytes_left self.old) }
+        ensures takes { Takes advance_loc self.old self.new result }
+    {
+        let (opcode, rest) = first_byte(self.part)?;
+        if opcode < ADVANCE_LOC || opcode >= OFFSET {
+            return None;
+        }
+        self.part = rest;
+        Some(opcode % 64)
+    }
+
+    /// Takes a `DW_CFA_def_cfa_offset` with an operand of one byte, and gives its place and the offset in bytes. None, and
+    /// nothing is taken, where another instruction or a longer operand is next.
+    #[inline(always)]
+    pub fn next_def_cfa_offset(&mut self) -> Option<(u64, u8)>
+        ensures is { result ≡ option_map (λ n. (place_left self.old, n)) (def_cfa_offset_front (bytes_left self.old)) }
+        ensures takes { Takes (λ x. def_cfa_offset x.1) self.old self.new result }
+    {
+        let place = self.part.place;
+        let (opcode, operand) = first_byte(self.part)?;
+        if opcode != DEF_CFA_OFFSET {
+            return None;
+        }
+        let (offset, rest) = short_uleb(operand)?;
+        self.part = rest;
+        Some((place, offset))
+    }
+
+    /// Takes a `DW_CFA_offset` with an operand of one byte, and gives the register and the factored offset. None, and nothing is
+    /// taken, where another instruction or a longer operand is next.
+    #[inline(always)]
+    pub fn next_offset(&mut self) -> Option<(u8, u8)>
+        ensures is { result ≡ offset_front (bytes_left self.old) }
+        ensures takes { Takes (λ x. offset x.0 x.1) self.old self.new result }
+    {
+        let (opcode, operand) = first_byte(self.part)?;
+        if opcode < OFFSET || opcode >= RESTORE {
+            return None;
+        }
+        let (factored, rest) = short_uleb(operand)?;
+        self.part = rest;
+        Some((opcode % 64, factored))
+    }
+
+    /// Takes a `DW_CFA_nop`, and says whether it did. Nothing is taken where another instruction is next.
+    #[inline(always)]
+    pub fn next_nop(&mut self) -> bool
+        ensures is { result ≡ nop_front (bytes_left self.old) }
+        ensures takes { TakesIf nop self.old self.new result }
+    {
+        match first_byte(self.part) {
+            Some((NOP, rest)) => {
+                self.part = rest;
+                true
+            }
+            _ => false,
+        }
     }
 }
 

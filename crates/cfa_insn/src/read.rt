@@ -1,24 +1,31 @@
 //! One instruction: its opcode and the operands that the table gives for it.
 
-ghost use Rattle.std.specs.Prelude.{◌≡◌};
+ghost use Rattle.std.specs.Prelude.{◌≡◌, ◌<◌, Some, length};
 ghost use Rattle.std.specs.Option.{option_map};
 ghost use Rattle.sf_bytes.specs.Cursor.{Reads, cursor};
 ghost use Rattle.cfa_insn.specs.Instruction.{instruction};
 ghost use Rattle.cfa_insn.specs.Table.{placed, block_at, extended_at, operands_at, instruction_at};
 ghost use Rattle.cfa_insn.specs.Listing.{GivesFirst, listing};
+ghost use Rattle.cfa_insn.specs.Frequent.{GivesByte, GivesShort};
 
 use crate::fault::InsnFault;
 use crate::insn::Insn;
 use sf_bytes::{ByteFault, Part};
 
+/// The opcode of `DW_CFA_nop`.
+pub const NOP: u8 = 0x00;
+
+/// The opcode of `DW_CFA_def_cfa_offset`.
+pub const DEF_CFA_OFFSET: u8 = 0x0e;
+
 /// The first opcode of `DW_CFA_advance_loc`, whose low six bits are the advance.
-const ADVANCE_LOC: u8 = 0x40;
+pub const ADVANCE_LOC: u8 = 0x40;
 
 /// The first opcode of `DW_CFA_offset`, whose low six bits are the register.
-const OFFSET: u8 = 0x80;
+pub const OFFSET: u8 = 0x80;
 
 /// The first opcode of `DW_CFA_restore`, whose low six bits are the register.
-const RESTORE: u8 = 0xc0;
+pub const RESTORE: u8 = 0xc0;
 
 // A block: its length and that many bytes.
 #[tactic(auto, unfolding(crate::specs::Table::block_at))]
@@ -113,6 +120,23 @@ pub fn instruction_of<'a>(part: &mut Part<'a>) -> Result<Insn<'a>, InsnFault>
     }
 }
 
+// The first item of bytes that aren't empty, and the part behind it, which is empty after a fault.
+#[inline(never)]
+fn item_of<'a>(part: Part<'a>) -> (Result<(u64, Insn<'a>), InsnFault>, Part<'a>)
+    requires { 0 < length part.bytes.now }
+    ensures { GivesFirst (Some result) (listing (cursor part.entry)) }
+{
+    let place = part.place;
+    let mut rest = part;
+    match instruction_of(&mut rest) {
+        Ok(insn) => (Ok((place, insn)), rest),
+        Err(fault) => {
+            let (none, _) = part.bytes.split_at(0);
+            (Err(fault), Part::new(none, place))
+        }
+    }
+}
+
 /// The first item of a part and the part behind it, which is empty after a fault. None at the end.
 #[inline(always)]
 pub fn first_of<'a>(part: Part<'a>) -> Option<(Result<(u64, Insn<'a>), InsnFault>, Part<'a>)>
@@ -121,13 +145,27 @@ pub fn first_of<'a>(part: Part<'a>) -> Option<(Result<(u64, Insn<'a>), InsnFault
     if part.is_empty() {
         return None;
     }
-    let place = part.place;
-    let mut rest = part;
-    match instruction_of(&mut rest) {
-        Ok(insn) => Some((Ok((place, insn)), rest)),
-        Err(fault) => {
-            let (none, _) = part.bytes.split_at(0);
-            Some((Err(fault), Part::new(none, place)))
-        }
+    Some(item_of(part))
+}
+
+/// The byte at the front, and the part after it. None at the end.
+#[inline(always)]
+pub fn first_byte<'a>(part: Part<'a>) -> Option<(u8, Part<'a>)>
+    ensures { GivesByte result (cursor part.entry) }
+{
+    let (byte, rest) = part.bytes.split_first()?;
+    Some((*byte, Part::new(rest, part.place + 1)))
+}
+
+/// The unsigned LEB128 number of one byte at the front, and the part after it. None where a longer one or none
+/// is there.
+#[inline(always)]
+pub fn short_uleb<'a>(part: Part<'a>) -> Option<(u8, Part<'a>)>
+    ensures { GivesShort result (cursor part.entry) }
+{
+    let (byte, rest) = first_byte(part)?;
+    if byte >= 128 {
+        return None;
     }
+    Some((byte, rest))
 }

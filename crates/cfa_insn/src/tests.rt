@@ -84,3 +84,35 @@ fn lists_instructions_up_to_the_end_or_the_first_fault(rt: HostRuntime) -> Resul
     );
     Ok(())
 }
+
+#[test]
+fn takes_a_frequent_instruction_or_nothing(rt: HostRuntime) -> Result<(), Fail> {
+    let bytes = [
+        0x7f, 0x0e, 0x7f, 0xbf, 0x02, 0x00, 0xc0, 0x0e, 0x90, 0x01, 0x86, 0x82, 0x00, 0x0e,
+    ];
+    let mut insns = Insns::new(Part::new(&bytes, 100));
+    assert_eq!(rt; insns.next_def_cfa_offset(), None);
+    assert_eq!(rt; insns.next_offset(), None);
+    assert!(rt; !insns.next_nop());
+    assert_eq!(rt; insns.next_advance_loc(), Some(63));
+    assert_eq!(rt; insns.next_advance_loc(), None);
+    assert_eq!(rt; insns.next_def_cfa_offset(), Some((101, 127)));
+    assert_eq!(rt; insns.next_offset(), Some((63, 2)));
+    assert!(rt; insns.next_nop());
+    // Any other is left for `next`, also where an operand has two bytes.
+    for item in [
+        (106, "restore", 0, 0),
+        (107, "def_cfa_offset", 144, 0),
+        (110, "offset", 2, 6),
+        (113, "short", 0, 0),
+        (0, "none", 0, 0),
+    ] {
+        assert_eq!(rt; insns.next_advance_loc(), None);
+        assert_eq!(rt; insns.next_def_cfa_offset(), None);
+        assert_eq!(rt; insns.next_offset(), None);
+        assert!(rt; !insns.next_nop());
+        let found = insns.next().map_or((0, "none", 0, 0), shown);
+        assert_eq!(rt; found, item);
+    }
+    Ok(())
+}
