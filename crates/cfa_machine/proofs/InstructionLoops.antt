@@ -1,14 +1,22 @@
 -- The loops over the instructions: what was given so far, and what the rest gives.
-use Rattle.std.proofs.Common.{◌≡◌, ℕ, ℤ, List, [], ◌∷◌, ◌++◌, Option, Some, None, Result, Ok, Err, refl, subst, sym, ◌∙◌}
+use Rattle.std.proofs.Common.{◌≡◌, ℕ, ℤ, pos, ◌*ℤ◌, List, [], ◌∷◌, ◌++◌, Option, Some, None, Result, Ok, Err, refl, ap, subst, sym, ◌∙◌}
+use Rattle.std.specs.Option.{option_map}
 use Rattle.sf_model.specs.declared.machine.Arch.{Arch}
+use Rattle.cfa_insn.specs.declared.insns.Insns.{Insns}
+use Rattle.cfa_insn.specs.Instruction.{advance_loc, def_cfa_offset, nop, offset}
 use Rattle.cfa_insn.specs.Listing.{Item}
+use Rattle.cfa_insn.specs.Remaining.{items_left}
+use Rattle.cfa_machine.specs.declared.effect.Effect.TheVariants.{Row, Advance}
+use Rattle.cfa_machine.specs.declared.effect.RowEffect.TheVariants.{SetRule, SetCfaOffset}
+use Rattle.cfa_machine.specs.declared.rule.Rule.TheVariants as rule
 use Rattle.cfa_machine.specs.declared.fault.MachineFault.{MachineFault}
 use Rattle.cfa_machine.specs.declared.fault.MachineFault.TheVariants.{CieInstruction, StateEmpty, StateDepth, NoCfaRegister, Insn, NoMemory}
 use Rattle.cfa_machine.specs.declared.columns.Columns.{Columns}
 use Rattle.cfa_machine.specs.declared.machine.FunctionContext.{FunctionContext}
 use Rattle.cfa_machine.specs.declared.row.DwRow.{DwRow}
+use Rattle.cfa_machine.specs.Effects.{effect_by}
 use Rattle.cfa_machine.specs.Left.{Follows, behind_row}
-use Rattle.cfa_machine.specs.Pass.{◌>>=◌, State, cie_item_step, initial_columns, ended, item_step, rows_from, in_front, last_row, Fails}
+use Rattle.cfa_machine.specs.Pass.{◌>>=◌, State, cie_item_step, initial_columns, ended, step, item_step, rows_from, in_front, last_row, Fails}
 
 -- ---- the common information entry
 pub cie_goes_on : (arch : Arch) (f : ℤ) (c : Columns) (x : Item) (d : Columns) (items rest : List Item) (whole : Result Columns MachineFault) → items ≡ x ∷ rest → Ok d ≡ cie_item_step arch f x c
@@ -56,6 +64,57 @@ unfolding rows_from
 fault_comes k f s x e items rest whole next one so_far =
     let here : rows_from k f s items ≡ Err e = rw (next, one) refl in
     sym so_far ∙ here
+
+-- ---- the instructions that are taken straight from their bytes
+pub advance_row_comes : (k : FunctionContext) (f : ℤ) (s t : State) (place n m start : ℕ) (c : Columns) (found : Option ℕ) (items rest : List Item) (whole : Result (List DwRow) MachineFault) → items ≡ Ok (place, advance_loc n) ∷ rest → m ≡ n → step k place (Advance m) s ≡ Ok (t, ended c found) → found ≡ Some start
+    → rows_from k f s items ≡ whole → whole ≡ behind_row start c (rows_from k f t rest)
+unfolding effect_by
+advance_row_comes k f s t place n m start c found items rest whole next same one there so_far =
+    row_comes k f s (Ok (place, advance_loc n)) t start c found items rest whole next (subst (λ (d : ℕ). step k place (Advance d) s ≡ Ok (t, ended c found)) same one) there so_far
+
+pub advance_no_row_comes : (k : FunctionContext) (f : ℤ) (s t : State) (place n m : ℕ) (c : Columns) (found : Option ℕ) (items rest : List Item) (whole : Result (List DwRow) MachineFault) → items ≡ Ok (place, advance_loc n) ∷ rest → m ≡ n → step k place (Advance m) s ≡ Ok (t, ended c found) → found ≡ None
+    → rows_from k f s items ≡ whole → rows_from k f t rest ≡ whole
+unfolding effect_by
+advance_no_row_comes k f s t place n m c found items rest whole next same one there so_far =
+    no_row_comes k f s (Ok (place, advance_loc n)) t c found items rest whole next (subst (λ (d : ℕ). step k place (Advance d) s ≡ Ok (t, ended c found)) same one) there so_far
+
+pub cfa_moves : (k : FunctionContext) (f : ℤ) (s t : State) (place given n : ℕ) (items rest : List Item) (whole : Result (List DwRow) MachineFault) → items ≡ Ok (place, def_cfa_offset n) ∷ rest → given ≡ place → step k given (Row (SetCfaOffset (pos n))) s ≡ Ok (t, None)
+    → rows_from k f s items ≡ whole → rows_from k f t rest ≡ whole
+unfolding effect_by
+cfa_moves k f s t place given n items rest whole next same one so_far =
+    no_row_comes k f s (Ok (place, def_cfa_offset n)) t t.columns None items rest whole next (subst (λ (p : ℕ). step k p (Row (SetCfaOffset (pos n))) s ≡ Ok (t, None)) same one) refl so_far
+
+pub cfa_fault_comes : (k : FunctionContext) (f : ℤ) (s : State) (place given n : ℕ) (e : MachineFault) (items rest : List Item) (whole : Result (List DwRow) MachineFault) → items ≡ Ok (place, def_cfa_offset n) ∷ rest → given ≡ place → step k given (Row (SetCfaOffset (pos n))) s ≡ Err e
+    → rows_from k f s items ≡ whole → whole ≡ Err e
+unfolding effect_by
+cfa_fault_comes k f s place given n e items rest whole next same one so_far =
+    fault_comes k f s (Ok (place, def_cfa_offset n)) e items rest whole next (subst (λ (p : ℕ). step k p (Row (SetCfaOffset (pos n))) s ≡ Err e) same one) so_far
+
+pub register_saved : (k : FunctionContext) (f : ℤ) (s t : State) (place r n : ℕ) (items rest : List Item) (whole : Result (List DwRow) MachineFault) → items ≡ Ok (place, offset r n) ∷ rest → step k place (Row (SetRule r (rule.Offset (pos n *ℤ f)))) s ≡ Ok (t, None)
+    → rows_from k f s items ≡ whole → rows_from k f t rest ≡ whole
+unfolding effect_by
+register_saved k f s t place r n items rest whole next one so_far = no_row_comes k f s (Ok (place, offset r n)) t t.columns None items rest whole next one refl so_far
+
+pub nothing_done : (k : FunctionContext) (f : ℤ) (s : State) (place : ℕ) (items rest : List Item) (whole : Result (List DwRow) MachineFault) → items ≡ Ok (place, nop) ∷ rest
+    → rows_from k f s items ≡ whole → rows_from k f s rest ≡ whole
+unfolding effect_by
+nothing_done k f s place items rest whole next so_far = no_row_comes k f s (Ok (place, nop)) s s.columns None items rest whole next refl refl so_far
+
+-- the place that was given is that of the instruction
+abbrev place_or : ℕ → Option (ℕ × ℕ) → ℕ
+place_or place None = place
+place_or place (Some x) = x.0
+
+pub place_given : (place other n : ℕ) (front : Option ℕ) → ◌≡◌ {A = Option (ℕ × ℕ)} (Some (other, n)) (option_map (λ m. (place, m)) front) → other ≡ place
+place_given place other n None e = absurd cc
+place_given place other n (Some m) e = ap (place_or place) e
+
+-- where it wasn't next, nothing was taken
+pub same_left : (a b : Insns) → b ≡ a → items_left a ≡ items_left b
+same_left a b p = ap items_left (sym p)
+
+pub none_taken : (a b c d e : Insns) → b ≡ a → c ≡ b → d ≡ c → e ≡ d → items_left a ≡ items_left e
+none_taken a b c d e p q r s = same_left a e (s ∙ r ∙ q ∙ p)
 
 pub end_comes : (k : FunctionContext) (f : ℤ) (s : State) (items : List Item) (whole : Result (List DwRow) MachineFault) → items ≡ []
     → rows_from k f s items ≡ whole → whole ≡ Ok (in_front (last_row k.size s) [])

@@ -108,6 +108,10 @@ ended c (Some start) = Some (row_from start c)
 abbrev pub Steps : Machine → Result (Option ℕ) MachineFault → Result (State × Option DwRow) MachineFault → Type 0
 Steps new result given = Is (λ start. (state new, ended new.columns start)) result given
 
+-- the same for a call that ends no row
+abbrev pub StepsInRow : {U : Type 0} → Machine → Result U MachineFault → Result (State × Option DwRow) MachineFault → Type 0
+StepsInRow new result given = Is (λ u. (state new, None)) result given
+
 -- a row that ends starts below the size
 abbrev pub StartsBelow : (size : ℕ) → Result (Option ℕ) MachineFault → Type 0
 StartsBelow size (Ok (Some start)) = start < size

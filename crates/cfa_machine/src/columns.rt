@@ -1,7 +1,7 @@
 //! The part of a row that is kept: the CFA, four registers and the sign state.
 
 ghost use Rattle.std.specs.Prelude.{◌≡◌};
-ghost use Rattle.cfa_machine.specs.Columns.{no_columns, with_rule, restored, changed, row_from, Changes};
+ghost use Rattle.cfa_machine.specs.Columns.{no_columns, with_rule, with_cfa_offset, restored, changed, row_from, Changes};
 
 use crate::effect::RowEffect;
 use crate::fault::MachineFault;
@@ -63,9 +63,9 @@ impl Default for Columns {
     }
 }
 
-// Gives a register a rule. Registers that the row doesn't keep change nothing.
+/// Gives a register a rule. Registers that the row doesn't keep change nothing.
 #[inline(always)]
-fn set_rule(arch: Arch, register: u64, rule: Rule, columns: &mut Columns)
+pub fn set_rule(arch: Arch, register: u64, rule: Rule, columns: &mut Columns)
     ensures { columns.new ≡ with_rule arch register rule columns.old }
 {
     if register == stack_pointer_of(arch) {
@@ -101,6 +101,24 @@ pub fn restore_rule(arch: Arch, register: u64, initial: &Columns, columns: &mut 
     }
 }
 
+/// Gives the CFA another offset, in bytes, by the instruction at `place`. On a fault the row is as it was.
+#[inline(always)]
+pub fn set_cfa_offset(place: u64, offset: i128, columns: &mut Columns) -> Result<(), MachineFault>
+    ensures { Changes columns.new result (with_cfa_offset place offset columns.old.cfa columns.old) }
+{
+    match columns.cfa {
+        CfaRule::Reg {
+            register,
+            offset: _,
+        } => {
+            columns.cfa = CfaRule::Reg { register, offset };
+            Ok(())
+        }
+        CfaRule::Missing => Err(MachineFault::NoCfaRegister(place)),
+        CfaRule::Expression => Err(MachineFault::NoCfaRegister(place)),
+    }
+}
+
 /// Changes the row by the instruction at `place`. On a fault it is as it was.
 #[inline(always)]
 pub fn change_row(
@@ -132,17 +150,7 @@ pub fn change_row(
             CfaRule::Missing => Err(MachineFault::NoCfaRegister(place)),
             CfaRule::Expression => Err(MachineFault::NoCfaRegister(place)),
         },
-        RowEffect::SetCfaOffset(offset) => match columns.cfa {
-            CfaRule::Reg {
-                register,
-                offset: _,
-            } => {
-                columns.cfa = CfaRule::Reg { register, offset };
-                Ok(())
-            }
-            CfaRule::Missing => Err(MachineFault::NoCfaRegister(place)),
-            CfaRule::Expression => Err(MachineFault::NoCfaRegister(place)),
-        },
+        RowEffect::SetCfaOffset(offset) => set_cfa_offset(place, offset, columns),
         RowEffect::NegateSign => match arch {
             Arch::Amd64 => Err(MachineFault::Insn(InsnFault::Opcode(place, NEGATE_RA_STATE))),
             Arch::Aarch64 => {

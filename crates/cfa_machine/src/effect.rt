@@ -39,9 +39,9 @@ pub enum Effect {
     Recall,
 }
 
-// An operand times the data alignment factor.
+/// An operand times the data alignment factor.
 #[inline(always)]
-fn scaled(operand: u64, factor: i64) -> i128
+pub fn scaled(operand: u64, factor: i64) -> i128
     ensures { result ≡ pos operand *ℤ factor }
 {
     i128::from(operand) * i128::from(factor)

@@ -1,13 +1,14 @@
 //! The machine that runs instructions: the present row, the remembered rows and the offset.
 
-ghost use Rattle.std.specs.Prelude.{◌≡◌, ◌<◌, ◌&&◌, [], nat_lt, IfSome};
+ghost use Rattle.std.specs.Prelude.{◌≡◌, ◌<◌, ◌&&◌, ◌*ℤ◌, ℕ, [], Ok, nat_lt, pos, IfSome};
 ghost use Rattle.cfa_insn.specs.Listing.{item};
 ghost use Rattle.cfa_machine.specs.Columns.{Changes};
-ghost use Rattle.cfa_machine.specs.Pass.{state, cie_step, cie_item_step, step, item_step, ended, last_row, advanced, with_remembered, with_recalled, StartsBelow, Steps, Remembers, Recalls, latest_first};
+ghost use Rattle.cfa_machine.specs.Pass.{state, cie_step, cie_item_step, step, item_step, ended, last_row, advanced, with_remembered, with_recalled, StartsBelow, Steps, StepsInRow, Remembers, Recalls, latest_first};
 
-use crate::columns::{Columns, change_row, restore_rule};
-use crate::effect::{Effect, effect_of};
+use crate::columns::{Columns, change_row, restore_rule, set_cfa_offset, set_rule};
+use crate::effect::{Effect, RowEffect, effect_of, scaled};
 use crate::fault::MachineFault;
+use crate::rule::Rule;
 use arrayvec::ArrayVec;
 use cfa_insn::{Insn, InsnFault};
 use sf_model::Arch;
@@ -143,9 +144,43 @@ impl Machine {
         self.remembered.clear();
     }
 
-    /// Runs one more item of the instructions, and gives the start of the row that ends there, if one does: its columns are the
+    /// Advances by `delta` code alignments, and gives the start of the row that ends there, if one does: its columns are the
     /// machine's.
     #[inline(always)]
+    pub fn advance(&mut self, setup: &FunctionContext, delta: u32) -> Option<u64>
+        ensures steps { (place : ℕ) → Steps self.new (Ok result) (step setup.now place (Effect.Advance delta) (state self.old)) }
+        ensures below { StartsBelow setup.now.size (Ok result) }
+    {
+        let next = offset_after(setup.code, delta, self.offset);
+        let start = self.offset;
+        self.offset = next;
+        if row_ends(setup.size, next, start) {
+            Some(start)
+        } else {
+            None
+        }
+    }
+
+    /// Saves a register at the CFA plus a factored offset.
+    #[inline(always)]
+    pub fn save_at(&mut self, setup: &FunctionContext, factor: i64, register: u8, factored: u8)
+        ensures { (place : ℕ) → StepsInRow self.new (Ok result) (step setup.now place (Effect.Row (RowEffect.SetRule register (Rule.Offset (pos factored *ℤ factor)))) (state self.old)) }
+    {
+        let rule = Rule::Offset(scaled(u64::from(factored), factor));
+        set_rule(setup.arch, u64::from(register), rule, &mut self.columns);
+    }
+
+    /// Gives the CFA another offset, in bytes, by the instruction at `place`.
+    #[inline(always)]
+    pub fn move_cfa(&mut self, place: u64, bytes: u8) -> Result<(), MachineFault>
+        ensures { (setup : FunctionContext) → StepsInRow self.new result (step setup place (Effect.Row (RowEffect.SetCfaOffset (pos bytes))) (state self.old)) }
+    {
+        set_cfa_offset(place, i128::from(bytes), &mut self.columns)
+    }
+
+    /// Runs one more item of the instructions, and gives the start of the row that ends there, if one does: its columns are the
+    /// machine's.
+    #[inline(never)]
     pub fn step(
         &mut self,
         setup: &FunctionContext,
@@ -177,16 +212,7 @@ impl Machine {
                 change_row(setup.arch, place, change, &mut self.columns)?;
                 Ok(None)
             }
-            Effect::Advance(delta) => {
-                let next = offset_after(setup.code, delta, self.offset);
-                let start = self.offset;
-                self.offset = next;
-                if row_ends(setup.size, next, start) {
-                    Ok(Some(start))
-                } else {
-                    Ok(None)
-                }
-            }
+            Effect::Advance(delta) => Ok(self.advance(setup, delta)),
             Effect::Restore(register) => {
                 restore_rule(setup.arch, register, &setup.initial, &mut self.columns);
                 Ok(None)

@@ -27,7 +27,8 @@ pub struct Runner<'a> {
     over: bool,
 }
 
-// Runs instructions up to the next row, whose start it gives, or to their end.
+// Runs instructions up to the next row, whose start it gives, or to their end. The four kinds that are nearly all of a program's
+// instructions are taken straight from their bytes, any other through its item.
 #[inline(always)]
 fn next_start(
     machine: &mut Machine,
@@ -39,12 +40,29 @@ fn next_start(
     ensures fewer { OnRow result (λ start. length (items_left insns.new) < length (items_left insns.old)) }
     ensures below { OnRow result (λ start. start < setup.now.size) }
 {
-    while let Some(item) = insns.next() {
-        if let Some(start) = machine.step(setup, factor, item)? {
-            return Ok(Some(start));
+    let mut left = *insns;
+    loop {
+        if let Some(delta) = left.next_advance_loc() {
+            if let Some(start) = machine.advance(setup, u32::from(delta)) {
+                *insns = left;
+                return Ok(Some(start));
+            }
+        } else if let Some((place, offset)) = left.next_def_cfa_offset() {
+            machine.move_cfa(place, offset)?;
+        } else if let Some((register, factored)) = left.next_offset() {
+            machine.save_at(setup, factor, register, factored);
+        } else if left.next_nop() {
+            continue;
+        } else if let Some(item) = left.next() {
+            if let Some(start) = machine.step(setup, factor, item)? {
+                *insns = left;
+                return Ok(Some(start));
+            }
+        } else {
+            *insns = left;
+            return Ok(None);
         }
     }
-    Ok(None)
 }
 
 impl<'a> Runner<'a> {

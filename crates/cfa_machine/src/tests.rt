@@ -92,6 +92,15 @@ fn rows_start_where_advances_arrive(rt: HostRuntime) -> Result<(), Fail> {
     ];
     assert_eq!(rt; recalled.as_slice(), expected.as_slice());
     assert!(rt; amd64(rt.alloc(), &cie, &[0x41], 0)?.is_empty());
+    // Operands of two bytes.
+    let far = amd64(
+        rt.alloc(),
+        &cie,
+        &[0x0e, 0x90, 0x01, 0x86, 0x80, 0x01, 0x46],
+        6,
+    )?;
+    let expected = [amd64_row(0, 7, 144, Rule::Offset(-1024))];
+    assert_eq!(rt; far.as_slice(), expected.as_slice());
     Ok(())
 }
 
@@ -134,6 +143,8 @@ fn the_first_instruction_that_cannot_be_run_is_the_fault(rt: HostRuntime) -> Res
         negated,
         Some(MachineFault::Insn(InsnFault::Opcode(200, 0x2d)))
     );
+    let unset = amd64(rt.alloc(), &[], &[0x00, 0x0e, 0x10], 6).err();
+    assert_eq!(rt; unset, Some(MachineFault::NoCfaRegister(201)));
     let moved = aarch64(rt.alloc(), &[0x0d, 0x1d], &[0x01], 6).err();
     assert_eq!(rt; moved, Some(MachineFault::NoCfaRegister(100)));
     let advanced = aarch64(rt.alloc(), &[0x00, 0x41], &[0x01], 6).err();

@@ -3,11 +3,11 @@ use Rattle.cfa_insn.specs.Remaining.{items_left}
 use Rattle.cfa_machine.specs.Pass.{rows_from, state}
 use Rattle.cfa_machine.proofs.runner.next_start.Given as goal
 
-abbrev pub invariant-loop-item : goal.invariant-loop-item
-invariant-loop-item l = record {
-  same : rows_from l.setup l.factor (state l.machine) (items_left l.insns) ≡ rows_from l.setup l.factor (state l.initial.machine) (items_left l.initial.insns);
-  most : length (items_left l.insns) ≤ length (items_left l.initial.insns);
+abbrev pub invariant-loop-delta : goal.invariant-loop-delta
+invariant-loop-delta l = record {
+  same : rows_from l.setup l.factor (state l.machine) (items_left l.left) ≡ rows_from l.setup l.factor (state l.initial.machine) (items_left l.initial.insns);
+  most : length (items_left l.left) ≤ length (items_left l.initial.insns);
 }
 
-abbrev pub decreases-loop-item : goal.decreases-loop-item
-decreases-loop-item l = length (items_left l.insns)
+abbrev pub decreases-loop-delta : goal.decreases-loop-delta
+decreases-loop-delta l = length (items_left l.left)
