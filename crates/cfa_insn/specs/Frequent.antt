@@ -5,6 +5,7 @@ use Rattle.std.specs.Option.{option_map}
 use Rattle.sf_bytes.specs.Cursor.{Cursor, cursor}
 use Rattle.sf_bytes.specs.Standing.{Passes}
 use Rattle.sf_bytes.specs.declared.part.Part.{Part}
+use Rattle.cfa_insn.specs.Opcodes.{DW_CFA_nop, DW_CFA_def_cfa_offset, DW_CFA_advance_loc, DW_CFA_offset, DW_CFA_restore}
 
 -- a number of one byte: a LEB128 number ends at the first byte below 128
 abbrev pub short_front : List ℕ → Option ℕ
@@ -14,22 +15,22 @@ short_front (b ∷ bytes) = if nat_lt b 128 then Some b else None
 -- the advance of a DW_CFA_advance_loc, the opcode's low six bits
 abbrev pub advance_loc_front : List ℕ → Option ℕ
 advance_loc_front [] = None
-advance_loc_front (op ∷ bytes) = if nat_lt op 0x40 then None else if nat_lt op 0x80 then Some (op % 64) else None
+advance_loc_front (op ∷ bytes) = if nat_lt op DW_CFA_advance_loc then None else if nat_lt op DW_CFA_offset then Some (op % 64) else None
 
 -- the offset of a DW_CFA_def_cfa_offset
 abbrev pub def_cfa_offset_front : List ℕ → Option ℕ
 def_cfa_offset_front [] = None
-def_cfa_offset_front (op ∷ bytes) = if op == 0x0e then short_front bytes else None
+def_cfa_offset_front (op ∷ bytes) = if op == DW_CFA_def_cfa_offset then short_front bytes else None
 
 -- the register of a DW_CFA_offset, the opcode's low six bits, and its factored offset
 abbrev pub offset_front : List ℕ → Option (ℕ × ℕ)
 offset_front [] = None
-offset_front (op ∷ bytes) = if nat_lt op 0x80 then None else if nat_lt op 0xc0 then option_map (λ n. (op % 64, n)) (short_front bytes) else None
+offset_front (op ∷ bytes) = if nat_lt op DW_CFA_offset then None else if nat_lt op DW_CFA_restore then option_map (λ n. (op % 64, n)) (short_front bytes) else None
 
 -- whether a DW_CFA_nop is there
 abbrev pub nop_front : List ℕ → Bool
 nop_front [] = false
-nop_front (op ∷ bytes) = op == 0x00
+nop_front (op ∷ bytes) = op == DW_CFA_nop
 
 -- no byte where none is left; else the first one, and a part that has the others
 abbrev pub GivesByte : Option (ℕ × Part) → Cursor → Type 0

@@ -1,3 +1,4 @@
+pub mod Opcodes
 pub mod Instruction
 pub mod Table
 pub mod Listing

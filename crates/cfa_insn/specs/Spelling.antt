@@ -7,6 +7,7 @@ use Rattle.sf_bytes.specs.Standing.{Stands, Number, Bytes}
 use Rattle.cfa_insn.specs.declared.fault.InsnFault.{InsnFault}
 use Rattle.cfa_insn.specs.Instruction.{Instruction, advance_loc, offset, restore, nop, advance_loc_n, offset_extended, restore_extended, undefined, same_value, in_register, remember_state, restore_state, def_cfa, def_cfa_register, def_cfa_offset, def_cfa_expression, expression, offset_extended_sf, def_cfa_sf, def_cfa_offset_sf, val_offset, val_offset_sf, val_expression, negate_ra_state, args_size}
 use Rattle.cfa_insn.specs.Listing.{Item}
+use Rattle.cfa_insn.specs.Opcodes.{DW_CFA_nop, DW_CFA_advance_loc1, DW_CFA_advance_loc2, DW_CFA_advance_loc4, DW_CFA_offset_extended, DW_CFA_restore_extended, DW_CFA_undefined, DW_CFA_same_value, DW_CFA_register, DW_CFA_remember_state, DW_CFA_restore_state, DW_CFA_def_cfa, DW_CFA_def_cfa_register, DW_CFA_def_cfa_offset, DW_CFA_def_cfa_expression, DW_CFA_expression, DW_CFA_offset_extended_sf, DW_CFA_def_cfa_sf, DW_CFA_def_cfa_offset_sf, DW_CFA_val_offset, DW_CFA_val_offset_sf, DW_CFA_val_expression, DW_CFA_AARCH64_negate_ra_state, DW_CFA_GNU_args_size, DW_CFA_advance_loc, DW_CFA_offset, DW_CFA_restore}
 use Rattle.cfa_insn.specs.Table.{instruction_at}
 
 -- a block: its length, and as many bytes
@@ -23,35 +24,35 @@ WithSleb register z from to = (between : Cursor) × Stands Uleb register from be
 abbrev pub WithBlock : (register : ℕ) → (block : List ℕ) → (from to : Cursor) → Type 0
 WithBlock register block from to = (between : Cursor) × Stands Uleb register from between × Block block between to
 
--- the table: each instruction's opcode, and its operands between two cursors; from 0x40 on the low six bits are the first operand
+-- the table: each instruction's opcode, and its operands between two cursors; from DW_CFA_advance_loc on the low six bits are the first operand
 abbrev pub OperandsStand : (opcode : ℕ) → Instruction → (from to : Cursor) → Type 0
-OperandsStand opcode (advance_loc delta) from to = (0x40 ≤ opcode) × (opcode < 0x80) × (delta ≡ opcode % 64) × (to ≡ from)
-OperandsStand opcode (offset register factored) from to = (0x80 ≤ opcode) × (opcode < 0xc0) × (register ≡ opcode % 64) × Stands Uleb factored from to
-OperandsStand opcode (restore register) from to = (0xc0 ≤ opcode) × (register ≡ opcode % 64) × (to ≡ from)
-OperandsStand opcode nop from to = (opcode ≡ 0x00) × (to ≡ from)
+OperandsStand opcode (advance_loc delta) from to = (DW_CFA_advance_loc ≤ opcode) × (opcode < DW_CFA_offset) × (delta ≡ opcode % 64) × (to ≡ from)
+OperandsStand opcode (offset register factored) from to = (DW_CFA_offset ≤ opcode) × (opcode < DW_CFA_restore) × (register ≡ opcode % 64) × Stands Uleb factored from to
+OperandsStand opcode (restore register) from to = (DW_CFA_restore ≤ opcode) × (register ≡ opcode % 64) × (to ≡ from)
+OperandsStand opcode nop from to = (opcode ≡ DW_CFA_nop) × (to ≡ from)
 OperandsStand opcode (advance_loc_n delta) from to =
-    ((opcode ≡ 0x02) × Stands (Number 1) delta from to)
-    ⊎ (((opcode ≡ 0x03) × Stands (Number 2) delta from to) ⊎ ((opcode ≡ 0x04) × Stands (Number 4) delta from to))
-OperandsStand opcode (offset_extended register factored) from to = (opcode ≡ 0x05) × WithUleb register factored from to
-OperandsStand opcode (restore_extended register) from to = (opcode ≡ 0x06) × Stands Uleb register from to
-OperandsStand opcode (undefined register) from to = (opcode ≡ 0x07) × Stands Uleb register from to
-OperandsStand opcode (same_value register) from to = (opcode ≡ 0x08) × Stands Uleb register from to
-OperandsStand opcode (in_register register other) from to = (opcode ≡ 0x09) × WithUleb register other from to
-OperandsStand opcode remember_state from to = (opcode ≡ 0x0a) × (to ≡ from)
-OperandsStand opcode restore_state from to = (opcode ≡ 0x0b) × (to ≡ from)
-OperandsStand opcode (def_cfa register n) from to = (opcode ≡ 0x0c) × WithUleb register n from to
-OperandsStand opcode (def_cfa_register register) from to = (opcode ≡ 0x0d) × Stands Uleb register from to
-OperandsStand opcode (def_cfa_offset n) from to = (opcode ≡ 0x0e) × Stands Uleb n from to
-OperandsStand opcode (def_cfa_expression block) from to = (opcode ≡ 0x0f) × Block block from to
-OperandsStand opcode (expression register block) from to = (opcode ≡ 0x10) × WithBlock register block from to
-OperandsStand opcode (offset_extended_sf register factored) from to = (opcode ≡ 0x11) × WithSleb register factored from to
-OperandsStand opcode (def_cfa_sf register factored) from to = (opcode ≡ 0x12) × WithSleb register factored from to
-OperandsStand opcode (def_cfa_offset_sf factored) from to = (opcode ≡ 0x13) × Stands Sleb factored from to
-OperandsStand opcode (val_offset register factored) from to = (opcode ≡ 0x14) × WithUleb register factored from to
-OperandsStand opcode (val_offset_sf register factored) from to = (opcode ≡ 0x15) × WithSleb register factored from to
-OperandsStand opcode (val_expression register block) from to = (opcode ≡ 0x16) × WithBlock register block from to
-OperandsStand opcode negate_ra_state from to = (opcode ≡ 0x2d) × (to ≡ from)
-OperandsStand opcode (args_size n) from to = (opcode ≡ 0x2e) × Stands Uleb n from to
+    ((opcode ≡ DW_CFA_advance_loc1) × Stands (Number 1) delta from to)
+    ⊎ (((opcode ≡ DW_CFA_advance_loc2) × Stands (Number 2) delta from to) ⊎ ((opcode ≡ DW_CFA_advance_loc4) × Stands (Number 4) delta from to))
+OperandsStand opcode (offset_extended register factored) from to = (opcode ≡ DW_CFA_offset_extended) × WithUleb register factored from to
+OperandsStand opcode (restore_extended register) from to = (opcode ≡ DW_CFA_restore_extended) × Stands Uleb register from to
+OperandsStand opcode (undefined register) from to = (opcode ≡ DW_CFA_undefined) × Stands Uleb register from to
+OperandsStand opcode (same_value register) from to = (opcode ≡ DW_CFA_same_value) × Stands Uleb register from to
+OperandsStand opcode (in_register register other) from to = (opcode ≡ DW_CFA_register) × WithUleb register other from to
+OperandsStand opcode remember_state from to = (opcode ≡ DW_CFA_remember_state) × (to ≡ from)
+OperandsStand opcode restore_state from to = (opcode ≡ DW_CFA_restore_state) × (to ≡ from)
+OperandsStand opcode (def_cfa register n) from to = (opcode ≡ DW_CFA_def_cfa) × WithUleb register n from to
+OperandsStand opcode (def_cfa_register register) from to = (opcode ≡ DW_CFA_def_cfa_register) × Stands Uleb register from to
+OperandsStand opcode (def_cfa_offset n) from to = (opcode ≡ DW_CFA_def_cfa_offset) × Stands Uleb n from to
+OperandsStand opcode (def_cfa_expression block) from to = (opcode ≡ DW_CFA_def_cfa_expression) × Block block from to
+OperandsStand opcode (expression register block) from to = (opcode ≡ DW_CFA_expression) × WithBlock register block from to
+OperandsStand opcode (offset_extended_sf register factored) from to = (opcode ≡ DW_CFA_offset_extended_sf) × WithSleb register factored from to
+OperandsStand opcode (def_cfa_sf register factored) from to = (opcode ≡ DW_CFA_def_cfa_sf) × WithSleb register factored from to
+OperandsStand opcode (def_cfa_offset_sf factored) from to = (opcode ≡ DW_CFA_def_cfa_offset_sf) × Stands Sleb factored from to
+OperandsStand opcode (val_offset register factored) from to = (opcode ≡ DW_CFA_val_offset) × WithUleb register factored from to
+OperandsStand opcode (val_offset_sf register factored) from to = (opcode ≡ DW_CFA_val_offset_sf) × WithSleb register factored from to
+OperandsStand opcode (val_expression register block) from to = (opcode ≡ DW_CFA_val_expression) × WithBlock register block from to
+OperandsStand opcode negate_ra_state from to = (opcode ≡ DW_CFA_AARCH64_negate_ra_state) × (to ≡ from)
+OperandsStand opcode (args_size n) from to = (opcode ≡ DW_CFA_GNU_args_size) × Stands Uleb n from to
 
 -- an instruction between two cursors
 abbrev pub InstructionStands : Instruction → (from to : Cursor) → Type 0

@@ -8,6 +8,7 @@ use Rattle.sf_bytes.specs.declared.fault.ByteFault.{ByteFault}
 use Rattle.sf_bytes.specs.declared.fault.ByteFault.TheVariants as bytes
 use Rattle.cfa_insn.specs.declared.fault.InsnFault.{InsnFault}
 use Rattle.cfa_insn.specs.declared.fault.InsnFault.TheVariants.{Opcode, Short, Leb}
+use Rattle.cfa_insn.specs.Opcodes.{DW_CFA_nop, DW_CFA_advance_loc1, DW_CFA_advance_loc2, DW_CFA_advance_loc4, DW_CFA_offset_extended, DW_CFA_restore_extended, DW_CFA_undefined, DW_CFA_same_value, DW_CFA_register, DW_CFA_remember_state, DW_CFA_restore_state, DW_CFA_def_cfa, DW_CFA_def_cfa_register, DW_CFA_def_cfa_offset, DW_CFA_def_cfa_expression, DW_CFA_expression, DW_CFA_offset_extended_sf, DW_CFA_def_cfa_sf, DW_CFA_def_cfa_offset_sf, DW_CFA_val_offset, DW_CFA_val_offset_sf, DW_CFA_val_expression, DW_CFA_AARCH64_negate_ra_state, DW_CFA_GNU_args_size, DW_CFA_advance_loc, DW_CFA_offset, DW_CFA_restore}
 use Rattle.cfa_insn.specs.Instruction.{Instruction, advance_loc, offset, restore, nop, advance_loc_n, offset_extended, restore_extended, undefined, same_value, in_register, remember_state, restore_state, def_cfa, def_cfa_register, def_cfa_offset, def_cfa_expression, expression, offset_extended_sf, def_cfa_sf, def_cfa_offset_sf, val_offset, val_offset_sf, val_expression, negate_ra_state, args_size}
 
 -- an instruction, or none for an opcode that the table doesn't have
@@ -70,41 +71,41 @@ of_uleb_and_block make at = do
   b ← block_at x.1
   Ok (Some (make x.0 b.0), b.1)
 
--- the opcodes below 0x40, whose operands all follow
+-- the opcodes below DW_CFA_advance_loc, whose operands all follow
 unfoldable pub extended_at : ℕ → Cursor → Found
 extended_at op =
-    if op == 0x00 then plain nop else
-    if op == 0x02 then of_number 1 advance_loc_n else
-    if op == 0x03 then of_number 2 advance_loc_n else
-    if op == 0x04 then of_number 4 advance_loc_n else
-    if op == 0x05 then of_two_ulebs offset_extended else
-    if op == 0x06 then of_uleb restore_extended else
-    if op == 0x07 then of_uleb undefined else
-    if op == 0x08 then of_uleb same_value else
-    if op == 0x09 then of_two_ulebs in_register else
-    if op == 0x0a then plain remember_state else
-    if op == 0x0b then plain restore_state else
-    if op == 0x0c then of_two_ulebs def_cfa else
-    if op == 0x0d then of_uleb def_cfa_register else
-    if op == 0x0e then of_uleb def_cfa_offset else
-    if op == 0x0f then of_block def_cfa_expression else
-    if op == 0x10 then of_uleb_and_block expression else
-    if op == 0x11 then of_uleb_and_sleb offset_extended_sf else
-    if op == 0x12 then of_uleb_and_sleb def_cfa_sf else
-    if op == 0x13 then of_sleb def_cfa_offset_sf else
-    if op == 0x14 then of_two_ulebs val_offset else
-    if op == 0x15 then of_uleb_and_sleb val_offset_sf else
-    if op == 0x16 then of_uleb_and_block val_expression else
-    if op == 0x2d then plain negate_ra_state else
-    if op == 0x2e then of_uleb args_size else
+    if op == DW_CFA_nop then plain nop else
+    if op == DW_CFA_advance_loc1 then of_number 1 advance_loc_n else
+    if op == DW_CFA_advance_loc2 then of_number 2 advance_loc_n else
+    if op == DW_CFA_advance_loc4 then of_number 4 advance_loc_n else
+    if op == DW_CFA_offset_extended then of_two_ulebs offset_extended else
+    if op == DW_CFA_restore_extended then of_uleb restore_extended else
+    if op == DW_CFA_undefined then of_uleb undefined else
+    if op == DW_CFA_same_value then of_uleb same_value else
+    if op == DW_CFA_register then of_two_ulebs in_register else
+    if op == DW_CFA_remember_state then plain remember_state else
+    if op == DW_CFA_restore_state then plain restore_state else
+    if op == DW_CFA_def_cfa then of_two_ulebs def_cfa else
+    if op == DW_CFA_def_cfa_register then of_uleb def_cfa_register else
+    if op == DW_CFA_def_cfa_offset then of_uleb def_cfa_offset else
+    if op == DW_CFA_def_cfa_expression then of_block def_cfa_expression else
+    if op == DW_CFA_expression then of_uleb_and_block expression else
+    if op == DW_CFA_offset_extended_sf then of_uleb_and_sleb offset_extended_sf else
+    if op == DW_CFA_def_cfa_sf then of_uleb_and_sleb def_cfa_sf else
+    if op == DW_CFA_def_cfa_offset_sf then of_sleb def_cfa_offset_sf else
+    if op == DW_CFA_val_offset then of_two_ulebs val_offset else
+    if op == DW_CFA_val_offset_sf then of_uleb_and_sleb val_offset_sf else
+    if op == DW_CFA_val_expression then of_uleb_and_block val_expression else
+    if op == DW_CFA_AARCH64_negate_ra_state then plain negate_ra_state else
+    if op == DW_CFA_GNU_args_size then of_uleb args_size else
     (λ at. Ok (None, at))
 
--- the operands of an opcode: from 0x40 on its low six bits are the first one
+-- the operands of an opcode: from DW_CFA_advance_loc on its low six bits are the first one
 unfoldable pub operands_at : ℕ → Cursor → Found
 operands_at op =
-    if nat_lt op 0x40 then extended_at op else
-    if nat_lt op 0x80 then plain (advance_loc (op % 64)) else
-    if nat_lt op 0xc0 then of_uleb (offset (op % 64)) else
+    if nat_lt op DW_CFA_advance_loc then extended_at op else
+    if nat_lt op DW_CFA_offset then plain (advance_loc (op % 64)) else
+    if nat_lt op DW_CFA_restore then of_uleb (offset (op % 64)) else
     plain (restore (op % 64))
 
 -- every fault of an instruction carries the instruction's own place

@@ -13,7 +13,7 @@ pub enum Insn<'a> {
     Restore(u8),
     /// `DW_CFA_nop`.
     Nop,
-    /// `DW_CFA_advance_loc1`, `2` and `4`: the advance.
+    /// `DW_CFA_advance_loc1`, `DW_CFA_advance_loc2`, `DW_CFA_advance_loc4`: the advance.
     AdvanceLocN(u32),
     /// `DW_CFA_offset_extended`: a register and a factored offset.
     OffsetExtended(u64, u64),

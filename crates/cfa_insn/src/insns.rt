@@ -2,9 +2,10 @@
 
 use crate::fault::InsnFault;
 use crate::insn::Insn;
-use crate::read::{
-    ADVANCE_LOC, DEF_CFA_OFFSET, NOP, OFFSET, RESTORE, first_byte, first_of, short_uleb,
+use crate::opcodes::{
+    DW_CFA_ADVANCE_LOC, DW_CFA_DEF_CFA_OFFSET, DW_CFA_NOP, DW_CFA_OFFSET, DW_CFA_RESTORE,
 };
+use crate::read::{first_byte, first_of, short_uleb};
 use sf_bytes::Part;
 
 /// The instructions of a part with their places. After a fault it ends.
@@ -37,7 +38,7 @@ impl<'a> Insns<'a> {
         ensures takes { Takes advance_loc self.old self.new result }
     {
         let (opcode, rest) = first_byte(self.part)?;
-        if opcode < ADVANCE_LOC || opcode >= OFFSET {
+        if opcode < DW_CFA_ADVANCE_LOC || opcode >= DW_CFA_OFFSET {
             return None;
         }
         self.part = rest;
@@ -53,7 +54,7 @@ impl<'a> Insns<'a> {
     {
         let place = self.part.place;
         let (opcode, operand) = first_byte(self.part)?;
-        if opcode != DEF_CFA_OFFSET {
+        if opcode != DW_CFA_DEF_CFA_OFFSET {
             return None;
         }
         let (offset, rest) = short_uleb(operand)?;
@@ -69,7 +70,7 @@ impl<'a> Insns<'a> {
         ensures takes { Takes (λ x. offset x.0 x.1) self.old self.new result }
     {
         let (opcode, operand) = first_byte(self.part)?;
-        if opcode < OFFSET || opcode >= RESTORE {
+        if opcode < DW_CFA_OFFSET || opcode >= DW_CFA_RESTORE {
             return None;
         }
         let (factored, rest) = short_uleb(operand)?;
@@ -84,7 +85,7 @@ impl<'a> Insns<'a> {
         ensures takes { TakesIf nop self.old self.new result }
     {
         match first_byte(self.part) {
-            Some((NOP, rest)) => {
+            Some((DW_CFA_NOP, rest)) => {
                 self.part = rest;
                 true
             }

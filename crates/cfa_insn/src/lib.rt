@@ -9,6 +9,7 @@ mod fault;
 mod insn;
 mod insns;
 mod laws;
+pub mod opcodes;
 mod read;
 
 pub use fault::InsnFault;

@@ -10,22 +10,16 @@ ghost use Rattle.cfa_insn.specs.Frequent.{GivesByte, GivesShort};
 
 use crate::fault::InsnFault;
 use crate::insn::Insn;
+use crate::opcodes::{
+    DW_CFA_AARCH64_NEGATE_RA_STATE, DW_CFA_ADVANCE_LOC, DW_CFA_ADVANCE_LOC1, DW_CFA_ADVANCE_LOC2,
+    DW_CFA_ADVANCE_LOC4, DW_CFA_DEF_CFA, DW_CFA_DEF_CFA_EXPRESSION, DW_CFA_DEF_CFA_OFFSET,
+    DW_CFA_DEF_CFA_OFFSET_SF, DW_CFA_DEF_CFA_REGISTER, DW_CFA_DEF_CFA_SF, DW_CFA_EXPRESSION,
+    DW_CFA_GNU_ARGS_SIZE, DW_CFA_NOP, DW_CFA_OFFSET, DW_CFA_OFFSET_EXTENDED,
+    DW_CFA_OFFSET_EXTENDED_SF, DW_CFA_REGISTER, DW_CFA_REMEMBER_STATE, DW_CFA_RESTORE,
+    DW_CFA_RESTORE_EXTENDED, DW_CFA_RESTORE_STATE, DW_CFA_SAME_VALUE, DW_CFA_UNDEFINED,
+    DW_CFA_VAL_EXPRESSION, DW_CFA_VAL_OFFSET, DW_CFA_VAL_OFFSET_SF,
+};
 use sf_bytes::{ByteFault, Part};
-
-/// The opcode of `DW_CFA_nop`.
-pub const NOP: u8 = 0x00;
-
-/// The opcode of `DW_CFA_def_cfa_offset`.
-pub const DEF_CFA_OFFSET: u8 = 0x0e;
-
-/// The first opcode of `DW_CFA_advance_loc`, whose low six bits are the advance.
-pub const ADVANCE_LOC: u8 = 0x40;
-
-/// The first opcode of `DW_CFA_offset`, whose low six bits are the register.
-pub const OFFSET: u8 = 0x80;
-
-/// The first opcode of `DW_CFA_restore`, whose low six bits are the register.
-pub const RESTORE: u8 = 0xc0;
 
 // A block: its length and that many bytes.
 #[tactic(auto, unfolding(crate::specs::Table::block_at))]
@@ -38,37 +32,37 @@ fn block<'a>(part: &mut Part<'a>) -> Result<&'a [u8], ByteFault>
     Ok(run.bytes)
 }
 
-// The instruction of an opcode below `ADVANCE_LOC`, or none for one that the table doesn't have.
+// The instruction of an opcode below `DW_CFA_ADVANCE_LOC`, or none for one that the table doesn't have.
 #[tactic(auto, unfolding(crate::specs::Table::extended_at))]
 #[inline(always)]
 fn extended<'a>(opcode: u8, part: &mut Part<'a>) -> Result<Option<Insn<'a>>, ByteFault>
     ensures { Reads (option_map instruction) part.new result (extended_at opcode (cursor part.old)) }
 {
     match opcode {
-        0x00 => Ok(Some(Insn::Nop)),
-        0x02 => Ok(Some(Insn::AdvanceLocN(u32::from(part.get_u8()?)))),
-        0x03 => Ok(Some(Insn::AdvanceLocN(u32::from(part.get_u16()?)))),
-        0x04 => Ok(Some(Insn::AdvanceLocN(part.get_u32()?))),
-        0x05 => Ok(Some(Insn::OffsetExtended(part.uleb()?, part.uleb()?))),
-        0x06 => Ok(Some(Insn::RestoreExtended(part.uleb()?))),
-        0x07 => Ok(Some(Insn::Undefined(part.uleb()?))),
-        0x08 => Ok(Some(Insn::SameValue(part.uleb()?))),
-        0x09 => Ok(Some(Insn::Register(part.uleb()?, part.uleb()?))),
-        0x0a => Ok(Some(Insn::RememberState)),
-        0x0b => Ok(Some(Insn::RestoreState)),
-        0x0c => Ok(Some(Insn::DefCfa(part.uleb()?, part.uleb()?))),
-        0x0d => Ok(Some(Insn::DefCfaRegister(part.uleb()?))),
-        0x0e => Ok(Some(Insn::DefCfaOffset(part.uleb()?))),
-        0x0f => Ok(Some(Insn::DefCfaExpression(block(part)?))),
-        0x10 => Ok(Some(Insn::Expression(part.uleb()?, block(part)?))),
-        0x11 => Ok(Some(Insn::OffsetExtendedSf(part.uleb()?, part.sleb()?))),
-        0x12 => Ok(Some(Insn::DefCfaSf(part.uleb()?, part.sleb()?))),
-        0x13 => Ok(Some(Insn::DefCfaOffsetSf(part.sleb()?))),
-        0x14 => Ok(Some(Insn::ValOffset(part.uleb()?, part.uleb()?))),
-        0x15 => Ok(Some(Insn::ValOffsetSf(part.uleb()?, part.sleb()?))),
-        0x16 => Ok(Some(Insn::ValExpression(part.uleb()?, block(part)?))),
-        0x2d => Ok(Some(Insn::NegateRaState)),
-        0x2e => Ok(Some(Insn::GnuArgsSize(part.uleb()?))),
+        DW_CFA_NOP => Ok(Some(Insn::Nop)),
+        DW_CFA_ADVANCE_LOC1 => Ok(Some(Insn::AdvanceLocN(u32::from(part.get_u8()?)))),
+        DW_CFA_ADVANCE_LOC2 => Ok(Some(Insn::AdvanceLocN(u32::from(part.get_u16()?)))),
+        DW_CFA_ADVANCE_LOC4 => Ok(Some(Insn::AdvanceLocN(part.get_u32()?))),
+        DW_CFA_OFFSET_EXTENDED => Ok(Some(Insn::OffsetExtended(part.uleb()?, part.uleb()?))),
+        DW_CFA_RESTORE_EXTENDED => Ok(Some(Insn::RestoreExtended(part.uleb()?))),
+        DW_CFA_UNDEFINED => Ok(Some(Insn::Undefined(part.uleb()?))),
+        DW_CFA_SAME_VALUE => Ok(Some(Insn::SameValue(part.uleb()?))),
+        DW_CFA_REGISTER => Ok(Some(Insn::Register(part.uleb()?, part.uleb()?))),
+        DW_CFA_REMEMBER_STATE => Ok(Some(Insn::RememberState)),
+        DW_CFA_RESTORE_STATE => Ok(Some(Insn::RestoreState)),
+        DW_CFA_DEF_CFA => Ok(Some(Insn::DefCfa(part.uleb()?, part.uleb()?))),
+        DW_CFA_DEF_CFA_REGISTER => Ok(Some(Insn::DefCfaRegister(part.uleb()?))),
+        DW_CFA_DEF_CFA_OFFSET => Ok(Some(Insn::DefCfaOffset(part.uleb()?))),
+        DW_CFA_DEF_CFA_EXPRESSION => Ok(Some(Insn::DefCfaExpression(block(part)?))),
+        DW_CFA_EXPRESSION => Ok(Some(Insn::Expression(part.uleb()?, block(part)?))),
+        DW_CFA_OFFSET_EXTENDED_SF => Ok(Some(Insn::OffsetExtendedSf(part.uleb()?, part.sleb()?))),
+        DW_CFA_DEF_CFA_SF => Ok(Some(Insn::DefCfaSf(part.uleb()?, part.sleb()?))),
+        DW_CFA_DEF_CFA_OFFSET_SF => Ok(Some(Insn::DefCfaOffsetSf(part.sleb()?))),
+        DW_CFA_VAL_OFFSET => Ok(Some(Insn::ValOffset(part.uleb()?, part.uleb()?))),
+        DW_CFA_VAL_OFFSET_SF => Ok(Some(Insn::ValOffsetSf(part.uleb()?, part.sleb()?))),
+        DW_CFA_VAL_EXPRESSION => Ok(Some(Insn::ValExpression(part.uleb()?, block(part)?))),
+        DW_CFA_AARCH64_NEGATE_RA_STATE => Ok(Some(Insn::NegateRaState)),
+        DW_CFA_GNU_ARGS_SIZE => Ok(Some(Insn::GnuArgsSize(part.uleb()?))),
         _ => Ok(None),
     }
 }
@@ -79,13 +73,13 @@ fn extended<'a>(opcode: u8, part: &mut Part<'a>) -> Result<Option<Insn<'a>>, Byt
 fn operands<'a>(opcode: u8, part: &mut Part<'a>) -> Result<Option<Insn<'a>>, ByteFault>
     ensures { Reads (option_map instruction) part.new result (operands_at opcode (cursor part.old)) }
 {
-    if opcode < ADVANCE_LOC {
+    if opcode < DW_CFA_ADVANCE_LOC {
         return extended(opcode, part);
     }
-    if opcode < OFFSET {
+    if opcode < DW_CFA_OFFSET {
         return Ok(Some(Insn::AdvanceLoc(opcode % 64)));
     }
-    if opcode < RESTORE {
+    if opcode < DW_CFA_RESTORE {
         return Ok(Some(Insn::Offset(opcode % 64, part.uleb()?)));
     }
     Ok(Some(Insn::Restore(opcode % 64)))

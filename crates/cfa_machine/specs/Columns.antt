@@ -4,6 +4,7 @@ use Rattle.sf_bytes.specs.Answers.{Is}
 use Rattle.sf_model.specs.declared.machine.Arch.{Arch}
 use Rattle.sf_model.specs.declared.machine.Arch.TheVariants.{Amd64, Aarch64}
 use Rattle.cfa_insn.specs.declared.fault.InsnFault.TheVariants.{Opcode}
+use Rattle.cfa_insn.specs.Opcodes.{DW_CFA_AARCH64_negate_ra_state}
 use Rattle.cfa_machine.specs.declared.rule.CfaRule.{CfaRule}
 use Rattle.cfa_machine.specs.declared.rule.CfaRule.TheVariants as cfa
 use Rattle.cfa_machine.specs.declared.rule.Rule.{Rule}
@@ -54,7 +55,7 @@ with_cfa_offset place n cfa.Expression c = Err (NoCfaRegister place)
 
 -- AMD64 has no sign state
 abbrev pub with_sign_inverted : Arch → ℕ → Columns → Result Columns MachineFault
-with_sign_inverted Amd64 place c = Err (Insn (Opcode place 0x2d))
+with_sign_inverted Amd64 place c = Err (Insn (Opcode place DW_CFA_AARCH64_negate_ra_state))
 with_sign_inverted Aarch64 place c = Ok (record c { signed = not c.signed })
 
 -- a change by the instruction at a place, or its fault

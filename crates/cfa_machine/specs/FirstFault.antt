@@ -5,6 +5,7 @@ use Rattle.sf_model.specs.declared.machine.Arch.{Arch}
 use Rattle.sf_model.specs.declared.machine.Arch.TheVariants.{Amd64, Aarch64}
 use Rattle.cfa_insn.specs.Listing.{Item}
 use Rattle.cfa_insn.specs.declared.fault.InsnFault.TheVariants.{Opcode}
+use Rattle.cfa_insn.specs.Opcodes.{DW_CFA_AARCH64_negate_ra_state}
 use Rattle.cfa_machine.specs.declared.rule.CfaRule.{CfaRule}
 use Rattle.cfa_machine.specs.declared.rule.CfaRule.TheVariants as cfa
 use Rattle.cfa_machine.specs.declared.effect.RowEffect.{RowEffect}
@@ -28,7 +29,7 @@ unless_register place cfa.Expression = Some (NoCfaRegister place)
 
 -- AMD64 has no sign state
 abbrev pub unless_signs : Arch → ℕ → Option MachineFault
-unless_signs Amd64 place = Some (Insn (Opcode place 0x2d))
+unless_signs Amd64 place = Some (Insn (Opcode place DW_CFA_AARCH64_negate_ra_state))
 unless_signs Aarch64 place = None
 
 abbrev pub change_fault : Arch → ℕ → RowEffect → CfaRule → Option MachineFault

@@ -9,10 +9,8 @@ use crate::registers::{frame_pointer_of, is_sign_state_of, return_address_of, st
 use crate::row::DwRow;
 use crate::rule::{CfaRule, Rule};
 use cfa_insn::InsnFault;
+use cfa_insn::opcodes::DW_CFA_AARCH64_NEGATE_RA_STATE;
 use sf_model::Arch;
-
-/// The opcode of `DW_CFA_AARCH64_negate_ra_state`.
-const NEGATE_RA_STATE: u8 = 0x2d;
 
 /// A row without its start.
 #[derive(Clone, Copy, Debug)]
@@ -152,7 +150,10 @@ pub fn change_row(
         },
         RowEffect::SetCfaOffset(offset) => set_cfa_offset(place, offset, columns),
         RowEffect::NegateSign => match arch {
-            Arch::Amd64 => Err(MachineFault::Insn(InsnFault::Opcode(place, NEGATE_RA_STATE))),
+            Arch::Amd64 => Err(MachineFault::Insn(InsnFault::Opcode(
+                place,
+                DW_CFA_AARCH64_NEGATE_RA_STATE,
+            ))),
             Arch::Aarch64 => {
                 columns.signed = !columns.signed;
                 Ok(())

@@ -1,4 +1,4 @@
-//! What an instruction does, in ten kinds: only this file knows the table of 25 instructions.
+//! What an instruction does, in ten kinds.
 
 ghost use Rattle.std.specs.Prelude.{◌≡◌, pos, ◌*ℤ◌};
 ghost use Rattle.cfa_insn.specs.Instruction.{instruction};
