@@ -43,15 +43,12 @@ same_self a = record { arch = refl; kept = refl; omitted = refl; says = refl }
 pub none_yet : (section dwarf : Answers) (from : ℕ) → Compares section dwarf from from None
 none_yet section dwarf from = λ pc low high. absurd (omega (arith, low, high))
 
--- two runs, one after the other
-pub both_compare : (section dwarf : Answers) (from mid end : ℕ) (d : Option Difference) → from ≤ mid → mid ≤ end → Compares section dwarf from mid None → Compares section dwarf mid end d → Compares section dwarf from end d
-both_compare section dwarf from mid end None le up h g = λ pc low high. elim (cases_lt pc mid) [
-  | inl before ↦ h pc low before
-  | inr not_before ↦ g pc (omega (arith, not_before)) high
-]
-both_compare section dwarf from mid end (Some d) le up h g = record {
+-- they differ in a part
+pub differ_in : (section dwarf : Answers) (from mid next end : ℕ) (d : Option Difference) → is_some d ≡ true → from ≤ mid → next ≤ end → Compares section dwarf from mid None → Compares section dwarf mid next d → Compares section dwarf from end d
+differ_in section dwarf from mid next end None t le up h g = cc
+differ_in section dwarf from mid next end (Some d) t le up h g = record {
   from_here = omega (arith, le, g.from_here);
-  below = g.below;
+  below = omega (arith, g.below, up);
   section_says = g.section_says;
   dwarf_says = g.dwarf_says;
   differ = g.differ;
@@ -60,6 +57,14 @@ both_compare section dwarf from mid end (Some d) le up h g = record {
     | inr not_earlier ↦ g.before pc (omega (arith, not_earlier)) high
   ];
 }
+
+-- two runs, one after the other
+pub both_compare : (section dwarf : Answers) (from mid end : ℕ) (d : Option Difference) → from ≤ mid → mid ≤ end → Compares section dwarf from mid None → Compares section dwarf mid end d → Compares section dwarf from end d
+both_compare section dwarf from mid end None le up h g = λ pc low high. elim (cases_lt pc mid) [
+  | inl before ↦ h pc low before
+  | inr not_before ↦ g pc (omega (arith, not_before)) high
+]
+both_compare section dwarf from mid end (Some d) le up h g = differ_in section dwarf from mid end end (Some d) refl le (omega arith) h g
 
 -- an address at which they differ
 pub differ_here : (section dwarf : Answers) (from end pc : ℕ) (ours : Content) (theirs : Option Content) → from ≤ pc → pc < end → Compares section dwarf from pc None → content_said (section pc) ≡ Some ours → content_said (dwarf pc) ≡ theirs → (Agree (section pc) (dwarf pc) → ⊥)
@@ -183,21 +188,6 @@ row_says f place from end row plain rise lt is from_is end_is some = λ pc low h
 -- ---- results
 pub known_some : (arch : Arch) (answers : Answers) (pc : ℕ) (result : Option Known) (known : Known) → result ≡ Some known → Knows arch answers pc result → IsKnown arch answers pc known
 known_some arch answers pc result known is h = subst (Knows arch answers pc) is h
-
--- they differ in a part
-pub differ_in : (section dwarf : Answers) (from mid next end : ℕ) (d : Option Difference) → is_some d ≡ true → from ≤ mid → next ≤ end → Compares section dwarf from mid None → Compares section dwarf mid next d → Compares section dwarf from end d
-differ_in section dwarf from mid next end None t le up h g = cc
-differ_in section dwarf from mid next end (Some d) t le up h g = record {
-  from_here = omega (arith, le, g.from_here);
-  below = omega (arith, g.below, up);
-  section_says = g.section_says;
-  dwarf_says = g.dwarf_says;
-  differ = g.differ;
-  before = λ pc low high. elim (cases_lt pc mid) [
-    | inl earlier ↦ h pc low earlier
-    | inr not_earlier ↦ g.before pc (omega (arith, not_earlier)) high
-  ];
-}
 
 -- the run of a row, as the function says it
 run_of : (f : Func) (said : Said) (asked dwarf : Answers) (place from end first next : ℕ) (row : Row) (d : Option Difference) → asked ≡ dwarf → f.shape ≡ Plain → RowsRise f.rows → place < length f.rows → row ≡ get_or f.rows place row
