@@ -3,6 +3,10 @@
 //! [`Insns`] is an iterator over a part of a frame description entry or common information entry. It
 //! gives each instruction with its place, up to the end or up to the first that can't be read, and then
 //! that fault once. Expression blocks are lent and never evaluated. No call allocates.
+//!
+//! The four kinds that are nearly all of a program's instructions can be taken straight from their bytes, as plain numbers:
+//! [`Insns::next_advance_loc`], [`Insns::next_def_cfa_offset`], [`Insns::next_offset`] and [`Insns::next_nop`]. Each takes
+//! nothing where another instruction is next, which [`Insns::next`] then gives.
 #![tactic(auto)]
 
 mod fault;
