@@ -3,27 +3,38 @@
 /// How many values a format has: it is the low four bits.
 pub const FORMATS: u8 = 16;
 
+/// A pointer of eight bytes, applied to nothing.
 pub const ABSPTR: u8 = 0x00;
 
+/// An unsigned LEB128 number.
 pub const ULEB128: u8 = 0x01;
 
+/// Two bytes without sign.
 pub const UDATA2: u8 = 0x02;
 
+/// Four bytes without sign.
 pub const UDATA4: u8 = 0x03;
 
+/// Eight bytes without sign.
 pub const UDATA8: u8 = 0x04;
 
+/// A signed LEB128 number.
 pub const SLEB128: u8 = 0x09;
 
+/// Two signed bytes.
 pub const SDATA2: u8 = 0x0a;
 
+/// Four signed bytes.
 pub const SDATA4: u8 = 0x0b;
 
+/// Eight signed bytes.
 pub const SDATA8: u8 = 0x0c;
 
 /// The application from the field's own address, shifted down by the format's four bits.
 pub const PCREL: u8 = 1;
+
 /// The application aligned, shifted down by the format's four bits.
 pub const ALIGNED: u8 = 5;
+
 /// How many values an application has: the indirect bit stands above its three bits.
 pub const APPLICATIONS: u8 = 8;

@@ -8,7 +8,7 @@
 
 mod encoding;
 mod fault;
-mod layout;
+pub mod layout;
 mod passing;
 
 pub use encoding::{size, usable, value, width};

@@ -8,8 +8,9 @@ ghost use Rattle.eh_records.specs.Step.{Answers, reader_cursor, pointer_view};
 
 use crate::augmentation::{Augmentation, PointerForm};
 use crate::fault::RecordFault;
-use crate::layout::{ABSPTR, ABSPTR_LEN, OMIT};
+use crate::layout::{ABSPTR_LEN, OMIT};
 use crate::reader::Reader;
+use eh_pointer::layout::ABSPTR;
 use eh_pointer::{PointerFault, skip, usable, width};
 use sf_bytes::Field;
 use sf_model::Key;

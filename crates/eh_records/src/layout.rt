@@ -8,7 +8,5 @@ pub const WORD_LEN: u32 = 4;
 pub const CIE_ID: u32 = 0;
 /// The pointer encoding that means no pointer.
 pub const OMIT: u8 = 0xff;
-/// The pointer encoding where the augmentation names none: absolute, eight bytes.
-pub const ABSPTR: u8 = 0x00;
 /// How many bytes an absolute pointer has.
 pub const ABSPTR_LEN: u8 = 8;

@@ -11,7 +11,7 @@ ghost use Rattle.sf_asm.specs.Said.{AllFit, form_content, has_form};
 ghost use Rattle.sf_asm.specs.Sources.{source_function};
 
 use crate::source::Source;
-use cfa_machine::{MachineFault, Runner};
+use cfa_machine::{MachineFault, Runner, return_address_of};
 use sf_base::NoMemory;
 use sf_express::{Piece, pieces_run};
 use sf_model::Arch;
@@ -21,11 +21,7 @@ use std::alloc::Global;
 fn is_sayable(source: &Source<'_>) -> bool
     ensures { result ≡ has_form (source_function source.now) }
 {
-    let column = match source.arch {
-        Arch::Amd64 => 16,
-        Arch::Aarch64 => 30,
-    };
-    source.facts.column == column && !source.facts.signal
+    source.facts.column == return_address_of(source.arch) && !source.facts.signal
 }
 
 /// Starts the runner on an omitted function's own instructions, after those of its common information entry.

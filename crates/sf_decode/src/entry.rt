@@ -8,8 +8,8 @@ use crate::check::require;
 use crate::fault::DecodeFault;
 use crate::header::{arch_of, flags_of, functions_place, row_bytes, rows_place};
 use crate::layout::{
-    COUNTS_FROM_FIELD, ENTRY_ROW_COUNT_PLACE, FUNCTION_ENTRY_LEN, INFO_PLACE, MOST_WIDTH,
-    REPEAT_SIZE_PLACE, ROW_OFFSET_PLACE, SIZE_PLACE, SORTED,
+    COUNTS_FROM_FIELD, ENTRY_ROW_COUNT_PLACE, FUNCTION_ENTRY_LEN, FUNCTION_TYPE, INFO_PLACE, KEY,
+    MOST_WIDTH, REPEAT_SIZE_PLACE, ROW_OFFSET_PLACE, ROW_TYPES, SIZE_PLACE, SORTED,
 };
 use crate::number::{byte_at, u32_at};
 use crate::row::check_rows;
@@ -75,7 +75,7 @@ pub fn start_width_at(bytes: &[u8], place: u64) -> u8
     requires { place < 2 ^ 62 }
     ensures { result ≡ section.start_width_at bytes.now place }
 {
-    info_at(bytes, place) % 16
+    info_at(bytes, place) % ROW_TYPES
 }
 
 // Whether functions are sorted by start.
@@ -116,7 +116,7 @@ fn raised_start(bytes: &[u8], at: u64, place: u64) -> u128
 fn is_repeated(info: u8) -> bool
     ensures { result ≡ spec.is_repeated info }
 {
-    info / 16 % 2 == 1
+    info / FUNCTION_TYPE % 2 == 1
 }
 
 // The key.
@@ -124,7 +124,7 @@ fn is_repeated(info: u8) -> bool
 fn key_of(info: u8) -> Key
     ensures { result ≡ spec.key_in info }
 {
-    if info / 32 % 2 == 0 { Key::A } else { Key::B }
+    if info / KEY % 2 == 0 { Key::A } else { Key::B }
 }
 
 // Whether only bits that have a meaning are set, and the machine has the key.

@@ -25,7 +25,7 @@ mod header;
 mod iter;
 mod kept;
 mod laws;
-mod layout;
+pub mod layout;
 mod notice;
 mod number;
 mod parsing;

@@ -5,7 +5,7 @@ ghost use Rattle.sf_decode.specs.Row as spec;
 
 use crate::check::require;
 use crate::fault::DecodeFault;
-use crate::layout::MOST_WIDTH;
+use crate::layout::{MOST_WIDTH, OFFSET_COUNT, OFFSET_COUNTS, OFFSET_WIDTH, OFFSET_WIDTHS, SIGNED};
 use crate::number::{byte_at, number_len, signed_at, unsigned_at};
 use sf_model::{Arch, Base, Content, Ra, Row};
 
@@ -43,7 +43,7 @@ fn offset_count(info: u8) -> u8
     ensures value { result ≡ spec.offset_count_in info }
     ensures most { result < 16 }
 {
-    info / 2 % 16
+    info / OFFSET_COUNT % OFFSET_COUNTS
 }
 
 // The width of the offsets.
@@ -52,7 +52,7 @@ fn offset_width(info: u8) -> u8
     ensures value { result ≡ spec.offset_width_in info }
     ensures most { result < 4 }
 {
-    info / 32 % 4
+    info / OFFSET_WIDTH % OFFSET_WIDTHS
 }
 
 // Whether the return address is signed.
@@ -60,7 +60,7 @@ fn offset_width(info: u8) -> u8
 fn is_signed(info: u8) -> bool
     ensures { result ≡ spec.is_signed_in info }
 {
-    128 <= info
+    SIGNED <= info
 }
 
 // A row's info byte.

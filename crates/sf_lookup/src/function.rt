@@ -11,13 +11,11 @@ ghost use Rattle.sf_lookup.specs.Starts.{starts_of, NeverFall, IsLastStart};
 use crate::search::last_start;
 use crate::sound::{functions_stand_apart, starts_never_fall};
 use crate::steps::Steps;
+use sf_decode::layout::SORTED;
 use sf_decode::{View, functions_are_numbered};
 use sf_model::FuncHead;
 use std::marker::Brand;
 use std::sync::ledger::{Blank, Ledger};
-
-/// The flag of a section whose functions are sorted by start.
-const SORTED: u8 = 0x1;
 
 /// Whether the function's bytes hold the address.
 #[inline(always)]

@@ -11,6 +11,7 @@ use crate::fault::WriteFault;
 use crate::number::{push_signed_word, push_word};
 use crate::reach::start_field;
 use crate::stored::StoredFunction;
+use sf_decode::layout::{FUNCTION_TYPE, KEY};
 use sf_model::{FuncHead, Key, Shape};
 
 /// Appends the entries of all functions of a section at `at`.
@@ -84,7 +85,7 @@ fn info_of(head: &FuncHead, width: u8) -> u8
         Key::A => 0,
         Key::B => 1,
     };
-    width + 16 * shape + 32 * key
+    width + FUNCTION_TYPE * shape + KEY * key
 }
 
 /// The repeat size, 0 for a plain function.

@@ -3,11 +3,10 @@
 ghost use Rattle.std.specs.Prelude.{◌≡◌, ◌≤◌, ◌^◌, ◌++◌, OnOk};
 ghost use Rattle.sf_write.specs.Section.{preamble, header_bytes};
 
-use crate::layout::{
-    ABI_AARCH64, ABI_AMD64, FIXED_RETURN_AMD64, FLAGS, FUNCTION_ENTRY_LEN, MAGIC, VERSION,
-};
+use crate::layout::{FLAGS, FUNCTION_ENTRY_LEN};
 use crate::number::push_word;
 use crate::totals::Totals;
+use sf_decode::layout::{ABI_AARCH64, ABI_AMD64, FIXED_RETURN_AMD64, MAGIC, VERSION};
 use sf_model::Arch;
 use std::alloc::AllocError;
 

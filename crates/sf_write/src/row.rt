@@ -10,6 +10,7 @@ ghost use Rattle.sf_write.specs.Room.{offsets_fit};
 ghost use Rattle.sf_write.specs.Row.{narrow_row, start_width, rows_bytes, BeginWith};
 
 use crate::number::{push_narrow, push_narrow_signed};
+use sf_decode::layout::{OFFSET_COUNT, OFFSET_WIDTH, SIGNED};
 use sf_model::{Base, Content, Row};
 use sf_sizes::{offset_count, offset_size, row_type, saved_offset};
 use std::alloc::AllocError;
@@ -83,8 +84,8 @@ fn short_content(content: &Content) -> Option<(u8, u8, Option<u8>)>
     let cfa = byte_of(content.cfa)?;
     let flags = flags_of(content);
     match content.fp {
-        None => Some((flags + 2, cfa, None)),
-        Some(fp) => Some((flags + 4, cfa, Some(byte_of(fp)?))),
+        None => Some((flags + OFFSET_COUNT, cfa, None)),
+        Some(fp) => Some((flags + 2 * OFFSET_COUNT, cfa, Some(byte_of(fp)?))),
     }
 }
 
@@ -123,7 +124,7 @@ fn info_of(content: &Content) -> u8
     ensures value { result ≡ row_info_byte (offset_width content.now) content.now }
     ensures fits { IsTrue (holds_row_offsets content.now (offset_width content.now)) }
 {
-    flags_of(content) + 2 * offset_count(content) + 32 * offset_size(content)
+    flags_of(content) + OFFSET_COUNT * offset_count(content) + OFFSET_WIDTH * offset_size(content)
 }
 
 /// The bits of the info byte for the base and for a signed return address.
@@ -135,7 +136,7 @@ fn flags_of(content: &Content) -> u8
         Base::Fp => 0,
         Base::Sp => 1,
     };
-    base + 128 * u8::from(content.signed)
+    base + SIGNED * u8::from(content.signed)
 }
 
 /// Appends a row's offsets in their order: of the canonical frame address, the return address and the
