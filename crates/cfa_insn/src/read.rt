@@ -115,7 +115,7 @@ pub fn instruction_of<'a>(part: &mut Part<'a>) -> Result<Insn<'a>, InsnFault>
 }
 
 // The first item of bytes that aren't empty, and the part behind it, which is empty after a fault.
-#[inline(never)]
+#[inline(always)]
 fn item_of<'a>(part: Part<'a>) -> (Result<(u64, Insn<'a>), InsnFault>, Part<'a>)
     requires { 0 < length part.bytes.now }
     ensures { GivesFirst (Some result) (listing (cursor part.entry)) }

@@ -180,7 +180,7 @@ impl Machine {
 
     /// Runs one more item of the instructions, and gives the start of the row that ends there, if one does: its columns are the
     /// machine's.
-    #[inline(never)]
+    #[inline(always)]
     pub fn step(
         &mut self,
         setup: &FunctionContext,
