@@ -136,10 +136,10 @@ impl Machine {
 
     /// Puts the machine before a function's first instruction again.
     #[inline(always)]
-    pub fn restart(&mut self, initial: Columns)
-        ensures { state self.new ≡ record { columns = initial; remembered = []; offset = 0 } }
+    pub fn restart(&mut self, initial: &Columns)
+        ensures { state self.new ≡ record { columns = initial.now; remembered = []; offset = 0 } }
     {
-        self.columns = initial;
+        self.columns = *initial;
         self.offset = 0;
         self.remembered.clear();
     }

@@ -103,31 +103,30 @@ impl<'a> Runner<'a> {
         ensures limit { OnOk result (limit self.new ≡ size) }
     {
         let initial = initial_row(arch, factor, cie)?;
-        self.start_from(initial, arch, code, factor, fde, size);
+        self.start_from(&initial, arch, code, factor, fde, size);
         Ok(())
     }
 
     /// Begins the rows of a function whose initial row is known, and doesn't run the common information
     /// entry's instructions. [`initial_row`](crate::initial_row) gives that row.
+    #[inline(always)]
     pub fn start_from(
         &mut self,
-        initial: Columns,
+        initial: &Columns,
         arch: Arch,
         code: u64,
         factor: i64,
         fde: Part<'a>,
         size: u64,
     )
-        ensures begins { (cie : List Item) → IsInitial arch factor cie initial → rows_left self.new ≡ rows_by arch code factor size cie (listing (cursor fde.entry)) }
+        ensures begins { (cie : List Item) → IsInitial arch factor cie initial.now → rows_left self.new ≡ rows_by arch code factor size cie (listing (cursor fde.entry)) }
         ensures limit { limit self.new ≡ size }
     {
         self.machine.restart(initial);
-        self.setup = FunctionContext {
-            arch,
-            code,
-            size,
-            initial,
-        };
+        self.setup.arch = arch;
+        self.setup.code = code;
+        self.setup.size = size;
+        self.setup.initial = *initial;
         self.factor = factor;
         self.insns = Insns::new(fde);
         self.over = false;

@@ -10,7 +10,6 @@ use Rattle.cfa_machine.specs.declared.columns.Columns.{Columns}
 use Rattle.cfa_machine.specs.Initial.{IsInitial}
 use Rattle.eh_records.specs.Cie.{CieView}
 use Rattle.eh_records.specs.Named.{standing_cie}
-use Rattle.sf_asm.specs.declared.initials.InitialAt.{InitialAt}
 use Rattle.sf_asm.specs.declared.initials.Initials.{Initials}
 
 -- a row is the one that the instructions of a common information entry give, where there is an entry
@@ -24,5 +23,5 @@ IsInitialAt arch section place row = IsInitialOf arch (standing_cie arch section
 
 -- each row that is kept is that of the entry at its place
 pub record AreInitial (arch : Arch) (section : List ℕ) (initials : Initials) : Type 0 where
-  pub last : ForSome initials.last (λ (k : InitialAt). IsInitialAt arch section k.place k.row)
+  pub last : ForSome initials.last (λ (place : ℕ). IsInitialAt arch section place initials.row)
   pub long : (place : ℕ) → ForSome (get nat_cmp initials.long place) (λ (row : Columns). IsInitialAt arch section place row)

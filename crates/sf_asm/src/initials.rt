@@ -21,20 +21,15 @@ use std::collections::BTreeMap;
 /// How many bytes of instructions an entry has at least whose row is kept for the whole section.
 const LONG: usize = 64;
 
-/// The initial row of the common information entry at a place of the section.
-#[derive(Clone, Copy, Debug)]
-pub struct InitialAt {
-    place: u32,
-    row: Columns,
-}
-
 /// Initial rows of a section's common information entries, so that the instructions of a long one are run once,
 /// whatever the order in which functions name the entries. The instructions of a short one are run again unless
 /// it is the one that was named last.
 #[derive(Drop)]
 pub struct Initials {
-    /// The row of the entry that was named last.
-    last: Option<InitialAt>,
+    /// The place of the entry that was named last.
+    last: Option<u32>,
+    /// Its row.
+    row: Columns,
     /// The rows of the long entries that were named, by place.
     long: BTreeMap<u32, Columns>,
 }
@@ -46,6 +41,7 @@ impl Initials {
     {
         Initials {
             last: None,
+            row: Columns::default(),
             long: BTreeMap::new(alloc),
         }
     }
@@ -70,37 +66,59 @@ impl Initials {
         Ok(row)
     }
 
-    /// The initial row of a common information entry of the section.
-    ///
-    /// # Errors
-    ///
-    /// The first fault of its instructions, and `NoMemory` where memory runs out.
-    #[inline(always)]
-    pub fn row(
+    // Finds the row of an entry that isn't the one that was named last.
+    #[inline(never)]
+    fn find_other(
         &mut self,
         section: &CallFrameSection<'_>,
         cie: &Cie<'_>,
-    ) -> Result<Columns, MachineFault>
+    ) -> Result<(), MachineFault>
         requires are { AreInitial section.now.arch section.now.bytes.now self.old }
         requires named { standing_cie section.now.arch section.now.bytes.now cie.now.place ≡ Some (cie_view cie.now) }
-        ensures row { IfOk result (λ row. IsInitial section.now.arch cie.now.factor (listing (cursor cie.now.insns)) row) }
+        ensures row { OnOk result (IsInitial section.now.arch cie.now.factor (listing (cursor cie.now.insns)) self.new.row) }
         ensures fault { IfErr result (λ fault. (fault ≡ NoMemory) ⊎ (initial_columns section.now.arch cie.now.factor no_columns (listing (cursor cie.now.insns)) ≡ Err fault)) }
         ensures are { OnOk result (AreInitial section.now.arch section.now.bytes.now self.new) }
     {
-        if let Some(last) = &self.last {
-            if last.place == cie.place {
-                return Ok(last.row);
-            }
-        }
         let row = if cie.insns.bytes.len() < LONG {
             initial_row(section.arch, cie.factor, cie.insns)?
         } else {
             self.long_row(section, cie)?
         };
-        self.last = Some(InitialAt {
-            place: cie.place,
-            row,
-        });
-        Ok(row)
+        self.last = Some(cie.place);
+        self.row = row;
+        Ok(())
+    }
+
+    /// Finds the initial row of a common information entry of the section: [`row`](Initials::row) lends it then.
+    ///
+    /// # Errors
+    ///
+    /// The first fault of its instructions, and `NoMemory` where memory runs out.
+    #[inline(always)]
+    pub fn find(
+        &mut self,
+        section: &CallFrameSection<'_>,
+        cie: &Cie<'_>,
+    ) -> Result<(), MachineFault>
+        requires are { AreInitial section.now.arch section.now.bytes.now self.old }
+        requires named { standing_cie section.now.arch section.now.bytes.now cie.now.place ≡ Some (cie_view cie.now) }
+        ensures row { OnOk result (IsInitial section.now.arch cie.now.factor (listing (cursor cie.now.insns)) self.new.row) }
+        ensures fault { IfErr result (λ fault. (fault ≡ NoMemory) ⊎ (initial_columns section.now.arch cie.now.factor no_columns (listing (cursor cie.now.insns)) ≡ Err fault)) }
+        ensures are { OnOk result (AreInitial section.now.arch section.now.bytes.now self.new) }
+    {
+        if let Some(place) = self.last {
+            if place == cie.place {
+                return Ok(());
+            }
+        }
+        self.find_other(section, cie)
+    }
+
+    /// The row that was found last.
+    #[inline(always)]
+    pub fn row(&self) -> &Columns
+        ensures { result.now ≡ self.now.row }
+    {
+        &self.row
     }
 }

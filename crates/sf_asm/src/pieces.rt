@@ -30,7 +30,7 @@ fn begin<'a>(source: &Source<'a>, run: &mut Runner<'a>)
     ensures begun { rows_left run.new ≡ rows_by source.now.arch source.now.code source.now.factor source.now.facts.size (listing (cursor source.now.initial)) (listing (cursor source.now.own)) }
 {
     run.start_from(
-        source.row,
+        &source.row,
         source.arch,
         source.code,
         source.factor,

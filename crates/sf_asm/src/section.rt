@@ -146,9 +146,10 @@ fn begin_rows<'a>(
     ensures limit { OnOk result (limit run.new ≡ size) }
     ensures fault { IfErr result (λ fault. IsRowsFault section.now.number fault (rows_by section.now.arch fde.now.cie.code fde.now.cie.factor size (listing (cursor fde.now.cie.insns)) (listing (cursor fde.now.insns)))) }
 {
-    let cie = fde.cie;
-    match initials.row(section, &cie) {
-        Ok(initial) => {
+    let cie = &fde.cie;
+    match initials.find(section, cie) {
+        Ok(()) => {
+            let initial = initials.row();
             run.start_from(initial, section.arch, cie.code, cie.factor, fde.insns, size);
             Ok(())
         }
@@ -209,19 +210,19 @@ fn lend_source<'a>(
     ensures lent { OnOk result (functions_lent sources.new.items ≡ functions_lent sources.old.items ++ function_by_span section.now.arch fde.now span ∷ []) }
     ensures refused { IfErr result (λ fault. fault ≡ NoMemory) }
 {
-    let cie = fde.cie;
-    let row = match initials.row(section, &cie) {
-        Ok(row) => row,
+    let cie = &fde.cie;
+    match initials.find(section, cie) {
+        Ok(()) => {}
         Err(MachineFault::NoMemory) => return Err(AsmFault::NoMemory),
         Err(_) => unreachable!(),
-    };
+    }
     sources.push(Source {
         arch: section.arch,
         facts: facts_of(fde, span.start, span.size),
         code: cie.code,
         factor: cie.factor,
         initial: cie.insns,
-        row,
+        row: *initials.row(),
         own: fde.insns,
         origin: span.origin,
     })?;
