@@ -1,11 +1,14 @@
 -- The first entry from a cursor on, and those behind it.
-use Rattle.std.proofs.Common.{◌≡◌, ℕ, true, false, List, [], ◌∷◌, Some, None, Result, Ok, Err, refl, sym, ap, ◌∙◌}
-use Rattle.std.specs.Prelude.{◌&&◌, is_ok}
+use Rattle.std.proofs.Common.{◌≡◌, ℕ, true, false, List, [], ◌∷◌, Option, Some, None, Result, Ok, Err, refl, sym, ap, ◌∙◌}
+use Rattle.std.specs.Prelude.{◌&&◌, ◌==◌, is_ok}
 use Rattle.sf_bytes.specs.Cursor.{Cursor}
 use Rattle.sf_model.specs.declared.machine.Arch.{Arch}
 use Rattle.eh_records.specs.declared.fault.RecordFault.{RecordFault}
+use Rattle.eh_records.specs.Cie.{SharedView, cie_of}
+use Rattle.eh_records.specs.Fde.{FdeView, fde_of}
 use Rattle.eh_records.specs.RawRecord.{RawRecordView, raw_record_at}
-use Rattle.eh_records.specs.Section.{EntryView, Cutting, are_read, cuts, entry_here, entry_before, entries_before}
+use Rattle.eh_records.specs.Section.{EntryView, Common, Frame, Cutting, are_read, cuts, entry_here, entry_before, entries_before, frames}
+use Rattle.eh_records.specs.Step.{◌>>=◌}
 use Rattle.eh_records.proofs.Cuts.{starts_with_record, stops, faults}
 
 nil : (arch : Arch) (section : List ℕ) → entries_before arch section [] ≡ []
@@ -53,3 +56,46 @@ is_read arch section at p after e read h f =
 pub read_behind : (arch : Arch) (section : List ℕ) (at : Cursor) (p : RawRecordView) (after : Cursor) (e : EntryView) → are_read arch section (cuts at) ≡ true → raw_record_at at ≡ Ok (Some (p, after)) → entry_here arch section p ≡ Ok e
     → are_read arch section (cuts after) ≡ true
 read_behind arch section at p after e read h f = sym (reads_here arch section at p after (Ok e) h f) ∙ read
+
+-- ---- the next frame description entry
+here_common : (arch : Arch) (section : List ℕ) (p : RawRecordView) → (p.id == 0) ≡ true → entry_here arch section p ≡ (cie_of arch p >>= λ c. Ok (Common c))
+unfolding entry_here
+here_common arch section p h = rw h refl
+
+here_frame : (arch : Arch) (section : List ℕ) (p : RawRecordView) → (p.id == 0) ≡ false → entry_here arch section p ≡ (fde_of arch section p >>= λ f. Ok (Frame f))
+unfolding entry_here
+here_frame arch section p h = rw h refl
+
+common_passed : (arch : Arch) (section : List ℕ) (at : Cursor) (p : RawRecordView) (after : Cursor) (r : Result SharedView RecordFault) → are_read arch section (cuts at) ≡ true → raw_record_at at ≡ Ok (Some (p, after))
+    → entry_here arch section p ≡ (r >>= λ c. Ok (Common c)) → (frames (entries_before arch section (cuts at)) ≡ frames (entries_before arch section (cuts after))) × (are_read arch section (cuts after) ≡ true)
+common_passed arch section at p after (Ok c) read h e = (ap frames (begins arch section at p after (Ok (Common c)) h e), read_behind arch section at p after (Common c) read h e)
+common_passed arch section at p after (Err x) read h e = absurd (is_read arch section at p after x read h e)
+
+-- where each record is read, a common information entry is passed
+pub passes_common : (arch : Arch) (section : List ℕ) (at : Cursor) (p : RawRecordView) (after : Cursor) → are_read arch section (cuts at) ≡ true → raw_record_at at ≡ Ok (Some (p, after)) → (p.id == 0) ≡ true
+    → (frames (entries_before arch section (cuts at)) ≡ frames (entries_before arch section (cuts after))) × (are_read arch section (cuts after) ≡ true)
+passes_common arch section at p after read h common = common_passed arch section at p after (cie_of arch p) read h (here_common arch section p common)
+
+frame_given : (arch : Arch) (section : List ℕ) (at : Cursor) (p : RawRecordView) (after : Cursor) (r : Result FdeView RecordFault) → are_read arch section (cuts at) ≡ true → raw_record_at at ≡ Ok (Some (p, after))
+    → entry_here arch section p ≡ (r >>= λ f. Ok (Frame f)) → is_ok r ≡ true
+frame_given arch section at p after (Ok f) read h e = refl
+frame_given arch section at p after (Err x) read h e = absurd (is_read arch section at p after x read h e)
+
+-- and a frame description entry is read
+pub frame_read : (arch : Arch) (section : List ℕ) (at : Cursor) (p : RawRecordView) (after : Cursor) → are_read arch section (cuts at) ≡ true → raw_record_at at ≡ Ok (Some (p, after)) → (p.id == 0) ≡ false
+    → is_ok (fde_of arch section p) ≡ true
+frame_read arch section at p after read h frame = frame_given arch section at p after (fde_of arch section p) read h (here_frame arch section p frame)
+
+pub passes_frame : (arch : Arch) (section : List ℕ) (at : Cursor) (p : RawRecordView) (after : Cursor) (f : FdeView) → are_read arch section (cuts at) ≡ true → raw_record_at at ≡ Ok (Some (p, after)) → (p.id == 0) ≡ false
+    → fde_of arch section p ≡ Ok f → (frames (entries_before arch section (cuts at)) ≡ f ∷ frames (entries_before arch section (cuts after))) × (are_read arch section (cuts after) ≡ true)
+passes_frame arch section at p after f read h frame is =
+    let e : entry_here arch section p ≡ Ok (Frame f) = here_frame arch section p frame ∙ ap (λ (r : Result FdeView RecordFault). r >>= λ g. Ok (Frame g)) is in
+    (ap frames (begins arch section at p after (Ok (Frame f)) h e), read_behind arch section at p after (Frame f) read h e)
+
+cut_given : (arch : Arch) (section : List ℕ) (at : Cursor) (r : Result (Option (RawRecordView × Cursor)) RecordFault) → are_read arch section (cuts at) ≡ true → raw_record_at at ≡ r → is_ok r ≡ true
+cut_given arch section at (Ok x) read h = refl
+cut_given arch section at (Err e) read h = absurd (is_cut arch section at e read h)
+
+-- and each record is cut off
+pub next_is_cut : (arch : Arch) (section : List ℕ) (at : Cursor) → are_read arch section (cuts at) ≡ true → is_ok (raw_record_at at) ≡ true
+next_is_cut arch section at read = cut_given arch section at (raw_record_at at) read refl

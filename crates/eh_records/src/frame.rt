@@ -79,6 +79,9 @@ pub fn read_fde<'a>(
     ensures kept { IsKept arch section.now kept.new }
 {
     let place = cut.cie_place()?;
-    let shared = CommonAt::read(kept, section, place, arch)?;
-    read_entry(cut, &shared)
+    CommonAt::keep(kept, section, place, arch)?;
+    match kept {
+        Some(common) => read_entry(cut, &common.shared),
+        None => unreachable!(),
+    }
 }

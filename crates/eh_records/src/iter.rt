@@ -1,13 +1,16 @@
 //! The frame description entries of a section, one after the other.
 
-ghost use Rattle.std.specs.Prelude.{◌<◌, ◌^◌, ◌≡◌, is_ok, length, true};
-ghost use Rattle.eh_records.specs.Iter.{GivesFrame};
+ghost use Rattle.std.specs.Prelude.{◌<◌, ◌^◌, ◌≡◌, Ok, OnSome, is_ok, length, true};
+ghost use Rattle.eh_records.specs.Fde.{fde_of, fde_view};
+ghost use Rattle.eh_records.specs.Iter.{GivesCut, GivesFrame};
 ghost use Rattle.eh_records.specs.Kept.{IsKept};
+ghost use Rattle.eh_records.specs.RawRecord.{raw_record_at, raw_record_view};
 ghost use Rattle.eh_records.specs.Section.{are_read, cuts, cuts_of, entries_before, entries_of, frames};
 ghost use Rattle.eh_records.specs.Step.{reader_cursor};
 
-use crate::entry::{Entry, next_entry};
+use crate::cut::{RawRecord, next_record};
 use crate::fde::Fde;
+use crate::frame::read_fde;
 use crate::kept::CommonAt;
 use crate::reader::Reader;
 use sf_model::Arch;
@@ -43,6 +46,44 @@ impl<'a> FdeIter<'a> {
     }
 }
 
+// The next record of what is left, which is passed. None at the section's end.
+#[inline(always)]
+fn next_cut<'a>(rest: &mut Reader<'a>) -> Option<RawRecord<'a>>
+    requires { is_ok (raw_record_at (reader_cursor rest.old)) ≡ true }
+    ensures gives { GivesCut result (reader_cursor rest.old) (reader_cursor rest.new) }
+    ensures shorter { OnSome result (length rest.new.part.bytes.now < length rest.old.part.bytes.now) }
+{
+    let mut after = *rest;
+    match next_record(&mut after) {
+        Ok(Some(cut)) => {
+            *rest = after;
+            Some(cut)
+        }
+        Ok(None) => None,
+        Err(_) => unreachable!(),
+    }
+}
+
+// The frame description entry of a record that is read.
+#[inline(always)]
+fn frame_of<'a>(
+    kept: &mut Option<CommonAt<'a>>,
+    section: &'a [u8],
+    arch: Arch,
+    cut: &RawRecord<'a>,
+) -> Fde<'a>
+    requires small { length section.now < 2 ^ 32 }
+    requires kept { IsKept arch section.now kept.old }
+    requires read { is_ok (fde_of arch section.now (raw_record_view cut.now)) ≡ true }
+    ensures kept { IsKept arch section.now kept.new }
+    ensures is { fde_of arch section.now (raw_record_view cut.now) ≡ Ok (fde_view result) }
+{
+    match read_fde(kept, section, cut, arch) {
+        Ok(fde) => fde,
+        Err(_) => unreachable!(),
+    }
+}
+
 // The next frame description entry of what is left.
 #[inline(always)]
 fn next_fde<'a>(
@@ -58,9 +99,9 @@ fn next_fde<'a>(
     ensures read { are_read arch section.now (cuts (reader_cursor rest.new)) ≡ true }
     ensures gives { GivesFrame result (entries_before arch section.now (cuts (reader_cursor rest.old))) (entries_before arch section.now (cuts (reader_cursor rest.new))) }
 {
-    while let Some(entry) = next_entry(kept, section, arch, rest) {
-        if let Entry::Frame(fde) = entry {
-            return Some(fde);
+    while let Some(cut) = next_cut(rest) {
+        if !cut.is_cie() {
+            return Some(frame_of(kept, section, arch, &cut));
         }
     }
     None

@@ -4,12 +4,12 @@ use Rattle.eh_records.specs.Section.{are_read, cuts, entries_before, frames}
 use Rattle.eh_records.specs.Step.{reader_cursor}
 use Rattle.eh_records.proofs.iter.next_fde.Given as goal
 
-abbrev pub invariant-loop-entry : goal.invariant-loop-entry
-invariant-loop-entry l = record {
+abbrev pub invariant-loop-cut : goal.invariant-loop-cut
+invariant-loop-cut l = record {
   same : frames (entries_before l.arch l.section (cuts (reader_cursor l.rest))) ≡ frames (entries_before l.arch l.section (cuts (reader_cursor l.initial.rest)));
   kept : IsKept l.arch l.section l.kept;
   read : are_read l.arch l.section (cuts (reader_cursor l.rest)) ≡ true;
 }
 
-abbrev pub decreases-loop-entry : goal.decreases-loop-entry
-decreases-loop-entry l = length (entries_before l.arch l.section (cuts (reader_cursor l.rest)))
+abbrev pub decreases-loop-cut : goal.decreases-loop-cut
+decreases-loop-cut l = length l.rest.part.bytes.now
