@@ -7,9 +7,10 @@ use Rattle.std.proofs.lemmas.List.{append-nil, map-append, length-map}
 use Rattle.std.proofs.lemmas.List.Elements.{All-append, All-from_recursion, filter_map-append, recursion_from_All}
 use Rattle.std.proofs.lemmas.List.Sorted.{IsPermutation-map}
 use Rattle.std.proofs.lemmas.List.Sums.{sum_by-cons}
-use Rattle.sf_model.specs.declared.omission.Omission.{Omission}
+use Rattle.sf_model.specs.declared.machine.Arch.{Arch}
 use Rattle.sf_model.specs.declared.omission.Omitted.{Omitted}
 use Rattle.sf_model.specs.declared.omission.Reason.TheVariants.{EmptyRange}
+use Rattle.sf_model.specs.declared.omission.Origin.{Origin}
 use Rattle.sf_model.specs.declared.omission.Span.{Span}
 use Rattle.sf_write.specs.declared.stored.StoredFunction.{StoredFunction}
 use Rattle.sf_write.specs.declared.stored.StoredRows.{StoredRows}
@@ -19,10 +20,9 @@ use Rattle.sf_model.specs.declared.function.Func.{Func}
 use Rattle.sf_asm.specs.declared.entry.Entry.{Entry}
 use Rattle.sf_asm.specs.declared.entry.Outcome.TheVariants as outcome
 use Rattle.sf_asm.specs.declared.entry.Head.{Head}
-use Rattle.sf_asm.specs.declared.entry.StoredOutcome.{StoredOutcome}
-use Rattle.sf_asm.specs.declared.entry.StoredOutcome.TheVariants.{Kept, Left}
-use Rattle.sf_asm.specs.Entry.{kept_of, omitted_of, spans_of}
-use Rattle.sf_asm.specs.Heads.{AreHeads, HasRows, HaveRows, count_in, entries_in, entry_in, left_at, left_of, outcome_in, stored_at, stored_of}
+use Rattle.sf_asm.specs.declared.entry.Head.TheVariants.{Kept, Left}
+use Rattle.sf_asm.specs.Entry.{IsSound, kept_of, omitted_of, spans_of}
+use Rattle.sf_asm.specs.Heads.{AreHeads, HasRows, HaveRows, count_in, entries_in, entry_in, head_span, left_at, left_of, outcome_in, stored_at, stored_of}
 use Rattle.sf_asm.specs.Linking.{InOrder, start_of}
 use Rattle.sf_asm.specs.Order.{entry_rows}
 
@@ -31,36 +31,51 @@ use Rattle.sf_asm.specs.Order.{entry_rows}
 abbrev pub Keeps : (old new : StoredRows) → Type 0
 Keeps old new = (f : StoredFunction) → IsStored old f → IsStored new f × (stored_in new f ≡ stored_in old f)
 
-abbrev pub Has : StoredRows → Head → Type 0
-Has rows h = HasRows rows h.outcome
+has_still : (old new : StoredRows) → Keeps old new → (x : Head) → HasRows old x → HasRows new x
+has_still old new keeps (Kept f origin) h = (keeps f h).0
+has_still old new keeps (Left o) h = tt
 
-has_still : (old new : StoredRows) → Keeps old new → (o : StoredOutcome) → HasRows old o → HasRows new o
-has_still old new keeps (Kept f) h = (keeps f h).0
-has_still old new keeps (Left omission) h = tt
+same_still : (old new : StoredRows) → Keeps old new → (x : Head) → HasRows old x → outcome_in new x ≡ outcome_in old x
+same_still old new keeps (Kept f origin) h = ap outcome.Kept (keeps f h).1
+same_still old new keeps (Left o) h = refl
 
-same_still : (old new : StoredRows) → Keeps old new → (o : StoredOutcome) → HasRows old o → outcome_in new o ≡ outcome_in old o
-same_still old new keeps (Kept f) h = ap outcome.Kept (keeps f h).1
-same_still old new keeps (Left omission) h = refl
-
-have_by_recursion : (old new : StoredRows) → Keeps old new → (heads : List Head) → AllByRecursion (Has old) heads → AllByRecursion (Has new) heads
+have_by_recursion : (old new : StoredRows) → Keeps old new → (heads : List Head) → AllByRecursion (HasRows old) heads → AllByRecursion (HasRows new) heads
 have_by_recursion old new keeps [] h = tt
-have_by_recursion old new keeps (x ∷ xs) h = (has_still old new keeps x.outcome h.0, have_by_recursion old new keeps xs h.1)
+have_by_recursion old new keeps (x ∷ xs) h = (has_still old new keeps x h.0, have_by_recursion old new keeps xs h.1)
 
-same_by_recursion : (old new : StoredRows) → Keeps old new → (heads : List Head) → AllByRecursion (Has old) heads → entries_in new heads ≡ entries_in old heads
+same_by_recursion : (old new : StoredRows) → Keeps old new → (heads : List Head) → AllByRecursion (HasRows old) heads → entries_in new heads ≡ entries_in old heads
 same_by_recursion old new keeps [] h = refl
 same_by_recursion old new keeps (x ∷ xs) h =
-    ap (λ (e : Entry). e ∷ entries_in new xs) (ap (λ o. record { span = x.span; outcome = o }) (same_still old new keeps x.outcome h.0))
+    ap (λ (e : Entry). e ∷ entries_in new xs) (ap (λ o. record { span = head_span x; outcome = o }) (same_still old new keeps x h.0))
     ∙ ap (λ (es : List Entry). entry_in old x ∷ es) (same_by_recursion old new keeps xs h.1)
 
 pub have_still : (old new : StoredRows) (heads : List Head) → Keeps old new → HaveRows old heads → HaveRows new heads
-have_still old new heads keeps h = All-from_recursion (Has new) heads (have_by_recursion old new keeps heads (recursion_from_All (Has old) heads h))
+have_still old new heads keeps h = All-from_recursion (HasRows new) heads (have_by_recursion old new keeps heads (recursion_from_All (HasRows old) heads h))
 
 pub entries_still : (old new : StoredRows) (heads : List Head) → Keeps old new → HaveRows old heads → entries_in new heads ≡ entries_in old heads
-entries_still old new heads keeps h = same_by_recursion old new keeps heads (recursion_from_All (Has old) heads h)
+entries_still old new heads keeps h = same_by_recursion old new keeps heads (recursion_from_All (HasRows old) heads h)
 
 -- ---- one more function
-pub have_more : (rows : StoredRows) (heads : List Head) (x : Head) → HaveRows rows heads → HasRows rows x.outcome → HaveRows rows (heads ++ x ∷ [])
-have_more rows heads x h one = All-append (Has rows) heads (x ∷ []) h (All-from_recursion (Has rows) (x ∷ []) (one, tt))
+stored_start : (rows : StoredRows) (f : StoredFunction) → (stored_in rows f).start ≡ f.head.start
+unfolding stored_in function_by
+stored_start rows f = refl
+
+stored_size : (rows : StoredRows) (f : StoredFunction) → (stored_in rows f).size ≡ f.head.size
+unfolding stored_in function_by
+stored_size rows f = refl
+
+-- a function that is kept has the addresses of what was stored
+pub kept_entry : (rows : StoredRows) (arch : Arch) (f : StoredFunction) (function : Func) (span : Span) → stored_in rows f ≡ function → IsSound arch record { span = span; outcome = outcome.Kept function }
+    → entry_in rows (Kept f span.origin) ≡ record { span = span; outcome = outcome.Kept function }
+kept_entry rows arch f function span is sound =
+    let start : f.head.start ≡ span.start = sym (stored_start rows f) ∙ ap (λ (g : Func). g.start) is ∙ sound.1 in
+    let size : f.head.size ≡ span.size = sym (stored_size rows f) ∙ ap (λ (g : Func). g.size) is ∙ sound.2 in
+    ap (λ (n : ℕ). record { span = record { start = n; size = f.head.size; origin = span.origin }; outcome = outcome.Kept (stored_in rows f) }) start
+    ∙ ap (λ (n : ℕ). record { span = record { start = span.start; size = n; origin = span.origin }; outcome = outcome.Kept (stored_in rows f) }) size
+    ∙ ap (λ (g : Func). record { span = span; outcome = outcome.Kept g }) is
+
+pub have_more : (rows : StoredRows) (heads : List Head) (x : Head) → HaveRows rows heads → HasRows rows x → HaveRows rows (heads ++ x ∷ [])
+have_more rows heads x h one = All-append (HasRows rows) heads (x ∷ []) h (All-from_recursion (HasRows rows) (x ∷ []) (one, tt))
 
 pub entries_more : (rows : StoredRows) (heads : List Head) (x : Head) → entries_in rows (heads ++ x ∷ []) ≡ entries_in rows heads ++ entry_in rows x ∷ []
 entries_more rows heads x = map-append (entry_in rows) heads (x ∷ [])
@@ -75,11 +90,11 @@ filter-map f p [] = refl
 filter-map f p (x ∷ xs) = filter_one f p x xs (p (f x)) refl (filter-map f p xs)
 
 abbrev pub head_start : Head → ℕ
-head_start h = h.span.start
+head_start h = (head_span h).start
 
 -- a head at this address
 abbrev at_start : Span → Head
-at_start span = record { span = span; outcome = Left record { reason = EmptyRange; offset = None } }
+at_start span = Left record { start = span.start; size = span.size; origin = span.origin; omission = record { reason = EmptyRange; offset = None } }
 
 get_or-entries : (rows : StoredRows) (heads : List Head) (i : ℕ) (d : Entry) (e : Head) → i < length heads → get_or (entries_in rows heads) i d ≡ entry_in rows (get_or heads i e)
 get_or-entries rows [] i d e lt = absurd (omega (arith, lt))
@@ -106,20 +121,20 @@ in_order rows old new moved rising stable = record {
 
 -- ---- numbers of rows, and addresses
 abbrev pub head_rows : Head → ℕ
-head_rows h = count_in h.outcome
+head_rows h = count_in h
 
 rows_counted : (rows : StoredRows) (f : StoredFunction) → length (stored_in rows f).rows ≡ f.head.rows
 unfolding stored_in function_by
 rows_counted rows f = rows_length f.arch (range_of rows f) f.width 0 f.head.rows
 
-count_is : (rows : StoredRows) (span : Span) (o : StoredOutcome) → count_in o ≡ entry_rows (entry_in rows record { span = span; outcome = o })
-count_is rows span (Kept f) = sym (rows_counted rows f)
-count_is rows span (Left omission) = refl
+count_is : (rows : StoredRows) (x : Head) → count_in x ≡ entry_rows (entry_in rows x)
+count_is rows (Kept f origin) = sym (rows_counted rows f)
+count_is rows (Left o) = refl
 
 counts_in : (rows : StoredRows) (heads : List Head) → sum_by head_rows heads ≡ sum_by entry_rows (entries_in rows heads)
 counts_in rows [] = refl
 counts_in rows (x ∷ xs) =
-    sum_by-cons head_rows x xs ∙ ap (λ (n : ℕ). n + sum_by head_rows xs) (count_is rows x.span x.outcome) ∙ ap (λ (n : ℕ). entry_rows (entry_in rows x) + n) (counts_in rows xs)
+    sum_by-cons head_rows x xs ∙ ap (λ (n : ℕ). n + sum_by head_rows xs) (count_is rows x) ∙ ap (λ (n : ℕ). entry_rows (entry_in rows x) + n) (counts_in rows xs)
     ∙ sym (sum_by-cons entry_rows (entry_in rows x) (entries_in rows xs))
 
 pub counts_are : (heads : List Head) (entries : List Entry) → AreHeads heads entries → sum_by head_rows heads ≡ sum_by entry_rows entries
@@ -129,62 +144,53 @@ pub lengths_are : (heads : List Head) (entries : List Entry) → AreHeads heads 
 lengths_are heads entries h = sym (length-map heads (entry_in h.rows)) ∙ ap length (sym h.are)
 
 abbrev pub head_spans : List Head → List Span
-head_spans heads = map (λ (h : Head). h.span) heads
+head_spans heads = map head_span heads
 
 spans_in : (rows : StoredRows) (heads : List Head) → head_spans heads ≡ spans_of (entries_in rows heads)
 spans_in rows [] = refl
-spans_in rows (x ∷ xs) = ap (λ (spans : List Span). x.span ∷ spans) (spans_in rows xs)
+spans_in rows (x ∷ xs) = ap (λ (spans : List Span). head_span x ∷ spans) (spans_in rows xs)
 
 pub spans_are : (heads : List Head) (entries : List Entry) → AreHeads heads entries → head_spans heads ≡ spans_of entries
 spans_are heads entries h = spans_in h.rows heads ∙ ap spans_of (sym h.are)
 
 -- ---- kept and omitted ones
-kept_one : (rows : StoredRows) (span : Span) (o : StoredOutcome) (heads : List Head) → map (stored_in rows) (stored_of heads) ≡ kept_of (entries_in rows heads)
-    → map (stored_in rows) (stored_of (record { span = span; outcome = o } ∷ heads)) ≡ kept_of (entries_in rows (record { span = span; outcome = o } ∷ heads))
-kept_one rows span (Kept f) heads e = ap (λ (fs : List Func). stored_in rows f ∷ fs) e
-kept_one rows span (Left omission) heads e = e
+kept_one : (rows : StoredRows) (x : Head) (heads : List Head) → map (stored_in rows) (stored_of heads) ≡ kept_of (entries_in rows heads)
+    → map (stored_in rows) (stored_of (x ∷ heads)) ≡ kept_of (entries_in rows (x ∷ heads))
+kept_one rows (Kept f origin) heads e = ap (λ (fs : List Func). stored_in rows f ∷ fs) e
+kept_one rows (Left o) heads e = e
 
 pub kept_are : (rows : StoredRows) (heads : List Head) → map (stored_in rows) (stored_of heads) ≡ kept_of (entries_in rows heads)
 kept_are rows [] = refl
-kept_are rows (x ∷ xs) = kept_one rows x.span x.outcome xs (kept_are rows xs)
+kept_are rows (x ∷ xs) = kept_one rows x xs (kept_are rows xs)
 
-left_one : (rows : StoredRows) (span : Span) (o : StoredOutcome) (heads : List Head) → left_of heads ≡ omitted_of (entries_in rows heads)
-    → left_of (record { span = span; outcome = o } ∷ heads) ≡ omitted_of (entries_in rows (record { span = span; outcome = o } ∷ heads))
-left_one rows span (Kept f) heads e = e
-left_one rows span (Left omission) heads e = ap (λ (os : List Omitted). record { start = span.start; size = span.size; origin = span.origin; omission = omission } ∷ os) e
+left_one : (rows : StoredRows) (x : Head) (heads : List Head) → left_of heads ≡ omitted_of (entries_in rows heads) → left_of (x ∷ heads) ≡ omitted_of (entries_in rows (x ∷ heads))
+left_one rows (Kept f origin) heads e = e
+left_one rows (Left o) heads e = ap (λ (os : List Omitted). o ∷ os) e
 
 pub left_are : (rows : StoredRows) (heads : List Head) → left_of heads ≡ omitted_of (entries_in rows heads)
 left_are rows [] = refl
-left_are rows (x ∷ xs) = left_one rows x.span x.outcome xs (left_are rows xs)
+left_are rows (x ∷ xs) = left_one rows x xs (left_are rows xs)
 
-stored_one : (rows : StoredRows) (span : Span) (o : StoredOutcome) (heads : List Head) → HasRows rows o → AllByRecursion (IsStored rows) (stored_of heads)
-    → AllByRecursion (IsStored rows) (stored_of (record { span = span; outcome = o } ∷ heads))
-stored_one rows span (Kept f) heads one others = (one, others)
-stored_one rows span (Left omission) heads one others = others
+stored_one : (rows : StoredRows) (x : Head) (heads : List Head) → HasRows rows x → AllByRecursion (IsStored rows) (stored_of heads) → AllByRecursion (IsStored rows) (stored_of (x ∷ heads))
+stored_one rows (Kept f origin) heads one others = (one, others)
+stored_one rows (Left o) heads one others = others
 
-stored_by_recursion : (rows : StoredRows) (heads : List Head) → AllByRecursion (Has rows) heads → AllByRecursion (IsStored rows) (stored_of heads)
+stored_by_recursion : (rows : StoredRows) (heads : List Head) → AllByRecursion (HasRows rows) heads → AllByRecursion (IsStored rows) (stored_of heads)
 stored_by_recursion rows [] h = tt
-stored_by_recursion rows (x ∷ xs) h = stored_one rows x.span x.outcome xs h.0 (stored_by_recursion rows xs h.1)
+stored_by_recursion rows (x ∷ xs) h = stored_one rows x xs h.0 (stored_by_recursion rows xs h.1)
 
 pub all_stored : (rows : StoredRows) (heads : List Head) → HaveRows rows heads → All (IsStored rows) (stored_of heads)
-all_stored rows heads h = All-from_recursion (IsStored rows) (stored_of heads) (stored_by_recursion rows heads (recursion_from_All (Has rows) heads h))
+all_stored rows heads h = All-from_recursion (IsStored rows) (stored_of heads) (stored_by_recursion rows heads (recursion_from_All (HasRows rows) heads h))
 
 -- ---- one more head
-stored_last : (heads : List Head) (x : Head) (o : StoredOutcome) → x.outcome ≡ o → stored_of (heads ++ x ∷ []) ≡ stored_of heads ++ stored_of (record { span = x.span; outcome = o } ∷ [])
-stored_last heads x o is = filter_map-append (λ (h : Head). stored_at h.outcome) heads (x ∷ []) ∙ ap (λ (o : StoredOutcome). stored_of heads ++ stored_of (record { span = x.span; outcome = o } ∷ [])) is
+pub stored_of-kept : (heads : List Head) (x : Head) (f : StoredFunction) (origin : Origin) → x ≡ Kept f origin → stored_of (heads ++ x ∷ []) ≡ stored_of heads ++ f ∷ []
+stored_of-kept heads x f origin is = filter_map-append stored_at heads (x ∷ []) ∙ ap (λ (h : Head). stored_of heads ++ stored_of (h ∷ [])) is
 
-left_last : (heads : List Head) (x : Head) (o : StoredOutcome) → x.outcome ≡ o → left_of (heads ++ x ∷ []) ≡ left_of heads ++ left_of (record { span = x.span; outcome = o } ∷ [])
-left_last heads x o is = filter_map-append (λ (h : Head). left_at h.span h.outcome) heads (x ∷ []) ∙ ap (λ (o : StoredOutcome). left_of heads ++ left_of (record { span = x.span; outcome = o } ∷ [])) is
+pub stored_of-left : (heads : List Head) (x : Head) (o : Omitted) → x ≡ Left o → stored_of (heads ++ x ∷ []) ≡ stored_of heads
+stored_of-left heads x o is = filter_map-append stored_at heads (x ∷ []) ∙ ap (λ (h : Head). stored_of heads ++ stored_of (h ∷ [])) is ∙ append-nil (stored_of heads)
 
-pub stored_of-kept : (heads : List Head) (x : Head) (f : StoredFunction) → x.outcome ≡ Kept f → stored_of (heads ++ x ∷ []) ≡ stored_of heads ++ f ∷ []
-stored_of-kept heads x f is = stored_last heads x (Kept f) is
+pub left_of-kept : (heads : List Head) (x : Head) (f : StoredFunction) (origin : Origin) → x ≡ Kept f origin → left_of (heads ++ x ∷ []) ≡ left_of heads
+left_of-kept heads x f origin is = filter_map-append left_at heads (x ∷ []) ∙ ap (λ (h : Head). left_of heads ++ left_of (h ∷ [])) is ∙ append-nil (left_of heads)
 
-pub stored_of-left : (heads : List Head) (x : Head) (omission : Omission) → x.outcome ≡ Left omission → stored_of (heads ++ x ∷ []) ≡ stored_of heads
-stored_of-left heads x omission is = stored_last heads x (Left omission) is ∙ append-nil (stored_of heads)
-
-pub left_of-kept : (heads : List Head) (x : Head) (f : StoredFunction) → x.outcome ≡ Kept f → left_of (heads ++ x ∷ []) ≡ left_of heads
-left_of-kept heads x f is = left_last heads x (Kept f) is ∙ append-nil (left_of heads)
-
-pub left_of-left : (heads : List Head) (x : Head) (omission : Omission) → x.outcome ≡ Left omission
-    → left_of (heads ++ x ∷ []) ≡ left_of heads ++ record { start = x.span.start; size = x.span.size; origin = x.span.origin; omission = omission } ∷ []
-left_of-left heads x omission is = left_last heads x (Left omission) is
+pub left_of-left : (heads : List Head) (x : Head) (o : Omitted) → x ≡ Left o → left_of (heads ++ x ∷ []) ≡ left_of heads ++ o ∷ []
+left_of-left heads x o is = filter_map-append left_at heads (x ∷ []) ∙ ap (λ (h : Head). left_of heads ++ left_of (h ∷ [])) is

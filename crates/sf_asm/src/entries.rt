@@ -7,8 +7,8 @@ ghost use Rattle.sf_asm.specs.Linking.{InOrder};
 ghost use Rattle.sf_write.specs.declared.stored.StoredFunction.{StoredFunction as stored_fact};
 ghost use Rattle.sf_write.specs.Stored.{IsStored, stored_in};
 
-use crate::entry::{Entry, Head, Outcome, StoredOutcome};
-use sf_model::{Arch, Rows};
+use crate::entry::{Entry, Head, Outcome};
+use sf_model::{Arch, Omitted, Rows};
 use sf_write::StoredRows;
 use std::alloc::{AllocError, Global};
 use std::marker::Model;
@@ -41,7 +41,7 @@ fn store(
     spare: &mut Rows,
 ) -> Result<Head, AllocError>
     requires { IsSound arch entry }
-    ensures stored { IfOk result (λ head. HasRows rows.new head.outcome × (entry_in rows.new head ≡ entry)) }
+    ensures stored { IfOk result (λ head. HasRows rows.new head × (entry_in rows.new head ≡ entry)) }
     ensures keeps { (f : stored_fact) → IsStored rows.old f → IsStored rows.new f × (stored_in rows.new f ≡ stored_in rows.old f) }
 {
     let Entry { span, outcome } = entry;
@@ -49,29 +49,28 @@ fn store(
         Outcome::Kept(function) => {
             let stored = rows.push(arch, &function)?;
             *spare = function.rows;
-            Ok(Head {
-                span,
-                outcome: StoredOutcome::Kept(stored),
-            })
+            Ok(Head::Kept(stored, span.origin))
         }
-        Outcome::Left(omission) => Ok(Head {
-            span,
-            outcome: StoredOutcome::Left(omission),
-        }),
+        Outcome::Left(omission) => Ok(Head::Left(Omitted {
+            start: span.start,
+            size: span.size,
+            origin: span.origin,
+            omission,
+        })),
     }
 }
 
 /// The function of a head, with its rows.
 fn entry_of(alloc: Global, rows: &StoredRows, head: &Head) -> Result<Entry, AllocError>
-    requires { HasRows rows.now head.now.outcome }
+    requires { HasRows rows.now head.now }
     ensures { IfOk result (λ entry. entry ≡ entry_in rows.now head.now) }
 {
-    let outcome = match &head.outcome {
-        StoredOutcome::Kept(stored) => Outcome::Kept(rows.function(alloc, stored)?),
-        StoredOutcome::Left(omission) => Outcome::Left(*omission),
+    let outcome = match head {
+        Head::Kept(stored, _) => Outcome::Kept(rows.function(alloc, stored)?),
+        Head::Left(omitted) => Outcome::Left(omitted.omission),
     };
     Ok(Entry {
-        span: head.span,
+        span: head.span(),
         outcome,
     })
 }
@@ -102,7 +101,7 @@ impl Entries {
     pub fn order(&mut self) -> Result<(), AllocError>
         ensures { OnOk result (InOrder self.old self.new) }
     {
-        self.heads.sort_by_key(|head| head.span.start)?;
+        self.heads.sort_by_key(|head| head.start())?;
         Ok(())
     }
 

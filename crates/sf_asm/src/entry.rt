@@ -1,6 +1,6 @@
 //! A function that was read, kept or left out.
 
-use sf_model::{Func, Omission, Span};
+use sf_model::{Func, Omission, Omitted, Origin, Span};
 use sf_write::StoredFunction;
 
 /// What became of a function.
@@ -19,18 +19,57 @@ pub struct Entry {
     pub outcome: Outcome,
 }
 
-/// What became of a function whose rows are kept in the list of all.
+/// A function that was read, whose rows are kept in the list of all.
 #[derive(Clone, Copy)]
-pub enum StoredOutcome {
-    /// SFrame can express it.
-    Kept(StoredFunction),
+pub enum Head {
+    /// SFrame can express it. It came from this record.
+    Kept(StoredFunction, Origin),
     /// SFrame can't express it.
-    Left(Omission),
+    Left(Omitted),
 }
 
-/// A function with its addresses and origin, and what became of it, without its rows.
-#[derive(Clone, Copy)]
-pub struct Head {
-    pub span: Span,
-    pub outcome: StoredOutcome,
+impl Head {
+    ghost use Rattle.std.specs.Prelude.{◌≡◌};
+    ghost use Rattle.sf_asm.specs.Heads.{count_in, head_span};
+
+    /// Its first address.
+    #[inline(always)]
+    pub fn start(&self) -> u64
+        ensures { result ≡ (head_span self.now).start }
+    {
+        match self {
+            Head::Kept(function, _) => function.head.start,
+            Head::Left(omitted) => omitted.start,
+        }
+    }
+
+    /// Its addresses and origin.
+    #[inline(always)]
+    pub fn span(&self) -> Span
+        ensures { result ≡ head_span self.now }
+    {
+        match self {
+            Head::Kept(function, origin) => Span {
+                start: function.head.start,
+                size: u64::from(function.head.size),
+                origin: *origin,
+            },
+            Head::Left(omitted) => Span {
+                start: omitted.start,
+                size: omitted.size,
+                origin: omitted.origin,
+            },
+        }
+    }
+
+    /// The number of its rows, where it is kept.
+    #[inline(always)]
+    pub fn row_count(&self) -> usize
+        ensures { result ≡ count_in self.now }
+    {
+        match self {
+            Head::Kept(function, _) => function.head.rows as usize,
+            Head::Left(_) => 0,
+        }
+    }
 }

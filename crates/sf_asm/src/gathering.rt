@@ -11,13 +11,13 @@ ghost use Rattle.sf_asm.specs.Answers.{AreGathered, AreTogether, IsFirstGathered
 ghost use Rattle.sf_asm.specs.Functions.{functions_of, object_of, unless};
 ghost use Rattle.sf_asm.specs.Inputs.{HaveMachine, first_item as item_of_first};
 ghost use Rattle.sf_asm.specs.Linking.{Gathers, InOrder, functions_fault, limits_fault, overlap_fault, overlap_in, overlap_with};
-ghost use Rattle.sf_asm.specs.Heads.{count_in, left_of, stored_of};
+ghost use Rattle.sf_asm.specs.Heads.{left_of, stored_of};
 ghost use Rattle.sf_asm.specs.Sources.{AreWithSources, functions_lent, source_start};
 ghost use Rattle.sf_asm.specs.Fault.{is_gather_answered};
 ghost use Rattle.sf_write.specs.Stored.{IsStored, stored_in};
 
 use crate::entries::Entries;
-use crate::entry::{Entry, Head, Outcome, StoredOutcome};
+use crate::entry::{Entry, Head, Outcome};
 use crate::fault::GatherFault;
 use crate::input::Input;
 use crate::inputs::{one_machine, read_all};
@@ -92,24 +92,13 @@ fn check_limits(entries: &Entries) -> Result<(), GatherFault>
     }
     let mut total = 0usize;
     for head in heads {
-        let count = row_count(&head.outcome);
+        let count = head.row_count();
         if count > ROW_LIMIT - total {
             return Err(GatherFault::TooManyRows);
         }
         total += count;
     }
     Ok(())
-}
-
-/// The number of a kept function's rows.
-#[inline(always)]
-fn row_count(outcome: &StoredOutcome) -> usize
-    ensures { result ≡ count_in outcome.now }
-{
-    match outcome {
-        StoredOutcome::Kept(function) => function.head.rows as usize,
-        StoredOutcome::Left(_) => 0,
-    }
 }
 
 /// The fault of a function that begins before the end of another one.
@@ -135,13 +124,14 @@ fn check_overlap(entries: &Entries) -> Result<(), GatherFault>
 {
     let mut before = None;
     for head in entries.heads() {
-        if head.span.size == 0 {
+        let span = head.span();
+        if span.size == 0 {
             continue;
         }
-        if let Some(fault) = overlap_of(before, head.span) {
+        if let Some(fault) = overlap_of(before, span) {
             return Err(fault);
         }
-        before = Some(head.span);
+        before = Some(span);
     }
     Ok(())
 }
@@ -202,15 +192,9 @@ fn part(alloc: Global, heads: Vec<Head>) -> Result<(Vec<StoredFunction>, Vec<Omi
     let mut kept = Vec::new(alloc);
     let mut omitted = Vec::new(alloc);
     for head in heads {
-        let Head { span, outcome } = head;
-        match outcome {
-            StoredOutcome::Kept(function) => kept.push(function)?,
-            StoredOutcome::Left(omission) => omitted.push(Omitted {
-                start: span.start,
-                size: span.size,
-                origin: span.origin,
-                omission,
-            })?,
+        match head {
+            Head::Kept(function, _) => kept.push(function)?,
+            Head::Left(function) => omitted.push(function)?,
         }
     }
     Ok((kept, omitted))

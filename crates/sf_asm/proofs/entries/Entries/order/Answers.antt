@@ -1,13 +1,13 @@
 use Rattle.std.proofs.Common.{List, rules, subst}
 use Rattle.std.proofs.lemmas.List.Sorted.{All-permutation, answers_always, IsNonDecreasingBy-from_sort_by_key}
 use Rattle.sf_asm.specs.declared.entry.Entry.{Entry}
-use Rattle.sf_asm.specs.Heads.{entries_in}
+use Rattle.sf_asm.specs.Heads.{HasRows, entries_in}
 use Rattle.sf_asm.specs.Linking.{InOrder}
-use Rattle.sf_asm.proofs.Heads.{Has, head_start, in_order}
+use Rattle.sf_asm.proofs.Heads.{head_start, in_order}
 use Rattle.sf_asm.proofs.entries.Entries.order.Goals as goal
 
 pub invariant_of-self-2 : goal.invariant_of-self-2
-invariant_of-self-2 c = All-permutation (Has c.self.inside.rows) _ _ c.sort_by_key.ensures.permutation c.self.invariant
+invariant_of-self-2 c = All-permutation (HasRows c.self.inside.rows) _ _ c.sort_by_key.ensures.permutation c.self.invariant
 
 pub returns : goal.returns
 returns c =
