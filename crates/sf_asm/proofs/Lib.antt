@@ -10,6 +10,8 @@ pub mod HandedOut
 pub mod GatheredInputs
 pub mod Relocating
 pub mod Patching
+pub mod WholeBlocks
+pub mod Known
 pub mod Signatures
 pub mod Runs
 pub mod Files

@@ -2,7 +2,7 @@
 use Rattle.std.proofs.Common.{◌≡◌, ℕ, ◌+◌, ◌-◌, ◌<◌, ◌≤◌, ◌==◌, Bool, true, false, not, cond, nat_lt, Some, None, List, [], ◌∷◌, length, get_or, take, drop, min, max, All, refl, sym, ap, ◌∙◌, arith, inl, inr, lt-ltb}
 use Rattle.std.specs.List.{position, position_or_len}
 use Rattle.std.specs.Option.{unwrap_or}
-use Rattle.std.specs.Ordering.{match_ordering, nat_cmp}
+use Rattle.std.specs.Ordering.{match_ordering}
 use Rattle.std.specs.declared.cmp.Ordering.{Ordering}
 use Rattle.std.specs.declared.cmp.Ordering.TheVariants.{Less, Equal, Greater}
 use Rattle.std.specs.BTreeMap.{insert_entry}
@@ -107,17 +107,17 @@ free_of_text file rest place end len stands is upto k low high =
     let inside : k - place < before_zero rest = omega (arith, is, upto, low, high) in
     ap is_zero (sym (byte_at file rest place (k - place) stands (omega (arith, inside, short)) ∙ ap (λ (j : ℕ). get_or file j 1) at)) ∙ passes rest (k - place) inside
 
--- ---- the runs that are kept
-abbrev EachRun : List ℕ → List (ℕ × Run) → Type 0
-EachRun file es = All (λ e. IsRun file e.1) es
+-- ---- the values of a map
+module _ {K X : Type 0} (cmp : K → K → Ordering) (P : X → Type 0) where
+  abbrev Each : List (K × X) → Type 0
+  Each es = All (λ e. P e.1) es
 
-by_order : (file : List ℕ) (k : ℕ) (r : Run) (e : ℕ × Run) (es : List (ℕ × Run)) (o : Ordering) → EachRun file (e ∷ es) → IsRun file r → EachRun file (insert_entry nat_cmp es k r)
-    → EachRun file (match_ordering o ((k, r) ∷ e ∷ es) ((e.0, r) ∷ es) (e ∷ insert_entry nat_cmp es k r))
-by_order file k r e es Less each new rest = All-cons (λ (x : ℕ × Run). IsRun file x.1) (k, r) (e ∷ es) new each
-by_order file k r e es Equal each new rest = All-cons (λ (x : ℕ × Run). IsRun file x.1) (e.0, r) es new (All-tail (λ (x : ℕ × Run). IsRun file x.1) e es each)
-by_order file k r e es Greater each new rest = All-cons (λ (x : ℕ × Run). IsRun file x.1) e (insert_entry nat_cmp es k r) (All-head (λ (x : ℕ × Run). IsRun file x.1) e es each) rest
+  by_order : (k : K) (v : X) (e : K × X) (es : List (K × X)) (o : Ordering) → Each (e ∷ es) → P v → Each (insert_entry cmp es k v) → Each (match_ordering o ((k, v) ∷ e ∷ es) ((e.0, v) ∷ es) (e ∷ insert_entry cmp es k v))
+  by_order k v e es Less each new rest = All-cons (λ (x : K × X). P x.1) (k, v) (e ∷ es) new each
+  by_order k v e es Equal each new rest = All-cons (λ (x : K × X). P x.1) (e.0, v) es new (All-tail (λ (x : K × X). P x.1) e es each)
+  by_order k v e es Greater each new rest = All-cons (λ (x : K × X). P x.1) e (insert_entry cmp es k v) (All-head (λ (x : K × X). P x.1) e es each) rest
 
-pub one_run_more : (file : List ℕ) (es : List (ℕ × Run)) (k : ℕ) (r : Run) → EachRun file es → IsRun file r → EachRun file (insert_entry nat_cmp es k r)
-one_run_more file [] k r each new = All-cons (λ (x : ℕ × Run). IsRun file x.1) (k, r) [] new each
-one_run_more file (e ∷ es) k r each new =
-    by_order file k r e es (nat_cmp k e.0) each new (one_run_more file es k r (All-tail (λ (x : ℕ × Run). IsRun file x.1) e es each) new)
+  -- what each has, each has with one more
+  pub one_value_more : (es : List (K × X)) (k : K) (v : X) → Each es → P v → Each (insert_entry cmp es k v)
+  one_value_more [] k v each new = All-cons (λ (x : K × X). P x.1) (k, v) [] new each
+  one_value_more (e ∷ es) k v each new = by_order k v e es (cmp k e.0) each new (one_value_more es k v (All-tail (λ (x : K × X). P x.1) e es each) new)

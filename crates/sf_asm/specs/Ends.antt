@@ -1,7 +1,5 @@
 -- Where the texts of a file end (ELF64 gABI, "String Table"), by what was seen of its bytes.
-use Rattle.std.specs.Prelude.{◌≡◌, ◌<◌, ◌≤◌, ◌==◌, ℕ, true, false, List, All, bytes_eq, get_or}
-use Rattle.std.specs.List.{list_any}
-use Rattle.elf_read.specs.Number.{window}
+use Rattle.std.specs.Prelude.{◌≡◌, ◌<◌, ◌≤◌, ◌==◌, ℕ, false, List, All, get_or}
 use Rattle.sf_asm.specs.declared.ends.Ends.{Ends}
 use Rattle.sf_asm.specs.declared.ends.Run.{Run}
 
@@ -15,7 +13,3 @@ IsRun file run = IsFree file run.first run.end
 -- of a file are all runs that are kept
 abbrev pub AreRuns : List ℕ → Ends → Type 0
 AreRuns file ends = All (λ e. IsRun file e.1) ends.runs.entries
-
--- what stands at these places of a file, with these lengths, was seen
-abbrev pub AreSeenAt : List ℕ → (seen : List (List ℕ)) → List (ℕ × ℕ) → Type 0
-AreSeenAt file seen places = All (λ p. list_any (bytes_eq (window p.0 p.1 file)) seen ≡ true) places

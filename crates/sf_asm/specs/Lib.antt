@@ -15,6 +15,7 @@ pub mod Answers
 pub mod FaultShown
 pub mod Views
 pub mod Ends
+pub mod Blocks
 pub mod Seen
 pub mod Placing
 pub mod Accepted

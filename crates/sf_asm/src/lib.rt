@@ -17,11 +17,13 @@
 
 mod address;
 mod assembling;
+mod blocks;
 mod elf;
 mod ends;
 mod entries;
 mod entry;
 mod fault;
+mod file_texts;
 mod frames;
 mod gathering;
 mod groups;

@@ -1,8 +1,9 @@
 use Rattle.sf_asm.proofs.Gone.{none_gone, none_seen, one_gone, one_seen, one_stays}
-use Rattle.std.proofs.Common.{ℕ, List, Vec, Global, ap, sym, subst, ◌∙◌}
+use Rattle.std.proofs.Common.{◌≡◌, ℕ, Vec, Global, ap, sym, subst, ◌∙◌, arith}
+use Rattle.elf_read.specs.Sections.{section_count}
 use Rattle.sf_asm.specs.Groups.{seen_below}
 use Rattle.elf_read.specs.Views.{file}
-use Rattle.sf_asm.specs.Seen.{HasSeen, HasTexts}
+use Rattle.sf_asm.specs.Seen.{HasSeen}
 use Rattle.sf_asm.proofs.groups.Seen.gone_groups.Goals as goal
 use Rattle.sf_asm.proofs.groups.Seen.gone_groups.Goals.{then-branch+in_ok-push, else-branch}
 
@@ -10,7 +11,7 @@ pub loop-i-init : goal.loop-i-init
 loop-i-init c = record {
   gone = λ seen h. c.new-gone.ensures.items ∙ sym (none_gone seen (file c.args.elf.now));
   seen = λ seen h. subst (HasSeen c.args.self.now) (sym (none_seen seen (file c.args.elf.now))) h;
-  texts = λ seen h. c.new-texts.ensures (file c.args.elf.now) (seen_below seen (file c.args.elf.now) 0);
+  texts = λ seen h. c.new-texts.ensures (file c.args.elf.now) c.args.self.now.blocks;
 }
 
 pub loop-i-preserved : goal.loop-i-preserved
@@ -21,13 +22,18 @@ loop-i-preserved c =
             ap (λ (v : Vec ℕ Global). v.items) w.gone-is ∙ w.in_ok-push.ensures.items
             ∙ one_gone seen (file c.args.elf.now) c.loop-i.i c.loop-i.gone.items (c.loop-i.invariant.gone seen h) (sym (c.in_ok-is_gone.ensures.gone (seen_below seen (file c.args.elf.now) c.loop-i.i) (c.loop-i.invariant.seen seen h) (c.loop-i.invariant.texts seen h)) ∙ w.if-branch.true);
         seen = λ seen h. subst (HasSeen c.is_gone.new.self) (one_seen seen (file c.args.elf.now) c.loop-i.i) (c.in_ok-is_gone.ensures.seen (seen_below seen (file c.args.elf.now) c.loop-i.i) (c.loop-i.invariant.seen seen h) (c.loop-i.invariant.texts seen h));
-        texts = λ seen h. subst (λ (ss : List (List ℕ)). HasTexts (file c.args.elf.now) ss c.is_gone.new.texts) (one_seen seen (file c.args.elf.now) c.loop-i.i) (c.in_ok-is_gone.ensures.texts (seen_below seen (file c.args.elf.now) c.loop-i.i) (c.loop-i.invariant.seen seen h) (c.loop-i.invariant.texts seen h));
+        texts = λ seen h. c.in_ok-is_gone.ensures.texts (seen_below seen (file c.args.elf.now) c.loop-i.i) (c.loop-i.invariant.seen seen h) (c.loop-i.invariant.texts seen h);
       }
       | else-branch w ↦ record {
         gone = λ seen h.
             ap (λ (v : Vec ℕ Global). v.items) w.gone-is
             ∙ one_stays seen (file c.args.elf.now) c.loop-i.i c.loop-i.gone.items (c.loop-i.invariant.gone seen h) (sym (c.in_ok-is_gone.ensures.gone (seen_below seen (file c.args.elf.now) c.loop-i.i) (c.loop-i.invariant.seen seen h) (c.loop-i.invariant.texts seen h)) ∙ w.if-branch.false);
         seen = λ seen h. subst (HasSeen c.is_gone.new.self) (one_seen seen (file c.args.elf.now) c.loop-i.i) (c.in_ok-is_gone.ensures.seen (seen_below seen (file c.args.elf.now) c.loop-i.i) (c.loop-i.invariant.seen seen h) (c.loop-i.invariant.texts seen h));
-        texts = λ seen h. subst (λ (ss : List (List ℕ)). HasTexts (file c.args.elf.now) ss c.is_gone.new.texts) (one_seen seen (file c.args.elf.now) c.loop-i.i) (c.in_ok-is_gone.ensures.texts (seen_below seen (file c.args.elf.now) c.loop-i.i) (c.loop-i.invariant.seen seen h) (c.loop-i.invariant.texts seen h));
+        texts = λ seen h. c.in_ok-is_gone.ensures.texts (seen_below seen (file c.args.elf.now) c.loop-i.i) (c.loop-i.invariant.seen seen h) (c.loop-i.invariant.texts seen h);
       }
     ]
+
+pub returns-clause-seen : goal.returns-clause-seen
+returns-clause-seen c = λ seen h.
+    let all : c.loop-i.i ≡ section_count (file c.args.elf.now) = omega (arith, c.sections-i-end.ensures, c.loop-i-test.false) in
+    subst (λ (n : ℕ). HasSeen c.loop-i.self (seen_below seen (file c.args.elf.now) n)) all (c.loop-i.invariant.seen seen h)

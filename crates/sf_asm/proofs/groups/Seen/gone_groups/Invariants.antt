@@ -8,5 +8,5 @@ abbrev pub invariant-loop-i : goal.invariant-loop-i
 invariant-loop-i l = record {
   gone : (seen : List (List ℕ)) → HasSeen l.fn.self seen → l.gone.items ≡ gone_below seen (file l.elf) l.i;
   seen : (seen : List (List ℕ)) → HasSeen l.fn.self seen → HasSeen l.self (seen_below seen (file l.elf) l.i);
-  texts : (seen : List (List ℕ)) → HasSeen l.fn.self seen → HasTexts (file l.elf) (seen_below seen (file l.elf) l.i) l.texts;
+  texts : (seen : List (List ℕ)) → HasSeen l.fn.self seen → HasTexts (file l.elf) l.self.blocks l.texts;
 }
