@@ -163,8 +163,31 @@ fn check_row(
     require(least <= u64::from(start), DecodeFault::RowOrder(at))
 }
 
-/// The checks of so many rows from a place on.
+/// The checks of so many rows from a place on. Rows of the usual kinds have a loop of their own each.
 pub fn check_rows(
+    arch: Arch,
+    rows: &[u8],
+    origin: u64,
+    start_width: u8,
+    first: u32,
+    count: u32,
+) -> Result<(), DecodeFault>
+    requires origin { origin < 2 ^ 33 }
+    requires small { length rows.now < 2 ^ 32 }
+    ensures { result ≡ spec.rows_check arch rows.now origin start_width first 0 count }
+{
+    match (arch, start_width) {
+        (Arch::Amd64, 0) => check_each_row(Arch::Amd64, rows, origin, 0, first, count),
+        (Arch::Amd64, 1) => check_each_row(Arch::Amd64, rows, origin, 1, first, count),
+        (Arch::Aarch64, 0) => check_each_row(Arch::Aarch64, rows, origin, 0, first, count),
+        (Arch::Aarch64, 1) => check_each_row(Arch::Aarch64, rows, origin, 1, first, count),
+        _ => check_each_row(arch, rows, origin, start_width, first, count),
+    }
+}
+
+// The same in one loop.
+#[inline(always)]
+fn check_each_row(
     arch: Arch,
     rows: &[u8],
     origin: u64,

@@ -1,6 +1,6 @@
 use Rattle.std.proofs.Common.{◌≡◌, ◌<◌, ◌^◌, ◌-◌}
 use Rattle.sf_decode.specs.Row.{rows_check}
-use Rattle.sf_decode.proofs.row.check_rows.Given as goal
+use Rattle.sf_decode.proofs.row.check_each_row.Given as goal
 
 abbrev pub invariant-loop-row : goal.invariant-loop-row
 invariant-loop-row l =

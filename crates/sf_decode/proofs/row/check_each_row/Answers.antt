@@ -2,7 +2,7 @@ use Rattle.std.proofs.Common.{◌≡◌, ◌-◌, ap, sym, ◌∙◌, arith}
 use Rattle.std.proofs.lemmas.Result.{err_from_is_err_and}
 use Rattle.sf_decode.specs.Row.{rows_check}
 use Rattle.sf_decode.proofs.Loops.{rows_check-none, rows_check-more, rows_check-stop}
-use Rattle.sf_decode.proofs.row.check_rows.Goals as goal
+use Rattle.sf_decode.proofs.row.check_each_row.Goals as goal
 
 pub returns-in_err-check_row : goal.returns-in_err-check_row
 returns-in_err-check_row c =
