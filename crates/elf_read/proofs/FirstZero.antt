@@ -1,6 +1,7 @@
 -- The first zero byte from a place on, by what is known from another place on.
 use Rattle.std.proofs.Common.{◌≡◌, ℕ, zero, suc, ◌+◌, ◌-◌, ◌*◌, ◌/◌, ◌%◌, ◌<◌, ◌≤◌, ◌==◌, Bool, true, false, not, cond, Some, None, List, [], ◌∷◌, length, take, drop, min, nat_lt, refl, sym, ap, ◌∙◌, arith, inl, inr, lt-ltb, le-ltb}
-use Rattle.std.specs.List.{position, position_or_len}
+use Rattle.std.specs.Prelude.{◌||◌}
+use Rattle.std.specs.List.{list_any, position, position_or_len}
 use Rattle.std.specs.Option.{unwrap_or}
 use Rattle.std.proofs.lemmas.Bool.{cases_lt}
 use Rattle.std.proofs.lemmas.List.{drop-drop, length-drop}
@@ -10,7 +11,7 @@ use Rattle.elf_read.specs.Number.{has_text, zero_from}
 use Rattle.elf_read.specs.Sections.{section_bytes, sh_offset}
 use Rattle.elf_read.proofs.Texts.{has_by, text_place}
 
-abbrev is_zero : ℕ → Bool
+abbrev pub is_zero : ℕ → Bool
 is_zero b = b == 0
 
 abbrev not_zero : ℕ → Bool
@@ -49,10 +50,20 @@ skipped_by true n k m low is = absurd (omega (arith, low))
 skipped_by false n k m low is = let same : n + k ≡ m = is (omega (arith, low)) in omega (arith, same)
 
 -- past n bytes of which none is zero
-before_zero-drop : (n : ℕ) (xs : List ℕ) → n ≤ before_zero xs → n + before_zero (drop n xs) ≡ before_zero xs
+pub before_zero-drop : (n : ℕ) (xs : List ℕ) → n ≤ before_zero xs → n + before_zero (drop n xs) ≡ before_zero xs
 before_zero-drop zero xs low = omega arith
 before_zero-drop (suc n) [] low = absurd (omega (arith, low))
 before_zero-drop (suc n) (x ∷ xs) low = skipped_by (is_zero x) n (before_zero (drop n xs)) (before_zero xs) low (before_zero-drop n xs)
+
+free_by : (b c : Bool) (n m : ℕ) → (b || c) ≡ false → (c ≡ false → n ≤ m) → suc n ≤ cond (not b) (1 + m) 0
+free_by true c n m none rest = absurd (cc none)
+free_by false c n m none rest = let low : n ≤ m = rest none in omega (arith, low)
+
+-- so many bytes are none of which is zero
+pub before_zero-past : (n : ℕ) (xs : List ℕ) → n ≤ length xs → list_any is_zero (take n xs) ≡ false → n ≤ before_zero xs
+before_zero-past zero xs upto none = omega arith
+before_zero-past (suc n) [] upto none = absurd (omega (arith, upto))
+before_zero-past (suc n) (x ∷ xs) upto none = free_by (is_zero x) (list_any is_zero (take n xs)) n (before_zero xs) none (before_zero-past n xs (omega (arith, upto)))
 
 -- a place that is not past the first zero byte has the same one
 pub zero_from-later : (bytes : List ℕ) (place n : ℕ) → n ≤ before_zero (drop place bytes) → zero_from bytes (place + n) ≡ zero_from bytes place

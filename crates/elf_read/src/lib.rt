@@ -20,6 +20,7 @@ mod compressed;
 mod entries;
 mod entry;
 mod fault;
+mod first_zero;
 mod header;
 mod identity;
 mod kind;
@@ -42,6 +43,7 @@ mod zeros;
 
 pub use entry::{GroupHead, Rela, Section, Segment, Symbol};
 pub use fault::ElfFault;
+pub use first_zero::bytes_before_zero;
 pub use kind::Kind;
 pub use laws::{compressed_law, room_law};
 pub use number::{u32_at, u64_at};

@@ -2,14 +2,13 @@
 //! the next part of the file.
 
 ghost use Rattle.std.specs.Prelude.{◌≡◌, ◌<◌, ◌≤◌, ◌==◌, ◌^◌, length};
-ghost use Rattle.std.specs.List.{position_or_len};
 ghost use Rattle.elf_read.specs.Number as spec;
 
+use crate::first_zero::bytes_before_zero;
 use crate::layout::SHT_STRTAB;
 use crate::number::{bytes_at, bytes_from};
 use crate::section_header::{sh_offset, sh_type};
 use crate::sections::section_bytes;
-use crate::text::text_len;
 
 /// How many parts a file has.
 const PARTS: usize = 2048;
@@ -22,14 +21,6 @@ pub struct Zeros {
     places: [u64; PARTS],
     ghost within: { known ≤ 2048 },
     ghost some: { 0 < part_len },
-}
-
-// How many bytes come before the first zero byte.
-fn bytes_before_zero(bytes: &[u8]) -> usize
-    ensures value { result ≡ position_or_len (λ b. b == 0) bytes.now }
-    ensures within { result ≤ length bytes.now }
-{
-    text_len(bytes).unwrap_or(bytes.len())
 }
 
 // The place of the first zero byte from a place on, or where there is none the first place past the file.

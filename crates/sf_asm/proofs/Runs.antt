@@ -1,7 +1,5 @@
 -- Where a text ends, by what was seen of the file's bytes.
-use Rattle.std.proofs.Common.{◌≡◌, ℕ, ◌+◌, ◌-◌, ◌<◌, ◌≤◌, ◌==◌, Bool, true, false, not, cond, nat_lt, Some, None, List, [], ◌∷◌, length, get_or, take, drop, min, max, All, refl, sym, ap, ◌∙◌, arith, inl, inr, lt-ltb}
-use Rattle.std.specs.List.{position, position_or_len}
-use Rattle.std.specs.Option.{unwrap_or}
+use Rattle.std.proofs.Common.{◌≡◌, ℕ, ◌+◌, ◌-◌, ◌<◌, ◌≤◌, Bool, true, false, not, List, [], ◌∷◌, length, get_or, take, drop, min, max, All, refl, sym, ap, ◌∙◌, arith, inl, inr}
 use Rattle.std.specs.Ordering.{match_ordering}
 use Rattle.std.specs.declared.cmp.Ordering.{Ordering}
 use Rattle.std.specs.declared.cmp.Ordering.TheVariants.{Less, Equal, Greater}
@@ -9,20 +7,14 @@ use Rattle.std.specs.BTreeMap.{insert_entry}
 use Rattle.std.proofs.lemmas.Bool.{cases_lt}
 use Rattle.std.proofs.lemmas.List.{get_or-drop, get_or-take, get_or_past, length-drop, length-take}
 use Rattle.std.proofs.lemmas.List.Elements.{All-head, All-tail, All-cons}
-use Rattle.std.proofs.lemmas.List.Sums.{position_or_len_is, prefix_len_passes, prefix_len_stops, prefix_len-le-length}
+use Rattle.std.proofs.lemmas.List.Sums.{position_or_len_is, prefix_len_passes, prefix_len_stops}
 use Rattle.elf_read.specs.Number.{StandsAt}
+use Rattle.elf_read.proofs.FirstZero.{is_zero, before_zero, before_zero-within}
 use Rattle.sf_asm.specs.declared.ends.Run.{Run}
 use Rattle.sf_asm.specs.Ends.{IsFree, IsRun}
 
-abbrev is_zero : ℕ → Bool
-is_zero b = b == 0
-
 abbrev not_zero : ℕ → Bool
 not_zero b = not (is_zero b)
-
--- how many bytes come before the first zero byte
-abbrev pub before_zero : List ℕ → ℕ
-before_zero xs = position_or_len is_zero xs
 
 is_false : (b : Bool) → not b ≡ true → b ≡ false
 is_false false h = refl
@@ -32,25 +24,11 @@ is_true : (b : Bool) → not b ≡ false → b ≡ true
 is_true true h = refl
 is_true false h = absurd (cc h)
 
-pub within : (xs : List ℕ) → before_zero xs ≤ length xs
-within xs = prefix_len-le-length not_zero xs
-
 passes : (xs : List ℕ) (k : ℕ) → k < before_zero xs → is_zero (get_or xs k 1) ≡ false
 passes xs k below = is_false (is_zero (get_or xs k 1)) (prefix_len_passes not_zero xs k 1 below)
 
 stops : (xs : List ℕ) → before_zero xs < length xs → is_zero (get_or xs (before_zero xs) 1) ≡ true
 stops xs below = is_true (is_zero (get_or xs (before_zero xs) 1)) (prefix_len_stops not_zero xs 1 below)
-
-place_or_len : (xs : List ℕ) (b : Bool) → nat_lt (before_zero xs) (length xs) ≡ b → unwrap_or (cond b (Some (before_zero xs)) None) (length xs) ≡ before_zero xs
-place_or_len xs true h = refl
-place_or_len xs false h = elim (cases_lt (before_zero xs) (length xs)) [
-  | inl below ↦ absurd (cc (sym h ∙ lt-ltb _ _ below))
-  | inr past ↦ let most : before_zero xs ≤ length xs = within xs in omega (arith, past, most)
-]
-
--- the place of the first zero byte, or the length
-pub before_zero-is : (xs : List ℕ) → unwrap_or (position is_zero xs) (length xs) ≡ before_zero xs
-before_zero-is xs = place_or_len xs (nat_lt (before_zero xs) (length xs)) refl
 
 -- ---- what is looked at of a text
 -- a zero byte among the first bytes, or no more bytes
@@ -58,7 +36,7 @@ pub by_front : (rest : List ℕ) (first : ℕ) → before_zero (take first rest)
 by_front rest first below =
     let n = before_zero (take first rest) in
     let len : length (take first rest) ≡ min first (length rest) = length-take first rest in
-    let upto : before_zero (take first rest) ≤ length (take first rest) = within (take first rest) in
+    let upto : before_zero (take first rest) ≤ length (take first rest) = before_zero-within (take first rest) in
     sym (position_or_len_is is_zero rest n 1 (omega (arith, len, upto))
     (λ k low. ap is_zero (sym (get_or-take first rest k 1 (omega (arith, low, below)))) ∙ passes (take first rest) k low)
     (λ some. ap is_zero (sym (get_or-take first rest n 1 below)) ∙ stops (take first rest) (omega (arith, some, len, below))))
@@ -82,7 +60,7 @@ pub by_known : (rest : List ℕ) (first end known : ℕ) → first ≤ before_ze
 by_known rest first end known front free upto short =
     let m = before_zero (drop known rest) in
     let len : length (drop known rest) ≡ length rest - known = length-drop known rest in
-    let most : before_zero (drop known rest) ≤ length (drop known rest) = within (drop known rest) in
+    let most : before_zero (drop known rest) ≤ length (drop known rest) = before_zero-within (drop known rest) in
     sym (position_or_len_is is_zero rest (known + m) 1 (omega (arith, len, most, short))
     (free_on rest known (known_free rest first end known front free upto))
     (λ some. ap is_zero (sym (get_or-drop known rest m 1)) ∙ stops (drop known rest) (omega (arith, some, len, short))))
@@ -103,7 +81,7 @@ free_from file rest place first end run stands free from upto k low high = elim 
 pub free_of_text : (file rest : List ℕ) (place end len : ℕ) → StandsAt place rest file → len ≡ before_zero rest → end ≤ place + len → IsFree file place end
 free_of_text file rest place end len stands is upto k low high =
     let at : place + (k - place) ≡ k = omega (arith, low) in
-    let short : before_zero rest ≤ length rest = within rest in
+    let short : before_zero rest ≤ length rest = before_zero-within rest in
     let inside : k - place < before_zero rest = omega (arith, is, upto, low, high) in
     ap is_zero (sym (byte_at file rest place (k - place) stands (omega (arith, inside, short)) ∙ ap (λ (j : ℕ). get_or file j 1) at)) ∙ passes rest (k - place) inside
 

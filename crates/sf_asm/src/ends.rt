@@ -1,12 +1,12 @@
 //! Where the texts of a file end. Each byte of the file is looked at once, however many texts it is part of.
 
 ghost use Rattle.std.specs.Prelude.{◌≡◌, ◌≤◌, ◌==◌, ℕ, List, IfOk, OnOk, length, take};
-ghost use Rattle.std.specs.List.{position, position_or_len};
+ghost use Rattle.std.specs.List.{position_or_len};
 ghost use Rattle.elf_read.specs.Number.{StandsAt};
 ghost use Rattle.elf_read.specs.Views.{text_bytes};
 ghost use Rattle.sf_asm.specs.Ends as spec;
 
-use elf_read::Text;
+use elf_read::{Text, bytes_before_zero};
 use std::alloc::{AllocError, Global};
 use std::collections::BTreeMap;
 
@@ -21,21 +21,6 @@ struct Run {
 #[derive(Drop)]
 pub struct Ends {
     runs: BTreeMap<u64, Run>,
-}
-
-// The place of the first zero byte.
-fn first_zero(bytes: &[u8]) -> Option<usize>
-    ensures { result ≡ position (λ b. b == 0) bytes.now }
-{
-    bytes.iter().position(|byte| *byte == 0)
-}
-
-// How many bytes come before the first zero byte.
-fn bytes_before_zero(bytes: &[u8]) -> usize
-    ensures count { result ≡ position_or_len (λ b. b == 0) bytes.now }
-    ensures within { result ≤ length bytes.now }
-{
-    first_zero(bytes).unwrap_or(bytes.len())
 }
 
 // The first bytes, or all of them.
