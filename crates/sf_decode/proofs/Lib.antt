@@ -3,6 +3,7 @@ pub mod EntriesFound
 pub mod EntriesRead
 pub mod Joined
 pub mod Loops
+mod EntryChecked
 pub mod RowsFound
 pub mod RowsRead
 pub mod Standing

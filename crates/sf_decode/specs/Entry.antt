@@ -58,17 +58,25 @@ is_known_info arch info = nat_lt info 64 && key_fits arch (key_in info)
 abbrev pub has_repeat_size : (info size : ℕ) → Bool
 has_repeat_size info size = not (is_repeated info) || not (size == 0)
 
--- the start is an address, and the function ends at 2^64 or before
-unfoldable pub is_in_memory : List ℕ → (at place : ℕ) → Bool
-is_in_memory bytes at place =
-    let raised = raised_start bytes at place in
-    nat_le (2 ^ 31) raised && nat_lt raised (2 ^ 64 + 2 ^ 31) && nat_le (raised + size_at bytes place) (2 ^ 64 + 2 ^ 31)
+-- the end, moved up in the same way
+abbrev pub raised_end : List ℕ → (at place : ℕ) → ℕ
+raised_end bytes at place = raised_start bytes at place + size_at bytes place
 
--- an entry behind another one: it starts where that one ends, or behind
+-- the start is an address, and the function ends at 2^64 or before; both are moved up
+abbrev pub lies_in_memory : (start end : ℕ) → Bool
+lies_in_memory start end = nat_le (2 ^ 31) start && nat_lt start (2 ^ 64 + 2 ^ 31) && nat_le end (2 ^ 64 + 2 ^ 31)
+
+unfoldable pub is_in_memory : List ℕ → (at place : ℕ) → Bool
+is_in_memory bytes at place = lies_in_memory (raised_start bytes at place) (raised_end bytes at place)
+
+-- an entry behind another one: it starts where that one ends, or behind; all are moved up
+abbrev pub behind_check : (start_before end_before start place : ℕ) → Check
+behind_check start_before end_before start place =
+    unless (nat_le start_before start) (Unsorted place)
+    >> unless (nat_le end_before start) (Overlap place)
+
 unfoldable pub order_check : List ℕ → (at before place : ℕ) → Check
-order_check bytes at before place =
-    unless (nat_le (raised_start bytes at before) (raised_start bytes at place)) (Unsorted place)
-    >> unless (nat_le (raised_start bytes at before + size_at bytes before) (raised_start bytes at place)) (Overlap place)
+order_check bytes at before place = behind_check (raised_start bytes at before) (raised_end bytes at before) (raised_start bytes at place) place
 
 -- the rows of an entry
 unfoldable pub entry_rows_check : List ℕ → (place : ℕ) → Check

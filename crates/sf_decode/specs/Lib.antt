@@ -1,4 +1,5 @@
 pub mod Fault
+pub mod Bounds
 pub mod Checking
 pub mod Row
 pub mod Entry

@@ -1,7 +1,9 @@
 //! Function descriptor entries (SFrame Version 2).
 
-ghost use Rattle.std.specs.Prelude.{◌≡◌, ◌<◌, ◌+◌, ◌-◌, ◌^◌, IsTrue};
+ghost use Rattle.std.specs.Prelude.{◌≡◌, ◌<◌, ◌+◌, ◌-◌, ◌^◌, ◌==◌, ◌&&◌, not, IfOk, IsTrue};
 ghost use Rattle.sf_model.specs.Section as section;
+ghost use Rattle.sf_decode.specs.Bounds.{bounds_of};
+ghost use Rattle.sf_decode.specs.Checking.{verdict, where_so};
 ghost use Rattle.sf_decode.specs.Entry as spec;
 
 use crate::check::require;
@@ -14,6 +16,13 @@ use crate::layout::{
 use crate::number::{byte_at, u32_at};
 use crate::row::check_rows;
 use sf_model::{Arch, Key, Shape};
+
+/// Where the function of an entry starts and ends, moved up by 2^31, so that neither is below 0.
+#[derive(Clone, Copy, Debug)]
+pub struct Bounds {
+    pub start: u128,
+    pub end: u128,
+}
 
 /// The place of an entry.
 #[inline(always)]
@@ -146,24 +155,35 @@ fn has_repeat_size(info: u8, size: u8) -> bool
     !is_repeated(info) || size != 0
 }
 
-// Whether the start is an address, and the function ends at 2^64 or before.
-#[tactic(auto, unfolding(crate::specs::Entry::is_in_memory))]
+// Whether a function's start is an address, and it ends at 2^64 or before.
 #[inline(always)]
-fn is_in_memory(bytes: &[u8], at: u64, place: u64) -> bool
-    requires { place < 2 ^ 62 }
-    ensures { result ≡ spec.is_in_memory bytes.now at place }
+fn lies_in_memory(bounds: Bounds) -> bool
+    ensures { result ≡ spec.lies_in_memory bounds.start bounds.end }
 {
     let end = (1 << 64) + (1 << 31);
-    let raised = raised_start(bytes, at, place);
-    1 << 31 <= raised && raised < end && raised + u128::from(size_at(bytes, place)) <= end
+    1 << 31 <= bounds.start && bounds.start < end && bounds.end <= end
 }
 
-// The checks of an entry's own fields.
-#[tactic(auto, unfolding(crate::specs::Entry::entry_fields_check))]
+// Where the function of an entry starts and ends.
 #[inline(always)]
-fn check_fields(bytes: &[u8], at: u64, place: u64) -> Result<(), DecodeFault>
+fn bounds_at(bytes: &[u8], at: u64, place: u64) -> Bounds
     requires { place < 2 ^ 62 }
-    ensures { result ≡ spec.entry_fields_check bytes.now at place }
+    ensures { result ≡ bounds_of bytes.now at place }
+{
+    let start = raised_start(bytes, at, place);
+    Bounds {
+        start,
+        end: start + u128::from(size_at(bytes, place)),
+    }
+}
+
+// The checks of an entry's own fields. Answers where its function starts and ends.
+#[tactic(auto, unfolding(crate::specs::Entry::entry_fields_check, crate::specs::Entry::is_in_memory))]
+#[inline(always)]
+fn check_fields(bytes: &[u8], at: u64, place: u64) -> Result<Bounds, DecodeFault>
+    requires { place < 2 ^ 62 }
+    ensures checked { verdict result ≡ spec.entry_fields_check bytes.now at place }
+    ensures bounds { IfOk result (λ bounds. bounds ≡ bounds_of bytes.now at place) }
 {
     let info = info_at(bytes, place);
     require(
@@ -178,37 +198,29 @@ fn check_fields(bytes: &[u8], at: u64, place: u64) -> Result<(), DecodeFault>
         has_repeat_size(info, repeat_size_at(bytes, place)),
         DecodeFault::RepeatZero(place),
     )?;
-    require(
-        is_in_memory(bytes, at, place),
-        DecodeFault::AddressRange(place),
-    )
+    let bounds = bounds_at(bytes, at, place);
+    require(lies_in_memory(bounds), DecodeFault::AddressRange(place))?;
+    Ok(bounds)
 }
 
-// That an entry of a sorted section starts where the one before ends, or behind.
-#[tactic(auto, unfolding(crate::specs::Entry::order_check))]
+// That a function of a sorted section starts where the one before ends, or behind.
 #[inline(always)]
-fn check_order(bytes: &[u8], at: u64, before: u64, place: u64) -> Result<(), DecodeFault>
-    requires before { before < 2 ^ 62 }
-    requires place { place < 2 ^ 62 }
-    ensures { result ≡ spec.order_check bytes.now at before place }
+fn check_order(before: Bounds, here: Bounds, place: u64) -> Result<(), DecodeFault>
+    ensures { result ≡ spec.behind_check before.start before.end here.start place }
 {
-    let start_before = raised_start(bytes, at, before);
-    let end_before = start_before + u128::from(size_at(bytes, before));
-    let start = raised_start(bytes, at, place);
-    require(start_before <= start, DecodeFault::Unsorted(place))?;
-    require(end_before <= start, DecodeFault::Overlap(place))
+    require(before.start <= here.start, DecodeFault::Unsorted(place))?;
+    require(before.end <= here.start, DecodeFault::Overlap(place))
 }
 
 // The order, where functions are sorted and there is an entry before.
-#[tactic(auto, unfolding(crate::specs::Entry::follows_check))]
 #[inline(always)]
-fn check_follows(bytes: &[u8], at: u64, i: u32) -> Result<(), DecodeFault>
-    ensures { result ≡ spec.follows_check bytes.now at i }
+fn check_follows(bytes: &[u8], i: u32, before: Bounds, here: Bounds) -> Result<(), DecodeFault>
+    ensures { result ≡ where_so (section.is_sorted (spec.flags_in bytes.now) && not (i == 0)) (spec.behind_check before.start before.end here.start (spec.entry_place bytes.now i)) }
 {
     if !is_sorted(flags_of(bytes)) || i == 0 {
         return Ok(());
     }
-    check_order(bytes, at, entry_place(bytes, i - 1), entry_place(bytes, i))
+    check_order(before, here, entry_place(bytes, i))
 }
 
 // The rows of an entry.
@@ -227,15 +239,18 @@ fn check_entry_rows(bytes: &[u8], place: u64) -> Result<(), DecodeFault>
     )
 }
 
-/// The checks of an entry: its fields, its order, its rows.
-#[tactic(auto, unfolding(crate::specs::Entry::entry_check))]
-pub fn check_entry(bytes: &[u8], at: u64, i: u32) -> Result<(), DecodeFault>
-    ensures { result ≡ spec.entry_check bytes.now at i }
+/// The checks of an entry: its fields, its order, its rows. `before` is where the function of the entry before starts and
+/// ends, or anything for the first entry. Answers where this one does.
+pub fn check_entry(bytes: &[u8], at: u64, i: u32, before: Bounds) -> Result<Bounds, DecodeFault>
+    requires before { 0 < i → before ≡ bounds_of bytes.now at (spec.entry_place bytes.now (i - 1)) }
+    ensures checked { verdict result ≡ spec.entry_check bytes.now at i }
+    ensures bounds { IfOk result (λ bounds. bounds ≡ bounds_of bytes.now at (spec.entry_place bytes.now i)) }
 {
     let place = entry_place(bytes, i);
-    check_fields(bytes, at, place)?;
-    check_follows(bytes, at, i)?;
-    check_entry_rows(bytes, place)
+    let here = check_fields(bytes, at, place)?;
+    check_follows(bytes, i, before, here)?;
+    check_entry_rows(bytes, place)?;
+    Ok(here)
 }
 
 /// The function's start.

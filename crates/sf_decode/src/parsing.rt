@@ -6,7 +6,7 @@ ghost use Rattle.sf_decode.specs.Entry.{entry_check};
 ghost use Rattle.sf_decode.specs.Decoding as spec;
 
 use crate::check::require;
-use crate::entry::{check_entry, entry_place, row_count_at};
+use crate::entry::{Bounds, check_entry, entry_place, row_count_at};
 use crate::fault::DecodeFault;
 use crate::header::{check_header, function_count, row_count};
 use crate::layout::ROW_COUNT_PLACE;
@@ -26,8 +26,9 @@ fn rows_of_entries(bytes: &[u8], count: u32) -> u64
 fn check_entries(bytes: &[u8], at: u64, count: u32) -> Result<(), DecodeFault>
     ensures { result ≡ each_from 0 count (entry_check bytes.now at) }
 {
+    let mut before = Bounds { start: 0, end: 0 };
     for i in 0..count {
-        check_entry(bytes, at, i)?;
+        before = check_entry(bytes, at, i, before)?;
     }
     Ok(())
 }
