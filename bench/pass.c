@@ -1,7 +1,6 @@
 /*
- * Reads an SFrame section (Version 2, AMD64, no auxiliary header) and goes over it once: each function descriptor entry
- * with its rows, by the tests that a look-up makes of a section that it doesn't know. This is what a look-up can't do
- * without, in plain C.
+ * Reads an SFrame section (Version 2, AMD64, no auxiliary header) and goes over it once, in plain C: it makes the tests
+ * that a look-up makes of each function descriptor entry and each row, and fewer of the header. It finds no row.
  *
  *   pass FILE AT
  *
