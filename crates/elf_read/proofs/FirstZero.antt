@@ -6,8 +6,8 @@ use Rattle.std.specs.Option.{unwrap_or}
 use Rattle.std.proofs.lemmas.Bool.{cases_lt}
 use Rattle.std.proofs.lemmas.List.{drop-drop, length-drop}
 use Rattle.std.proofs.lemmas.List.Sums.{prefix_len-le-length}
-use Rattle.std.proofs.lemmas.Nat.{mul-le, div-add-mod'}
-use Rattle.elf_read.specs.Number.{has_text, zero_from}
+use Rattle.std.proofs.lemmas.Nat.{div-add-mod'}
+use Rattle.elf_read.specs.Number.{IsFree, has_text, zero_from}
 use Rattle.elf_read.specs.Sections.{section_bytes, sh_offset}
 use Rattle.elf_read.proofs.Texts.{has_by, text_place}
 
@@ -72,17 +72,27 @@ zero_from-later bytes place n low =
     let all : n + before_zero (drop n (drop place bytes)) ≡ before_zero (drop place bytes) = before_zero-drop n (drop place bytes) low in
     omega (arith, rest, all)
 
--- no place of a part's first byte is past the first zero byte from the part before on
-pub zero_from-next_part : (bytes : List ℕ) (at len found : ℕ) → found ≡ zero_from bytes ((at - 1) * len) → at * len ≤ found → found ≡ zero_from bytes (at * len)
-zero_from-next_part bytes at len found is low =
-    let before = (at - 1) * len in
-    let less : before ≤ at * len = mul-le (at - 1) len at len (omega arith) (omega arith) in
-    let sum : before + (at * len - before) ≡ at * len = omega (arith, less) in
-    is ∙ sym (zero_from-later bytes before (at * len - before) (omega (arith, is, low, less))) ∙ ap (zero_from bytes) sum
+-- a place that lies between another one and the first zero byte from there on has the same one
+pub zero_from-between : (bytes : List ℕ) (before place found : ℕ) → found ≡ zero_from bytes before → before ≤ place → place ≤ found → found ≡ zero_from bytes place
+zero_from-between bytes before place found is less low =
+    let sum : before + (place - before) ≡ place = omega (arith, less) in
+    is ∙ sym (zero_from-later bytes before (place - before) (omega (arith, is, low, less))) ∙ ap (zero_from bytes) sum
 
--- the first byte of the next part
-pub next_part : (place len : ℕ) → 0 < len → place % len < len → (place / len + 1) * len ≡ place + (len - place % len)
-next_part place len some below =
+-- pieces without a zero byte are passed over
+pub zero_from-past_pieces : (bytes : List ℕ) (len piece n : ℕ) → ((j : ℕ) → j < n → IsFree bytes ((piece + j) * len) len) → zero_from bytes ((piece + n) * len) ≡ zero_from bytes (piece * len)
+zero_from-past_pieces bytes len piece zero free = let same : piece + 0 ≡ piece = omega arith in ap (λ (m : ℕ). zero_from bytes (m * len)) same
+zero_from-past_pieces bytes len piece (suc n) free =
+    let here : (piece + n) * len + len ≤ zero_from bytes ((piece + n) * len) = free n (omega arith) in
+    let place : (piece + suc n) * len ≡ (piece + n) * len + len = omega arith in
+    ap (zero_from bytes) place ∙ zero_from-later bytes ((piece + n) * len) len (omega (arith, here)) ∙ zero_from-past_pieces bytes len piece n (λ j below. free j (omega (arith, below)))
+
+-- a piece that is there and has no zero byte
+pub is_free : (bytes : List ℕ) (place len count : ℕ) → count ≡ before_zero (take len (drop place bytes)) → len ≤ count → IsFree bytes place len
+is_free bytes place len count is all = omega (arith, is, all, before_zero-take len (drop place bytes))
+
+-- the first byte of the next piece
+pub next_piece : (place len : ℕ) → 0 < len → place % len < len → (place / len + 1) * len ≡ place + (len - place % len)
+next_piece place len some below =
     let whole : place / len * len + place % len ≡ place = div-add-mod' place len in
     let more : (place / len + 1) * len ≡ place / len * len + len = omega arith in
     omega (arith, whole, more, below)

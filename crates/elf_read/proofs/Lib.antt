@@ -4,3 +4,4 @@ pub mod Texts
 pub mod FirstZero
 pub mod ReadSizes
 mod LeastCompressed
+mod Masks

@@ -1,5 +1,5 @@
 -- Numbers and bytes at places (ELF64 gABI, "Data Representation"): little-endian, without sign.
-use Rattle.std.specs.Prelude.{◌≡◌, ℕ, ◌+◌, ◌*◌, ◌/◌, ◌%◌, ◌==◌, Bool, List, length, take, drop, Option, Some, None, is_some, nat_lt, nat_le, if◌then◌else◌}
+use Rattle.std.specs.Prelude.{◌≡◌, ℕ, ◌+◌, ◌*◌, ◌/◌, ◌%◌, ◌==◌, ◌≤◌, Bool, List, length, take, drop, Option, Some, None, is_some, nat_lt, nat_le, if◌then◌else◌}
 use Rattle.std.specs.List.{position, position_or_len}
 use Rattle.byteorder.specs.Endian.{little_number}
 
@@ -47,3 +47,7 @@ EndsTexts table end = (place : ℕ) → has_text place table ≡ nat_lt place en
 -- the place of the first zero byte from a place on, or where there is none the first place past the bytes
 abbrev pub zero_from : List ℕ → ℕ → ℕ
 zero_from bytes place = place + position_or_len (λ b. b == 0) (drop place bytes)
+
+-- so many bytes from a place on are there, and none of them is zero
+abbrev pub IsFree : List ℕ → ℕ → ℕ → Type 0
+IsFree bytes place len = place + len ≤ zero_from bytes place

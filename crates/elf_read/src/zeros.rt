@@ -1,8 +1,10 @@
-//! Where the zero bytes of a file are. Where a string table doesn't end with one, its texts are looked through only as far as
-//! the next part of the file.
+//! Where the zero bytes of a file are. Where a string table doesn't end with one, a text is looked through only to the end of
+//! its piece of the file, and from the next piece on that has a zero byte.
 
-ghost use Rattle.std.specs.Prelude.{◌≡◌, ◌<◌, ◌≤◌, ◌==◌, ◌^◌, length};
+ghost use Rattle.std.specs.Prelude.{◌≡◌, ◌<◌, ◌≤◌, ◌==◌, ◌^◌, ◌+◌, ◌*◌, ℕ, length};
+ghost use Rattle.std.specs.Int.{bit_at};
 ghost use Rattle.elf_read.specs.Number as spec;
+ghost use Rattle.elf_read.specs.Number.{IsFree};
 
 use crate::first_zero::bytes_before_zero;
 use crate::layout::SHT_STRTAB;
@@ -10,25 +12,46 @@ use crate::number::{bytes_at, bytes_from};
 use crate::section_header::{sh_offset, sh_type};
 use crate::sections::section_bytes;
 
-/// How many parts a file has.
+/// The most parts of a file.
 const PARTS: usize = 2048;
 
-/// The first zero byte from the first byte of each part of a file on, or of no part.
+/// How many pieces a part has.
+const PIECES: u64 = 64;
+
+/// The first zero byte from the first byte of each part of a file on, and the pieces of each part that have one; or nothing.
 #[derive(Drop)]
 pub struct Zeros {
     known: usize,
-    part_len: u64,
+    piece_len: u64,
     places: [u64; PARTS],
+    /// A bit for each piece of a part, from the lowest on. Where it's 0, no byte of the piece is zero.
+    masks: [u64; PARTS],
     ghost within: { known ≤ 2048 },
-    ghost some: { 0 < part_len },
+    ghost some: { 0 < piece_len },
+    ghost small: { piece_len ≤ 2 ^ 32 },
 }
 
 // The place of the first zero byte from a place on, or where there is none the first place past the file.
 fn zero_from(file: &[u8], place: u64) -> u64
-    requires { place < 2 ^ 60 }
+    requires { place < 2 ^ 62 }
     ensures { result ≡ spec.zero_from file.now place }
 {
     place + bytes_before_zero(bytes_from(file, place)) as u64
+}
+
+// The mask of a part: a bit for each piece from this one on, 0 where no byte of the piece is zero.
+fn mask_from(file: &[u8], first: u64, piece_len: u64) -> u64
+    requires small { (first < 2 ^ 24) × (piece_len ≤ 2 ^ 32) }
+    ensures { (k : ℕ) → k < 64 → bit_at result k ≡ 0 → IsFree file.now ((first + k) * piece_len) piece_len }
+{
+    let mut mask = 0;
+    for k in 0..PIECES {
+        let piece = bytes_at(file, (first + k) * piece_len, piece_len);
+        if (bytes_before_zero(piece) as u64) < piece_len {
+            mask |= 1u64 << k;
+        }
+    }
+    mask
 }
 
 impl Zeros {
@@ -36,36 +59,42 @@ impl Zeros {
     ghost use Rattle.elf_read.specs.Sections.{section_bytes as bytes_of};
     ghost use Rattle.elf_read.specs.Zeros.{AreZeros};
 
-    // Of no part.
+    // Nothing.
     fn unknown() -> Zeros
         ensures { (file : List ℕ) → AreZeros file result }
     {
         Zeros {
             known: 0,
-            part_len: 1,
+            piece_len: 1,
             places: [0; PARTS],
+            masks: [0; PARTS],
         }
     }
 
-    // Of each part. Each byte of the file is looked at once.
+    // Of each part. Each byte of the file is looked at twice.
     fn of_parts(file: &[u8]) -> Zeros
         requires { length file.now < 2 ^ 32 }
         ensures { AreZeros file.now result }
     {
-        let part_len = file.len() as u64 / PARTS as u64 + 1;
+        let len = file.len() as u64;
+        let piece_len = len / (PARTS as u64 * PIECES) + PIECES;
+        let known = PARTS.min((len / (piece_len * PIECES)) as usize + 1);
         let mut places = [0; PARTS];
+        let mut masks = [0; PARTS];
         let mut zero = zero_from(file, 0);
-        for at in 0..PARTS {
-            let start = at as u64 * part_len;
-            if zero < start {
-                zero = zero_from(file, start);
+        for at in 0..known {
+            let first = at as u64 * PIECES;
+            if zero < first * piece_len {
+                zero = zero_from(file, first * piece_len);
             }
             places[at] = zero;
+            masks[at] = mask_from(file, first, piece_len);
         }
         Zeros {
-            known: PARTS,
-            part_len,
+            known,
+            piece_len,
             places,
+            masks,
         }
     }
 
@@ -82,21 +111,42 @@ impl Zeros {
         Zeros::unknown()
     }
 
+    // The place of the first zero byte from a piece's first byte on, or where there is none the first place past the file.
+    fn first_from_piece(&self, file: &[u8], piece: u64) -> u64
+        requires zeros { AreZeros file.now self.now }
+        requires small { piece * self.now.piece_len < 2 ^ 61 }
+        ensures { result ≡ spec.zero_from file.now (piece * self.now.piece_len) }
+    {
+        let part = piece / PIECES;
+        if part >= self.known as u64 {
+            return zero_from(file, piece * self.piece_len);
+        }
+        let rest = self.masks[part as usize] >> (piece % PIECES);
+        if rest != 0 {
+            return zero_from(
+                file,
+                (piece + u64::from(rest.trailing_zeros())) * self.piece_len,
+            );
+        }
+        if part + 1 < self.known as u64 {
+            self.places[part as usize + 1]
+        } else {
+            zero_from(file, (part + 1) * PIECES * self.piece_len)
+        }
+    }
+
     // The place of the first zero byte from a place on, or where there is none the first place past the file.
     fn first_from(&self, file: &[u8], place: u64) -> u64
         requires zeros { AreZeros file.now self.now }
         requires small { place < 2 ^ 60 }
         ensures { result ≡ spec.zero_from file.now place }
     {
-        let next = place / self.part_len + 1;
-        let left = self.part_len - place % self.part_len;
+        let left = self.piece_len - place % self.piece_len;
         let len = bytes_before_zero(bytes_at(file, place, left)) as u64;
         if len < left {
             place + len
-        } else if next < self.known as u64 {
-            self.places[next as usize]
         } else {
-            zero_from(file, place)
+            self.first_from_piece(file, place / self.piece_len + 1)
         }
     }
 
