@@ -2,11 +2,10 @@
 use Rattle.std.specs.List.{AllByRecursion, filter}
 use Rattle.std.specs.List.Sorted.{IsPermutation, IsNonDecreasingBy, IsStableByKey, ties}
 use Rattle.std.specs.Ordering.{is_lt, nat_cmp}
-use Rattle.std.proofs.Common.{◌≡◌, ◌+◌, ◌<◌, ℕ, zero, suc, Bool, true, false, All, List, [], ◌∷◌, ◌++◌, length, get_or, map, sum_by, None, refl, sym, ap, ◌∙◌, arith}
-use Rattle.std.proofs.lemmas.List.{append-nil, map-append, length-map}
+use Rattle.std.proofs.Common.{◌≡◌, ◌<◌, ℕ, Bool, true, false, not, ◌&&◌, All, List, [], ◌∷◌, ◌++◌, length, get_or, map, None, refl, subst, sym, ap, ◌∙◌, arith}
+use Rattle.std.proofs.lemmas.List.{append-nil, get_or-map, map-append, length-map}
 use Rattle.std.proofs.lemmas.List.Elements.{All-append, All-from_recursion, filter_map-append, recursion_from_All}
-use Rattle.std.proofs.lemmas.List.Sorted.{IsPermutation-map}
-use Rattle.std.proofs.lemmas.List.Sums.{sum_by-cons}
+use Rattle.std.proofs.lemmas.List.Sorted.{All-permutation, IsPermutation-map}
 use Rattle.sf_model.specs.declared.machine.Arch.{Arch}
 use Rattle.sf_model.specs.declared.omission.Omitted.{Omitted}
 use Rattle.sf_model.specs.declared.omission.Reason.TheVariants.{EmptyRange}
@@ -17,12 +16,13 @@ use Rattle.sf_write.specs.declared.stored.StoredRows.{StoredRows}
 use Rattle.sf_decode.proofs.Checked.{rows_length}
 use Rattle.sf_write.specs.Stored.{IsStored, function_by, range_of, stored_in}
 use Rattle.sf_model.specs.declared.function.Func.{Func}
+use Rattle.sf_asm.specs.declared.entries.Place.{Place}
 use Rattle.sf_asm.specs.declared.entry.Entry.{Entry}
 use Rattle.sf_asm.specs.declared.entry.Outcome.TheVariants as outcome
 use Rattle.sf_asm.specs.declared.entry.Head.{Head}
 use Rattle.sf_asm.specs.declared.entry.Head.TheVariants.{Kept, Left}
-use Rattle.sf_asm.specs.Entry.{IsSound, kept_of, omitted_of, spans_of}
-use Rattle.sf_asm.specs.Heads.{AreHeads, HasRows, HaveRows, count_in, entries_in, entry_in, head_span, left_at, left_of, outcome_in, stored_at, stored_of}
+use Rattle.sf_asm.specs.Entry.{IsSound, kept_of, omitted_of}
+use Rattle.sf_asm.specs.Heads.{ArePlacesOf, HasRows, HaveRows, IsHeadOf, IsPlaceIn, count_in, entries_in, entry_in, head_at, head_span, heads_at, left_at, left_of, no_head, outcome_in, stored_at, stored_of}
 use Rattle.sf_asm.specs.Linking.{InOrder, start_of}
 use Rattle.sf_asm.specs.Order.{entry_rows}
 
@@ -96,16 +96,11 @@ head_start h = (head_span h).start
 abbrev at_start : Span → Head
 at_start span = Left record { start = span.start; size = span.size; origin = span.origin; omission = record { reason = EmptyRange; offset = None } }
 
-get_or-entries : (rows : StoredRows) (heads : List Head) (i : ℕ) (d : Entry) (e : Head) → i < length heads → get_or (entries_in rows heads) i d ≡ entry_in rows (get_or heads i e)
-get_or-entries rows [] i d e lt = absurd (omega (arith, lt))
-get_or-entries rows (x ∷ xs) zero d e lt = refl
-get_or-entries rows (x ∷ xs) (suc i) d e lt = get_or-entries rows xs i d e (omega (arith, lt))
-
 rising_entries : (rows : StoredRows) (heads : List Head) → IsNonDecreasingBy head_start heads → IsNonDecreasingBy start_of (entries_in rows heads)
 rising_entries rows heads h = λ i j d le lt.
     let e = at_start d.span in
     let same = length-map heads (entry_in rows) in
-    rw (get_or-entries rows heads i d e (omega (arith, le, lt, same)), get_or-entries rows heads j d e (omega (arith, lt, same))) (h i j e le (omega (arith, lt, same)))
+    rw (get_or-map (entry_in rows) heads i e d (omega (arith, le, lt, same)), get_or-map (entry_in rows) heads j e d (omega (arith, lt, same))) (h i j e le (omega (arith, lt, same)))
 
 stable_entries : (rows : StoredRows) (old new : List Head) → IsStableByKey head_start nat_cmp old new → IsStableByKey start_of nat_cmp (entries_in rows old) (entries_in rows new)
 stable_entries rows old new h = λ x.
@@ -119,10 +114,61 @@ in_order rows old new moved rising stable = record {
   stable = stable_entries rows old new stable;
 }
 
--- ---- numbers of rows, and addresses
-abbrev pub head_rows : Head → ℕ
-head_rows h = count_in h
+-- ---- places
+abbrev pub place_start : Place → ℕ
+place_start p = p.start
 
+have_at : (rows : StoredRows) (heads : List Head) (places : List Place) → HaveRows rows heads → AllByRecursion (IsPlaceIn heads) places → AllByRecursion (HasRows rows) (heads_at heads places)
+have_at rows heads [] have are = tt
+have_at rows heads (p ∷ ps) have are = (have p.index no_head are.0.0, have_at rows heads ps have are.1)
+
+-- the functions at places have their rows where all have them
+pub have_rows_at : (rows : StoredRows) (heads : List Head) (places : List Place) → HaveRows rows heads → All (IsPlaceIn heads) places → HaveRows rows (heads_at heads places)
+have_rows_at rows heads places have are = All-from_recursion (HasRows rows) (heads_at heads places) (have_at rows heads places have (recursion_from_All (IsPlaceIn heads) places are))
+
+filter_same_by : {X : Type 0} (p q : X → Bool) (x : X) (xs : List X) (b : Bool) → p x ≡ b → q x ≡ b → filter p xs ≡ filter q xs → filter p (x ∷ xs) ≡ filter q (x ∷ xs)
+filter_same_by {X} p q x xs true t u others = rw (t, u) (ap (λ (ys : List X). x ∷ ys) others)
+filter_same_by p q x xs false t u others = rw (t, u) others
+
+-- two tests that agree on the elements of a list
+filter_same : {X : Type 0} (p q : X → Bool) (xs : List X) → AllByRecursion (λ x. p x ≡ q x) xs → filter p xs ≡ filter q xs
+filter_same p q [] h = refl
+filter_same p q (x ∷ xs) h = filter_same_by p q x xs (q x) h.0 refl (filter_same p q xs h.1)
+
+same_start : (heads : List Head) (places : List Place) (test : ℕ → Bool) → AllByRecursion (IsPlaceIn heads) places → AllByRecursion (λ (p : Place). test (head_start (head_at heads p)) ≡ test p.start) places
+same_start heads [] test are = tt
+same_start heads (p ∷ ps) test are = (ap test (sym are.0.1), same_start heads ps test are.1)
+
+-- the functions at places that have a start of one kind
+filter_at : (heads : List Head) (places : List Place) (test : ℕ → Bool) → All (IsPlaceIn heads) places → filter (λ (h : Head). test (head_start h)) (heads_at heads places) ≡ heads_at heads (filter (λ (p : Place). test p.start) places)
+filter_at heads places test are =
+    filter-map (head_at heads) (λ (h : Head). test (head_start h)) places
+    ∙ ap (heads_at heads) (filter_same (λ (p : Place). test (head_start (head_at heads p))) (λ (p : Place). test p.start) places (same_start heads places test (recursion_from_All (IsPlaceIn heads) places are)))
+
+rising_at : (heads : List Head) (places : List Place) → All (IsPlaceIn heads) places → IsNonDecreasingBy place_start places → IsNonDecreasingBy head_start (heads_at heads places)
+rising_at heads places are h = λ i j d le lt.
+    let e : Place = record { start = 0; index = 0 } in
+    let same = length-map places (head_at heads) in
+    let low : i < length places = omega (arith, le, lt, same) in
+    let high : j < length places = omega (arith, lt, same) in
+    rw (get_or-map (head_at heads) places i e d low, get_or-map (head_at heads) places j e d high)
+    (rw (sym (are i e low).1, sym (are j e high).1) (h i j e le high))
+
+stable_at : (heads : List Head) (old new : List Place) → All (IsPlaceIn heads) old → All (IsPlaceIn heads) new → IsStableByKey place_start nat_cmp old new → IsStableByKey head_start nat_cmp (heads_at heads old) (heads_at heads new)
+stable_at heads old new were are h = λ x.
+    let start = head_start x in
+    let test : ℕ → Bool = λ n. not (is_lt (nat_cmp start n)) && not (is_lt (nat_cmp n start)) in
+    filter_at heads new test are ∙ ap (heads_at heads) (h record { start = start; index = 0 }) ∙ sym (filter_at heads old test were)
+
+-- places in order are functions in order
+pub places_in_order : (rows : StoredRows) (heads : List Head) (old new : List Place) → ArePlacesOf heads old → IsPermutation old new → IsNonDecreasingBy place_start new → IsStableByKey place_start nat_cmp old new
+    → InOrder (entries_in rows heads) (entries_in rows (heads_at heads new))
+places_in_order rows heads old new were moved rising stable =
+    let are : All (IsPlaceIn heads) new = All-permutation (IsPlaceIn heads) old new moved were.1 in
+    subst (λ (hs : List Head). InOrder (entries_in rows hs) (entries_in rows (heads_at heads new))) were.0
+    (in_order rows (heads_at heads old) (heads_at heads new) (IsPermutation-map (head_at heads) old new moved) (rising_at heads new are rising) (stable_at heads old new were.1 are stable))
+
+-- ---- numbers of rows, and addresses
 rows_counted : (rows : StoredRows) (f : StoredFunction) → length (stored_in rows f).rows ≡ f.head.rows
 unfolding stored_in function_by
 rows_counted rows f = rows_length f.arch (range_of rows f) f.width 0 f.head.rows
@@ -131,27 +177,15 @@ count_is : (rows : StoredRows) (x : Head) → count_in x ≡ entry_rows (entry_i
 count_is rows (Kept f origin) = sym (rows_counted rows f)
 count_is rows (Left o) = refl
 
-counts_in : (rows : StoredRows) (heads : List Head) → sum_by head_rows heads ≡ sum_by entry_rows (entries_in rows heads)
-counts_in rows [] = refl
-counts_in rows (x ∷ xs) =
-    sum_by-cons head_rows x xs ∙ ap (λ (n : ℕ). n + sum_by head_rows xs) (count_is rows x) ∙ ap (λ (n : ℕ). entry_rows (entry_in rows x) + n) (counts_in rows xs)
-    ∙ sym (sum_by-cons entry_rows (entry_in rows x) (entries_in rows xs))
+-- what stands past the end of a list of functions
+abbrev pub no_entry : Entry
+no_entry = record { span = head_span no_head; outcome = outcome.Left record { reason = EmptyRange; offset = None } }
 
-pub counts_are : (heads : List Head) (entries : List Entry) → AreHeads heads entries → sum_by head_rows heads ≡ sum_by entry_rows entries
-counts_are heads entries h = counts_in h.rows heads ∙ ap (sum_by entry_rows) (sym h.are)
-
-pub lengths_are : (heads : List Head) (entries : List Entry) → AreHeads heads entries → length heads ≡ length entries
-lengths_are heads entries h = sym (length-map heads (entry_in h.rows)) ∙ ap length (sym h.are)
-
-abbrev pub head_spans : List Head → List Span
-head_spans heads = map head_span heads
-
-spans_in : (rows : StoredRows) (heads : List Head) → head_spans heads ≡ spans_of (entries_in rows heads)
-spans_in rows [] = refl
-spans_in rows (x ∷ xs) = ap (λ (spans : List Span). head_span x ∷ spans) (spans_in rows xs)
-
-pub spans_are : (heads : List Head) (entries : List Entry) → AreHeads heads entries → head_spans heads ≡ spans_of entries
-spans_are heads entries h = spans_in h.rows heads ∙ ap spans_of (sym h.are)
+-- a function of a list by its head
+pub head_of : (rows : StoredRows) (heads : List Head) (i : ℕ) (d : Entry) → i < length heads → (h : Head) → h ≡ get_or heads i no_head → IsHeadOf (get_or (entries_in rows heads) i d) h
+head_of rows heads i d lt h is =
+    let same : get_or (entries_in rows heads) i d ≡ entry_in rows h = get_or-map (entry_in rows) heads i no_head d lt ∙ ap (entry_in rows) (sym is) in
+    (ap (λ (e : Entry). e.span) (sym same), count_is rows h ∙ ap entry_rows (sym same))
 
 -- ---- kept and omitted ones
 kept_one : (rows : StoredRows) (x : Head) (heads : List Head) → map (stored_in rows) (stored_of heads) ≡ kept_of (entries_in rows heads)

@@ -1,11 +1,14 @@
 -- Functions that were read, whose rows are kept in one list: a head for each.
-use Rattle.std.specs.Prelude.{◌≡◌, ℕ, List, map, All, Option, Some, None}
+use Rattle.std.specs.Prelude.{◌≡◌, ◌<◌, ℕ, List, get_or, length, map, All, Option, Some, None}
 use Rattle.std.specs.List.{filter_map}
+use Rattle.sf_asm.specs.Order.{entry_rows}
 use Rattle.sf_model.specs.declared.omission.Omitted.{Omitted}
+use Rattle.sf_model.specs.declared.omission.Reason.TheVariants.{EmptyRange}
 use Rattle.sf_model.specs.declared.omission.Span.{Span}
 use Rattle.sf_write.specs.declared.stored.StoredFunction.{StoredFunction}
 use Rattle.sf_write.specs.declared.stored.StoredRows.{StoredRows}
 use Rattle.sf_write.specs.Stored.{IsStored, stored_in}
+use Rattle.sf_asm.specs.declared.entries.Place.{Place}
 use Rattle.sf_asm.specs.declared.entry.Entry.{Entry}
 use Rattle.sf_asm.specs.declared.entry.Outcome.{Outcome}
 use Rattle.sf_asm.specs.declared.entry.Outcome.TheVariants as outcome
@@ -36,15 +39,33 @@ HasRows rows (Left o) = Unit {0}
 abbrev pub HaveRows : StoredRows → List Head → Type 0
 HaveRows rows heads = All (HasRows rows) heads
 
--- these are the heads of these functions
-pub record AreHeads (heads : List Head) (entries : List Entry) : Type 0 where
-  pub rows : StoredRows
-  pub are : entries ≡ entries_in rows heads
-
 -- the number of a kept function's rows
 abbrev pub count_in : Head → ℕ
 count_in (Kept f origin) = f.head.rows
 count_in (Left o) = 0
+
+-- this is the head of this function
+abbrev pub IsHeadOf : Entry → Head → Type 0
+IsHeadOf e h = (head_span h ≡ e.span) × (count_in h ≡ entry_rows e)
+
+-- ---- places in a list of heads
+-- what stands past the end of a list
+abbrev pub no_head : Head
+no_head = Left record { start = 0; size = 0; origin = record { item = 0; section = 0; place = 0 }; omission = record { reason = EmptyRange; offset = None } }
+
+abbrev pub head_at : List Head → Place → Head
+head_at heads p = get_or heads p.index no_head
+
+abbrev pub heads_at : List Head → List Place → List Head
+heads_at heads places = map (head_at heads) places
+
+-- a head is there, and begins at this address
+abbrev pub IsPlaceIn : List Head → Place → Type 0
+IsPlaceIn heads p = (p.index < length heads) × (p.start ≡ (head_span (head_at heads p)).start)
+
+-- one place for each head, in order
+abbrev pub ArePlacesOf : List Head → List Place → Type 0
+ArePlacesOf heads places = (heads_at heads places ≡ heads) × All (IsPlaceIn heads) places
 
 -- the kept functions, in order
 abbrev pub stored_at : Head → Option StoredFunction

@@ -2,14 +2,14 @@
 
 ghost use Rattle.std.specs.Prelude.{◌≡◌, ◌++◌, [], ◌∷◌, IfOk, OnOk, IfErr};
 ghost use Rattle.sf_asm.specs.Entry.{IsSound};
-ghost use Rattle.sf_asm.specs.Heads.{AreHeads, HasRows, HaveRows, entries_in, entry_in};
+ghost use Rattle.sf_asm.specs.Heads.{ArePlacesOf, HasRows, entry_in};
 ghost use Rattle.sf_asm.specs.Linking.{InOrder};
 ghost use Rattle.sf_write.specs.declared.stored.StoredFunction.{StoredFunction as stored_fact};
 ghost use Rattle.sf_write.specs.Stored.{IsStored, stored_in};
 
 use crate::entry::{Entry, Head, Outcome};
 use sf_model::{Arch, Omitted, Rows};
-use sf_write::StoredRows;
+use sf_write::{StoredFunction, StoredRows};
 use std::alloc::{AllocError, Global};
 use std::marker::Model;
 
@@ -18,6 +18,31 @@ use std::marker::Model;
 pub struct Entries {
     heads: Vec<Head>,
     rows: StoredRows,
+}
+
+/// Where a function is in the list of all, with its first address.
+#[derive(Clone, Copy)]
+struct Place {
+    start: u64,
+    index: usize,
+}
+
+/// Functions that were read, by rising start, which a contract sees as the list of them.
+#[derive(Drop)]
+pub struct OrderedEntries {
+    /// The functions, in the order in which they were read.
+    heads: Vec<Head>,
+    places: Vec<Place>,
+    rows: StoredRows,
+}
+
+/// Kept and omitted functions, both by rising start.
+#[derive(Drop)]
+pub struct Parted {
+    /// The rows of the kept functions.
+    pub rows: StoredRows,
+    pub kept: Vec<StoredFunction>,
+    pub omitted: Vec<Omitted>,
 }
 
 impl Model for Entries {
@@ -30,6 +55,18 @@ impl Model for Entries {
     ghost view = { λ e. entries_in e.rows e.heads.items };
 
     ghost invariant = { λ e. HaveRows e.rows e.heads.items };
+}
+
+impl Model for OrderedEntries {
+    ghost use Rattle.std.specs.Prelude.{List, All};
+    ghost use Rattle.sf_asm.specs.declared.entry.Entry.{Entry as entry};
+    ghost use Rattle.sf_asm.specs.Heads.{HaveRows, IsPlaceIn, entries_in, heads_at};
+
+    ghost Value = { List entry };
+
+    ghost view = { λ e. entries_in e.rows (heads_at e.heads.items e.places.items) };
+
+    ghost invariant = { λ e. HaveRows e.rows e.heads.items × All (IsPlaceIn e.heads.items) e.places.items };
 }
 
 /// Stores the rows of a kept function. The memory of its list of rows goes to `spare`.
@@ -75,6 +112,20 @@ fn entry_of(alloc: Global, rows: &StoredRows, head: &Head) -> Result<Entry, Allo
     })
 }
 
+/// The places of all functions, in the order of the list.
+fn places_of(alloc: Global, heads: &[Head]) -> Result<Vec<Place>, AllocError>
+    ensures { IfOk result (λ places. ArePlacesOf heads.now places.items) }
+{
+    let mut places = Vec::with_capacity(alloc, heads.len())?;
+    for index in 0..heads.len() {
+        places.push(Place {
+            start: heads[index].start(),
+            index,
+        })?;
+    }
+    Ok(places)
+}
+
 impl Entries {
     /// No functions.
     pub fn new(alloc: Global) -> Entries
@@ -97,38 +148,83 @@ impl Entries {
         Ok(())
     }
 
-    /// Brings the functions into order by their starts. Those with one start stay in order.
-    pub fn order(&mut self) -> Result<(), AllocError>
-        ensures { OnOk result (InOrder self.old self.new) }
-    {
-        self.heads.sort_by_key(|head| head.start())?;
-        Ok(())
-    }
-
-    /// The functions without their rows.
-    pub fn heads(&self) -> &[Head]
-        ensures { AreHeads result.now self.now }
-    {
-        self.heads.as_slice()
-    }
-
-    /// The functions without their rows, and the rows of all.
-    pub fn into_parts(self) -> (Vec<Head>, StoredRows)
-        ensures are { self ≡ entries_in result.1 result.0.items }
-        ensures stored { HaveRows result.1 result.0.items }
+    /// The functions in the order of their starts. Those with one start stay in order. What is moved is the places of
+    /// the functions.
+    pub fn in_order(self, alloc: Global) -> Result<OrderedEntries, AllocError>
+        ensures { IfOk result (λ ordered. InOrder self ordered) }
     {
         let Entries { heads, rows } = self;
-        (heads, rows)
+        let mut places = places_of(alloc, &heads)?;
+        places.sort_by_key(|place| place.start)?;
+        Ok(OrderedEntries {
+            heads,
+            places,
+            rows,
+        })
+    }
+}
+
+impl OrderedEntries {
+    ghost use Rattle.std.specs.Prelude.{◌<◌, All, get_or, length, map};
+    ghost use Rattle.sf_asm.specs.declared.entry.Entry.{Entry as entry};
+    ghost use Rattle.sf_asm.specs.Entry.{kept_of, omitted_of};
+    ghost use Rattle.sf_asm.specs.Heads.{IsHeadOf};
+
+    /// How many functions there are.
+    #[inline(always)]
+    pub fn len(&self) -> usize
+        ensures { result ≡ length self.now }
+    {
+        self.places.len()
+    }
+
+    /// A function without its rows.
+    #[inline(always)]
+    pub fn head(&self, number: usize) -> &Head
+        requires { number < length self.now }
+        ensures { (d : entry) → IsHeadOf (get_or self.now number d) result.now }
+    {
+        &self.heads[self.places[number].index]
+    }
+
+    /// The kept and the omitted functions, and the rows of the kept ones.
+    pub fn part(self, alloc: Global) -> Result<Parted, AllocError>
+        ensures stored { IfOk result (λ parted. All (IsStored parted.rows) parted.kept.items) }
+        ensures kept { IfOk result (λ parted. map (stored_in parted.rows) parted.kept.items ≡ kept_of self) }
+        ensures omitted { IfOk result (λ parted. parted.omitted.items ≡ omitted_of self) }
+    {
+        let OrderedEntries {
+            heads,
+            places,
+            rows,
+        } = self;
+        let mut kept = Vec::new(alloc);
+        let mut omitted = Vec::new(alloc);
+        for place in places.as_slice() {
+            match heads[place.index] {
+                Head::Kept(function, _) => kept.push(function)?,
+                Head::Left(function) => omitted.push(function)?,
+            }
+        }
+        Ok(Parted {
+            rows,
+            kept,
+            omitted,
+        })
     }
 
     /// The functions, each with a list of its rows.
     pub fn with_rows(self, alloc: Global) -> Result<Vec<Entry>, AllocError>
         ensures { IfOk result (λ entries. entries.items ≡ self) }
     {
-        let (heads, rows) = self.into_parts();
+        let OrderedEntries {
+            heads,
+            places,
+            rows,
+        } = self;
         let mut entries = Vec::new(alloc);
-        for head in heads.as_slice() {
-            entries.push(entry_of(alloc, &rows, head)?)?;
+        for place in places.as_slice() {
+            entries.push(entry_of(alloc, &rows, &heads[place.index])?)?;
         }
         Ok(entries)
     }

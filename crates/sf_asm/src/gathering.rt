@@ -11,13 +11,12 @@ ghost use Rattle.sf_asm.specs.Answers.{AreGathered, AreTogether, IsFirstGathered
 ghost use Rattle.sf_asm.specs.Functions.{functions_of, object_of, unless};
 ghost use Rattle.sf_asm.specs.Inputs.{HaveMachine, first_item as item_of_first};
 ghost use Rattle.sf_asm.specs.Linking.{Gathers, InOrder, functions_fault, limits_fault, overlap_fault, overlap_in, overlap_with};
-ghost use Rattle.sf_asm.specs.Heads.{left_of, stored_of};
 ghost use Rattle.sf_asm.specs.Sources.{AreWithSources, functions_lent, source_start};
 ghost use Rattle.sf_asm.specs.Fault.{is_gather_answered};
 ghost use Rattle.sf_write.specs.Stored.{IsStored, stored_in};
 
-use crate::entries::Entries;
-use crate::entry::{Entry, Head, Outcome};
+use crate::entries::OrderedEntries;
+use crate::entry::{Entry, Outcome};
 use crate::fault::GatherFault;
 use crate::input::Input;
 use crate::inputs::{one_machine, read_all};
@@ -77,22 +76,21 @@ pub struct WithSources<'a> {
 #[derive(Drop)]
 struct ReadInOrder<'a> {
     arch: Arch,
-    entries: Entries,
+    entries: OrderedEntries,
     /// Those of them that are left out, as their records say them, in the order of the inputs.
     sources: Vec<Source<'a>>,
 }
 
 /// Tries the limits: functions first, then rows.
-fn check_limits(entries: &Entries) -> Result<(), GatherFault>
+fn check_limits(entries: &OrderedEntries) -> Result<(), GatherFault>
     ensures { result ≡ unless (limits_fault entries.now) }
 {
-    let heads = entries.heads();
-    if heads.len() > FUNCTION_LIMIT {
+    if entries.len() > FUNCTION_LIMIT {
         return Err(GatherFault::TooManyFunctions);
     }
     let mut total = 0usize;
-    for head in heads {
-        let count = head.row_count();
+    for number in 0..entries.len() {
+        let count = entries.head(number).row_count();
         if count > ROW_LIMIT - total {
             return Err(GatherFault::TooManyRows);
         }
@@ -119,12 +117,12 @@ fn overlap_of(before: Option<Span>, span: Span) -> Option<GatherFault>
 }
 
 /// Tries each function that has bytes against the one before it.
-fn check_overlap(entries: &Entries) -> Result<(), GatherFault>
+fn check_overlap(entries: &OrderedEntries) -> Result<(), GatherFault>
     ensures { result ≡ unless (option_map overlap_fault (overlap_in (spans_of entries.now))) }
 {
     let mut before = None;
-    for head in entries.heads() {
-        let span = head.span();
+    for number in 0..entries.len() {
+        let span = entries.head(number).span();
         if span.size == 0 {
             continue;
         }
@@ -137,7 +135,7 @@ fn check_overlap(entries: &Entries) -> Result<(), GatherFault>
 }
 
 /// Tries the limits, and then overlaps.
-fn check(entries: &Entries) -> Result<(), GatherFault>
+fn check(entries: &OrderedEntries) -> Result<(), GatherFault>
     ensures { result ≡ unless (functions_fault entries.now) }
 {
     check_limits(entries)?;
@@ -161,11 +159,8 @@ fn ordered<'a>(
 {
     let AllFunctions { machines, read } = read_all(alloc, first_item(before), inputs)?;
     let arch = one_machine(before, &machines)?;
-    let ReadFunctions {
-        mut entries,
-        sources,
-    } = read;
-    entries.order()?;
+    let ReadFunctions { entries, sources } = read;
+    let entries = entries.in_order(alloc)?;
     check(&entries)?;
     Ok(ReadInOrder {
         arch,
@@ -184,36 +179,23 @@ fn first_item(before: Option<Arch>) -> u32
     }
 }
 
-/// The kept and the omitted functions, both in the order of all.
-fn part(alloc: Global, heads: Vec<Head>) -> Result<(Vec<StoredFunction>, Vec<Omitted>), AllocError>
-    ensures kept { IfOk result (λ parts. parts.0.items ≡ stored_of heads.items) }
-    ensures omitted { IfOk result (λ parts. parts.1.items ≡ left_of heads.items) }
-{
-    let mut kept = Vec::new(alloc);
-    let mut omitted = Vec::new(alloc);
-    for head in heads {
-        match head {
-            Head::Kept(function, _) => kept.push(function)?,
-            Head::Left(function) => omitted.push(function)?,
-        }
-    }
-    Ok((kept, omitted))
-}
-
 /// The functions of one machine, kept ones apart from omitted ones.
-fn kept_and_omitted(alloc: Global, arch: Arch, entries: Entries) -> Result<Together, AllocError>
+fn kept_and_omitted(
+    alloc: Global,
+    arch: Arch,
+    entries: OrderedEntries,
+) -> Result<Together, AllocError>
     ensures arch { IfOk result (λ t. t.arch ≡ arch) }
     ensures stored { IfOk result (λ t. All (IsStored t.rows) t.kept.items) }
     ensures kept { IfOk result (λ t. map (stored_in t.rows) t.kept.items ≡ kept_of entries) }
     ensures omitted { IfOk result (λ t. t.omitted.items ≡ omitted_of entries) }
 {
-    let (heads, rows) = entries.into_parts();
-    let (kept, omitted) = part(alloc, heads)?;
+    let parted = entries.part(alloc)?;
     Ok(Together {
         arch,
-        rows,
-        kept,
-        omitted,
+        rows: parted.rows,
+        kept: parted.kept,
+        omitted: parted.omitted,
     })
 }
 

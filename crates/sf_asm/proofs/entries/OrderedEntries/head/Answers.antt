@@ -1,0 +1,24 @@
+use Rattle.std.proofs.Common.{◌≡◌, ◌<◌, List, get_or, length, refl, subst, sym, ap, ◌∙◌, arith}
+use Rattle.std.proofs.lemmas.List.{get_or-map, get_or_read_under, length-map}
+use Rattle.sf_asm.specs.declared.entry.Entry.{Entry}
+use Rattle.sf_asm.specs.Heads.{IsHeadOf, IsPlaceIn, entry_in, head_at, heads_at, no_head}
+use Rattle.sf_asm.proofs.Heads.{head_of}
+use Rattle.sf_asm.proofs.entries.OrderedEntries.head.Goals as goal
+
+pub returns : goal.returns
+returns c = λ d.
+    let heads = c.self.inside.heads.items in
+    let places = c.self.inside.places.items in
+    let number = c.args.number in
+    let place = c.index.result.now in
+    let head = c.index-2.result.now in
+    let all : length (heads_at heads places) ≡ length c.args.self.now = sym (length-map (heads_at heads places) (entry_in c.self.inside.rows)) ∙ ap length c.self.view_is in
+    let few : length (heads_at heads places) ≡ length places = length-map places (head_at heads) in
+    let low : number < length places = omega (arith, all, few, c.requires) in
+    let there : IsPlaceIn heads place = subst (IsPlaceIn heads) (sym c.index.ensures) (c.self.invariant.1 number place low) in
+    let is : head ≡ get_or (heads_at heads places) number no_head =
+    get_or_read_under heads place.index (length heads) head no_head c.index-2.ensures there.0 refl
+    ∙ ap (head_at heads) c.index.ensures
+    ∙ sym (get_or-map (head_at heads) places number place no_head low) in
+    subst (λ (es : List Entry). IsHeadOf (get_or es number d) head) c.self.view_is
+    (head_of c.self.inside.rows (heads_at heads places) number d (omega (arith, all, c.requires)) head is)
