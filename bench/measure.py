@@ -1,11 +1,12 @@
 #!/usr/bin/env python3
-"""Prints the processor time of a command in microseconds, and its peak memory in MB.
+"""Prints the processor time of commands in microseconds, and their peak memory in MB: a line for each, with its name.
 
-    measure.py OUT COMMAND [WORD ..]
+    measure.py OUT COMMANDS
 
-The time is that of user and system together, the least of seven. A command that is too quick to be measured is run again, and the
-time divided. Its output goes to the file OUT. It has to end with 0; readelf and objdump may end with 1 where they print something,
-as they do on some files that they read whole.
+The file COMMANDS has for each command a line with its name, a line for each of its words, and an empty line. Time is that of user and
+system together, the least of seven rounds. The commands are run in turn in each round, so that what else the machine does meets all of
+them alike. A command that is too quick to be measured is run again, and the time divided. Its output goes to the file OUT. It has to
+end with 0; readelf and objdump may end with 1 where they print something, as they do on some files that they read whole.
 """
 
 import os
@@ -15,28 +16,52 @@ import sys
 
 # A processor's time is counted in steps of up to 10 ms on some machines: 20 of them are measured well enough.
 ENOUGH = 0.2
-TRIES = 7
+ROUNDS = 7
 
 
-def run(out, words):
-    """Runs the command once; returns its processor time in seconds."""
-    before = resource.getrusage(resource.RUSAGE_CHILDREN)
-    with open(out, "wb") as file:
-        status = subprocess.run(words, stdout=file, check=False).returncode
-    may_be_1 = os.path.basename(words[0]) in ("readelf", "objdump") and os.path.getsize(out) > 0
-    if status != 0 and not (status == 1 and may_be_1):
-        sys.exit(f"bench: {' '.join(words)} ended with {status}")
-    after = resource.getrusage(resource.RUSAGE_CHILDREN)
-    return after.ru_utime - before.ru_utime + after.ru_stime - before.ru_stime
+class Command:
+    def __init__(self, name, *words):
+        self.name, self.words = name, words
+        self.peak = 0
+        self.times = 1
+        self.least = float("inf")
+
+    def run(self, out):
+        """Runs it once; returns its processor time in seconds."""
+        with open(out, "wb") as file:
+            child = subprocess.Popen(self.words, stdout=file)
+            _, status, used = os.wait4(child.pid, 0)
+        status = os.waitstatus_to_exitcode(status)
+        child.returncode = status
+        may_be_1 = os.path.basename(self.words[0]) in ("readelf", "objdump") and os.path.getsize(out) > 0
+        if status != 0 and not (status == 1 and may_be_1):
+            sys.exit(f"bench: {' '.join(self.words)} ended with {status}")
+        self.peak = max(self.peak, used.ru_maxrss)
+        return used.ru_utime + used.ru_stime
+
+    def warm(self, out):
+        """The first run tells how many runs are long enough together; it also brings the files into memory."""
+        self.times = max(1, round(ENOUGH / max(self.run(out), 0.001)))
+
+    def measure(self, out):
+        self.least = min(self.least, sum(self.run(out) for _ in range(self.times)) / self.times)
+
+    def line(self):
+        # What this process has itself counts for the command too, until the command begins: less can't be told.
+        own = resource.getrusage(resource.RUSAGE_SELF).ru_maxrss
+        peak = f"{self.peak / 1024:.0f}" if self.peak > 1.1 * own else f"<{own / 1024:.0f}"
+        return f"{round(self.least * 1e6)} {peak} {self.name}"
 
 
-def main(out, *words):
-    # The first run tells how many runs are long enough together; it also brings the file into memory.
-    times = max(1, round(ENOUGH / max(run(out, words), 0.001)))
-    least = min(sum(run(out, words) for _ in range(times)) / times for _ in range(TRIES))
-    # What this process has itself counts for the command too, until the command begins: less can't be told.
-    peak, own = (resource.getrusage(it).ru_maxrss for it in (resource.RUSAGE_CHILDREN, resource.RUSAGE_SELF))
-    print(round(least * 1e6), f"{peak / 1024:.0f}" if peak > 1.1 * own else f"<{own / 1024:.0f}")
+def main(out, path):
+    with open(path, encoding="utf-8", errors="surrogateescape") as file:
+        commands = [Command(*lines.split("\n")) for lines in file.read().split("\n\n") if lines]
+    for command in commands:
+        command.warm(out)
+    for _ in range(ROUNDS):
+        for command in commands:
+            command.measure(out)
+    print("\n".join(command.line() for command in commands))
 
 
 if __name__ == "__main__":
