@@ -2,9 +2,9 @@
 use Rattle.std.specs.List.{AllByRecursion, filter}
 use Rattle.std.specs.List.Sorted.{IsPermutation, IsNonDecreasingBy, IsStableByKey, ties}
 use Rattle.std.specs.Ordering.{is_lt, nat_cmp}
-use Rattle.std.proofs.Common.{◌≡◌, ◌<◌, ℕ, Bool, true, false, not, ◌&&◌, All, List, [], ◌∷◌, ◌++◌, length, get_or, map, None, refl, subst, sym, ap, ◌∙◌, arith}
+use Rattle.std.proofs.Common.{◌≡◌, ◌<◌, ℕ, zero, suc, Bool, true, false, not, ◌&&◌, All, List, [], ◌∷◌, ◌++◌, length, get_or, map, None, refl, subst, sym, ap, ◌∙◌, arith}
 use Rattle.std.proofs.lemmas.List.{append-nil, get_or-map, map-append, length-map}
-use Rattle.std.proofs.lemmas.List.Elements.{All-append, All-from_recursion, filter_map-append, recursion_from_All}
+use Rattle.std.proofs.lemmas.List.Elements.{All-append, All-filter, All-from_recursion, filter_map-append, filter_passes, recursion_from_All}
 use Rattle.std.proofs.lemmas.List.Sorted.{All-permutation, IsPermutation-map}
 use Rattle.sf_model.specs.declared.machine.Arch.{Arch}
 use Rattle.sf_model.specs.declared.omission.Omitted.{Omitted}
@@ -22,7 +22,7 @@ use Rattle.sf_asm.specs.declared.entry.Outcome.TheVariants as outcome
 use Rattle.sf_asm.specs.declared.entry.Head.{Head}
 use Rattle.sf_asm.specs.declared.entry.Head.TheVariants.{Kept, Left}
 use Rattle.sf_asm.specs.Entry.{IsSound, kept_of, omitted_of}
-use Rattle.sf_asm.specs.Heads.{ArePlacesOf, HasRows, HaveRows, IsHeadOf, IsPlaceIn, count_in, entries_in, entry_in, head_at, head_span, heads_at, left_at, left_of, no_head, outcome_in, stored_at, stored_of}
+use Rattle.sf_asm.specs.Heads.{ArePlacesOf, HasRows, HaveRows, IsHeadOf, IsKeptIn, IsPlaceIn, count_in, entries_in, entry_in, head_at, head_span, heads_at, is_kept_head, left_at, left_of, no_head, outcome_in, stored_at, stored_of}
 use Rattle.sf_asm.specs.Linking.{InOrder, start_of}
 use Rattle.sf_asm.specs.Order.{entry_rows}
 
@@ -215,6 +215,78 @@ stored_by_recursion rows (x ∷ xs) h = stored_one rows x xs h.0 (stored_by_recu
 
 pub all_stored : (rows : StoredRows) (heads : List Head) → HaveRows rows heads → All (IsStored rows) (stored_of heads)
 all_stored rows heads h = All-from_recursion (IsStored rows) (stored_of heads) (stored_by_recursion rows heads (recursion_from_All (HasRows rows) heads h))
+
+-- ---- the kept ones alone
+abbrev IsKept : Head → Type 0
+IsKept h = is_kept_head h ≡ true
+
+-- a test of places: whether a kept function is there
+abbrev pub is_kept_at : List Head → Place → Bool
+is_kept_at heads p = is_kept_head (head_at heads p)
+
+-- the places of kept functions, of those of all
+abbrev pub kept_places : List Head → List Place → List Place
+kept_places heads places = filter (is_kept_at heads) places
+
+-- a kept function of a head, and `d` where it is left out
+abbrev pub kept_or : StoredFunction → Head → StoredFunction
+kept_or d (Kept f origin) = f
+kept_or d (Left o) = d
+
+stored_step : (h : Head) (hs : List Head) → is_kept_head h ≡ false → stored_of (h ∷ hs) ≡ stored_of hs
+stored_step (Kept f origin) hs is = absurd (cc is)
+stored_step (Left o) hs is = refl
+
+kept_at_by : (heads : List Head) (p : Place) (ps : List Place) (b : Bool) → is_kept_at heads p ≡ b → stored_of (heads_at heads (kept_places heads ps)) ≡ stored_of (heads_at heads ps)
+    → stored_of (heads_at heads (kept_places heads (p ∷ ps))) ≡ stored_of (heads_at heads (p ∷ ps))
+kept_at_by heads p ps true is others = rw is (filter_map-append stored_at (head_at heads p ∷ []) (heads_at heads (kept_places heads ps)) ∙ ap (λ (fs : List StoredFunction). stored_of (head_at heads p ∷ []) ++ fs) others ∙ sym (filter_map-append stored_at (head_at heads p ∷ []) (heads_at heads ps)))
+kept_at_by heads p ps false is others = rw is (others ∙ sym (stored_step (head_at heads p) (heads_at heads ps) is))
+
+-- no kept function is at another place
+pub stored_at_kept : (heads : List Head) (places : List Place) → stored_of (heads_at heads (kept_places heads places)) ≡ stored_of (heads_at heads places)
+stored_at_kept heads [] = refl
+stored_at_kept heads (p ∷ ps) = kept_at_by heads p ps (is_kept_at heads p) refl (stored_at_kept heads ps)
+
+kept_in_by_recursion : (heads : List Head) (places : List Place) → AllByRecursion (IsPlaceIn heads) places → AllByRecursion (λ (p : Place). is_kept_at heads p ≡ true) places → AllByRecursion (IsKeptIn heads) places
+kept_in_by_recursion heads [] are kept = tt
+kept_in_by_recursion heads (p ∷ ps) are kept = ((are.0.0, kept.0), kept_in_by_recursion heads ps are.1 kept.1)
+
+-- they are there
+pub kept_in : (heads : List Head) (places : List Place) → All (IsPlaceIn heads) places → All (IsKeptIn heads) (kept_places heads places)
+kept_in heads places are =
+    All-from_recursion (IsKeptIn heads) (kept_places heads places)
+    (kept_in_by_recursion heads (kept_places heads places)
+    (recursion_from_All (IsPlaceIn heads) (kept_places heads places) (All-filter (is_kept_at heads) (IsPlaceIn heads) places are))
+    (recursion_from_All (λ (p : Place). is_kept_at heads p ≡ true) (kept_places heads places) (filter_passes (is_kept_at heads) places)))
+
+all_kept : (heads : List Head) (places : List Place) → AllByRecursion (IsKeptIn heads) places → AllByRecursion IsKept (heads_at heads places)
+all_kept heads [] are = tt
+all_kept heads (p ∷ ps) are = (are.0.1, all_kept heads ps are.1)
+
+length_by : (h : Head) (hs : List Head) → IsKept h → length (stored_of hs) ≡ length hs → length (stored_of (h ∷ hs)) ≡ length (h ∷ hs)
+length_by (Kept f origin) hs is others = ap suc others
+length_by (Left o) hs is others = absurd (cc is)
+
+length_kept : (heads : List Head) → AllByRecursion IsKept heads → length (stored_of heads) ≡ length heads
+length_kept [] are = refl
+length_kept (h ∷ hs) are = length_by h hs are.0 (length_kept hs are.1)
+
+-- how many kept functions there are
+pub kept_len : (heads : List Head) (places : List Place) → All (IsKeptIn heads) places → length (stored_of (heads_at heads places)) ≡ length places
+kept_len heads places are = length_kept (heads_at heads places) (all_kept heads places (recursion_from_All (IsKeptIn heads) places are)) ∙ length-map places (head_at heads)
+
+stored_by_number : (d : StoredFunction) (heads : List Head) (i : ℕ) → AllByRecursion IsKept heads → get_or (stored_of heads) i d ≡ kept_or d (get_or heads i no_head)
+stored_by_number d [] i are = refl
+stored_by_number d (Left o ∷ hs) i are = absurd (cc are.0)
+stored_by_number d (Kept f origin ∷ hs) zero are = refl
+stored_by_number d (Kept f origin ∷ hs) (suc i) are = stored_by_number d hs i are.1
+
+-- the kept function with a number is that at its place
+pub kept_at_number : (d : StoredFunction) (heads : List Head) (places : List Place) (i : ℕ) (p : Place) → All (IsKeptIn heads) places → i < length places
+    → get_or (stored_of (heads_at heads places)) i d ≡ kept_or d (head_at heads (get_or places i p))
+kept_at_number d heads places i p are low =
+    stored_by_number d (heads_at heads places) i (all_kept heads places (recursion_from_All (IsKeptIn heads) places are))
+    ∙ ap (kept_or d) (get_or-map (head_at heads) places i p no_head low)
 
 -- ---- one more head
 pub stored_of-kept : (heads : List Head) (x : Head) (f : StoredFunction) (origin : Origin) → x ≡ Kept f origin → stored_of (heads ++ x ∷ []) ≡ stored_of heads ++ f ∷ []

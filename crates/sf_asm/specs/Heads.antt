@@ -1,5 +1,5 @@
 -- Functions that were read, whose rows are kept in one list: a head for each.
-use Rattle.std.specs.Prelude.{◌≡◌, ◌<◌, ℕ, List, get_or, length, map, All, Option, Some, None}
+use Rattle.std.specs.Prelude.{◌≡◌, ◌<◌, ℕ, Bool, true, false, List, get_or, length, map, All, Option, Some, None}
 use Rattle.std.specs.List.{filter_map}
 use Rattle.sf_asm.specs.Order.{entry_rows}
 use Rattle.sf_model.specs.declared.omission.Omitted.{Omitted}
@@ -74,6 +74,15 @@ stored_at (Left o) = None
 
 abbrev pub stored_of : List Head → List StoredFunction
 stored_of heads = filter_map stored_at heads
+
+-- whether it is the head of a kept function
+abbrev pub is_kept_head : Head → Bool
+is_kept_head (Kept f origin) = true
+is_kept_head (Left o) = false
+
+-- the head of a kept function is there
+abbrev pub IsKeptIn : List Head → Place → Type 0
+IsKeptIn heads p = (p.index < length heads) × (is_kept_head (head_at heads p) ≡ true)
 
 -- the functions that are left out, in order
 abbrev pub left_at : Head → Option Omitted

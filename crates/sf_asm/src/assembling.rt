@@ -9,7 +9,7 @@ use crate::fault::{GatherFault, LinkFault};
 use crate::gathering::gather_together;
 use crate::input::Input;
 use sf_model::Omitted;
-use sf_write::{WriteFault, write_stored};
+use sf_write::{StoredList, WriteFault, write_stored};
 use std::alloc::Global;
 
 /// A section, and what it holds.

@@ -9,7 +9,7 @@ ghost use Rattle.sf_write.specs.Stored.{IsStored, stored_in};
 
 use crate::entry::{Entry, Head, Outcome};
 use sf_model::{Arch, Omitted, Rows};
-use sf_write::{StoredFunction, StoredRows};
+use sf_write::{StoredFunction, StoredList, StoredRows};
 use std::alloc::{AllocError, Global};
 use std::marker::Model;
 
@@ -36,12 +36,20 @@ pub struct OrderedEntries {
     rows: StoredRows,
 }
 
+/// Kept functions, by rising start, which a contract sees as the list of them. They are where they were read.
+#[derive(Drop)]
+pub struct KeptFunctions {
+    heads: Vec<Head>,
+    /// Where the kept ones are.
+    places: Vec<Place>,
+}
+
 /// Kept and omitted functions, both by rising start.
 #[derive(Drop)]
 pub struct Parted {
     /// The rows of the kept functions.
     pub rows: StoredRows,
-    pub kept: Vec<StoredFunction>,
+    pub kept: KeptFunctions,
     pub omitted: Vec<Omitted>,
 }
 
@@ -67,6 +75,18 @@ impl Model for OrderedEntries {
     ghost view = { λ e. entries_in e.rows (heads_at e.heads.items e.places.items) };
 
     ghost invariant = { λ e. HaveRows e.rows e.heads.items × All (IsPlaceIn e.heads.items) e.places.items };
+}
+
+impl Model for KeptFunctions {
+    ghost use Rattle.std.specs.Prelude.{List, All};
+    ghost use Rattle.sf_write.specs.declared.stored.StoredFunction.{StoredFunction as stored_fact};
+    ghost use Rattle.sf_asm.specs.Heads.{IsKeptIn, heads_at, stored_of};
+
+    ghost Value = { List stored_fact };
+
+    ghost view = { λ kept. stored_of (heads_at kept.heads.items kept.places.items) };
+
+    ghost invariant = { λ kept. All (IsKeptIn kept.heads.items) kept.places.items };
 }
 
 /// Stores the rows of a kept function. The memory of its list of rows goes to `spare`.
@@ -187,28 +207,35 @@ impl OrderedEntries {
         &self.heads[self.places[number].index]
     }
 
-    /// The kept and the omitted functions, and the rows of the kept ones.
-    pub fn part(self, alloc: Global) -> Result<Parted, AllocError>
-        ensures stored { IfOk result (λ parted. All (IsStored parted.rows) parted.kept.items) }
-        ensures kept { IfOk result (λ parted. map (stored_in parted.rows) parted.kept.items ≡ kept_of self) }
-        ensures omitted { IfOk result (λ parted. parted.omitted.items ≡ omitted_of self) }
+    /// The functions that are left out.
+    fn omitted(&self, alloc: Global) -> Result<Vec<Omitted>, AllocError>
+        ensures { IfOk result (λ omitted. omitted.items ≡ omitted_of self.now) }
     {
-        let OrderedEntries {
-            heads,
-            places,
-            rows,
-        } = self;
-        let mut kept = Vec::new(alloc);
         let mut omitted = Vec::new(alloc);
-        for place in places.as_slice() {
-            match heads[place.index] {
-                Head::Kept(function, _) => kept.push(function)?,
-                Head::Left(function) => omitted.push(function)?,
+        for place in self.places.as_slice() {
+            if let Head::Left(function) = self.heads[place.index] {
+                omitted.push(function)?;
             }
         }
+        Ok(omitted)
+    }
+
+    /// The kept and the omitted functions, and the rows of the kept ones.
+    pub fn part(self, alloc: Global) -> Result<Parted, AllocError>
+        ensures stored { IfOk result (λ parted. All (IsStored parted.rows) parted.kept) }
+        ensures kept { IfOk result (λ parted. map (stored_in parted.rows) parted.kept ≡ kept_of self) }
+        ensures omitted { IfOk result (λ parted. parted.omitted.items ≡ omitted_of self) }
+    {
+        let omitted = self.omitted(alloc)?;
+        let OrderedEntries {
+            heads,
+            mut places,
+            rows,
+        } = self;
+        places.retain(|place| matches!(heads.get(place.index), Some(Head::Kept(..))));
         Ok(Parted {
             rows,
-            kept,
+            kept: KeptFunctions { heads, places },
             omitted,
         })
     }
@@ -227,5 +254,22 @@ impl OrderedEntries {
             entries.push(entry_of(alloc, &rows, &heads[place.index])?)?;
         }
         Ok(entries)
+    }
+}
+
+impl StoredList for KeptFunctions {
+    ghost listed = { λ kept. kept };
+
+    #[inline(always)]
+    fn len(&self) -> usize {
+        self.places.len()
+    }
+
+    #[inline(always)]
+    fn function(&self, number: usize) -> &StoredFunction {
+        match &self.heads[self.places[number].index] {
+            Head::Kept(function, _) => function,
+            Head::Left(_) => unreachable!(),
+        }
     }
 }

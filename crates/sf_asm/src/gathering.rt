@@ -15,7 +15,7 @@ ghost use Rattle.sf_asm.specs.Sources.{AreWithSources, functions_lent, source_st
 ghost use Rattle.sf_asm.specs.Fault.{is_gather_answered};
 ghost use Rattle.sf_write.specs.Stored.{IsStored, stored_in};
 
-use crate::entries::OrderedEntries;
+use crate::entries::{KeptFunctions, OrderedEntries};
 use crate::entry::{Entry, Outcome};
 use crate::fault::GatherFault;
 use crate::input::Input;
@@ -23,7 +23,7 @@ use crate::inputs::{one_machine, read_all};
 use crate::read::{AllFunctions, ReadFunctions};
 use crate::source::Source;
 use sf_model::{Arch, Func, Omitted, Span};
-use sf_write::{StoredFunction, StoredRows};
+use sf_write::{StoredList, StoredRows};
 use std::alloc::{AllocError, Global};
 
 /// The most functions of one run, omitted ones included.
@@ -53,7 +53,7 @@ pub struct Together {
     /// The rows of these functions.
     pub rows: StoredRows,
     /// The functions that SFrame can express, by rising start.
-    pub kept: Vec<StoredFunction>,
+    pub kept: KeptFunctions,
     /// The functions that it can't, by start and then origin.
     pub omitted: Vec<Omitted>,
 }
@@ -186,8 +186,8 @@ fn kept_and_omitted(
     entries: OrderedEntries,
 ) -> Result<Together, AllocError>
     ensures arch { IfOk result (λ t. t.arch ≡ arch) }
-    ensures stored { IfOk result (λ t. All (IsStored t.rows) t.kept.items) }
-    ensures kept { IfOk result (λ t. map (stored_in t.rows) t.kept.items ≡ kept_of entries) }
+    ensures stored { IfOk result (λ t. All (IsStored t.rows) t.kept) }
+    ensures kept { IfOk result (λ t. map (stored_in t.rows) t.kept ≡ kept_of entries) }
     ensures omitted { IfOk result (λ t. t.omitted.items ≡ omitted_of entries) }
 {
     let parted = entries.part(alloc)?;
@@ -213,9 +213,9 @@ pub fn gather_together(
     requires some { (0 < length inputs.now) × (length inputs.now ≤ 512) }
     requires small { All (λ input. length input.bytes.now < 2 ^ 32) inputs.now }
     // The functions are those of the inputs by rising start, and one section can hold them.
-    ensures gathered { IfOk result (λ g. AreTogether before (map object_of inputs.now) g.arch (map (stored_in g.rows) g.kept.items) g.omitted.items) }
+    ensures gathered { IfOk result (λ g. AreTogether before (map object_of inputs.now) g.arch (map (stored_in g.rows) g.kept) g.omitted.items) }
     // Their rows are those of the list.
-    ensures stored { IfOk result (λ g. All (IsStored g.rows) g.kept.items) }
+    ensures stored { IfOk result (λ g. All (IsStored g.rows) g.kept) }
     // It's the machine of all items.
     ensures machine { IfOk result (λ g. HaveMachine before (map object_of inputs.now) g.arch) }
     // A fault is the first one.
@@ -240,14 +240,14 @@ fn order_sources(sources: &mut Vec<Source<'_>>) -> Result<(), GatherFault>
 fn functions(
     alloc: Global,
     rows: &StoredRows,
-    kept: &[StoredFunction],
+    kept: &KeptFunctions,
 ) -> Result<Vec<Func>, AllocError>
     requires { All (IsStored rows.now) kept.now }
     ensures { IfOk result (λ functions. functions.items ≡ map (stored_in rows.now) kept.now) }
 {
     let mut functions = Vec::with_capacity(alloc, kept.len())?;
-    for stored in kept {
-        functions.push(rows.function(alloc, stored)?)?;
+    for number in 0..kept.len() {
+        functions.push(rows.function(alloc, kept.function(number))?)?;
     }
     Ok(functions)
 }

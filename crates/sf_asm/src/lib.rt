@@ -42,6 +42,7 @@ mod source;
 
 pub use address::row_at;
 pub use assembling::{Linked, assemble};
+pub use entries::KeptFunctions;
 pub use fault::{AsmFault, GatherFault, LinkFault};
 pub use gathering::{
     Gathered, Together, WithSources, gather, gather_together, gather_with_sources,

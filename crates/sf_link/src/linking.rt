@@ -8,7 +8,7 @@ ghost use Rattle.sf_asm.specs.Functions.{object_of};
 
 use sf_asm::{GatherFault, Input, LinkFault, Linked, gather_together};
 use sf_model::Arch;
-use sf_write::{WriteFault, write_stored};
+use sf_write::{StoredList, WriteFault, write_stored};
 use std::alloc::Global;
 
 /// Makes the SFrame section of 1 to 512 inputs, for the address `at`. `before` is the machine of an item

@@ -4,6 +4,7 @@ pub mod FunctionsWritten
 pub mod Kept
 pub mod LastStart
 pub mod Lengths
+pub mod Listed
 pub mod NumbersFit
 pub mod Places
 pub mod RowsReadBack

@@ -8,6 +8,7 @@ ghost use Rattle.sf_write.specs.Room.{head_fits};
 ghost use Rattle.sf_write.specs.Stored.{first_stored_out_of_reach, stored_entries, stored_fits, stored_len, HasWidth};
 
 use crate::fault::WriteFault;
+use crate::list::StoredList;
 use crate::number::{push_signed_word, push_word};
 use crate::reach::start_field;
 use crate::stored::StoredFunction;
@@ -15,24 +16,23 @@ use sf_decode::layout::{FUNCTION_TYPE, KEY};
 use sf_model::{FuncHead, Key, Shape};
 
 /// Appends the entries of all functions of a section at `at`.
-pub(crate) fn push_entries(
+pub(crate) fn push_entries<L: StoredList>(
     bytes: &mut Vec<u8>,
     at: u64,
-    functions: &[StoredFunction],
+    functions: &L,
 ) -> Result<(), WriteFault>
-    requires count { length functions.now ≤ 2 ^ 21 }
-    requires len { stored_len functions.now ≤ 17 * 2 ^ 24 }
-    requires widths { All HasWidth functions.now }
-    ensures ok { OnOk result (bytes.new.items ≡ bytes.old.items ++ stored_entries at 0 0 functions.now) }
-    ensures fits { OnOk result (IsTrue (list_all stored_fits functions.now)) }
-    ensures in_reach { OnOk result (first_stored_out_of_reach at 0 functions.now ≡ None) }
-    ensures fault { IfErr result (λ e. Refuses e (first_stored_out_of_reach at 0 functions.now)) }
+    requires count { length (L.listed functions.now) ≤ 2 ^ 21 }
+    requires len { stored_len (L.listed functions.now) ≤ 17 * 2 ^ 24 }
+    requires widths { All HasWidth (L.listed functions.now) }
+    ensures ok { OnOk result (bytes.new.items ≡ bytes.old.items ++ stored_entries at 0 0 (L.listed functions.now)) }
+    ensures fits { OnOk result (IsTrue (list_all stored_fits (L.listed functions.now))) }
+    ensures in_reach { OnOk result (first_stored_out_of_reach at 0 (L.listed functions.now) ≡ None) }
+    ensures fault { IfErr result (λ e. Refuses e (first_stored_out_of_reach at 0 (L.listed functions.now))) }
 {
-    let mut number = 0;
     let mut place = 0;
-    for stored in functions {
-        push_entry(bytes, at, number, place, stored)?;
-        number += 1;
+    for number in 0..functions.len() {
+        let stored = functions.function(number);
+        push_entry(bytes, at, number as u32, place, stored)?;
         place += stored.len;
     }
     Ok(())

@@ -25,6 +25,7 @@ mod fault;
 mod header;
 mod laws;
 mod layout;
+mod list;
 mod number;
 mod reach;
 mod row;
@@ -34,6 +35,7 @@ mod totals;
 
 pub use fault::WriteFault;
 pub use laws::functions_that_fit_have_a_section;
+pub use list::StoredList;
 pub use section::{write, write_stored};
 pub use stored::{StoredFunction, StoredRows};
 

@@ -15,7 +15,8 @@ use crate::entry::push_entries;
 use crate::fault::WriteFault;
 use crate::header::push_header;
 use crate::layout::{FUNCTION_ENTRY_LEN, HEADER_LEN};
-use crate::stored::{StoredFunction, StoredRows};
+use crate::list::StoredList;
+use crate::stored::StoredRows;
 use crate::totals::totals_of;
 use sf_model::{Arch, Func};
 use std::alloc::{AllocError, Global};
@@ -44,7 +45,7 @@ pub fn write(alloc: Global, arch: Arch, at: u64, funcs: &[Func]) -> Result<Vec<u
     for func in funcs {
         functions.push(rows.push(arch, func)?)?;
     }
-    write_stored(alloc, arch, at, &rows, functions.as_slice())
+    write_stored(alloc, arch, at, &rows, &functions)
 }
 
 /// The section of stored functions, in their order, for the address `at`: that which [`write`] makes of
@@ -54,24 +55,24 @@ pub fn write(alloc: Global, arch: Arch, at: u64, funcs: &[Func]) -> Result<Vec<u
 ///
 /// `OutOfReach` names the first start that does not lie within -2^31 to 2^31-1 bytes of its own field.
 #[tactic(auto, unfolding(crate::specs::Section::section_bytes))]
-pub fn write_stored(
+pub fn write_stored<L: StoredList>(
     alloc: Global,
     arch: Arch,
     at: u64,
     rows: &StoredRows,
-    functions: &[StoredFunction],
+    functions: &L,
 ) -> Result<Vec<u8>, WriteFault>
-    requires stored { All (IsStored rows.now) functions.now }
-    requires writable { AreWritable arch (map (stored_in rows.now) functions.now) }
-    ensures section { IfOk result (λ v. Section v.items at (table_of arch (map (stored_in rows.now) functions.now))) }
-    ensures tight { IfOk result (λ v. Tight v.items at (table_of arch (map (stored_in rows.now) functions.now))) }
-    ensures narrow { IfOk result (λ v. Narrow v.items (table_of arch (map (stored_in rows.now) functions.now))) }
-    ensures only { IfOk result (λ v. (other : List ℕ) → AreBytes other → Tight other at (table_of arch (map (stored_in rows.now) functions.now)) → Narrow other (table_of arch (map (stored_in rows.now) functions.now)) → other ≡ v.items) }
+    requires stored { All (IsStored rows.now) (L.listed functions.now) }
+    requires writable { AreWritable arch (map (stored_in rows.now) (L.listed functions.now)) }
+    ensures section { IfOk result (λ v. Section v.items at (table_of arch (map (stored_in rows.now) (L.listed functions.now)))) }
+    ensures tight { IfOk result (λ v. Tight v.items at (table_of arch (map (stored_in rows.now) (L.listed functions.now)))) }
+    ensures narrow { IfOk result (λ v. Narrow v.items (table_of arch (map (stored_in rows.now) (L.listed functions.now)))) }
+    ensures only { IfOk result (λ v. (other : List ℕ) → AreBytes other → Tight other at (table_of arch (map (stored_in rows.now) (L.listed functions.now))) → Narrow other (table_of arch (map (stored_in rows.now) (L.listed functions.now))) → other ≡ v.items) }
     ensures are_bytes { IfOk result (λ v. AreBytes v.items) }
-    ensures bytes { IfOk result (λ v. v.items ≡ section_bytes arch at (map (stored_in rows.now) functions.now)) }
-    ensures len { IfOk result (λ v. vec_len v ≡ section_len (map (stored_in rows.now) functions.now)) }
-    ensures in_reach { OnOk result (first_out_of_reach at 0 (map (stored_in rows.now) functions.now) ≡ None) }
-    ensures fault { IfErr result (λ e. Refuses e (first_out_of_reach at 0 (map (stored_in rows.now) functions.now))) }
+    ensures bytes { IfOk result (λ v. v.items ≡ section_bytes arch at (map (stored_in rows.now) (L.listed functions.now))) }
+    ensures len { IfOk result (λ v. vec_len v ≡ section_len (map (stored_in rows.now) (L.listed functions.now))) }
+    ensures in_reach { OnOk result (first_out_of_reach at 0 (map (stored_in rows.now) (L.listed functions.now)) ≡ None) }
+    ensures fault { IfErr result (λ e. Refuses e (first_out_of_reach at 0 (map (stored_in rows.now) (L.listed functions.now)))) }
 {
     let totals = totals_of(functions);
     let count = functions.len() as u32;
@@ -84,16 +85,16 @@ pub fn write_stored(
 }
 
 /// Appends the rows of all functions.
-fn push_all_rows(
+fn push_all_rows<L: StoredList>(
     bytes: &mut Vec<u8>,
     rows: &StoredRows,
-    functions: &[StoredFunction],
+    functions: &L,
 ) -> Result<(), AllocError>
-    requires { All (IsStored rows.now) functions.now }
-    ensures { OnOk result (bytes.new.items ≡ bytes.old.items ++ flat_map (λ (f : func_fact). rows_bytes f.rows) (map (stored_in rows.now) functions.now)) }
+    requires { All (IsStored rows.now) (L.listed functions.now) }
+    ensures { OnOk result (bytes.new.items ≡ bytes.old.items ++ flat_map (λ (f : func_fact). rows_bytes f.rows) (map (stored_in rows.now) (L.listed functions.now))) }
 {
-    for stored in functions {
-        bytes.extend_from_slice(rows.range(stored))?;
+    for number in 0..functions.len() {
+        bytes.extend_from_slice(rows.range(functions.function(number)))?;
     }
     Ok(())
 }

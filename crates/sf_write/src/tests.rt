@@ -75,7 +75,9 @@ fn section_of_two_stored(alloc: Global, arch: Arch, rows: &[Row]) -> Result<(Vec
     let second = function(alloc, 0x9000, 6, Key::A, rows)?;
     let mut stored = StoredRows::new(alloc);
     let last = stored.push(arch, &second)?;
-    let functions = [stored.push(arch, &first)?, last];
+    let mut functions = Vec::new(alloc);
+    functions.push(stored.push(arch, &first)?)?;
+    functions.push(last)?;
     let section = write_stored(alloc, arch, 0x3000, &stored, &functions)?;
     Ok((section, stored.function(alloc, &functions[0])?))
 }

@@ -3,7 +3,7 @@
 ghost use Rattle.std.specs.Prelude.{◌≡◌, ◌≤◌, ◌^◌, ◌*◌};
 ghost use Rattle.sf_write.specs.Stored.{stored_count, stored_len};
 
-use crate::stored::StoredFunction;
+use crate::list::StoredList;
 
 /// The sizes of all rows together.
 #[derive(Clone, Copy)]
@@ -15,15 +15,16 @@ pub(crate) struct Totals {
 }
 
 /// Adds the rows of all functions up.
-pub(crate) fn totals_of(functions: &[StoredFunction]) -> Totals
-    requires rows { stored_count functions.now ≤ 2 ^ 24 }
-    requires len { stored_len functions.now ≤ 17 * 2 ^ 24 }
-    ensures rows { result.rows ≡ stored_count functions.now }
-    ensures len { result.row_bytes ≡ stored_len functions.now }
+pub(crate) fn totals_of<L: StoredList>(functions: &L) -> Totals
+    requires rows { stored_count (L.listed functions.now) ≤ 2 ^ 24 }
+    requires len { stored_len (L.listed functions.now) ≤ 17 * 2 ^ 24 }
+    ensures rows { result.rows ≡ stored_count (L.listed functions.now) }
+    ensures len { result.row_bytes ≡ stored_len (L.listed functions.now) }
 {
     let mut rows = 0;
     let mut row_bytes = 0;
-    for stored in functions {
+    for number in 0..functions.len() {
+        let stored = functions.function(number);
         rows += stored.head.rows;
         row_bytes += stored.len;
     }

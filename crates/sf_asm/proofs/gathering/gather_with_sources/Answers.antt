@@ -1,7 +1,6 @@
 use Rattle.std.proofs.Common.{List, Ok, map, ap, subst, sym, ◌∙◌}
 use Rattle.std.proofs.lemmas.Result.{err_from_is_err_and}
 use Rattle.sf_model.specs.Function.{AreWritable}
-use Rattle.sf_write.specs.Stored.{stored_in}
 use Rattle.sf_asm.specs.declared.entry.Entry.{Entry}
 use Rattle.sf_asm.specs.Entry.{kept_of, omitted_of}
 use Rattle.sf_asm.specs.Functions.{object_of}
@@ -19,7 +18,7 @@ returns-clause-gathered c =
     let entries = c.in_ok-read.read.entries in
     let read = are_read c.args.before objects entries c.in_ok-read.ensures.gathered in
     let is = ordered_are read.functions entries read.in_order in
-    let kept = c.in_ok-functions.ensures ∙ ap (map (stored_in c.in_ok-together.together.rows)) c.deref.ensures.value ∙ c.in_ok-together.ensures.kept in
+    let kept = c.in_ok-functions.ensures ∙ c.in_ok-together.ensures.kept in
     record {
       functions = read.functions;
       are = read.are;

@@ -1,7 +1,5 @@
-use Rattle.std.proofs.Common.{List, map, Some, ap, sym, ◌∙◌, inr}
+use Rattle.std.proofs.Common.{map, Some, ap, sym, ◌∙◌, inr}
 use Rattle.std.proofs.lemmas.List.{length-map}
-use Rattle.sf_write.specs.declared.stored.StoredFunction.{StoredFunction}
-use Rattle.sf_write.specs.Reach.{first_out_of_reach}
 use Rattle.sf_write.specs.Stored.{stored_in}
 use Rattle.sf_asm.specs.Functions.{object_of}
 use Rattle.sf_asm.proofs.FaithfulSections.{linked, not_reached, reach_refused}
@@ -9,15 +7,15 @@ use Rattle.sf_link.proofs.linking.link.Goals as goal
 
 pub returns-in-Ok-write_stored-clause-linked : goal.returns-in-Ok-write_stored-clause-linked
 returns-in-Ok-write_stored-clause-linked c =
-    let written = rw c.deref.ensures.value at c.in-Ok-write_stored.ensures in
+    let written = c.in-Ok-write_stored.ensures in
     let gathered = c.in-Ok.ensures.gathered in
-    let kept = map (stored_in c.in-Ok.gathered.rows) c.in-Ok.gathered.kept.items in
+    let kept = map (stored_in c.in-Ok.gathered.rows) c.in-Ok.gathered.kept in
     linked c.args.before (map object_of c.args.inputs.now) c.args.at c.in-Ok-write_stored.section.items c.len.result c.in-Ok.gathered.arch kept c.in-Ok.gathered.omitted.items gathered.ordered gathered.is c.in-Ok.ensures.machine
-    gathered.kept_are gathered.omitted_are written.section written.tight written.narrow written.in_reach (c.len.ensures ∙ c.in-Ok.gathered.kept.ok.0 ∙ sym (length-map c.in-Ok.gathered.kept.items (stored_in c.in-Ok.gathered.rows)))
+    gathered.kept_are gathered.omitted_are written.section written.tight written.narrow written.in_reach (c.len.ensures ∙ sym (length-map c.in-Ok.gathered.kept (stored_in c.in-Ok.gathered.rows)))
 
 pub returns-in-Err-OutOfReach-clause-fault : goal.returns-in-Err-OutOfReach-clause-fault
 returns-in-Err-OutOfReach-clause-fault c =
     let gathered = c.in-Ok.ensures.gathered in
-    let kept = map (stored_in c.in-Ok.gathered.rows) c.in-Ok.gathered.kept.items in
+    let kept = map (stored_in c.in-Ok.gathered.rows) c.in-Ok.gathered.kept in
     inr (not_reached c.args.before (map object_of c.args.inputs.now) c.args.at kept gathered.ordered _ gathered.is gathered.kept_are
-    (ap (λ (fs : List StoredFunction). first_out_of_reach c.args.at 0 (map (stored_in c.in-Ok.gathered.rows) fs)) (sym c.deref.ensures.value) ∙ reach_refused c.in-Err-OutOfReach.field-0 c.in-Err-OutOfReach.start _ c.in-Err-OutOfReach.field-0-is c.in-Err-OutOfReach.ensures.fault ∙ ap Some (sym c.in-Err-OutOfReach.start-is)))
+    (reach_refused c.in-Err-OutOfReach.field-0 c.in-Err-OutOfReach.start _ c.in-Err-OutOfReach.field-0-is c.in-Err-OutOfReach.ensures.fault ∙ ap Some (sym c.in-Err-OutOfReach.start-is)))

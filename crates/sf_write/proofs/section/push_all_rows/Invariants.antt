@@ -6,7 +6,8 @@ use Rattle.sf_write.specs.Stored.{stored_in}
 use Rattle.sf_write.proofs.section.push_all_rows.Given as goal
 
 -- what is there and the rows of the functions that are left are all that is to be there
-abbrev pub invariant-loop-stored : goal.invariant-loop-stored
-invariant-loop-stored l =
-    l.bytes.items ++ flat_map (λ (f : Func). rows_bytes f.rows) (map (stored_in l.rows) (drop l.stored-index l.functions))
-    ≡ l.initial.bytes.items ++ flat_map (λ (f : Func). rows_bytes f.rows) (map (stored_in l.rows) l.functions)
+abbrev pub invariant-loop-number : goal.invariant-loop-number
+invariant-loop-number g l =
+    let listed = g.L.StoredList.listed l.functions in
+    l.bytes.items ++ flat_map (λ (f : Func). rows_bytes f.rows) (map (stored_in l.rows) (drop l.number listed))
+    ≡ l.initial.bytes.items ++ flat_map (λ (f : Func). rows_bytes f.rows) (map (stored_in l.rows) listed)

@@ -19,7 +19,7 @@ loop-func-preserved c =
 pub returns-clause-only : goal.returns-clause-only
 returns-clause-only c =
     let end : c.loop-func.func-index ≡ length c.args.funcs.now = omega (c.loop-func-test.false, c.loop-func.auto.func-index-end, arith) in
-    let all : map (stored_in c.loop-func.rows) c.as_slice.result.now ≡ c.args.funcs.now =
-    ap (map (stored_in c.loop-func.rows)) c.as_slice.ensures.value ∙ (c.loop-func.invariant.functions ∙ (ap (λ (k : ℕ). take k c.args.funcs.now) end ∙ take-length c.args.funcs.now)) in
+    let all : map (stored_in c.loop-func.rows) c.loop-func.functions.items ≡ c.args.funcs.now =
+    (c.loop-func.invariant.functions ∙ (ap (λ (k : ℕ). take k c.args.funcs.now) end ∙ take-length c.args.funcs.now)) in
     subst (λ (fs : List Func). IfOk c.write_stored.result (λ v. (other : List ℕ) → AreBytes other → Tight other c.args.at (table_of c.args.arch fs) → Narrow other (table_of c.args.arch fs) → other ≡ v.items))
     all c.write_stored.ensures.only

@@ -1,9 +1,9 @@
-use Rattle.std.proofs.Common.{◌≤◌, ◌∙◌, ℕ, List, Option, ap, sym, subst, arith, rules, length, map, IfErr}
+use Rattle.std.proofs.Common.{◌≤◌, ◌++◌, ◌∙◌, ℕ, List, Option, ap, sym, subst, arith, rules, length, map, IfErr}
 use Rattle.sf_model.specs.declared.function.Func.{Func}
 use Rattle.sf_model.specs.Section.{AreBytes}
 use Rattle.sf_model.proofs.TightOne.{tight_one}
 use Rattle.sf_write.specs.Reach.{Refuses}
-use Rattle.sf_write.specs.Section.{row_section_len, table_of}
+use Rattle.sf_write.specs.Section.{header_bytes, row_section_len, table_of}
 use Rattle.sf_write.specs.Stored.{stored_in}
 use Rattle.sf_write.proofs.BytesWritten.{section_is_bytes}
 use Rattle.sf_write.proofs.Lengths.{length-section}
@@ -14,63 +14,63 @@ use Rattle.sf_write.proofs.StoredFunctions.{all_rows_fit}
 use Rattle.sf_write.proofs.section.write_stored.Goals as goal
 
 pub totals_of-totals-requires-clause-rows : goal.totals_of-totals-requires-clause-rows
-totals_of-totals-requires-clause-rows c = few_rows c.args.arch c.args.rows.now c.args.functions.now c.requires.stored c.requires.writable
+totals_of-totals-requires-clause-rows g c = few_rows c.args.arch c.args.rows.now (g.L.StoredList.listed c.args.functions.now) c.requires.stored c.requires.writable
 
 pub totals_of-totals-requires-clause-len : goal.totals_of-totals-requires-clause-len
-totals_of-totals-requires-clause-len c = few_bytes c.args.arch c.args.rows.now c.args.functions.now c.requires.stored c.requires.writable
+totals_of-totals-requires-clause-len g c = few_bytes c.args.arch c.args.rows.now (g.L.StoredList.listed c.args.functions.now) c.requires.stored c.requires.writable
 
 pub overflow_add-len-2 : goal.overflow_add-len-2
-overflow_add-len-2 c =
-    let bytes = few_bytes c.args.arch c.args.rows.now c.args.functions.now c.requires.stored c.requires.writable in
-    let functions = few_functions c.args.arch c.args.rows.now c.args.functions.now c.requires.writable in
+overflow_add-len-2 g c =
+    let bytes = few_bytes c.args.arch c.args.rows.now (g.L.StoredList.listed c.args.functions.now) c.requires.stored c.requires.writable in
+    let functions = few_functions c.args.arch c.args.rows.now (g.L.StoredList.listed c.args.functions.now) c.requires.writable in
     record { fits = omega (bytes, functions, c.totals_of-totals.ensures.len, arith) }
 
 pub push_entries-requires-clause-len : goal.push_entries-requires-clause-len
-push_entries-requires-clause-len c = few_bytes c.args.arch c.args.rows.now c.args.functions.now c.requires.stored c.requires.writable
+push_entries-requires-clause-len g c = few_bytes c.args.arch c.args.rows.now (g.L.StoredList.listed c.args.functions.now) c.requires.stored c.requires.writable
 
 pub returns-in_err-push_entries-clause-fault : goal.returns-in_err-push_entries-clause-fault
-returns-in_err-push_entries-clause-fault c =
-    subst (λ (o : Option ℕ). IfErr c.from_residual-in_err-push_entries.result (λ e. Refuses e o)) (reach c.args.rows.now c.args.at 0 c.args.functions.now c.requires.stored) (search rules)
+returns-in_err-push_entries-clause-fault g c =
+    subst (λ (o : Option ℕ). IfErr c.from_residual-in_err-push_entries.result (λ e. Refuses e o)) (reach c.args.rows.now c.args.at 0 (g.L.StoredList.listed c.args.functions.now) c.requires.stored) (search rules)
 
 pub returns-clause-in_reach : goal.returns-clause-in_reach
-returns-clause-in_reach c = sym (reach c.args.rows.now c.args.at 0 c.args.functions.now c.requires.stored) ∙ c.in_ok-push_entries.ensures.in_reach
+returns-clause-in_reach g c = sym (reach c.args.rows.now c.args.at 0 (g.L.StoredList.listed c.args.functions.now) c.requires.stored) ∙ c.in_ok-push_entries.ensures.in_reach
 
 pub returns-clause-bytes : goal.returns-clause-bytes
-returns-clause-bytes c =
-    joined c.args.arch c.args.at c.args.rows.now c.args.functions.now c.totals_of-totals.result.rows c.totals_of-totals.result.row_bytes c.in_ok-bytes.bytes.items c.push_header.new.bytes.items
+returns-clause-bytes g c =
+    joined c.args.arch c.args.at c.args.rows.now (g.L.StoredList.listed c.args.functions.now) c.totals_of-totals.result.rows c.totals_of-totals.result.row_bytes c.in_ok-bytes.bytes.items c.push_header.new.bytes.items
     c.push_entries.new.bytes.items c.push_all_rows.new.bytes.items c.requires.stored c.totals_of-totals.ensures.rows c.totals_of-totals.ensures.len c.in_ok-bytes.ensures.items
-    c.in_ok-push_header.ensures c.in_ok-push_entries.ensures.ok c.in_ok-push_all_rows.ensures
+    (c.in_ok-push_header.ensures ∙ ap (λ (count : ℕ). c.in_ok-bytes.bytes.items ++ header_bytes c.args.arch count c.totals_of-totals.result.rows c.totals_of-totals.result.row_bytes) c.len-count.ensures) c.in_ok-push_entries.ensures.ok c.in_ok-push_all_rows.ensures
 
 pub returns-clause-len : goal.returns-clause-len
-returns-clause-len c =
-    c.push_all_rows.new.bytes.ok.0 ∙ (ap length (returns-clause-bytes c) ∙ length-section c.args.arch c.args.at (map (stored_in c.args.rows.now) c.args.functions.now))
+returns-clause-len g c =
+    c.push_all_rows.new.bytes.ok.0 ∙ (ap length (returns-clause-bytes g c) ∙ length-section c.args.arch c.args.at (map (stored_in c.args.rows.now) (g.L.StoredList.listed c.args.functions.now)))
 
 -- what is written, by the ranges of the numbers that were read on the way
-written : (c : goal.In_ok-push_all_rows) → SectionWritten c.args.arch c.push_all_rows.new.bytes.items c.args.at (map (stored_in c.args.rows.now) c.args.functions.now)
-written c =
-    let functions : List Func = map (stored_in c.args.rows.now) c.args.functions.now in
+written : (g : _) (c : goal.In_ok-push_all_rows g) → SectionWritten c.args.arch c.push_all_rows.new.bytes.items c.args.at (map (stored_in c.args.rows.now) (g.L.StoredList.listed c.args.functions.now))
+written g c =
+    let functions : List Func = map (stored_in c.args.rows.now) (g.L.StoredList.listed c.args.functions.now) in
     let short = short_functions functions in
     let few = c.requires.writable.row_count in
     let len : row_section_len functions ≤ 285212672 = omega (short, few, arith) in
     section_written c.args.arch c.push_all_rows.new.bytes.items c.args.at functions c.requires.writable
-    (fits c.args.rows.now c.args.functions.now c.requires.stored c.in_ok-push_entries.ensures.fits) (all_rows_fit c.args.rows.now c.args.functions.now c.requires.stored)
-    (returns-clause-in_reach c) len (returns-clause-bytes c)
+    (fits c.args.rows.now (g.L.StoredList.listed c.args.functions.now) c.requires.stored c.in_ok-push_entries.ensures.fits) (all_rows_fit c.args.rows.now (g.L.StoredList.listed c.args.functions.now) c.requires.stored)
+    (returns-clause-in_reach g c) len (returns-clause-bytes g c)
 
 pub returns-clause-section : goal.returns-clause-section
-returns-clause-section c = (written c).tight.section
+returns-clause-section g c = (written g c).tight.section
 
 pub returns-clause-tight : goal.returns-clause-tight
-returns-clause-tight c = (written c).tight
+returns-clause-tight g c = (written g c).tight
 
 pub returns-clause-narrow : goal.returns-clause-narrow
-returns-clause-narrow c = (written c).narrow
+returns-clause-narrow g c = (written g c).narrow
 
 pub returns-clause-are_bytes : goal.returns-clause-are_bytes
-returns-clause-are_bytes c =
-    subst AreBytes (sym (returns-clause-bytes c))
-    (section_is_bytes c.args.arch c.args.at (map (stored_in c.args.rows.now) c.args.functions.now) (fits c.args.rows.now c.args.functions.now c.requires.stored c.in_ok-push_entries.ensures.fits))
+returns-clause-are_bytes g c =
+    subst AreBytes (sym (returns-clause-bytes g c))
+    (section_is_bytes c.args.arch c.args.at (map (stored_in c.args.rows.now) (g.L.StoredList.listed c.args.functions.now)) (fits c.args.rows.now (g.L.StoredList.listed c.args.functions.now) c.requires.stored c.in_ok-push_entries.ensures.fits))
 
 pub returns-clause-only : goal.returns-clause-only
-returns-clause-only c = λ other other_bytes other_tight other_narrow.
-    tight_one other c.push_all_rows.new.bytes.items c.args.at (table_of c.args.arch (map (stored_in c.args.rows.now) c.args.functions.now)) other_bytes (returns-clause-are_bytes c)
-    other_tight (written c).tight other_narrow (written c).narrow
+returns-clause-only g c = λ other other_bytes other_tight other_narrow.
+    tight_one other c.push_all_rows.new.bytes.items c.args.at (table_of c.args.arch (map (stored_in c.args.rows.now) (g.L.StoredList.listed c.args.functions.now))) other_bytes (returns-clause-are_bytes g c)
+    other_tight (written g c).tight other_narrow (written g c).narrow

@@ -1,9 +1,10 @@
-use Rattle.std.proofs.Common.{◌≡◌, ◌∙◌, List, [], ◌∷◌, IsTrue, sym, subst, arith}
+use Rattle.std.proofs.Common.{◌≡◌, ◌∙◌, ◌++◌, List, [], ◌∷◌, IsTrue, ap, map, sym, subst, arith}
 use Rattle.sf_model.specs.declared.machine.Arch.{Arch}
 use Rattle.sf_model.specs.declared.machine.Key.TheVariants.{A}
 use Rattle.sf_model.specs.declared.rows.Row.{Row}
 use Rattle.sf_model.specs.declared.function.Func.{Func}
 use Rattle.sf_model.specs.Function.{AreWritable}
+use Rattle.sf_write.specs.declared.stored.StoredFunction.{StoredFunction}
 use Rattle.sf_write.specs.Stored.{stored_in}
 use Rattle.sf_write.specs.Writable.{are_writable, function_of}
 use Rattle.sf_write.proofs.Writing.{are_writable_gives}
@@ -27,9 +28,13 @@ push-requires-2 c =
 
 pub write_stored-requires-clause-writable : goal.write_stored-requires-clause-writable
 write_stored-requires-clause-writable c =
-    let last = c.in_ok-last.ensures.pushed in
-    let first = c.in_ok-push.ensures.pushed in
-    let kept : stored_in c.push-2.new.self c.in_ok-last.last ≡ c.in_ok-second.second = (c.push-2.ensures.keeps c.in_ok-last.last last.0).1 ∙ last.1 in
-    subst (λ (x : Func). AreWritable c.args.arch (x ∷ stored_in c.push-2.new.self c.in_ok-last.last ∷ [])) (sym first.1)
+    let first = c.in_ok-push.field-0 in
+    let last = c.in_ok-last.last in
+    let listed : c.push-4.new.self.items ≡ first ∷ last ∷ [] =
+    c.in_ok-push-3.ensures.items
+    ∙ ap (λ (fs : List StoredFunction). fs ++ last ∷ []) (c.in_ok-push-2.ensures.items ∙ ap (λ (fs : List StoredFunction). fs ++ first ∷ []) c.new-functions.ensures.items) in
+    let kept : stored_in c.push-2.new.self last ≡ c.in_ok-second.second = (c.push-2.ensures.keeps last c.in_ok-last.ensures.pushed.0).1 ∙ c.in_ok-last.ensures.pushed.1 in
+    subst (λ (fs : List StoredFunction). AreWritable c.args.arch (map (stored_in c.push-2.new.self) fs)) (sym listed)
+    (subst (λ (x : Func). AreWritable c.args.arch (x ∷ stored_in c.push-2.new.self last ∷ [])) (sym c.in_ok-push.ensures.pushed.1)
     (subst (λ (x : Func). AreWritable c.args.arch (c.in_ok-first.first ∷ x ∷ [])) (sym kept)
-    (both c.args.arch c.args.rows.now c.in_ok-first.first c.in_ok-second.second c.in_ok-first.ensures c.in_ok-second.ensures c.requires))
+    (both c.args.arch c.args.rows.now c.in_ok-first.first c.in_ok-second.second c.in_ok-first.ensures c.in_ok-second.ensures c.requires)))

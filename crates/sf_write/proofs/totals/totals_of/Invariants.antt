@@ -2,6 +2,7 @@ use Rattle.std.proofs.Common.{◌≡◌, take}
 use Rattle.sf_write.specs.Stored.{stored_count, stored_len}
 use Rattle.sf_write.proofs.totals.totals_of.Given as goal
 
-abbrev pub invariant-loop-stored : goal.invariant-loop-stored
-invariant-loop-stored l =
-    (l.rows ≡ stored_count (take l.stored-index l.functions)) × (l.row_bytes ≡ stored_len (take l.stored-index l.functions))
+abbrev pub invariant-loop-number : goal.invariant-loop-number
+invariant-loop-number g l =
+    let listed = g.L.StoredList.listed l.functions in
+    (l.rows ≡ stored_count (take l.number listed)) × (l.row_bytes ≡ stored_len (take l.number listed))
