@@ -92,12 +92,16 @@ fn expect_case(rt: &impl Abort, alloc: Global, case: &Case) -> Result<(), Fail> 
     Ok(())
 }
 
-#[test]
-fn two_inputs_are_linked_or_refused(rt: HostRuntime) -> Result<(), Fail> {
-    for case in &CASES {
-        expect_case(&rt, rt.alloc(), case)?;
+fn expect_cases(rt: &impl Abort, alloc: Global, cases: &[Case]) -> Result<(), Fail> {
+    for case in cases {
+        expect_case(rt, alloc, case)?;
     }
     Ok(())
+}
+
+#[test]
+fn two_inputs_are_linked_or_refused(rt: HostRuntime) -> Result<(), Fail> {
+    expect_cases(&rt, rt.alloc(), &CASES)
 }
 
 /// The starts of the kept functions, list by list, of the omitted ones, and of all.
