@@ -20,6 +20,3 @@ pub use fault::InsnFault;
 pub use insn::Insn;
 pub use insns::Insns;
 pub use laws::listing_law;
-
-#[cfg(test)]
-mod tests;

@@ -30,6 +30,3 @@ pub use row::DwRow;
 pub use rule::{CfaRule, Rule};
 pub use runner::Runner;
 pub use table::rows;
-
-#[cfg(test)]
-mod tests;

@@ -33,6 +33,3 @@ pub use iter::ThreadIter;
 pub use laws::core_is_its_notes;
 pub use status::Thread;
 pub use view::Core;
-
-#[cfg(test)]
-mod tests;

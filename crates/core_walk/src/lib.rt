@@ -16,6 +16,3 @@ mod walking;
 
 pub use look_up::LookUp;
 pub use walking::{walk, walk_by};
-
-#[cfg(test)]
-mod tests;

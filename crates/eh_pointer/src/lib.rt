@@ -14,6 +14,3 @@ mod passing;
 pub use encoding::{size, usable, value, width};
 pub use fault::PointerFault;
 pub use passing::skip;
-
-#[cfg(test)]
-mod tests;

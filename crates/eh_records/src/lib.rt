@@ -35,6 +35,3 @@ pub use fde::Fde;
 pub use iter::FdeIter;
 pub use laws::{entries_law, pointer_fields_stand};
 pub use records::Records;
-
-#[cfg(test)]
-mod tests;

@@ -23,6 +23,3 @@ mod relocations;
 pub use fault::PlaceFault;
 pub use placed::Placed;
 pub use relocations::RelocationSection;
-
-#[cfg(test)]
-mod tests;

@@ -49,6 +49,3 @@ pub use laws::{compressed_law, room_law};
 pub use number::{u32_at, u64_at};
 pub use text::Text;
 pub use view::Elf;
-
-#[cfg(test)]
-mod tests;

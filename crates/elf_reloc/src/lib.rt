@@ -27,6 +27,3 @@ mod target;
 pub use fault::RelocFault;
 pub use laws::{fields_hold_what_is_patched, relocations_are_applied};
 pub use relocs::Relocs;
-
-#[cfg(test)]
-mod tests;

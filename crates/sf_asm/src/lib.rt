@@ -56,6 +56,3 @@ pub use pieces::pieces_said;
 pub use said::Said;
 pub use sf_model::Form;
 pub use source::Source;
-
-#[cfg(test)]
-mod tests;

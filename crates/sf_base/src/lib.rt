@@ -45,6 +45,3 @@ pub use sink::Sink;
 pub use sure_files::SureFiles;
 pub use sure_sink::SureSink;
 pub use word::{dec_word, hex_word};
-
-#[cfg(test)]
-mod tests;

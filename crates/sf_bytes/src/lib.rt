@@ -16,8 +16,6 @@ mod field;
 mod leb;
 mod part;
 mod reads;
-#[cfg(test)]
-mod tests;
 mod text;
 
 pub use fault::ByteFault;

@@ -30,8 +30,6 @@ mod notice;
 mod number;
 mod parsing;
 mod row;
-#[cfg(test)]
-mod tests;
 mod view;
 
 pub use fault::DecodeFault;

@@ -25,6 +25,3 @@ pub use pieces::{Piece, piece_at, pieces_of_rows, pieces_run};
 pub use recovery::{functions_recover_alike, rows_recover_alike};
 pub use row::{content, content_at};
 pub use run::express_run;
-
-#[cfg(test)]
-mod tests;

@@ -16,6 +16,3 @@ mod places;
 mod sections;
 
 pub use file::object;
-
-#[cfg(test)]
-mod tests;

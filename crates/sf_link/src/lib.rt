@@ -11,6 +11,3 @@
 mod linking;
 
 pub use linking::link;
-
-#[cfg(test)]
-mod tests;

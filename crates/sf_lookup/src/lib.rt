@@ -41,6 +41,3 @@ pub use span::Span;
 pub use spans::Spans;
 pub use starts::Starts;
 pub use steps::Steps;
-
-#[cfg(test)]
-mod tests;

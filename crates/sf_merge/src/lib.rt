@@ -42,6 +42,3 @@ pub use located::{Located, Rank};
 pub use merging::{MergedSection, merge};
 pub use overlap::shared_entry;
 pub use reading::in_order;
-
-#[cfg(test)]
-mod tests;

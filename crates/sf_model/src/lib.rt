@@ -42,6 +42,3 @@ pub use recovery::{Recovered, Regs, moved, recover};
 pub use rows::{Row, Rows};
 pub use verdict::Verdict;
 pub use walk::{Frame, Stop, Walk};
-
-#[cfg(test)]
-mod tests;

@@ -1,7 +1,10 @@
--- The operations at numbers that tell signed from unsigned and one order from the other, and the expression's value in an entry.
+-- The operations at numbers that tell signed from unsigned and one order from the other, the expression's value in an entry, and
+-- small limits.
 use Rattle.std.proofs.Common.{◌≡◌, ◌-◌, ◌^◌, [], ◌∷◌, Some, None, refl}
 use Rattle.sf_model.specs.Recovery.{moved}
+use Rattle.sf_asm.specs.declared.fault.GatherFault.TheVariants.{TooManyFunctions, TooManyRows}
 use Rattle.sf_plt.specs.Expression.{done_alone, expression_value}
+use Rattle.sf_plt.specs.Linking.{further_fault}
 
 -- -1 is not 0 or more, and 0 is -1 or more
 signed_below : done_alone 0x2a (0 ∷ (2 ^ 64 - 1) ∷ []) ≡ Some (0 ∷ [])
@@ -33,3 +36,16 @@ before_push = refl
 after_push : expression_value 0x7ffe0000 0x101b ≡ Some 0x7ffe0010
 unfolding expression_value moved
 after_push = refl
+
+-- a table counts as a function and as four rows more, where seven functions and nine rows are the most
+within_limits : further_fault 7 9 5 1 2 ≡ None
+within_limits = refl
+
+functions_first : further_fault 7 9 6 2 2 ≡ Some TooManyFunctions
+functions_first = refl
+
+too_many_rows : further_fault 7 9 5 2 2 ≡ Some TooManyRows
+too_many_rows = refl
+
+without_tables : further_fault 7 9 7 9 0 ≡ None
+without_tables = refl

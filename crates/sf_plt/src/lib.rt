@@ -23,6 +23,3 @@ mod text;
 
 pub use laws::{linking_tables_comes_to_one_result, tables_recover_alike};
 pub use linking::{PltLinked, link_plt};
-
-#[cfg(test)]
-mod tests;

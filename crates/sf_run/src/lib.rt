@@ -13,6 +13,3 @@ mod tell;
 
 pub use command::run;
 pub use status::Status;
-
-#[cfg(test)]
-mod tests;

@@ -12,6 +12,3 @@ mod width;
 
 pub use row_length::{offset_count, offset_size, row_bytes, saved_offset};
 pub use width::row_type;
-
-#[cfg(test)]
-mod tests;

@@ -27,6 +27,3 @@ pub use laws::{
     slimming_comes_to_one_result,
 };
 pub use slimming::{Slimmed, slim};
-
-#[cfg(test)]
-mod tests;

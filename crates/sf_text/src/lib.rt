@@ -42,6 +42,3 @@ pub use refusal::fault_line;
 pub use section_dump::dump;
 pub use slim_text::slim_line;
 pub use verdict_text::verdict;
-
-#[cfg(test)]
-mod tests;

@@ -12,4 +12,3 @@ pub mod RowsWritten
 pub mod SectionWritten
 pub mod StoredEntries
 pub mod StoredFunctions
-pub mod Writing

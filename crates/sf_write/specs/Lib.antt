@@ -5,5 +5,4 @@ pub mod Room
 pub mod Entry
 pub mod Reach
 pub mod Section
-pub mod Writable
 pub mod Stored

@@ -38,6 +38,3 @@ pub use laws::functions_that_fit_have_a_section;
 pub use list::StoredList;
 pub use section::{write, write_stored};
 pub use stored::{StoredFunction, StoredRows};
-
-#[cfg(test)]
-mod tests;

@@ -1,0 +1,154 @@
+//! Look-ups in whole sections, and what their rows recover.
+ghost use Rattle.std.specs.Prelude.{◌≡◌, ◌+◌, ◌<◌, ◌≤◌, [], length};
+ghost use Rattle.sf_lookup.specs.Starts.{NeverFall};
+
+use sf_decode::View;
+use sf_lookup::{Starts, Steps, find, last_start, recover_at, starts_never_fall};
+use sf_model::{Memory, Recovered, Regs};
+use std::marker::Brand;
+use std::sync::ledger::{Blank, Ledger};
+use std::test::Fail;
+
+// No function.
+const EMPTY: [u8; 28] = *b"\
+    \xe2\xde\x02\x05\x03\x00\xf8\x00\x00\x00\x00\x00\x00\x00\x00\x00\x00\x00\x00\x00\x00\x00\x00\x00\
+    \x00\x00\x00\x00\
+";
+
+// A function at 0x1000 that pushes its frame pointer, for a section at 0x3000.
+const PUSHING: [u8; 63] = *b"\
+    \xe2\xde\x02\x05\x03\x00\xf8\x00\x01\x00\x00\x00\x04\x00\x00\x00\x0f\x00\x00\x00\x00\x00\x00\x00\
+    \x14\x00\x00\x00\xe4\xdf\xff\xff\x06\x00\x00\x00\x00\x00\x00\x00\x04\x00\x00\x00\x00\x00\x00\x00\
+    \x00\x03\x08\x01\x05\x10\xf0\x04\x04\x10\xf0\x05\x05\x08\xf0\
+";
+
+// Two functions by falling start that share a row: at 0x3100 and at 0x3000.
+const FALLING: [u8; 71] = *b"\
+    \xe2\xde\x02\x00\x03\x00\xf8\x00\x02\x00\x00\x00\x02\x00\x00\x00\x03\x00\x00\x00\x00\x00\x00\x00\
+    \x28\x00\x00\x00\x00\x01\x00\x00\x10\x00\x00\x00\x00\x00\x00\x00\x01\x00\x00\x00\x00\x00\x00\x00\
+    \x00\x00\x00\x00\x10\x00\x00\x00\x00\x00\x00\x00\x01\x00\x00\x00\x00\x00\x00\x00\x00\x03\x08\
+";
+
+// A function at 0x1000 whose two rows repeat every 16 bytes; below with starts that count from the section.
+const REPEATING: [u8; 54] = *b"\
+    \xe2\xde\x02\x05\x03\x00\xf8\x00\x01\x00\x00\x00\x02\x00\x00\x00\x06\x00\x00\x00\x00\x00\x00\x00\
+    \x14\x00\x00\x00\xe4\xdf\xff\xff\x40\x00\x00\x00\x00\x00\x00\x00\x02\x00\x00\x00\x10\x10\x00\x00\
+    \x00\x03\x08\x0b\x03\x10\
+";
+
+const REPEATING_FROM_SECTION: [u8; 54] = *b"\
+    \xe2\xde\x02\x01\x03\x00\xf8\x00\x01\x00\x00\x00\x02\x00\x00\x00\x06\x00\x00\x00\x00\x00\x00\x00\
+    \x14\x00\x00\x00\x00\xe0\xff\xff\x40\x00\x00\x00\x00\x00\x00\x00\x02\x00\x00\x00\x10\x10\x00\x00\
+    \x00\x03\x08\x0b\x03\x10\
+";
+
+// Three functions by rising start that share a row: at 0x3000, without bytes at 0x3010, and at 0x3010.
+const THREE: [u8; 91] = *b"\
+    \xe2\xde\x02\x01\x03\x00\xf8\x00\x03\x00\x00\x00\x03\x00\x00\x00\x03\x00\x00\x00\x00\x00\x00\x00\
+    \x3c\x00\x00\x00\x00\x00\x00\x00\x10\x00\x00\x00\x00\x00\x00\x00\x01\x00\x00\x00\x00\x00\x00\x00\
+    \x10\x00\x00\x00\x00\x00\x00\x00\x00\x00\x00\x00\x01\x00\x00\x00\x00\x00\x00\x00\
+    \x10\x00\x00\x00\x20\x00\x00\x00\x00\x00\x00\x00\x01\x00\x00\x00\x00\x00\x00\x00\x00\x03\x08\
+";
+
+#[test]
+fn rows_are_found(rt: HostRuntime) -> Result<(), Fail> {
+    // The section, the address, and the function's start, the row's start and its first offset.
+    let cases: [(&[u8], u64, Option<(u64, u32, i32)>); 14] = [
+        (&EMPTY, 0, None),
+        (&EMPTY, 0x1000, None),
+        (&EMPTY, 0xffff_ffff_ffff_ffff, None),
+        (&FALLING, 0x3105, Some((0x3100, 0, 8))),
+        (&FALLING, 0x300f, Some((0x3000, 0, 8))),
+        (&FALLING, 0x3010, None),
+        (&REPEATING, 0x101b, Some((0x1000, 11, 16))),
+        (&REPEATING_FROM_SECTION, 0x101b, Some((0x1000, 11, 16))),
+        (&PUSHING, 0x1005, Some((0x1000, 5, 8))),
+        (&PUSHING, 0x1006, None),
+        (&THREE, 0x2fff, None),
+        (&THREE, 0x300f, Some((0x3000, 0, 8))),
+        (&THREE, 0x3010, Some((0x3010, 0, 8))),
+        (&THREE, 0x3030, None),
+    ];
+    for (section, pc, wanted) in cases {
+        let view = View::parse(section, 0x3000).ok().ok_or("a section")?;
+        let found = find(&view, pc).map(|found| (
+            found.func.start,
+            found.row.start,
+            found.row.content.cfa,
+        ));
+        assert_eq!(rt; found, wanted, "at {pc}");
+    }
+    Ok(())
+}
+
+/// A memory that holds nothing.
+struct Empty;
+
+impl Memory for Empty {
+    ghost regions = { λ _. [] };
+
+    #[tactic(auto, using(sf_model::proofs::Recoveries::read_nowhere))]
+    fn read8(&self, _address: u64) -> Option<u64> {
+        None
+    }
+}
+
+#[test]
+fn a_found_row_is_recovered_by(rt: HostRuntime) -> Result<(), Fail> {
+    let regs = Regs {
+        sp: 0x9000,
+        fp: 0x7000,
+        lr: 0,
+    };
+    let entered = Recovered {
+        cfa: 0x9008,
+        ra: None,
+        fp: Some(0x7000),
+        signed: None,
+    };
+    let view = View::parse(&PUSHING, 0x3000).ok().ok_or("a section")?;
+    assert_eq!(rt; recover_at(&view, 0x1000, &regs, &Empty), Some(entered));
+    assert_eq!(rt; recover_at(&view, 0x1006, &regs, &Empty), None);
+    Ok(())
+}
+
+/// Of three starts at most two are read.
+#[tactic(auto, using(crate::proofs::Worked::two_of_three))]
+fn last_of_three<L: Ledger, S: Starts<L>>(starts: &S, pc: u64, steps: &mut Steps<L>) -> Option<u32>
+    requires sorted { NeverFall (S.starts starts.now) }
+    requires three { length (S.starts starts.now) ≡ 3 }
+    ensures { steps.new ≤ steps.old + 2 }
+{
+    last_start(starts, pc, steps)
+}
+
+/// The number of the last of three functions that starts at the address or before; none in another section.
+fn last_function<L: Ledger>(view: &View<'_>, pc: u64, blank: Blank) -> Option<u32>
+    requires name { blank.name ≡ L.name }
+    requires parts { blank.parts ≡ L.parts }
+    requires some { 0 < blank.parts }
+{
+    if view.flags() % 2 != 1 || view.len() != 3 {
+        return None;
+    }
+    starts_never_fall(view);
+    last_of_three(view, pc, &mut Steps::<L>::new(blank))
+}
+
+#[test]
+fn the_last_start_is_found(rt: HostRuntime) -> Result<(), Fail> {
+    let cases = [
+        (0, None),
+        (0x2fff, None),
+        (0x3000, Some(0)),
+        (0x300f, Some(0)),
+        (0x3010, Some(2)),
+        (0xffff_ffff_ffff_ffff, Some(2)),
+    ];
+    let view = View::parse(&THREE, 0x3000).ok().ok_or("a section")?;
+    for (pc, wanted) in cases {
+        let last = last_function::<Brand>(&view, pc, Blank::new(1));
+        assert_eq!(rt; last, wanted, "at {pc}");
+    }
+    Ok(())
+}

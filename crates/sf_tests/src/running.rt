@@ -1,0 +1,280 @@
+//! Runs in which a call of a file or of a stream fails, and runs past a limit, over files and streams in memory.
+//! Whole runs of the program are cases in files, tried with the program.
+
+ghost use Rattle.std.specs.Prelude.{◌<◌};
+
+mod worked;
+
+use sf_base::{MemFiles, MemSink};
+use sf_run::{Status, run};
+use std::alloc::{AllocError, Global};
+use std::process::Abort;
+use std::test::Fail;
+use worked::{WORKED, Worked};
+
+/// How a run ends whose call fails: its status, its line, and what it leaves in `o`.
+#[derive(Drop)]
+struct End {
+    status: Status,
+    line: String,
+    section: Option<Vec<u8>>,
+}
+
+/// A run that ended.
+#[derive(Drop)]
+struct Ended {
+    status: Status,
+    files: MemFiles,
+    out: MemSink,
+    err: MemSink,
+}
+
+/// The words of a command line.
+fn words_of(alloc: Global, line: &str) -> Result<Vec<String>, AllocError> {
+    let mut words = Vec::new(alloc);
+    for word in line.split_whitespace() {
+        words.push(String::from_str(alloc, word)?)?;
+    }
+    Ok(words)
+}
+
+/// The bytes that are written in hexadecimal: `00*9` is nine of them.
+fn bytes_of(alloc: Global, text: &str) -> Result<Vec<u8>, Fail> {
+    let mut bytes = Vec::new(alloc);
+    for word in text.split_whitespace() {
+        let (byte, count) = word.split_once('*').unwrap_or((word, "1"));
+        for _ in 0..count.parse::<u32>()? {
+            bytes.push(u8::from_str_radix(byte, 16)?)?;
+        }
+    }
+    Ok(bytes)
+}
+
+/// Runs the words over these files.
+fn run_over(
+    alloc: Global,
+    words: &str,
+    mut files: MemFiles,
+    mut out: MemSink,
+    mut err: MemSink,
+) -> Result<Ended, Fail> {
+    let words = words_of(alloc, words)?;
+    let status = run(alloc, &words, &mut files, &mut out, &mut err);
+    Ok(Ended {
+        status,
+        files,
+        out,
+        err,
+    })
+}
+
+/// Runs a command over its files. Their calls with these numbers fail.
+fn run_worked(
+    alloc: Global,
+    worked: &Worked,
+    most: usize,
+    fails: Vec<u64>,
+    out: MemSink,
+) -> Result<Ended, Fail>
+    requires { 0 < most }
+{
+    let mut files = MemFiles::new(alloc, most, fails);
+    for (name, bytes) in worked.files {
+        let put = files.put(name, bytes_of(alloc, bytes)?);
+        put.ok().ok_or("memory")?;
+    }
+    let err = MemSink::new(alloc, 16, Vec::new(alloc));
+    run_over(alloc, worked.words, files, out, err)
+}
+
+/// The section that a run leaves.
+fn section_of(alloc: Global, worked: &Worked) -> Result<Option<Vec<u8>>, Fail> {
+    match worked.section {
+        Some(section) => Ok(Some(bytes_of(alloc, section)?)),
+        None => Ok(None),
+    }
+}
+
+/// How a run ends of which no call fails.
+fn done_of(alloc: Global, worked: &Worked) -> Result<End, Fail> {
+    Ok(End {
+        status: Status::Done,
+        line: String::new(alloc),
+        section: section_of(alloc, worked)?,
+    })
+}
+
+/// How a run ends for each call of its files, in their order, where that call fails: a file is opened, and read up to its end and
+/// once more; then the section's file is created and written.
+fn ends_of(alloc: Global, worked: &Worked, most: usize) -> Result<Vec<End>, Fail>
+    requires { 0 < most }
+{
+    let mut ends = Vec::new(alloc);
+    for (name, bytes) in worked.files {
+        let line = format!(in alloc; "read {name}\n")?;
+        ends.push(End {
+            status: Status::Read,
+            line: line.clone()?,
+            section: None,
+        })?;
+        for _ in bytes_of(alloc, bytes)?.chunks(most) {
+            ends.push(End {
+                status: Status::Read,
+                line: line.clone()?,
+                section: None,
+            })?;
+        }
+        ends.push(End {
+            status: Status::Read,
+            line,
+            section: None,
+        })?;
+    }
+    if let Some(section) = section_of(alloc, worked)? {
+        let line = String::from_str(alloc, "write file o\n")?;
+        ends.push(End {
+            status: Status::Write,
+            line: line.clone()?,
+            section: None,
+        })?;
+        let mut written = Vec::new(alloc);
+        for piece in section.chunks(most) {
+            ends.push(End {
+                status: Status::Write,
+                line: line.clone()?,
+                section: Some(written.clone()?),
+            })?;
+            written.extend_from_slice(piece)?;
+        }
+    }
+    Ok(ends)
+}
+
+/// Asserts how a run ended.
+fn expect(rt: &impl Abort, worked: &Worked, number: u64, ended: &Ended, end: &End, text: &[u8]) {
+    let Worked { words, .. } = worked;
+    assert_eq!(rt; ended.status, end.status, "{words}: call {number}");
+    assert_eq!(rt;
+        ended.err.bytes(),
+        end.line.as_bytes(),
+        "{words}: call {number}"
+    );
+    assert_eq!(rt; ended.out.bytes(), text, "{words}: call {number}");
+    assert_eq!(rt;
+        ended.files.get("o"),
+        end.section.as_deref(),
+        "{words}: call {number}"
+    );
+}
+
+/// Asserts that each call of the files that fails ends each run as it has to, and that there is no call after the last of them.
+fn expect_calls_of_files(rt: &impl Abort, alloc: Global, most: usize) -> Result<(), Fail>
+    requires { 0 < most }
+{
+    for worked in &WORKED {
+        let mut ends = ends_of(alloc, worked, most)?;
+        ends.push(done_of(alloc, worked)?)?;
+        for (number, end) in (1u64..).zip(&ends) {
+            let out = MemSink::new(alloc, 16, Vec::new(alloc));
+            let ended = run_worked(alloc, worked, most, vec![in alloc; number]?, out)?;
+            let text = if end.status == Status::Done {
+                worked.text
+            } else {
+                ""
+            };
+            expect(rt, worked, number, &ended, end, text.as_bytes());
+        }
+    }
+    Ok(())
+}
+
+/// Asserts that each write of the output that fails ends each run as it has to, with the section whole.
+fn expect_writes_of_output(rt: &impl Abort, alloc: Global, most: usize) -> Result<(), Fail>
+    requires { 0 < most }
+{
+    for worked in &WORKED {
+        let mut written = Vec::new(alloc);
+        for (number, piece) in (1u64..).zip(worked.text.as_bytes().chunks(most)) {
+            let out = MemSink::new(alloc, most, vec![in alloc; number]?);
+            let ended = run_worked(alloc, worked, 64, Vec::new(alloc), out)?;
+            let end = End {
+                status: Status::Write,
+                line: String::from_str(alloc, "write output\n")?,
+                section: section_of(alloc, worked)?,
+            };
+            expect(rt, worked, number, &ended, &end, &written);
+            written.extend_from_slice(piece)?;
+        }
+    }
+    Ok(())
+}
+
+#[test]
+fn each_call_of_files_that_move_one_byte_fails(rt: HostRuntime) -> Result<(), Fail> {
+    expect_calls_of_files(&rt, rt.alloc(), 1)
+}
+
+#[test]
+fn each_call_of_files_that_move_several_bytes_fails(rt: HostRuntime) -> Result<(), Fail> {
+    expect_calls_of_files(&rt, rt.alloc(), 7)?;
+    expect_calls_of_files(&rt, rt.alloc(), 16)
+}
+
+#[test]
+fn each_write_of_the_output_fails(rt: HostRuntime) -> Result<(), Fail> {
+    expect_writes_of_output(&rt, rt.alloc(), 1)?;
+    expect_writes_of_output(&rt, rt.alloc(), 7)?;
+    expect_writes_of_output(&rt, rt.alloc(), 16)
+}
+
+/// Asserts that each write of the errors that fails cuts the line there, and leaves the status.
+fn expect_writes_of_errors(
+    rt: &impl Abort,
+    alloc: Global,
+    words: &str,
+    status: Status,
+    line: &[u8],
+) -> Result<(), Fail> {
+    let mut written = Vec::new(alloc);
+    for (number, byte) in (1u64..).zip(line) {
+        let mut files = MemFiles::new(alloc, 1, Vec::new(alloc));
+        files.put("e", vec![in alloc; 1u8]?).ok().ok_or("memory")?;
+        let out = MemSink::new(alloc, 1, Vec::new(alloc));
+        let err = MemSink::new(alloc, 1, vec![in alloc; number]?);
+        let ended = run_over(alloc, words, files, out, err)?;
+        assert_eq!(rt; ended.status, status, "{words}: call {number}");
+        assert_eq!(rt;
+            ended.err.bytes(),
+            written.as_slice(),
+            "{words}: call {number}"
+        );
+        written.push(*byte)?;
+    }
+    Ok(())
+}
+
+#[test]
+fn each_write_of_the_errors_fails(rt: HostRuntime) -> Result<(), Fail> {
+    let alloc = rt.alloc();
+    expect_writes_of_errors(&rt, alloc, "link o@0x3000 e", Status::Usage, b"usage\n")?;
+    let missing = "link o@0x3000 eh-amd64:x@0x2000";
+    expect_writes_of_errors(&rt, alloc, missing, Status::Read, b"read x\n")?;
+    let refused = "link o@0x3000 eh-amd64:e@0x2000";
+    let line = b"refused 0 record Short 0x0 0x0\n";
+    expect_writes_of_errors(&rt, alloc, refused, Status::Refused, line)
+}
+
+#[test]
+fn an_input_longer_than_the_limit_is_refused(rt: HostRuntime) -> Result<(), Fail> {
+    let alloc = rt.alloc();
+    let mut files = MemFiles::new(alloc, 1 << 24, Vec::new(alloc));
+    let bytes = vec![in alloc; 0u8; (1 << 28) + 1]?;
+    assert!(rt; files.put("e1", bytes).is_ok());
+    let out = MemSink::new(alloc, 16, Vec::new(alloc));
+    let err = MemSink::new(alloc, 16, Vec::new(alloc));
+    let words = "link o@0x3000 eh-amd64:e1@0x2000";
+    let ended = run_over(alloc, words, files, out, err)?;
+    assert_eq!(rt; ended.status, Status::Limit);
+    assert_eq!(rt; ended.err.bytes(), b"limit file 0\n".as_slice());
+    Ok(())
+}
