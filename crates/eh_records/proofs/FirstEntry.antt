@@ -1,11 +1,13 @@
 -- The first entry from a cursor on, and those behind it.
 use Rattle.std.proofs.Common.{◌≡◌, ℕ, true, false, List, [], ◌∷◌, Option, Some, None, Result, Ok, Err, refl, sym, ap, ◌∙◌}
-use Rattle.std.specs.Prelude.{◌&&◌, ◌==◌, is_ok}
+use Rattle.std.specs.Prelude.{◌&&◌, ◌==◌, is_ok, MatchOption}
 use Rattle.sf_bytes.specs.Cursor.{Cursor}
 use Rattle.sf_model.specs.declared.machine.Arch.{Arch}
 use Rattle.eh_records.specs.declared.fault.RecordFault.{RecordFault}
 use Rattle.eh_records.specs.Cie.{SharedView, cie_of}
-use Rattle.eh_records.specs.Fde.{FdeView, fde_of}
+use Rattle.eh_records.specs.declared.fde.Fde.{Fde}
+use Rattle.eh_records.specs.Fde.{FdeView, fde_of, fde_view}
+use Rattle.eh_records.specs.Iter.{GivesRead}
 use Rattle.eh_records.specs.RawRecord.{RawRecordView, raw_record_at}
 use Rattle.eh_records.specs.Section.{EntryView, Common, Frame, Cutting, are_read, cuts, entry_here, entry_before, entries_before, frames}
 use Rattle.eh_records.specs.Step.{◌>>=◌}
@@ -92,6 +94,16 @@ passes_frame arch section at p after f read h frame is =
     let e : entry_here arch section p ≡ Ok (Frame f) = here_frame arch section p frame ∙ ap (λ (r : Result FdeView RecordFault). r >>= λ g. Ok (Frame g)) is in
     (ap frames (begins arch section at p after (Ok (Frame f)) h e), read_behind arch section at p after (Frame f) read h e)
 
+left_behind : (arch : Arch) (section : List ℕ) (at : Cursor) (p : RawRecordView) (after : Cursor) (r : Result FdeView RecordFault) → are_read arch section (cuts at) ≡ true → raw_record_at at ≡ Ok (Some (p, after))
+    → (p.id == 0) ≡ false → fde_of arch section p ≡ r → is_ok r ≡ true → are_read arch section (cuts after) ≡ true
+left_behind arch section at p after (Ok f) read h frame is ok = (passes_frame arch section at p after f read h frame is).1
+left_behind arch section at p after (Err x) read h frame is ok = absurd (cc)
+
+-- and the records behind it are read
+pub behind_frame : (arch : Arch) (section : List ℕ) (at : Cursor) (p : RawRecordView) (after : Cursor) → are_read arch section (cuts at) ≡ true → raw_record_at at ≡ Ok (Some (p, after)) → (p.id == 0) ≡ false
+    → are_read arch section (cuts after) ≡ true
+behind_frame arch section at p after read h frame = left_behind arch section at p after (fde_of arch section p) read h frame refl (frame_read arch section at p after read h frame)
+
 cut_given : (arch : Arch) (section : List ℕ) (at : Cursor) (r : Result (Option (RawRecordView × Cursor)) RecordFault) → are_read arch section (cuts at) ≡ true → raw_record_at at ≡ r → is_ok r ≡ true
 cut_given arch section at (Ok x) read h = refl
 cut_given arch section at (Err e) read h = absurd (is_cut arch section at e read h)
@@ -99,3 +111,9 @@ cut_given arch section at (Err e) read h = absurd (is_cut arch section at e read
 -- and each record is cut off
 pub next_is_cut : (arch : Arch) (section : List ℕ) (at : Cursor) → are_read arch section (cuts at) ≡ true → is_ok (raw_record_at at) ≡ true
 next_is_cut arch section at read = cut_given arch section at (raw_record_at at) read refl
+
+-- the entry of the record that was cut off is the first one
+pub yields_frame : (read : Result FdeView RecordFault) (before after : List FdeView) (result : Option Fde) → GivesRead result read
+    → ((f : FdeView) → read ≡ Ok f → before ≡ f ∷ after) → MatchOption result ((before ≡ []) × (after ≡ [])) (λ (f : Fde). before ≡ fde_view f ∷ after)
+yields_frame read before after None is gives = absurd is
+yields_frame read before after (Some f) is gives = gives (fde_view f) is

@@ -1,8 +1,8 @@
 //! The frame description entries of a section, one after the other.
 
 ghost use Rattle.std.specs.Prelude.{◌<◌, ◌^◌, ◌≡◌, Ok, OnSome, is_ok, length, true};
-ghost use Rattle.eh_records.specs.Fde.{fde_of, fde_view};
-ghost use Rattle.eh_records.specs.Iter.{GivesCut, GivesFrame};
+ghost use Rattle.eh_records.specs.Fde.{fde_of};
+ghost use Rattle.eh_records.specs.Iter.{GivesCut, GivesFrameRecord, GivesRead};
 ghost use Rattle.eh_records.specs.Kept.{IsKept};
 ghost use Rattle.eh_records.specs.RawRecord.{raw_record_at, raw_record_view};
 ghost use Rattle.eh_records.specs.Section.{are_read, cuts, cuts_of, entries_before, entries_of, frames};
@@ -10,7 +10,7 @@ ghost use Rattle.eh_records.specs.Step.{reader_cursor};
 
 use crate::cut::{RawRecord, next_record};
 use crate::fde::Fde;
-use crate::frame::read_fde;
+use crate::frame::read_entry;
 use crate::kept::CommonAt;
 use crate::reader::Reader;
 use sf_model::Arch;
@@ -64,47 +64,47 @@ fn next_cut<'a>(rest: &mut Reader<'a>) -> Option<RawRecord<'a>>
     }
 }
 
+// The next record of a frame description entry of what is left, which is passed. None where there is none.
+#[inline(always)]
+fn next_frame<'a>(section: &'a [u8], arch: Arch, rest: &mut Reader<'a>) -> Option<RawRecord<'a>>
+    requires { are_read arch section.now (cuts (reader_cursor rest.old)) ≡ true }
+    ensures read { are_read arch section.now (cuts (reader_cursor rest.new)) ≡ true }
+    ensures gives { GivesFrameRecord arch section.now result (entries_before arch section.now (cuts (reader_cursor rest.old))) (entries_before arch section.now (cuts (reader_cursor rest.new))) }
+{
+    while let Some(cut) = next_cut(rest) {
+        if !cut.is_cie() {
+            return Some(cut);
+        }
+    }
+    None
+}
+
 // The frame description entry of a record that is read.
+#[tactic(auto, unfolding(crate::specs::Fde::fde_of))]
 #[inline(always)]
 fn frame_of<'a>(
     kept: &mut Option<CommonAt<'a>>,
     section: &'a [u8],
     arch: Arch,
     cut: &RawRecord<'a>,
-) -> Fde<'a>
+) -> Option<Fde<'a>>
     requires small { length section.now < 2 ^ 32 }
     requires kept { IsKept arch section.now kept.old }
     requires read { is_ok (fde_of arch section.now (raw_record_view cut.now)) ≡ true }
     ensures kept { IsKept arch section.now kept.new }
-    ensures is { fde_of arch section.now (raw_record_view cut.now) ≡ Ok (fde_view result) }
+    ensures is { GivesRead result (fde_of arch section.now (raw_record_view cut.now)) }
 {
-    match read_fde(kept, section, cut, arch) {
-        Ok(fde) => fde,
+    let Ok(place) = cut.cie_place() else {
+        unreachable!()
+    };
+    let Ok(()) = CommonAt::keep(kept, section, place, arch) else {
+        unreachable!()
+    };
+    let Some(common) = kept else { unreachable!() };
+    match read_entry(cut, &common.shared) {
+        Ok(fde) => Some(fde),
         Err(_) => unreachable!(),
     }
-}
-
-// The next frame description entry of what is left.
-#[inline(always)]
-fn next_fde<'a>(
-    kept: &mut Option<CommonAt<'a>>,
-    section: &'a [u8],
-    arch: Arch,
-    rest: &mut Reader<'a>,
-) -> Option<Fde<'a>>
-    requires small { length section.now < 2 ^ 32 }
-    requires kept { IsKept arch section.now kept.old }
-    requires read { are_read arch section.now (cuts (reader_cursor rest.old)) ≡ true }
-    ensures kept { IsKept arch section.now kept.new }
-    ensures read { are_read arch section.now (cuts (reader_cursor rest.new)) ≡ true }
-    ensures gives { GivesFrame result (entries_before arch section.now (cuts (reader_cursor rest.old))) (entries_before arch section.now (cuts (reader_cursor rest.new))) }
-{
-    while let Some(cut) = next_cut(rest) {
-        if !cut.is_cie() {
-            return Some(frame_of(kept, section, arch, &cut));
-        }
-    }
-    None
 }
 
 impl<'a> Iterator for FdeIter<'a> {
@@ -120,6 +120,7 @@ impl<'a> Iterator for FdeIter<'a> {
 
     #[inline(always)]
     fn next(&mut self) -> Option<Fde<'a>> {
-        next_fde(&mut self.kept, self.section, self.arch, &mut self.rest)
+        let cut = next_frame(self.section, self.arch, &mut self.rest)?;
+        frame_of(&mut self.kept, self.section, self.arch, &cut)
     }
 }

@@ -1,6 +1,6 @@
 -- What a read puts behind the bytes that are there.
 use Rattle.std.proofs.Common.{◌≡◌, ◌≤◌, ◌<◌, ◌+◌, ◌-◌, ◌∙◌, ◌++◌, ◌∷◌, [], List, ℕ, min, take, drop, ⊎_elim, length, refl, sym, ap, append_assoc, arith, length-append}
-use Rattle.std.proofs.lemmas.List.{take-append-le, take-take, take_all, take_at}
+use Rattle.std.proofs.lemmas.List.{take-append-le, take-take}
 use Rattle.std.proofs.Math.Seq.{take-append-add}
 use Rattle.std.proofs.lemmas.Bool.{cases_lt}
 use Rattle.std.proofs.lemmas.List.{take_rest, take-append-drop, drop-drop}
@@ -15,15 +15,10 @@ behind : (f n : ℕ) (front tail post : List ℕ) → length front ≡ f → n �
 behind f n front tail post long short =
     ap (λ m. take (m + n) (front ++ (tail ++ post))) (sym long) ∙ (take-append-add front (tail ++ post) n ∙ ap (λ xs. front ++ xs) (take-append-le n tail post short))
 
-front_is : (f e : ℕ) (old slice zs : List ℕ) → slice ≡ take e old ++ zs → f ≡ length old → f ≤ e → take f slice ≡ old
-front_is f e old slice zs is long below =
-    let whole : length old ≤ e = omega arith in
-    ap (λ xs. take f xs) (is ∙ ap (λ xs. xs ++ zs) (take_all e old whole)) ∙ take_at old zs f (sym long)
-
-pub moved_behind : (f n e l : ℕ) (old slice resized tail post ys zs final rest left : List ℕ) → final ≡ take (f + n) (take l ((take f slice ++ (tail ++ post)) ++ ys))
-    → slice ≡ resized → resized ≡ take e old ++ zs → f ≡ length old → f ≤ e → n ≤ length tail → f + n ≤ l → Moves n rest left tail → old ++ rest ≡ final ++ left
-moved_behind f n e l old slice resized tail post ys zs final rest left final_is lent is long below short room moves =
-    let front = front_is f e old slice zs (lent ∙ is) long below in
+pub moved_behind : (f n l : ℕ) (old slice resized tail post ys final rest left : List ℕ) → final ≡ take (f + n) (take l ((take f slice ++ (tail ++ post)) ++ ys))
+    → slice ≡ resized → take f resized ≡ old → f ≡ length old → n ≤ length tail → f + n ≤ l → Moves n rest left tail → old ++ rest ≡ final ++ left
+moved_behind f n l old slice resized tail post ys final rest left final_is lent kept long short room moves =
+    let front : take f slice ≡ old = ap (λ xs. take f xs) lent ∙ kept in
     let long_front : length (take f slice) ≡ f = ap length front ∙ sym long in
     let fits : f + n ≤ length (take f slice ++ (tail ++ post)) = simp length-append (omega arith) in
     let a : final ≡ old ++ take n tail = final_is ∙ (front_kept (f + n) l (take f slice ++ (tail ++ post)) ys fits room

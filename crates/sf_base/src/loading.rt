@@ -1,5 +1,5 @@
 // A whole file, read into memory.
-ghost use Rattle.std.specs.Prelude.{◌≡◌, ◌<◌, ◌≤◌, ◌++◌, ◌+◌, ℕ, length, [], vec_len, IsTrue, IsErrOf, IfOk, IfSome, OnOk};
+ghost use Rattle.std.specs.Prelude.{◌≡◌, ◌<◌, ◌≤◌, ◌++◌, ◌+◌, ℕ, length, take, [], vec_len, IsTrue, IsErrOf, IfOk, IfSome, OnOk};
 ghost use Rattle.sf_base.specs.Contents.{contents_of};
 ghost use Rattle.sf_base.specs.declared.loading.LoadFault.TheVariants.{Read, NoMemory};
 ghost use Rattle.sf_base.specs.Faults.{Rose};
@@ -46,6 +46,10 @@ impl From<AllocError> for LoadFault {
 // The most bytes that one read asks for.
 const CHUNK: u64 = 1 << 16;
 
+// The most zero bytes that are stored at once. A longer fill is one instruction of the machine, which each page that is
+// touched for the first time would interrupt.
+const FILL: usize = 1 << 10;
+
 /// The whole file of this name, where it has at most `limit` bytes. Nothing is read past the first
 /// bytes that pass the limit. Which file is opened afterwards is left open.
 ///
@@ -88,6 +92,19 @@ pub fn load<F: Files>(
     }
 }
 
+// Puts zero bytes behind the bytes, up to `end` of them all.
+fn fill_up(bytes: &mut Vec<u8>, end: usize) -> Result<(), AllocError>
+    requires { vec_len bytes.old ≤ end }
+    ensures len { OnOk result (vec_len bytes.new ≡ end) }
+    ensures front { OnOk result (take (vec_len bytes.old) bytes.new.items ≡ bytes.old.items) }
+{
+    while bytes.len() < end {
+        let step = (end - bytes.len()).min(FILL);
+        bytes.resize(bytes.len() + step, 0)?;
+    }
+    Ok(())
+}
+
 // Reads once, for at most `room` bytes, and puts what was read behind the bytes. Answers how many.
 fn read_more<F: Files>(files: &mut F, bytes: &mut Vec<u8>, room: usize) -> Result<usize, LoadFault>
     requires opened { IsTrue (F.opened files.old) }
@@ -109,7 +126,8 @@ fn read_more<F: Files>(files: &mut F, bytes: &mut Vec<u8>, room: usize) -> Resul
 {
     let filled = bytes.len();
     let end = filled.checked_add(room).ok_or(NoMemory)?;
-    bytes.resize(end, 0)?;
+    bytes.reserve(room)?;
+    fill_up(bytes, end)?;
     let n = files.read(&mut bytes[filled..])?;
     bytes.truncate(filled + n);
     Ok(n)

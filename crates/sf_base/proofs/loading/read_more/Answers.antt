@@ -1,4 +1,4 @@
-use Rattle.std.proofs.Common.{◌≡◌, ◌≤◌, ◌+◌, length, rules}
+use Rattle.std.proofs.Common.{◌≡◌, ◌≤◌, ◌+◌, length, take, rules}
 use Rattle.std.proofs.lemmas.Option.{IfSome_then}
 use Rattle.sf_base.proofs.Behind.{moved_behind}
 use Rattle.sf_base.proofs.loading.read_more.Goals as goal
@@ -10,9 +10,9 @@ returns-clause-moved g c =
     let f = c.len-filled.result in
     let n = c.in_ok-n.n in
     let long : f ≡ length c.args.bytes.now.items = search rules in
-    let below : f ≤ c.in_ok-end.end = search rules in
     let short : n ≤ length c.read.new.buf = search rules in
-    let room : f + n ≤ c.resize.new.self.len = search rules in
+    let kept : take f c.fill_up.new.bytes.items ≡ c.args.bytes.now.items = search rules in
+    let room : f + n ≤ c.fill_up.new.bytes.len = search rules in
     IfSome_then ((g.F.Files.seen c.args.files.now).contents) c.in_ok-n.ensures.moves (λ told moves.
-    moved_behind f n c.in_ok-end.end _ c.args.bytes.now.items c.deref_mut.result.now c.resize.new.self.items c.read.new.buf _ _ _ c.truncate.new.self.items rest left
-    c.truncate.ensures.items c.deref_mut.ensures.value c.in_ok-resize.ensures.items long below short room moves)
+    moved_behind f n _ c.args.bytes.now.items c.deref_mut.result.now c.fill_up.new.bytes.items c.read.new.buf _ _ c.truncate.new.self.items rest left
+    c.truncate.ensures.items c.deref_mut.ensures.value kept long short room moves)

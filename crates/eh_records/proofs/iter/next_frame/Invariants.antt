@@ -1,14 +1,12 @@
 use Rattle.std.proofs.Common.{◌≡◌, length, true}
-use Rattle.eh_records.specs.Kept.{IsKept}
 use Rattle.eh_records.specs.Section.{are_read, cuts, entries_before, frames}
 use Rattle.eh_records.specs.Step.{reader_cursor}
-use Rattle.eh_records.proofs.iter.next_fde.Given as goal
+use Rattle.eh_records.proofs.iter.next_frame.Given as goal
 
 abbrev pub invariant-loop-cut : goal.invariant-loop-cut
 invariant-loop-cut l = record {
-  same : frames (entries_before l.arch l.section (cuts (reader_cursor l.rest))) ≡ frames (entries_before l.arch l.section (cuts (reader_cursor l.initial.rest)));
-  kept : IsKept l.arch l.section l.kept;
-  read : are_read l.arch l.section (cuts (reader_cursor l.rest)) ≡ true;
+  same : frames (entries_before l.fn.arch l.section (cuts (reader_cursor l.rest))) ≡ frames (entries_before l.fn.arch l.section (cuts (reader_cursor l.initial.rest)));
+  read : are_read l.fn.arch l.section (cuts (reader_cursor l.rest)) ≡ true;
 }
 
 abbrev pub decreases-loop-cut : goal.decreases-loop-cut

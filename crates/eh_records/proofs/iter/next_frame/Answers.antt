@@ -4,32 +4,29 @@ use Rattle.eh_records.specs.RawRecord.{raw_record_view}
 use Rattle.sf_bytes.specs.Cursor.{Cursor}
 use Rattle.eh_records.specs.Section.{cuts, entries_before, frames}
 use Rattle.eh_records.specs.Step.{reader_cursor}
-use Rattle.eh_records.proofs.FirstEntry.{frame_read, next_is_cut, none_at_end, passes_common, passes_frame}
-use Rattle.eh_records.proofs.iter.next_fde.Goals as goal
+use Rattle.eh_records.proofs.FirstEntry.{behind_frame, frame_read, next_is_cut, none_at_end, passes_common, passes_frame}
+use Rattle.eh_records.proofs.iter.next_frame.Goals as goal
 
 pub next_cut-requires : goal.next_cut-requires
 next_cut-requires c = next_is_cut c.args.arch c.args.section.now (reader_cursor c.loop-cut.rest) c.loop-cut.invariant.read
 
-pub frame_of-requires-clause-read : goal.frame_of-requires-clause-read
-frame_of-requires-clause-read c =
-    let frame : (c.in-Some.cut.id == 0) ≡ false = search rules in
-    frame_read c.args.arch c.args.section.now _ (raw_record_view c.in-Some.cut) _ c.loop-cut.invariant.read c.in-Some.ensures.gives frame
-
 pub returns-then-not-is_cie-clause-read : goal.returns-then-not-is_cie-clause-read
 returns-then-not-is_cie-clause-read c =
     let frame : (c.in-Some.cut.id == 0) ≡ false = search rules in
-    (passes_frame c.args.arch c.args.section.now _ (raw_record_view c.in-Some.cut) _ _ c.loop-cut.invariant.read c.in-Some.ensures.gives frame c.frame_of.ensures.is).1
+    behind_frame c.args.arch c.args.section.now _ (raw_record_view c.in-Some.cut) _ c.loop-cut.invariant.read c.in-Some.ensures.gives frame
 
 pub returns-then-not-is_cie-clause-gives : goal.returns-then-not-is_cie-clause-gives
 returns-then-not-is_cie-clause-gives c =
-    let frame : (c.in-Some.cut.id == 0) ≡ false = search rules in
-    sym c.loop-cut.invariant.same ∙ (passes_frame c.args.arch c.args.section.now _ (raw_record_view c.in-Some.cut) _ _ c.loop-cut.invariant.read c.in-Some.ensures.gives frame c.frame_of.ensures.is).0
+    let frame : (c.in-Some.cut.id == 0) ≡ false = search rules in (
+      frame_read c.args.arch c.args.section.now _ (raw_record_view c.in-Some.cut) _ c.loop-cut.invariant.read c.in-Some.ensures.gives frame,
+      λ f is. sym c.loop-cut.invariant.same ∙ (passes_frame c.args.arch c.args.section.now _ (raw_record_view c.in-Some.cut) _ f c.loop-cut.invariant.read c.in-Some.ensures.gives frame is).0,
+    )
 
 pub loop-cut-preserved : goal.loop-cut-preserved
 loop-cut-preserved c =
     let common : (c.in-Some.cut.id == 0) ≡ true = search rules in
     let passed = passes_common c.args.arch c.args.section.now _ (raw_record_view c.in-Some.cut) _ c.loop-cut.invariant.read c.in-Some.ensures.gives common in
-    record { same = sym passed.0 ∙ c.loop-cut.invariant.same; kept = c.loop-cut.invariant.kept; read = passed.1 }
+    record { same = sym passed.0 ∙ c.loop-cut.invariant.same; read = passed.1 }
 
 pub returns-clause-gives : goal.returns-clause-gives
 returns-clause-gives c =
