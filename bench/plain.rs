@@ -1,0 +1,402 @@
+//! What linking a program costs plain Rust, for `bench/run`: reads one program or shared object for AMD64 and writes the SFrame
+//! section of its functions, of the usual call frame information alone. It checks nothing, names no fault, and stops by a panic where a
+//! file is unusual. Its times count only where its section is the one that `sf_tool link` writes, which `bench/run` compares.
+//!
+//!     plain OUT AT FILE
+
+use std::collections::HashMap;
+use std::{env, fs};
+
+/// The rules of a row that SFrame keeps.
+#[derive(Clone, Copy, PartialEq)]
+struct Columns {
+    /// The register that the canonical frame address counts from: 7 is the stack pointer, 6 the frame pointer.
+    base: u64,
+    cfa: i64,
+    /// Where the frame pointer is saved, from the canonical frame address on.
+    frame_pointer: Option<i64>,
+    return_address_saved: bool,
+    expressible: bool,
+}
+
+const NO_COLUMNS: Columns = Columns {
+    base: 0,
+    cfa: 0,
+    frame_pointer: None,
+    return_address_saved: false,
+    expressible: false,
+};
+
+/// A common information entry.
+#[derive(Clone, Copy)]
+struct Common {
+    code_factor: u64,
+    data_factor: i64,
+    column: u64,
+    encoding: u8,
+    augmented: bool,
+    signal: bool,
+    initial: Columns,
+}
+
+/// A function whose rows lie in the list of all.
+struct Function {
+    start: u64,
+    size: u32,
+    rows: u32,
+    place: u32,
+    length: u32,
+    row_type: u8,
+}
+
+/// Bytes that are read from the front.
+#[derive(Clone, Copy)]
+struct Reader<'a> {
+    bytes: &'a [u8],
+    place: usize,
+}
+
+impl<'a> Reader<'a> {
+    fn array<const N: usize>(&mut self) -> [u8; N] {
+        let bytes = self.bytes[self.place..self.place + N].try_into().unwrap();
+        self.place += N;
+        bytes
+    }
+
+    fn u8(&mut self) -> u8 {
+        self.array::<1>()[0]
+    }
+
+    fn u16(&mut self) -> u16 {
+        u16::from_le_bytes(self.array())
+    }
+
+    fn u32(&mut self) -> u32 {
+        u32::from_le_bytes(self.array())
+    }
+
+    fn u64(&mut self) -> u64 {
+        u64::from_le_bytes(self.array())
+    }
+
+    #[inline(always)]
+    fn uleb(&mut self) -> u64 {
+        let (mut number, mut shift) = (0, 0);
+        loop {
+            let byte = self.u8();
+            number |= u64::from(byte & 0x7f) << shift;
+            shift += 7;
+            if byte < 0x80 {
+                return number;
+            }
+        }
+    }
+
+    fn sleb(&mut self) -> i64 {
+        let (mut number, mut shift) = (0, 0);
+        loop {
+            let byte = self.u8();
+            number |= i64::from(byte & 0x7f) << shift;
+            shift += 7;
+            if byte < 0x80 {
+                return if shift < 64 && byte & 0x40 != 0 {
+                    number | -1 << shift
+                } else {
+                    number
+                };
+            }
+        }
+    }
+
+    fn pass(&mut self, count: u64) {
+        self.place += count as usize;
+    }
+
+    /// A pointer, which counts from `field` where its encoding says so.
+    fn pointer(&mut self, encoding: u8, field: u64) -> u64 {
+        let number = match encoding & 0x0f {
+            0x00 | 0x04 | 0x0c => self.u64(),
+            0x03 => u64::from(self.u32()),
+            0x0b => self.u32() as i32 as u64,
+            format => panic!("pointer format {format:#x}"),
+        };
+        if encoding & 0x70 == 0x10 {
+            number.wrapping_add(field)
+        } else {
+            number
+        }
+    }
+}
+
+fn at(bytes: &[u8], place: usize) -> Reader<'_> {
+    Reader { bytes, place }
+}
+
+impl Columns {
+    #[inline(always)]
+    fn save(&mut self, register: u64, offset: i64) {
+        match register {
+            6 => self.frame_pointer = Some(offset),
+            7 => self.expressible = false,
+            16 => self.return_address_saved = offset == -8,
+            _ => {}
+        }
+    }
+
+    fn restore(&mut self, register: u64, initial: &Columns) {
+        match register {
+            6 => self.frame_pointer = initial.frame_pointer,
+            16 => self.return_address_saved = initial.return_address_saved,
+            _ => {}
+        }
+    }
+
+    fn set_base(&mut self, register: u64) {
+        self.base = register;
+        self.expressible = register == 6 || register == 7;
+    }
+}
+
+/// Runs instructions, and gives each row below `size` with its start. Returns the last columns.
+#[inline(always)]
+fn run(
+    instructions: &[u8],
+    common: &Common,
+    size: u64,
+    remembered: &mut Vec<Columns>,
+    mut give: impl FnMut(u64, &Columns),
+) -> Columns {
+    let factor = common.data_factor;
+    let mut columns = common.initial;
+    let mut offset = 0;
+    let mut left = at(instructions, 0);
+    remembered.clear();
+    while left.place < instructions.len() {
+        let opcode = left.u8();
+        let low = u64::from(opcode & 0x3f);
+        let mut delta = 0;
+        match opcode {
+            0x40..=0x7f => delta = low,
+            0x80..=0xbf => columns.save(low, left.uleb() as i64 * factor),
+            0xc0..=0xff => columns.restore(low, &common.initial),
+            0x00 => {}
+            0x02 => delta = u64::from(left.u8()),
+            0x03 => delta = u64::from(left.u16()),
+            0x04 => delta = u64::from(left.u32()),
+            0x05 => {
+                let register = left.uleb();
+                columns.save(register, left.uleb() as i64 * factor);
+            }
+            0x06 => columns.restore(left.uleb(), &common.initial),
+            0x0a => remembered.push(columns),
+            0x0b => columns = remembered.pop().expect("a row is remembered"),
+            0x0c => {
+                columns.set_base(left.uleb());
+                columns.cfa = left.uleb() as i64;
+            }
+            0x0d => columns.set_base(left.uleb()),
+            0x0e => columns.cfa = left.uleb() as i64,
+            0x0f => {
+                let length = left.uleb();
+                left.pass(length);
+                columns.expressible = false;
+            }
+            0x10 | 0x16 => {
+                columns.expressible &= !matches!(left.uleb(), 6 | 7 | 16);
+                let length = left.uleb();
+                left.pass(length);
+            }
+            0x11 => {
+                let register = left.uleb();
+                columns.save(register, left.sleb() * factor);
+            }
+            0x2e => drop(left.uleb()),
+            _ => panic!("instruction {opcode:#x}"),
+        }
+        if delta != 0 {
+            if offset < size {
+                give(offset, &columns);
+            }
+            offset += delta * common.code_factor;
+        }
+    }
+    if offset < size {
+        give(offset, &columns);
+    }
+    columns
+}
+
+fn read_common(section: &[u8], place: usize) -> Common {
+    let mut left = at(section, place);
+    let end = place + 4 + left.u32() as usize;
+    left.pass(4);
+    let version = left.u8();
+    let mut letters = left;
+    while left.u8() != 0 {}
+    let mut common = Common {
+        code_factor: left.uleb(),
+        data_factor: left.sleb(),
+        column: if version == 1 { u64::from(left.u8()) } else { left.uleb() },
+        encoding: 0,
+        augmented: letters.u8() == b'z',
+        signal: false,
+        initial: NO_COLUMNS,
+    };
+    if common.augmented {
+        let length = left.uleb();
+        let mut data = left;
+        left.pass(length);
+        loop {
+            match letters.u8() {
+                0 => break,
+                b'R' => common.encoding = data.u8(),
+                b'L' => data.pass(1),
+                b'S' => common.signal = true,
+                b'P' => {
+                    let encoding = data.u8();
+                    data.pointer(encoding, 0);
+                }
+                letter => panic!("letter {letter:#x}"),
+            }
+        }
+    }
+    common.initial = run(&section[left.place..end], &common, 0, &mut Vec::new(), |_, _| {});
+    common
+}
+
+/// Appends a row, in the least width of its offsets.
+fn push_row(bytes: &mut Vec<u8>, row_type: u8, start: u64, columns: &Columns) {
+    let saved = columns.frame_pointer.unwrap_or(0);
+    let within = |most: i64| -most <= columns.cfa.min(saved) && columns.cfa.max(saved) < most;
+    let size = if within(1 << 7) {
+        0
+    } else if within(1 << 15) {
+        1
+    } else {
+        2
+    };
+    let count = 1 + u8::from(columns.frame_pointer.is_some());
+    let mut row = [0; 16];
+    let mut length = 1 << row_type;
+    row[..4].copy_from_slice(&(start as u32).to_le_bytes());
+    row[length] = u8::from(columns.base == 7) | count << 1 | size << 5;
+    length += 1;
+    for offset in [Some(columns.cfa), columns.frame_pointer].into_iter().flatten() {
+        row[length..length + 4].copy_from_slice(&(offset as i32).to_le_bytes());
+        length += 1 << size;
+    }
+    let before = bytes.len();
+    bytes.extend_from_slice(&row);
+    bytes.truncate(before + length);
+}
+
+/// Reads the functions of a section, and stores their rows behind those that are there.
+fn read_section(section: &[u8], address: u64, functions: &mut Vec<Function>, stored: &mut Vec<u8>) {
+    let mut commons = HashMap::new();
+    let mut last = None;
+    let mut remembered = Vec::new();
+    let mut rows: Vec<(u64, Columns)> = Vec::new();
+    let mut left = at(section, 0);
+    while left.place < section.len() {
+        let place = left.place;
+        let end = place + 4 + left.u32() as usize;
+        if end == place + 4 {
+            break;
+        }
+        let back = left.u32() as usize;
+        if back == 0 {
+            commons.insert(place, read_common(section, place));
+            left.place = end;
+            continue;
+        }
+        let named = place + 4 - back;
+        let common = match last {
+            Some((place, common)) if place == named => common,
+            _ => commons[&named],
+        };
+        last = Some((named, common));
+        let field = address.wrapping_add(left.place as u64);
+        let start = left.pointer(common.encoding, field);
+        let size = left.pointer(common.encoding & 0x0f, 0);
+        if common.augmented {
+            let length = left.uleb();
+            left.pass(length);
+        }
+        let mut kept = common.column == 16 && !common.signal && size != 0;
+        rows.clear();
+        run(&section[left.place..end], &common, size, &mut remembered, |start, columns| {
+            kept &= columns.expressible && columns.return_address_saved;
+            if rows.last().is_none_or(|(_, before)| before != columns) {
+                rows.push((start, *columns));
+            }
+        });
+        left.place = end;
+        let Some((most, _)) = rows.last().filter(|_| kept) else {
+            continue;
+        };
+        let row_type = u8::from(*most > 0xff) + u8::from(*most > 0xffff);
+        let place = stored.len();
+        for (start, columns) in &rows {
+            push_row(stored, row_type, *start, columns);
+        }
+        functions.push(Function {
+            start,
+            size: size as u32,
+            rows: rows.len() as u32,
+            place: place as u32,
+            length: (stored.len() - place) as u32,
+            row_type,
+        });
+    }
+}
+
+fn write_section(at: u64, functions: &[Function], stored: &[u8]) -> Vec<u8> {
+    let rows = functions.iter().map(|function| function.rows).sum();
+    let mut bytes = Vec::with_capacity(28 + 20 * functions.len() + stored.len());
+    bytes.extend_from_slice(&[0xe2, 0xde, 2, 5, 3, 0, 0xf8, 0]);
+    for word in [
+        functions.len() as u32,
+        rows,
+        stored.len() as u32,
+        0,
+        20 * functions.len() as u32,
+    ] {
+        bytes.extend_from_slice(&word.to_le_bytes());
+    }
+    let mut place = 0u32;
+    for function in functions {
+        let distance = function.start.wrapping_sub(at.wrapping_add(bytes.len() as u64)) as i32;
+        bytes.extend_from_slice(&distance.to_le_bytes());
+        for word in [function.size, place, function.rows, u32::from(function.row_type)] {
+            bytes.extend_from_slice(&word.to_le_bytes());
+        }
+        place += function.length;
+    }
+    for function in functions {
+        let place = function.place as usize;
+        bytes.extend_from_slice(&stored[place..place + function.length as usize]);
+    }
+    bytes
+}
+
+fn main() {
+    let words: Vec<String> = env::args().collect();
+    let address = u64::from_str_radix(words[2].trim_start_matches("0x"), 16).unwrap();
+    let file = fs::read(&words[3]).unwrap();
+    let headers = at(&file, 40).u64() as usize;
+    let count = usize::from(at(&file, 60).u16());
+    let texts = headers + 64 * usize::from(at(&file, 62).u16());
+    let texts = at(&file, texts + 24).u64() as usize;
+    let mut functions = Vec::new();
+    let mut stored = Vec::new();
+    for header in (0..count).map(|number| headers + 64 * number) {
+        let name = texts + at(&file, header).u32() as usize;
+        if file[name..].starts_with(b".eh_frame\0") {
+            let mut left = at(&file, header + 16);
+            let (address, place, size) = (left.u64(), left.u64() as usize, left.u64() as usize);
+            read_section(&file[place..place + size], address, &mut functions, &mut stored);
+        }
+    }
+    functions.sort_by_key(|function| function.start);
+    fs::write(&words[1], write_section(address, &functions, &stored)).unwrap();
+}
