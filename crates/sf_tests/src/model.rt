@@ -4,7 +4,7 @@ use sf_model::{Arch, Base, Content, Key, Memory, Ra, Recovered, Regs, Row, Rows,
 use std::test::Fail;
 
 /// A memory that holds nothing.
-struct Empty;
+pub struct Empty;
 
 impl Memory for Empty {
     ghost regions = { λ _. [] };

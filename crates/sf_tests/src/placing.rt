@@ -3,25 +3,11 @@
 mod groups;
 mod relocations;
 
-use crate::samples::{GROUPED, SHARED};
+use crate::samples::{GROUPED, SHARED, bytes_of};
 use elf_place::Placed;
 use elf_read::Elf;
 use std::alloc::Global;
 use std::test::*;
-
-/// The bytes that are written in hexadecimal, with some of them changed.
-fn bytes_of(alloc: Global, text: &str, edits: &[(u16, u8)]) -> Result<Vec<u8>, Fail> {
-    let mut bytes = Vec::new(alloc);
-    for word in text.split_whitespace() {
-        bytes.push(u8::from_str_radix(word, 16)?)?;
-    }
-    for (place, byte) in edits {
-        if usize::from(*place) < bytes.len() {
-            bytes[usize::from(*place)] = *byte;
-        }
-    }
-    Ok(bytes)
-}
 
 /// A file, its base, how far its addresses are moved, and the address of each section.
 struct Case {

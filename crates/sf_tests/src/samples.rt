@@ -1,6 +1,7 @@
-//! Whole ELF files in hexadecimal, by which the crates that read such files are tried (ELF64 gABI). Nothing of the program
-//! uses them.
-#![tactic(auto)]
+//! Whole ELF files in hexadecimal (ELF64 gABI) and whole SFrame sections, by which the crates that read them are tried.
+
+use std::alloc::Global;
+use std::test::Fail;
 
 /// A compiler's object with a section group: `.group` 1, `.text` 2, `.gcc_except_table` 3, `.eh_frame` 4,
 /// `.rela.eh_frame` 5, `.symtab` 6, `.strtab` 7 and `.shstrtab` 8. The section headers start at 536, the
@@ -107,3 +108,59 @@ pub const SHARED: &str = "\
     00 00 00 00 00 00 00 00 00 00 00 00 00 00 00 00 80 00 00 00 00 00 00 00 \
     15 00 00 00 00 00 00 00 00 00 00 00 00 00 00 00 01 00 00 00 00 00 00 00 \
     00 00 00 00 00 00 00 00";
+
+/// The bytes that are written in hexadecimal, with some of them changed.
+pub fn bytes_of(alloc: Global, text: &str, edits: &[(u16, u8)]) -> Result<Vec<u8>, Fail> {
+    let mut bytes = Vec::new(alloc);
+    for word in text.split_whitespace() {
+        bytes.push(u8::from_str_radix(word, 16)?)?;
+    }
+    for (place, byte) in edits {
+        if usize::from(*place) < bytes.len() {
+            bytes[usize::from(*place)] = *byte;
+        }
+    }
+    Ok(bytes)
+}
+
+/// A section for 0x3000 with a function at 0x1000 that pushes its frame pointer: the entry is at 28, the rows at 48, 51, 55 and 59.
+pub const PUSHING: [u8; 63] = *b"\
+    \xe2\xde\x02\x05\x03\x00\xf8\x00\x01\x00\x00\x00\x04\x00\x00\x00\x0f\x00\x00\x00\x00\x00\x00\x00\
+    \x14\x00\x00\x00\xe4\xdf\xff\xff\x06\x00\x00\x00\x00\x00\x00\x00\x04\x00\x00\x00\x00\x00\x00\x00\
+    \x00\x03\x08\x01\x05\x10\xf0\x04\x04\x10\xf0\x05\x05\x08\xf0\
+";
+
+/// The same with starts that count from the section, and all numbers in four bytes.
+pub const WIDE: [u8; 96] = *b"\
+    \xe2\xde\x02\x01\x03\x00\xf8\x00\x01\x00\x00\x00\x04\x00\x00\x00\x30\x00\x00\x00\x00\x00\x00\x00\
+    \x14\x00\x00\x00\x00\xe0\xff\xff\x06\x00\x00\x00\x00\x00\x00\x00\x04\x00\x00\x00\x02\x00\x00\x00\
+    \x00\x00\x00\x00\x43\x08\x00\x00\x00\x01\x00\x00\x00\x45\x10\x00\x00\x00\xf0\xff\xff\xff\x04\x00\
+    \x00\x00\x44\x10\x00\x00\x00\xf0\xff\xff\xff\x05\x00\x00\x00\x45\x08\x00\x00\x00\xf0\xff\xff\xff\
+";
+
+/// A section for 0x3000 with a function of AArch64 at 0x1000 that signs its return address with key B.
+pub const SIGNING: [u8; 65] = *b"\
+    \xe2\xde\x02\x05\x02\x00\x00\x00\x01\x00\x00\x00\x05\x00\x00\x00\x11\x00\x00\x00\x00\x00\x00\x00\
+    \x14\x00\x00\x00\xe4\xdf\xff\xff\x1c\x00\x00\x00\x00\x00\x00\x00\x05\x00\x00\x00\x20\x00\x00\x00\
+    \x00\x03\x00\x04\x83\x00\x08\x87\x20\xe8\xe0\x14\x83\x00\x18\x03\x00\
+";
+
+/// A section for 0x3000 with two functions by falling start that share a row, at 0x3100 and at 0x3000: the entries are at 28 and 48.
+pub const FALLING: [u8; 71] = *b"\
+    \xe2\xde\x02\x00\x03\x00\xf8\x00\x02\x00\x00\x00\x02\x00\x00\x00\x03\x00\x00\x00\x00\x00\x00\x00\
+    \x28\x00\x00\x00\x00\x01\x00\x00\x10\x00\x00\x00\x00\x00\x00\x00\x01\x00\x00\x00\x00\x00\x00\x00\
+    \x00\x00\x00\x00\x10\x00\x00\x00\x00\x00\x00\x00\x01\x00\x00\x00\x00\x00\x00\x00\x00\x03\x08\
+";
+
+/// A section for 0x3000 with a function at 0x1000 whose two rows repeat every 16 bytes, as a table of calls into a library has it.
+pub const REPEATING: [u8; 54] = *b"\
+    \xe2\xde\x02\x05\x03\x00\xf8\x00\x01\x00\x00\x00\x02\x00\x00\x00\x06\x00\x00\x00\x00\x00\x00\x00\
+    \x14\x00\x00\x00\xe4\xdf\xff\xff\x40\x00\x00\x00\x00\x00\x00\x00\x02\x00\x00\x00\x10\x10\x00\x00\
+    \x00\x03\x08\x0b\x03\x10\
+";
+
+/// A section without functions.
+pub const EMPTY: [u8; 28] = *b"\
+    \xe2\xde\x02\x05\x03\x00\xf8\x00\x00\x00\x00\x00\x00\x00\x00\x00\x00\x00\x00\x00\x00\x00\x00\x00\
+    \x00\x00\x00\x00\
+";

@@ -1,7 +1,6 @@
 //! What is seen of whole files.
 
-use super::bytes_of;
-use crate::samples::{AARCH64, GROUPED};
+use crate::samples::{AARCH64, GROUPED, bytes_of};
 use elf_read::{Elf, Kind, Rela, Symbol};
 use sf_model::Arch;
 use std::test::*;

@@ -1,7 +1,6 @@
 //! An object with a section group whose members are dropped.
 
-use super::bytes_of;
-use crate::samples::GROUPED;
+use crate::samples::{GROUPED, bytes_of};
 use elf_place::Placed;
 use elf_read::Elf;
 use std::test::*;

@@ -1,7 +1,6 @@
 //! The sections with relocations of a section.
 
-use super::bytes_of;
-use crate::samples::GROUPED;
+use crate::samples::{GROUPED, bytes_of};
 use elf_place::Placed;
 use elf_read::Elf;
 use std::test::*;

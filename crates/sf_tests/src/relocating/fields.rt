@@ -2,8 +2,8 @@
 
 ghost use Rattle.sf_bytes.specs.Rising.{AreRising};
 
-use super::{Edits, bytes_of, four_bytes};
-use crate::samples::{AARCH64, GROUPED};
+use super::{Edits, four_bytes};
+use crate::samples::{AARCH64, GROUPED, bytes_of};
 use elf_place::Placed;
 use elf_read::Elf;
 use elf_reloc::{RelocFault, Relocs};
