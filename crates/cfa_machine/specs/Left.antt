@@ -1,12 +1,15 @@
 -- The rows of a function that are still to come, where they are made one after the other.
-use Rattle.std.specs.Prelude.{◌≡◌, ◌+◌, ℕ, Bool, true, false, List, [], ◌∷◌, length, Option, Some, None, Result, Ok, Err}
+use Rattle.std.specs.Prelude.{◌≡◌, ◌+◌, ℕ, ℤ, Bool, true, false, List, [], ◌∷◌, length, Option, Some, None, Result, Ok, Err}
+use Rattle.cfa_insn.specs.Listing.{Item}
 use Rattle.cfa_insn.specs.Remaining.{items_left}
 use Rattle.cfa_machine.specs.declared.columns.Columns.{Columns}
 use Rattle.cfa_machine.specs.declared.fault.MachineFault.{MachineFault}
+use Rattle.cfa_machine.specs.declared.machine.FunctionContext.{FunctionContext}
+use Rattle.cfa_machine.specs.declared.machine.Machine.{Machine}
 use Rattle.cfa_machine.specs.declared.row.DwRow.{DwRow}
 use Rattle.cfa_machine.specs.declared.runner.Runner.{Runner}
 use Rattle.cfa_machine.specs.Columns.{row_from}
-use Rattle.cfa_machine.specs.Pass.{◌>>=◌, state, rows_from}
+use Rattle.cfa_machine.specs.Pass.{◌>>=◌, StartsBelow, Steps, item_step, rows_from, state}
 
 -- the rows that come, or the fault that will
 abbrev pub unless_over : Bool → Result (List DwRow) MachineFault → Result (List DwRow) MachineFault
@@ -53,6 +56,11 @@ abbrev pub OnRow : Result (Option ℕ) MachineFault → (ℕ → Type 0) → Typ
 OnRow (Ok (Some start)) P = P start
 OnRow (Ok None) P = Unit {0}
 OnRow (Err e) P = Unit {0}
+
+-- none where no instruction was left, and all is as it was; else the first one was run, and the others are left
+abbrev pub RunsNext : FunctionContext → ℤ → (old new : Machine) → Option (Result (Option ℕ) MachineFault) → (before after : List Item) → Type 0
+RunsNext k f old new None before after = (before ≡ []) × (after ≡ []) × (new ≡ old)
+RunsNext k f old new (Some answer) before after = (x : Item) × (before ≡ x ∷ after) × Steps new answer (item_step k f x (state old)) × StartsBelow k.size answer
 
 -- what a start answered
 abbrev pub Begins : {U : Type 0} → Runner → Result U MachineFault → Result (List DwRow) MachineFault → Type 0

@@ -5,7 +5,7 @@ ghost use Rattle.sf_bytes.specs.Cursor.{cursor};
 ghost use Rattle.cfa_insn.specs.Listing.{Item, listing};
 ghost use Rattle.cfa_insn.specs.Remaining.{items_left};
 ghost use Rattle.cfa_machine.specs.Initial.{IsInitial};
-ghost use Rattle.cfa_machine.specs.Left.{Begins, Follows, OnRow, Reaches, limit, present, rows_left, steps_left};
+ghost use Rattle.cfa_machine.specs.Left.{Begins, Follows, OnRow, Reaches, RunsNext, limit, present, rows_left, steps_left};
 ghost use Rattle.cfa_machine.specs.Pass.{in_front, last_row, rows_by, rows_from, state};
 
 use crate::columns::{Columns, empty_columns};
@@ -25,6 +25,21 @@ pub struct Runner<'a> {
     factor: i64,
     insns: Insns<'a>,
     over: bool,
+}
+
+// Runs the next instruction, whichever it is, and gives the start of the row that ends there. None where none is left. It is not
+// inlined, so that the loop over the frequent instructions is short.
+#[inline(never)]
+fn step_next(
+    machine: &mut Machine,
+    setup: &FunctionContext,
+    factor: i64,
+    left: &mut Insns<'_>,
+) -> Option<Result<Option<u64>, MachineFault>>
+    ensures { RunsNext setup.now factor machine.old machine.new result (items_left left.old) (items_left left.new) }
+{
+    let item = left.next()?;
+    Some(machine.step(setup, factor, item))
 }
 
 // Runs instructions up to the next row, whose start it gives, or to their end. The four kinds that are nearly all of a program's
@@ -53,14 +68,17 @@ fn next_start(
             machine.save_at(setup, factor, register, factored);
         } else if left.next_nop() {
             continue;
-        } else if let Some(item) = left.next() {
-            if let Some(start) = machine.step(setup, factor, item)? {
+        } else {
+            let mut rest = left;
+            let Some(stepped) = step_next(machine, setup, factor, &mut rest) else {
+                *insns = rest;
+                return Ok(None);
+            };
+            left = rest;
+            if let Some(start) = stepped? {
                 *insns = left;
                 return Ok(Some(start));
             }
-        } else {
-            *insns = left;
-            return Ok(None);
         }
     }
 }

@@ -8,18 +8,41 @@ ghost use Rattle.cfa_machine.specs.declared.fault.MachineFault.TheVariants.{NoMe
 ghost use Rattle.cfa_machine.specs.Columns.{no_columns};
 ghost use Rattle.cfa_machine.specs.Initial.{IsInitial};
 ghost use Rattle.cfa_machine.specs.Pass.{initial_columns};
-ghost use Rattle.eh_records.specs.Cie.{cie_view};
-ghost use Rattle.eh_records.specs.Named.{standing_cie};
-ghost use Rattle.sf_asm.specs.Initials.{AreInitial};
+ghost use Rattle.sf_asm.specs.Initials.{AreInitial, HasInstructions};
 
 use crate::frames::CallFrameSection;
 use cfa_machine::{Columns, MachineFault, initial_row};
 use eh_records::Cie;
+use sf_bytes::Part;
 use std::alloc::Global;
 use std::collections::BTreeMap;
 
 /// How many bytes of instructions an entry has at least whose row is kept for the whole section.
 const LONG: usize = 64;
+
+/// The instructions of a common information entry, and what else gives its initial row.
+#[derive(Clone, Copy, Debug)]
+pub struct InitialInstructions<'a> {
+    /// The place of the entry.
+    pub place: u32,
+    /// Its data alignment factor.
+    pub factor: i64,
+    pub insns: Part<'a>,
+}
+
+impl<'a> InitialInstructions<'a> {
+    /// Those of an entry.
+    #[inline(always)]
+    pub fn of(cie: &Cie<'a>) -> InitialInstructions<'a>
+        ensures { result ≡ record { place = cie.now.place; factor = cie.now.factor; insns = cie.now.insns } }
+    {
+        InitialInstructions {
+            place: cie.place,
+            factor: cie.factor,
+            insns: cie.insns,
+        }
+    }
+}
 
 /// Initial rows of a section's common information entries, so that the instructions of a long one are run once,
 /// whatever the order in which functions name the entries. The instructions of a short one are run again unless
@@ -50,12 +73,12 @@ impl Initials {
     fn long_row(
         &mut self,
         section: &CallFrameSection<'_>,
-        cie: &Cie<'_>,
+        cie: InitialInstructions<'_>,
     ) -> Result<Columns, MachineFault>
         requires are { AreInitial section.now.arch section.now.bytes.now self.old }
-        requires named { standing_cie section.now.arch section.now.bytes.now cie.now.place ≡ Some (cie_view cie.now) }
-        ensures row { IfOk result (λ row. IsInitial section.now.arch cie.now.factor (listing (cursor cie.now.insns)) row) }
-        ensures fault { IfErr result (λ fault. (fault ≡ NoMemory) ⊎ (initial_columns section.now.arch cie.now.factor no_columns (listing (cursor cie.now.insns)) ≡ Err fault)) }
+        requires named { HasInstructions section.now.arch section.now.bytes.now cie }
+        ensures row { IfOk result (λ row. IsInitial section.now.arch cie.entry.factor (listing (cursor cie.entry.insns)) row) }
+        ensures fault { IfErr result (λ fault. (fault ≡ NoMemory) ⊎ (initial_columns section.now.arch cie.entry.factor no_columns (listing (cursor cie.entry.insns)) ≡ Err fault)) }
         ensures are { OnOk result (AreInitial section.now.arch section.now.bytes.now self.new) }
     {
         if let Some(row) = self.long.get(&cie.place) {
@@ -66,17 +89,18 @@ impl Initials {
         Ok(row)
     }
 
-    // Finds the row of an entry that isn't the one that was named last.
+    // Finds the row of an entry that isn't the one that was named last. It is handed over by value: this call is rare, and
+    // for a reference every entry would have to lie in memory.
     #[inline(never)]
     fn find_other(
         &mut self,
         section: &CallFrameSection<'_>,
-        cie: &Cie<'_>,
+        cie: InitialInstructions<'_>,
     ) -> Result<(), MachineFault>
         requires are { AreInitial section.now.arch section.now.bytes.now self.old }
-        requires named { standing_cie section.now.arch section.now.bytes.now cie.now.place ≡ Some (cie_view cie.now) }
-        ensures row { OnOk result (IsInitial section.now.arch cie.now.factor (listing (cursor cie.now.insns)) self.new.row) }
-        ensures fault { IfErr result (λ fault. (fault ≡ NoMemory) ⊎ (initial_columns section.now.arch cie.now.factor no_columns (listing (cursor cie.now.insns)) ≡ Err fault)) }
+        requires named { HasInstructions section.now.arch section.now.bytes.now cie }
+        ensures row { OnOk result (IsInitial section.now.arch cie.entry.factor (listing (cursor cie.entry.insns)) self.new.row) }
+        ensures fault { IfErr result (λ fault. (fault ≡ NoMemory) ⊎ (initial_columns section.now.arch cie.entry.factor no_columns (listing (cursor cie.entry.insns)) ≡ Err fault)) }
         ensures are { OnOk result (AreInitial section.now.arch section.now.bytes.now self.new) }
     {
         let row = if cie.insns.bytes.len() < LONG {
@@ -98,12 +122,12 @@ impl Initials {
     pub fn find(
         &mut self,
         section: &CallFrameSection<'_>,
-        cie: &Cie<'_>,
+        cie: InitialInstructions<'_>,
     ) -> Result<(), MachineFault>
         requires are { AreInitial section.now.arch section.now.bytes.now self.old }
-        requires named { standing_cie section.now.arch section.now.bytes.now cie.now.place ≡ Some (cie_view cie.now) }
-        ensures row { OnOk result (IsInitial section.now.arch cie.now.factor (listing (cursor cie.now.insns)) self.new.row) }
-        ensures fault { IfErr result (λ fault. (fault ≡ NoMemory) ⊎ (initial_columns section.now.arch cie.now.factor no_columns (listing (cursor cie.now.insns)) ≡ Err fault)) }
+        requires named { HasInstructions section.now.arch section.now.bytes.now cie }
+        ensures row { OnOk result (IsInitial section.now.arch cie.entry.factor (listing (cursor cie.entry.insns)) self.new.row) }
+        ensures fault { IfErr result (λ fault. (fault ≡ NoMemory) ⊎ (initial_columns section.now.arch cie.entry.factor no_columns (listing (cursor cie.entry.insns)) ≡ Err fault)) }
         ensures are { OnOk result (AreInitial section.now.arch section.now.bytes.now self.new) }
     {
         if let Some(place) = self.last {

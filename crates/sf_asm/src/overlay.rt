@@ -86,6 +86,7 @@ impl Overlay {
     }
 
     /// Whether a field's relocation names a symbol in a section that is dropped.
+    #[inline(always)]
     pub fn dropped(&self, field: Field) -> bool
         ensures { result ≡ is_dropped_in (written_by self.now) field.place field.width }
     {
@@ -99,6 +100,7 @@ impl Overlay {
 impl Values for Overlay {
     ghost field_bits = { λ overlay place width raw. bits_in (written_by overlay) place width raw };
 
+    #[inline(always)]
     fn bits(&self, field: Field) -> Option<u64> {
         match self {
             Overlay::Unchanged => Some(field.raw),

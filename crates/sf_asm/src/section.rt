@@ -30,7 +30,7 @@ ghost use Rattle.sf_asm.specs.Views.{AreChecked, IsReadFrom, overlaid, relocatio
 use crate::entry::{Entry, Outcome};
 use crate::fault::AsmFault;
 use crate::frames::CallFrameSection;
-use crate::initials::Initials;
+use crate::initials::{InitialInstructions, Initials};
 use crate::overlay::Overlay;
 use crate::read::ReadFunctions;
 use crate::source::Source;
@@ -147,7 +147,7 @@ fn begin_rows<'a>(
     ensures fault { IfErr result (λ fault. IsRowsFault section.now.number fault (rows_by section.now.arch fde.now.cie.code fde.now.cie.factor size (listing (cursor fde.now.cie.insns)) (listing (cursor fde.now.insns)))) }
 {
     let cie = &fde.cie;
-    match initials.find(section, cie) {
+    match initials.find(section, InitialInstructions::of(cie)) {
         Ok(()) => {
             let initial = initials.row();
             run.start_from(initial, section.arch, cie.code, cie.factor, fde.insns, size);
@@ -193,7 +193,7 @@ fn facts_of(fde: &Fde<'_>, start: u64, size: u64) -> FdeFacts
 }
 
 /// Lends a function as its records say it, each of whose instructions was run.
-#[inline(never)]
+#[inline(always)]
 fn lend_source<'a>(
     section: &CallFrameSection<'a>,
     fde: &Fde<'a>,
@@ -211,7 +211,7 @@ fn lend_source<'a>(
     ensures refused { IfErr result (λ fault. fault ≡ NoMemory) }
 {
     let cie = &fde.cie;
-    match initials.find(section, cie) {
+    match initials.find(section, InitialInstructions::of(cie)) {
         Ok(()) => {}
         Err(MachineFault::NoMemory) => return Err(AsmFault::NoMemory),
         Err(_) => unreachable!(),

@@ -22,8 +22,9 @@ fn run_all(run: &mut Runner<'_>) -> Result<(), MachineFault>
     Ok(())
 }
 
-// Makes `kept` the rows in SFrame's form, or gives the omission of the first that has none.
-#[inline(always)]
+// Makes `kept` the rows in SFrame's form, or gives the omission of the first that has none. It is not inlined, so that its loop has
+// the machine's registers to itself.
+#[inline(never)]
 fn run_rows(
     arch: Arch,
     run: &mut Runner<'_>,

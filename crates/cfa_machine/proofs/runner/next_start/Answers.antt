@@ -1,7 +1,7 @@
 use Rattle.std.proofs.Common.{◌≡◌, ◌∙◌, w64, FitsSigned, rules}
 use Rattle.std.proofs.lemmas.Result.{err_from_is_err_and}
 use Rattle.std.proofs.lemmas.Int.{to_z-of_z}
-use Rattle.cfa_machine.proofs.InstructionLoops.{row_comes, no_row_comes, fault_comes, end_comes, advance_row_comes, advance_no_row_comes, cfa_moves, cfa_fault_comes, register_saved, nothing_done, place_given, same_left, none_taken}
+use Rattle.cfa_machine.proofs.InstructionLoops.{advance_row_comes, advance_no_row_comes, cfa_moves, cfa_fault_comes, register_saved, nothing_done, place_given, same_left, none_taken, next_row_comes, next_gives_no_row, next_fault_comes, none_is_next}
 use Rattle.cfa_machine.proofs.runner.next_start.Goals as goal
 
 -- ---- the frequent instructions
@@ -52,24 +52,24 @@ returns-in_err-start-clause-reaches c =
     let fits : FitsSigned w64 c.args.factor = c.ranges.factor in
     let p = err_from_is_err_and c.from_residual-in_err-start.result c.from_residual-in_err-start.ensures.1 in
     let same = none_taken _ _ _ _ _ c.in_default.ensures.takes c.in_default-next_def_cfa_offset.ensures.takes c.in_default-next_offset.ensures.takes c.if-next_nop.ensures.takes in
-    rw (p.1, p.2) (simp to_z-of_z at (fault_comes _ _ _ _ _ _ _ _ (same ∙ c.in-Some-next.ensures.steps) c.in_err-start.ensures.steps c.loop-delta.invariant.same))
+    rw (p.1, p.2) (simp to_z-of_z at (next_fault_comes _ _ c.loop-delta.machine c.step_next.new.machine _ _ _ _ _ _ same c.in-Some-step_next.ensures c.in_err-start.was c.loop-delta.invariant.same))
 
 pub returns-in-Some-2-clause-reaches : goal.returns-in-Some-2-clause-reaches
 returns-in-Some-2-clause-reaches c =
     let fits : FitsSigned w64 c.args.factor = c.ranges.factor in
     let same = none_taken _ _ _ _ _ c.in_default.ensures.takes c.in_default-next_def_cfa_offset.ensures.takes c.in_default-next_offset.ensures.takes c.if-next_nop.ensures.takes in
-    simp to_z-of_z at (row_comes _ _ _ _ _ _ _ _ _ _ _ (same ∙ c.in-Some-next.ensures.steps) c.in_ok-start.ensures.steps c.in-Some-2.is c.loop-delta.invariant.same)
+    simp to_z-of_z at (next_row_comes _ _ c.loop-delta.machine c.step_next.new.machine _ _ _ _ _ _ _ same c.in-Some-step_next.ensures c.in_ok-start.was c.in-Some-2.is c.loop-delta.invariant.same)
 
 pub loop-delta-preserved : goal.loop-delta-preserved
 loop-delta-preserved c =
     let same = none_taken _ _ _ _ _ c.in_default.ensures.takes c.in_default-next_def_cfa_offset.ensures.takes c.in_default-next_offset.ensures.takes c.if-next_nop.ensures.takes in
     record {
-      same = no_row_comes _ _ _ _ _ _ _ _ _ _ (same ∙ c.in-Some-next.ensures.steps) c.in_ok-start.ensures.steps c.in_default-2.is c.loop-delta.invariant.same;
+      same = next_gives_no_row _ _ c.loop-delta.machine c.step_next.new.machine _ _ _ _ _ _ same c.in-Some-step_next.ensures c.in_ok-start.was c.in_default-2.is c.loop-delta.invariant.same;
       most = search rules;
     }
 
-pub returns-in_default-next-clause-reaches : goal.returns-in_default-next-clause-reaches
-returns-in_default-next-clause-reaches c =
+pub returns-in_default-step_next-clause-reaches : goal.returns-in_default-step_next-clause-reaches
+returns-in_default-step_next-clause-reaches c =
     let fits : FitsSigned w64 c.args.factor = c.ranges.factor in
     let same = none_taken _ _ _ _ _ c.in_default.ensures.takes c.in_default-next_def_cfa_offset.ensures.takes c.in_default-next_offset.ensures.takes c.if-next_nop.ensures.takes in
-    simp to_z-of_z at (end_comes _ _ _ _ _ (same ∙ c.in_default-next.ensures.steps.0) c.loop-delta.invariant.same)
+    simp to_z-of_z at (none_is_next _ _ c.loop-delta.machine c.step_next.new.machine _ _ _ _ same c.in_default-step_next.ensures c.loop-delta.invariant.same)

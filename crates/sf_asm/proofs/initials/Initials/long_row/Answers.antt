@@ -1,27 +1,26 @@
-use Rattle.std.proofs.Common.{rules, ◌≡◌, Option, Some, ap, subst, sym, ◌∙◌}
+use Rattle.std.proofs.Common.{rules, ◌≡◌, Some, ap, sym, ◌∙◌}
 use Rattle.std.specs.BTreeMap.{get}
 use Rattle.std.specs.Option.{option_copied}
 use Rattle.std.specs.Ordering.{nat_cmp}
 use Rattle.sf_bytes.specs.Cursor.{cursor}
 use Rattle.cfa_insn.specs.Listing.{listing}
 use Rattle.cfa_machine.specs.Initial.{IsInitial}
-use Rattle.eh_records.specs.Cie.{CieView}
-use Rattle.sf_asm.specs.Initials.{IsInitialAt, IsInitialOf}
-use Rattle.sf_asm.proofs.KeptRows.{with_row}
+use Rattle.sf_asm.specs.Initials.{IsInitialAt}
+use Rattle.sf_asm.proofs.KeptRows.{row_of_entry, row_of_instructions, with_row}
 use Rattle.sf_asm.proofs.initials.Initials.long_row.Goals as goal
 
 pub returns-in-Some-clause-row : goal.returns-in-Some-clause-row
 returns-in-Some-clause-row c =
-    let kept : get nat_cmp c.args.self.now.long c.args.cie.now.place ≡ Some c.in-Some.row.now = sym c.get.ensures.value ∙ ap option_copied c.in-Some.is in
-    let at = c.requires.are.long c.args.cie.now.place c.in-Some.row.now kept in
-    subst (λ (cie : Option CieView). IsInitialOf c.args.section.now.arch cie c.in-Some.row.now) c.requires.named at
+    let kept : get nat_cmp c.args.self.now.long c.args.cie.place ≡ Some c.in-Some.row.now = sym c.get.ensures.value ∙ ap option_copied c.in-Some.is in
+    let at = c.requires.are.long c.args.cie.place c.in-Some.row.now kept in
+    row_of_instructions c.args.section.now.arch _ c.args.cie.factor (cursor c.args.cie.insns) c.in-Some.row.now c.requires.named at
 
 pub returns-clause-are : goal.returns-clause-are
 returns-clause-are c =
     let section = c.args.section.now in
-    let made : IsInitial section.arch c.args.cie.now.factor (listing (cursor c.args.cie.now.insns)) c.in_ok-row.row = search rules in
-    let own : IsInitialAt section.arch section.bytes.now c.args.cie.now.place c.in_ok-row.row = subst (λ (cie : Option CieView). IsInitialOf section.arch cie c.in_ok-row.row) (sym c.requires.named) made in
+    let made : IsInitial section.arch c.args.cie.factor (listing (cursor c.args.cie.insns)) c.in_ok-row.row = search rules in
+    let own : IsInitialAt section.arch section.bytes.now c.args.cie.place c.in_ok-row.row = row_of_entry section.arch _ c.args.cie.factor (cursor c.args.cie.insns) c.in_ok-row.row c.requires.named made in
     record {
       last = c.requires.are.last;
-      long = with_row section.arch section.bytes.now c.args.cie.now.place c.in_ok-row.row c.args.self.now.long c.insert.new.self c.requires.are.long c.in_ok-insert.ensures.updates own;
+      long = with_row section.arch section.bytes.now c.args.cie.place c.in_ok-row.row c.args.self.now.long c.insert.new.self c.requires.are.long c.in_ok-insert.ensures.updates own;
     }
