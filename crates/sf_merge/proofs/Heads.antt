@@ -1,15 +1,14 @@
 -- Functions whose rows are stored in one list.
-use Rattle.std.specs.List.{AllByRecursion, find, zip}
+use Rattle.std.specs.List.{AllByRecursion, filter, find, zip}
 use Rattle.std.specs.List.Sorted.{IsPermutation, IsSorted, IsSortedByKey}
-use Rattle.std.specs.Option.{option_map}
+use Rattle.std.specs.Option.{is_some, option_map}
 use Rattle.std.specs.Ordering.{is_lt}
-use Rattle.std.proofs.Common.{◌≡◌, ◌+◌, ◌&&◌, ℕ, Bool, true, false, cond, All, List, [], ◌∷◌, ◌++◌, get_or, map, Some, refl, sym, ap, ◌∙◌, arith}
+use Rattle.std.proofs.Common.{◌≡◌, ◌+◌, ◌<◌, ◌&&◌, ℕ, Bool, true, false, cond, All, List, [], ◌∷◌, ◌++◌, length, get_or, map, Option, Some, None, refl, sym, ap, ◌∙◌, arith}
 use Rattle.std.specs.Prelude.{nat_lt}
-use Rattle.std.proofs.lemmas.List.{append-nil, get_or-map, length-map, map-append}
-use Rattle.std.proofs.lemmas.List.Elements.{All-from_recursion, filter_map-append, recursion_from_All}
+use Rattle.std.proofs.lemmas.List.{get_or-map, length-map, map-append}
+use Rattle.std.proofs.lemmas.List.Elements.{All-from_recursion, recursion_from_All}
 use Rattle.std.proofs.lemmas.List.Sorted.{IsPermutation-map}
 use Rattle.sf_model.specs.declared.function.Func.{Func}
-use Rattle.sf_model.specs.declared.function.FuncHead.{FuncHead}
 use Rattle.sf_write.specs.declared.stored.StoredFunction.{StoredFunction}
 use Rattle.sf_write.specs.declared.stored.StoredRows.{StoredRows}
 use Rattle.sf_write.specs.Stored.{IsStored, function_by, stored_in}
@@ -17,7 +16,7 @@ use Rattle.sf_merge.specs.declared.head.FunctionHead.{FunctionHead}
 use Rattle.sf_merge.specs.declared.head.FunctionHead.TheVariants.{WithRows, WithoutRows}
 use Rattle.sf_merge.specs.declared.head.LocatedHead.{LocatedHead}
 use Rattle.sf_merge.specs.declared.located.Located.{Located}
-use Rattle.sf_merge.specs.Heads.{AreHeads, HasRows, HaveRows, all_in, function_in, head_rank, heads_overlap, located_in, plain_head, shared_by_heads, stored_at, stored_of}
+use Rattle.sf_merge.specs.Heads.{AreHeads, AreWithRows, HasRows, HaveRows, all_in, function_in, head_rank, heads_overlap, is_with_rows, located_in, plain_head, shared_by_heads, stored_at, stored_of}
 use Rattle.sf_merge.specs.Located.{InOrder, compared, compared_ranks, rank_of}
 use Rattle.sf_merge.specs.Merging.{neighbours, overlap, overlap_fault, shared_by, written}
 
@@ -150,13 +149,41 @@ stored_by_recursion rows (x ∷ xs) h = stored_one rows x.item x.number x.head x
 pub all_stored : (rows : StoredRows) (heads : List LocatedHead) → HaveRows rows heads → All (IsStored rows) (stored_of heads)
 all_stored rows heads h = All-from_recursion (IsStored rows) (stored_of heads) (stored_by_recursion rows heads (recursion_from_All (Has rows) heads h))
 
--- ---- one more head
-stored_last : (heads : List LocatedHead) (x : LocatedHead) (f : FunctionHead) → x.head ≡ f → stored_of (heads ++ x ∷ []) ≡ stored_of heads ++ stored_of (record { head = f; item = x.item; number = x.number } ∷ [])
-stored_last heads x f is =
-    filter_map-append (λ (h : LocatedHead). stored_at h.head) heads (x ∷ []) ∙ ap (λ (f : FunctionHead). stored_of heads ++ stored_of (record { head = f; item = x.item; number = x.number } ∷ [])) is
+-- ---- those with rows alone
+one_with_rows : (item number : ℕ) (f : FunctionHead) (heads : List LocatedHead) → stored_of (filter is_with_rows heads) ≡ stored_of heads
+    → stored_of (filter is_with_rows (record { head = f; item = item; number = number } ∷ heads)) ≡ stored_of (record { head = f; item = item; number = number } ∷ heads)
+one_with_rows item number (WithRows f) heads others = ap (λ (fs : List StoredFunction). f ∷ fs) others
+one_with_rows item number (WithoutRows head) heads others = others
 
-pub stored_more : (heads : List LocatedHead) (x : LocatedHead) (f : StoredFunction) → x.head ≡ WithRows f → stored_of (heads ++ x ∷ []) ≡ stored_of heads ++ f ∷ []
-stored_more heads x f is = stored_last heads x (WithRows f) is
+-- the others are not stored
+pub stored_with_rows : (heads : List LocatedHead) → stored_of (filter is_with_rows heads) ≡ stored_of heads
+stored_with_rows [] = refl
+stored_with_rows (x ∷ xs) = one_with_rows x.item x.number x.head xs (stored_with_rows xs)
 
-pub stored_same : (heads : List LocatedHead) (x : LocatedHead) (head : FuncHead) → x.head ≡ WithoutRows head → stored_of (heads ++ x ∷ []) ≡ stored_of heads
-stored_same heads x head is = stored_last heads x (WithoutRows head) is ∙ append-nil (stored_of heads)
+abbrev IsWithRows : LocatedHead → Type 0
+IsWithRows h = is_with_rows h ≡ true
+
+abbrev stored_or_none : LocatedHead → Option StoredFunction
+stored_or_none h = stored_at h.head
+
+one_stored : (item number : ℕ) (f : FunctionHead) (heads : List LocatedHead) → is_some (stored_at f) ≡ true → map stored_or_none heads ≡ map Some (stored_of heads)
+    → stored_at f ∷ map stored_or_none heads ≡ map Some (stored_of (record { head = f; item = item; number = number } ∷ heads))
+one_stored item number (WithRows f) heads is others = ap (λ (fs : List (Option StoredFunction)). Some f ∷ fs) others
+one_stored item number (WithoutRows head) heads is others = absurd (cc is)
+
+each_stored : (heads : List LocatedHead) → AllByRecursion IsWithRows heads → map stored_or_none heads ≡ map Some (stored_of heads)
+each_stored [] are = refl
+each_stored (x ∷ xs) are = one_stored x.item x.number x.head xs are.0 (each_stored xs are.1)
+
+each_is_stored : (heads : List LocatedHead) → AreWithRows heads → map stored_or_none heads ≡ map Some (stored_of heads)
+each_is_stored heads are = each_stored heads (recursion_from_All IsWithRows heads are)
+
+-- how many there are
+pub with_rows_len : (heads : List LocatedHead) → AreWithRows heads → length (stored_of heads) ≡ length heads
+with_rows_len heads are = sym (length-map (stored_of heads) Some) ∙ ap length (sym (each_is_stored heads are)) ∙ length-map heads stored_or_none
+
+-- the one with a number
+pub with_rows_at : (heads : List LocatedHead) (i : ℕ) (h : LocatedHead) (d : StoredFunction) → AreWithRows heads → i < length heads → stored_at (get_or heads i h).head ≡ Some (get_or (stored_of heads) i d)
+with_rows_at heads i h d are low =
+    sym (get_or-map stored_or_none heads i h None low) ∙ ap (λ (fs : List (Option StoredFunction)). get_or fs i None) (each_is_stored heads are)
+    ∙ get_or-map Some (stored_of heads) i d None (omega (arith, low, with_rows_len heads are))

@@ -2,6 +2,7 @@
 -- a head for each.
 use Rattle.std.specs.Prelude.{◌≡◌, ◌<◌, Bool, true, List, [], All, map, length, Option, Some, None}
 use Rattle.std.specs.List.{filter_map}
+use Rattle.std.specs.Option.{is_some}
 use Rattle.sf_model.specs.declared.machine.Arch.{Arch}
 use Rattle.sf_model.specs.declared.function.Func.{Func}
 use Rattle.sf_model.specs.declared.function.FuncHead.{FuncHead}
@@ -62,6 +63,13 @@ stored_at (WithoutRows head) = None
 
 abbrev pub stored_of : List LocatedHead → List StoredFunction
 stored_of heads = filter_map (λ (h : LocatedHead). stored_at h.head) heads
+
+-- whether it has rows
+abbrev pub is_with_rows : LocatedHead → Bool
+is_with_rows h = is_some (stored_at h.head)
+
+abbrev pub AreWithRows : List LocatedHead → Type 0
+AreWithRows heads = All (λ (h : LocatedHead). is_with_rows h ≡ true) heads
 
 -- the second begins before the end of the first
 abbrev pub heads_overlap : LocatedHead × LocatedHead → Bool

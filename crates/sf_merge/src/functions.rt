@@ -53,14 +53,14 @@ fn store(rows: &mut StoredRows, arch: Arch, func: &Func) -> Result<FunctionHead,
 }
 
 impl LocatedFunctions {
-    /// No functions.
-    pub fn new(alloc: Global) -> LocatedFunctions
-        ensures { result ≡ [] }
+    /// No functions, with memory for the heads of `count`.
+    pub fn with_capacity(alloc: Global, count: usize) -> Result<LocatedFunctions, NoMemory>
+        ensures { IfOk result (λ functions. functions ≡ []) }
     {
-        LocatedFunctions {
-            heads: Vec::new(alloc),
+        Ok(LocatedFunctions {
+            heads: Vec::with_capacity(alloc, count)?,
             rows: StoredRows::new(alloc),
-        }
+        })
     }
 
     /// Adds a function of a section for this machine.

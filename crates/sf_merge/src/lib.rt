@@ -31,6 +31,7 @@ mod merging;
 mod notices;
 mod overlap;
 mod reading;
+mod with_rows;
 
 pub use fault::MergeFault;
 pub use joining::join;

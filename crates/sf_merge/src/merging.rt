@@ -4,42 +4,24 @@ ghost use Rattle.std.specs.Prelude.{◌≡◌, ◌<◌, ◌≤◌, ◌^◌, All,
 ghost use Rattle.sf_decode.specs.View.{table_of};
 ghost use Rattle.sf_write.specs.Stored.{IsStored, stored_count, stored_in};
 ghost use Rattle.sf_merge.specs.Answers.{IsMerged, IsFirstFault};
-ghost use Rattle.sf_merge.specs.Heads.{stored_of};
 ghost use Rattle.sf_merge.specs.Merging.{written};
 
 use crate::checking::{check_limits, check_machines, check_overlap};
 use crate::fault::{MergeFault, write_fault};
 use crate::functions::LocatedFunctions;
-use crate::head::{FunctionHead, LocatedHead};
 use crate::reading::all_in_order;
-use sf_base::NoMemory;
+use crate::with_rows::FunctionsWithRows;
 use sf_decode::View;
-use sf_write::{StoredFunction, StoredRows, write_stored};
+use sf_write::{StoredList, StoredRows, write_stored};
 use std::alloc::Global;
 
-/// The functions that have rows.
-fn with_rows(alloc: Global, heads: Vec<LocatedHead>) -> Result<Vec<StoredFunction>, NoMemory>
-    ensures { IfOk result (λ functions. functions.items ≡ stored_of heads.items) }
-{
-    let mut functions = Vec::new(alloc);
-    for located in heads {
-        if let FunctionHead::WithRows(function) = located.head {
-            functions.push(function)?;
-        }
-    }
-    Ok(functions)
-}
-
 /// The functions that hold an address and have a row, and their rows.
-fn written(
-    alloc: Global,
-    ordered: LocatedFunctions,
-) -> Result<(Vec<StoredFunction>, StoredRows), NoMemory>
-    ensures stored { IfOk result (λ w. All (IsStored w.1) w.0.items) }
-    ensures written { IfOk result (λ w. map (stored_in w.1) w.0.items ≡ written ordered) }
+fn written(ordered: LocatedFunctions) -> (FunctionsWithRows, StoredRows)
+    ensures stored { All (IsStored result.1) result.0 }
+    ensures written { map (stored_in result.1) result.0 ≡ written ordered }
 {
     let (heads, rows) = ordered.into_parts();
-    Ok((with_rows(alloc, heads)?, rows))
+    (FunctionsWithRows::of(heads), rows)
 }
 
 /// A merged section, and how many functions and rows it has.
@@ -51,13 +33,13 @@ pub struct MergedSection {
 }
 
 /// How many rows functions have.
-fn count_rows(functions: &[StoredFunction]) -> u32
+fn count_rows(functions: &FunctionsWithRows) -> u32
     requires { stored_count functions.now ≤ 2 ^ 24 }
     ensures { result ≡ stored_count functions.now }
 {
     let mut rows = 0;
-    for function in functions {
-        rows += function.head.rows;
+    for number in 0..functions.len() {
+        rows += functions.function(number).head.rows;
     }
     rows
 }
@@ -82,7 +64,7 @@ pub fn merge(alloc: Global, views: &[View<'_>], at: u64) -> Result<MergedSection
     check_limits(views)?;
     let ordered = all_in_order(alloc, views)?;
     check_overlap(&ordered)?;
-    let (functions, rows) = written(alloc, ordered)?;
+    let (functions, rows) = written(ordered);
     match write_stored(alloc, arch, at, &rows, &functions) {
         Ok(section) => Ok(MergedSection {
             section,

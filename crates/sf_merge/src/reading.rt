@@ -115,12 +115,23 @@ fn store_functions(
     view_is_a_section(view);
     functions_are_numbered(view);
     for number in 0..view.len() {
-        if view.func(number).size != 0 {
-            read_function(view, number, spare)?;
+        read_function(view, number, spare)?;
+        if spare.size != 0 {
             all.push(view.arch(), item, number, spare)?;
         }
     }
     Ok(())
+}
+
+/// How many functions sections have in all.
+fn count_functions(views: &[View<'_>]) -> usize
+    requires { length views.now ≤ 512 }
+{
+    let mut functions = 0;
+    for view in views {
+        functions += view.len() as usize;
+    }
+    functions
 }
 
 /// The functions of all sections that have bytes, in order. They are sorted once, which costs one pass where
@@ -130,7 +141,7 @@ pub fn all_in_order(alloc: Global, views: &[View<'_>]) -> Result<LocatedFunction
     ensures order { IfOk result (λ all. InOrder (sized (map table_of views.now)) all) }
     ensures read { OnOk result (All IsRead views.now) }
 {
-    let mut all = LocatedFunctions::new(alloc);
+    let mut all = LocatedFunctions::with_capacity(alloc, count_functions(views))?;
     let mut spare = empty_function(alloc, 0)?;
     let mut item = 0;
     for view in views {

@@ -1,6 +1,6 @@
-use Rattle.std.proofs.Common.{◌≡◌, ◌+◌, drop}
+use Rattle.std.proofs.Common.{◌≡◌, take}
 use Rattle.sf_write.specs.Stored.{stored_count}
 use Rattle.sf_merge.proofs.merging.count_rows.Given as goal
 
-abbrev pub invariant-loop-function : goal.invariant-loop-function
-invariant-loop-function l = l.rows + stored_count (drop l.function-index l.functions) ≡ stored_count l.functions
+abbrev pub invariant-loop-number : goal.invariant-loop-number
+invariant-loop-number l = l.rows ≡ stored_count (take l.number l.functions)
