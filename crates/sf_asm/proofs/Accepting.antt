@@ -20,14 +20,14 @@ use Rattle.sf_asm.specs.Entry.{kept_of, spans_of}
 use Rattle.sf_asm.specs.Functions.{Function, Object, functions_of}
 use Rattle.sf_asm.specs.Inputs.{all_functions, first_item, machines_of, mixed_fault}
 use Rattle.sf_asm.specs.Kept.{entry_of}
-use Rattle.sf_asm.specs.Linking.{start_of, InOrder, overlap, overlap_fault, overlap_in, overlap_with, limits_fault, functions_fault, link_fault, or_later, unless_fault, Gathers, GathersFrom, Links, LinksFrom}
+use Rattle.sf_asm.specs.Linking.{Gathers, GathersFrom, InOrder, Links, LinksFrom, functions_fault, limits_fault, link_fault, or_later, overlap, overlap_after, overlap_fault, overlap_in, overlap_with, start_of, unless_fault}
 use Rattle.sf_asm.specs.Order.{are_apart, entry_rows}
 use Rattle.sf_asm.proofs.ByStart.{by_key, by_key-moved, by_key-rising, by_key-stable}
 use Rattle.sf_asm.proofs.GatheredInputs.{are_read, by_parts, parts_of}
 use Rattle.sf_asm.proofs.Kept.{not_overlapping_apart}
 use Rattle.sf_asm.proofs.Limits.{within_limits, few_functions, few_rows}
 use Rattle.sf_asm.proofs.Machines.{is_one, one_is_unmixed}
-use Rattle.sf_asm.proofs.Overlaps.{overlap_after, overlap_begins, overlap_passes, overlap_goes_on}
+use Rattle.sf_asm.proofs.Overlaps.{overlap_begins, overlap_passes, overlap_goes_on}
 
 both : (a b : Bool) → (a && b) ≡ true → (a ≡ true) × (b ≡ true)
 both true b e = (refl, e)

@@ -20,10 +20,10 @@ use Rattle.sf_asm.specs.declared.entry.Outcome.{Outcome}
 use Rattle.sf_asm.specs.declared.entry.Outcome.TheVariants.{Kept, Left}
 use Rattle.sf_asm.specs.Entry.{IsSound, IsSoundOutcome, kept_of, kept_in, omitted_of, omitted_in, spans_of}
 use Rattle.sf_asm.specs.declared.fault.GatherFault.{GatherFault}
-use Rattle.sf_asm.specs.Linking.{overlap_fault, overlap_in, overlap_with, limits_fault, functions_fault, or_later}
+use Rattle.sf_asm.specs.Linking.{functions_fault, limits_fault, or_later, overlap_after, overlap_fault, overlap_in, overlap_with}
 use Rattle.sf_asm.specs.Order.{are_apart, rows_of, entry_rows}
 use Rattle.sf_asm.proofs.Limits.{few_functions, few_rows}
-use Rattle.sf_asm.proofs.Overlaps.{overlap_after, overlap_begins, overlap_passes, overlap_goes_on, overlap_ends}
+use Rattle.sf_asm.proofs.Overlaps.{overlap_begins, overlap_passes, overlap_goes_on, overlap_ends}
 
 -- each function starts at the end of the one before it, or behind it
 abbrev ApartFrom : ℕ → List Func → Type 0

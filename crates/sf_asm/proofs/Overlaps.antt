@@ -2,19 +2,11 @@
 use Rattle.std.specs.Prelude.{not}
 use Rattle.std.specs.Option.{option_map}
 use Rattle.std.specs.List.{filter, find}
-use Rattle.std.proofs.Common.{◌≡◌, ℕ, Bool, true, false, cond, eqb, List, [], ◌∷◌, Option, Some, None, refl, ap}
+use Rattle.std.proofs.Common.{◌≡◌, ℕ, Bool, true, false, cond, eqb, List, [], ◌∷◌, Option, Some, None, refl, sym, ap, ◌∙◌}
 use Rattle.sf_model.specs.declared.omission.Span.{Span}
 use Rattle.sf_asm.specs.declared.fault.GatherFault.{GatherFault}
-use Rattle.sf_asm.specs.Linking.{has_bytes, neighbours, overlap, overlap_in, overlap_fault, overlap_with}
-
--- the function before, if there is one, and those that follow it
-abbrev pub behind : Option Span → List Span → List Span
-behind None spans = spans
-behind (Some before) spans = before ∷ spans
-
--- the first overlap of what is left, with the function before
-abbrev pub overlap_after : Option Span → List Span → Option (Span × Span)
-overlap_after before spans = find overlap (neighbours (behind before (filter has_bytes spans)))
+use Rattle.sf_asm.specs.declared.spans.Overlaps.{Overlaps}
+use Rattle.sf_asm.specs.Linking.{has_bytes, neighbours, or_later, overlap, overlap_after, overlap_in, overlap_fault, overlap_left, overlap_with}
 
 pub overlap_begins : (spans : List Span) → overlap_in spans ≡ overlap_after None spans
 unfolding overlap_in
@@ -49,3 +41,16 @@ overlap_ends (Some before) span spans fault some e = rw some (at_test (overlap (
 pub no_overlap_left : (before : Option Span) → overlap_after before [] ≡ None
 no_overlap_left None = refl
 no_overlap_left (Some before) = refl
+
+-- ---- what was seen so far
+nothing_later : {F : Type 0} (first : Option F) → or_later first None ≡ first
+nothing_later None = refl
+nothing_later (Some fault) = refl
+
+pub first_seen : (seen : Overlaps) → seen.first ≡ overlap_left seen []
+first_seen seen = sym (ap (λ (pair : Option (Span × Span)). or_later seen.first (option_map overlap_fault pair)) (no_overlap_left seen.before) ∙ nothing_later seen.first)
+
+pub next_is_seen : (seen : Overlaps) (span : Span) (spans : List Span) (found : Option GatherFault) → seen.first ≡ None → eqb span.size 0 ≡ false → found ≡ overlap_with seen.before span
+    → overlap_left seen (span ∷ spans) ≡ overlap_left (record { before = Some span; first = found }) spans
+next_is_seen seen span spans None none some is = rw none (ap (option_map overlap_fault) (overlap_goes_on seen.before span spans some (sym is)))
+next_is_seen seen span spans (Some fault) none some is = rw none (overlap_ends seen.before span spans fault some (sym is))

@@ -1,5 +1,5 @@
 -- The functions of all inputs in the order of their addresses, and why there may be no section of them.
-use Rattle.std.specs.Prelude.{◌≡◌, ◌+◌, ◌^◌, ℕ, Bool, nat_lt, not, ◌==◌, List, map, length, drop, sum_by, Option, Some, None, Result, Ok, Err, if◌then◌else◌}
+use Rattle.std.specs.Prelude.{◌≡◌, ◌+◌, ◌^◌, ℕ, Bool, nat_lt, not, ◌==◌, List, ◌∷◌, map, length, drop, sum_by, Option, Some, None, Result, Ok, Err, if◌then◌else◌}
 use Rattle.std.specs.Option.{option_map}
 use Rattle.std.specs.List.{filter, find, zip}
 use Rattle.std.specs.List.Sorted.{IsPermutation, IsNonDecreasingBy, IsStableByKey}
@@ -10,6 +10,7 @@ use Rattle.sf_write.specs.Reach.{first_out_of_reach}
 use Rattle.sf_asm.specs.declared.entry.Entry.{Entry}
 use Rattle.sf_asm.specs.declared.fault.GatherFault.{GatherFault}
 use Rattle.sf_asm.specs.declared.fault.GatherFault.TheVariants as gather
+use Rattle.sf_asm.specs.declared.spans.Overlaps.{Overlaps}
 use Rattle.sf_asm.specs.declared.fault.LinkFault.{LinkFault}
 use Rattle.sf_asm.specs.declared.fault.LinkFault.TheVariants.{Gather, OutOfReach}
 use Rattle.sf_asm.specs.Entry.{kept_of, spans_of}
@@ -51,6 +52,18 @@ overlap_fault pair = gather.Overlap pair.0.start pair.0.origin.item pair.1.start
 abbrev pub overlap_with : (before : Option Span) → Span → Option GatherFault
 overlap_with None span = None
 overlap_with (Some before) span = if overlap (before, span) then Some (overlap_fault (before, span)) else None
+
+-- one function after another: the function before that has bytes, if there is one, and those that follow it
+abbrev pub behind : Option Span → List Span → List Span
+behind None spans = spans
+behind (Some before) spans = before ∷ spans
+
+abbrev pub overlap_after : (before : Option Span) → List Span → Option (Span × Span)
+overlap_after before spans = find overlap (neighbours (behind before (filter has_bytes spans)))
+
+-- the fault that was found, or else the one of what is left
+abbrev pub overlap_left : Overlaps → List Span → Option GatherFault
+overlap_left seen spans = or_later seen.first (option_map overlap_fault (overlap_after seen.before spans))
 
 -- ---- the first fault
 -- at most 2^21 functions, omitted ones included, and 2^24 rows of kept ones

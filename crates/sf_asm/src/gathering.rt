@@ -10,7 +10,7 @@ ghost use Rattle.sf_asm.specs.declared.fault.GatherFault.TheVariants.{NoMemory};
 ghost use Rattle.sf_asm.specs.Answers.{AreGathered, AreTogether, IsFirstGathered, LendsAll};
 ghost use Rattle.sf_asm.specs.Functions.{functions_of, object_of, unless};
 ghost use Rattle.sf_asm.specs.Inputs.{HaveMachine, first_item as item_of_first};
-ghost use Rattle.sf_asm.specs.Linking.{Gathers, InOrder, functions_fault, limits_fault, overlap_fault, overlap_in, overlap_with};
+ghost use Rattle.sf_asm.specs.Linking.{Gathers, InOrder, functions_fault};
 ghost use Rattle.sf_asm.specs.Sources.{AreWithSources, functions_lent, source_start};
 ghost use Rattle.sf_asm.specs.Fault.{is_gather_answered};
 ghost use Rattle.sf_write.specs.Stored.{IsStored, stored_in};
@@ -22,6 +22,7 @@ use crate::input::Input;
 use crate::inputs::{one_machine, read_all};
 use crate::read::{AllFunctions, ReadFunctions};
 use crate::source::Source;
+use crate::spans::Overlaps;
 use sf_model::{Arch, Func, Omitted, Span};
 use sf_write::{StoredList, StoredRows};
 use std::alloc::{AllocError, Global};
@@ -81,65 +82,29 @@ struct ReadInOrder<'a> {
     sources: Vec<Source<'a>>,
 }
 
-/// Tries the limits: functions first, then rows.
-fn check_limits(entries: &OrderedEntries) -> Result<(), GatherFault>
-    ensures { result ≡ unless (limits_fault entries.now) }
+/// Tries the limits, of functions first and then of rows, and then each function that has bytes against the one
+/// before it, in one pass.
+fn check(entries: &OrderedEntries) -> Result<(), GatherFault>
+    ensures { result ≡ unless (functions_fault entries.now) }
 {
     if entries.len() > FUNCTION_LIMIT {
         return Err(GatherFault::TooManyFunctions);
     }
     let mut total = 0usize;
+    let mut overlaps = Overlaps::new();
     for number in 0..entries.len() {
-        let count = entries.head(number).row_count();
+        let head = entries.head(number);
+        let count = head.row_count();
         if count > ROW_LIMIT - total {
             return Err(GatherFault::TooManyRows);
         }
         total += count;
+        overlaps.see(head.span());
     }
-    Ok(())
-}
-
-/// The fault of a function that begins before the end of another one.
-#[inline(always)]
-fn overlap_of(before: Option<Span>, span: Span) -> Option<GatherFault>
-    ensures { result ≡ overlap_with before span }
-{
-    let before = before?;
-    if u128::from(span.start) < u128::from(before.start) + u128::from(before.size) {
-        return Some(GatherFault::Overlap(
-            before.start,
-            before.origin.item,
-            span.start,
-            span.origin.item,
-        ));
+    match overlaps.into_first() {
+        Some(fault) => Err(fault),
+        None => Ok(()),
     }
-    None
-}
-
-/// Tries each function that has bytes against the one before it.
-fn check_overlap(entries: &OrderedEntries) -> Result<(), GatherFault>
-    ensures { result ≡ unless (option_map overlap_fault (overlap_in (spans_of entries.now))) }
-{
-    let mut before = None;
-    for number in 0..entries.len() {
-        let span = entries.head(number).span();
-        if span.size == 0 {
-            continue;
-        }
-        if let Some(fault) = overlap_of(before, span) {
-            return Err(fault);
-        }
-        before = Some(span);
-    }
-    Ok(())
-}
-
-/// Tries the limits, and then overlaps.
-fn check(entries: &OrderedEntries) -> Result<(), GatherFault>
-    ensures { result ≡ unless (functions_fault entries.now) }
-{
-    check_limits(entries)?;
-    check_overlap(entries)
 }
 
 /// The functions of all inputs, in order.

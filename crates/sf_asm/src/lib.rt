@@ -39,6 +39,7 @@ mod reading;
 mod said;
 mod section;
 mod source;
+mod spans;
 
 pub use address::row_at;
 pub use assembling::{Linked, assemble};
