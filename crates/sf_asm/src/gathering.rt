@@ -101,10 +101,7 @@ fn check(entries: &OrderedEntries) -> Result<(), GatherFault>
         total += count;
         overlaps.see(head.span());
     }
-    match overlaps.into_first() {
-        Some(fault) => Err(fault),
-        None => Ok(()),
-    }
+    overlaps.into_result()
 }
 
 /// The functions of all inputs, in order.

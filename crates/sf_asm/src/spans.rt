@@ -36,6 +36,7 @@ impl Overlaps {
     ghost use Rattle.std.specs.Prelude.{[], ◌∷◌, List};
     ghost use Rattle.std.specs.Option.{option_map};
     ghost use Rattle.sf_model.specs.declared.omission.Span.{Span as span_fact};
+    ghost use Rattle.sf_asm.specs.Functions.{unless};
     ghost use Rattle.sf_asm.specs.Linking.{overlap_fault, overlap_in, overlap_left};
 
     /// Nothing was seen yet.
@@ -60,10 +61,13 @@ impl Overlaps {
         self.before = Some(span);
     }
 
-    /// The fault of the first overlap that was seen.
-    pub fn into_first(self) -> Option<GatherFault>
-        ensures { result ≡ overlap_left self [] }
+    /// The fault of the first overlap that was seen, if there is one.
+    pub fn into_result(self) -> Result<(), GatherFault>
+        ensures { result ≡ unless (overlap_left self []) }
     {
-        self.first
+        match self.first {
+            Some(fault) => Err(fault),
+            None => Ok(()),
+        }
     }
 }

@@ -1,6 +1,6 @@
 -- Digits from the lowest up, in front of those that are there.
 use Rattle.std.proofs.Common.{◌≡◌, ℕ, zero, suc, ◌+◌, ◌-◌, ◌*◌, ◌/◌, ◌%◌, ◌^◌, ◌<◌, ◌≤◌, true, false, List, [], ◌∷◌, nat_eq, refl, sym, ap, subst, ◌∙◌, arith, drop, set, length}
-use Rattle.std.specs.Fmt.{digits, digits_onto, digit_glyph}
+use Rattle.std.specs.Fmt.{decimal, digits, digits_onto, digit_glyph}
 use Rattle.std.proofs.Math.Nat.{div-lt_iff_lt-mul, div-eq_of_lt, pow-suc, pow-zero, mod-eq_of_lt, lt-div-mul-add}
 use Rattle.std.proofs.lemmas.Bool.{ne_eqb}
 use Rattle.std.proofs.lemmas.List.{drop-set}
@@ -73,3 +73,16 @@ digit_in_front bytes start digit some within =
     let inside : start - 1 < length bytes = omega arith in
     let e : start - 1 + 1 ≡ start = omega arith in
     drop-set bytes (start - 1) digit inside ∙ ap (λ n. digit ∷ drop n bytes) e
+
+-- ---- numbers of one to three digits
+pub one_digit : (n : ℕ) → n < 10 → decimal n ≡ digit_glyph false n ∷ []
+one_digit n low = sym (last_digit 20 10 n [] low (omega arith) ∙ all_digits 10 n)
+
+pub two_digits : (n : ℕ) → 10 ≤ n → n / 10 < 10 → decimal n ≡ digit_glyph false (n / 10) ∷ digit_glyph false (n % 10) ∷ []
+two_digits n high low = sym (last_digit 19 10 (n / 10) (digit_glyph false (n % 10) ∷ []) low (omega arith) ∙ (more_digits 20 10 n [] (omega arith) high (omega arith) ∙ all_digits 10 n))
+
+pub three_digits : (n : ℕ) → 10 ≤ n → 10 ≤ n / 10 → n / 10 / 10 < 10 → decimal n ≡ digit_glyph false (n / 10 / 10) ∷ digit_glyph false (n / 10 % 10) ∷ digit_glyph false (n % 10) ∷ []
+three_digits n some more low =
+    sym (last_digit 18 10 (n / 10 / 10) (digit_glyph false (n / 10 % 10) ∷ digit_glyph false (n % 10) ∷ []) low (omega arith)
+    ∙ (more_digits 19 10 (n / 10) (digit_glyph false (n % 10) ∷ []) (omega arith) more (omega arith)
+    ∙ (more_digits 20 10 n [] (omega arith) some (omega arith) ∙ all_digits 10 n)))

@@ -48,7 +48,7 @@ pub(crate) fn digits_in(base: u64, number: u64) -> Digits
 
 /// The character of a digit below 16.
 #[inline(always)]
-fn glyph(digit: u64) -> u8
+pub(crate) fn glyph(digit: u64) -> u8
     requires { digit < 16 }
     ensures { result ≡ digit_glyph false digit }
 {

@@ -5,12 +5,31 @@ ghost use Rattle.std.specs.Fmt.{decimal};
 ghost use Rattle.sf_text.specs.Number.{hexadecimal};
 ghost use Rattle.sf_text.specs.Content.{sign_text, signed_text};
 
-use crate::digits::digits_in;
+use crate::digits::{digits_in, glyph};
 use std::alloc::AllocError;
 
-/// Appends a number in decimal digits.
+/// Appends a number in decimal digits. Most numbers have one to three: those are appended at once.
 #[inline(always)]
 pub(crate) fn push_decimal(text: &mut Vec<u8>, number: u64) -> Result<(), AllocError>
+    ensures { OnOk result (text.new.items ≡ text.old.items ++ decimal number) }
+{
+    if number < 10 {
+        return text.extend_from_slice(&[glyph(number)]);
+    }
+    let (tens, unit) = (number / 10, glyph(number % 10));
+    if tens < 10 {
+        return text.extend_from_slice(&[glyph(tens), unit]);
+    }
+    let (hundreds, ten) = (tens / 10, glyph(tens % 10));
+    if hundreds < 10 {
+        return text.extend_from_slice(&[glyph(hundreds), ten, unit]);
+    }
+    push_long_decimal(text, number)
+}
+
+/// Appends a number in decimal digits, whatever their count.
+#[inline(never)]
+fn push_long_decimal(text: &mut Vec<u8>, number: u64) -> Result<(), AllocError>
     ensures { OnOk result (text.new.items ≡ text.old.items ++ decimal number) }
 {
     text.extend_from_slice(digits_in(10, number).as_bytes())

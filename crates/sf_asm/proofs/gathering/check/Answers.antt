@@ -1,14 +1,13 @@
-use Rattle.std.proofs.Common.{◌≡◌, ◌<◌, ◌≤◌, ◌^◌, ◌+◌, [], ◌∷◌, ℕ, List, drop, get_or, length, sum_by, take, Option, ap, sym, ◌∙◌, arith}
+use Rattle.std.proofs.Common.{◌≡◌, ◌<◌, ◌≤◌, ◌^◌, ◌+◌, ◌∷◌, ℕ, List, drop, get_or, length, sum_by, Option, ap, sym, ◌∙◌, arith}
 use Rattle.std.proofs.lemmas.List.{drop_all, drop_more}
 use Rattle.std.proofs.lemmas.List.Sums.{sum_by_more}
 use Rattle.std.specs.Option.{option_map}
 use Rattle.sf_model.specs.declared.omission.Span.{Span}
 use Rattle.sf_asm.specs.declared.entry.Entry.{Entry}
 use Rattle.sf_asm.specs.declared.fault.GatherFault.{GatherFault}
-use Rattle.sf_asm.specs.declared.spans.Overlaps.{Overlaps}
 use Rattle.sf_asm.specs.Entry.{spans_of}
 use Rattle.sf_asm.specs.Functions.{unless}
-use Rattle.sf_asm.specs.Linking.{functions_fault, or_later, overlap_fault, overlap_in, overlap_left}
+use Rattle.sf_asm.specs.Linking.{or_later, overlap_fault, overlap_in, overlap_left}
 use Rattle.sf_asm.specs.Order.{entry_rows}
 use Rattle.sf_asm.proofs.Heads.{no_entry}
 use Rattle.sf_asm.proofs.Limits.{too_many_functions, too_many_rows, within_limits, more_rows, all_rows}
@@ -49,24 +48,16 @@ loop-number-preserved c =
           ∙ c.see.ensures (spans_of (drop (c.loop-number.number + 1) entries));
     }
 
--- behind the last function
-at_end : (entries : List Entry) (number total : ℕ) (seen : Overlaps) (first : Option GatherFault) → length entries ≤ number → length entries ≤ 2 ^ 21 → total ≡ sum_by entry_rows (take number entries) → total ≤ 2 ^ 24
-    → overlaps_of entries ≡ overlap_left seen (spans_of (drop number entries)) → first ≡ overlap_left seen [] → functions_fault entries ≡ first
-at_end entries number total seen first past few rows small left is =
-    let all = all_rows entry_rows entries number past in
-    ap (λ (f : Option GatherFault). or_later f (overlaps_of entries)) (within_limits entries few (omega (arith, all, rows, small)))
-    ∙ left ∙ ap (λ (es : List Entry). overlap_left seen (spans_of es)) (drop_all number entries past) ∙ sym is
-
-pub returns-in-Some : goal.returns-in-Some
-returns-in-Some c =
+pub returns : goal.returns
+returns c =
+    let entries = c.args.entries.now in
     let kept = c.loop-number.invariant in
-    let past : length c.args.entries.now ≤ c.loop-number.number = omega (arith, c.loop-number-test.false, c.len-number-end.ensures) in
-    let few : length c.args.entries.now ≤ 2 ^ 21 = omega (arith, c.len.ensures, c.if-len-gt-FUNCTION_LIMIT.false) in
-    sym (ap unless (at_end c.args.entries.now c.loop-number.number c.loop-number.total c.loop-number.overlaps c.into_first.result past few kept.total_is kept.small kept.overlaps c.into_first.ensures ∙ c.in-Some.is))
-
-pub returns-in-None : goal.returns-in-None
-returns-in-None c =
-    let kept = c.loop-number.invariant in
-    let past : length c.args.entries.now ≤ c.loop-number.number = omega (arith, c.loop-number-test.false, c.len-number-end.ensures) in
-    let few : length c.args.entries.now ≤ 2 ^ 21 = omega (arith, c.len.ensures, c.if-len-gt-FUNCTION_LIMIT.false) in
-    sym (ap unless (at_end c.args.entries.now c.loop-number.number c.loop-number.total c.loop-number.overlaps c.into_first.result past few kept.total_is kept.small kept.overlaps c.into_first.ensures ∙ c.in-None.is))
+    let past : length entries ≤ c.loop-number.number = omega (arith, c.loop-number-test.false, c.len-number-end.ensures) in
+    let all = all_rows entry_rows entries c.loop-number.number past in
+    let small : sum_by entry_rows entries ≤ 2 ^ 24 = omega (arith, all, kept.total_is, kept.small) in
+    let within = within_limits entries (omega (arith, c.len.ensures, c.if-len-gt-FUNCTION_LIMIT.false)) small in
+    c.into_result.ensures
+    ∙ sym (ap unless (
+    ap (λ (f : Option GatherFault). or_later f (overlaps_of entries)) within ∙ kept.overlaps
+    ∙ ap (λ (es : List Entry). overlap_left c.loop-number.overlaps (spans_of es)) (drop_all c.loop-number.number entries past)
+    ))
