@@ -1,5 +1,5 @@
 -- The one pass over the columns agrees with the full rows, run afresh for each offset.
-use Rattle.std.proofs.Common.{◌≡◌, ℕ, ℤ, ◌==◌, Bool, true, false, cond, List, [], ◌∷◌, Result, Ok, Err, refl, sym, ap, subst}
+use Rattle.std.proofs.Common.{◌≡◌, ℕ, ℤ, ◌==◌, Bool, true, false, cond, List, [], ◌∷◌, Result, Ok, Err, refl, sym, ap, subst, ◌∙◌}
 use Rattle.std.proofs.lemmas.Bool.{eqb-true}
 use Rattle.sf_model.specs.declared.machine.Arch.{Arch}
 use Rattle.sf_model.specs.declared.machine.Arch.TheVariants.{Amd64, Aarch64}
@@ -16,7 +16,7 @@ use Rattle.cfa_machine.specs.declared.columns.Columns.{Columns}
 use Rattle.cfa_machine.specs.Columns.{with_rule, restored, changed, with_cfa_register, with_cfa_offset}
 use Rattle.cfa_machine.specs.Effects.{effect_by}
 use Rattle.cfa_machine.specs.Pass.{◌>>=◌, cie_step, initial_columns}
-use Rattle.cfa_machine.specs.FullRow.{FullRow, rule_of, with_register_rule, cfa_register, cfa_offset, row_after, columns_of}
+use Rattle.cfa_machine.specs.FullRow.{FullRow, rule_of, or_same, restored_rule, with_register_rule, cfa_register, cfa_offset, row_after, columns_of}
 use Rattle.cfa_machine.specs.RowAtOffset.{row_defined, initial_by}
 
 -- ---- one change
@@ -47,24 +47,24 @@ change_agrees arch place (SetCfaOffset n) row = offset_set arch place n row.cfa 
 change_agrees Amd64 place NegateSign row = tt
 change_agrees Aarch64 place NegateSign row = refl
 
-same_register : (r q : ℕ) (rules : List (ℕ × Rule)) (old : Rule) → cond (r == q) (rule_of q rules) old ≡ cond (r == q) (rule_of r rules) old
-same_register r q rules old = at_test (r == q) refl
+same_register : (r q : ℕ) (rules : List (ℕ × Rule)) (given old : Rule) → given ≡ restored_rule q rules → cond (r == q) given old ≡ cond (r == q) (restored_rule r rules) old
+same_register r q rules given old is = at_test (r == q) refl
   where
-    at_test : (b : Bool) → (r == q) ≡ b → cond b (rule_of q rules) old ≡ cond b (rule_of r rules) old
-    at_test true e = ap (λ (x : ℕ). rule_of x rules) (sym (eqb-true r q e))
+    at_test : (b : Bool) → (r == q) ≡ b → cond b given old ≡ cond b (restored_rule r rules) old
+    at_test true e = is ∙ ap (λ (x : ℕ). restored_rule x rules) (sym (eqb-true r q e))
     at_test false e = refl
 
-pub restore_agrees : (arch : Arch) (r : ℕ) (initial row : FullRow) → restored arch r (columns_of arch initial) (columns_of arch row) ≡ columns_of arch (with_register_rule r (rule_of r initial.rules) row)
+pub restore_agrees : (arch : Arch) (r : ℕ) (initial row : FullRow) → restored arch r (columns_of arch initial) (columns_of arch row) ≡ columns_of arch (with_register_rule r (restored_rule r initial.rules) row)
 restore_agrees Amd64 r initial row =
-    let sp = same_register r 7 initial.rules (rule_of 7 row.rules) in
-    let fp = same_register r 6 initial.rules (rule_of 6 row.rules) in
-    let ra = same_register r 16 initial.rules (rule_of 16 row.rules) in
+    let sp = same_register r 7 initial.rules (rule_of 7 initial.rules) (rule_of 7 row.rules) refl in
+    let fp = same_register r 6 initial.rules (rule_of 6 initial.rules) (rule_of 6 row.rules) refl in
+    let ra = same_register r 16 initial.rules (rule_of 16 initial.rules) (rule_of 16 row.rules) refl in
     rw (sp, fp, ra) refl
 restore_agrees Aarch64 r initial row =
-    let sp = same_register r 31 initial.rules (rule_of 31 row.rules) in
-    let fp = same_register r 29 initial.rules (rule_of 29 row.rules) in
-    let ra = same_register r 30 initial.rules (rule_of 30 row.rules) in
-    let sign = same_register r 34 initial.rules (rule_of 34 row.rules) in
+    let sp = same_register r 31 initial.rules (rule_of 31 initial.rules) (rule_of 31 row.rules) refl in
+    let fp = same_register r 29 initial.rules (rule_of 29 initial.rules) (rule_of 29 row.rules) refl in
+    let ra = same_register r 30 initial.rules (rule_of 30 initial.rules) (rule_of 30 row.rules) refl in
+    let sign = same_register r 34 initial.rules (or_same (rule_of 34 initial.rules)) (rule_of 34 row.rules) refl in
     rw (sp, fp, ra, sign) refl
 
 -- ---- the common information entry

@@ -17,7 +17,7 @@ use Rattle.cfa_machine.specs.Columns.{no_columns, restored, changed, row_from}
 use Rattle.cfa_machine.specs.Effects.{effect_by}
 use Rattle.cfa_machine.specs.Pass.{◌>>=◌, State, initial_columns, advanced, row_before, with_recalled, step, last_row, in_front, rows_from, rows_by, Gives}
 use Rattle.cfa_machine.specs.RowList.{RiseFrom}
-use Rattle.cfa_machine.specs.FullRow.{FullRow, no_row, rule_of, with_register_rule, row_after, columns_of}
+use Rattle.cfa_machine.specs.FullRow.{FullRow, no_row, restored_rule, with_register_rule, row_after, columns_of}
 use Rattle.cfa_machine.specs.RowAtOffset.{UnwindState, recalled, after_instruction, offset_behind, state_before, initial_by, row_at_offset, latest_at, SaysAt, SayAll}
 use Rattle.cfa_machine.proofs.GoodRows.{SignFits, SignsFit, StateFits, GoesOn, IsRest, item_step_goes, rows_from_rest, initial_columns_sign, no_sign}
 use Rattle.cfa_machine.proofs.Agrees.{ChangesTo, change_agrees, restore_agrees, initial_agrees}
@@ -69,7 +69,7 @@ step_agrees k initial place (Advance delta) s n full init h = record {
   row_is = refl;
 }
 step_agrees k initial place (Restore r) s n full init h =
-    let e : restored k.arch r k.initial s.columns ≡ columns_of k.arch (with_register_rule r (rule_of r initial.rules) full.row) = rw (init, h.columns) (restore_agrees k.arch r initial full.row) in
+    let e : restored k.arch r k.initial s.columns ≡ columns_of k.arch (with_register_rule r (restored_rule r initial.rules) full.row) = rw (init, h.columns) (restore_agrees k.arch r initial full.row) in
     record { agrees = record { columns = e; remembered = h.remembered; offset = h.offset }; row_is = no_row_here k.size s.offset s.columns }
 step_agrees k initial place Remember s n full init h = remember_steps k s n full (nat_lt (length s.remembered) 64) (StateDepth place) h
 step_agrees k initial place Recall s n full init h =

@@ -16,6 +16,7 @@ use Rattle.cfa_machine.specs.declared.fault.MachineFault.TheVariants.{NoCfaRegis
 use Rattle.cfa_machine.specs.declared.columns.Columns.{Columns}
 use Rattle.cfa_machine.specs.declared.row.DwRow.{DwRow}
 use Rattle.cfa_machine.specs.Registers.{stack_pointer, frame_pointer, return_address, is_sign_state}
+use Rattle.cfa_machine.specs.FullRow.{or_same}
 
 abbrev pub no_columns : Columns
 no_columns = record { cfa = cfa.Missing; sp = rule.Missing; fp = rule.Missing; ra = rule.Missing; sign = rule.Missing; signed = false }
@@ -31,14 +32,14 @@ with_rule arch r new c = record {
   signed = c.signed;
 }
 
--- a register has its initial rule again
+-- a register has its initial rule again; the sign state has a rule then, also where it had none
 abbrev pub restored : Arch → ℕ → (initial : Columns) → Columns → Columns
 restored arch r initial c = record {
   cfa = c.cfa;
   sp = if r == stack_pointer arch then initial.sp else c.sp;
   fp = if r == frame_pointer arch then initial.fp else c.fp;
   ra = if r == return_address arch then initial.ra else c.ra;
-  sign = if is_sign_state arch r then initial.sign else c.sign;
+  sign = if is_sign_state arch r then or_same initial.sign else c.sign;
   signed = c.signed;
 }
 

@@ -1,4 +1,4 @@
--- UnwindState rows, and what instructions do to them (DWARF 5, section 6.4.1 and 6.4.2): a CFA rule, a rule for each register
+-- Unwind rows, and what instructions do to them (DWARF 5, section 6.4.1 and 6.4.2): a CFA rule, a rule for each register
 -- that was named, and the sign state of AArch64. Rules stand in a list, the latest first.
 use Rattle.std.specs.Prelude.{ℕ, ℤ, ◌==◌, Bool, not, false, List, [], ◌∷◌, if◌then◌else◌}
 use Rattle.sf_model.specs.declared.machine.Arch.{Arch}
@@ -25,6 +25,17 @@ no_row = record { cfa = cfa.Missing; rules = []; signed = false }
 abbrev pub rule_of : ℕ → List (ℕ × Rule) → Rule
 rule_of q [] = rule.Missing
 rule_of q ((r, new) ∷ rules) = if r == q then new else rule_of q rules
+
+-- a rule, or that the register keeps its value where there is none
+abbrev pub or_same : Rule → Rule
+or_same rule.Missing = rule.Same
+or_same given = given
+
+-- The rule of a register that is restored: that of the initial row, which may be none. Register 34 always has one then: it is the
+-- sign state of AArch64, and readers of DWARF disagree on whether this resets the state. On AMD64 it is st1, which keeps its value
+-- without a rule too.
+abbrev pub restored_rule : ℕ → (initial : List (ℕ × Rule)) → Rule
+restored_rule r initial = if r == 34 then or_same (rule_of r initial) else rule_of r initial
 
 abbrev pub with_register_rule : ℕ → Rule → FullRow → FullRow
 with_register_rule r new row = record { cfa = row.cfa; rules = (r, new) ∷ row.rules; signed = row.signed }

@@ -9,7 +9,7 @@ use Rattle.cfa_machine.specs.declared.effect.Effect.TheVariants.{Row, Advance, R
 use Rattle.cfa_machine.specs.declared.row.DwRow.{DwRow}
 use Rattle.cfa_machine.specs.Columns.{row_from}
 use Rattle.cfa_machine.specs.Effects.{effect_by}
-use Rattle.cfa_machine.specs.FullRow.{FullRow, no_row, rule_of, with_register_rule, row_after, columns_of}
+use Rattle.cfa_machine.specs.FullRow.{FullRow, no_row, restored_rule, with_register_rule, row_after, columns_of}
 
 -- the present row, and the remembered ones, the latest first
 pub record UnwindState : Type 0 where
@@ -24,7 +24,7 @@ recalled (row ∷ rows) s = record { row = row; remembered = rows }
 abbrev pub after_instruction : (initial : FullRow) → Effect → UnwindState → UnwindState
 after_instruction initial (Row change) s = record { row = row_after change s.row; remembered = s.remembered }
 after_instruction initial (Advance n) s = s
-after_instruction initial (Restore r) s = record { row = with_register_rule r (rule_of r initial.rules) s.row; remembered = s.remembered }
+after_instruction initial (Restore r) s = record { row = with_register_rule r (restored_rule r initial.rules) s.row; remembered = s.remembered }
 after_instruction initial Remember s = record { row = s.row; remembered = s.row ∷ s.remembered }
 after_instruction initial Recall s = recalled s.remembered s
 

@@ -1,6 +1,7 @@
 //! The part of a row that is kept: the CFA, four registers and the sign state.
 
 ghost use Rattle.std.specs.Prelude.{◌≡◌};
+ghost use Rattle.cfa_machine.specs.FullRow.{or_same as rule_or_same};
 ghost use Rattle.cfa_machine.specs.Columns.{no_columns, with_rule, with_cfa_offset, restored, changed, row_from, Changes};
 
 use crate::effect::RowEffect;
@@ -80,7 +81,18 @@ pub fn set_rule(arch: Arch, register: u64, rule: Rule, columns: &mut Columns)
     }
 }
 
-/// Gives a register its initial rule again.
+// A rule, or that the register keeps its value where there is none.
+#[inline(always)]
+fn or_same(rule: Rule) -> Rule
+    ensures { result ≡ rule_or_same rule }
+{
+    match rule {
+        Rule::Missing => Rule::Same,
+        given => given,
+    }
+}
+
+/// Gives a register its initial rule again. The sign state has a rule then, also where it had none.
 #[inline(always)]
 pub fn restore_rule(arch: Arch, register: u64, initial: &Columns, columns: &mut Columns)
     ensures { columns.new ≡ restored arch register initial.now columns.old }
@@ -95,7 +107,7 @@ pub fn restore_rule(arch: Arch, register: u64, initial: &Columns, columns: &mut 
         columns.ra = initial.ra;
     }
     if is_sign_state_of(arch, register) {
-        columns.sign = initial.sign;
+        columns.sign = or_same(initial.sign);
     }
 }
 

@@ -15,7 +15,7 @@ pub struct DwRow {
     pub fp: Rule,
     /// The rule of the return address: register 16 on AMD64, 30 on AArch64.
     pub ra: Rule,
-    /// The rule of register 34 on AArch64. On AMD64 it is missing.
+    /// The rule of the sign state, register 34, on AArch64. It has one once it is restored. On AMD64 it is missing.
     pub sign: Rule,
     /// Whether the return address is signed.
     pub signed: bool,
