@@ -101,8 +101,8 @@ impl<'a> Placed<'a> {
         self.eh_frames.as_slice()
     }
 
-    /// The sections with relocations of a section, with addends or without, in order of their numbers. They
-    /// are found by halves.
+    /// The sections with relocations of a section with call frame information, in whatever form, in order of their
+    /// numbers; none of another section. They are found by halves.
     pub fn relocation_sections(&self, target: u32) -> &[RelocationSection]
         ensures { numbers_of result.now ≡ relocation_sections_of (seen.file self.now) target }
     {

@@ -1,17 +1,21 @@
-//! The sections with relocations of each section.
+//! The sections with relocations of call frame information.
 
 ghost use Rattle.std.specs.Prelude.{◌≡◌, ◌<◌, length, IfOk, OnOk};
 ghost use Rattle.std.specs.List.Sorted.{IsNonDecreasingBy, IsStableByKey};
 ghost use Rattle.std.specs.Ordering.{nat_cmp};
 ghost use Rattle.elf_read.specs.Sections.{section_count};
+ghost use Rattle.elf_read.specs.Used.{names_eh_frame as names};
 ghost use Rattle.elf_read.specs.Views.{file};
 ghost use Rattle.elf_place.specs.Relocations as spec;
 
 use elf_read::Elf;
-use elf_read::layout::{SHT_REL, SHT_RELA};
+use elf_read::layout::{
+    SHT_CREL, SHT_GROUP, SHT_NOBITS, SHT_NULL, SHT_PROGBITS, SHT_REL, SHT_RELA, SHT_STRTAB,
+    SHT_SYMTAB, SHT_X86_64_UNWIND,
+};
 use std::alloc::{AllocError, Global};
 
-/// A section with relocations (`SHT_RELA` or `SHT_REL`), and the one that they are applied to.
+/// A section with relocations of call frame information, in whatever form, and the section that they are applied to.
 #[derive(Clone, Copy, Debug)]
 pub struct RelocationSection {
     /// The number of the section that the relocations are applied to, which its info says.
@@ -20,13 +24,52 @@ pub struct RelocationSection {
     pub number: u32,
 }
 
-// Whether a section has relocations.
+// Whether the sections of a type have relocations.
+fn is_relocation_type(kind: u32) -> bool
+    ensures { result ≡ spec.is_relocation_type kind }
+{
+    kind == SHT_RELA || kind == SHT_REL || kind == SHT_CREL
+}
+
+// Whether the sections of a type have something else.
+fn is_type_without_relocations(kind: u32) -> bool
+    ensures { result ≡ spec.is_type_without_relocations kind }
+{
+    matches!(
+        kind,
+        SHT_NULL
+            | SHT_PROGBITS
+            | SHT_SYMTAB
+            | SHT_STRTAB
+            | SHT_NOBITS
+            | SHT_GROUP
+            | SHT_X86_64_UNWIND
+    )
+}
+
+// Whether a section relocates another, as its type says or, where that is unknown, its flags.
+#[tactic(auto, unfolding(crate::specs::Relocations::may_relocate))]
+fn may_relocate(elf: &Elf<'_>, i: u32) -> bool
+    ensures { result ≡ spec.may_relocate (file elf.now) i }
+{
+    let kind = elf.section(i).kind;
+    is_relocation_type(kind) || (elf.has_info_link(i) && !is_type_without_relocations(kind))
+}
+
+// Whether a number is that of a section with call frame information.
+#[tactic(auto, unfolding(elf_read::specs::Used::names_eh_frame))]
+fn names_eh_frame(elf: &Elf<'_>, i: u32) -> bool
+    ensures { result ≡ names (file elf.now) i }
+{
+    i < elf.sections() && elf.is_eh_frame(i)
+}
+
+// Whether a section has relocations of call frame information.
 #[tactic(auto, unfolding(crate::specs::Relocations::has_relocations))]
 fn has_relocations(elf: &Elf<'_>, i: u32) -> bool
     ensures { result ≡ spec.has_relocations (file elf.now) i }
 {
-    let kind = elf.section(i).kind;
-    kind == SHT_RELA || kind == SHT_REL
+    may_relocate(elf, i) && names_eh_frame(elf, elf.section(i).info)
 }
 
 // The first `count` sections that have relocations, in order of their numbers.

@@ -78,6 +78,10 @@ section_name file i = if name_table file == 0 then [] else text_in (sh_name file
 unfoldable pub is_allocated : List ℕ → ℕ → Bool
 is_allocated file i = has_flag (sh_flags file i) 2
 
+-- SHF_INFO_LINK 0x40: the section's info is the number of a section
+unfoldable pub has_info_link : List ℕ → ℕ → Bool
+has_info_link file i = has_flag (sh_flags file i) 0x40
+
 -- SHF_COMPRESSED 0x800
 unfoldable pub is_compressed : List ℕ → ℕ → Bool
 is_compressed file i = has_flag (sh_flags file i) 0x800

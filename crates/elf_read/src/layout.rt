@@ -89,6 +89,8 @@ pub const SH_ENTSIZE: u64 = 56;
 
 /// A section header that is not used.
 pub const SHT_NULL: u32 = 0;
+/// Bytes whose meaning is the program's.
+pub const SHT_PROGBITS: u32 = 1;
 /// A symbol table.
 pub const SHT_SYMTAB: u32 = 2;
 /// A string table.
@@ -101,9 +103,15 @@ pub const SHT_NOBITS: u32 = 8;
 pub const SHT_REL: u32 = 9;
 /// A section group.
 pub const SHT_GROUP: u32 = 17;
+/// Compact relocations, a form that is proposed for the gABI.
+pub const SHT_CREL: u32 = 0x4000_0014;
+/// Call frame information (System V AMD64 psABI, "Sections").
+pub const SHT_X86_64_UNWIND: u32 = 0x7000_0001;
 
 /// The section is loaded.
 pub const SHF_ALLOC: u64 = 2;
+/// The section's info is the number of a section.
+pub const SHF_INFO_LINK: u64 = 0x40;
 /// The section's bytes are compressed.
 pub const SHF_COMPRESSED: u64 = 0x800;
 

@@ -7,7 +7,7 @@ ghost use Rattle.elf_read.specs.Sections as spec;
 
 use crate::header::{e_phnum, e_shnum, e_shoff, e_shstrndx, is_core_file};
 use crate::layout::{
-    EH_FRAME, PN_XNUM, SHF_ALLOC, SHF_COMPRESSED, SHN_XINDEX, SHT_NOBITS, SHT_NULL,
+    EH_FRAME, PN_XNUM, SHF_ALLOC, SHF_COMPRESSED, SHF_INFO_LINK, SHN_XINDEX, SHT_NOBITS, SHT_NULL,
 };
 use crate::number::{bytes_at, flag_is_set};
 use crate::section_header::{sh_flags, sh_info, sh_link, sh_name, sh_offset, sh_size, sh_type};
@@ -113,6 +113,14 @@ pub fn is_allocated(file: &[u8], i: u32) -> bool
     ensures { result ≡ spec.is_allocated file.now i }
 {
     flag_is_set(sh_flags(file, i), SHF_ALLOC)
+}
+
+/// Whether a section's flags say that its info is the number of a section.
+#[tactic(auto, unfolding(crate::specs::Sections::has_info_link))]
+pub fn has_info_link(file: &[u8], i: u32) -> bool
+    ensures { result ≡ spec.has_info_link file.now i }
+{
+    flag_is_set(sh_flags(file, i), SHF_INFO_LINK)
 }
 
 /// Whether a section's bytes are compressed.

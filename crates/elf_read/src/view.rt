@@ -105,6 +105,13 @@ impl<'a> Elf<'a> {
         sections::is_allocated(self.bytes, i)
     }
 
+    /// Whether a section's flags say that its info is the number of a section: it has the flag SHF_INFO_LINK.
+    pub fn has_info_link(&self, i: u32) -> bool
+        ensures { result ≡ fields.has_info_link (file self.now) i }
+    {
+        sections::has_info_link(self.bytes, i)
+    }
+
     /// Whether a section's bytes are compressed: it has the flag SHF_COMPRESSED.
     pub fn is_compressed(&self, i: u32) -> bool
         ensures { result ≡ fields.is_compressed (file self.now) i }

@@ -66,7 +66,7 @@ entry_fix p section index i k =
 unfoldable pub has_addends : List ℕ → ℕ → Bool
 has_addends file i = sh_type file i == 4
 
--- relocations without addends are refused; the first of the sections that has some is named
+-- relocations in another form than with addends are refused; the first of the sections that has some is named
 unfoldable pub rel_check : List ℕ → (sections : List ℕ) → Result (Unit {0}) RelocFault
 rel_check file [] = Ok tt
 rel_check file (i ∷ sections) = if has_addends file i then rel_check file sections else Err (RelSection i)
@@ -99,7 +99,7 @@ fixes_from p section number (r ∷ relocations) =
     >>= λ f. fixes_from p section (number + 1) relocations
     >>= λ fixes. Ok (with_fix f fixes)
 
--- those of an object's section; the section may have none without addends
+-- those of an object's section, which may have none in another form
 unfoldable pub object_fixes : Placing → ℕ → Result (List RelocatedField) RelocFault
 object_fixes p section =
     rel_check p.file (relocation_sections p.file section)

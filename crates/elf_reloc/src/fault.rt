@@ -16,7 +16,7 @@ pub enum RelocFault {
     Place(u32),
     /// Its field overlaps another one's.
     Twice(u32),
-    /// A section, by its number, has relocations without addends for this one.
+    /// A section, by its number, has relocations for this one in another form than with addends (SHT_RELA).
     RelSection(u32),
     /// Its field ends past the section's bytes.
     OutOfSection(u32),

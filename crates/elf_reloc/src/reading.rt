@@ -99,7 +99,7 @@ fn has_addends(placed: &Placed<'_>, i: u32) -> bool
     placed.elf().section(i).kind == SHT_RELA
 }
 
-// None of these sections has relocations without addends.
+// Each of these sections has relocations with addends.
 fn check_rels(placed: &Placed<'_>, sections: &[RelocationSection]) -> Result<(), RelocFault>
     ensures { result ≡ spec.rel_check (file placed.now) (numbers_of sections.now) }
 {

@@ -33,7 +33,7 @@ impl Relocs {
 
     /// Reads the relocations of a section. Only an object's are applied.
     ///
-    /// The fault is the first: a section with relocations without addends, then each relocation in order of
+    /// The fault is the first: a section with relocations in another form than with addends, then each relocation in order of
     /// section and entry (its type, whether its field lies in the section, whether its value fits), then two
     /// fields that overlap.
     pub fn new(alloc: Global, placed: &Placed<'_>, section: u32) -> Result<Relocs, RelocFault>
