@@ -9,9 +9,9 @@ use Rattle.elf_read.specs.Checking.{unless, ◌>>◌, each_below}
 use Rattle.elf_read.specs.Checks.{Check, identity_check, purpose_check, core_check, sections_check, names_check}
 use Rattle.elf_read.specs.Header.{is_core}
 use Rattle.elf_read.specs.Parsing.{table_check, used_check, content_check, file_check}
-use Rattle.elf_read.specs.Room.{is_rela, is_read, read_size, read_size_below, room_check, HasRoom}
+use Rattle.elf_read.specs.Room.{is_read, read_size, read_size_below, room_check, HasRoom}
 use Rattle.elf_read.specs.Sections.{section_bytes, section_count, section_header, section_total, is_eh_frame, entry_count}
-use Rattle.elf_read.specs.Used.{rela_check, group_check, compressed_check, entries_check, is_group}
+use Rattle.elf_read.specs.Used.{rela_check, group_check, compressed_check, entries_check, is_used_rela, is_group}
 use Rattle.elf_read.specs.Views.{file}
 use Rattle.elf_read.proofs.Each.{both_fine, each_below-at}
 
@@ -81,9 +81,9 @@ used_read true rela group size h = refl
 used_read false true group size h = refl
 used_read false false group size h = absurd (cc h)
 
-entries_by : (file : List ℕ) (i : ℕ) → is_rela file i ≡ true → entry_count file i ≡ read_size file i / 24
+entries_by : (file : List ℕ) (i : ℕ) → is_used_rela file i ≡ true → entry_count file i ≡ read_size file i / 24
 unfolding entry_count read_size is_read
-entries_by file i used = ap (λ (n : ℕ). n / 24) (sym (used_read (is_eh_frame file i) (is_rela file i) (is_group file i) (length (section_bytes file i)) used))
+entries_by file i used = ap (λ (n : ℕ). n / 24) (sym (used_read (is_eh_frame file i) (is_used_rela file i) (is_group file i) (length (section_bytes file i)) used))
 
 pub has_room : (file : List ℕ) → file_check file ≡ Ok tt → HasRoom file
 has_room file checked = record { together = λ n upto. together_by file n upto (room_is_checked file checked); entries = entries_by file }

@@ -1,20 +1,16 @@
--- The room in the file for the sections that are read whole: call frame information, relocations, and groups (ELF64 gABI,
+-- The room in the file for the sections that are read whole: call frame information, its relocations, and groups (ELF64 gABI,
 -- "Sections": "Sections in a file may not overlap. No byte in a file resides in more than one section.").
-use Rattle.std.specs.Prelude.{◌≡◌, ℕ, zero, suc, true, ◌+◌, ◌/◌, ◌==◌, ◌≤◌, Bool, ◌&&◌, ◌||◌, List, length, nat_le, if◌then◌else◌}
+use Rattle.std.specs.Prelude.{◌≡◌, ℕ, zero, suc, true, ◌+◌, ◌/◌, ◌≤◌, Bool, ◌||◌, List, length, nat_le, if◌then◌else◌}
 use Rattle.elf_read.specs.declared.fault.ElfFault.TheVariants.{OutOfFile}
-use Rattle.elf_read.specs.Header.{is_rel}
-use Rattle.elf_read.specs.Sections.{section_header, section_bytes, section_count, sh_type, is_eh_frame, entry_count}
+use Rattle.elf_read.specs.Sections.{section_header, section_bytes, section_count, is_eh_frame, entry_count}
 use Rattle.elf_read.specs.Checking.{unless}
 use Rattle.elf_read.specs.Checks.{Check}
-use Rattle.elf_read.specs.Used.{is_group}
+use Rattle.elf_read.specs.Used.{is_used_rela, is_group}
 
--- an SHT_RELA section (4) of an object
-unfoldable pub is_rela : List ℕ → ℕ → Bool
-is_rela file i = is_rel file && (sh_type file i == 4)
-
--- a section that is read whole
+-- A section that is read whole: call frame information, an object's relocations of such a section, and each group of an object,
+-- whose members say which sections it counts for.
 unfoldable pub is_read : List ℕ → ℕ → Bool
-is_read file i = is_eh_frame file i || (is_rela file i || is_group file i)
+is_read file i = is_eh_frame file i || (is_used_rela file i || is_group file i)
 
 -- how many of a section's bytes are read: all or none
 unfoldable pub read_size : List ℕ → ℕ → ℕ
@@ -32,4 +28,4 @@ room_check file i = unless (nat_le (read_size_below file (suc i)) (length file))
 -- what the sections that are read whole hold together, up to any of them, and what each of them holds
 pub record HasRoom (file : List ℕ) : Type 0 where
   pub together : (n : ℕ) → n ≤ section_count file → read_size_below file n ≤ length file
-  pub entries : (i : ℕ) → is_rela file i ≡ true → entry_count file i ≡ read_size file i / 24
+  pub entries : (i : ℕ) → is_used_rela file i ≡ true → entry_count file i ≡ read_size file i / 24

@@ -13,7 +13,7 @@ pub fn compressed_law(file: &[u8])
     ensures { NoneIsCompressed file.now (compressed_check file.now) }
 {}
 
-/// Says, by its contract alone, that the sections that are read whole, call frame information, relocations and
+/// Says, by its contract alone, that the sections that are read whole, call frame information, its relocations and
 /// groups, are together no longer than the file. It does nothing.
 pub fn room_law(elf: &Elf<'_>)
     ensures { HasRoom (file elf.now) }

@@ -7,26 +7,16 @@ ghost use Rattle.elf_read.specs.Room as spec;
 
 use crate::check::require;
 use crate::fault::ElfFault;
-use crate::header::is_object;
-use crate::layout::SHT_RELA;
-use crate::section_header::{header_place, sh_type};
+use crate::section_header::header_place;
 use crate::sections::{is_eh_frame, section_bytes};
-use crate::used::is_group;
-
-// Whether a section holds the relocations with addends of an object.
-#[tactic(auto, unfolding(crate::specs::Room::is_rela))]
-fn is_rela(file: &[u8], i: u32) -> bool
-    ensures { result ≡ spec.is_rela file.now i }
-{
-    is_object(file) && sh_type(file, i) == SHT_RELA
-}
+use crate::used::{is_group, is_used_rela};
 
 // Whether a section is read whole.
 #[tactic(auto, unfolding(crate::specs::Room::is_read))]
 fn is_read(file: &[u8], i: u32) -> bool
     ensures { result ≡ spec.is_read file.now i }
 {
-    is_eh_frame(file, i) || is_rela(file, i) || is_group(file, i)
+    is_eh_frame(file, i) || is_used_rela(file, i) || is_group(file, i)
 }
 
 // How many of a section's bytes are read.

@@ -2,11 +2,12 @@
 use Rattle.std.specs.Prelude.{◌&&◌, ◌==◌}
 use Rattle.std.proofs.Common.{◌≡◌, ℕ, zero, suc, ◌+◌, ◌*◌, ◌<◌, ◌≤◌, ◌^◌, Bool, true, false, IsTrue, List, [], ◌∷◌, ◌++◌, length, Ok, Err, refl, sym, ap, subst, ◌∙◌, arith, if◌then◌else◌}
 use Rattle.elf_read.specs.Header.{is_rel}
-use Rattle.elf_read.specs.Room.{is_rela, read_size, read_size_below, HasRoom}
-use Rattle.elf_read.specs.Sections.{section_count, sh_type, entry_count}
+use Rattle.elf_read.specs.Room.{read_size, read_size_below, HasRoom}
+use Rattle.elf_read.specs.Sections.{section_count, sh_type, sh_info, entry_count}
+use Rattle.elf_read.specs.Used.{names_eh_frame, is_used_rela}
 use Rattle.elf_read.proofs.ReadSizes.{read_size_below-none, read_size_below-more}
 use Rattle.elf_place.specs.Place.{with_one}
-use Rattle.elf_place.specs.Relocations.{is_relocation_section, relocation_sections_below, relocation_sections}
+use Rattle.elf_place.specs.Relocations.{may_relocate, has_relocations, is_relocation_section, relocation_sections_below, relocation_sections}
 use Rattle.elf_reloc.specs.declared.fault.RelocFault.TheVariants.{RelSection}
 use Rattle.elf_reloc.specs.Reading.{Relocation, relocations_in, rel_check, has_addends}
 use Rattle.elf_reloc.proofs.GoingOn.{relocations_in-length, relocations_in-none}
@@ -39,9 +40,19 @@ checked_with file (s ∷ sections) i h = after (has_addends file s) refl (checke
         (ap (λ (b : Bool). if b then rel_check file sections else Err (RelSection s)) is ∙ parts.0, parts.1)
     after false is later rest = absurd (cc rest)
 
-holds_rela : (file : List ℕ) (i : ℕ) → is_rel file ≡ true → has_addends file i ≡ true → is_rela file i ≡ true
-unfolding is_rela has_addends
-holds_rela file i object addends = ap (λ (b : Bool). b && (sh_type file i == 4)) object ∙ addends
+second : (a b c : Bool) → (a && b && c) ≡ true → b ≡ true
+second true true c h = refl
+second true false c h = absurd (cc h)
+second false b c h = absurd (cc h)
+
+both : (a b c : Bool) → a ≡ true → b ≡ true → c ≡ true → (a && b && c) ≡ true
+both a b c p q r = rw (p, q, r) refl
+
+holds_rela : (file : List ℕ) (target i : ℕ) → is_rel file ≡ true → has_addends file i ≡ true → is_relocation_section file target i ≡ true → is_used_rela file i ≡ true
+unfolding is_used_rela has_addends is_relocation_section has_relocations
+holds_rela file target i object addends applied =
+    both (is_rel file) (sh_type file i == 4) (names_eh_frame file (sh_info file i)) object addends
+    (second (may_relocate file i) (names_eh_frame file (sh_info file i)) (sh_info file i == target) applied)
 
 no_sections : (file : List ℕ) (target : ℕ) → length (relocations_in file (relocation_sections_below file target 0)) ≡ 0
 unfolding relocation_sections_below
@@ -73,7 +84,7 @@ few_below file target (suc n) object room checked =
     added true is h earlier =
         let parts = checked_with file (relocation_sections_below file target n) n (subst (λ (b : Bool). rel_check file (with_one b n (relocation_sections_below file target n)) ≡ Ok tt) is h) in
         let before = earlier parts.0 in
-        let here = room.entries n (holds_rela file n object parts.1) in
+        let here = room.entries n (holds_rela file target n object parts.1 is) in
         let count = relocations_with file (relocation_sections_below file target n) n in
         let all = whole true is in
         omega (arith, sizes, before, here, count, all)
