@@ -1,5 +1,6 @@
 #!/usr/bin/env python3
-"""Proves the crates of crates.txt and runs the program, with a line for each crate as it is done.
+"""Proves the program, the C library and the crates of crates.txt that they stand on, and runs the program, with a line for each crate
+as it is done. A crate of tests alone is no part of either.
 
     demo/build.py LOG [WORD ..]     the words are those of the program's run
 
@@ -25,19 +26,23 @@ FIRST, FURTHER = 2e9, 1.5e9
 
 
 def crates():
-    """The crates below each crate of crates.txt, lowest first."""
-    used = {}
+    """The crates below each crate that is built, lowest first."""
+    used, made = {}, set()
     with open(f"{TOP}/crates.txt", encoding="utf-8") as file:
         for line in file:
-            name, colon, below = line.partition("#")[0].partition(":")
+            words, colon, below = line.partition("#")[0].partition(":")
             if colon:
-                used[name.split()[0]] = below.split()
+                name, *kind = words.split()
+                used[name] = below.split()
+                if kind or is_program(name):
+                    made.add(name)
 
     @functools.lru_cache(maxsize=None)
     def below(name):
         return set().union(*({it} | below(it) for it in used[name] if it in used))
 
-    found = {name: below(name) for name in used}
+    built = made.union(*(below(it) for it in made))
+    found = {name: below(name) for name in used if name in built}
     return dict(sorted(found.items(), key=lambda it: len(it[1])))
 
 
