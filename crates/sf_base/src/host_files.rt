@@ -4,10 +4,17 @@ ghost use Rattle.std.specs.Prelude.{◌≡◌, [], None, true, false, is_some};
 use crate::fault::count_fault;
 use crate::{Failed, Files};
 use std::io::{Read, Write};
+use std::os::unix::fs::MetadataExt;
 use std::{fs, rt};
+
+/// The machine's names of what its standard output and its standard error go to.
+const STREAMS: [&str; 2] = ["/proc/self/fd/1", "/proc/self/fd/2"];
 
 /// The files of the machine, through its runtime. It tells nothing of what they hold: what the machine
 /// reads and keeps is outside what is proved.
+///
+/// A regular file that standard output or standard error goes to is not created, so that no text is written
+/// over what the file is to hold. Where the machine has no `/proc`, this is not seen.
 #[derive(Drop)]
 pub struct HostFiles<'a, R: rt::Files> {
     runtime: &'a R,
@@ -33,6 +40,27 @@ impl<'a, R: rt::Files> HostFiles<'a, R> {
             write_faults: 0,
         }
     }
+}
+
+/// Whether two names are of one regular file, by its device and its number there.
+fn is_one_file<R: rt::Files>(runtime: &R, one: &str, other: &str) -> bool {
+    match (fs::metadata(runtime, one), fs::metadata(runtime, other)) {
+        (Ok(one), Ok(other)) => {
+            one.is_file() && one.dev() == other.dev() && one.ino() == other.ino()
+        }
+        _ => false,
+    }
+}
+
+/// Creates a file, or empties it, unless a standard stream goes to it.
+fn create<R: rt::Files>(runtime: &R, name: &str) -> Option<R::File> {
+    if STREAMS
+        .iter()
+        .any(|stream| is_one_file(runtime, name, stream))
+    {
+        return None;
+    }
+    fs::create(runtime, name).ok()
 }
 
 impl<'a, R: rt::Files> Files for HostFiles<'a, R> {
@@ -73,17 +101,12 @@ impl<'a, R: rt::Files> Files for HostFiles<'a, R> {
 
     fn create_file(&mut self, name: &str) -> Result<(), Failed> {
         self.opened = None;
-        match fs::create(self.runtime, name) {
-            Ok(file) => {
-                self.created = Some(file);
-                Ok(())
-            }
-            Err(_) => {
-                self.created = None;
-                count_fault(&mut self.write_faults);
-                Err(Failed)
-            }
+        self.created = create(self.runtime, name);
+        if self.created.is_none() {
+            count_fault(&mut self.write_faults);
+            return Err(Failed);
         }
+        Ok(())
     }
 
     fn write(&mut self, piece: &[u8]) -> Result<usize, Failed> {
