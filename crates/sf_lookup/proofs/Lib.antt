@@ -5,4 +5,5 @@ pub mod Halving
 pub mod Checked
 pub mod FoundRows
 pub mod Covering
+pub mod Sweeping
 pub mod Indexing

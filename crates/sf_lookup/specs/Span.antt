@@ -1,6 +1,6 @@
 -- Spans of addresses of which the first that has an address decides, put in order: points of addresses, from each of which on the
 -- same span comes first up to the next point.
-use Rattle.std.specs.Prelude.{ℕ, zero, suc, ◌+◌, ◌-◌, ◌^◌, ◌<◌, ◌≤◌, Bool, ◌&&◌, nat_le, nat_lt, List, length, slice_index, slice_index_or, Option, None}
+use Rattle.std.specs.Prelude.{ℕ, zero, suc, ◌+◌, ◌^◌, ◌<◌, ◌≤◌, Bool, ◌&&◌, nat_le, nat_lt, List, length, slice_index, slice_index_or, Option, None}
 use Rattle.std.specs.List.{Contains, find}
 use Rattle.std.specs.Option.{option_map}
 use Rattle.sf_lookup.specs.declared.span.Span.{Span}
@@ -8,14 +8,6 @@ use Rattle.sf_lookup.specs.declared.span.Span.{Span}
 -- the span has the address
 abbrev pub covers : {A : Type 0} → (pc : ℕ) → Span A → Bool
 covers pc s = nat_le s.start pc && nat_lt pc (s.start + s.size)
-
--- the span has all addresses from first up to last
-abbrev pub has_all : {A : Type 0} → (first last : ℕ) → Span A → Bool
-has_all first last s = covers first s && covers last s
-
--- the span has some of the addresses from first up to last
-abbrev pub touches : {A : Type 0} → (first last : ℕ) → Span A → Bool
-touches first last s = nat_le s.start last && nat_lt (first - s.start) s.size
 
 -- where the first span that has an address leads to
 abbrev pub answer_of : {A : Type 0} → List (Span A) → (pc : ℕ) → Option A

@@ -25,7 +25,7 @@ fn spans_of(alloc: Global, view: &View<'_>) -> Result<Vec<Span<u32>>, AllocError
     ensures { IfOk result (λ spans. spans.items ≡ numbered 0 (table_of view.now).functions) }
 {
     functions_are_numbered(view);
-    let mut spans = Vec::new(alloc);
+    let mut spans = Vec::with_capacity(alloc, view.len() as usize)?;
     for i in 0..view.len() {
         let func = view.func(i);
         spans.push(Span {

@@ -31,6 +31,7 @@ mod span;
 mod spans;
 mod starts;
 mod steps;
+mod sweep;
 
 pub use indexed::Indexed;
 pub use lookup::{Found, find};

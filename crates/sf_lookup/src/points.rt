@@ -12,14 +12,14 @@ pub fn points_of<A>(alloc: Global, spans: &[Span<A>]) -> Result<Vec<u64>, AllocE
     ensures rise { IfOk result (λ points. IsNonDecreasing points.items) }
     ensures ends { IfOk result (λ points. All (HasEnds points.items) spans.now) }
 {
-    let mut points = Vec::new(alloc);
+    let mut points = Vec::with_capacity(alloc, spans.len().saturating_mul(2))?;
     for span in spans {
         points.push(span.start)?;
         if let Some(end) = span.start.checked_add(span.size) {
             points.push(end)?;
         }
     }
-    points.sort()?;
+    points.sort_unstable();
     Ok(points)
 }
 

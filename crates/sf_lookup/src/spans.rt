@@ -11,8 +11,8 @@ use crate::points::{points_of, reached};
 use crate::span::Span;
 use std::alloc::{AllocError, Global};
 
-/// Spans of addresses put in order, once for many look-ups: for n spans in the time of a sort of them, whether they
-/// overlap or not.
+/// Spans of addresses put in order, once for many look-ups: for n spans in the time of a sort of them, and with less than
+/// 80 bytes for each of them, whether they overlap or not.
 #[derive(Drop)]
 pub struct Spans<A> {
     points: Vec<u64>,
@@ -34,7 +34,7 @@ impl<A: Copy> Spans<A> {
         ensures { IfOk result (λ ordered. InOrder ordered spans.now) }
     {
         let points = points_of(alloc, spans)?;
-        let mut answers = Vec::new(alloc);
+        let mut answers = Vec::with_capacity(alloc, points.len())?;
         push_answers(alloc, &points, spans, &mut answers)?;
         Ok(Spans { points, answers })
     }

@@ -20,7 +20,7 @@ loop-span-preserved g c =
     ]
 
 pub returns-clause-rise : goal.returns-clause-rise
-returns-clause-rise g c = IsNonDecreasingBy-from_sort (λ (x : ℕ). x) c.sort.new.self.items c.in_ok-sort.ensures.sorted
+returns-clause-rise g c = IsNonDecreasingBy-from_sort (λ (x : ℕ). x) c.sort_unstable.new.self.items c.sort_unstable.ensures.sorted
 
 pub returns-clause-ends : goal.returns-clause-ends
-returns-clause-ends g c = ends_moved c.args.spans.now c.loop-span.span-index c.loop-span.points.items c.sort.new.self.items c.loop-span-test.false c.in_ok-sort.ensures.permutation c.loop-span.invariant
+returns-clause-ends g c = ends_moved c.args.spans.now c.loop-span.span-index c.loop-span.points.items c.sort_unstable.new.self.items c.loop-span-test.false c.sort_unstable.ensures.permutation c.loop-span.invariant

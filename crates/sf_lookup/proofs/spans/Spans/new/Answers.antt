@@ -3,5 +3,5 @@ use Rattle.sf_lookup.proofs.spans.Spans.new.Goals as goal
 
 pub returns : goal.returns
 returns g c =
-    in_order c.args.spans.now c.in_ok-points.points.items c.deref.result.now c.new-answers.result.items c.push_answers.new.answers.items c.deref.ensures.value c.new-answers.ensures.items
+    in_order c.args.spans.now c.in_ok-points.points.items c.deref.result.now c.in_ok-answers.answers.items c.push_answers.new.answers.items c.deref.ensures.value c.in_ok-answers.ensures.items
     c.in_ok-points.ensures.rise c.in_ok-points.ensures.ends c.in_ok-push_answers.ensures
