@@ -3,7 +3,7 @@
 /// A call frame instruction (DWARF 5, section 6.4.2; the last two are AArch64's and GNU's). Registers
 /// are DWARF numbers, and a factored operand is still to be multiplied by the data alignment factor, an
 /// advance by the code alignment factor.
-#[derive(Clone, Copy, Debug)]
+#[derive(Clone, Copy)]
 pub enum Insn<'a> {
     /// `DW_CFA_advance_loc`: the advance in the opcode's low six bits.
     AdvanceLoc(u8),
