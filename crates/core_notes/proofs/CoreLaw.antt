@@ -1,23 +1,27 @@
 -- No check of a core file fails exactly where it is a core file, and its notes are those that are read.
 use Rattle.std.specs.Prelude.{◌&&◌, ◌||◌, ◌==◌, not, nat_le}
 use Rattle.std.specs.List.{list_all}
-use Rattle.std.proofs.Common.{◌≡◌, ℕ, zero, suc, ◌≤◌, Bool, true, false, cond, IsTrue, List, [], ◌∷◌, length, Result, Ok, Err, is_ok, refl, ap, ◌∙◌, arith}
+use Rattle.std.proofs.Common.{◌≡◌, ℕ, zero, suc, ◌<◌, ◌≤◌, Bool, true, false, cond, IsTrue, List, [], ◌∷◌, length, Result, Ok, Err, is_ok, refl, sym, ap, ◌∙◌, arith}
 use Rattle.std.proofs.lemmas.Bool.{leb-true, le-leb, ne_eqb}
 use Rattle.sf_model.specs.declared.machine.Arch.{Arch}
 use Rattle.elf_read.specs.declared.fault.ElfFault.{ElfFault}
 use Rattle.elf_read.specs.declared.kind.Kind.{Kind}
 use Rattle.elf_read.specs.declared.kind.Kind.TheVariants.{Rel, Exec, Dyn, Core}
-use Rattle.elf_read.specs.Checking.{unless, where_so, ◌>>◌}
+use Rattle.elf_read.specs.Checking.{unless, where_so, each_below, ◌>>◌}
 use Rattle.elf_read.specs.Header.{arch_of, kind_of}
 use Rattle.elf_read.specs.Parsing.{file_check}
+use Rattle.elf_read.specs.Sections.{segment_count}
 use Rattle.core_notes.specs.declared.fault.CoreFault.{CoreFault}
 use Rattle.core_notes.specs.declared.fault.CoreFault.TheVariants.{NotCore, Note, NoThread, StatusSize, TooManyThreads}
-use Rattle.core_notes.specs.Checks.{Check, core_check, core_part, count_check, elf_part, file_threads, is_core_kind, items_check, note_check}
+use Rattle.core_notes.specs.Checks.{Check, core_check, core_part, count_check, elf_part, file_threads, is_core_kind, items_check, note_check, through_status}
 use Rattle.core_notes.specs.Core.{IsCore, after_first_status, mask_fits, status_fits}
 use Rattle.core_notes.specs.Listing.{Item, items_of, whole_notes}
 use Rattle.core_notes.specs.Note.{NoteView}
+use Rattle.core_notes.specs.Room.{room_check}
 use Rattle.core_notes.specs.Segment.{segments}
 use Rattle.core_notes.specs.Thread.{is_mask_note, is_status, status_size, threads_in}
+use Rattle.core_notes.proofs.Checked.{all_through}
+use Rattle.core_notes.proofs.Rooms.{checked_has_room, room_is_checked}
 use Rattle.core_notes.proofs.Spelled.{NoneCut, all_whole, notes_are_read, read_are_notes, whole-all}
 
 -- ---- tests that must hold
@@ -160,13 +164,19 @@ unfolding core_part
 checked_is_core file h =
     let arch = arch_of file in
     let elf = both_fine (elf_part (file_check file)) (core_part file) h in
-    let counted = both_fine (unless (is_core_kind (kind_of file)) NotCore >> items_check arch false (items_of file)) (count_check (length (file_threads file))) elf.1 in
-    let parts = both_fine (unless (is_core_kind (kind_of file)) NotCore) (items_check arch false (items_of file)) counted.0 in
-    let sized = items_sized arch false (items_of file) parts.1 in
+    let kind = unless (is_core_kind (kind_of file)) NotCore in
+    let room = elf_part (each_below (segment_count file) (room_check file)) in
+    let notes = items_check arch false (through_status 4097 (items_of file)) in
+    let counted = both_fine (kind >> room >> notes) (count_check (length (file_threads file))) elf.1 in
+    let parts = both_fine (kind >> room) notes counted.0 in
+    let first = both_fine kind room parts.0 in
     let count = count_fits (length (file_threads file)) counted.1 in
+    let all : through_status 4097 (items_of file) ≡ items_of file = all_through arch 4097 (items_of file) (omega (count.1, arith)) in
+    let sized = items_sized arch false (items_of file) (ap (items_check arch false) (sym all) ∙ parts.1) in
     record {
       elf = elf_fine (file_check file) elf.0;
-      kind = kind_is (kind_of file) (unless_true (is_core_kind (kind_of file)) NotCore parts.0);
+      kind = kind_is (kind_of file) (unless_true (is_core_kind (kind_of file)) NotCore first.0);
+      room = checked_has_room file (elf_fine (each_below (segment_count file) (room_check file)) first.1);
       notes_are = read_are_notes (segments file) sized.0;
       statuses = sized.1.statuses;
       masks = sized.1.masks;
@@ -181,12 +191,17 @@ core_is_checked file notes c =
     let items : items_of file ≡ all_whole notes = notes_are_read (segments file) notes c.notes_are in
     let read : whole_notes (items_of file) ≡ notes = ap whole_notes items ∙ whole-all notes in
     let sized : AllSized arch false notes = record { statuses = c.statuses; masks = c.masks } in
-    let checked : items_check arch false (items_of file) ≡ Ok tt = ap (items_check arch false) items ∙ sized_items arch false notes sized in
+    let few : length (file_threads file) < 4097 = let same = ap (λ (ns : List NoteView). length (threads_in arch ns)) read in omega (same, c.most, arith) in
+    let checked : items_check arch false (through_status 4097 (items_of file)) ≡ Ok tt =
+    ap (items_check arch false) (all_through arch 4097 (items_of file) few ∙ items) ∙ sized_items arch false notes sized in
+    let room : elf_part (each_below (segment_count file) (room_check file)) ≡ Ok tt = ap elf_part (room_is_checked file c.room) in
     let count : count_check (length (file_threads file)) ≡ Ok tt = ap (λ (ns : List NoteView). count_check (length (threads_in arch ns))) read ∙ fits_count (length (threads_in arch notes)) c.some c.most in
     let kind : unless (is_core_kind (kind_of file)) NotCore ≡ Ok tt = ap (λ (k : Kind). unless (is_core_kind k) NotCore) c.kind in (
       fine_then (elf_part (file_check file)) (core_part file) (ap elf_part c.elf)
-          (fine_then (unless (is_core_kind (kind_of file)) NotCore >> items_check arch false (items_of file)) (count_check (length (file_threads file)))
-          (fine_then (unless (is_core_kind (kind_of file)) NotCore) (items_check arch false (items_of file)) kind checked) count),
+          (fine_then (unless (is_core_kind (kind_of file)) NotCore >> elf_part (each_below (segment_count file) (room_check file)) >> items_check arch false (through_status 4097 (items_of file)))
+          (count_check (length (file_threads file)))
+          (fine_then (unless (is_core_kind (kind_of file)) NotCore >> elf_part (each_below (segment_count file) (room_check file))) (items_check arch false (through_status 4097 (items_of file)))
+          (fine_then (unless (is_core_kind (kind_of file)) NotCore) (elf_part (each_below (segment_count file) (room_check file))) kind room) checked) count),
       read,
     )
 

@@ -6,6 +6,7 @@ pub mod Holders
 pub mod Scan
 pub mod Segmented
 pub mod Threaded
+pub mod Rooms
 pub mod Checked
 pub mod Spelled
 pub mod CoreLaw

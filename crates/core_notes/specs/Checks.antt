@@ -1,17 +1,19 @@
 -- The checks of a core file, in their order (Linux core files; ELF64 gABI, "Note Section").
-use Rattle.std.specs.Prelude.{ℕ, ◌==◌, Bool, true, false, ◌&&◌, ◌||◌, not, List, [], ◌∷◌, length, Result, Ok, Err, nat_le}
+use Rattle.std.specs.Prelude.{ℕ, zero, suc, ◌==◌, Bool, true, false, ◌&&◌, ◌||◌, not, List, [], ◌∷◌, length, Result, Ok, Err, nat_le, if◌then◌else◌}
 use Rattle.sf_model.specs.declared.machine.Arch.{Arch}
 use Rattle.elf_read.specs.declared.kind.Kind.{Kind}
 use Rattle.elf_read.specs.declared.kind.Kind.TheVariants.{Rel, Exec, Dyn, Core}
 use Rattle.elf_read.specs.declared.fault.ElfFault.{ElfFault}
-use Rattle.elf_read.specs.Checking.{unless, where_so, ◌>>◌}
+use Rattle.elf_read.specs.Checking.{unless, where_so, each_below, ◌>>◌}
 use Rattle.elf_read.specs.Header.{arch_of, kind_of}
 use Rattle.elf_read.specs.Parsing.{file_check}
+use Rattle.elf_read.specs.Sections.{segment_count}
 use Rattle.core_notes.specs.declared.fault.CoreFault.{CoreFault}
 use Rattle.core_notes.specs.declared.fault.CoreFault.TheVariants.{Elf, NotCore, Note, StatusSize, NoThread, TooManyThreads}
 use Rattle.core_notes.specs.declared.status.Thread.{Thread}
 use Rattle.core_notes.specs.Note.{NoteView}
 use Rattle.core_notes.specs.Listing.{Item, items_of, whole_notes}
+use Rattle.core_notes.specs.Room.{room_check}
 use Rattle.core_notes.specs.Thread.{is_mask_note, is_status, status_size, threads_in}
 
 abbrev pub Check : Type 0
@@ -29,7 +31,14 @@ items_check arch after_thread [] = Ok tt
 items_check arch after_thread (Err place ∷ items) = Err (Note place)
 items_check arch after_thread (Ok n ∷ items) = note_check arch after_thread n >> items_check arch (after_thread || is_status n) items
 
--- the checks of the ELF file
+-- the notes up to the n-th status, with it
+unfoldable pub through_status : (n : ℕ) → List Item → List Item
+through_status zero items = []
+through_status (suc n) [] = []
+through_status (suc n) (Err place ∷ items) = Err place ∷ through_status (suc n) items
+through_status (suc n) (Ok x ∷ items) = Ok x ∷ through_status (if is_status x then n else suc n) items
+
+-- checks of the ELF file
 abbrev pub elf_part : Result (Unit {0}) ElfFault → Check
 elf_part (Ok x) = Ok tt
 elf_part (Err fault) = Err (Elf fault)
@@ -49,11 +58,13 @@ is_core_kind Exec = false
 is_core_kind Dyn = false
 is_core_kind Core = true
 
--- the checks after those of the ELF file: its kind, its notes, and how many threads it has
+-- the checks after those of the ELF file: its kind, the room for its notes, each note up to the status of thread 4097, and how
+-- many threads it has
 unfoldable pub core_part : List ℕ → Check
 core_part file =
     unless (is_core_kind (kind_of file)) NotCore
-    >> items_check (arch_of file) false (items_of file)
+    >> elf_part (each_below (segment_count file) (room_check file))
+    >> items_check (arch_of file) false (through_status 4097 (items_of file))
     >> count_check (length (file_threads file))
 
 -- all checks: the first that fails is the file's fault

@@ -1,8 +1,9 @@
 //! Core files of both machines, as views over lent bytes (ELF64 gABI, "Note Section" and "Program Header"; Linux core
 //! files).
 //!
-//! [`Core::parse`] checks a file once: the ELF file, then each note of its PT_NOTE segments in order, then how many
-//! threads there are. The first check that fails is the fault, with its place. [`Core::threads_iter`] gives the threads
+//! [`Core::parse`] checks a file once: the ELF file, then that its PT_NOTE segments have room in the file together, then
+//! each note of them in order, up to the status of thread 4097, then how many threads there are. The first check that
+//! fails is the fault, with its place. [`Core::threads_iter`] gives the threads
 //! in the order of their notes, each with its registers and its mask of return addresses; [`Core::thread`] gives one by
 //! its number. As a [`sf_model::Memory`] a core is its PT_LOAD segments. [`Core::file_note`] is the descriptor of the note
 //! on mapped files.
@@ -24,6 +25,7 @@ mod note;
 mod notes;
 mod notice;
 mod parsing;
+mod room;
 mod segment;
 mod status;
 mod view;

@@ -1,6 +1,6 @@
 //! The checks of the notes, in their order.
 
-ghost use Rattle.std.specs.Prelude.{◌≡◌, ◌<◌, ◌-◌, ◌^◌, IfOk, OnOk, ◌≤◌, false, length, min};
+ghost use Rattle.std.specs.Prelude.{◌≡◌, ◌<◌, ◌^◌, IfOk, OnOk, ◌≤◌, false, length, min};
 ghost use Rattle.elf_read.specs.Checking.{verdict};
 ghost use Rattle.elf_read.specs.Views.{file};
 ghost use Rattle.core_notes.specs.Checks as spec;
@@ -12,6 +12,7 @@ use crate::fault::CoreFault;
 use crate::layout::{MAX_THREADS, PAC_MASK_LEN};
 use crate::note::Note;
 use crate::notes::Notes;
+use crate::room::check_room;
 use crate::status::{is_mask_note, is_status, status_size};
 use elf_read::{Elf, Kind};
 use sf_model::Arch;
@@ -38,10 +39,10 @@ fn is_core(kind: Kind) -> bool
     kind == Kind::Core
 }
 
-// Checks the notes, and counts their threads, up to 2^32 - 1.
+// Checks the notes, and counts their threads, up to thread 4097.
 fn count_threads(arch: Arch, notes: Notes<'_>) -> Result<u32, CoreFault>
-    ensures check { verdict result ≡ spec.items_check arch false (items_left notes.entry) }
-    ensures count { IfOk result (λ n. n ≡ min (length (threads_in arch (whole_notes (items_left notes.entry)))) (2 ^ 32 - 1)) }
+    ensures check { verdict result ≡ spec.items_check arch false (spec.through_status 4097 (items_left notes.entry)) }
+    ensures count { IfOk result (λ n. n ≡ min (length (threads_in arch (whole_notes (items_left notes.entry)))) 4097) }
 {
     let mut threads: u32 = 0;
     for item in notes {
@@ -51,7 +52,10 @@ fn count_threads(arch: Arch, notes: Notes<'_>) -> Result<u32, CoreFault>
         };
         check_note(arch, threads > 0, &note)?;
         if is_status(&note) {
-            threads = threads.saturating_add(1);
+            threads += 1;
+            if threads > MAX_THREADS {
+                return Ok(threads);
+            }
         }
     }
     Ok(threads)
@@ -71,16 +75,19 @@ fn check_count(threads: u32) -> Result<(), CoreFault>
     Ok(())
 }
 
-/// The checks after those of the ELF file: its kind, its notes, and how many threads it has, which is returned.
+/// The checks after those of the ELF file: its kind, the room for its notes, the notes, and how many threads it has, which is
+/// returned.
 #[tactic(auto, unfolding(crate::specs::Checks::core_part))]
-pub fn check_core(elf: &Elf<'_>) -> Result<u32, CoreFault>
-    requires { length (file elf.now) < 2 ^ 32 }
+pub fn check_core(bytes: &[u8], elf: &Elf<'_>) -> Result<u32, CoreFault>
+    requires small { length (file elf.now) < 2 ^ 32 }
+    requires same { bytes.now ≡ file elf.now }
     ensures check { verdict result ≡ spec.core_part (file elf.now) }
     ensures count { IfOk result (λ threads. threads ≡ length (spec.file_threads (file elf.now))) }
 {
     if !is_core(elf.kind()) {
         return Err(CoreFault::NotCore);
     }
+    check_room(bytes, elf)?;
     let threads = count_threads(elf.arch(), Notes::new(elf))?;
     check_count(threads)?;
     Ok(threads)

@@ -64,7 +64,7 @@ impl<'a> Core<'a> {
         ensures bytes { IfOk result (λ core. core_bytes core ≡ bytes.now) }
     {
         let elf = Elf::parse(bytes)?;
-        let threads = check_core(&elf)?;
+        let threads = check_core(bytes, &elf)?;
         let rises = rise(&elf);
         Ok(Core {
             elf,

@@ -1,17 +1,16 @@
-use Rattle.std.proofs.Common.{◌≡◌, ℕ, length, sym, ap, subst, ◌∙◌, arith}
+use Rattle.std.proofs.Common.{sym, ◌∙◌}
 use Rattle.std.proofs.lemmas.Result.{err_from_is_err_and}
-use Rattle.core_notes.specs.Listing.{items_left, whole_notes}
+use Rattle.core_notes.specs.Listing.{items_left}
 use Rattle.core_notes.specs.Note.{note_view}
-use Rattle.core_notes.specs.Thread.{threads_in}
-use Rattle.core_notes.proofs.Checked.{Counted, check_ends, cut_is_fault, note_is_fault, other_counted, status_counted}
-use Rattle.core_notes.proofs.Threaded.{threads_end, to_cut, to_note}
+use Rattle.core_notes.proofs.Checked.{all_counted, cut_counted, last_counted, other_counted, status_counted, wrong_counted}
+use Rattle.core_notes.proofs.Threaded.{to_cut, to_note}
 use Rattle.core_notes.proofs.parsing.count_threads.Goals as goal
 
 pub returns-in-Err-clause-check : goal.returns-in-Err-clause-check
 returns-in-Err-clause-check c =
     let items = items_left c.loop-item.item-iterator in
     let rest = items_left c.next.new.self in
-    sym (cut_is_fault c.args.arch _ items rest c.in-Err.place (to_cut items rest c.in-Some.item c.in-Err.place c.in-Some.ensures.steps c.in-Err.is)) ∙ c.loop-item.invariant.check
+    cut_counted c.args.arch c.loop-item.threads items rest (items_left c.args.notes) c.in-Err.place c.loop-item.invariant (to_cut items rest c.in-Some.item c.in-Err.place c.in-Some.ensures.steps c.in-Err.is)
 
 pub returns-in_err-check_note-clause-check : goal.returns-in_err-check_note-clause-check
 returns-in_err-check_note-clause-check c =
@@ -19,16 +18,29 @@ returns-in_err-check_note-clause-check c =
     let rest = items_left c.next.new.self in
     let p = err_from_is_err_and c.from_residual.result c.from_residual.ensures.1 in
     rw (p.1, p.2)
-    (sym (note_is_fault c.args.arch _ items rest (note_view c.in-Ok.note) c.in_err-check_note.field-0.0 (to_note items rest c.in-Some.item c.in-Ok.note c.in-Some.ensures.steps c.in-Ok.is) (sym c.in_err-check_note.ensures))
-    ∙ c.loop-item.invariant.check)
+    (wrong_counted c.args.arch c.loop-item.threads items rest (items_left c.args.notes) (note_view c.in-Ok.note) c.in_err-check_note.field-0.0 c.loop-item.invariant
+    (to_note items rest c.in-Some.item c.in-Ok.note c.in-Some.ensures.steps c.in-Ok.is) (sym c.in_err-check_note.ensures))
 
-pub loop-item-preserved-then-is_status : goal.loop-item-preserved-then-is_status
-loop-item-preserved-then-is_status c =
+pub returns-then-threads-gt-MAX_THREADS-clause-check : goal.returns-then-threads-gt-MAX_THREADS-clause-check
+returns-then-threads-gt-MAX_THREADS-clause-check c =
     let items = items_left c.loop-item.item-iterator in
     let rest = items_left c.next.new.self in
-    subst (λ (n : ℕ). Counted c.args.arch n rest (items_left c.args.notes)) (sym c.saturating_add-threads.ensures)
-    (status_counted c.args.arch c.loop-item.threads items rest (items_left c.args.notes) (note_view c.in-Ok.note) c.loop-item.invariant
-    (to_note items rest c.in-Some.item c.in-Ok.note c.in-Some.ensures.steps c.in-Ok.is) (sym c.is_status.ensures ∙ c.if-is_status.true) (sym c.in_ok-check_note.ensures))
+    (last_counted c.args.arch c.loop-item.threads items rest (items_left c.args.notes) (note_view c.in-Ok.note) c.loop-item.invariant
+    (to_note items rest c.in-Some.item c.in-Ok.note c.in-Some.ensures.steps c.in-Ok.is) (sym c.is_status.ensures ∙ c.if-is_status.true) (sym c.in_ok-check_note.ensures) c.if-threads-gt-MAX_THREADS.true).check
+
+pub returns-then-threads-gt-MAX_THREADS-clause-count : goal.returns-then-threads-gt-MAX_THREADS-clause-count
+returns-then-threads-gt-MAX_THREADS-clause-count c =
+    let items = items_left c.loop-item.item-iterator in
+    let rest = items_left c.next.new.self in
+    (last_counted c.args.arch c.loop-item.threads items rest (items_left c.args.notes) (note_view c.in-Ok.note) c.loop-item.invariant
+    (to_note items rest c.in-Some.item c.in-Ok.note c.in-Some.ensures.steps c.in-Ok.is) (sym c.is_status.ensures ∙ c.if-is_status.true) (sym c.in_ok-check_note.ensures) c.if-threads-gt-MAX_THREADS.true).count
+
+pub loop-item-preserved-else-threads-gt-MAX_THREADS : goal.loop-item-preserved-else-threads-gt-MAX_THREADS
+loop-item-preserved-else-threads-gt-MAX_THREADS c =
+    let items = items_left c.loop-item.item-iterator in
+    let rest = items_left c.next.new.self in
+    status_counted c.args.arch c.loop-item.threads items rest (items_left c.args.notes) (note_view c.in-Ok.note) c.loop-item.invariant
+    (to_note items rest c.in-Some.item c.in-Ok.note c.in-Some.ensures.steps c.in-Ok.is) (sym c.is_status.ensures ∙ c.if-is_status.true) (sym c.in_ok-check_note.ensures) c.if-threads-gt-MAX_THREADS.false
 
 pub loop-item-preserved : goal.loop-item-preserved
 loop-item-preserved c =
@@ -38,9 +50,11 @@ loop-item-preserved c =
     (to_note items rest c.in-Some.item c.in-Ok.note c.in-Some.ensures.steps c.in-Ok.is) (sym c.is_status.ensures ∙ c.if-is_status.false) (sym c.in_ok-check_note.ensures)
 
 pub returns-clause-check : goal.returns-clause-check
-returns-clause-check c = sym (check_ends c.args.arch _ (items_left c.loop-item.item-iterator) c.in-None.ensures.steps.0) ∙ c.loop-item.invariant.check
+returns-clause-check c =
+    let items = items_left c.loop-item.item-iterator in
+    (all_counted c.args.arch c.loop-item.threads items (items_left c.args.notes) c.loop-item.invariant c.in-None.ensures.steps.0).check
 
 pub returns-clause-count : goal.returns-clause-count
 returns-clause-count c =
-    let none : length (threads_in c.args.arch (whole_notes (items_left c.loop-item.item-iterator))) ≡ 0 = ap length (threads_end c.args.arch (items_left c.loop-item.item-iterator) c.in-None.ensures.steps.0) in
-    omega (c.loop-item.invariant.fits, c.loop-item.invariant.count, none, arith)
+    let items = items_left c.loop-item.item-iterator in
+    (all_counted c.args.arch c.loop-item.threads items (items_left c.args.notes) c.loop-item.invariant c.in-None.ensures.steps.0).count

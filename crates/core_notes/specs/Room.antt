@@ -1,0 +1,26 @@
+-- The room in the file for the PT_NOTE segments, which are read whole (ELF64 gABI, "Program Header" and "Note Section"): no byte
+-- of the file is in two of them.
+use Rattle.std.specs.Prelude.{ℕ, zero, suc, ◌+◌, ◌≤◌, List, length, nat_le, if◌then◌else◌}
+use Rattle.elf_read.specs.declared.fault.ElfFault.TheVariants.{OutOfFile}
+use Rattle.elf_read.specs.Checking.{unless}
+use Rattle.elf_read.specs.Checks.{Check}
+use Rattle.elf_read.specs.Header.{program_header}
+use Rattle.elf_read.specs.Sections.{segment_count}
+use Rattle.core_notes.specs.Segment.{SegmentView, holds_notes, segment_of}
+
+-- how many bytes of notes a segment has
+abbrev pub note_size : SegmentView → ℕ
+note_size s = if holds_notes s then length s.bytes else 0
+
+-- the first n segments together
+unfoldable pub note_size_below : List ℕ → ℕ → ℕ
+note_size_below file zero = 0
+note_size_below file (suc n) = note_size_below file n + note_size (segment_of file n)
+
+-- there is room in the file for those up to this one
+unfoldable pub room_check : List ℕ → ℕ → Check
+room_check file i = unless (nat_le (note_size_below file (suc i)) (length file)) (OutOfFile (program_header file i))
+
+-- there is room for all of them, up to any
+abbrev pub HasRoom : List ℕ → Type 0
+HasRoom file = (n : ℕ) → n ≤ segment_count file → note_size_below file n ≤ length file
