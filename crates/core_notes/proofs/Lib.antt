@@ -1,6 +1,7 @@
 pub mod OneNote
 pub mod Listings
 pub mod Segments
+pub mod Holdings
 pub mod Rising
 pub mod Holders
 pub mod Scan

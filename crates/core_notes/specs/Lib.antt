@@ -6,6 +6,9 @@ pub mod Threads
 pub mod Room
 pub mod Checks
 pub mod Memory
+pub mod Order
+pub mod Put
 pub mod Views
+pub mod CoreMemory
 pub mod FaultShown
 pub mod Core

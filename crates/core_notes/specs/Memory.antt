@@ -1,7 +1,8 @@
 -- The memory of a core file: its PT_LOAD segments (ELF64 gABI, "Program Header").
-use Rattle.std.specs.Prelude.{ℕ, ◌+◌, ◌<◌, ◌≤◌, Bool, true, ◌&&◌, nat_le, List, [], ◌∷◌, length, map, slice_index_or, if◌then◌else◌}
+use Rattle.std.specs.Prelude.{ℕ, ◌+◌, ◌-◌, ◌<◌, ◌≤◌, Bool, true, ◌&&◌, nat_le, List, [], ◌∷◌, length, map, slice_index_or, if◌then◌else◌}
 use Rattle.std.specs.List.{filter}
 use Rattle.sf_model.specs.Memory.{Region, holds_eight}
+use Rattle.sf_lookup.specs.declared.span.Span.{Span}
 use Rattle.core_notes.specs.Segment.{SegmentView, is_load, segments}
 
 abbrev pub region_of : SegmentView → Region
@@ -32,3 +33,12 @@ pub record IsCountUpto (address : ℕ) (ss : List SegmentView) (n : ℕ) : Type 
   pub within : n ≤ length ss
   pub reached : (k : ℕ) (d : SegmentView) → k < n → (slice_index_or ss k d).vaddr ≤ address
   pub above : (k : ℕ) (d : SegmentView) → n ≤ k → k < length ss → address < (slice_index_or ss k d).vaddr
+
+-- the addresses from which on a segment holds eight bytes, which lead to its number
+abbrev pub holding : (number : ℕ) → SegmentView → Span ℕ
+holding number s = record { start = s.vaddr; size = (if is_load s then length s.bytes - 7 else 0); leads_to = number }
+
+-- the same of segments whose numbers begin at `first`
+abbrev pub holdings : (first : ℕ) → List SegmentView → List (Span ℕ)
+holdings first [] = []
+holdings first (s ∷ ss) = holding first s ∷ holdings (first + 1) ss

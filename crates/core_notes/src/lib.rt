@@ -11,11 +11,13 @@
 //! The meaning of a file is its list of bytes: `AreNotes` says when notes are the bytes of its segments, `threads_in`
 //! which threads the notes have, `file_regions` what its memory is.
 //!
-//! The caller owes a file of fewer than 2^32 bytes. Nothing allocates. Walking all threads reads each note twice;
-//! `thread` reads the notes up to that thread. A read of memory halves the segments where their addresses rise, as
-//! kernels write them, and else it goes over them.
+//! The caller owes a file of fewer than 2^32 bytes. [`CoreMemory::new`] alone allocates. Walking all threads reads each
+//! note twice; `thread` reads the notes up to that thread. A read of a core's memory halves the segments where their
+//! addresses rise, as kernels write them, and else it goes over them. [`CoreMemory`] is the same memory for many reads:
+//! segments that don't rise are put in order once, and each read halves them.
 #![tactic(auto)]
 
+mod core_memory;
 mod fault;
 mod iter;
 mod laws;
@@ -30,6 +32,7 @@ mod segment;
 mod status;
 mod view;
 
+pub use core_memory::CoreMemory;
 pub use fault::CoreFault;
 pub use iter::ThreadIter;
 pub use laws::core_is_its_notes;

@@ -5,13 +5,16 @@ ghost use Rattle.std.specs.List.{find};
 ghost use Rattle.std.specs.Option.{option_map};
 ghost use Rattle.sf_model.specs.Memory.{read_eight};
 ghost use Rattle.elf_read.specs.Views.{file};
+ghost use Rattle.sf_lookup.specs.Spans.{InOrder};
 ghost use Rattle.core_notes.specs.Memory as spec;
 ghost use Rattle.core_notes.specs.Memory.{file_regions, is_holder};
+ghost use Rattle.core_notes.specs.Order.{IsOrder};
 ghost use Rattle.core_notes.specs.Segment.{segment_view, segments};
 
 use crate::layout::PT_LOAD;
 use crate::segment::segment_at;
 use elf_read::{Elf, Segment, u64_at};
+use sf_lookup::Spans;
 
 /// Whether a segment is memory that holds the eight bytes from an address on.
 #[inline(always)]
@@ -92,26 +95,46 @@ fn by_halves<'a>(elf: &Elf<'a>, address: u64) -> Option<Segment<'a>>
     is_holder(&segment, address).then_some(segment)
 }
 
-/// The first segment that holds the eight bytes from an address on.
-fn holder<'a>(elf: &Elf<'a>, rises: bool, address: u64) -> Option<Segment<'a>>
-    requires { rises ≡ spec.rise_from 0 (segments (file elf.now)) }
+/// The first segment that holds the eight bytes, by the order in which the segments were put.
+fn by_spans<'a>(elf: &Elf<'a>, spans: &Spans<u32>, address: u64) -> Option<Segment<'a>>
+    requires { InOrder spans.now (spec.holdings 0 (segments (file elf.now))) }
     ensures { option_map segment_view result ≡ find (is_holder address) (segments (file elf.now)) }
 {
-    if rises {
-        by_halves(elf, address)
-    } else {
-        by_scan(elf, address)
+    let i = spans.first_at(address)?;
+    Some(segment_at(elf, i))
+}
+
+/// What is known of the order of segments.
+#[derive(Clone, Copy)]
+pub enum Order<'a> {
+    /// Their addresses rise.
+    Rising,
+    /// Nothing.
+    Unknown,
+    /// Those that hold memory were put in order.
+    Put(&'a Spans<u32>),
+}
+
+/// The first segment that holds the eight bytes from an address on.
+fn holder<'a>(elf: &Elf<'a>, order: Order<'_>, address: u64) -> Option<Segment<'a>>
+    requires { IsOrder order (segments (file elf.now)) }
+    ensures { option_map segment_view result ≡ find (is_holder address) (segments (file elf.now)) }
+{
+    match order {
+        Order::Rising => by_halves(elf, address),
+        Order::Unknown => by_scan(elf, address),
+        Order::Put(spans) => by_spans(elf, spans, address),
     }
 }
 
 /// The number in the eight bytes from an address on.
-pub fn read_eight(elf: &Elf<'_>, rises: bool, address: u64) -> Option<u64>
-    requires { rises ≡ spec.rise_from 0 (segments (file elf.now)) }
+pub fn read_eight(elf: &Elf<'_>, order: Order<'_>, address: u64) -> Option<u64>
+    requires { IsOrder order (segments (file elf.now)) }
     ensures { result ≡ read_eight (file_regions (file elf.now)) address }
 {
     if address > u64::MAX - 7 {
         return None;
     }
-    let segment = holder(elf, rises, address)?;
+    let segment = holder(elf, order, address)?;
     Some(u64_at(segment.bytes, address - segment.vaddr))
 }

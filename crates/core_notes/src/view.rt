@@ -8,7 +8,7 @@ ghost use Rattle.core_notes.specs.Segment.{segments};
 
 use crate::fault::CoreFault;
 use crate::iter::ThreadIter;
-use crate::memory::{read_eight, rise};
+use crate::memory::{Order, read_eight, rise};
 use crate::notes::Notes;
 use crate::parsing::check_core;
 use crate::status::{Thread, is_file_note};
@@ -19,10 +19,10 @@ use sf_model::{Arch, Memory};
 /// A core file that was checked. It lends the file's bytes, of which there are fewer than 2^32.
 #[derive(Clone, Copy, Debug)]
 pub struct Core<'a> {
-    elf: Elf<'a>,
+    pub(crate) elf: Elf<'a>,
     threads: u32,
     // Whether a read may halve the segments.
-    rises: bool,
+    pub(crate) rises: bool,
     ghost small: { length (file elf) < 2 ^ 32 },
     ghost checked: { IsTrue (is_ok (core_check (file elf))) },
     ghost counted: { threads ≡ length (file_threads (file elf)) },
@@ -132,6 +132,11 @@ impl<'a> Memory for Core<'a> {
     ghost regions = { memory_of };
 
     fn read8(&self, address: u64) -> Option<u64> {
-        read_eight(&self.elf, self.rises, address)
+        let order = if self.rises {
+            Order::Rising
+        } else {
+            Order::Unknown
+        };
+        read_eight(&self.elf, order, address)
     }
 }

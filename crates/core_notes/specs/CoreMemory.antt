@@ -1,0 +1,8 @@
+-- The memory of a core file that was put in order.
+use Rattle.std.specs.Prelude.{List}
+use Rattle.sf_model.specs.Memory.{Region}
+use Rattle.core_notes.specs.declared.core_memory.CoreMemory.{CoreMemory}
+use Rattle.core_notes.specs.Views.{memory_of}
+
+abbrev pub memory_in : CoreMemory → List Region
+memory_in memory = memory_of memory.core
