@@ -41,11 +41,9 @@ found_in functions pc f o e r =
     ap (option_map (with_head f)) r ∙ shown_as f (row_at (offset_in_block f.shape (pc - f.start)) f.rows) ∙ ap (λ (x : Option Func). option_map shown (row_in_first pc x)) e
 
 -- the row by what was asked of the view
-pub row_asked : (pc : ℕ) (f : Func) (head : FuncHead) (rows : List Row) (offset : ℕ) (o : Option Row) → head ≡ head_of f → rows ≡ f.rows → offset ≡ offset_in_block head.shape (pc - head.start)
-    → o ≡ row_at offset rows → o ≡ row_at (offset_in_block f.shape (pc - f.start)) f.rows
-row_asked pc f head rows offset o h r at e =
-    e ∙ ap (λ (n : ℕ). row_at n rows) at ∙ ap (λ (x : FuncHead). row_at (offset_in_block x.shape (pc - x.start)) rows) h
-    ∙ ap (row_at (offset_in_block f.shape (pc - f.start))) r
+pub row_asked : (pc : ℕ) (f : Func) (head : FuncHead) (offset : ℕ) (o : Option Row) → head ≡ head_of f → offset ≡ offset_in_block head.shape (pc - head.start)
+    → o ≡ row_at offset f.rows → o ≡ row_at (offset_in_block f.shape (pc - f.start)) f.rows
+row_asked pc f head offset o h at e = e ∙ ap (λ (n : ℕ). row_at n f.rows) at ∙ ap (λ (x : FuncHead). row_at (offset_in_block x.shape (pc - x.start)) f.rows) h
 
 -- what is found starts by the address
 pub starts_by : (functions : List Func) (pc : ℕ) (f : Func) → Some f ≡ find (contains pc) functions → f.start ≤ pc
@@ -61,12 +59,11 @@ all_found P p (y ∷ ys) x all e = by_test (p y) e (all 0 y (omega arith)) (all_
     by_test false here first later = later here
 
 -- the row that holds is one of the function's
-pub row_fits : (arch : Arch) (rows asked : List Row) (offset : ℕ) (row : Row) → RowsFit arch rows → asked ≡ rows → Some row ≡ row_at offset asked → IsTrue (content_fits arch row.content)
+pub row_fits : (arch : Arch) (rows : List Row) (offset : ℕ) (row : Row) → RowsFit arch rows → Some row ≡ row_at offset rows → IsTrue (content_fits arch row.content)
 unfolding row_at
-row_fits arch rows asked offset row fits same e =
-    let begun = filter (begins_by offset) asked in
-    let all : RowsFit arch asked = subst (RowsFit arch) (sym same) fits in
-    all_found (λ (r : Row). IsTrue (content_fits arch r.content)) (begins_last begun) begun row (All-filter (begins_by offset) (λ (r : Row). IsTrue (content_fits arch r.content)) asked all) (sym e)
+row_fits arch rows offset row fits e =
+    let begun = filter (begins_by offset) rows in
+    all_found (λ (r : Row). IsTrue (content_fits arch r.content)) (begins_last begun) begun row (All-filter (begins_by offset) (λ (r : Row). IsTrue (content_fits arch r.content)) rows fits) (sym e)
 
 -- what is recovered where nothing is found, and where a row is
 pub recovered_of : (functions : List Func) (pc : ℕ) (regs : Regs) (memory : List Region) (o : Option Found) → o ≡ option_map shown (found_at functions pc)

@@ -6,4 +6,5 @@ pub mod Checked
 pub mod FoundRows
 pub mod Covering
 pub mod Sweeping
+pub mod Marking
 pub mod Indexing

@@ -1,8 +1,9 @@
 -- Rows that rise, and the latest of them that begins by an offset.
 use Rattle.std.specs.Prelude.{nat_le, ◌&&◌, if◌then◌else◌}
 use Rattle.std.specs.List.{filter, find}
-use Rattle.std.proofs.Common.{◌≡◌, ℕ, zero, suc, ◌+◌, ◌<◌, ◌≤◌, Bool, true, false, cond, List, [], ◌∷◌, Option, Some, None, get_or, length, refl, sym, ap, subst, ◌∙◌, arith}
+use Rattle.std.proofs.Common.{◌≡◌, ℕ, zero, suc, ◌+◌, ◌<◌, ◌≤◌, Bool, true, false, cond, List, [], ◌∷◌, Option, Some, None, drop, get_or, length, refl, sym, ap, subst, ◌∙◌, arith}
 use Rattle.std.proofs.lemmas.Bool.{lt-leb, le-leb, leb-false}
+use Rattle.std.proofs.lemmas.List.{get_or-drop, length-drop}
 use Rattle.sf_model.specs.declared.rows.Row.{Row}
 use Rattle.sf_model.specs.Function.{RowsRise}
 use Rattle.sf_model.specs.Lookup.{begins_by, begins_last, row_at}
@@ -135,3 +136,26 @@ unfolding row_at
 latest_holds offset rows h =
     let rise = rises rows h in
     latest_is offset 0 None rows rise ∙ sym (last_is 0 (filter (begins_by offset) rows) (rise_filter (begins_by offset) 0 rows rise))
+
+-- ---- rows from one on
+pub rise_from_one : (rows : List Row) (k : ℕ) → RowsRise rows → RowsRise (drop k rows)
+rise_from_one rows k h = λ j d lt.
+    let len = length-drop k rows in
+    let here = ap (λ (r : Row). r.start) (get_or-drop k rows j d) in
+    let next = ap (λ (r : Row). r.start) (get_or-drop k rows (j + 1) d) in
+    let more : k + j + 1 ≡ k + (j + 1) = omega arith in
+    let same = ap (λ (n : ℕ). (get_or rows n d).start) more in
+    let up = h (k + j) d (omega (lt, len, arith)) in
+    omega (here, next, same, up, arith)
+
+latest_from : (offset least : ℕ) (found : Option Row) (rows : List Row) (k : ℕ) (d : Row) → Rise least rows → k < length rows → (get_or rows k d).start ≤ offset → latest offset found rows ≡ latest offset None (drop k rows)
+latest_from offset least found [] k d h lt by = absurd (omega (lt, arith))
+latest_from offset least found (r ∷ rows) zero d h lt by = latest_begun offset found r rows by ∙ sym (latest_begun offset None r rows by)
+latest_from offset least found (r ∷ rows) (suc k) d h lt by =
+    let later = starts_from (r.start + 1) rows k d h.1 (omega (lt, arith)) in
+    latest_begun offset found r rows (omega (later, by, arith)) ∙ latest_from offset (r.start + 1) (Some r) rows k d h.1 (omega (lt, arith)) by
+
+-- where one has begun, the row that holds is among it and those after it
+pub row_from : (offset : ℕ) (rows : List Row) (k : ℕ) (d : Row) → RowsRise rows → k < length rows → (get_or rows k d).start ≤ offset → row_at offset (drop k rows) ≡ row_at offset rows
+row_from offset rows k d h lt by =
+    sym (latest_holds offset (drop k rows) (rise_from_one rows k h)) ∙ sym (latest_from offset 0 None rows k d (rises rows h) lt by) ∙ latest_holds offset rows h

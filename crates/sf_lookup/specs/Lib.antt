@@ -1,5 +1,6 @@
 pub mod Starts
 pub mod Lookup
+pub mod Mark
 pub mod Span
 pub mod Spans
 pub mod Begins

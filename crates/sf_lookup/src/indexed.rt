@@ -1,23 +1,27 @@
 //! A section put in order for many look-ups.
 
-ghost use Rattle.std.specs.Prelude.{◌≡◌, IfOk};
+ghost use Rattle.std.specs.Prelude.{◌≡◌, All, IfOk};
 ghost use Rattle.sf_decode.specs.View.{table_of};
+ghost use Rattle.sf_lookup.specs.Mark.{IsMark};
 ghost use Rattle.sf_lookup.specs.Numbered.{AreInOrder, numbered};
 
 use crate::function::{first_containing, is_sorted};
 use crate::lookup::{Found, found_in};
+use crate::marks::{Mark, marks_of};
 use crate::span::Span;
 use crate::spans::Spans;
 use sf_decode::{View, functions_are_numbered};
 use std::alloc::{AllocError, Global};
 
-/// A section whose functions are found by halves, whether they are sorted or not: the spans of those that are not
-/// sorted are put in order.
+/// A section whose functions are found by halves, whether they are sorted or not, and so are the rows of a function: the
+/// spans of functions that are not sorted are put in order, and each 64th row of a function is marked.
 #[derive(Drop)]
 pub struct Indexed<'a> {
     view: View<'a>,
     spans: Option<Spans<u32>>,
+    marks: Vec<Mark<'a>>,
     ghost ordered: { AreInOrder spans (table_of view).functions },
+    ghost marked: { All (IsMark view) marks.items },
 }
 
 // The functions of a section as spans, each with its number.
@@ -47,19 +51,25 @@ impl<'a> Indexed<'a> {
     ghost use Rattle.sf_lookup.specs.Indexed.{table_in, view_in};
     ghost use Rattle.sf_lookup.specs.Lookup.{shown};
 
-    /// The section, put in order. One whose functions are sorted stays as it is, and allocates nothing.
+    /// The section, put in order. One whose functions are sorted and have at most 64 rows each allocates nothing.
     ///
     /// `AllocError` where memory ran out.
     pub fn new(alloc: Global, view: View<'a>) -> Result<Indexed<'a>, AllocError>
         ensures { IfOk result (λ indexed. view_in indexed ≡ view.entry) }
     {
+        let marks = marks_of(alloc, &view)?;
         if is_sorted(view.flags()) {
-            return Ok(Indexed { view, spans: None });
+            return Ok(Indexed {
+                view,
+                spans: None,
+                marks,
+            });
         }
         let spans = Spans::new(alloc, &spans_of(alloc, &view)?)?;
         Ok(Indexed {
             view,
             spans: Some(spans),
+            marks,
         })
     }
 
@@ -88,6 +98,6 @@ impl<'a> Indexed<'a> {
         ensures fits { IfSome result (λ found. IsTrue (content_fits (table_in self.now).arch found.row.content)) }
     {
         let i = self.first_containing(pc)?;
-        found_in(&self.view, i, pc)
+        found_in(&self.view, &self.marks, i, pc)
     }
 }

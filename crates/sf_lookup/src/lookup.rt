@@ -1,7 +1,7 @@
 //! The function and the row that hold at an address (SFrame Version 2, function descriptor entries and frame
 //! row entries).
 
-ghost use Rattle.std.specs.Prelude.{◌≡◌, ◌<◌, IsTrue, IfSome, Some, length};
+ghost use Rattle.std.specs.Prelude.{◌≡◌, ◌<◌, All, IsTrue, IfSome, Some, length};
 ghost use Rattle.std.specs.List.{find};
 ghost use Rattle.std.specs.Option.{option_map};
 ghost use Rattle.sf_model.specs.Content.{content_fits};
@@ -9,8 +9,10 @@ ghost use Rattle.sf_model.specs.Function.{shape_fits};
 ghost use Rattle.sf_model.specs.Lookup.{contains, found_at, offset_in_block};
 ghost use Rattle.sf_decode.specs.View.{function_of, table_of};
 ghost use Rattle.sf_lookup.specs.Lookup.{shown};
+ghost use Rattle.sf_lookup.specs.Mark.{IsMark};
 
 use crate::function::first_containing;
+use crate::marks::{Mark, rows_near};
 use crate::row::row_at;
 use crate::sound::function_is_sound;
 use sf_decode::View;
@@ -37,8 +39,10 @@ fn offset_in_block(shape: Shape, offset: u64) -> u64
     }
 }
 
-/// The row of a function that holds at an address, where the function is the first that contains the address.
-pub fn found_in(view: &View<'_>, i: u32, pc: u64) -> Option<Found>
+/// The row of a function that holds at an address, where the function is the first that contains the address. It is sought
+/// from the last mark on that the address has reached.
+pub fn found_in(view: &View<'_>, marks: &[Mark<'_>], i: u32, pc: u64) -> Option<Found>
+    requires marks { All (IsMark view.now) marks.now }
     requires within { i < length (table_of view.now).functions }
     requires first { Some (function_of view.now i) ≡ find (contains pc) (table_of view.now).functions }
     ensures found { result ≡ option_map shown (found_at (table_of view.now).functions pc) }
@@ -47,7 +51,7 @@ pub fn found_in(view: &View<'_>, i: u32, pc: u64) -> Option<Found>
     function_is_sound(view, i);
     let func = view.func(i);
     let offset = offset_in_block(func.shape, pc - func.start);
-    let row = row_at(view.rows(i), offset)?;
+    let row = row_at(rows_near(view, marks, i, offset), offset)?;
     Some(Found { func, row })
 }
 
@@ -61,5 +65,5 @@ pub fn find(view: &View<'_>, pc: u64) -> Option<Found>
     ensures fits { IfSome result (λ found. IsTrue (content_fits (table_of view.now).arch found.row.content)) }
 {
     let i = first_containing(view, pc)?;
-    found_in(view, i, pc)
+    found_in(view, &[], i, pc)
 }
