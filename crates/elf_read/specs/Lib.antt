@@ -1,6 +1,7 @@
 pub mod Number
 pub mod Checking
 pub mod Header
+pub mod SegmentFields
 pub mod Sections
 pub mod Checks
 pub mod Used

@@ -119,12 +119,19 @@ pub const SHF_COMPRESSED: u64 = 0x800;
 pub const PROGRAM_HEADER_LEN: u64 = 56;
 /// The place of the segment's type, four bytes.
 pub const P_TYPE: u64 = 0;
+/// The place of the segment's flags, four bytes.
+pub const P_FLAGS: u64 = 4;
 /// The place of the file offset of the segment's bytes, eight bytes.
 pub const P_OFFSET: u64 = 8;
 /// The place of the segment's address, eight bytes.
 pub const P_VADDR: u64 = 16;
 /// The place of the number of bytes in the file, eight bytes.
 pub const P_FILESZ: u64 = 32;
+/// The place of the number of bytes in memory, eight bytes.
+pub const P_MEMSZ: u64 = 40;
+
+/// The flag of an executable segment.
+pub const PF_X: u64 = 0x1;
 
 /// How many bytes a symbol has, and a relocation with an addend. The places below count from its start.
 pub const ENTRY_LEN: u64 = 24;

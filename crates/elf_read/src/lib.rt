@@ -35,6 +35,7 @@ mod reading;
 mod room;
 mod section_header;
 mod sections;
+mod segment_fields;
 mod segments;
 mod text;
 mod used;

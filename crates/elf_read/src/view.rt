@@ -11,7 +11,7 @@ use crate::kind::Kind;
 use crate::number::bytes_at;
 use crate::parsing::check_file;
 use crate::segments::check_program_headers;
-use crate::{entries, header, program_header, reading, section_header, sections};
+use crate::{entries, header, program_header, reading, section_header, sections, segment_fields};
 use sf_model::Arch;
 
 /// An ELF file that was checked. It lends the file's bytes, of which there are fewer than 2^32.
@@ -33,6 +33,7 @@ impl<'a> Elf<'a> {
     ghost use Rattle.elf_read.specs.Number.{StandsAt};
     ghost use Rattle.elf_read.specs.Checking.{verdict};
     ghost use Rattle.elf_read.specs.Sections as fields;
+    ghost use Rattle.elf_read.specs.SegmentFields as segment_spec;
     ghost use Rattle.elf_read.specs.Views.{file, section_of, segment_bytes, symbol_of, rela_offset, rela_type, rela_addend, group_view, group_of};
 
     /// Checks a file: the header, then the segments of a core file, or else the section headers, the
@@ -166,6 +167,27 @@ impl<'a> Elf<'a> {
             place,
             bytes: bytes_at(self.bytes, place, size),
         }
+    }
+
+    /// Whether a segment is executable: it has the flag PF_X.
+    pub fn is_executable(&self, i: u32) -> bool
+        ensures { result ≡ segment_spec.is_executable (file self.now) i }
+    {
+        segment_fields::is_executable(self.bytes, i)
+    }
+
+    /// How many bytes a segment has in the file by its header.
+    pub fn file_size(&self, i: u32) -> u64
+        ensures { result ≡ head.p_filesz (file self.now) i }
+    {
+        program_header::p_filesz(self.bytes, i)
+    }
+
+    /// How many bytes a segment has in memory.
+    pub fn memory_size(&self, i: u32) -> u64
+        ensures { result ≡ segment_spec.p_memsz (file self.now) i }
+    {
+        segment_fields::p_memsz(self.bytes, i)
     }
 
     /// Entry `k` of the relocation section `i`.
