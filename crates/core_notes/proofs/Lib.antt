@@ -5,6 +5,8 @@ pub mod Holdings
 pub mod Rising
 pub mod Holders
 pub mod Scan
+pub mod Numbered
+pub mod BytesHeld
 pub mod Segmented
 pub mod Threaded
 pub mod Rooms

@@ -8,6 +8,8 @@ pub mod Checks
 pub mod Memory
 pub mod Order
 pub mod Put
+pub mod MemoryBytes
+pub mod SegmentNotes
 pub mod Views
 pub mod CoreMemory
 pub mod FaultShown

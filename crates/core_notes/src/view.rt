@@ -9,6 +9,7 @@ ghost use Rattle.core_notes.specs.Segment.{segments};
 use crate::fault::CoreFault;
 use crate::iter::ThreadIter;
 use crate::memory::{Order, read_eight, rise};
+use crate::memory_bytes::{bytes_at, executable_at};
 use crate::notes::Notes;
 use crate::parsing::check_core;
 use crate::status::{Thread, is_file_note};
@@ -38,9 +39,10 @@ impl<'a> Core<'a> {
     ghost use Rattle.elf_read.specs.Header.{arch_of};
     ghost use Rattle.core_notes.specs.declared.status.Thread.{Thread as thread};
     ghost use Rattle.core_notes.specs.Core.{IsCore};
+    ghost use Rattle.core_notes.specs.MemoryBytes as held;
     ghost use Rattle.core_notes.specs.Note.{NoteView};
     ghost use Rattle.core_notes.specs.Thread as spec;
-    ghost use Rattle.core_notes.specs.Views.{core_bytes, notes_of, threads_left, threads_of};
+    ghost use Rattle.core_notes.specs.Views.{core_bytes, memory_of, notes_of, threads_left, threads_of};
 
     /// Checks a file: the ELF file, its kind, each note in order, and the number of threads. The fault is that of the
     /// first check that fails.
@@ -123,6 +125,20 @@ impl<'a> Core<'a> {
             }
         }
         None
+    }
+
+    /// So many bytes of its memory from an address on, by the first segment that holds them all.
+    pub fn bytes_at(&self, address: u64, len: u64) -> Option<&'a [u8]>
+        ensures { option_map (λ b. b.now) result ≡ held.bytes_at (memory_of self.now) address len }
+    {
+        bytes_at(&self.elf, address, len)
+    }
+
+    /// Whether the first load segment that has an address is executable, where there is one.
+    pub fn executable_at(&self, address: u64) -> Option<bool>
+        ensures { result ≡ held.executable_at (core_bytes self.now) address }
+    {
+        executable_at(&self.elf, address)
     }
 }
 

@@ -1,0 +1,28 @@
+-- What a core file's memory has at an address (ELF64 gABI, "Program Header"): bytes of any number, and whether they may be executed.
+use Rattle.std.specs.Prelude.{ℕ, ◌+◌, ◌-◌, ◌==◌, Bool, ◌&&◌, nat_le, nat_lt, List, length, take, drop, Option}
+use Rattle.std.specs.List.{find, range_with_len}
+use Rattle.std.specs.Option.{option_map}
+use Rattle.sf_model.specs.Memory.{Region}
+use Rattle.elf_read.specs.Header.{p_type, p_vaddr}
+use Rattle.elf_read.specs.Sections.{segment_count}
+use Rattle.elf_read.specs.SegmentFields.{is_executable, p_memsz}
+
+-- all of so many bytes from an address on lie in the region
+abbrev pub holds_bytes : (address len : ℕ) → Region → Bool
+holds_bytes address len region = nat_le region.start address && nat_le (address + len) (region.start + length region.bytes)
+
+-- the region's bytes from an address on
+abbrev pub region_bytes : (address len : ℕ) → Region → List ℕ
+region_bytes address len region = take len (drop (address - region.start) region.bytes)
+
+-- so many bytes from an address on, by the first region that holds them all
+unfoldable pub bytes_at : List Region → (address len : ℕ) → Option (List ℕ)
+bytes_at memory address len = option_map (region_bytes address len) (find (holds_bytes address len) memory)
+
+-- the address is one of a load segment's, as it is in memory: PT_LOAD 1
+abbrev pub has_address : List ℕ → (address i : ℕ) → Bool
+has_address file address i = (p_type file i == 1) && nat_le (p_vaddr file i) address && nat_lt address (p_vaddr file i + p_memsz file i)
+
+-- whether the first load segment that has an address is executable, where there is one
+unfoldable pub executable_at : List ℕ → (address : ℕ) → Option Bool
+executable_at file address = option_map (is_executable file) (find (has_address file address) (range_with_len 0 (segment_count file)))
