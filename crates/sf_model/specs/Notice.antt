@@ -22,7 +22,7 @@ values_shown Core number =
     if number == 2 then Some 0 else (if number == 3 then Some 1 else (if number == 4 then Some 1 else (if number == 5 then Some 0 else None)))
 values_shown Module number =
     if number == 1 then Some 0 else (if number == 2 then Some 1 else (if number == 4 then Some 0 else (if number == 5 then Some 1 else (
-    if number == 6 then Some 0 else (if number == 7 then Some 0 else None)))))
+    if number == 6 then Some 0 else (if number == 7 then Some 0 else (if number == 8 then Some 0 else (if number == 9 then Some 0 else None)))))))
 values_shown Link number =
     if number == 1 then Some 2 else (if number == 2 then Some 4 else (if number == 3 then Some 1 else None))
 

@@ -1,4 +1,4 @@
--- The number of the first module of each last part, one module after the other.
+-- The number of the first module of each name, one module after the other.
 use Rattle.std.specs.Prelude.{bytes_eq, is_some}
 use Rattle.std.specs.List.{position_from}
 use Rattle.std.specs.Option.{option_or}
@@ -11,8 +11,7 @@ use Rattle.sf_modules.specs.declared.entry.Entry.{Entry}
 use Rattle.sf_modules.specs.declared.mapped.Module.{Module}
 use Rattle.sf_modules.specs.Entry.{entry_view}
 use Rattle.sf_modules.specs.Module.{ModuleView, module_view}
-use Rattle.sf_modules.specs.Name.{last_part}
-use Rattle.sf_modules.specs.Span.{number_with, span_of}
+use Rattle.sf_modules.specs.Span.{number_of, span_of}
 
 -- the first that passes, with one more behind
 position_more : {X : Type 0} (p : X → Bool) (first : ℕ) (old : List X) (x : X) → position_from p first (old ++ x ∷ []) ≡ option_or (position_from p first old) (cond (p x) (Some (first + length old)) None)
@@ -26,14 +25,14 @@ position_more p first (y ∷ ys) x =
     at_test true later = refl
     at_test false later = later
 
--- whether one more module answers to a last part
-one_more : (part : List ℕ) (old : List ModuleView) (m : ModuleView) (i : ℕ) (b : Bool) → i ≡ length old → bytes_eq part (last_part m.name) ≡ b
-    → number_with part (old ++ m ∷ []) ≡ option_or (number_with part old) (cond b (Some i) None)
-one_more part old m i b count e =
+-- whether one more module has a name
+one_more : (name : List ℕ) (old : List ModuleView) (m : ModuleView) (i : ℕ) (b : Bool) → i ≡ length old → bytes_eq name m.name ≡ b
+    → number_of name (old ++ m ∷ []) ≡ option_or (number_of name old) (cond b (Some i) None)
+one_more name old m i b count e =
     let at : 0 + length old ≡ i = omega (count, arith) in
-    position_more (λ (x : ModuleView). bytes_eq part (last_part x.name)) 0 old m
-    ∙ ap (λ (n : ℕ). option_or (number_with part old) (cond (bytes_eq part (last_part m.name)) (Some n) None)) at
-    ∙ ap (λ (t : Bool). option_or (number_with part old) (cond t (Some i) None)) e
+    position_more (λ (x : ModuleView). bytes_eq name x.name) 0 old m
+    ∙ ap (λ (n : ℕ). option_or (number_of name old) (cond (bytes_eq name m.name) (Some n) None)) at
+    ∙ ap (λ (t : Bool). option_or (number_of name old) (cond t (Some i) None)) e
 
 or_none : (o : Option ℕ) → option_or o None ≡ o
 or_none None = refl
@@ -56,29 +55,29 @@ same_bytes a b e = (bytes_eq-Decides a b).1 e
 other_bytes : (a b : List ℕ) → bytes_eq b a ≡ false → bytes_eq a b ≡ false
 other_bytes a b e = false_from_ne_true (bytes_eq a b) (λ t. let same = sym e ∙ same_bytes b a (sym (equal_bytes a b t)) in cc)
 
--- a module of a last part that was not there, where the map held the answers
-pub inserted : (part own : List ℕ) (old : List ModuleView) (m : ModuleView) (i : ℕ) (held : Option ℕ) → i ≡ length old → own ≡ last_part m.name → is_some (number_with own old) ≡ false
-    → held ≡ number_with part old → cond (bytes_eq own part) (Some i) held ≡ number_with part (old ++ m ∷ [])
-inserted part own old m i held count is none h = at_test (bytes_eq own part) refl
+-- a module of a name that was not there, where the map held the answers
+pub inserted : (name own : List ℕ) (old : List ModuleView) (m : ModuleView) (i : ℕ) (held : Option ℕ) → i ≡ length old → own ≡ m.name → is_some (number_of own old) ≡ false
+    → held ≡ number_of name old → cond (bytes_eq own name) (Some i) held ≡ number_of name (old ++ m ∷ [])
+inserted name own old m i held count is none h = at_test (bytes_eq own name) refl
   where
-    at_test : (b : Bool) → bytes_eq own part ≡ b → cond b (Some i) held ≡ number_with part (old ++ m ∷ [])
+    at_test : (b : Bool) → bytes_eq own name ≡ b → cond b (Some i) held ≡ number_of name (old ++ m ∷ [])
     at_test true e =
-        let same : part ≡ own = sym (equal_bytes own part e) in
-        let absent : number_with part old ≡ None = ap (λ (p : List ℕ). number_with p old) same ∙ none_is (number_with own old) none in
-        sym (one_more part old m i true count (same_bytes part (last_part m.name) (same ∙ is)) ∙ ap (λ (o : Option ℕ). option_or o (Some i)) absent)
+        let same : name ≡ own = sym (equal_bytes own name e) in
+        let absent : number_of name old ≡ None = ap (λ (p : List ℕ). number_of p old) same ∙ none_is (number_of own old) none in
+        sym (one_more name old m i true count (same_bytes name m.name (same ∙ is)) ∙ ap (λ (o : Option ℕ). option_or o (Some i)) absent)
     at_test false e =
-        let other : bytes_eq part (last_part m.name) ≡ false = subst (λ (p : List ℕ). bytes_eq part p ≡ false) is (other_bytes part own e) in
-        h ∙ sym (one_more part old m i false count other ∙ or_none (number_with part old))
+        let other : bytes_eq name m.name ≡ false = subst (λ (p : List ℕ). bytes_eq name p ≡ false) is (other_bytes name own e) in
+        h ∙ sym (one_more name old m i false count other ∙ or_none (number_of name old))
 
--- a module of a last part that was there
-pub passed_over : (part own : List ℕ) (old : List ModuleView) (m : ModuleView) → own ≡ last_part m.name → is_some (number_with own old) ≡ true → number_with part old ≡ number_with part (old ++ m ∷ [])
-passed_over part own old m is some = at_test (bytes_eq part (last_part m.name)) refl
+-- a module of a name that was there
+pub passed_over : (name own : List ℕ) (old : List ModuleView) (m : ModuleView) → own ≡ m.name → is_some (number_of own old) ≡ true → number_of name old ≡ number_of name (old ++ m ∷ [])
+passed_over name own old m is some = at_test (bytes_eq name m.name) refl
   where
-    at_test : (b : Bool) → bytes_eq part (last_part m.name) ≡ b → number_with part old ≡ number_with part (old ++ m ∷ [])
+    at_test : (b : Bool) → bytes_eq name m.name ≡ b → number_of name old ≡ number_of name (old ++ m ∷ [])
     at_test true e =
-        let same : part ≡ own = equal_bytes part (last_part m.name) e ∙ sym is in
-        sym (one_more part old m (length old) true refl e ∙ some_stays (number_with part old) (Some (length old)) (ap (λ (p : List ℕ). is_some (number_with p old)) same ∙ some))
-    at_test false e = sym (one_more part old m (length old) false refl e ∙ or_none (number_with part old))
+        let same : name ≡ own = equal_bytes name m.name e ∙ sym is in
+        sym (one_more name old m (length old) true refl e ∙ some_stays (number_of name old) (Some (length old)) (ap (λ (p : List ℕ). is_some (number_of p old)) same ∙ some))
+    at_test false e = sym (one_more name old m (length old) false refl e ∙ or_none (number_of name old))
 
 pub views_more : (modules : List Module) (i : ℕ) (m : Module) → i < length modules → m ≡ get_or modules i m → map module_view (take (i + 1) modules) ≡ map module_view (take i modules) ++ module_view m ∷ []
 views_more modules i m lt is =
@@ -91,7 +90,7 @@ views_count modules i lt = sym (length-map (take i modules) module_view ∙ leng
 -- one span more
 pub spans_more : (modules : List ModuleView) (entries : List Entry) (i : ℕ) (d : Entry) (spans new : List (Span (Option ℕ))) (size : ℕ) (number : Option ℕ) → i < length entries
     → new ≡ spans ++ record { start = (get_or entries i d).start; size = size; leads_to = number } ∷ [] → size ≡ (get_or entries i d).end - (get_or entries i d).start
-    → number ≡ number_with (last_part (get_or entries i d).name.now) modules → spans ≡ map (span_of modules) (map entry_view (take i entries)) → new ≡ map (span_of modules) (map entry_view (take (i + 1) entries))
+    → number ≡ number_of (get_or entries i d).name.now modules → spans ≡ map (span_of modules) (map entry_view (take i entries)) → new ≡ map (span_of modules) (map entry_view (take (i + 1) entries))
 spans_more modules entries i d spans new size number lt grown sized leads h =
     let e = get_or entries i d in
     grown ∙ ap (λ (ss : List (Span (Option ℕ))). ss ++ record { start = e.start; size = size; leads_to = number } ∷ []) h

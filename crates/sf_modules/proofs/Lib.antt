@@ -1,4 +1,6 @@
 pub mod Names
+pub mod Tails
+pub mod Placing
 pub mod Texts
 pub mod Scan
 pub mod Numbers

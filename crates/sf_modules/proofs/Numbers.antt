@@ -12,8 +12,7 @@ use Rattle.sf_lookup.specs.Span.{answer_of, covers}
 use Rattle.sf_modules.specs.Entry.{EntryView, holds}
 use Rattle.sf_modules.specs.Found.{found_in, module_at, module_of}
 use Rattle.sf_modules.specs.Module.{ModuleView}
-use Rattle.sf_modules.specs.Name.{last_part}
-use Rattle.sf_modules.specs.Span.{number_at, number_with, span_of}
+use Rattle.sf_modules.specs.Span.{number_at, number_of, span_of}
 use Rattle.sf_modules.specs.Union.{tables_of}
 
 -- ---- an entry's span has its addresses
@@ -38,7 +37,7 @@ led modules (e ∷ es) pc = at_test (covers pc (span_of modules e)) (holds pc e)
   where
     at_test : (a b : Bool) → a ≡ b → option_and_then (λ (o : Option ℕ). o) (answer_of (map (span_of modules) es) pc) ≡ number_at es modules pc
         → option_and_then (λ (o : Option ℕ). o) (option_map (λ (s : Span (Option ℕ)). s.leads_to) (cond a (Some (span_of modules e)) (find (covers pc) (map (span_of modules) es))))
-        ≡ option_and_then (λ (x : EntryView). number_with (last_part x.name) modules) (cond b (Some e) (find (holds pc) es))
+        ≡ option_and_then (λ (x : EntryView). number_of x.name modules) (cond b (Some e) (find (holds pc) es))
     at_test true true same later = refl
     at_test false false same later = later
     at_test true false same later = absurd (cc)
@@ -88,11 +87,11 @@ pub record IsNumbered (entries : List EntryView) (modules : List ModuleView) (pc
   pub within : k < length modules
   pub is : (d : ModuleView) → module_at entries modules pc ≡ Some (get_or modules k d)
 
-numbered_by : (modules : List ModuleView) (k : ℕ) (o : Option EntryView) → option_and_then (λ (e : EntryView). number_with (last_part e.name) modules) o ≡ Some k
+numbered_by : (modules : List ModuleView) (k : ℕ) (o : Option EntryView) → option_and_then (λ (e : EntryView). number_of e.name modules) o ≡ Some k
     → (k < length modules) × ((d : ModuleView) → option_and_then (λ (e : EntryView). module_of modules e.name) o ≡ Some (get_or modules k d))
 numbered_by modules k None e = absurd (let no : None ≡ Some k = e in cc)
 numbered_by modules k (Some entry) e =
-    let h = first_is (λ (m : ModuleView). bytes_eq (last_part entry.name) (last_part m.name)) 0 k modules e in
+    let h = first_is (λ (m : ModuleView). bytes_eq entry.name m.name) 0 k modules e in
     let whole : k - 0 ≡ k = omega arith in
     let within = h.within in
     (omega (within, whole, arith), λ d. h.is d ∙ ap (λ (n : ℕ). Some (get_or modules n d)) whole)
@@ -101,10 +100,10 @@ pub numbered : (entries : List EntryView) (modules : List ModuleView) (pc k : �
 unfolding module_at
 numbered entries modules pc k e = let h = numbered_by modules k (find (holds pc) entries) e in record { within = h.0; is = h.1 }
 
-unnumbered_by : (modules : List ModuleView) (o : Option EntryView) → option_and_then (λ (e : EntryView). number_with (last_part e.name) modules) o ≡ None
+unnumbered_by : (modules : List ModuleView) (o : Option EntryView) → option_and_then (λ (e : EntryView). number_of e.name modules) o ≡ None
     → option_and_then (λ (e : EntryView). module_of modules e.name) o ≡ None
 unnumbered_by modules None e = refl
-unnumbered_by modules (Some entry) e = none_passes (λ (m : ModuleView). bytes_eq (last_part entry.name) (last_part m.name)) 0 modules e
+unnumbered_by modules (Some entry) e = none_passes (λ (m : ModuleView). bytes_eq entry.name m.name) 0 modules e
 
 unnumbered : (entries : List EntryView) (modules : List ModuleView) (pc : ℕ) → number_at entries modules pc ≡ None → module_at entries modules pc ≡ None
 unfolding module_at

@@ -6,7 +6,7 @@ use Rattle.sf_model.specs.FaultShown.{FaultShown}
 use Rattle.sf_decode.specs.Fault as decode
 use Rattle.elf_read.specs.FaultShown.{shown_of_elf}
 use Rattle.sf_modules.specs.declared.fault.ModuleFault.{ModuleFault}
-use Rattle.sf_modules.specs.declared.fault.ModuleFault.TheVariants.{NoFileNote, FileNote, Elf, NoSection, Segments, NotMapped, Mapping, Section, NoMemory}
+use Rattle.sf_modules.specs.declared.fault.ModuleFault.TheVariants.{NoFileNote, FileNote, Elf, NoSection, Segments, NotMapped, Mapping, Ambiguous, Build, Section, NoMemory}
 
 -- a fault of the group's own
 abbrev pub shown_of_own : Option ℕ → (number : ℕ) → (values : List ℕ) → FaultShown
@@ -20,8 +20,10 @@ shown_of_module item NoSection = shown_of_own item 4 []
 shown_of_module item (Segments place) = shown_of_own item 5 (place ∷ [])
 shown_of_module item NotMapped = shown_of_own item 6 []
 shown_of_module item Mapping = shown_of_own item 7 []
+shown_of_module item Ambiguous = shown_of_own item 8 []
+shown_of_module item Build = shown_of_own item 9 []
 shown_of_module item (Section fault) = record { item = item; group = group.Section; number = (decode.number_and_place fault).0; values = (decode.number_and_place fault).1 ∷ [] }
-shown_of_module item NoMemory = shown_of_own item 9 []
+shown_of_module item NoMemory = shown_of_own item 10 []
 
 -- all but the limits of a section, and out of memory
 abbrev pub is_refusal : ModuleFault → Bool

@@ -1,5 +1,5 @@
 -- What a process's modules have at an address (Linux core files, NT_FILE; GNU SFrame specification, Version 2): the first entry that
--- holds it says which file is there, and the first module of that last part answers by its table.
+-- holds it says which file is there, and the first module of that name answers by its table.
 use Rattle.std.specs.Prelude.{ℕ, bytes_eq, List, Option}
 use Rattle.std.specs.List.{find}
 use Rattle.std.specs.Option.{option_and_then}
@@ -8,15 +8,10 @@ use Rattle.sf_model.specs.Memory.{Region}
 use Rattle.sf_model.specs.Walk.{Listing, LookUp, ThreadState, look_up_walk}
 use Rattle.sf_modules.specs.Entry.{EntryView, holds}
 use Rattle.sf_modules.specs.Module.{ModuleView}
-use Rattle.sf_modules.specs.Name.{last_part}
 
--- the first module whose name has this last part
-abbrev pub first_with : (part : List ℕ) → List ModuleView → Option ModuleView
-first_with part modules = find (λ (m : ModuleView). bytes_eq part (last_part m.name)) modules
-
--- the first module whose last part is that of a name
+-- the first module of a name
 abbrev pub module_of : List ModuleView → (name : List ℕ) → Option ModuleView
-module_of modules name = first_with (last_part name) modules
+module_of modules name = find (λ (m : ModuleView). bytes_eq name m.name) modules
 
 -- the module at an address
 unfoldable pub module_at : List EntryView → List ModuleView → (pc : ℕ) → Option ModuleView

@@ -2,7 +2,11 @@ pub mod Name
 pub mod Fault
 pub mod Entry
 pub mod Note
+pub mod Process
 pub mod File
+pub mod Fit
+pub mod Match
+pub mod Build
 pub mod Module
 pub mod Reading
 pub mod Found

@@ -1,6 +1,6 @@
 -- A module of a process: a file that was mapped, with the table of its SFrame section at the address at which it was (ELF64 gABI,
 -- "Program Header", "Base Address"; Linux core files, NT_FILE).
-use Rattle.std.specs.Prelude.{◌≡◌, ℕ, ◌+◌, ◌-◌, ◌%◌, ◌^◌, List, Some}
+use Rattle.std.specs.Prelude.{◌≡◌, ℕ, false, true, List, Some}
 use Rattle.sf_model.specs.declared.machine.Arch.{Arch}
 use Rattle.sf_model.specs.Section.{Section}
 use Rattle.sf_model.specs.Table.{Table}
@@ -8,10 +8,14 @@ use Rattle.sf_decode.specs.View.{table_of}
 use Rattle.elf_read.specs.Header.{arch_of, p_vaddr}
 use Rattle.elf_read.specs.Sections.{section_bytes, sh_addr}
 use Rattle.sf_modules.specs.declared.mapped.Module.{Module}
-use Rattle.sf_modules.specs.Entry.{EntryView, entry_of}
-use Rattle.sf_modules.specs.File.{first_load, page_floor, sframe_section}
+use Rattle.sf_modules.specs.Build.{is_same_build}
+use Rattle.sf_modules.specs.Entry.{EntryView}
+use Rattle.sf_modules.specs.File.{first_load, sframe_section}
+use Rattle.sf_modules.specs.Fit.{base_of, moved}
+use Rattle.sf_modules.specs.Match.{entry_of, is_ambiguous, is_candidate}
+use Rattle.sf_modules.specs.Process.{ProcessView}
 
--- a module's name, its file's machine, and what its section says
+-- the name that the process had for a module's file, the file's machine, and what its section says
 pub record ModuleView : Type 0 where
   pub name : List ℕ
   pub machine : Arch
@@ -20,22 +24,25 @@ pub record ModuleView : Type 0 where
 abbrev pub module_view : Module → ModuleView
 module_view m = record { name = m.name.now; machine = m.machine; table = table_of m.view }
 
--- how far up a file was mapped: from where the page of its first loaded segment's address begins to its entry's start
-abbrev pub base_of : (page : ℕ) → EntryView → (vaddr : ℕ) → ℕ
-base_of page entry vaddr = (entry.start + (2 ^ 64 - page_floor page vaddr)) % 2 ^ 64
+-- how far up a file was mapped, by the entry that is its
+abbrev pub file_base : List ℕ → (page : ℕ) → EntryView → (load : ℕ) → ℕ
+file_base file page entry load = base_of page entry (p_vaddr file load)
 
 -- where a section lay
 abbrev pub address_of : List ℕ → (page : ℕ) → EntryView → (load section : ℕ) → ℕ
-address_of file page entry load section = (sh_addr file section + base_of page entry (p_vaddr file load)) % 2 ^ 64
+address_of file page entry load section = moved (file_base file page entry load) (sh_addr file section)
 
--- this is the module of a file of this name
-pub record IsModule (name file : List ℕ) (page : ℕ) (entries : List EntryView) (m : ModuleView) : Type 0 where
+-- this is the module of a file, for which the word is given
+pub record IsModule (p : ProcessView) (word file : List ℕ) (m : ModuleView) : Type 0 where
   pub section : ℕ
   pub load : ℕ
   pub entry : EntryView
   pub section_is : sframe_section file ≡ Some section
   pub load_is : first_load file ≡ Some load
-  pub entry_is : entry_of name entries ≡ Some entry
-  pub name_is : m.name ≡ name
+  pub named : is_candidate word p.entries ≡ true
+  pub entry_is : entry_of p word file load ≡ Some entry
+  pub alone : is_ambiguous p word file load entry ≡ false
+  pub build : is_same_build p.core file (file_base file p.page entry load) ≡ true
+  pub name_is : m.name ≡ entry.name
   pub machine_is : m.machine ≡ arch_of file
-  pub table_is : Section (section_bytes file section) (address_of file page entry load section) m.table
+  pub table_is : Section (section_bytes file section) (address_of file p.page entry load section) m.table

@@ -1,12 +1,26 @@
--- The last part of a pathname (POSIX.1, "Pathname" and "Filename").
-use Rattle.std.specs.Prelude.{ℕ, ◌==◌, Bool, List, [], ◌∷◌, if◌then◌else◌}
-use Rattle.std.specs.List.{list_any}
+-- The parts of a pathname (POSIX.1, "Pathname" and "Filename"), and how many of them two names have in common at their ends.
+use Rattle.std.specs.Prelude.{ℕ, suc, ◌==◌, Bool, List, [], ◌∷◌, reverse, bytes_eq, if◌then◌else◌}
 
 -- the slash
 abbrev pub is_slash : ℕ → Bool
 is_slash byte = byte == 47
 
--- what is after the last slash of a name, or all of it
-unfoldable pub last_part : List ℕ → List ℕ
-last_part [] = []
-last_part (byte ∷ bytes) = if list_any is_slash bytes then last_part bytes else (if is_slash byte then bytes else byte ∷ bytes)
+-- parts whose first one has a byte more at its front
+abbrev pub longer_first : (byte : ℕ) → List (List ℕ) → List (List ℕ)
+longer_first byte [] = (byte ∷ []) ∷ []
+longer_first byte (part ∷ parts) = (byte ∷ part) ∷ parts
+
+-- the parts of a name: it is split at each slash, and none is left out
+unfoldable pub parts_of : List ℕ → List (List ℕ)
+parts_of [] = [] ∷ []
+parts_of (byte ∷ bytes) = if is_slash byte then [] ∷ parts_of bytes else longer_first byte (parts_of bytes)
+
+-- how many parts two lists have in common, from the first on
+unfoldable pub shared : List (List ℕ) → List (List ℕ) → ℕ
+shared [] others = 0
+shared (part ∷ parts) [] = 0
+shared (part ∷ parts) (other ∷ others) = if bytes_eq part other then suc (shared parts others) else 0
+
+-- how many parts two names have in common, from the last on: the names are read backwards
+unfoldable pub common_tail : (name other : List ℕ) → ℕ
+common_tail name other = shared (parts_of (reverse name)) (parts_of (reverse other))

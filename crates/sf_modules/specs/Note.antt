@@ -1,7 +1,7 @@
 -- The note on mapped files (Linux core files, NT_FILE): two numbers of eight bytes, how many entries there are and the page size;
 -- for each entry three numbers of eight bytes, its start, its end and its offset in the file in pages; and then for each entry its
 -- name, which a zero byte ends.
-use Rattle.std.specs.Prelude.{◌≡◌, ℕ, zero, suc, ◌+◌, ◌*◌, ◌^◌, ◌==◌, Bool, ◌&&◌, nat_le, nat_lt, List, [], ◌∷◌, length, map, take, drop, Option, Some, None, Err, is_some}
+use Rattle.std.specs.Prelude.{◌≡◌, ℕ, zero, suc, ◌+◌, ◌-◌, ◌*◌, ◌^◌, ◌==◌, Bool, ◌&&◌, nat_le, nat_lt, bytes_eq, List, [], ◌∷◌, length, map, take, drop, Option, Some, None, Err, is_some, if◌then◌else◌}
 use Rattle.std.specs.Int.{is_power_of_two}
 use Rattle.std.specs.List.{enumerate_from, find, position}
 use Rattle.std.specs.Option.{option_and_then, option_map}
@@ -49,12 +49,20 @@ texts_in zero bytes = Some []
 texts_in (suc n) bytes = option_and_then (λ (t : List ℕ × List ℕ). option_map (λ (texts : List (List ℕ)). t.0 ∷ texts) (texts_in n t.1)) (text_front bytes)
 
 -- ---- the entries
-abbrev pub entry_at : List ℕ → (k : ℕ) → (name : List ℕ) → EntryView
-entry_at note k name = record { start = start_of note k; end = end_of note k; offset = pages_of note k * page_size note; name = name }
+-- " (deleted)", which Linux adds to the name of a file that is no longer there
+abbrev pub deleted_text : List ℕ
+deleted_text = 32 ∷ 40 ∷ 100 ∷ 101 ∷ 108 ∷ 101 ∷ 116 ∷ 101 ∷ 100 ∷ 41 ∷ []
 
--- those of these names, which are numbered from this number on
-abbrev pub entries_from : List ℕ → (number : ℕ) → (names : List (List ℕ)) → List EntryView
-entries_from note number names = map (λ (e : ℕ × List ℕ). entry_at note e.0 e.1) (enumerate_from number names)
+-- a name without that, which is taken off once
+unfoldable pub pathname_in : List ℕ → List ℕ
+pathname_in text = if bytes_eq (drop (length text - 10) text) deleted_text then take (length text - 10) text else text
+
+abbrev pub entry_at : List ℕ → (k : ℕ) → (text : List ℕ) → EntryView
+entry_at note k text = record { start = start_of note k; end = end_of note k; offset = pages_of note k * page_size note; name = pathname_in text }
+
+-- those of these texts, which are numbered from this number on
+abbrev pub entries_from : List ℕ → (number : ℕ) → (texts : List (List ℕ)) → List EntryView
+entries_from note number texts = map (λ (e : ℕ × List ℕ). entry_at note e.0 e.1) (enumerate_from number texts)
 
 -- the descriptor of the first note on mapped files, with its place
 abbrev pub file_note_in : List NoteView → Option Cursor

@@ -1,19 +1,22 @@
 -- The checks of a module's file, in their order (ELF64 gABI; Linux core files, NT_FILE; GNU SFrame specification, Version 2).
-use Rattle.std.specs.Prelude.{ℕ, ◌==◌, not, List, Option, Some, None, Result, Ok, Err, is_some}
+use Rattle.std.specs.Prelude.{ℕ, not, List, Option, Some, None, Result, Ok, Err, is_some}
 use Rattle.elf_read.specs.declared.fault.ElfFault.{ElfFault}
 use Rattle.elf_read.specs.declared.fault.ElfFault.TheVariants as elf
 use Rattle.elf_read.specs.Checking.{unless, ◌>>◌}
 use Rattle.elf_read.specs.Checks.{program_headers_check}
-use Rattle.elf_read.specs.Header.{kind_of, p_offset}
+use Rattle.elf_read.specs.Header.{kind_of}
 use Rattle.elf_read.specs.Parsing.{file_check}
 use Rattle.elf_read.specs.Sections.{is_compressed, section_bytes, section_header}
 use Rattle.sf_decode.specs.declared.fault.DecodeFault.{DecodeFault}
 use Rattle.sf_decode.specs.Decoding.{section_check}
-use Rattle.sf_modules.specs.declared.fault.ModuleFault.TheVariants.{Elf, NoSection, Segments, NotMapped, Mapping, Section}
-use Rattle.sf_modules.specs.Entry.{EntryView, entry_of}
+use Rattle.sf_modules.specs.declared.fault.ModuleFault.TheVariants.{Elf, NoSection, Segments, NotMapped, Mapping, Ambiguous, Build, Section}
+use Rattle.sf_modules.specs.Build.{is_same_build}
+use Rattle.sf_modules.specs.Entry.{EntryView}
 use Rattle.sf_modules.specs.Fault.{Check}
-use Rattle.sf_modules.specs.File.{first_load, is_program, page_floor, sframe_section}
-use Rattle.sf_modules.specs.Module.{address_of}
+use Rattle.sf_modules.specs.File.{first_load, is_program, sframe_section}
+use Rattle.sf_modules.specs.Match.{entry_of, is_ambiguous, is_candidate}
+use Rattle.sf_modules.specs.Module.{address_of, file_base}
+use Rattle.sf_modules.specs.Process.{ProcessView}
 
 -- an ELF file without faults
 abbrev pub elf_part : Result (Unit {0}) ElfFault → Check
@@ -39,31 +42,41 @@ headers_part (Err fault) = Err (Segments 32)
 abbrev pub segments_part : List ℕ → Check
 segments_part file = headers_part (program_headers_check file) >> unless (is_some (first_load file)) (Segments 56)
 
--- it was mapped
-abbrev pub entry_part : (name : List ℕ) → List EntryView → Check
-entry_part name entries = unless (is_some (entry_of name entries)) NotMapped
+-- an entry has its last part; it fits at a nearest one, and at those of one name alone
+abbrev pub match_part : ProcessView → (word file : List ℕ) → (load : ℕ) → Option EntryView → Check
+match_part p word file load None = Err Mapping
+match_part p word file load (Some entry) = unless (not (is_ambiguous p word file load entry)) Ambiguous
 
--- and from the page on at which its first loaded segment begins
-abbrev pub mapping_part : List ℕ → (page : ℕ) → Option EntryView → (load : Option ℕ) → Check
-mapping_part file page (Some entry) (Some load) = unless (entry.offset == page_floor page (p_offset file load)) Mapping
-mapping_part file page entry load = Ok tt
+unfoldable pub nearest_part : ProcessView → (word file : List ℕ) → (load : ℕ) → Check
+nearest_part p word file load = unless (is_candidate word p.entries) NotMapped >> match_part p word file load (entry_of p word file load)
+
+-- it is the build that the process had
+abbrev pub build_part : ProcessView → (file : List ℕ) → (load : ℕ) → EntryView → Check
+build_part p file load entry = unless (is_same_build p.core file (file_base file p.page entry load)) Build
 
 -- its section has no fault, at the address at which it lay
 abbrev pub decode_part : Result (Unit {0}) DecodeFault → Check
 decode_part (Ok x) = Ok tt
 decode_part (Err fault) = Err (Section fault)
 
-abbrev pub table_part : List ℕ → (page : ℕ) → Option EntryView → (load section : Option ℕ) → Check
-table_part file page (Some entry) (Some load) (Some section) = decode_part (section_check (section_bytes file section) (address_of file page entry load section))
-table_part file page entry load section = Ok tt
+abbrev pub table_part : List ℕ → (page : ℕ) → EntryView → (load section : ℕ) → Check
+table_part file page entry load section = decode_part (section_check (section_bytes file section) (address_of file page entry load section))
+
+-- its build and its section, at the entry that is its
+abbrev pub entry_part : ProcessView → (file : List ℕ) → (load section : ℕ) → Option EntryView → Check
+entry_part p file load section None = Ok tt
+entry_part p file load section (Some entry) = build_part p file load entry >> table_part file p.page entry load section
+
+-- all that is asked of it in the process
+abbrev pub process_part : ProcessView → (word file : List ℕ) → (load section : Option ℕ) → Check
+process_part p word file (Some load) (Some section) = nearest_part p word file load >> entry_part p file load section (entry_of p word file load)
+process_part p word file load section = Ok tt
 
 -- all checks: the first that fails is the file's fault
-unfoldable pub module_check : (name file : List ℕ) → (page : ℕ) → List EntryView → Check
-module_check name file page entries =
+unfoldable pub module_check : ProcessView → (word file : List ℕ) → Check
+module_check p word file =
     elf_part (file_check file)
     >> kind_part file
     >> section_part file (sframe_section file)
     >> segments_part file
-    >> entry_part name entries
-    >> mapping_part file page (entry_of name entries) (first_load file)
-    >> table_part file page (entry_of name entries) (first_load file) (sframe_section file)
+    >> process_part p word file (first_load file) (sframe_section file)

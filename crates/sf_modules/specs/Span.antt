@@ -5,16 +5,15 @@ use Rattle.std.specs.Option.{option_and_then}
 use Rattle.sf_lookup.specs.declared.span.Span.{Span}
 use Rattle.sf_modules.specs.Entry.{EntryView, holds}
 use Rattle.sf_modules.specs.Module.{ModuleView}
-use Rattle.sf_modules.specs.Name.{last_part}
 
--- the number of the first module whose name has this last part
-abbrev pub number_with : (part : List ℕ) → List ModuleView → Option ℕ
-number_with part modules = position_from (λ (m : ModuleView). bytes_eq part (last_part m.name)) 0 modules
+-- the number of the first module of a name
+abbrev pub number_of : (name : List ℕ) → List ModuleView → Option ℕ
+number_of name modules = position_from (λ (m : ModuleView). bytes_eq name m.name) 0 modules
 
 -- the addresses of an entry, and the number of the module that it names
 abbrev pub span_of : List ModuleView → EntryView → Span (Option ℕ)
-span_of modules e = record { start = e.start; size = e.end - e.start; leads_to = number_with (last_part e.name) modules }
+span_of modules e = record { start = e.start; size = e.end - e.start; leads_to = number_of e.name modules }
 
 -- the number of the module at an address
 abbrev pub number_at : List EntryView → List ModuleView → (pc : ℕ) → Option ℕ
-number_at entries modules pc = option_and_then (λ (e : EntryView). number_with (last_part e.name) modules) (find (holds pc) entries)
+number_at entries modules pc = option_and_then (λ (e : EntryView). number_of e.name modules) (find (holds pc) entries)

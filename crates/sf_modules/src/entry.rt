@@ -1,12 +1,9 @@
 //! The files that a process had mapped.
 
 ghost use Rattle.std.specs.Prelude.{◌≡◌, map};
-ghost use Rattle.std.specs.List.{find};
-ghost use Rattle.std.specs.Option.{option_map};
+ghost use Rattle.std.specs.List.{list_any};
 ghost use Rattle.sf_modules.specs.Entry as spec;
 ghost use Rattle.sf_modules.specs.Entry.{entry_view};
-
-use crate::name::same_last_part;
 
 /// An entry of the note on mapped files: the addresses from `start` up to `end` are those of a file's bytes from `offset`
 /// on.
@@ -18,22 +15,32 @@ pub struct Entry<'a> {
     pub end: u64,
     /// The place in the file, in bytes.
     pub offset: u64,
-    /// The file's pathname.
+    /// The file's pathname, without the ` (deleted)` of a file that is no longer there.
     pub name: &'a [u8],
 }
 
-// The same by the fields of entries.
-fn first_named<'e, 'a>(name: &[u8], entries: &'e [Entry<'a>]) -> Option<&'e Entry<'a>>
-    ensures { option_map (λ e. e.now) result ≡ find (λ e. spec.same_last_part name.now e.name.now) entries.now }
+// Whether an entry has this place of the file of this name at the address.
+fn maps(entry: &Entry<'_>, name: &[u8], address: u64, place: u64) -> bool
+    ensures { result ≡ spec.maps name.now address place (entry_view entry.now) }
+{
+    entry.start <= address
+        && address < entry.end
+        && u128::from(entry.offset) + u128::from(address - entry.start) == u128::from(place)
+        && entry.name == name
+}
+
+// Whether one of the entries does, by their fields.
+fn any_by_fields(entries: &[Entry<'_>], name: &[u8], address: u64, place: u64) -> bool
+    ensures { result ≡ list_any (λ e. spec.maps name.now address place (entry_view e)) entries.now }
 {
     entries
         .iter()
-        .find(|entry| same_last_part(name, entry.name))
+        .any(|entry| maps(entry, name, address, place))
 }
 
-/// The first entry whose last part is that of a name.
-pub fn entry_of<'e, 'a>(name: &[u8], entries: &'e [Entry<'a>]) -> Option<&'e Entry<'a>>
-    ensures { option_map (λ e. entry_view e.now) result ≡ spec.entry_of name.now (map entry_view entries.now) }
+/// Whether one of the entries has this place of the file of this name at the address.
+pub fn any_maps(entries: &[Entry<'_>], name: &[u8], address: u64, place: u64) -> bool
+    ensures { result ≡ list_any (spec.maps name.now address place) (map entry_view entries.now) }
 {
-    first_named(name, entries)
+    any_by_fields(entries, name, address, place)
 }

@@ -20,8 +20,12 @@ pub enum ModuleFault {
     Segments(u64),
     /// The process had no file of this name.
     NotMapped,
-    /// The file was mapped first from another place than where its first loaded segment begins.
+    /// The file doesn't fit where the process had the files of the nearest names.
     Mapping,
+    /// The file fits where the process had files of two names, equally near.
+    Ambiguous,
+    /// The file is another build than the one that the process had.
+    Build,
     /// The file's SFrame section is refused.
     Section(DecodeFault),
     /// Out of memory.

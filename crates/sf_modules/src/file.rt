@@ -92,14 +92,30 @@ fn first_load(elf: &Elf<'_>, count: u32) -> Option<u32>
     None
 }
 
-/// The number of the program header of a file's first loaded segment.
-pub fn load_of(elf: &Elf<'_>) -> Result<u32, ModuleFault>
+/// A file whose program headers can be read.
+#[derive(Clone, Copy)]
+pub struct Program<'f> {
+    pub elf: Elf<'f>,
+    /// How many program headers it has.
+    pub count: u32,
+    /// The number of that of its first loaded segment.
+    pub load: u32,
+    ghost counted: { count ≡ segment_total (file elf) },
+}
+
+/// The program headers of a file.
+pub fn program_of<'f>(elf: &Elf<'f>) -> Result<Program<'f>, ModuleFault>
     ensures check { verdict result ≡ segments_part (file elf.now) }
-    ensures value { IfOk result (λ i. spec.first_load (file elf.now) ≡ Some i) }
+    ensures file { IfOk result (λ p. file p.elf ≡ file elf.now) }
+    ensures load { IfOk result (λ p. spec.first_load (file elf.now) ≡ Some p.load) }
 {
     let count = header_count(elf)?;
     match first_load(elf, count) {
-        Some(i) => Ok(i),
+        Some(load) => Ok(Program {
+            elf: *elf,
+            count,
+            load,
+        }),
         None => Err(ModuleFault::Segments(E_PHNUM)),
     }
 }

@@ -6,6 +6,14 @@ pub const SFRAME: &[u8] = b".sframe";
 /// PT_LOAD.
 pub const PT_LOAD: u32 = 1;
 
+/// NT_GNU_BUILD_ID, and the name of such a note, with its zero byte.
+pub const NT_GNU_BUILD_ID: u32 = 3;
+
+pub const GNU: &[u8] = b"GNU\0";
+
+/// What Linux adds to the name of a mapped file that is no longer there.
+pub const DELETED: &[u8] = b" (deleted)";
+
 /// The note on mapped files: the bytes before its entries, and those of an entry.
 pub const FILE_NOTE_HEADER_LEN: u64 = 16;
 

@@ -1,13 +1,13 @@
 //! The modules of a process: the executables and shared objects that it had mapped, each with its SFrame section, and
 //! walks by them (Linux core files, NT_FILE; ELF64 gABI, "Program Header").
 //!
-//! [`entries`] reads the note on mapped files of a core file. [`read_module`] finds a file among its entries by the last
-//! part of its name, and reads its SFrame section at the address at which it was. [`Modules::new`] puts entries and
-//! modules in order, once for all threads, and [`Modules::walk`] lists a thread's frames; [`walk_modules`] is both for one
-//! thread.
+//! [`entries`] reads the note on mapped files of a core file. [`read_module`] finds a file among its entries by its name
+//! (`specs/Match.antt`), by where its segments were (`specs/Fit.antt`) and by its build identifier (`specs/Build.antt`), and
+//! reads its SFrame section at the address at which it was. [`Modules::new`] puts entries and modules in order, once for
+//! all threads, and [`Modules::walk`] lists a thread's frames; [`walk_modules`] is both for one thread.
 //!
 //! The meaning is a list of entries and a list of modules: at an address the first entry that holds it says which file is
-//! there, and the first module of that last part answers by its own table (`found_in` of `specs/Found.antt`). A walk is
+//! there, and the first module of that name answers by its own table (`found_in` of `specs/Found.antt`). A walk is
 //! `look_up_walk` of `sf_model` over that. [`modules_answer_as_their_union`] is a law: where each address of a function
 //! leads to the function's own module, it is the answer of one table that has the functions of all.
 //!
@@ -17,17 +17,21 @@
 //! searches by halves.
 #![tactic(auto)]
 
+mod build;
+mod by_name;
 mod entry;
 mod fault;
 mod file;
+mod fit;
 mod laws;
 mod layout;
 mod mapped;
 mod modules;
 mod name;
+mod nearest;
 mod note;
 mod notice;
-mod parts;
+mod process;
 mod spans;
 
 pub use entry::Entry;
@@ -36,3 +40,4 @@ pub use laws::modules_answer_as_their_union;
 pub use mapped::{Module, read_module};
 pub use modules::{Modules, walk_modules};
 pub use note::entries;
+pub use process::Process;

@@ -1,102 +1,108 @@
 //! A file that a process had mapped, with its SFrame section.
 
-ghost use Rattle.std.specs.Prelude.{◌≡◌, ◌+◌, ◌<◌, ◌^◌, ◌%◌, IfOk, Some, length, map};
-ghost use Rattle.elf_read.specs.Header.{p_offset, p_vaddr};
-ghost use Rattle.elf_read.specs.Sections.{section_bytes, sh_addr};
+ghost use Rattle.std.specs.Prelude.{◌≡◌, ◌<◌, ◌^◌, IfOk, length};
 ghost use Rattle.elf_read.specs.Views.{file};
 ghost use Rattle.sf_modules.specs.Entry.{entry_view};
-ghost use Rattle.sf_modules.specs.Entry as entries_spec;
 ghost use Rattle.sf_modules.specs.Fault.{verdict};
-ghost use Rattle.sf_modules.specs.Module.{IsModule, address_of, base_of, module_view};
-ghost use Rattle.sf_modules.specs.Reading.{entry_part, mapping_part, module_check};
+ghost use Rattle.sf_modules.specs.Module as spec;
+ghost use Rattle.sf_modules.specs.Module.{IsModule, module_view};
+ghost use Rattle.sf_modules.specs.Process.{process_view};
+ghost use Rattle.sf_modules.specs.Reading.{build_part, module_check};
 
-use crate::entry::{Entry, entry_of};
+use crate::build::is_same_build;
+use crate::entry::Entry;
 use crate::fault::ModuleFault;
-use crate::file::{check_kind, load_of, page_floor, section_of};
-use elf_read::{Elf, Segment};
+use crate::file::{Program, check_kind, program_of, section_of};
+use crate::fit::base_of;
+use crate::nearest::entry_of;
+use crate::process::Process;
+use elf_read::Elf;
 use sf_decode::View;
 use sf_model::Arch;
 
 /// A module of a process: an executable or a shared object, with its SFrame section at the address at which it was
 /// mapped.
 #[derive(Clone, Copy, Debug)]
-pub struct Module<'n, 'a> {
-    /// The file's name. Its last part is that of the pathname by which the process had it.
-    pub name: &'n [u8],
+pub struct Module<'c, 'a> {
+    /// The pathname by which the process had the file, which the core file lends.
+    pub name: &'c [u8],
     /// For which machine the file is.
     pub machine: Arch,
     /// The section, which lends the file's bytes.
     pub view: View<'a>,
 }
 
-// The entry of a file.
-fn mapped<'e, 'a>(name: &[u8], entries: &'e [Entry<'a>]) -> Result<&'e Entry<'a>, ModuleFault>
-    ensures check { verdict result ≡ entry_part name.now (map entry_view entries.now) }
-    ensures value { IfOk result (λ e. entries_spec.entry_of name.now (map entry_view entries.now) ≡ Some (entry_view e.now)) }
+// How far up a program was mapped.
+fn file_base(page: u64, program: &Program<'_>, entry: &Entry<'_>) -> u64
+    requires { 0 < page }
+    ensures { result ≡ spec.file_base (file program.now.elf) page (entry_view entry.now) program.now.load }
 {
-    match entry_of(name, entries) {
-        Some(entry) => Ok(entry),
-        None => Err(ModuleFault::NotMapped),
-    }
+    base_of(page, entry, program.elf.segment(program.load).vaddr)
 }
 
-// The first loaded segment is at the front of the entry.
-fn check_mapping(elf: &Elf<'_>, page: u64, entry: &Entry<'_>, load: u32) -> Result<(), ModuleFault>
-    requires { 0 < page }
-    ensures { result ≡ mapping_part (file elf.now) page (Some (entry_view entry.now)) (Some load) }
+// Whether it is the build that the process had.
+fn check_build(
+    process: &Process<'_>,
+    program: &Program<'_>,
+    entry: &Entry<'_>,
+) -> Result<(), ModuleFault>
+    requires { length (file program.now.elf) < 2 ^ 32 }
+    ensures { result ≡ build_part (process_view process.now) (file program.now.elf) program.now.load (entry_view entry.now) }
 {
-    if entry.offset == page_floor(page, elf.segment(load).place) {
+    if is_same_build(
+        &process.core,
+        program,
+        file_base(process.page, program, entry),
+    ) {
         Ok(())
     } else {
-        Err(ModuleFault::Mapping)
+        Err(ModuleFault::Build)
     }
 }
 
 // Where a section lay.
-fn address_of(elf: &Elf<'_>, page: u64, entry: &Entry<'_>, load: u32, section: u32) -> u64
+fn address_of(page: u64, program: &Program<'_>, entry: &Entry<'_>, section: u32) -> u64
     requires { 0 < page }
-    ensures { result ≡ address_of (file elf.now) page (entry_view entry.now) load section }
+    ensures { result ≡ spec.address_of (file program.now.elf) page (entry_view entry.now) program.now.load section }
 {
-    let base = entry
-        .start
-        .wrapping_sub(page_floor(page, elf.segment(load).vaddr));
-    elf.section(section).addr.wrapping_add(base)
+    file_base(page, program, entry).wrapping_add(program.elf.section(section).addr)
 }
 
-/// The module of a file of this name: the first entry of the same last part says where its first loaded segment was, and
-/// so where its SFrame section was. The section is the first of the name `.sframe` that is loaded and is in the file.
+/// The module of a file for which this word is given. Of the process's entries whose names have most parts in common with
+/// the word, from the last part on, the first at which the file fits says where its first loaded segment was, and so where
+/// its SFrame section was. The section is the first of the name `.sframe` that is loaded and is in the file.
 ///
 /// # Errors
 ///
 /// The first of these: `Elf` where the ELF file is refused, or is no executable or shared object; `NoSection`; `Elf` where
 /// the section is compressed; `Segments` where the program headers don't have the format's length, don't lie in the file
-/// or are of no loaded segment; `NotMapped`; `Mapping`; `Section` where the section is refused.
+/// or are of no loaded segment; `NotMapped` where no entry's name has the word's last part; `Mapping` where the file fits
+/// at none of the nearest; `Ambiguous` where it fits at two of different names; `Build` where the core file has another
+/// build identifier; `Section` where the section is refused.
 #[tactic(auto, unfolding(crate::specs::Reading::module_check))]
-pub fn read_module<'n, 'a>(
-    name: &'n [u8],
+pub fn read_module<'p, 'a>(
+    process: &Process<'p>,
+    word: &[u8],
     bytes: &'a [u8],
-    page: u64,
-    entries: &[Entry<'_>],
-) -> Result<Module<'n, 'a>, ModuleFault>
-    requires page { 0 < page }
-    requires small { length bytes.now < 2 ^ 32 }
+) -> Result<Module<'p, 'a>, ModuleFault>
+    requires { length bytes.now < 2 ^ 32 }
     // What was read is the module of the file.
-    ensures sound { IfOk result (λ m. IsModule name.now bytes.now page (map entry_view entries.now) (module_view m)) }
+    ensures sound { IfOk result (λ m. IsModule (process_view process.now) word.now bytes.now (module_view m)) }
     // It is read exactly where no check fails; else the fault is that of the first that does.
-    ensures exact { verdict result ≡ module_check name.now bytes.now page (map entry_view entries.now) }
+    ensures exact { verdict result ≡ module_check (process_view process.now) word.now bytes.now }
 {
     let elf = Elf::parse(bytes)?;
     check_kind(&elf)?;
     let section = section_of(&elf)?;
-    let load = load_of(&elf)?;
-    let entry = mapped(name, entries)?;
-    check_mapping(&elf, page, entry, load)?;
+    let program = program_of(&elf)?;
+    let entry = entry_of(process, word, &program)?;
+    check_build(process, &program, entry)?;
     let view = View::parse(
         elf.bytes(section),
-        address_of(&elf, page, entry, load, section),
+        address_of(process.page, &program, entry, section),
     )?;
     Ok(Module {
-        name,
+        name: entry.name,
         machine: elf.arch(),
         view,
     })

@@ -1,24 +1,45 @@
-//! The last part of a pathname.
+//! The parts of pathnames.
 
-ghost use Rattle.std.specs.Prelude.{◌≡◌};
-ghost use Rattle.sf_modules.specs.Entry.{same_last_part};
+ghost use Rattle.std.specs.Prelude.{◌≡◌, ◌-◌, true, length, slice_get};
+ghost use Rattle.std.specs.Option.{option_map_or};
 ghost use Rattle.sf_modules.specs.Name as spec;
 
-/// What is after the last slash of a name, or all of it.
-pub fn last_part(name: &[u8]) -> &[u8]
-    ensures { result.now ≡ spec.last_part name.now }
+// Whether a part begins after these bytes: there are none, or the last is a slash.
+fn ends_part(bytes: &[u8]) -> bool
+    ensures { result ≡ option_map_or spec.is_slash (slice_get bytes.now (length bytes.now - 1)) true }
 {
-    let mut start = name.len();
-    while start > 0 && name[start - 1] != b'/' {
-        start -= 1;
+    match bytes.last() {
+        Some(byte) => *byte == b'/',
+        None => true,
     }
-    let (_, part) = name.split_at(start);
-    part
 }
 
-/// Whether two names have the same last part.
-pub fn same_last_part(name: &[u8], other: &[u8]) -> bool
-    ensures { result ≡ same_last_part name.now other.now }
+/// How many parts two names have in common, from the last on.
+pub fn common_tail(name: &[u8], other: &[u8]) -> u128
+    ensures { result ≡ spec.common_tail name.now other.now }
 {
-    last_part(name) == last_part(other)
+    let mut parts = 0;
+    // The names before the bytes that they have in common.
+    let mut rest = name;
+    let mut others = other;
+    for passed in 0..name.len() {
+        let Some((byte, front)) = rest.split_last() else {
+            break;
+        };
+        let Some((other_byte, other_front)) = others.split_last() else {
+            break;
+        };
+        if *byte != *other_byte {
+            break;
+        }
+        if *byte == b'/' {
+            parts += 1;
+        }
+        rest = front;
+        others = other_front;
+    }
+    if ends_part(rest) && ends_part(others) {
+        parts += 1;
+    }
+    parts
 }

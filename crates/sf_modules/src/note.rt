@@ -13,7 +13,8 @@ ghost use Rattle.sf_modules.specs.Note as spec;
 use crate::entry::Entry;
 use crate::fault::ModuleFault;
 use crate::layout::{
-    FILE_COUNT, FILE_END, FILE_ENTRY_LEN, FILE_NOTE_HEADER_LEN, FILE_OFFSET, FILE_PAGE_SIZE,
+    DELETED, FILE_COUNT, FILE_END, FILE_ENTRY_LEN, FILE_NOTE_HEADER_LEN, FILE_OFFSET,
+    FILE_PAGE_SIZE,
 };
 use core_notes::Core;
 use elf_read::u64_at;
@@ -97,18 +98,27 @@ fn read_header(note: &Part<'_>) -> Result<Header, ModuleFault>
     Ok(Header { count, page })
 }
 
-// The entry of a number, of this name.
+// A name without the ` (deleted)` at its end.
+#[tactic(auto, unfolding(crate::specs::Note::pathname_in))]
+fn pathname_in(text: &[u8]) -> &[u8]
+    ensures { result.now ≡ spec.pathname_in text.now }
+{
+    let (name, end) = text.split_at(text.len().saturating_sub(DELETED.len()));
+    if end == DELETED { name } else { text }
+}
+
+// The entry of a number, of the name in this text.
 #[tactic(auto, unfolding(crate::specs::Note::entry_check))]
 fn entry_at<'a>(
     note: &Part<'_>,
     k: u64,
     page: u64,
-    name: &'a [u8],
+    text: &'a [u8],
 ) -> Result<Entry<'a>, ModuleFault>
     requires within { 24 * k + 40 ≤ length note.now.bytes.now }
     requires page { page ≡ spec.page_size note.now.bytes.now }
     ensures check { verdict result ≡ spec.entry_check (cursor note.now) k }
-    ensures value { IfOk result (λ e. entry_view e ≡ spec.entry_at note.now.bytes.now k name.now) }
+    ensures value { IfOk result (λ e. entry_view e ≡ spec.entry_at note.now.bytes.now k text.now) }
 {
     let place = FILE_ENTRY_LEN * k + FILE_NOTE_HEADER_LEN;
     let start = u64_at(note.bytes, place);
@@ -119,7 +129,7 @@ fn entry_at<'a>(
             start,
             end,
             offset,
-            name,
+            name: pathname_in(text),
         }),
         _ => Err(ModuleFault::FileNote(note.place + place)),
     }
@@ -141,11 +151,11 @@ fn take_entries<'a>(
     let mut entries = Vec::new(alloc);
     let mut rest = names_part(note.bytes, header.count);
     for k in 0..header.count {
-        let (name, later) = match text_front(rest) {
-            Some(text) => text,
+        let (text, later) = match text_front(rest) {
+            Some(front) => front,
             None => unreachable!(),
         };
-        let entry = entry_at(note, k, header.page, name)?;
+        let entry = entry_at(note, k, header.page, text)?;
         entries.push(entry)?;
         rest = later;
     }

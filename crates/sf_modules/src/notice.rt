@@ -24,6 +24,8 @@ impl ModuleFault {
             ModuleFault::Segments(place) => Notice::with_value(item, Group::Module, 5, place),
             ModuleFault::NotMapped => Notice::new(item, Group::Module, 6),
             ModuleFault::Mapping => Notice::new(item, Group::Module, 7),
+            ModuleFault::Ambiguous => Notice::new(item, Group::Module, 8),
+            ModuleFault::Build => Notice::new(item, Group::Module, 9),
             ModuleFault::Section(fault) => fault.notice(item),
             ModuleFault::NoMemory => unreachable!(),
         }

@@ -5,10 +5,9 @@ ghost use Rattle.sf_modules.specs.Entry.{entry_view};
 ghost use Rattle.sf_modules.specs.Module.{module_view};
 ghost use Rattle.sf_modules.specs.Span as spec;
 
+use crate::by_name::numbers_by_name;
 use crate::entry::Entry;
 use crate::mapped::Module;
-use crate::name::last_part;
-use crate::parts::by_last_part;
 use sf_base::NoMemory;
 use sf_lookup::Span;
 use std::alloc::Global;
@@ -21,10 +20,10 @@ pub fn spans_of(
 ) -> Result<Vec<Span<Option<usize>>>, NoMemory>
     ensures { IfOk result (λ spans. spans.items ≡ map (spec.span_of (map module_view modules.now)) (map entry_view entries.now)) }
 {
-    let parts = by_last_part(alloc, modules)?;
+    let numbers = numbers_by_name(alloc, modules)?;
     let mut spans = Vec::new(alloc);
     for entry in entries {
-        let leads_to = parts.get(last_part(entry.name)).copied();
+        let leads_to = numbers.get(entry.name).copied();
         spans.push(Span {
             start: entry.start,
             size: entry.end.saturating_sub(entry.start),

@@ -1,13 +1,14 @@
+use Rattle.std.specs.List.{find}
 use Rattle.std.proofs.Common.{refl, sym, ◌∙◌, arith}
 use Rattle.elf_read.specs.Sections.{section_count}
 use Rattle.elf_read.specs.Views.{file}
 use Rattle.sf_modules.specs.File.{is_sframe, sframe_section}
-use Rattle.sf_modules.proofs.Scan.{skips, starts}
+use Rattle.core_notes.proofs.Numbered.{skips, starts}
 use Rattle.sf_modules.proofs.file.sframe_section.Goals as goal
 
 pub loop-i-init : goal.loop-i-init
 unfolding sframe_section
-loop-i-init c = starts (is_sframe (file c.args.elf.now)) (section_count (file c.args.elf.now)) (section_count (file c.args.elf.now)) refl
+loop-i-init c = starts (find (is_sframe (file c.args.elf.now))) (section_count (file c.args.elf.now)) (section_count (file c.args.elf.now)) refl
 
 pub loop-i-preserved : goal.loop-i-preserved
 loop-i-preserved c =

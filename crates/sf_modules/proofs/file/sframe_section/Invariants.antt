@@ -3,7 +3,7 @@ use Rattle.std.proofs.Common.{◌≡◌}
 use Rattle.elf_read.specs.Sections.{section_count}
 use Rattle.elf_read.specs.Views.{file}
 use Rattle.sf_modules.specs.File.{is_sframe, sframe_section}
-use Rattle.sf_modules.proofs.Scan.{left_of}
+use Rattle.core_notes.proofs.Numbered.{left_of}
 use Rattle.sf_modules.proofs.file.sframe_section.Given as goal
 
 abbrev pub invariant-loop-i : goal.invariant-loop-i

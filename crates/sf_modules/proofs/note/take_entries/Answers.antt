@@ -47,7 +47,7 @@ loop-k-preserved c =
     let note = c.args.note.now.bytes.now in
     let count = c.args.header.now.count in
     let k = c.loop-k.k in
-    let text = c.in-Some.text in
+    let text = c.in-Some.front in
     let front : Some (text.0.now, text.1.now) ≡ text_front c.loop-k.rest.now = sym (ap lent c.in-Some.is) ∙ c.text_front.ensures in
     let entries = c.loop-k.entries.items in
     record {

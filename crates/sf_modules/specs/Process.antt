@@ -1,0 +1,14 @@
+-- A process as its core file shows it (Linux core files, NT_FILE).
+use Rattle.std.specs.Prelude.{ℕ, List, map}
+use Rattle.core_notes.specs.Views.{core_bytes}
+use Rattle.sf_modules.specs.declared.process.Process.{Process}
+use Rattle.sf_modules.specs.Entry.{EntryView, entry_view}
+
+-- the core file's bytes, and the page size and the entries of its note on mapped files
+pub record ProcessView : Type 0 where
+  pub core : List ℕ
+  pub page : ℕ
+  pub entries : List EntryView
+
+abbrev pub process_view : Process → ProcessView
+process_view p = record { core = core_bytes p.core; page = p.page; entries = map entry_view p.entries.now }

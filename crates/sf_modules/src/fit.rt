@@ -1,0 +1,86 @@
+//! Whether a file was mapped as an entry says.
+
+ghost use Rattle.std.specs.Prelude.{◌≡◌, ◌<◌};
+ghost use Rattle.std.specs.List.{list_all, range_with_len};
+ghost use Rattle.elf_read.specs.Sections.{segment_total};
+ghost use Rattle.elf_read.specs.Views.{file};
+ghost use Rattle.sf_modules.specs.Entry.{entry_view};
+ghost use Rattle.sf_modules.specs.Fit as spec;
+ghost use Rattle.sf_modules.specs.Process.{process_view};
+
+use crate::entry::{Entry, any_maps};
+use crate::file::{Program, page_floor};
+use crate::layout::PT_LOAD;
+use crate::process::Process;
+use elf_read::Elf;
+
+/// How far up a file was mapped: from where the page of its first loaded segment's address begins to its entry's start.
+pub fn base_of(page: u64, entry: &Entry<'_>, vaddr: u64) -> u64
+    requires { 0 < page }
+    ensures { result ≡ spec.base_of page (entry_view entry.now) vaddr }
+{
+    entry.start.wrapping_sub(page_floor(page, vaddr))
+}
+
+// Whether an entry of the name has the segment's bytes at its address.
+fn is_mapped(process: &Process<'_>, elf: &Elf<'_>, name: &[u8], base: u64, i: u32) -> bool
+    ensures { result ≡ spec.is_mapped (process_view process.now) (file elf.now) name.now base i }
+{
+    let segment = elf.segment(i);
+    let address = base.wrapping_add(segment.vaddr);
+    any_maps(process.entries, name, address, segment.place)
+}
+
+// Whether the core file doesn't say that an executable segment's address is not executable.
+fn may_execute(process: &Process<'_>, elf: &Elf<'_>, base: u64, i: u32) -> bool
+    ensures { result ≡ spec.may_execute (process_view process.now) (file elf.now) base i }
+{
+    if !elf.is_executable(i) {
+        return true;
+    }
+    let address = base.wrapping_add(elf.segment(i).vaddr);
+    process.core.executable_at(address).unwrap_or(true)
+}
+
+// Whether a segment is loaded and has bytes in the file.
+fn has_bytes(elf: &Elf<'_>, i: u32) -> bool
+    ensures { result ≡ spec.has_bytes (file elf.now) i }
+{
+    elf.segment(i).kind == PT_LOAD && elf.file_size(i) > 0
+}
+
+// Whether a segment was where it has to be, if it has bytes.
+#[tactic(auto, unfolding(crate::specs::Fit::segment_fits))]
+fn segment_fits(process: &Process<'_>, elf: &Elf<'_>, name: &[u8], base: u64, i: u32) -> bool
+    ensures { result ≡ spec.segment_fits (process_view process.now) (file elf.now) name.now base i }
+{
+    !has_bytes(elf, i)
+        || (is_mapped(process, elf, name, base, i) && may_execute(process, elf, base, i))
+}
+
+// Whether each segment was.
+fn all_fit(process: &Process<'_>, program: &Program<'_>, name: &[u8], base: u64) -> bool
+    ensures { result ≡ list_all (spec.segment_fits (process_view process.now) (file program.now.elf) name.now base) (range_with_len 0 (segment_total (file program.now.elf))) }
+{
+    for i in 0..program.count {
+        if !segment_fits(process, &program.elf, name, base, i) {
+            return false;
+        }
+    }
+    true
+}
+
+/// Whether a program was mapped as an entry says.
+#[tactic(auto, unfolding(crate::specs::Fit::fits))]
+pub fn fits(process: &Process<'_>, program: &Program<'_>, entry: &Entry<'_>) -> bool
+    ensures { result ≡ spec.fits (process_view process.now) (file program.now.elf) program.now.load (entry_view entry.now) }
+{
+    let segment = program.elf.segment(program.load);
+    entry.offset == page_floor(process.page, segment.place)
+        && all_fit(
+            process,
+            program,
+            entry.name,
+            base_of(process.page, entry, segment.vaddr),
+        )
+}

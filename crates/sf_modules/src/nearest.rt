@@ -1,0 +1,118 @@
+//! Which entry is a file's.
+
+ghost use Rattle.std.specs.Prelude.{◌≡◌, IfOk, Some, map};
+ghost use Rattle.std.specs.List.{find, list_any};
+ghost use Rattle.std.specs.Option.{option_map};
+ghost use Rattle.elf_read.specs.Views.{file};
+ghost use Rattle.sf_modules.specs.Entry.{entry_view};
+ghost use Rattle.sf_modules.specs.Fault.{verdict};
+ghost use Rattle.sf_modules.specs.Match as spec;
+ghost use Rattle.sf_modules.specs.Process.{process_view};
+ghost use Rattle.sf_modules.specs.Reading.{nearest_part};
+
+use crate::entry::Entry;
+use crate::fault::ModuleFault;
+use crate::file::Program;
+use crate::fit::fits;
+use crate::name::common_tail;
+use crate::process::Process;
+
+// The most parts that an entry's name has in common with a word.
+fn longest_tail(word: &[u8], entries: &[Entry<'_>]) -> u128
+    ensures { result ≡ spec.longest_tail word.now (map entry_view entries.now) }
+{
+    let mut longest = 0;
+    for entry in entries {
+        longest = common_tail(word, entry.name).max(longest);
+    }
+    longest
+}
+
+// Whether an entry's name has so many parts in common with a word, and the program fits there.
+fn matches(
+    process: &Process<'_>,
+    word: &[u8],
+    tail: u128,
+    program: &Program<'_>,
+    entry: &Entry<'_>,
+) -> bool
+    ensures { result ≡ spec.matches (process_view process.now) word.now (file program.now.elf) program.now.load tail (entry_view entry.now) }
+{
+    common_tail(word, entry.name) == tail && fits(process, program, entry)
+}
+
+// The first such entry, by the fields of entries.
+fn first_by_fields<'p>(
+    process: &Process<'p>,
+    word: &[u8],
+    tail: u128,
+    program: &Program<'_>,
+) -> Option<&'p Entry<'p>>
+    ensures { option_map (λ e. e.now) result ≡ find (λ e. spec.matches (process_view process.now) word.now (file program.now.elf) program.now.load tail (entry_view e)) process.now.entries.now }
+{
+    process
+        .entries
+        .iter()
+        .find(|entry| matches(process, word, tail, program, entry))
+}
+
+// The same by what entries show.
+fn first_match<'p>(
+    process: &Process<'p>,
+    word: &[u8],
+    tail: u128,
+    program: &Program<'_>,
+) -> Option<&'p Entry<'p>>
+    ensures { option_map (λ e. entry_view e.now) result ≡ find (spec.matches (process_view process.now) word.now (file program.now.elf) program.now.load tail) (map entry_view process.now.entries.now) }
+{
+    first_by_fields(process, word, tail, program)
+}
+
+// Whether an entry of another name does, by the fields of entries.
+fn any_by_fields(
+    process: &Process<'_>,
+    word: &[u8],
+    tail: u128,
+    program: &Program<'_>,
+    found: &Entry<'_>,
+) -> bool
+    ensures { result ≡ list_any (λ e. spec.matches_too (process_view process.now) word.now (file program.now.elf) program.now.load tail (entry_view found.now) (entry_view e)) process.now.entries.now }
+{
+    process.entries.iter().any(|entry| entry.name != found.name
+        && matches(process, word, tail, program, entry))
+}
+
+// The same by what entries show.
+fn other_matches(
+    process: &Process<'_>,
+    word: &[u8],
+    tail: u128,
+    program: &Program<'_>,
+    found: &Entry<'_>,
+) -> bool
+    ensures { result ≡ list_any (spec.matches_too (process_view process.now) word.now (file program.now.elf) program.now.load tail (entry_view found.now)) (map entry_view process.now.entries.now) }
+{
+    any_by_fields(process, word, tail, program, found)
+}
+
+/// The entry of a program for which this word is given.
+pub fn entry_of<'p>(
+    process: &Process<'p>,
+    word: &[u8],
+    program: &Program<'_>,
+) -> Result<&'p Entry<'p>, ModuleFault>
+    ensures check { verdict result ≡ nearest_part (process_view process.now) word.now (file program.now.elf) program.now.load }
+    ensures value { IfOk result (λ e. spec.entry_of (process_view process.now) word.now (file program.now.elf) program.now.load ≡ Some (entry_view e.now)) }
+{
+    let tail = longest_tail(word, process.entries);
+    if tail == 0 {
+        return Err(ModuleFault::NotMapped);
+    }
+    let Some(entry) = first_match(process, word, tail, program) else {
+        return Err(ModuleFault::Mapping);
+    };
+    if other_matches(process, word, tail, program, entry) {
+        return Err(ModuleFault::Ambiguous);
+    }
+    Ok(entry)
+}
