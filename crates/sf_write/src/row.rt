@@ -141,7 +141,6 @@ fn flags_of(content: &Content) -> u8
 
 /// Appends a row's offsets in their order: of the canonical frame address, the return address and the
 /// frame pointer.
-#[tactic(auto, using(crate::proofs::Kept::begin_on))]
 #[inline(always)]
 fn push_offsets(bytes: &mut Vec<u8>, content: &Content) -> Result<(), AllocError>
     ensures ok { OnOk result (bytes.new.items ≡ bytes.old.items ++ flat_map (signed_bytes (offset_width content.now)) (row_offsets content.now)) }

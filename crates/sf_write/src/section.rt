@@ -16,7 +16,7 @@ use crate::fault::WriteFault;
 use crate::header::push_header;
 use crate::layout::{FUNCTION_ENTRY_LEN, HEADER_LEN};
 use crate::list::StoredList;
-use crate::stored::StoredRows;
+use crate::stored::{StoredFunction, StoredRows};
 use crate::totals::totals_of;
 use sf_model::{Arch, Func};
 use std::alloc::{AllocError, Global};
@@ -40,12 +40,26 @@ pub fn write(alloc: Global, arch: Arch, at: u64, funcs: &[Func]) -> Result<Vec<u
     ensures in_reach { OnOk result (first_out_of_reach at 0 funcs.now ≡ None) }
     ensures fault { IfErr result (λ e. Refuses e (first_out_of_reach at 0 funcs.now)) }
 {
+    let (rows, functions) = stored(alloc, arch, funcs)?;
+    write_stored(alloc, arch, at, &rows, &functions)
+}
+
+// The functions, stored in their order.
+fn stored(
+    alloc: Global,
+    arch: Arch,
+    funcs: &[Func],
+) -> Result<(StoredRows, Vec<StoredFunction>), AllocError>
+    requires { AreWritable arch funcs.now }
+    ensures stored { IfOk result (λ s. All (IsStored s.0) s.1.items) }
+    ensures functions { IfOk result (λ s. map (stored_in s.0) s.1.items ≡ funcs.now) }
+{
     let mut rows = StoredRows::new(alloc);
     let mut functions = Vec::with_capacity(alloc, funcs.len())?;
     for func in funcs {
         functions.push(rows.push(arch, func)?)?;
     }
-    write_stored(alloc, arch, at, &rows, &functions)
+    Ok((rows, functions))
 }
 
 /// The section of stored functions, in their order, for the address `at`: that which [`write`] makes of

@@ -1,6 +1,6 @@
 use Rattle.std.proofs.Common.{◌≡◌, take, map, All}
 use Rattle.sf_write.specs.Stored.{IsStored, stored_in}
-use Rattle.sf_write.proofs.section.write.Given as goal
+use Rattle.sf_write.proofs.section.stored.Given as goal
 
 -- the functions so far are stored
 abbrev pub invariant-loop-func : goal.invariant-loop-func
