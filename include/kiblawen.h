@@ -14,10 +14,10 @@
  *   3. What a call writes to lies apart from all else that it is given, and no one else reads or writes it meanwhile.
  *   4. The fields of a section are read and written by the library alone.
  *
- * kiblawen_find, kiblawen_recover, kiblawen_walk, kiblawen_walk_modules and kiblawen_in_order only read the sections,
- * samples and modules that they are given, so several threads may use one section at once. kiblawen_open and
- * kiblawen_close write their section: no other call may use it meanwhile. That look-ups and walks work in several
- * threads and in a signal handler is tested; that is no part of the proof.
+ * kiblawen_most_rows, kiblawen_find, kiblawen_recover, kiblawen_walk, kiblawen_walk_modules and kiblawen_in_order only
+ * read the sections, samples and modules that they are given, so several threads may use one section at once.
+ * kiblawen_open and kiblawen_close write their section: no other call may use it meanwhile. That look-ups and walks work
+ * in several threads and in a signal handler is tested; that is no part of the proof.
  */
 #ifndef KIBLAWEN_H
 #define KIBLAWEN_H
@@ -77,7 +77,10 @@ enum kiblawen_fault {
 /*
  * Checks `len` bytes, which are loaded at the address `at` (or would be), and opens the section where nothing is wrong.
  * Returns 0, or the number of the first fault; its place in the section is written to `place` (0 where there is none).
- * A section that is refused is closed, and so is one that was open before. The time is linear in the section.
+ * A section that is refused is closed, and so is one that was open before.
+ *
+ * The time is linear in the section, and in the functions and rows that its entries count: 2^21 and 2^24 at most.
+ * Functions may share rows, so a section of few bytes may count as many (that takes about 0.15 s).
  *
  * The caller keeps: `section` was initialized, by KIBLAWEN_CLOSED or by an earlier call.
  */
@@ -86,6 +89,14 @@ uint32_t kiblawen_open(struct kiblawen_section *section, const uint8_t *bytes, s
 
 /* Closes a section. From then on its bytes are the caller's to change and to free. */
 void kiblawen_close(struct kiblawen_section *section) KIBLAWEN_NONNULL;
+
+/*
+ * How many rows the function with most rows has, 0 where there is no function. kiblawen_find reads the rows of a
+ * function from the first up to the one that holds, about 20 ns each, and so does kiblawen_recover, and a walk at each
+ * frame. In tables of real programs a function has some 200 rows at most; where a table is a stranger's, a caller for whom
+ * time counts, as in a signal handler, refuses one with more. The time is linear in the number of functions.
+ */
+uint32_t kiblawen_most_rows(const struct kiblawen_section *section) KIBLAWEN_NONNULL;
 
 /* The register that a canonical frame address (CFA) counts from. */
 enum kiblawen_base {
@@ -117,7 +128,8 @@ struct kiblawen_row {
 
 /*
  * Looks an address up: whether a row holds there. If so, function and row are written to `row`; else `row` stays as it
- * was. The first function that contains the address decides. A sorted section is searched by halves.
+ * was. The first function that contains the address decides. The functions of a sorted section are halved, and those of
+ * one that isn't sorted are gone over; then the function's rows are read (see kiblawen_most_rows).
  */
 bool kiblawen_find(const struct kiblawen_section *section, uint64_t pc, struct kiblawen_row *row) KIBLAWEN_NONNULL;
 

@@ -1,3 +1,4 @@
 pub mod Empty
 pub mod Listed
 pub mod Reached
+pub mod Longest

@@ -1,5 +1,6 @@
 pub mod Opening
 pub mod Section
+pub mod MostRows
 pub mod Row
 pub mod Sample
 pub mod Caller

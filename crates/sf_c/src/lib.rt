@@ -16,6 +16,7 @@ mod finding;
 mod modules;
 mod opening;
 mod recovering;
+mod rows;
 mod sample;
 mod section;
 mod walking;

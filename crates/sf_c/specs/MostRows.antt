@@ -1,0 +1,7 @@
+-- GNU SFrame specification, Version 2, function descriptor entries: how many rows the function with most rows has.
+use Rattle.std.specs.Prelude.{ℕ, List, [], ◌∷◌, length, max}
+use Rattle.sf_model.specs.declared.function.Func.{Func}
+
+abbrev pub most_rows : List Func → ℕ
+most_rows [] = 0
+most_rows (f ∷ functions) = max (length f.rows) (most_rows functions)
