@@ -19,6 +19,15 @@ ENOUGH = 0.2
 ROUNDS = 7
 
 
+def run(words, out, **how):
+    """Runs a command once. Returns its status, its processor time in seconds, and its peak memory in KiB."""
+    with open(out, "wb") as file:
+        child = subprocess.Popen(words, stdout=file, **how)
+        _, status, used = os.wait4(child.pid, 0)
+    child.returncode = os.waitstatus_to_exitcode(status)
+    return child.returncode, used.ru_utime + used.ru_stime, used.ru_maxrss
+
+
 class Command:
     def __init__(self, name, *words):
         self.name, self.words = name, words
@@ -28,16 +37,12 @@ class Command:
 
     def run(self, out):
         """Runs it once; returns its processor time in seconds."""
-        with open(out, "wb") as file:
-            child = subprocess.Popen(self.words, stdout=file)
-            _, status, used = os.wait4(child.pid, 0)
-        status = os.waitstatus_to_exitcode(status)
-        child.returncode = status
+        status, seconds, peak = run(self.words, out)
         may_be_1 = os.path.basename(self.words[0]) in ("readelf", "objdump") and os.path.getsize(out) > 0
         if status != 0 and not (status == 1 and may_be_1):
             sys.exit(f"bench: {' '.join(self.words)} ended with {status}")
-        self.peak = max(self.peak, used.ru_maxrss)
-        return used.ru_utime + used.ru_stime
+        self.peak = max(self.peak, peak)
+        return seconds
 
     def warm(self, out):
         """The first run tells how many runs are long enough together; it also brings the files into memory."""
