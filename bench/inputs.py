@@ -663,10 +663,19 @@ def candidates_of_many_segments(size):
     return process(candidates(size // 2 // 26), shared_object(ONE_FUNCTION, 0x100000, segments))
 
 
-def files_of_many_candidates(size):
-    """A file that is given 512 times, and entries of its name that don't fit its second segment, but for the last."""
+def candidates_but_the_last(size, times):
+    """Entries of one file that don't fit its second segment, but for the last."""
     module = shared_object(ONE_FUNCTION, 0x100000, [(PT_LOAD, 6, 0x1000, 0x5008, 8, 8)], bytes(0x1000))
-    return process(candidates(size // 26) + [(0x5008, 0x6000, b"m", 1), OWN], module, 512)
+    return process(candidates(size // 26) + [(0x5008, 0x6000, b"m", 1), OWN], module, times)
+
+
+def file_of_many_candidates(size):
+    return candidates_but_the_last(size, 1)
+
+
+def files_of_many_candidates(size):
+    """The file is given 512 times."""
+    return candidates_but_the_last(size, 512)
 
 
 def executables_over_falling_segments(size):
