@@ -3,6 +3,7 @@ use Rattle.std.specs.Prelude.{Result, Ok, Err}
 use Rattle.std.specs.Option.{option_map}
 use Rattle.sf_model.specs.Notice.{HasLine}
 use Rattle.sf_model.specs.FaultShown.{shown_by}
+use Rattle.sf_text.specs.Output.{output_text}
 use Rattle.sf_items.specs.declared.refusal.Refusal.{Refusal}
 use Rattle.sf_items.specs.declared.refusal.Refusal.TheVariants as refusal
 use Rattle.sf_make.specs.declared.made.Made.{Made}
@@ -17,7 +18,7 @@ ComesAs Is (refusal.Input notice) = HasLine notice × Is (Refused (shown_by noti
 
 -- what was made, as what the run comes to
 abbrev pub coming_of : Made → Coming
-coming_of made = Makes made.outcome (option_map (λ v. v.items) made.section) made.text.items
+coming_of made = Makes made.outcome (option_map (λ v. v.items) made.section) (output_text made.output)
 
 -- what is made is what the run comes to, or a refusal is, or memory ran out
 abbrev pub ComesTo : (Coming → Type 0) → Result Made Refusal → Type 0

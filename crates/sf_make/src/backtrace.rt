@@ -23,6 +23,7 @@ use sf_base::NoMemory;
 use sf_decode::View;
 use sf_items::Refusal;
 use sf_link::link;
+use sf_text::Output;
 use sf_words::InputFile;
 use std::alloc::Global;
 
@@ -45,14 +46,14 @@ fn section_walks(
 }
 
 /// The section of the inputs of these bytes, and the walks of the threads of a core file by it.
-pub fn backtrace_made<'a>(
+pub fn backtrace_made<'a, 'm>(
     alloc: Global,
     inputs: &[InputFile<'_>],
     at: u64,
     core: &[u8],
     depth: u32,
     items: &[Vec<u8>],
-) -> Result<Made, Refusal<'a>>
+) -> Result<Made<'m>, Refusal<'a>>
     requires some { 0 < length items.now }
     requires count { length items.now ≡ length inputs.now }
     requires few { length items.now ≤ 512 }
@@ -70,7 +71,7 @@ pub fn backtrace_made<'a>(
             Ok(Made {
                 outcome: Outcome::Done,
                 section: Some(linked.section),
-                text,
+                output: Output::Text(text),
             })
         }
         Err(fault) => Err(unlinked(&fault)),

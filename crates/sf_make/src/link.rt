@@ -16,7 +16,7 @@ use sf_asm::{GatherFault, Input, LinkFault};
 use sf_base::NoMemory;
 use sf_items::{Limit, Refusal};
 use sf_link::link;
-use sf_text::report;
+use sf_text::{Output, report};
 use sf_words::InputFile;
 use std::alloc::Global;
 
@@ -57,12 +57,12 @@ pub fn inputs_in<'b>(
 }
 
 /// The section of the inputs of these bytes.
-pub fn link_made<'a>(
+pub fn link_made<'a, 'm>(
     alloc: Global,
     inputs: &[InputFile<'_>],
     at: u64,
     items: &[Vec<u8>],
-) -> Result<Made, Refusal<'a>>
+) -> Result<Made<'m>, Refusal<'a>>
     requires some { 0 < length items.now }
     requires count { length items.now ≡ length inputs.now }
     requires few { length items.now ≤ 512 }
@@ -76,7 +76,7 @@ pub fn link_made<'a>(
             Ok(Made {
                 outcome: Outcome::Done,
                 section: Some(linked.section),
-                text,
+                output: Output::Text(text),
             })
         }
         Err(fault) => Err(unlinked(&fault)),

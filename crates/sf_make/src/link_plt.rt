@@ -11,17 +11,17 @@ use crate::link::{inputs_in, unlinked};
 use crate::made::{Made, Outcome};
 use sf_items::Refusal;
 use sf_plt::link_plt;
-use sf_text::report_plt;
+use sf_text::{Output, report_plt};
 use sf_words::InputFile;
 use std::alloc::Global;
 
 /// The section of the inputs of these bytes, with their procedure linkage tables.
-pub fn link_plt_made<'a>(
+pub fn link_plt_made<'a, 'm>(
     alloc: Global,
     inputs: &[InputFile<'_>],
     at: u64,
     items: &[Vec<u8>],
-) -> Result<Made, Refusal<'a>>
+) -> Result<Made<'m>, Refusal<'a>>
     requires some { 0 < length items.now }
     requires count { length items.now ≡ length inputs.now }
     requires few { length items.now ≤ 512 }
@@ -35,7 +35,7 @@ pub fn link_plt_made<'a>(
             Ok(Made {
                 outcome: Outcome::Done,
                 section: Some(linked.section),
-                text,
+                output: Output::Text(text),
             })
         }
         Err(fault) => Err(unlinked(&fault)),

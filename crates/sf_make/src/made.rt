@@ -1,5 +1,7 @@
 //! What a command makes.
 
+use sf_text::Output;
+
 /// How a command that made something ends.
 #[derive(Clone, Copy, Debug, PartialEq, Eq)]
 pub enum Outcome {
@@ -9,10 +11,10 @@ pub enum Outcome {
     No,
 }
 
-/// A section or none, and a text.
+/// A section or none, and what is printed.
 #[derive(Drop)]
-pub struct Made {
+pub struct Made<'a> {
     pub outcome: Outcome,
     pub section: Option<Vec<u8>>,
-    pub text: Vec<u8>,
+    pub output: Output<'a>,
 }

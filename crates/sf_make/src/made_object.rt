@@ -11,7 +11,7 @@ use sf_gen::object;
 use sf_items::Refusal;
 use sf_link::link;
 use sf_model::Form;
-use sf_text::summary;
+use sf_text::{Output, summary};
 use std::alloc::Global;
 
 /// Where the sections of the made object are laid out.
@@ -21,7 +21,7 @@ const OBJECT_BASE: u64 = 0x40_0000;
 const SECTION_ADDRESS: u64 = 0x400_0000;
 
 /// The summary of a link of a made object of `n` functions.
-pub fn gen_made<'a>(alloc: Global, n: u32) -> Result<Made, Refusal<'a>>
+pub fn gen_made<'a, 'm>(alloc: Global, n: u32) -> Result<Made<'m>, Refusal<'a>>
     requires { n ≤ 100000 }
     ensures { ComesTo (GenComes n) result }
 {
@@ -37,7 +37,7 @@ pub fn gen_made<'a>(alloc: Global, n: u32) -> Result<Made, Refusal<'a>>
             Ok(Made {
                 outcome: Outcome::Done,
                 section: None,
-                text,
+                output: Output::Text(text),
             })
         }
         Err(fault) => Err(unlinked(&fault)),

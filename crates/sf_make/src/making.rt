@@ -26,7 +26,11 @@ use std::alloc::Global;
 ///
 /// `Refusal::Input` shows what is refused, `Refusal::Limit` says which limit of functions or rows is exceeded,
 /// and `Refusal::Memory` that memory ran out. `Refusal::Read` is never returned.
-pub fn make<'a>(alloc: Global, asked: &Asked<'a>, items: &[Vec<u8>]) -> Result<Made, Refusal<'a>>
+pub fn make<'a, 'i>(
+    alloc: Global,
+    asked: &Asked<'a>,
+    items: &'i [Vec<u8>],
+) -> Result<Made<'i>, Refusal<'a>>
     requires items { AreItems (words_of asked.now) (map (λ v. v.items) items.now) }
     requires within { command_limit (words_of asked.now) (map (λ v. v.items) items.now) ≡ None }
     ensures comes { ComesTo (Comes (words_of asked.now) (map (λ v. v.items) items.now)) result }

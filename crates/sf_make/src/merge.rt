@@ -13,7 +13,7 @@ use crate::section::undecoded;
 use sf_decode::View;
 use sf_items::{Limit, Refusal};
 use sf_merge::{MergeFault, merge};
-use sf_text::merged;
+use sf_text::{Output, merged};
 use sf_words::SectionFile;
 use std::alloc::Global;
 
@@ -56,12 +56,12 @@ fn views_of<'a, 'b>(
 }
 
 /// The merged section of these bytes.
-pub fn merge_made<'a>(
+pub fn merge_made<'a, 'm>(
     alloc: Global,
     sections: &[SectionFile<'_>],
     at: u64,
     items: &[Vec<u8>],
-) -> Result<Made, Refusal<'a>>
+) -> Result<Made<'m>, Refusal<'a>>
     requires some { 0 < length items.now }
     requires count { length items.now ≡ length sections.now }
     requires few { length items.now ≤ 512 }
@@ -74,7 +74,7 @@ pub fn merge_made<'a>(
             Ok(Made {
                 outcome: Outcome::Done,
                 section: Some(union.section),
-                text,
+                output: Output::Text(text),
             })
         }
         Err(fault) => Err(unmerged(fault)),

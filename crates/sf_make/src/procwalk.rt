@@ -24,6 +24,7 @@ use sf_decode::DecodeFault;
 use sf_items::{Limit, Refusal};
 use sf_model::Arch;
 use sf_modules::{Entry, Module, ModuleFault, Modules, entries, read_module};
+use sf_text::Output;
 use std::alloc::Global;
 
 /// The most functions of all modules together.
@@ -117,13 +118,13 @@ fn exceeded(modules: &[Module<'_, '_>]) -> Option<Limit>
 }
 
 /// The walks of the threads of a core file by modules, where they are for its machine and within the limits.
-fn walked<'a>(
+fn walked<'a, 'm>(
     alloc: Global,
     core: &Core<'_>,
     depth: u32,
     entries: &[Entry<'_>],
     modules: &[Module<'_, '_>],
-) -> Result<Made, Refusal<'a>>
+) -> Result<Made<'m>, Refusal<'a>>
     requires threads { length (threads_of core.now) ≤ 4096 }
     requires few { length modules.now ≤ 512 }
     ensures { ComesTo (λ (coming : Coming). coming ≡ coming_of_modules (spec.mixed_item (arch_of (core_bytes core.now)) (map module_view modules.now)) (sums_limit (tables_of (map module_view modules.now))) (modules_walks (map entry_view entries.now) (map module_view modules.now) (core_bytes core.now) depth)) result }
@@ -139,18 +140,18 @@ fn walked<'a>(
     Ok(Made {
         outcome: Outcome::Done,
         section: None,
-        text,
+        output: Output::Text(text),
     })
 }
 
 /// The walks of the threads of a core file by the modules of these files.
-pub fn procwalk_made<'a>(
+pub fn procwalk_made<'a, 'm>(
     alloc: Global,
     core: &[u8],
     depth: u32,
     names: &[String],
     items: &[Vec<u8>],
-) -> Result<Made, Refusal<'a>>
+) -> Result<Made<'m>, Refusal<'a>>
     requires count { length items.now ≡ length names.now }
     requires few { length items.now ≤ 512 }
     requires within { bytes_limit 0 0 ((kind.Core, core.now) ∷ of_kinds (map file_item (map string_bytes names.now)) (map (λ v. v.items) items.now)) ≡ None }

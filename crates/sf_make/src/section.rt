@@ -3,6 +3,7 @@
 ghost use Rattle.std.specs.Prelude.{◌≡◌, None, IfOk};
 ghost use Rattle.sf_decode.specs.Decoding.{section_check};
 ghost use Rattle.sf_decode.specs.View.{table_of};
+ghost use Rattle.sf_text.specs.Output.{output_text};
 ghost use Rattle.sf_make.specs.Coming.{Coming};
 ghost use Rattle.sf_make.specs.Making.{ComesAs, ComesTo};
 ghost use Rattle.sf_make.specs.SectionComes.{SectionComesFrom, Shows, coming_of_decoding};
@@ -12,7 +13,7 @@ use sf_base::NoMemory;
 use sf_decode::{DecodeFault, View};
 use sf_items::{Limit, Refusal};
 use sf_lookup::find;
-use sf_text::{dump, found};
+use sf_text::{Output, found};
 use std::alloc::Global;
 
 /// What is asked of a section.
@@ -36,30 +37,33 @@ pub fn undecoded<'a>(fault: DecodeFault, item: u32) -> Refusal<'a>
 }
 
 /// What is asked of a section.
-fn shown(alloc: Global, view: &View<'_>, query: Query) -> Result<Made, NoMemory>
-    ensures { IfOk result (λ made. (made.section ≡ None) × Shows query (table_of view.now) made.outcome made.text.items) }
+fn shown<'a>(alloc: Global, view: &View<'a>, query: Query) -> Result<Made<'a>, NoMemory>
+    ensures { IfOk result (λ made. (made.section ≡ None) × Shows query (table_of view.now) made.outcome (output_text made.output)) }
 {
-    let (outcome, text) = match query {
-        Query::Whole => (Outcome::Done, dump(alloc, view)?),
+    let (outcome, output) = match query {
+        Query::Whole => (Outcome::Done, Output::Section(*view)),
         Query::RowAt(pc) => match find(view, pc) {
-            Some(row) => (Outcome::Done, found(alloc, pc, Some((row.func, row.row)))?),
-            None => (Outcome::No, found(alloc, pc, None)?),
+            Some(row) => {
+                let text = found(alloc, pc, Some((row.func, row.row)))?;
+                (Outcome::Done, Output::Text(text))
+            }
+            None => (Outcome::No, Output::Text(found(alloc, pc, None)?)),
         },
     };
     Ok(Made {
         outcome,
         section: None,
-        text,
+        output,
     })
 }
 
 /// What is asked of the section of these bytes.
-pub fn section_made<'a>(
+pub fn section_made<'a, 'i>(
     alloc: Global,
-    bytes: &[u8],
+    bytes: &'i [u8],
     at: u64,
     query: Query,
-) -> Result<Made, Refusal<'a>>
+) -> Result<Made<'i>, Refusal<'a>>
     ensures { ComesTo (SectionComesFrom at bytes.now query (section_check bytes.now at)) result }
 {
     match View::parse(bytes, at) {

@@ -12,7 +12,7 @@ use crate::section::undecoded;
 use sf_decode::View;
 use sf_items::Refusal;
 use sf_slim::{SlimFault, slim};
-use sf_text::slim_line;
+use sf_text::{Output, slim_line};
 use std::alloc::Global;
 
 /// Why the section of the first item was not slimmed, as a refusal of the run.
@@ -27,7 +27,12 @@ fn unslimmed<'a>(fault: SlimFault) -> Refusal<'a>
 }
 
 /// The section of these bytes, which is at `from`, slimmed for the address `at`.
-pub fn slim_made<'a>(alloc: Global, bytes: &[u8], from: u64, at: u64) -> Result<Made, Refusal<'a>>
+pub fn slim_made<'a, 'm>(
+    alloc: Global,
+    bytes: &[u8],
+    from: u64,
+    at: u64,
+) -> Result<Made<'m>, Refusal<'a>>
     ensures { ComesTo (SlimComesFrom from bytes.now at (section_check bytes.now from)) result }
 {
     let view = match View::parse(bytes, from) {
@@ -41,7 +46,7 @@ pub fn slim_made<'a>(alloc: Global, bytes: &[u8], from: u64, at: u64) -> Result<
             Ok(Made {
                 outcome: Outcome::Done,
                 section: Some(made.section),
-                text,
+                output: Output::Text(text),
             })
         }
         Err(fault) => Err(unslimmed(fault)),

@@ -20,7 +20,7 @@ use sf_asm::GatherFault;
 use sf_decode::View;
 use sf_items::{Limit, Refusal};
 use sf_model::Verdict;
-use sf_text::verdict;
+use sf_text::{Output, verdict};
 use sf_verify::{VerifyFault, verify};
 use sf_words::InputFile;
 use std::alloc::Global;
@@ -55,13 +55,13 @@ fn outcome_of(verdict: &Verdict) -> Outcome
 }
 
 /// The verdict on the section of the first bytes, by the inputs of the others.
-pub fn verify_made<'a>(
+pub fn verify_made<'a, 'm>(
     alloc: Global,
     section: &[u8],
     at: u64,
     inputs: &[InputFile<'_>],
     items: &[Vec<u8>],
-) -> Result<Made, Refusal<'a>>
+) -> Result<Made<'m>, Refusal<'a>>
     requires some { 0 < length items.now }
     requires count { length items.now ≡ length inputs.now }
     requires few { length items.now ≤ 512 }
@@ -79,7 +79,7 @@ pub fn verify_made<'a>(
             Ok(Made {
                 outcome: outcome_of(&found),
                 section: None,
-                text,
+                output: Output::Text(text),
             })
         }
         Err(fault) => Err(unverified(&fault)),

@@ -23,7 +23,7 @@ use sf_decode::View;
 use sf_items::{Limit, Refusal};
 use sf_lookup::Indexed;
 use sf_model::Arch;
-use sf_text::thread_text;
+use sf_text::{Output, thread_text};
 use std::alloc::Global;
 
 /// Why the core file of an item was not read, as a refusal of the run.
@@ -86,13 +86,13 @@ pub fn view_walks(
 }
 
 /// The walks of the threads of a core file by the section of these bytes.
-pub fn walk_made<'a>(
+pub fn walk_made<'a, 'm>(
     alloc: Global,
     section: &[u8],
     at: u64,
     core: &[u8],
     depth: u32,
-) -> Result<Made, Refusal<'a>>
+) -> Result<Made<'m>, Refusal<'a>>
     requires { length core.now < 2 ^ 32 }
     ensures { ComesTo (WalkComesFrom at section.now core.now depth (section_check section.now at) (core_check core.now)) result }
 {
@@ -111,6 +111,6 @@ pub fn walk_made<'a>(
     Ok(Made {
         outcome: Outcome::Done,
         section: None,
-        text,
+        output: Output::Text(text),
     })
 }

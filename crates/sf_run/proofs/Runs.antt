@@ -48,6 +48,13 @@ pub made_runs : (command : CommandWords) (contents : Contents) (items : List (Li
 made_runs command contents items loaded (Ok made) h = record { items = items; bytes = loaded.bytes; comes = h }
 made_runs command contents items loaded (Err refused) h = tt
 
+-- what is refused of the bytes of items is no failed read
+pub no_read : (P : Coming → Type 0) (refused : Refusal) → ComesAs P refused → IsRead refused → ⊥
+no_read P (refusal.Read name) h read = h
+no_read P refusal.Memory h read = read
+no_read P (refusal.Limit limit) h read = read
+no_read P (refusal.Input notice) h read = read
+
 refused_as : (command : CommandWords) (contents : Contents) (refused : Refusal) → ComesAs (RunComes command contents) refused → RunRefuses command contents refused
 refused_as command contents (refusal.Read name) h = absurd h
 refused_as command contents refusal.Memory h = h

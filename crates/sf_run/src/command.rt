@@ -1,15 +1,15 @@
 //! One run of a command: its words, how many files they name, loading, making, and delivering.
 
 ghost use Rattle.std.specs.Prelude.{◌≡◌, ◌↔◌, ◌<◌, ◌≤◌, ℕ, List, All, map, IfOk, IfErr, IfSome, IsTrue, OnOk};
+ghost use Rattle.std.specs.Option.{option_map};
 ghost use Rattle.std.specs.String.{string_bytes};
 ghost use Rattle.sf_base.specs.Faults.{Rose};
 ghost use Rattle.sf_base.specs.Seen.{OnlyReads};
-ghost use Rattle.sf_items.specs.Loading.{IsRead};
-ghost use Rattle.sf_words.specs.Items.{counted_items, item_names};
+ghost use Rattle.sf_items.specs.Loading.{AreLoaded, IsRead};
+ghost use Rattle.sf_words.specs.Items.{counted_items, item_names, items_of};
 ghost use Rattle.sf_words.specs.Parsed.{Asks, words_of};
 ghost use Rattle.sf_words.specs.Words.{CanBeAsked, CommandWords, HasNoForm, IsCommand, out_name};
-ghost use Rattle.sf_make.specs.Making.{coming_of};
-ghost use Rattle.sf_run.specs.Ends.{RunComes, RunEnds, RunIsComplete, RunRefuses, TurnedAway, TurnedAwayUnread, seen};
+ghost use Rattle.sf_run.specs.Ends.{RunEnds, RunIsComplete, RunRefuses, TurnedAway, TurnedAwayUnread, seen};
 ghost use Rattle.sf_run.specs.Lines.{usage_line};
 
 use crate::deliver::deliver;
@@ -18,23 +18,23 @@ use crate::status::Status;
 use crate::tell::tell;
 use sf_base::{Files, Sink};
 use sf_items::{Limit, Refusal, load_all};
-use sf_make::{Made, make};
+use sf_make::make;
 use sf_words::{Asked, Command, command_words, items, read_words};
 use std::alloc::Global;
 
 /// The most files that the list of a command names.
 const ITEM_COUNT: usize = 512;
 
-/// Loads the items and makes what is asked for. Nothing is written.
-fn load_and_make<'a, F: Files>(
+/// Loads the items of a command.
+fn load_items<'a, F: Files>(
     alloc: Global,
     asked: &Asked<'a>,
     files: &mut F,
-) -> Result<Made, Refusal<'a>>
+) -> Result<Vec<Vec<u8>>, Refusal<'a>>
     requires form { CanBeAsked (words_of asked.now) }
     requires few { counted_items (words_of asked.now) ≤ 512 }
     requires open { All (λ name. IsTrue (F.may_open files.old name)) (item_names (words_of asked.now)) }
-    ensures made { IfOk result (λ made. RunComes (words_of asked.now) ((F.seen files.old).contents) (coming_of made)) }
+    ensures loaded { IfOk result (λ loaded. AreLoaded ((F.seen files.old).contents) (items_of (words_of asked.now)) (map (λ v. v.items) loaded.items)) }
     ensures refused { IfErr result (RunRefuses (words_of asked.now) ((F.seen files.old).contents)) }
     ensures read { IfErr result (λ refused. IsRead refused → Rose ((F.seen files.old).read_faults) ((F.seen files.new).read_faults)) }
     ensures reads { OnlyReads (F.seen files.old) (F.seen files.new) }
@@ -42,29 +42,34 @@ fn load_and_make<'a, F: Files>(
     ensures may_create { F.may_create files.new ≡ F.may_create files.old }
 {
     let items = items(alloc, asked)?;
-    let loaded = load_all(alloc, &items, files)?;
-    make(alloc, asked, &loaded)
+    load_all(alloc, &items, files)
 }
 
-/// Reads the words of a command, loads its items and makes what is asked for. Nothing is written.
-fn read_and_make<'a, F: Files>(
+/// Loads the items, makes what is asked for and writes it, or says why nothing was made.
+fn load_and_deliver<F: Files, O: Sink, E: Sink>(
     alloc: Global,
-    command: &Command<'a>,
+    asked: &Asked<'_>,
+    file: Option<&str>,
     files: &mut F,
-) -> Result<Made, Refusal<'a>>
-    requires asked { (wanted : CommandWords) × Asks command.now wanted }
-    requires form { (wanted : CommandWords) → Asks command.now wanted → CanBeAsked wanted }
-    requires few { (wanted : CommandWords) → Asks command.now wanted → counted_items wanted ≤ 512 }
-    requires open { (wanted : CommandWords) → Asks command.now wanted → All (λ name. IsTrue (F.may_open files.old name)) (item_names wanted) }
-    ensures made { (wanted : CommandWords) → Asks command.now wanted → IfOk result (λ made. RunComes wanted ((F.seen files.old).contents) (coming_of made)) }
-    ensures refused { (wanted : CommandWords) → Asks command.now wanted → IfErr result (RunRefuses wanted ((F.seen files.old).contents)) }
-    ensures read { IfErr result (λ refused. IsRead refused → Rose ((F.seen files.old).read_faults) ((F.seen files.new).read_faults)) }
-    ensures reads { OnlyReads (F.seen files.old) (F.seen files.new) }
-    ensures same { OnOk result (F.seen files.new ≡ F.seen files.old) }
-    ensures may_create { F.may_create files.new ≡ F.may_create files.old }
+    out: &mut O,
+    err: &mut E,
+) -> Status
+    requires form { CanBeAsked (words_of asked.now) }
+    requires few { counted_items (words_of asked.now) ≤ 512 }
+    requires open { All (λ name. IsTrue (F.may_open files.old name)) (item_names (words_of asked.now)) }
+    requires named { option_map (λ name. name.now) file ≡ out_name (words_of asked.now) }
+    requires create { IfSome file (λ name. IsTrue (F.may_create files.old name.now)) }
+    ensures { RunEnds result (words_of asked.now)
+        (seen (F.seen files.old) (O.seen out.old) (E.seen err.old)) (seen (F.seen files.new) (O.seen out.new) (E.seen err.new)) }
 {
-    let asked = read_words(alloc, command)?;
-    load_and_make(alloc, &asked, files)
+    let loaded = match load_items(alloc, asked, files) {
+        Ok(loaded) => loaded,
+        Err(refusal) => return tell(&refusal, err),
+    };
+    match make(alloc, asked, &loaded) {
+        Ok(made) => deliver(file, &made, files, out, err),
+        Err(refusal) => tell(&refusal, err),
+    }
 }
 
 /// Runs a command. Its files are counted before memory is allocated and before one is opened.
@@ -87,9 +92,9 @@ fn run_command<F: Files, O: Sink, E: Sink>(
     if command.counted() > ITEM_COUNT {
         return tell(&Refusal::Limit(Limit::Inputs), err);
     }
-    match read_and_make(alloc, command, files) {
-        Ok(made) => deliver(command.out_name(), &made, files, out, err),
-        Err(refusal) => tell(&refusal, err),
+    match read_words(alloc, command) {
+        Ok(asked) => load_and_deliver(alloc, &asked, command.out_name(), files, out, err),
+        Err(_) => tell(&Refusal::Memory, err),
     }
 }
 

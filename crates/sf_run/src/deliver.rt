@@ -4,13 +4,15 @@ ghost use Rattle.std.specs.Prelude.{◌≡◌, ◌⊎◌, IfSome, IsSome, IsTrue
 ghost use Rattle.std.specs.Option.{option_map};
 ghost use Rattle.sf_base.specs.Contents.{Unchanged, HoldsPrefix};
 ghost use Rattle.sf_base.specs.Faults.{Cause};
+ghost use Rattle.sf_text.specs.Output.{output_text};
 ghost use Rattle.sf_run.specs.Ends.{Delivered, Stored, StoredIn, StoredPart, file_line, seen};
 ghost use Rattle.sf_run.specs.Lines.{Says};
 
 use crate::lines::say;
 use crate::status::Status;
-use sf_base::{Failed, Files, Sink, put_all, put_file};
+use sf_base::{Failed, Files, Sink, put_file};
 use sf_make::Made;
+use sf_text::put_output;
 
 /// Makes the file and writes the bytes.
 fn store<F: Files>(files: &mut F, name: &str, bytes: &[u8]) -> Result<(), Failed>
@@ -57,20 +59,20 @@ fn say_file<E: Sink>(file: Option<&str>, err: &mut E)
 /// says which.
 pub fn deliver<F: Files, O: Sink, E: Sink>(
     file: Option<&str>,
-    made: &Made,
+    made: &Made<'_>,
     files: &mut F,
     out: &mut O,
     err: &mut E,
 ) -> Status
     requires { IfSome file (λ name. IsTrue (F.may_create files.old name.now)) }
-    ensures { Delivered result made.now.outcome (option_map (λ name. name.now) file.entry) (option_map (λ v. v.items) made.now.section) made.now.text.items
+    ensures { Delivered result made.now.outcome (option_map (λ name. name.now) file.entry) (option_map (λ v. v.items) made.now.section) (output_text made.now.output)
         (seen (F.seen files.old) (O.seen out.old) (E.seen err.old)) (seen (F.seen files.new) (O.seen out.new) (E.seen err.new)) }
 {
     if store_made(files, file, &made.section).is_err() {
         say_file(file, err);
         return Status::Write;
     }
-    if put_all(out, &made.text).is_err() {
+    if put_output(out, &made.output).is_err() {
         say(err, "write output", "");
         return Status::Write;
     }

@@ -1,3 +1,5 @@
 pub mod Numerals
 pub mod Pieces
 pub mod FrameLines
+pub mod Appended
+pub mod Dumped

@@ -1,5 +1,6 @@
 pub mod Number
 pub mod Names
+pub mod Output
 pub mod Report
 pub mod Merged
 pub mod Content
@@ -7,6 +8,7 @@ pub mod Dump
 pub mod Found
 pub mod FaultLine
 pub mod Frames
+pub mod Gathered
 pub mod Summary
 pub mod Slim
 pub mod PltReport

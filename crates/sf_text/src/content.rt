@@ -1,85 +1,108 @@
 //! What one row says.
 
-ghost use Rattle.std.specs.Prelude.{◌≡◌, ◌++◌, OnOk};
+ghost use Rattle.std.specs.Prelude.{◌≡◌, ◌≤◌, ◌+◌, ◌++◌, length, OnOk};
+ghost use Rattle.arrayvec.specs.ArrayVec.{array_vec_len};
 ghost use Rattle.sf_text.specs.Content.{base_text, frame_text, return_text, pointer_text, signing_text, content_text, row_text};
 
-use crate::number::{push_decimal, push_signed};
+use crate::buffer::{Buffer, push_decimal, push_signed, push_text};
 use sf_model::{Base, Content, Ra, Row};
 use std::alloc::AllocError;
 
-/// Appends a row: its start, and what it says.
-#[tactic(auto, unfolding(crate::specs::Content::row_text))]
-pub(crate) fn push_row(text: &mut Vec<u8>, row: &Row) -> Result<(), AllocError>
+/// Appends a row to a growing text: its start, and what it says.
+pub(crate) fn append_row(text: &mut Vec<u8>, row: &Row) -> Result<(), AllocError>
     ensures { OnOk result (text.new.items ≡ text.old.items ++ row_text row.now) }
 {
-    text.extend_from_slice(b"+")?;
-    push_decimal(text, u64::from(row.start))?;
-    text.extend_from_slice(b" ")?;
-    push_content(text, &row.content)
+    let mut buffer = Buffer::new();
+    push_row(&mut buffer, row);
+    text.extend_from_slice(buffer.as_slice())
+}
+
+/// Appends what a row says to a growing text.
+pub(crate) fn append_content(text: &mut Vec<u8>, content: &Content) -> Result<(), AllocError>
+    ensures { OnOk result (text.new.items ≡ text.old.items ++ content_text content.now) }
+{
+    let mut buffer = Buffer::new();
+    push_content(&mut buffer, content);
+    text.extend_from_slice(buffer.as_slice())
+}
+
+/// Appends a row: its start, and what it says.
+#[tactic(auto, unfolding(crate::specs::Content::row_text))]
+pub(crate) fn push_row(buffer: &mut Buffer, row: &Row)
+    requires { array_vec_len buffer.old + 120 ≤ 8192 }
+    ensures items { buffer.new.items ≡ buffer.old.items ++ row_text row.now }
+    ensures len { array_vec_len buffer.new ≤ array_vec_len buffer.old + 120 }
+{
+    push_text(buffer, b"+");
+    push_decimal(buffer, u64::from(row.start));
+    push_text(buffer, b" ");
+    push_content(buffer, &row.content);
 }
 
 /// Appends what a row says.
 #[tactic(auto, unfolding(crate::specs::Content::content_text))]
-pub(crate) fn push_content(text: &mut Vec<u8>, content: &Content) -> Result<(), AllocError>
-    ensures { OnOk result (text.new.items ≡ text.old.items ++ content_text content.now) }
+fn push_content(buffer: &mut Buffer, content: &Content)
+    requires { array_vec_len buffer.old + 90 ≤ 8192 }
+    ensures items { buffer.new.items ≡ buffer.old.items ++ content_text content.now }
+    ensures len { array_vec_len buffer.new ≤ array_vec_len buffer.old + 90 }
 {
-    push_frame(text, content.base, content.cfa)?;
-    push_return(text, content.ra)?;
-    push_pointer(text, content.fp)?;
-    push_signing(text, content.signed)
+    push_frame(buffer, content.base, content.cfa);
+    push_return(buffer, content.ra);
+    push_pointer(buffer, content.fp);
+    push_signing(buffer, content.signed);
 }
 
 /// Appends where the canonical frame address is.
 #[tactic(auto, unfolding(crate::specs::Content::frame_text))]
-fn push_frame(text: &mut Vec<u8>, base: Base, offset: i32) -> Result<(), AllocError>
-    ensures { OnOk result (text.new.items ≡ text.old.items ++ frame_text base offset) }
+fn push_frame(buffer: &mut Buffer, base: Base, offset: i32)
+    requires { array_vec_len buffer.old + 27 ≤ 8192 }
+    ensures items { buffer.new.items ≡ buffer.old.items ++ frame_text base offset }
+    ensures len { array_vec_len buffer.new ≤ array_vec_len buffer.old + 27 }
 {
-    text.extend_from_slice(b"cfa=")?;
-    text.extend_from_slice(name_of_base(base))?;
-    push_signed(text, offset)
+    push_text(buffer, b"cfa=");
+    push_text(buffer, name_of_base(base));
+    push_signed(buffer, offset);
 }
 
 /// Appends where the return address is, if it is at an offset.
-fn push_return(text: &mut Vec<u8>, ra: Ra) -> Result<(), AllocError>
-    ensures { OnOk result (text.new.items ≡ text.old.items ++ return_text ra) }
+fn push_return(buffer: &mut Buffer, ra: Ra)
+    requires { array_vec_len buffer.old + 26 ≤ 8192 }
+    ensures items { buffer.new.items ≡ buffer.old.items ++ return_text ra }
+    ensures len { array_vec_len buffer.new ≤ array_vec_len buffer.old + 26 }
 {
-    match ra {
-        Ra::Fixed => Ok(()),
-        Ra::Link => Ok(()),
-        Ra::At(offset) => {
-            text.extend_from_slice(b" ra=c")?;
-            push_signed(text, offset)
-        }
+    if let Ra::At(offset) = ra {
+        push_text(buffer, b" ra=c");
+        push_signed(buffer, offset);
     }
 }
 
 /// Appends where the frame pointer is saved, if it is.
-fn push_pointer(text: &mut Vec<u8>, fp: Option<i32>) -> Result<(), AllocError>
-    ensures { OnOk result (text.new.items ≡ text.old.items ++ pointer_text fp) }
+fn push_pointer(buffer: &mut Buffer, fp: Option<i32>)
+    requires { array_vec_len buffer.old + 26 ≤ 8192 }
+    ensures items { buffer.new.items ≡ buffer.old.items ++ pointer_text fp }
+    ensures len { array_vec_len buffer.new ≤ array_vec_len buffer.old + 26 }
 {
-    match fp {
-        None => Ok(()),
-        Some(offset) => {
-            text.extend_from_slice(b" fp=c")?;
-            push_signed(text, offset)
-        }
+    if let Some(offset) = fp {
+        push_text(buffer, b" fp=c");
+        push_signed(buffer, offset);
     }
 }
 
 /// Appends whether the return address is signed.
-fn push_signing(text: &mut Vec<u8>, signed: bool) -> Result<(), AllocError>
-    ensures { OnOk result (text.new.items ≡ text.old.items ++ signing_text signed) }
+fn push_signing(buffer: &mut Buffer, signed: bool)
+    requires { array_vec_len buffer.old + 7 ≤ 8192 }
+    ensures items { buffer.new.items ≡ buffer.old.items ++ signing_text signed }
+    ensures len { array_vec_len buffer.new ≤ array_vec_len buffer.old + 7 }
 {
     if signed {
-        text.extend_from_slice(b" signed")
-    } else {
-        Ok(())
+        push_text(buffer, b" signed");
     }
 }
 
 /// The name of the register that a canonical frame address counts from.
 fn name_of_base(base: Base) -> &'static [u8]
-    ensures { result.now ≡ base_text base }
+    ensures value { result.now ≡ base_text base }
+    ensures len { length result.now ≡ 2 }
 {
     match base {
         Base::Fp => b"fp",

@@ -5,7 +5,7 @@ ghost use Rattle.sf_base.specs.Written.{Appends, AppendsPrefix};
 ghost use Rattle.sf_base.specs.Faults.{Cause};
 ghost use Rattle.sf_text.specs.Merged.{file_limit_text};
 
-use crate::line::{Line, push_decimal, push_text};
+use crate::buffer::{Buffer, push_decimal, push_text};
 use sf_base::{Failed, Sink, put_all};
 
 /// Appends the line `limit file ITEM` to the sink. Allocates nothing.
@@ -23,10 +23,10 @@ pub fn file_limit_line<S: Sink>(sink: &mut S, item: u32) -> Result<(), Failed>
 
 /// The line.
 #[tactic(auto, unfolding(crate::specs::Merged::file_limit_text))]
-fn line_of(item: u32) -> Line
+fn line_of(item: u32) -> Buffer
     ensures { result.items ≡ file_limit_text item }
 {
-    let mut line = Line::new();
+    let mut line = Buffer::new();
     push_text(&mut line, b"limit file ");
     push_decimal(&mut line, u64::from(item));
     push_text(&mut line, b"\n");

@@ -3,7 +3,7 @@
 ghost use Rattle.std.specs.Prelude.{◌≡◌, ◌++◌, OnOk, IfOk};
 ghost use Rattle.sf_text.specs.Found.{found_line, found_text};
 
-use crate::content::push_row;
+use crate::content::append_row;
 use crate::number::push_hexadecimal;
 use sf_base::NoMemory;
 use sf_model::{FuncHead, Row};
@@ -30,6 +30,6 @@ fn push_found(text: &mut Vec<u8>, pc: u64, func: &FuncHead, row: &Row) -> Result
     text.extend_from_slice(b" in ")?;
     push_hexadecimal(text, func.start)?;
     text.extend_from_slice(b" row ")?;
-    push_row(text, row)?;
+    append_row(text, row)?;
     text.extend_from_slice(b"\n")
 }

@@ -3,27 +3,28 @@
 //! made object's link, the line of a fault, and the line of an item that is too long.
 //!
 //! Each text is a definition in `specs/`, and the calls give it byte for byte: [`report`] is `report_text`,
-//! [`report_plt`] is `plt_report_text`, [`merged`] is `merged_text`, [`slim_line`] is `slim_text`, [`dump`] is
-//! `dump_text` of the table that the view shows, [`found`] is `found_text`, [`verdict`] is `verdict_text`,
-//! [`thread_text`] is `walk_text`, [`summary`] is `summary_text`, and
-//! [`fault_line`] and [`file_limit_line`] append `fault_text` and `file_limit_text`. The caller owes a notice
-//! that has a line to `fault_line`, and nothing to the others.
+//! [`report_plt`] is `plt_report_text`, [`merged`] is `merged_text`, [`slim_line`] is `slim_text`, [`found`] is
+//! `found_text`, [`verdict`] is `verdict_text`, [`thread_text`] is `walk_text`, [`summary`] is `summary_text`.
+//! [`put_output`] appends such a text, or `dump_text` of the table that a view shows, to a sink, and
+//! [`fault_line`] and [`file_limit_line`] append `fault_text` and `file_limit_text`. The caller owes a notice that
+//! has a line to `fault_line`, and nothing to the others.
 //!
-//! `fault_line` and `file_limit_line` allocate nothing. The others build their text in one growing buffer, in the
-//! time of its length; they fail for memory alone.
+//! What appends to a sink allocates nothing: what a section says goes there in pieces, and is never held whole.
+//! The others build their text in one growing buffer, in the time of its length; they fail for memory alone.
 #![tactic(auto)]
 
+mod buffer;
 mod content;
 mod digits;
 mod file_limit;
 mod found_row;
 mod frames;
 mod gen_summary;
-mod line;
 mod link_report;
 mod merge_text;
 mod names;
 mod number;
+mod output;
 mod plt_report;
 mod refusal;
 mod section_dump;
@@ -37,8 +38,8 @@ pub use frames::thread_text;
 pub use gen_summary::summary;
 pub use link_report::report;
 pub use merge_text::merged;
+pub use output::{Output, put_output};
 pub use plt_report::report_plt;
 pub use refusal::fault_line;
-pub use section_dump::dump;
 pub use slim_text::slim_line;
 pub use verdict_text::verdict;

@@ -8,7 +8,7 @@ ghost use Rattle.sf_base.specs.Faults.{Cause};
 ghost use Rattle.sf_model.specs.Notice.{HasLine, shows_item};
 ghost use Rattle.sf_text.specs.FaultLine.{item_text, value_text, fault_text};
 
-use crate::line::{Line, push_decimal, push_hexadecimal, push_text};
+use crate::buffer::{Buffer, push_decimal, push_hexadecimal, push_text};
 use crate::names::{name_of_fault, name_of_group};
 use sf_base::{Failed, Sink, put_all};
 use sf_model::{Group, Notice};
@@ -29,11 +29,11 @@ pub fn fault_line<S: Sink>(sink: &mut S, notice: &Notice) -> Result<(), Failed>
 
 /// The fault's line.
 #[tactic(auto, unfolding(crate::specs::FaultLine::fault_text))]
-fn line_of(notice: &Notice) -> Line
+fn line_of(notice: &Notice) -> Buffer
     requires { HasLine notice.now }
     ensures { result.items ≡ fault_text notice.now }
 {
-    let mut line = Line::new();
+    let mut line = Buffer::new();
     push_text(&mut line, b"refused ");
     push_item(&mut line, notice.group, notice.item);
     push_text(&mut line, name_of_group(notice.group).as_bytes());
@@ -48,8 +48,8 @@ fn line_of(notice: &Notice) -> Line
 }
 
 /// Appends the item and a blank, where a line of the group shows one.
-fn push_item(line: &mut Line, group: Group, item: Option<u32>)
-    requires { array_vec_len line.old + 21 ≤ 160 }
+fn push_item(line: &mut Buffer, group: Group, item: Option<u32>)
+    requires { array_vec_len line.old + 21 ≤ 8192 }
     ensures items { line.new.items ≡ line.old.items ++ (if shows_item group then item_text item else []) }
     ensures len { array_vec_len line.new ≤ array_vec_len line.old + 21 }
 {
@@ -61,8 +61,8 @@ fn push_item(line: &mut Line, group: Group, item: Option<u32>)
 
 /// Appends the values, each behind a blank.
 #[tactic(auto, unfolding(crate::specs::FaultLine::value_text))]
-fn push_values(line: &mut Line, values: &[u64])
-    requires { array_vec_len line.old + 23 * length values.now ≤ 160 }
+fn push_values(line: &mut Buffer, values: &[u64])
+    requires { array_vec_len line.old + 23 * length values.now ≤ 8192 }
     ensures items { line.new.items ≡ line.old.items ++ flat_map value_text values.now }
     ensures len { array_vec_len line.new ≤ array_vec_len line.old + 23 * length values.now }
 {

@@ -3,7 +3,7 @@
 ghost use Rattle.std.specs.Prelude.{◌≡◌, ◌++◌, OnOk, IfOk};
 ghost use Rattle.sf_text.specs.Verdict.{agrees_text, counted_text, differs_text, dwarf_text, verdict_text};
 
-use crate::content::push_content;
+use crate::content::append_content;
 use crate::number::{push_decimal, push_hexadecimal};
 use sf_base::NoMemory;
 use sf_model::{Content, Verdict};
@@ -57,7 +57,7 @@ fn push_dwarf(text: &mut Vec<u8>, dwarf: Option<Content>) -> Result<(), AllocErr
 {
     match dwarf {
         None => text.extend_from_slice(b"none"),
-        Some(content) => push_content(text, &content),
+        Some(content) => append_content(text, &content),
     }
 }
 
@@ -74,7 +74,7 @@ fn push_differs(
     text.extend_from_slice(b"differs ")?;
     push_hexadecimal(text, pc)?;
     text.extend_from_slice(b" section ")?;
-    push_content(text, section)?;
+    append_content(text, section)?;
     text.extend_from_slice(b" dwarf ")?;
     push_dwarf(text, dwarf)?;
     text.extend_from_slice(b"\n")

@@ -1,8 +1,9 @@
 //! What sections and look-ups print.
 
 use crate::samples::{PUSHING, SIGNING};
+use sf_base::MemSink;
 use sf_decode::View;
-use sf_text::{dump, found};
+use sf_text::{Output, found, put_output};
 use std::test::Fail;
 
 // A whole procedure linkage table: its head, and its repeated entries.
@@ -41,8 +42,9 @@ func 0x1010 size 32 repeat 16 key a rows 2
     ];
     for (section, text) in cases {
         let view = View::parse(section, 0x3000).ok().ok_or("a section")?;
-        let shown = dump(rt.alloc(), &view)?;
-        assert_eq!(rt; shown.as_slice(), text.as_bytes());
+        let mut sink = MemSink::new(rt.alloc(), 7, Vec::new(rt.alloc()));
+        put_output(&mut sink, &Output::Section(view))?;
+        assert_eq!(rt; sink.bytes(), text.as_bytes());
     }
     Ok(())
 }

@@ -1,0 +1,11 @@
+-- What a run prints.
+use Rattle.std.specs.Prelude.{ℕ, List}
+use Rattle.sf_decode.specs.View.{table_of}
+use Rattle.sf_text.specs.declared.output.Output.{Output}
+use Rattle.sf_text.specs.declared.output.Output.TheVariants.{Text, Section}
+use Rattle.sf_text.specs.Dump.{dump_text}
+
+-- a text, or all that a section says
+abbrev pub output_text : Output → List ℕ
+output_text (Text text) = text.items
+output_text (Section view) = dump_text (table_of view)

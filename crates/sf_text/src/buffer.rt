@@ -1,0 +1,114 @@
+//! Text in a buffer of its own, without memory, and in pieces to a sink.
+
+ghost use Rattle.std.specs.Prelude.{◌≡◌, ◌≤◌, ◌+◌, ◌++◌, ◌∷◌, [], length, OnOk, OnErr};
+ghost use Rattle.std.specs.Fmt.{decimal};
+ghost use Rattle.arrayvec.specs.ArrayVec.{array_vec_len};
+ghost use Rattle.sf_base.specs.Written.{AppendsPrefix};
+ghost use Rattle.sf_base.specs.Faults.{Cause};
+ghost use Rattle.sf_text.specs.Content.{sign_text, signed_text};
+ghost use Rattle.sf_text.specs.Gathered.{Gathers};
+ghost use Rattle.sf_text.specs.Number.{hexadecimal};
+
+use crate::digits::{digits_in, glyph};
+use arrayvec::ArrayVec;
+use sf_base::{Failed, Sink, put_all};
+
+/// The bytes of a buffer.
+const SIZE: usize = 8192;
+
+/// The longest line is shorter.
+const LINE: usize = 160;
+
+/// A line, or lines that wait to be written.
+pub(crate) type Buffer = ArrayVec<u8, SIZE>;
+
+/// Writes what the buffer holds, and empties it, where there is no room for a line.
+///
+/// # Errors
+///
+/// `Failed` where a write of the sink failed. A prefix of what the buffer held was appended then.
+#[inline(always)]
+pub(crate) fn make_room<S: Sink>(sink: &mut S, buffer: &mut Buffer) -> Result<(), Failed>
+    ensures room { OnOk result (array_vec_len buffer.new + 160 ≤ 8192) }
+    ensures all { OnOk result (Gathers ((S.seen sink.old).written) ((S.seen sink.new).written) buffer.old.items buffer.new.items []) }
+    ensures prefix { OnErr result (AppendsPrefix ((S.seen sink.old).written) ((S.seen sink.new).written) buffer.old.items) }
+    ensures cause { Cause ((S.seen sink.old).faults) ((S.seen sink.new).faults) result }
+{
+    if buffer.len() > SIZE - LINE {
+        put_all(sink, buffer.as_slice())?;
+        buffer.clear();
+    }
+    Ok(())
+}
+
+/// Appends a text.
+#[inline(always)]
+pub(crate) fn push_text(buffer: &mut Buffer, text: &[u8])
+    requires { array_vec_len buffer.old + length text.now ≤ 8192 }
+    ensures items { buffer.new.items ≡ buffer.old.items ++ text.now }
+    ensures len { array_vec_len buffer.new ≡ array_vec_len buffer.old + length text.now }
+{
+    buffer.try_extend_from_slice(text).unwrap();
+}
+
+/// Appends a number in decimal digits. Most numbers have one to three: those are appended at once.
+#[inline(always)]
+pub(crate) fn push_decimal(buffer: &mut Buffer, number: u64)
+    requires { array_vec_len buffer.old + 20 ≤ 8192 }
+    ensures items { buffer.new.items ≡ buffer.old.items ++ decimal number }
+    ensures len { array_vec_len buffer.new ≤ array_vec_len buffer.old + 20 }
+{
+    if number < 10 {
+        return push_text(buffer, &[glyph(number)]);
+    }
+    let (tens, unit) = (number / 10, glyph(number % 10));
+    if tens < 10 {
+        return push_text(buffer, &[glyph(tens), unit]);
+    }
+    let (hundreds, ten) = (tens / 10, glyph(tens % 10));
+    if hundreds < 10 {
+        return push_text(buffer, &[glyph(hundreds), ten, unit]);
+    }
+    push_long_decimal(buffer, number)
+}
+
+/// Appends a number in decimal digits, whatever their count.
+#[inline(never)]
+fn push_long_decimal(buffer: &mut Buffer, number: u64)
+    requires { array_vec_len buffer.old + 20 ≤ 8192 }
+    ensures items { buffer.new.items ≡ buffer.old.items ++ decimal number }
+    ensures len { array_vec_len buffer.new ≤ array_vec_len buffer.old + 20 }
+{
+    push_text(buffer, digits_in(10, number).as_bytes());
+}
+
+/// Appends a number as `0x` and lower-case digits of base 16.
+#[tactic(auto, unfolding(crate::specs::Number::hexadecimal))]
+pub(crate) fn push_hexadecimal(buffer: &mut Buffer, number: u64)
+    requires { array_vec_len buffer.old + 22 ≤ 8192 }
+    ensures items { buffer.new.items ≡ buffer.old.items ++ hexadecimal number }
+    ensures len { array_vec_len buffer.new ≤ array_vec_len buffer.old + 22 }
+{
+    push_text(buffer, b"0x");
+    push_text(buffer, digits_in(16, number).as_bytes());
+}
+
+/// Appends a number with its sign, a plus included.
+#[tactic(auto, unfolding(crate::specs::Content::signed_text))]
+#[inline(always)]
+pub(crate) fn push_signed(buffer: &mut Buffer, number: i32)
+    requires { array_vec_len buffer.old + 21 ≤ 8192 }
+    ensures items { buffer.new.items ≡ buffer.old.items ++ signed_text number }
+    ensures len { array_vec_len buffer.new ≤ array_vec_len buffer.old + 21 }
+{
+    push_text(buffer, &[sign_of(number)]);
+    push_decimal(buffer, u64::from(number.unsigned_abs()));
+}
+
+/// The sign of a number, a plus for 0.
+#[inline(always)]
+fn sign_of(number: i32) -> u8
+    ensures { sign_text number ≡ result ∷ [] }
+{
+    if number < 0 { b'-' } else { b'+' }
+}
