@@ -4,6 +4,7 @@ use Rattle.sf_base.specs.Faults.{Rose}
 use Rattle.sf_base.specs.Seen.{SinkSeen}
 use Rattle.sf_base.specs.Written.{Appends, AppendsPrefix}
 use Rattle.sf_text.specs.Merged.{file_limit_text}
+use Rattle.sf_text.specs.ShownName.{shown_name}
 use Rattle.sf_items.specs.declared.refusal.Limit.{Limit}
 use Rattle.sf_items.specs.declared.refusal.Limit.TheVariants.{Inputs, File, Total, Functions, Rows, Threads}
 
@@ -17,11 +18,11 @@ usage_line = line (codes "usage")
 
 -- the item of this name could not be read
 abbrev pub read_line : List ℕ → List ℕ
-read_line name = line (codes "read " ++ name)
+read_line name = line (codes "read " ++ shown_name name)
 
 -- the file of this name could not be written
 abbrev pub write_file_line : List ℕ → List ℕ
-write_file_line name = line (codes "write file " ++ name)
+write_file_line name = line (codes "write file " ++ shown_name name)
 
 -- the text could not be written
 abbrev pub write_output_line : List ℕ

@@ -123,7 +123,7 @@ pub fn run<F: Files, O: Sink, E: Sink>(
         (seen (F.seen files.old) (O.seen out.old) (E.seen err.old)) (seen (F.seen files.new) (O.seen out.new) (E.seen err.new)) }
 {
     let Some(command) = command_words(words) else {
-        say(err, "usage", "");
+        say(err, "usage");
         return Status::Usage;
     };
     run_command(alloc, &command, files, out, err)

@@ -8,7 +8,7 @@ ghost use Rattle.sf_text.specs.Output.{output_text};
 ghost use Rattle.sf_run.specs.Ends.{Delivered, Stored, StoredIn, StoredPart, file_line, seen};
 ghost use Rattle.sf_run.specs.Lines.{Says};
 
-use crate::lines::say;
+use crate::lines::{say, say_name};
 use crate::status::Status;
 use sf_base::{Failed, Files, Sink, put_file};
 use sf_make::Made;
@@ -51,7 +51,7 @@ fn say_file<E: Sink>(file: Option<&str>, err: &mut E)
     ensures { Says (E.seen err.old) (E.seen err.new) (file_line (option_map (λ name. name.now) file.entry)) }
 {
     if let Some(name) = file {
-        say(err, "write file ", name);
+        say_name(err, "write file ", name);
     }
 }
 
@@ -73,7 +73,7 @@ pub fn deliver<F: Files, O: Sink, E: Sink>(
         return Status::Write;
     }
     if put_output(out, &made.output).is_err() {
-        say(err, "write output", "");
+        say(err, "write output");
         return Status::Write;
     }
     Status::of(made.outcome)

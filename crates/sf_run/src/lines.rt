@@ -3,23 +3,41 @@
 ghost use Rattle.std.specs.Prelude.{◌++◌, OnOk, OnErr};
 ghost use Rattle.sf_base.specs.Written.{Appends, AppendsPrefix};
 ghost use Rattle.sf_base.specs.Faults.{Cause};
+ghost use Rattle.sf_text.specs.ShownName.{shown_name};
 ghost use Rattle.sf_run.specs.Lines.{Says, line};
 
 use sf_base::{Failed, Sink, put_all};
+use sf_text::put_name;
 
-fn put_line<S: Sink>(sink: &mut S, front: &str, back: &str) -> Result<(), Failed>
-    ensures all { OnOk result (Appends ((S.seen sink.old).written) ((S.seen sink.new).written) (line (front.now ++ back.now))) }
-    ensures prefix { OnErr result (AppendsPrefix ((S.seen sink.old).written) ((S.seen sink.new).written) (line (front.now ++ back.now))) }
+fn put_line<S: Sink>(sink: &mut S, text: &str) -> Result<(), Failed>
+    ensures all { OnOk result (Appends ((S.seen sink.old).written) ((S.seen sink.new).written) (line text.now)) }
+    ensures prefix { OnErr result (AppendsPrefix ((S.seen sink.old).written) ((S.seen sink.new).written) (line text.now)) }
+    ensures cause { Cause ((S.seen sink.old).faults) ((S.seen sink.new).faults) result }
+{
+    put_all(sink, text.as_bytes())?;
+    put_all(sink, b"\n")
+}
+
+fn put_name_line<S: Sink>(sink: &mut S, front: &str, name: &str) -> Result<(), Failed>
+    ensures all { OnOk result (Appends ((S.seen sink.old).written) ((S.seen sink.new).written) (line (front.now ++ shown_name name.now))) }
+    ensures prefix { OnErr result (AppendsPrefix ((S.seen sink.old).written) ((S.seen sink.new).written) (line (front.now ++ shown_name name.now))) }
     ensures cause { Cause ((S.seen sink.old).faults) ((S.seen sink.new).faults) result }
 {
     put_all(sink, front.as_bytes())?;
-    put_all(sink, back.as_bytes())?;
+    put_name(sink, name)?;
     put_all(sink, b"\n")
 }
 
 /// Says one line. Where the sink fails, a prefix of the line stands there.
-pub fn say<S: Sink>(sink: &mut S, front: &str, back: &str)
-    ensures { Says (S.seen sink.old) (S.seen sink.new) (line (front.now ++ back.now)) }
+pub fn say<S: Sink>(sink: &mut S, text: &str)
+    ensures { Says (S.seen sink.old) (S.seen sink.new) (line text.now) }
 {
-    let _ = put_line(sink, front, back);
+    let _ = put_line(sink, text);
+}
+
+/// Says one line that ends with a name, in which control characters are shown as `\xNN`, byte by byte.
+pub fn say_name<S: Sink>(sink: &mut S, front: &str, name: &str)
+    ensures { Says (S.seen sink.old) (S.seen sink.new) (line (front.now ++ shown_name name.now)) }
+{
+    let _ = put_name_line(sink, front, name);
 }

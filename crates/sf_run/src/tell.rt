@@ -3,7 +3,7 @@
 ghost use Rattle.sf_run.specs.Ends.{CanBeSaid, Tells};
 ghost use Rattle.sf_run.specs.Lines.{Says, limit_line};
 
-use crate::lines::say;
+use crate::lines::{say, say_name};
 use crate::status::Status;
 use sf_base::Sink;
 use sf_items::{Limit, Refusal};
@@ -14,14 +14,14 @@ fn say_limit<E: Sink>(limit: Limit, err: &mut E)
     ensures { Says (E.seen err.old) (E.seen err.new) (limit_line limit) }
 {
     match limit {
-        Limit::Inputs => say(err, "limit ", "inputs"),
+        Limit::Inputs => say(err, "limit inputs"),
         Limit::File(item) => {
             let _ = file_limit_line(err, item);
         }
-        Limit::Total => say(err, "limit ", "total"),
-        Limit::Functions => say(err, "limit ", "functions"),
-        Limit::Rows => say(err, "limit ", "rows"),
-        Limit::Threads => say(err, "limit ", "threads"),
+        Limit::Total => say(err, "limit total"),
+        Limit::Functions => say(err, "limit functions"),
+        Limit::Rows => say(err, "limit rows"),
+        Limit::Threads => say(err, "limit threads"),
     }
 }
 
@@ -32,11 +32,11 @@ pub fn tell<E: Sink>(refusal: &Refusal<'_>, err: &mut E) -> Status
 {
     match refusal {
         Refusal::Read(name) => {
-            say(err, "read ", name);
+            say_name(err, "read ", name);
             Status::Read
         }
         Refusal::Memory => {
-            say(err, "memory", "");
+            say(err, "memory");
             Status::Memory
         }
         Refusal::Limit(limit) => {

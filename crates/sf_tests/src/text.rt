@@ -7,7 +7,9 @@ mod walks;
 use arrayvec::ArrayVec;
 use sf_base::MemSink;
 use sf_model::{Group, Notice, Omission, Omitted, Origin, Reason, Span};
-use sf_text::{fault_line, file_limit_line, merged, report, report_plt, slim_line, summary};
+use sf_text::{
+    fault_line, file_limit_line, merged, put_name, report, report_plt, slim_line, summary,
+};
 use std::alloc::Global;
 use std::process::Abort;
 use std::test::Fail;
@@ -76,6 +78,23 @@ fn a_sink_that_fails_keeps_a_prefix(rt: HostRuntime) -> Result<(), Fail> {
     };
     assert!(rt; fault_line(&mut sink, &notice).is_err());
     assert_eq!(rt; sink.bytes(), b"refused".as_slice());
+    Ok(())
+}
+
+#[test]
+fn a_name_is_shown_without_control_characters(rt: HostRuntime) -> Result<(), Fail> {
+    let cases: [(&str, &str); 5] = [
+        ("a.o", "a.o"),
+        ("\u{1b}]0;x\u{7}", "\\x1b]0;x\\x07"),
+        ("a\nb\u{7f}", "a\\x0ab\\x7f"),
+        ("\u{80}a\u{9b}", "\\xc2\\x80a\\xc2\\x9b"),
+        ("\\x1b \u{a0}é中😀", "\\x1b \u{a0}é中😀"),
+    ];
+    for (name, shown) in cases {
+        let mut sink = MemSink::new(rt.alloc(), 7, Vec::new(rt.alloc()));
+        put_name(&mut sink, name)?;
+        assert_eq!(rt; sink.bytes(), shown.as_bytes());
+    }
     Ok(())
 }
 

@@ -2,4 +2,5 @@ pub mod Numerals
 pub mod Pieces
 pub mod FrameLines
 pub mod Appended
+pub mod ShownNames
 pub mod Dumped

@@ -10,6 +10,7 @@ pub mod FaultLine
 pub mod Frames
 pub mod Gathered
 pub mod Summary
+pub mod ShownName
 pub mod Slim
 pub mod PltReport
 pub mod Verdict

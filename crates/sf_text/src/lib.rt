@@ -1,13 +1,13 @@
 //! The texts that a program of this repository prints: the reports of links, the counts of a merge, what
 //! slimming saves, what a section says, what a look-up finds, a verdict, what a walk lists, the summary of a
-//! made object's link, the line of a fault, and the line of an item that is too long.
+//! made object's link, the line of a fault, the line of an item that is too long, and the names of files.
 //!
 //! Each text is a definition in `specs/`, and the calls give it byte for byte: [`report`] is `report_text`,
 //! [`report_plt`] is `plt_report_text`, [`merged`] is `merged_text`, [`slim_line`] is `slim_text`, [`found`] is
 //! `found_text`, [`verdict`] is `verdict_text`, [`thread_text`] is `walk_text`, [`summary`] is `summary_text`.
 //! [`put_output`] appends such a text, or `dump_text` of the table that a view shows, to a sink, and
-//! [`fault_line`] and [`file_limit_line`] append `fault_text` and `file_limit_text`. The caller owes a notice that
-//! has a line to `fault_line`, and nothing to the others.
+//! [`fault_line`], [`file_limit_line`] and [`put_name`] append `fault_text`, `file_limit_text` and `shown_name`.
+//! The caller owes a notice that has a line to `fault_line`, and nothing to the others.
 //!
 //! What appends to a sink allocates nothing: what a section says goes there in pieces, and is never held whole.
 //! The others build their text in one growing buffer, in the time of its length; they fail for memory alone.
@@ -29,6 +29,7 @@ mod plt_report;
 mod refusal;
 mod section_dump;
 mod shown;
+mod shown_name;
 mod slim_text;
 mod verdict_text;
 
@@ -41,5 +42,6 @@ pub use merge_text::merged;
 pub use output::{Output, put_output};
 pub use plt_report::report_plt;
 pub use refusal::fault_line;
+pub use shown_name::put_name;
 pub use slim_text::slim_line;
 pub use verdict_text::verdict;
