@@ -87,12 +87,6 @@ gathers_pushed (Some a) (Some b) held between holds x h pushed = record {
   all = ap (λ (zs : List ℕ). h.piece ++ zs) pushed ∙ sym (append_assoc h.piece between x) ∙ ap (λ (zs : List ℕ). zs ++ x) (h.all ∙ append_nil held);
 }
 
--- what the buffer held was written
-pub gathers_flushed : (a b : Option (List ℕ)) (held : List ℕ) → Appends a b held → Gathers a b held [] []
-gathers_flushed a None held h = tt
-gathers_flushed None (Some b) held h = absurd h
-gathers_flushed (Some a) (Some b) held h = record { piece = held; written = h; all = refl }
-
 -- some bytes, and then a prefix of what the buffer holds: a prefix of all
 pub gathers_stop : (a b c : Option (List ℕ)) (held holds x rest all : List ℕ) → Gathers a b held holds x → AppendsPrefix b c holds → x ++ rest ≡ all → AppendsPrefix a c (held ++ all)
 gathers_stop a b c held holds x rest all h k are =
