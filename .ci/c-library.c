@@ -77,7 +77,7 @@ static void opening(void)
     uint8_t bytes[63];
     uint64_t place = 1;
     CHECK(kiblawen_open(&section, pushing, 63, 0x3000, &place) == KIBLAWEN_OK && place == 0);
-    CHECK(kiblawen_find(&section, 0x1000, &row));
+    CHECK(kiblawen_find(&section, 0x1000, &row) && kiblawen_most_rows(&section) == 4);
     static const struct { uint8_t at, byte, fault; uint64_t place; } cases[] = {
         {0, 0, KIBLAWEN_MAGIC, 0},          {2, 1, KIBLAWEN_VERSION, 2},         {3, 13, KIBLAWEN_FLAGS, 3},
         {4, 1, KIBLAWEN_ABI, 4},            {5, 1, KIBLAWEN_FIXED_OFFSET, 5},    {20, 16, KIBLAWEN_LAYOUT, 20},
@@ -96,7 +96,7 @@ static void opening(void)
     CHECK(kiblawen_open(&section, pushing, 63, 0x1fff, &place) == KIBLAWEN_ADDRESS_RANGE && place == 28);
     CHECK(kiblawen_open(&section, pushing, 63, 0x3000, &place) == KIBLAWEN_OK);
     kiblawen_close(&section);
-    CHECK(!kiblawen_find(&section, 0x1000, &row));
+    CHECK(!kiblawen_find(&section, 0x1000, &row) && kiblawen_most_rows(&section) == 0);
     CHECK(walk_is(&section, &sample, 8, &(struct kiblawen_frame){0x1004, 0}, 1, KIBLAWEN_STOP_OUTSIDE, 0x1004));
 }
 

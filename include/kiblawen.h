@@ -16,8 +16,8 @@
  *
  * kiblawen_most_rows, kiblawen_find, kiblawen_recover, kiblawen_walk, kiblawen_walk_modules and kiblawen_in_order only
  * read the sections, samples and modules that they are given, so several threads may use one section at once.
- * kiblawen_open and kiblawen_close write their section: no other call may use it meanwhile. That look-ups and walks work
- * in several threads and in a signal handler is tested; that is no part of the proof.
+ * kiblawen_open and kiblawen_close write their section: no other call may use it meanwhile. That look-ups and walks
+ * work in several threads and in a signal handler is tested; that is no part of the proof.
  */
 #ifndef KIBLAWEN_H
 #define KIBLAWEN_H
@@ -93,8 +93,8 @@ void kiblawen_close(struct kiblawen_section *section) KIBLAWEN_NONNULL;
 /*
  * How many rows the function with most rows has, 0 where there is no function. kiblawen_find reads the rows of a
  * function from the first up to the one that holds, about 20 ns each, and so does kiblawen_recover, and a walk at each
- * frame. In tables of real programs a function has some 200 rows at most; where a table is a stranger's, a caller for whom
- * time counts, as in a signal handler, refuses one with more. The time is linear in the number of functions.
+ * frame. In tables of real programs a function has some 200 rows at most; where a table is a stranger's, a caller for
+ * whom time counts, as in a signal handler, refuses one with more. The time is linear in the number of functions.
  */
 uint32_t kiblawen_most_rows(const struct kiblawen_section *section) KIBLAWEN_NONNULL;
 

@@ -15,7 +15,7 @@ ghost use Rattle.sf_make.specs.WalkComes.{WalkComesFrom, coming_of_core};
 
 use crate::made::{Made, Outcome};
 use crate::section::undecoded;
-use core_notes::{Core, CoreFault};
+use core_notes::{Core, CoreFault, CoreMemory};
 use core_walk::{LookUp, walk_by};
 use sf_asm::GatherFault;
 use sf_base::NoMemory;
@@ -60,10 +60,11 @@ pub fn walks_text<L: LookUp>(
     requires { length (threads_of core.now) ≤ 4096 }
     ensures { IfOk result (λ text. text.items ≡ spec.walks_text (λ thread. look_up_walk (L.found_at rows.now) thread (memory_of core.now) depth) 0 (threads_of core.now)) }
 {
+    let memory = CoreMemory::new(alloc, core)?;
     let mut text = Vec::new(alloc);
     let mut number = 0;
     for thread in core.threads_iter() {
-        let walked = walk_by(alloc, rows, &thread, core, depth)?;
+        let walked = walk_by(alloc, rows, &thread, &memory, depth)?;
         text.extend_from_slice(&thread_text(alloc, number, thread.pid, &walked)?)?;
         number += 1;
     }

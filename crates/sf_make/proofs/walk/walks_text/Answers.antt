@@ -1,5 +1,6 @@
 use Rattle.std.proofs.Common.{◌≡◌, ◌++◌, ℕ, List, [], ◌∷◌, length, ap, sym, ◌∙◌, arith}
 use Rattle.std.proofs.lemmas.List.{append-nil}
+use Rattle.sf_model.specs.Memory.{Region}
 use Rattle.sf_model.specs.Walk.{Listing, ThreadState, look_up_walk}
 use Rattle.core_notes.specs.declared.status.Thread.{Thread}
 use Rattle.core_notes.specs.Views.{memory_of, threads_left}
@@ -14,7 +15,8 @@ loop-thread-preserved g c =
     let left : threads_left c.loop-thread.thread-iterator ≡ c.in-Some.thread ∷ threads_left c.next.new.self = c.in-Some.ensures.steps in
     let count : length (threads_left c.loop-thread.thread-iterator) ≡ length (c.in-Some.thread ∷ threads_left c.next.new.self) = ap length left in
     let piece : c.in_ok-thread_text.field-0.items ≡ listing_text c.loop-thread.number c.in-Some.thread (walk_of (thread_state c.in-Some.thread)) =
-    c.in_ok-thread_text.ensures ∙ ap (λ (l : Listing). listing_text c.loop-thread.number c.in-Some.thread l) c.in_ok-walked.ensures in
+    c.in_ok-thread_text.ensures ∙ ap (λ (l : Listing). listing_text c.loop-thread.number c.in-Some.thread l)
+    (c.in_ok-walked.ensures ∙ ap (λ (m : List Region). look_up_walk (g.L.LookUp.found_at c.args.rows.now) (thread_state c.in-Some.thread) m c.args.depth) c.in_ok-memory.ensures) in
     let grown : c.extend_from_slice.new.self.items ≡ c.loop-thread.text.items ++ c.in_ok-thread_text.field-0.items =
     c.in_ok-extend_from_slice.ensures.items ∙ ap (λ (b : List ℕ). c.loop-thread.text.items ++ b) c.deref.ensures.value in
     record {
