@@ -9,11 +9,12 @@ use Rattle.elf_read.specs.Header.{arch_of}
 use Rattle.core_notes.specs.declared.fault.CoreFault.{CoreFault}
 use Rattle.core_notes.specs.Checks.{core_check}
 use Rattle.sf_modules.specs.declared.fault.ModuleFault.{ModuleFault}
-use Rattle.sf_modules.specs.declared.fault.ModuleFault.TheVariants.{NoFileNote, FileNote, Elf, NoSection, Segments, NotMapped, Mapping, Section, NoMemory}
+use Rattle.sf_modules.specs.declared.fault.ModuleFault.TheVariants.{NoFileNote, FileNote, Elf, NoSection, Segments, NotMapped, Mapping, Ambiguous, Build, Section, NoMemory}
 use Rattle.sf_modules.specs.Entry.{EntryView}
 use Rattle.sf_modules.specs.Fault.{Check, IsFaultOf}
 use Rattle.sf_modules.specs.Module.{ModuleView}
 use Rattle.sf_modules.specs.Note.{HasEntries, entries_check}
+use Rattle.sf_modules.specs.Process.{ProcessView}
 use Rattle.sf_modules.specs.Union.{tables_of}
 use Rattle.sf_items.specs.declared.refusal.Refusal.{Refusal}
 use Rattle.sf_items.specs.declared.refusal.Refusal.TheVariants as refusal
@@ -25,7 +26,7 @@ use Rattle.sf_make.specs.declared.made.Made.{Made}
 use Rattle.sf_make.specs.Coming.{Coming}
 use Rattle.sf_make.specs.FirstFault.{first_fault}
 use Rattle.sf_make.specs.Making.{ComesAs, ComesTo}
-use Rattle.sf_make.specs.ProcwalkComes.{File, FilesCome, IsModuleOf, NoteComes, ProcwalkComesFrom, coming_of_module, coming_of_modules, file_check, file_note, files_fault, mixed_item, modules_walks, sums_limit}
+use Rattle.sf_make.specs.ProcwalkComes.{File, FilesCome, IsModuleOf, NoteComes, ProcwalkComesFrom, coming_of_module, coming_of_modules, file_check, file_note, files_fault, mixed_item, modules_walks, process_of, sums_limit}
 use Rattle.sf_make.proofs.Arms.{comes_as, memory_comes}
 use Rattle.sf_make.proofs.Linked.{bytes_of}
 use Rattle.sf_make.proofs.Reading.{Reading, fault_step}
@@ -65,17 +66,17 @@ no_file_left names items k h = ap (λ (ns : List (String Global)). files_of ns (
     none_left (n ∷ ns) (suc k) h = none_left ns k (omega (arith, h))
 
 -- ---- while modules are read
-abbrev pub ReadingFiles : (page : ℕ) → List EntryView → (all : List File) → (item : ℕ) → (left : List File) → List ModuleView → Type 0
-ReadingFiles page entries all item left modules = Reading (file_check page entries) (IsModuleOf page entries) 1 all item left modules
+abbrev pub ReadingFiles : ProcessView → (all : List File) → (item : ℕ) → (left : List File) → List ModuleView → Type 0
+ReadingFiles p all item left modules = Reading (file_check p) (IsModuleOf p) 1 all item left modules
 
 -- a file of which no module is read is the first
-pub unread : (page : ℕ) (entries : List EntryView) (all : List File) (item number : ℕ) (left : List File) (modules : List ModuleView) (file : File) (later : List File) (fault : ModuleFault) (refused : Refusal)
-    → ReadingFiles page entries all item left modules → left ≡ file ∷ later → file_check page entries file ≡ Err fault → number ≡ item → ComesAs (λ (c : Coming). c ≡ coming_of_module number fault) refused
-    → (core : List ℕ) (depth : ℕ) → ComesAs (FilesCome core depth page entries all (files_fault page entries all)) refused
-unread page entries all item number left modules file later fault refused h are check is tells core depth =
-    let first : files_fault page entries all ≡ Some (item, fault) = h.fault ∙ ap (first_fault (file_check page entries) item) are ∙ fault_step (file_check page entries) item file later (Err fault) check in
-    comes_as (λ (c : Coming). c ≡ coming_of_module number fault) (FilesCome core depth page entries all (files_fault page entries all))
-    (λ c e. subst (λ (f : Option (ℕ × ModuleFault)). FilesCome core depth page entries all f c) (sym first) (e ∙ ap (λ (n : ℕ). coming_of_module n fault) is)) refused tells
+pub unread : (p : ProcessView) (all : List File) (item number : ℕ) (left : List File) (modules : List ModuleView) (file : File) (later : List File) (fault : ModuleFault) (refused : Refusal)
+    → ReadingFiles p all item left modules → left ≡ file ∷ later → file_check p file ≡ Err fault → number ≡ item → ComesAs (λ (c : Coming). c ≡ coming_of_module number fault) refused
+    → (depth : ℕ) → ComesAs (FilesCome p depth all (files_fault p all)) refused
+unread p all item number left modules file later fault refused h are check is tells depth =
+    let first : files_fault p all ≡ Some (item, fault) = h.fault ∙ ap (first_fault (file_check p) item) are ∙ fault_step (file_check p) item file later (Err fault) check in
+    comes_as (λ (c : Coming). c ≡ coming_of_module number fault) (FilesCome p depth all (files_fault p all))
+    (λ c e. subst (λ (f : Option (ℕ × ModuleFault)). FilesCome p depth all f c) (sym first) (e ∙ ap (λ (n : ℕ). coming_of_module n fault) is)) refused tells
 
 -- ---- how long files are
 abbrev pub IsShort : List ℕ → Type 0
@@ -108,6 +109,8 @@ fault_found check NoSection h = inr h
 fault_found check (Segments place) h = inr h
 fault_found check NotMapped h = inr h
 fault_found check Mapping h = inr h
+fault_found check Ambiguous h = inr h
+fault_found check Build h = inr h
 fault_found check (Section fault) h = inr h
 
 comes_to : (P Q : Coming → Type 0) → ((c : Coming) → P c → Q c) → (made : Result Made Refusal) → ComesTo P made → ComesTo Q made
@@ -120,7 +123,7 @@ record AreRead (core : List ℕ) (page : ℕ) (entries : List EntryView) : Type 
   note_fine : entries_check (file_note core) ≡ Ok tt
   are : HasEntries (file_note core) page entries
 
-from_files : (core : List ℕ) (depth page : ℕ) (entries : List EntryView) (files : List File) (coming : Coming) → AreRead core page entries → FilesCome core depth page entries files (files_fault page entries files) coming
+from_files : (core : List ℕ) (depth page : ℕ) (entries : List EntryView) (files : List File) (coming : Coming) → AreRead core page entries → FilesCome (process_of core page entries) depth files (files_fault (process_of core page entries) files) coming
     → ProcwalkComesFrom core depth files (core_check core) coming
 from_files core depth page entries files coming read h =
     subst (λ (check : Result (Unit {0}) CoreFault). ProcwalkComesFrom core depth files check coming) (sym read.core_fine)
@@ -139,17 +142,17 @@ note_unread core depth files fault refused fine found memory tells = by_cause (f
 
 -- a file is refused, or memory ran out
 pub files_unread : (core : List ℕ) (depth page : ℕ) (entries : List EntryView) (files : List File) (refused : Refusal) → core_check core ≡ Ok tt → entries_check (file_note core) ≡ Ok tt → HasEntries (file_note core) page entries
-    → ComesAs (FilesCome core depth page entries files (files_fault page entries files)) refused → ComesAs (ProcwalkComesFrom core depth files (core_check core)) refused
+    → ComesAs (FilesCome (process_of core page entries) depth files (files_fault (process_of core page entries) files)) refused → ComesAs (ProcwalkComesFrom core depth files (core_check core)) refused
 files_unread core depth page entries files refused fine note are =
-    comes_as (FilesCome core depth page entries files (files_fault page entries files)) (ProcwalkComesFrom core depth files (core_check core))
+    comes_as (FilesCome (process_of core page entries) depth files (files_fault (process_of core page entries) files)) (ProcwalkComesFrom core depth files (core_check core))
     (λ c h. from_files core depth page entries files c record { core_fine = fine; note_fine = note; are = are } h) refused
 
 -- the modules are of several machines, exceed a limit, or walk
 pub modules_walked : (core : List ℕ) (depth page : ℕ) (entries : List EntryView) (files : List File) (modules : List ModuleView) (made : Result Made Refusal) → core_check core ≡ Ok tt → entries_check (file_note core) ≡ Ok tt
-    → HasEntries (file_note core) page entries → files_fault page entries files ≡ None → AllZip (IsModuleOf page entries) files modules
+    → HasEntries (file_note core) page entries → files_fault (process_of core page entries) files ≡ None → AllZip (IsModuleOf (process_of core page entries)) files modules
     → ComesTo (λ (c : Coming). c ≡ coming_of_modules (mixed_item (arch_of core) modules) (sums_limit (tables_of modules)) (modules_walks entries modules core depth)) made
     → ComesTo (ProcwalkComesFrom core depth files (core_check core)) made
 modules_walked core depth page entries files modules made fine note are checked each =
     comes_to (λ (c : Coming). c ≡ coming_of_modules (mixed_item (arch_of core) modules) (sums_limit (tables_of modules)) (modules_walks entries modules core depth)) (ProcwalkComesFrom core depth files (core_check core))
     (λ c e. from_files core depth page entries files c record { core_fine = fine; note_fine = note; are = are }
-    (subst (λ (fault : Option (ℕ × ModuleFault)). FilesCome core depth page entries files fault c) (sym checked) record { modules = modules; are = each; is = e })) made
+    (subst (λ (fault : Option (ℕ × ModuleFault)). FilesCome (process_of core page entries) depth files fault c) (sym checked) record { modules = modules; are = each; is = e })) made

@@ -18,6 +18,7 @@ use Rattle.sf_modules.specs.Fault.{Check}
 use Rattle.sf_modules.specs.Found.{modules_walk}
 use Rattle.sf_modules.specs.Module.{IsModule, ModuleView}
 use Rattle.sf_modules.specs.Note.{HasEntries, entries_check, file_note_in}
+use Rattle.sf_modules.specs.Process.{ProcessView}
 use Rattle.sf_modules.specs.Reading.{module_check}
 use Rattle.sf_modules.specs.FaultShown.{shown_of_module}
 use Rattle.sf_modules.specs.Union.{tables_of}
@@ -45,15 +46,15 @@ coming_of_module item fault = Refused (shown_of_module (Some item) fault)
 
 -- ---- the modules
 -- this is the module of a file
-abbrev pub IsModuleOf : (page : ℕ) → List EntryView → File → ModuleView → Type 0
-IsModuleOf page entries file m = IsModule file.0 file.1 page entries m
+abbrev pub IsModuleOf : ProcessView → File → ModuleView → Type 0
+IsModuleOf p file m = IsModule p file.0 file.1 m
 
-abbrev pub file_check : (page : ℕ) → List EntryView → File → Check
-file_check page entries file = module_check file.0 file.1 page entries
+abbrev pub file_check : ProcessView → File → Check
+file_check p file = module_check p file.0 file.1
 
 -- the first file of which no module is read, and its fault: the files are the items 1 and on
-abbrev pub files_fault : (page : ℕ) → List EntryView → List File → Option (ℕ × ModuleFault)
-files_fault page entries files = first_fault (file_check page entries) 1 files
+abbrev pub files_fault : ProcessView → List File → Option (ℕ × ModuleFault)
+files_fault p files = first_fault (file_check p) 1 files
 
 -- a module's file, or its section, is for another machine
 abbrev pub is_other : Arch → ModuleView → Bool
@@ -81,25 +82,29 @@ coming_of_modules None (Some limit) text = Exceeded limit
 coming_of_modules None None text = Makes Done None text
 
 -- what the walks by the modules of these files come to
-pub record ModulesCome (core : List ℕ) (depth page : ℕ) (entries : List EntryView) (files : List File) (coming : Coming) : Type 0 where
+pub record ModulesCome (p : ProcessView) (depth : ℕ) (files : List File) (coming : Coming) : Type 0 where
   pub modules : List ModuleView
-  pub are : AllZip (IsModuleOf page entries) files modules
-  pub is : coming ≡ coming_of_modules (mixed_item (arch_of core) modules) (sums_limit (tables_of modules)) (modules_walks entries modules core depth)
+  pub are : AllZip (IsModuleOf p) files modules
+  pub is : coming ≡ coming_of_modules (mixed_item (arch_of p.core) modules) (sums_limit (tables_of modules)) (modules_walks p.entries modules p.core depth)
 
-abbrev pub FilesCome : (core : List ℕ) → (depth page : ℕ) → List EntryView → List File → Option (ℕ × ModuleFault) → Coming → Type 0
-FilesCome core depth page entries files (Some fault) coming = coming ≡ coming_of_module fault.0 fault.1
-FilesCome core depth page entries files None coming = ModulesCome core depth page entries files coming
+abbrev pub FilesCome : ProcessView → (depth : ℕ) → List File → Option (ℕ × ModuleFault) → Coming → Type 0
+FilesCome p depth files (Some fault) coming = coming ≡ coming_of_module fault.0 fault.1
+FilesCome p depth files None coming = ModulesCome p depth files coming
 
 -- the note on mapped files of a core file
 abbrev pub file_note : (core : List ℕ) → Option Cursor
 file_note core = file_note_in (whole_notes (items_of core))
+
+-- the process that a core file shows, by the page size and the entries of that note
+abbrev pub process_of : (core : List ℕ) → (page : ℕ) → List EntryView → ProcessView
+process_of core page entries = record { core = core; page = page; entries = entries }
 
 -- what the files come to by the page size and the entries of that note: the first of which no module is read, or the walks
 pub record EntriesCome (core : List ℕ) (depth : ℕ) (files : List File) (coming : Coming) : Type 0 where
   pub page : ℕ
   pub entries : List EntryView
   pub are : HasEntries (file_note core) page entries
-  pub comes : FilesCome core depth page entries files (files_fault page entries files) coming
+  pub comes : FilesCome (process_of core page entries) depth files (files_fault (process_of core page entries) files) coming
 
 abbrev pub NoteComes : (core : List ℕ) → (depth : ℕ) → List File → Check → Coming → Type 0
 NoteComes core depth files (Err fault) coming = coming ≡ coming_of_module 0 fault

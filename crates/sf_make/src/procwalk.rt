@@ -8,6 +8,7 @@ ghost use Rattle.core_notes.specs.Checks.{core_check};
 ghost use Rattle.core_notes.specs.Views.{core_bytes, threads_of};
 ghost use Rattle.sf_modules.specs.Entry.{entry_view};
 ghost use Rattle.sf_modules.specs.Module.{module_view};
+ghost use Rattle.sf_modules.specs.Process.{process_view};
 ghost use Rattle.sf_modules.specs.Union.{tables_of};
 ghost use Rattle.sf_items.specs.Loading.{bytes_limit, of_kinds};
 ghost use Rattle.sf_words.specs.declared.item.ItemKind.{ItemKind as kind};
@@ -23,7 +24,7 @@ use core_notes::Core;
 use sf_decode::DecodeFault;
 use sf_items::{Limit, Refusal};
 use sf_model::Arch;
-use sf_modules::{Entry, Module, ModuleFault, Modules, entries, read_module};
+use sf_modules::{Entry, Module, ModuleFault, Modules, Process, entries, read_module};
 use sf_text::Output;
 use std::alloc::Global;
 
@@ -49,24 +50,22 @@ fn unread_module<'a>(fault: &ModuleFault, item: u32) -> Refusal<'a>
 /// The modules of these files, in order. The core file is item 0.
 fn modules_of<'a, 'm>(
     alloc: Global,
-    names: &'m [String],
+    process: &Process<'m>,
+    names: &[String],
     items: &'m [Vec<u8>],
-    page: u64,
-    entries: &[Entry<'_>],
 ) -> Result<Vec<Module<'m, 'm>>, Refusal<'a>>
-    requires page { 0 < page }
     requires count { length items.now ≡ length names.now }
     requires few { length items.now ≤ 512 }
     requires small { All (λ bytes. length bytes < 2 ^ 32) (map (λ v. v.items) items.now) }
     ensures count { IfOk result (λ modules. length modules.items ≡ length items.now) }
-    ensures checked { IfOk result (λ _. files_fault page (map entry_view entries.now) (zip (map string_bytes names.now) (map (λ v. v.items) items.now)) ≡ None) }
-    ensures are { IfOk result (λ modules. AllZip (IsModuleOf page (map entry_view entries.now)) (zip (map string_bytes names.now) (map (λ v. v.items) items.now)) (map module_view modules.items)) }
-    ensures refused { IfErr result (λ refused. (core : List ℕ) (depth : ℕ) → ComesAs (FilesCome core depth page (map entry_view entries.now) (zip (map string_bytes names.now) (map (λ v. v.items) items.now)) (files_fault page (map entry_view entries.now) (zip (map string_bytes names.now) (map (λ v. v.items) items.now)))) refused) }
+    ensures checked { IfOk result (λ _. files_fault (process_view process.now) (zip (map string_bytes names.now) (map (λ v. v.items) items.now)) ≡ None) }
+    ensures are { IfOk result (λ modules. AllZip (IsModuleOf (process_view process.now)) (zip (map string_bytes names.now) (map (λ v. v.items) items.now)) (map module_view modules.items)) }
+    ensures refused { IfErr result (λ refused. (depth : ℕ) → ComesAs (FilesCome (process_view process.now) depth (zip (map string_bytes names.now) (map (λ v. v.items) items.now)) (files_fault (process_view process.now) (zip (map string_bytes names.now) (map (λ v. v.items) items.now)))) refused) }
 {
     let mut modules: Vec<Module<'m, 'm>> = Vec::new(alloc);
     for (name, bytes) in names.iter().zip(items) {
         let item = modules.len() as u32 + 1;
-        match read_module(name.as_bytes(), bytes, page, entries) {
+        match read_module(process, name.as_bytes(), bytes) {
             Ok(module) => modules.push(module)?,
             Err(fault) => return Err(unread_module(&fault, item)),
         }
@@ -165,6 +164,11 @@ pub fn procwalk_made<'a, 'm>(
         Ok(note) => note,
         Err(fault) => return Err(unread_module(&fault, 0)),
     };
-    let modules = modules_of(alloc, names, items, page, &entries)?;
+    let process = Process {
+        core,
+        page,
+        entries: &entries,
+    };
+    let modules = modules_of(alloc, &process, names, items)?;
     walked(alloc, &core, depth, &entries, &modules)
 }

@@ -84,11 +84,12 @@ abbrev pub core_name : ℕ → List ℕ
 core_name n =
     if n == 2 then codes "NotCore" else (if n == 3 then codes "Note" else (if n == 4 then codes "StatusSize" else codes "NoThread"))
 
--- of finding the modules of a process, 1, 2 and 4 to 7
+-- of finding the modules of a process, 1, 2 and 4 to 9
 abbrev pub module_name : ℕ → List ℕ
 module_name n =
     if n == 1 then codes "NoFileNote" else (if n == 2 then codes "FileNote" else (if n == 4 then codes "NoSection" else (
-    if n == 5 then codes "Segments" else (if n == 6 then codes "NotMapped" else codes "Mapping"))))
+    if n == 5 then codes "Segments" else (if n == 6 then codes "NotMapped" else (if n == 7 then codes "Mapping" else (
+    if n == 8 then codes "Ambiguous" else codes "Build"))))))
 
 -- of putting functions together, 1 to 3
 abbrev pub link_name : ℕ → List ℕ

@@ -208,7 +208,7 @@ fn name_of_core(number: u8) -> &'static str
 
 /// The faults of finding the modules of a process.
 fn name_of_module(number: u8) -> &'static str
-    requires { (1 ≤ number) × (number ≤ 7) }
+    requires { (1 ≤ number) × (number ≤ 9) }
     ensures value { result.now ≡ module_name number }
     ensures short { length result.now ≤ 15 }
 {
@@ -218,7 +218,9 @@ fn name_of_module(number: u8) -> &'static str
         4 => "NoSection",
         5 => "Segments",
         6 => "NotMapped",
-        _ => "Mapping",
+        7 => "Mapping",
+        8 => "Ambiguous",
+        _ => "Build",
     }
 }
 

@@ -3,7 +3,8 @@ use Rattle.std.proofs.lemmas.List.{length-map}
 use Rattle.std.proofs.lemmas.Result.{err_from_is_err_and}
 use Rattle.sf_modules.specs.Entry.{entry_view}
 use Rattle.sf_modules.specs.Note.{HasEntries, entries_check}
-use Rattle.sf_make.specs.ProcwalkComes.{file_note}
+use Rattle.sf_make.specs.Making.{ComesAs}
+use Rattle.sf_make.specs.ProcwalkComes.{FilesCome, file_note, files_fault, process_of}
 use Rattle.sf_make.proofs.Backtraces.{first_short}
 use Rattle.sf_make.proofs.Linked.{bytes_of}
 use Rattle.sf_make.proofs.Procwalks.{files_behind_short, files_of, files_unread}
@@ -27,4 +28,7 @@ returns-in_err-modules c =
     let are : HasEntries (file_note core) page entries =
     subst (λ es. HasEntries (file_note core) page (map entry_view es)) (sym c.deref.ensures.value)
     (subst (λ (file : List ℕ). HasEntries (file_note file) page (map entry_view c.in-Ok-entries.note.1.items)) c.in-Ok.ensures.bytes c.in-Ok-entries.ensures.sound) in
-    rw (p.1, p.2) (files_unread core c.args.depth page entries (files_of c.args.names.now c.args.items.now) _ (sym c.in-Ok.ensures.exact) note are (c.in_err-modules.ensures.refused core c.args.depth))
+    let files = files_of c.args.names.now c.args.items.now in
+    rw (p.1, p.2) (files_unread core c.args.depth page entries files _ (sym c.in-Ok.ensures.exact) note are
+    (subst (λ (file : List ℕ). ComesAs (FilesCome (process_of file page entries) c.args.depth files (files_fault (process_of file page entries) files)) c.in_err-modules.field-0.0) c.in-Ok.ensures.bytes
+    (c.in_err-modules.ensures.refused c.args.depth)))
