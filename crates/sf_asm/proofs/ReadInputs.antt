@@ -1,6 +1,6 @@
 -- The functions of inputs, one behind the other.
-use Rattle.std.specs.Prelude.{◌⊎◌}
-use Rattle.std.proofs.Common.{◌≡◌, ℕ, ◌+◌, ◌<◌, ◌≤◌, List, [], ◌∷◌, ◌++◌, length, get_or, take, drop, map, Result, Ok, Err, refl, sym, ap, subst, ◌∙◌, append_assoc, add-one, arith, inl, inr}
+use Rattle.std.specs.Prelude.{◌⊎◌, IsTrue}
+use Rattle.std.proofs.Common.{◌≡◌, ℕ, ◌+◌, ◌<◌, ◌≤◌, Bool, List, [], ◌∷◌, ◌++◌, length, get_or, take, drop, map, Result, Ok, Err, refl, sym, ap, subst, ◌∙◌, append_assoc, add-one, arith, inl, inr}
 use Rattle.std.proofs.Math.Seq.{drop-cons}
 use Rattle.std.proofs.lemmas.List.{append-nil, drop_all, map-append, take_more}
 use Rattle.sf_asm.specs.declared.entry.Entry.{Entry}
@@ -34,19 +34,19 @@ input_wrapped item given (asm.Record section fault) h = wrapped item given (asm.
 input_wrapped item given (asm.Machine section fault) h = wrapped item given (asm.Machine section fault) refl (λ e. cc) h
 
 -- ---- inputs
--- what is left, behind the functions that were read and lent, comes to what all inputs come to
-pub record IsReadUpTo (set : Seen) (entries : List Entry) (lent : List Function) (item : ℕ) (left : List Object) (given : Result (List Function) GatherFault) : Type 0 where
+-- what is left, behind the functions that were read and, where they are, lent, comes to what all inputs come to
+pub record IsReadUpTo (lending : Bool) (set : Seen) (entries : List Entry) (lent : List Function) (item : ℕ) (left : List Object) (given : Result (List Function) GatherFault) : Type 0 where
   pub seen : List (List ℕ)
   pub has : HasSeen set seen
   pub reads : after_read entries (seen_as (map entry_of) (functions_after seen item left)) ≡ seen_as (map entry_of) given
-  pub lends : after_read lent (seen_as omitted_functions (functions_after seen item left)) ≡ seen_as omitted_functions given
+  pub lends : IsTrue lending → after_read lent (seen_as omitted_functions (functions_after seen item left)) ≡ seen_as omitted_functions given
 
-pub starts : (set : Seen) (item : ℕ) (objects : List Object) → HasSeen set [] → IsReadUpTo set [] [] item objects (functions_of item objects)
-starts set item objects h = record {
+pub starts : (lending : Bool) (set : Seen) (item : ℕ) (objects : List Object) → HasSeen set [] → IsReadUpTo lending set [] [] item objects (functions_of item objects)
+starts lending set item objects h = record {
   seen = [];
   has = h;
   reads = from_none (seen_as (map entry_of) (functions_of item objects));
-  lends = from_none (seen_as omitted_functions (functions_of item objects));
+  lends = λ asked. from_none (seen_as omitted_functions (functions_of item objects));
 }
 
 one_and_left : {X : Type 0} (view : List Function → List X) → IsListwise view → (before after : List X) (item : ℕ) (one : Result (List Function) AsmFault) (left : Result (List Function) GatherFault) → after_read before (seen_as view one) ≡ Ok after
@@ -66,26 +66,26 @@ pub functions_after-nil : (seen : List (List ℕ)) (item : ℕ) → functions_af
 unfolding functions_after
 functions_after-nil seen item = refl
 
-pub goes_on : (set set' : Seen) (entries entries' : List Entry) (lent lent' : List Function) (item : ℕ) (object : Object) (left : List Object) (given : Result (List Function) GatherFault) → IsReadUpTo set entries lent item (object ∷ left) given
+pub goes_on : (lending : Bool) (set set' : Seen) (entries entries' : List Entry) (lent lent' : List Function) (item : ℕ) (object : Object) (left : List Object) (given : Result (List Function) GatherFault) → IsReadUpTo lending set entries lent item (object ∷ left) given
     → ((signatures : List (List ℕ)) → HasSeen set signatures → after_read entries (seen_as (map entry_of) (object_functions item signatures object)) ≡ Ok entries')
-    → ((signatures : List (List ℕ)) → HasSeen set signatures → after_read lent (seen_as omitted_functions (object_functions item signatures object)) ≡ Ok lent')
-    → ((signatures : List (List ℕ)) → HasSeen set signatures → HasSeen set' (seen_behind signatures object)) → IsReadUpTo set' entries' lent' (item + 1) left given
-goes_on set set' entries entries' lent lent' item object left given h reads lends sees = record {
+    → (IsTrue lending → (signatures : List (List ℕ)) → HasSeen set signatures → after_read lent (seen_as omitted_functions (object_functions item signatures object)) ≡ Ok lent')
+    → ((signatures : List (List ℕ)) → HasSeen set signatures → HasSeen set' (seen_behind signatures object)) → IsReadUpTo lending set' entries' lent' (item + 1) left given
+goes_on lending set set' entries entries' lent lent' item object left given h reads lends sees = record {
   seen = seen_behind h.seen object;
   has = sees h.seen h.has;
   reads = sym (one_and_left (map entry_of) entries_listwise entries entries' item (object_functions item h.seen object) (functions_after (seen_behind h.seen object) (item + 1) left) (reads h.seen h.has))
       ∙ ap (λ (r : Result (List Function) GatherFault). after_read entries (seen_as (map entry_of) r)) (sym (functions_after-cons h.seen item object left)) ∙ h.reads;
-  lends = sym (one_and_left omitted_functions omitted_listwise lent lent' item (object_functions item h.seen object) (functions_after (seen_behind h.seen object) (item + 1) left) (lends h.seen h.has))
-      ∙ ap (λ (r : Result (List Function) GatherFault). after_read lent (seen_as omitted_functions r)) (sym (functions_after-cons h.seen item object left)) ∙ h.lends;
+  lends = λ asked. sym (one_and_left omitted_functions omitted_listwise lent lent' item (object_functions item h.seen object) (functions_after (seen_behind h.seen object) (item + 1) left) (lends asked h.seen h.has))
+      ∙ ap (λ (r : Result (List Function) GatherFault). after_read lent (seen_as omitted_functions r)) (sym (functions_after-cons h.seen item object left)) ∙ h.lends asked;
 }
 
 first_fault : (item : ℕ) (one : Result (List Function) AsmFault) (left : Result (List Function) GatherFault) (fault : GatherFault) → named (gather.Input item) one ≡ Err fault
     → (named (gather.Input item) one >>= λ fs. left >>= λ gs. Ok (fs ++ gs)) ≡ Err fault
 first_fault item one left fault e = ap (λ (r : Result (List Function) GatherFault). r >>= λ fs. left >>= λ gs. Ok (fs ++ gs)) e
 
-pub stops : (set : Seen) (entries : List Entry) (lent : List Function) (item : ℕ) (object : Object) (left : List Object) (given : Result (List Function) GatherFault) (fault : GatherFault) → IsReadUpTo set entries lent item (object ∷ left) given
+pub stops : (lending : Bool) (set : Seen) (entries : List Entry) (lent : List Function) (item : ℕ) (object : Object) (left : List Object) (given : Result (List Function) GatherFault) (fault : GatherFault) → IsReadUpTo lending set entries lent item (object ∷ left) given
     → ((signatures : List (List ℕ)) → HasSeen set signatures → (fault ≡ gather.NoMemory) ⊎ (named (gather.Input item) (object_functions item signatures object) ≡ Err fault)) → (fault ≡ gather.NoMemory) ⊎ (given ≡ Err fault)
-stops set entries lent item object left given fault h refused =
+stops lending set entries lent item object left given fault h refused =
     elim (refused h.seen h.has) [
       | inl wanting ↦ inl wanting
       | inr e ↦
@@ -94,38 +94,38 @@ stops set entries lent item object left given fault h refused =
           (from_none (seen_as (map entry_of) given) ∙ sym h.reads ∙ ap (λ (r : Result (List Function) GatherFault). after_read entries (seen_as (map entry_of) r)) first))
     ]
 
-pub ends : (set : Seen) (entries : List Entry) (lent : List Function) (item : ℕ) (given : Result (List Function) GatherFault) → IsReadUpTo set entries lent item [] given → (seen_as (map entry_of) given ≡ Ok entries) × (seen_as omitted_functions given ≡ Ok lent)
-ends set entries lent item given h = (
+pub ends : (lending : Bool) (set : Seen) (entries : List Entry) (lent : List Function) (item : ℕ) (given : Result (List Function) GatherFault) → IsReadUpTo lending set entries lent item [] given → (seen_as (map entry_of) given ≡ Ok entries) × (IsTrue lending → seen_as omitted_functions given ≡ Ok lent)
+ends lending set entries lent item given h = (
   sym h.reads ∙ ap (λ (r : Result (List Function) GatherFault). after_read entries (seen_as (map entry_of) r)) (functions_after-nil h.seen item) ∙ ap Ok (append-nil entries),
-  sym h.lends ∙ ap (λ (r : Result (List Function) GatherFault). after_read lent (seen_as omitted_functions r)) (functions_after-nil h.seen item) ∙ ap Ok (append-nil lent),
+  λ asked. sym (h.lends asked) ∙ ap (λ (r : Result (List Function) GatherFault). after_read lent (seen_as omitted_functions r)) (functions_after-nil h.seen item) ∙ ap Ok (append-nil lent),
 )
 
 -- ---- the inputs from a place on
 left_is : (inputs : List Input) (k : ℕ) (d : Input) → k < length inputs → map object_of (drop k inputs) ≡ object_of (get_or inputs k d) ∷ map object_of (drop (k + 1) inputs)
 left_is inputs k d lt = ap (map object_of) (drop-cons inputs k d lt) ∙ ap (λ (n : ℕ). object_of (get_or inputs k d) ∷ map object_of (drop n inputs)) (sym (add-one k))
 
-pub goes_on_at : (set set' : Seen) (entries entries' : List Entry) (lent lent' : List Function) (first k : ℕ) (inputs : List Input) (d : Input) (given : Result (List Function) GatherFault) → k < length inputs
-    → IsReadUpTo set entries lent (first + k) (map object_of (drop k inputs)) given
+pub goes_on_at : (lending : Bool) (set set' : Seen) (entries entries' : List Entry) (lent lent' : List Function) (first k : ℕ) (inputs : List Input) (d : Input) (given : Result (List Function) GatherFault) → k < length inputs
+    → IsReadUpTo lending set entries lent (first + k) (map object_of (drop k inputs)) given
     → ((signatures : List (List ℕ)) → HasSeen set signatures → after_read entries (seen_as (map entry_of) (object_functions (first + k) signatures (object_of (get_or inputs k d)))) ≡ Ok entries')
-    → ((signatures : List (List ℕ)) → HasSeen set signatures → after_read lent (seen_as omitted_functions (object_functions (first + k) signatures (object_of (get_or inputs k d)))) ≡ Ok lent')
-    → ((signatures : List (List ℕ)) → HasSeen set signatures → HasSeen set' (seen_behind signatures (object_of (get_or inputs k d)))) → IsReadUpTo set' entries' lent' (first + (k + 1)) (map object_of (drop (k + 1) inputs)) given
-goes_on_at set set' entries entries' lent lent' first k inputs d given lt h reads lends sees =
-    subst (λ (item : ℕ). IsReadUpTo set' entries' lent' item (map object_of (drop (k + 1) inputs)) given) (omega arith)
-    (goes_on set set' entries entries' lent lent' (first + k) (object_of (get_or inputs k d)) (map object_of (drop (k + 1) inputs)) given
-    (subst (λ (left : List Object). IsReadUpTo set entries lent (first + k) left given) (left_is inputs k d lt) h) reads lends sees)
+    → (IsTrue lending → (signatures : List (List ℕ)) → HasSeen set signatures → after_read lent (seen_as omitted_functions (object_functions (first + k) signatures (object_of (get_or inputs k d)))) ≡ Ok lent')
+    → ((signatures : List (List ℕ)) → HasSeen set signatures → HasSeen set' (seen_behind signatures (object_of (get_or inputs k d)))) → IsReadUpTo lending set' entries' lent' (first + (k + 1)) (map object_of (drop (k + 1) inputs)) given
+goes_on_at lending set set' entries entries' lent lent' first k inputs d given lt h reads lends sees =
+    subst (λ (item : ℕ). IsReadUpTo lending set' entries' lent' item (map object_of (drop (k + 1) inputs)) given) (omega arith)
+    (goes_on lending set set' entries entries' lent lent' (first + k) (object_of (get_or inputs k d)) (map object_of (drop (k + 1) inputs)) given
+    (subst (λ (left : List Object). IsReadUpTo lending set entries lent (first + k) left given) (left_is inputs k d lt) h) reads lends sees)
 
-pub stops_at : (set : Seen) (entries : List Entry) (lent : List Function) (first k : ℕ) (inputs : List Input) (d : Input) (given : Result (List Function) GatherFault) (fault : GatherFault) → k < length inputs
-    → IsReadUpTo set entries lent (first + k) (map object_of (drop k inputs)) given
+pub stops_at : (lending : Bool) (set : Seen) (entries : List Entry) (lent : List Function) (first k : ℕ) (inputs : List Input) (d : Input) (given : Result (List Function) GatherFault) (fault : GatherFault) → k < length inputs
+    → IsReadUpTo lending set entries lent (first + k) (map object_of (drop k inputs)) given
     → ((signatures : List (List ℕ)) → HasSeen set signatures → (fault ≡ gather.NoMemory) ⊎ (named (gather.Input (first + k)) (object_functions (first + k) signatures (object_of (get_or inputs k d))) ≡ Err fault))
     → (fault ≡ gather.NoMemory) ⊎ (given ≡ Err fault)
-stops_at set entries lent first k inputs d given fault lt h refused =
-    stops set entries lent (first + k) (object_of (get_or inputs k d)) (map object_of (drop (k + 1) inputs)) given fault
-    (subst (λ (left : List Object). IsReadUpTo set entries lent (first + k) left given) (left_is inputs k d lt) h) refused
+stops_at lending set entries lent first k inputs d given fault lt h refused =
+    stops lending set entries lent (first + k) (object_of (get_or inputs k d)) (map object_of (drop (k + 1) inputs)) given fault
+    (subst (λ (left : List Object). IsReadUpTo lending set entries lent (first + k) left given) (left_is inputs k d lt) h) refused
 
-pub ends_at : (set : Seen) (entries : List Entry) (lent : List Function) (item k : ℕ) (inputs : List Input) (given : Result (List Function) GatherFault) → length inputs ≤ k → IsReadUpTo set entries lent item (map object_of (drop k inputs)) given
-    → (seen_as (map entry_of) given ≡ Ok entries) × (seen_as omitted_functions given ≡ Ok lent)
-ends_at set entries lent item k inputs given le h =
-    ends set entries lent item given (subst (λ (left : List Object). IsReadUpTo set entries lent item left given) (ap (map object_of) (drop_all k inputs le)) h)
+pub ends_at : (lending : Bool) (set : Seen) (entries : List Entry) (lent : List Function) (item k : ℕ) (inputs : List Input) (given : Result (List Function) GatherFault) → length inputs ≤ k → IsReadUpTo lending set entries lent item (map object_of (drop k inputs)) given
+    → (seen_as (map entry_of) given ≡ Ok entries) × (IsTrue lending → seen_as omitted_functions given ≡ Ok lent)
+ends_at lending set entries lent item k inputs given le h =
+    ends lending set entries lent item given (subst (λ (left : List Object). IsReadUpTo lending set entries lent item left given) (ap (map object_of) (drop_all k inputs le)) h)
 
 -- the machines up to a place
 pub machines_more : (inputs : List Input) (k : ℕ) (d : Input) → k < length inputs

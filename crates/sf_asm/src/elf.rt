@@ -1,6 +1,6 @@
 //! The functions of an ELF file, in the order of its sections and records.
 
-ghost use Rattle.std.specs.Prelude.{◌≡◌, ◌<◌, ◌^◌, ◌+◌, ◌-◌, ◌%◌, ◌⊎◌, ℕ, List, All, Ok, Err, length, map, IfOk, IfErr, OnOk};
+ghost use Rattle.std.specs.Prelude.{IsTrue, ◌≡◌, ◌<◌, ◌^◌, ◌+◌, ◌-◌, ◌%◌, ◌⊎◌, ℕ, List, All, Ok, Err, length, map, IfOk, IfErr, OnOk};
 ghost use Rattle.elf_read.specs.Header as head;
 ghost use Rattle.elf_read.specs.Sections.{section_bytes};
 ghost use Rattle.elf_read.specs.Views.{file};
@@ -106,16 +106,17 @@ fn read_sections<'a>(
     arch: Arch,
     item: u32,
     placed: &Placed<'a>,
+    lending: bool,
     read: &mut ReadFunctions<'a>,
 ) -> Result<(), AsmFault>
     ensures exact { ReadsMore result read.old.entries read.new.entries (sections_functions arch item (map (placed_section (placed_views.placing placed.now) (placed_views.shift_in placed.now)) (placed_views.eh_frames placed.now))) }
-    ensures lent { OnOk result (LendsMore (functions_lent read.old.sources.items) (functions_lent read.new.sources.items) (sections_functions arch item (map (placed_section (placed_views.placing placed.now) (placed_views.shift_in placed.now)) (placed_views.eh_frames placed.now)))) }
+    ensures lent { OnOk result (IsTrue lending → LendsMore (functions_lent read.old.sources.items) (functions_lent read.new.sources.items) (sections_functions arch item (map (placed_section (placed_views.placing placed.now) (placed_views.shift_in placed.now)) (placed_views.eh_frames placed.now)))) }
     ensures sound { OnOk result (All (IsSound arch) read.old.entries → All (IsSound arch) read.new.entries) }
 {
     let numbers = placed.eh_frames();
     for number in numbers {
         let section = frames_at(arch, item, placed, *number);
-        read_section(alloc, &section, Some(placed), read)?;
+        read_section(alloc, &section, Some(placed), lending, read)?;
     }
     Ok(())
 }
@@ -127,18 +128,19 @@ pub fn read_elf<'a>(
     item: u32,
     bytes: &'a [u8],
     base: u64,
+    lending: bool,
     seen: &mut Seen<'a>,
     read: &mut ReadFunctions<'a>,
 ) -> Result<Arch, AsmFault>
     requires { length bytes.now < 2 ^ 32 }
     ensures exact { (signatures : List (List ℕ)) → HasSeen seen.old signatures → ReadsMore result read.old.entries read.new.entries (object_functions item signatures (record { form = Form.Elf; bytes = bytes.now; base = base })) }
-    ensures lent { OnOk result ((signatures : List (List ℕ)) → HasSeen seen.old signatures → LendsMore (functions_lent read.old.sources.items) (functions_lent read.new.sources.items) (object_functions item signatures (record { form = Form.Elf; bytes = bytes.now; base = base }))) }
+    ensures lent { OnOk result (IsTrue lending → (signatures : List (List ℕ)) → HasSeen seen.old signatures → LendsMore (functions_lent read.old.sources.items) (functions_lent read.new.sources.items) (object_functions item signatures (record { form = Form.Elf; bytes = bytes.now; base = base }))) }
     ensures seen { OnOk result ((signatures : List (List ℕ)) → HasSeen seen.old signatures → HasSeen seen.new (seen_after signatures bytes.now)) }
     ensures arch { IfOk result (λ arch. arch ≡ head.arch_of bytes.now) }
     ensures sound { IfOk result (λ arch. All (IsSound arch) read.old.entries → All (IsSound arch) read.new.entries) }
 {
     let elf = parse(bytes)?;
     let placed = place(alloc, &elf, base, seen)?;
-    read_sections(alloc, elf.arch(), item, &placed, read)?;
+    read_sections(alloc, elf.arch(), item, &placed, lending, read)?;
     Ok(elf.arch())
 }

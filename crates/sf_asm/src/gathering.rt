@@ -78,7 +78,7 @@ pub struct WithSources<'a> {
 struct ReadInOrder<'a> {
     arch: Arch,
     entries: OrderedEntries,
-    /// Those of them that are left out, as their records say them, in the order of the inputs.
+    /// Those of them that are left out, as their records say them, in the order of the inputs; or none.
     sources: Vec<Source<'a>>,
 }
 
@@ -104,22 +104,23 @@ fn check(entries: &OrderedEntries) -> Result<(), GatherFault>
     overlaps.into_result()
 }
 
-/// The functions of all inputs, in order.
+/// The functions of all inputs, in order. Where `lending`, those that are left out are lent.
 fn ordered<'a>(
     alloc: Global,
     inputs: &[Input<'a>],
     before: Option<Arch>,
+    lending: bool,
 ) -> Result<ReadInOrder<'a>, GatherFault>
     requires some { (0 < length inputs.now) × (length inputs.now ≤ 512) }
     requires small { All (λ input. length input.bytes.now < 2 ^ 32) inputs.now }
     ensures gathered { IfOk result (λ read. Gathers before (map object_of inputs.now) (Ok read.entries)) }
-    ensures lent { IfOk result (λ read. LendsAll (functions_lent read.sources.items) (functions_of (item_of_first before) (map object_of inputs.now))) }
+    ensures lent { IfOk result (λ read. IsTrue lending → LendsAll (functions_lent read.sources.items) (functions_of (item_of_first before) (map object_of inputs.now))) }
     ensures machine { IfOk result (λ read. HaveMachine before (map object_of inputs.now) read.arch) }
     ensures sound { IfOk result (λ read. All (IsSound read.arch) read.entries) }
     ensures checked { IfOk result (λ read. functions_fault read.entries ≡ None) }
     ensures fault { IfErr result (IsFirstGathered before (map object_of inputs.now)) }
 {
-    let AllFunctions { machines, read } = read_all(alloc, first_item(before), inputs)?;
+    let AllFunctions { machines, read } = read_all(alloc, first_item(before), inputs, lending)?;
     let arch = one_machine(before, &machines)?;
     let ReadFunctions { entries, sources } = read;
     let entries = entries.in_order(alloc)?;
@@ -184,7 +185,7 @@ pub fn gather_together(
     ensures fault { IfErr result (IsFirstGathered before (map object_of inputs.now)) }
     ensures answered { IfErr result (λ fault. IsTrue (is_gather_answered fault)) }
 {
-    let read = ordered(alloc, inputs, before)?;
+    let read = ordered(alloc, inputs, before, false)?;
     Ok(kept_and_omitted(alloc, read.arch, read.entries)?)
 }
 
@@ -236,7 +237,7 @@ pub fn gather_with_sources<'a>(
     ensures fault { IfErr result (IsFirstGathered before (map object_of inputs.now)) }
     ensures answered { IfErr result (λ fault. IsTrue (is_gather_answered fault)) }
 {
-    let mut read = ordered(alloc, inputs, before)?;
+    let mut read = ordered(alloc, inputs, before, true)?;
     order_sources(&mut read.sources)?;
     let together = kept_and_omitted(alloc, read.arch, read.entries)?;
     Ok(WithSources {
@@ -322,7 +323,7 @@ pub fn gather(
     ensures fault { IfErr result (IsFirstGathered before (map object_of inputs.now)) }
     ensures answered { IfErr result (λ fault. IsTrue (is_gather_answered fault)) }
 {
-    let read = ordered(alloc, inputs, before)?;
+    let read = ordered(alloc, inputs, before, false)?;
     let first = first_item(before);
     let entries = read.entries.with_rows(alloc)?;
     Ok(sort_out(alloc, read.arch, first, inputs.len(), entries)?)

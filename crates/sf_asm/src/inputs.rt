@@ -1,6 +1,6 @@
 //! All inputs, one behind the other: their functions, and their one machine.
 
-ghost use Rattle.std.specs.Prelude.{◌≡◌, ◌⊎◌, ◌≤◌, ◌<◌, ◌^◌, ℕ, List, All, length, map, not, Ok, Err, IfOk, IfErr, OnOk, position};
+ghost use Rattle.std.specs.Prelude.{IsTrue, ◌≡◌, ◌⊎◌, ◌≤◌, ◌<◌, ◌^◌, ℕ, List, All, length, map, not, Ok, Err, IfOk, IfErr, OnOk, position};
 ghost use Rattle.sf_model.specs.declared.machine.Arch.{Arch as machine};
 ghost use Rattle.sf_asm.specs.Answers.{LendsAll, LendsMore, after_read, seen_as};
 ghost use Rattle.sf_asm.specs.Entry.{IsSound};
@@ -36,34 +36,36 @@ fn read_item<'a>(
     alloc: Global,
     item: u32,
     input: &Input<'a>,
+    lending: bool,
     seen: &mut Seen<'a>,
     read: &mut ReadFunctions<'a>,
 ) -> Result<Arch, GatherFault>
     requires { length input.now.bytes.now < 2 ^ 32 }
     ensures reads { OnOk result ((signatures : List (List ℕ)) → HasSeen seen.old signatures → after_read read.old.entries (seen_as (map entry_of) (object_functions item signatures (object_of input.now))) ≡ Ok read.new.entries) }
-    ensures lent { OnOk result ((signatures : List (List ℕ)) → HasSeen seen.old signatures → LendsMore (functions_lent read.old.sources.items) (functions_lent read.new.sources.items) (object_functions item signatures (object_of input.now))) }
+    ensures lent { OnOk result (IsTrue lending → (signatures : List (List ℕ)) → HasSeen seen.old signatures → LendsMore (functions_lent read.old.sources.items) (functions_lent read.new.sources.items) (object_functions item signatures (object_of input.now))) }
     ensures seen { OnOk result ((signatures : List (List ℕ)) → HasSeen seen.old signatures → HasSeen seen.new (seen_behind signatures (object_of input.now))) }
     ensures arch { IfOk result (λ arch. arch ≡ machine_of (object_of input.now)) }
     ensures sound { IfOk result (λ arch. All (IsSound arch) read.old.entries → All (IsSound arch) read.new.entries) }
     ensures fault { IfErr result (λ fault. (signatures : List (List ℕ)) → HasSeen seen.old signatures → (fault ≡ NoMemory) ⊎ (named (RefusedInput item) (object_functions item signatures (object_of input.now)) ≡ Err fault)) }
 {
-    match read_input(alloc, item, input, seen, read) {
+    match read_input(alloc, item, input, lending, seen, read) {
         Ok(arch) => Ok(arch),
         Err(fault) => Err(input_fault(item, fault)),
     }
 }
 
 /// The functions of all inputs, as they stand in them, and the machine of each. The inputs are numbered
-/// from `first` on.
+/// from `first` on. Where `lending`, those that are left out are lent.
 pub fn read_all<'a>(
     alloc: Global,
     first: u32,
     inputs: &[Input<'a>],
+    lending: bool,
 ) -> Result<AllFunctions<'a>, GatherFault>
     requires few { (first ≤ 1) × (length inputs.now ≤ 512) }
     requires small { All (λ input. length input.bytes.now < 2 ^ 32) inputs.now }
     ensures reads { IfOk result (λ all. seen_as (map entry_of) (functions_of first (map object_of inputs.now)) ≡ Ok all.read.entries) }
-    ensures lent { IfOk result (λ all. LendsAll (functions_lent all.read.sources.items) (functions_of first (map object_of inputs.now))) }
+    ensures lent { IfOk result (λ all. IsTrue lending → LendsAll (functions_lent all.read.sources.items) (functions_of first (map object_of inputs.now))) }
     ensures machines { IfOk result (λ all. all.machines.items ≡ map machine_of (map object_of inputs.now)) }
     ensures sound { IfOk result (λ all. (arch : machine) → All (λ machine. machine ≡ arch) all.machines.items → All (IsSound arch) all.read.entries) }
     ensures fault { IfErr result (λ fault. (fault ≡ NoMemory) ⊎ (functions_of first (map object_of inputs.now) ≡ Err fault)) }
@@ -75,7 +77,7 @@ pub fn read_all<'a>(
     };
     for (index, input) in inputs.iter().enumerate() {
         let item = first + index as u32;
-        let arch = read_item(alloc, item, input, &mut seen, &mut all.read)?;
+        let arch = read_item(alloc, item, input, lending, &mut seen, &mut all.read)?;
         all.machines.push(arch)?;
     }
     Ok(all)

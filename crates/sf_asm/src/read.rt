@@ -12,7 +12,8 @@ use std::alloc::Global;
 pub struct ReadFunctions<'a> {
     /// The functions, in the order of the inputs, sections and records.
     pub entries: Entries,
-    /// Those of them that are left out, as their records say them, in the same order.
+    /// Those of them that are left out, as their records say them, in the same order; none where they need not be
+    /// lent.
     pub sources: Vec<Source<'a>>,
 }
 

@@ -1,6 +1,6 @@
 //! The functions of one input, in the order of its sections and records.
 
-ghost use Rattle.std.specs.Prelude.{◌≡◌, ◌<◌, ◌^◌, ℕ, List, All, [], ◌∷◌, length, IfOk, OnOk};
+ghost use Rattle.std.specs.Prelude.{IsTrue, ◌≡◌, ◌<◌, ◌^◌, ℕ, List, All, [], ◌∷◌, length, IfOk, OnOk};
 ghost use Rattle.sf_asm.specs.Answers.{LendsMore, ReadsMore};
 ghost use Rattle.sf_asm.specs.Entry.{IsSound};
 ghost use Rattle.sf_asm.specs.Functions.{bare_section, machine_of, object_functions, object_of, sections_functions, seen_behind};
@@ -26,11 +26,12 @@ fn read_bare<'a>(
     arch: Arch,
     item: u32,
     input: &Input<'a>,
+    lending: bool,
     read: &mut ReadFunctions<'a>,
 ) -> Result<(), AsmFault>
     requires { length input.now.bytes.now < 2 ^ 32 }
     ensures exact { ReadsMore result read.old.entries read.new.entries (sections_functions arch item (bare_section input.now.bytes.now input.now.base ∷ [])) }
-    ensures lent { OnOk result (LendsMore (functions_lent read.old.sources.items) (functions_lent read.new.sources.items) (sections_functions arch item (bare_section input.now.bytes.now input.now.base ∷ []))) }
+    ensures lent { OnOk result (IsTrue lending → LendsMore (functions_lent read.old.sources.items) (functions_lent read.new.sources.items) (sections_functions arch item (bare_section input.now.bytes.now input.now.base ∷ []))) }
     ensures sound { OnOk result (All (IsSound arch) read.old.entries → All (IsSound arch) read.new.entries) }
 {
     let section = CallFrameSection {
@@ -41,7 +42,7 @@ fn read_bare<'a>(
         address: input.base,
         shift: 0,
     };
-    read_section(alloc, &section, None, read)
+    read_section(alloc, &section, None, lending, read)
 }
 
 /// Reads the functions of an input, in the order of its sections and records, after those that were read
@@ -50,20 +51,21 @@ pub fn read_input<'a>(
     alloc: Global,
     item: u32,
     input: &Input<'a>,
+    lending: bool,
     seen: &mut Seen<'a>,
     read: &mut ReadFunctions<'a>,
 ) -> Result<Arch, AsmFault>
     requires { length input.now.bytes.now < 2 ^ 32 }
     ensures exact { (signatures : List (List ℕ)) → HasSeen seen.old signatures → ReadsMore result read.old.entries read.new.entries (object_functions item signatures (object_of input.now)) }
-    ensures lent { OnOk result ((signatures : List (List ℕ)) → HasSeen seen.old signatures → LendsMore (functions_lent read.old.sources.items) (functions_lent read.new.sources.items) (object_functions item signatures (object_of input.now))) }
+    ensures lent { OnOk result (IsTrue lending → (signatures : List (List ℕ)) → HasSeen seen.old signatures → LendsMore (functions_lent read.old.sources.items) (functions_lent read.new.sources.items) (object_functions item signatures (object_of input.now))) }
     ensures seen { OnOk result ((signatures : List (List ℕ)) → HasSeen seen.old signatures → HasSeen seen.new (seen_behind signatures (object_of input.now))) }
     ensures arch { IfOk result (λ arch. arch ≡ machine_of (object_of input.now)) }
     ensures sound { IfOk result (λ arch. All (IsSound arch) read.old.entries → All (IsSound arch) read.new.entries) }
 {
     match input.form {
-        Form::Elf => read_elf(alloc, item, input.bytes, input.base, seen, read),
+        Form::Elf => read_elf(alloc, item, input.bytes, input.base, lending, seen, read),
         Form::Bare(arch) => {
-            read_bare(alloc, arch, item, input, read)?;
+            read_bare(alloc, arch, item, input, lending, read)?;
             Ok(arch)
         }
     }

@@ -229,12 +229,13 @@ fn lend_source<'a>(
     Ok(())
 }
 
-/// Lends a function where it's left out.
+/// Lends a function where it's left out and the functions are to be lent.
 #[inline(always)]
 fn lend<'a>(
     section: &CallFrameSection<'a>,
     fde: &Fde<'a>,
     entry: &Entry,
+    lending: bool,
     initials: &mut Initials,
     sources: &mut Vec<Source<'a>>,
 ) -> Result<(), AsmFault>
@@ -244,9 +245,12 @@ fn lend<'a>(
     requires end { entry.now.span.start + entry.now.span.size ≤ 2 ^ 64 }
     requires ran { is_ok (rows_by section.now.arch fde.now.cie.code fde.now.cie.factor entry.now.span.size (listing (cursor fde.now.cie.insns)) (listing (cursor fde.now.insns))) ≡ true }
     ensures initials { OnOk result (AreInitial section.now.arch section.now.bytes.now initials.new) }
-    ensures lent { OnOk result (functions_lent sources.new.items ≡ functions_lent sources.old.items ++ if_left entry.now.outcome (function_by_span section.now.arch fde.now entry.now.span)) }
+    ensures lent { OnOk result (IsTrue lending → functions_lent sources.new.items ≡ functions_lent sources.old.items ++ if_left entry.now.outcome (function_by_span section.now.arch fde.now entry.now.span)) }
     ensures refused { IfErr result (λ fault. fault ≡ NoMemory) }
 {
+    if !lending {
+        return Ok(());
+    }
     if let Outcome::Left(_) = entry.outcome {
         lend_source(section, fde, entry.span, initials, sources)?;
     }
@@ -297,12 +301,13 @@ fn read_frames<'a>(
     section: &CallFrameSection<'a>,
     overlay: &Overlay,
     records: &Records<'a>,
+    lending: bool,
     read: &mut ReadFunctions<'a>,
 ) -> Result<(), AsmFault>
     requires machine { machine_of_records records.now ≡ section.now.arch }
     requires bytes { bytes_of_records records.now ≡ section.now.bytes.now }
     ensures exact { (relocations : Result (List RelocatedField) reloc_fault) → ReadsMore result read.old.entries read.new.entries (functions_in section.now.arch section.now.item (seen_section section.now relocations) (overlaid (written_by overlay.now)) (frames (entries_of_records records.now))) }
-    ensures lent { OnOk result ((relocations : Result (List RelocatedField) reloc_fault) → LendsMore (functions_lent read.old.sources.items) (functions_lent read.new.sources.items) (functions_in section.now.arch section.now.item (seen_section section.now relocations) (overlaid (written_by overlay.now)) (frames (entries_of_records records.now)))) }
+    ensures lent { OnOk result (IsTrue lending → (relocations : Result (List RelocatedField) reloc_fault) → LendsMore (functions_lent read.old.sources.items) (functions_lent read.new.sources.items) (functions_in section.now.arch section.now.item (seen_section section.now relocations) (overlaid (written_by overlay.now)) (frames (entries_of_records records.now)))) }
     ensures sound { OnOk result (All (IsSound section.now.arch) read.old.entries → All (IsSound section.now.arch) read.new.entries) }
 {
     let mut initials = Initials::new(alloc);
@@ -321,25 +326,34 @@ fn read_frames<'a>(
             &mut run,
             &mut spare,
         )?;
-        lend(section, &fde, &entry, &mut initials, &mut read.sources)?;
+        lend(
+            section,
+            &fde,
+            &entry,
+            lending,
+            &mut initials,
+            &mut read.sources,
+        )?;
         read.entries.push(section.arch, entry, &mut spare)?;
     }
     Ok(())
 }
 
-/// The functions of a section of a file, or of none, after those that were read before.
+/// The functions of a section of a file, or of none, after those that were read before. Where `lending`, those that
+/// are left out are lent.
 pub fn read_section<'a>(
     alloc: Global,
     section: &CallFrameSection<'a>,
     placed: Option<&Placed<'_>>,
+    lending: bool,
     read: &mut ReadFunctions<'a>,
 ) -> Result<(), AsmFault>
     ensures exact { ReadsMore result read.old.entries read.new.entries (section_functions section.now.arch section.now.item (seen_section section.now (relocations_by (option_map (λ p. placing p.now) placed.entry) section.now.number))) }
-    ensures lent { OnOk result (LendsMore (functions_lent read.old.sources.items) (functions_lent read.new.sources.items) (section_functions section.now.arch section.now.item (seen_section section.now (relocations_by (option_map (λ p. placing p.now) placed.entry) section.now.number)))) }
+    ensures lent { OnOk result (IsTrue lending → LendsMore (functions_lent read.old.sources.items) (functions_lent read.new.sources.items) (section_functions section.now.arch section.now.item (seen_section section.now (relocations_by (option_map (λ p. placing p.now) placed.entry) section.now.number)))) }
     ensures sound { OnOk result (All (IsSound section.now.arch) read.old.entries → All (IsSound section.now.arch) read.new.entries) }
 {
     let records = records_of(alloc, section)?;
     let overlay = overlay_of(alloc, placed, section.number)?;
     check_overlay(alloc, section.number, &overlay, &records)?;
-    read_frames(alloc, section, &overlay, &records, read)
+    read_frames(alloc, section, &overlay, &records, lending, read)
 }

@@ -1,4 +1,4 @@
-use Rattle.std.proofs.Common.{List, Ok, map, ap, subst, sym, ◌∙◌}
+use Rattle.std.proofs.Common.{List, Ok, map, ap, subst, sym, ◌∙◌, refl}
 use Rattle.std.proofs.lemmas.Result.{err_from_is_err_and}
 use Rattle.sf_model.specs.Function.{AreWritable}
 use Rattle.sf_asm.specs.declared.entry.Entry.{Entry}
@@ -28,7 +28,7 @@ returns-clause-gathered c =
       kept_are = kept ∙ ap kept_of is;
       writable = rw c.in_ok-together.ensures.arch (subst (AreWritable c.in_ok-read.read.arch) (sym kept) (kept_of_checked c.in_ok-read.read.arch entries c.in_ok-read.ensures.sound c.in_ok-read.ensures.checked));
       omitted_are = c.in_ok-together.ensures.omitted ∙ ap omitted_of is;
-      sources_are = sources_are read.functions c.in_ok-read.read.sources.items c.order_sources.new.sources.items (are_lent _ read.functions _ read.are c.in_ok-read.ensures.lent) c.in_ok-order_sources.ensures.rising c.in_ok-order_sources.ensures.stable;
+      sources_are = sources_are read.functions c.in_ok-read.read.sources.items c.order_sources.new.sources.items (are_lent _ read.functions _ read.are (c.in_ok-read.ensures.lent refl)) c.in_ok-order_sources.ensures.rising c.in_ok-order_sources.ensures.stable;
     }
 
 pub returns-in_err-read-clause-answered : goal.returns-in_err-read-clause-answered

@@ -11,13 +11,13 @@ use Rattle.sf_asm.proofs.inputs.read_all.Goals as goal
 pub returns-in_err-arch-clause-fault : goal.returns-in_err-arch-clause-fault
 returns-in_err-arch-clause-fault c =
     let p = err_from_is_err_and c.from_residual.result c.from_residual.ensures.1 in
-    rw (p.1, p.2) (stops_at c.loop-index.seen c.loop-index.all.read.entries (functions_lent c.loop-index.all.read.sources.items) c.args.first c.loop-index.index c.args.inputs.now _ (functions_of c.args.first (map object_of c.args.inputs.now)) c.in_err-arch.field-0.0 c.loop-index-test.true c.loop-index.invariant.reads c.in_err-arch.ensures.fault)
+    rw (p.1, p.2) (stops_at c.args.lending c.loop-index.seen c.loop-index.all.read.entries (functions_lent c.loop-index.all.read.sources.items) c.args.first c.loop-index.index c.args.inputs.now _ (functions_of c.args.first (map object_of c.args.inputs.now)) c.in_err-arch.field-0.0 c.loop-index-test.true c.loop-index.invariant.reads c.in_err-arch.ensures.fault)
 
 pub loop-index-preserved : goal.loop-index-preserved
 loop-index-preserved c =
     let so_far = c.loop-index.invariant in
     record {
-      reads = goes_on_at c.loop-index.seen c.read_item.new.seen c.loop-index.all.read.entries c.read_item.new.read.entries (functions_lent c.loop-index.all.read.sources.items) (functions_lent c.read_item.new.read.sources.items) c.args.first c.loop-index.index c.args.inputs.now _ (functions_of c.args.first (map object_of c.args.inputs.now)) c.loop-index-test.true so_far.reads c.in_ok-arch.ensures.reads c.in_ok-arch.ensures.lent c.in_ok-arch.ensures.seen;
+      reads = goes_on_at c.args.lending c.loop-index.seen c.read_item.new.seen c.loop-index.all.read.entries c.read_item.new.read.entries (functions_lent c.loop-index.all.read.sources.items) (functions_lent c.read_item.new.read.sources.items) c.args.first c.loop-index.index c.args.inputs.now _ (functions_of c.args.first (map object_of c.args.inputs.now)) c.loop-index-test.true so_far.reads c.in_ok-arch.ensures.reads c.in_ok-arch.ensures.lent c.in_ok-arch.ensures.seen;
       machines =
           c.in_ok-push.ensures.items ∙ ap (λ (ms : List Arch). ms ++ c.in_ok-arch.arch ∷ []) so_far.machines
           ∙ ap (λ (m : Arch). map machine_of (map object_of (take c.loop-index.index c.args.inputs.now)) ++ m ∷ []) c.in_ok-arch.ensures.arch ∙ machines_more c.args.inputs.now c.loop-index.index _ c.loop-index-test.true;
@@ -28,7 +28,7 @@ loop-index-preserved c =
     }
 
 pub returns-clause-reads : goal.returns-clause-reads
-returns-clause-reads c = (ends_at c.loop-index.seen c.loop-index.all.read.entries (functions_lent c.loop-index.all.read.sources.items) _ c.loop-index.index c.args.inputs.now _ c.loop-index-test.false c.loop-index.invariant.reads).0
+returns-clause-reads c = (ends_at c.args.lending c.loop-index.seen c.loop-index.all.read.entries (functions_lent c.loop-index.all.read.sources.items) _ c.loop-index.index c.args.inputs.now _ c.loop-index-test.false c.loop-index.invariant.reads).0
 
 pub returns-clause-lent : goal.returns-clause-lent
-returns-clause-lent c = (ends_at c.loop-index.seen c.loop-index.all.read.entries (functions_lent c.loop-index.all.read.sources.items) _ c.loop-index.index c.args.inputs.now _ c.loop-index-test.false c.loop-index.invariant.reads).1
+returns-clause-lent c = (ends_at c.args.lending c.loop-index.seen c.loop-index.all.read.entries (functions_lent c.loop-index.all.read.sources.items) _ c.loop-index.index c.args.inputs.now _ c.loop-index-test.false c.loop-index.invariant.reads).1

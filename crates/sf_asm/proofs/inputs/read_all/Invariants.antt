@@ -8,7 +8,7 @@ use Rattle.sf_asm.proofs.inputs.read_all.Given as goal
 
 abbrev pub invariant-loop-index : goal.invariant-loop-index
 invariant-loop-index l = record {
-  reads : IsReadUpTo l.seen l.all.read.entries (functions_lent l.all.read.sources.items) (l.first + l.index) (map object_of (drop l.index l.inputs)) (functions_of l.first (map object_of l.inputs));
+  reads : IsReadUpTo l.lending l.seen l.all.read.entries (functions_lent l.all.read.sources.items) (l.first + l.index) (map object_of (drop l.index l.inputs)) (functions_of l.first (map object_of l.inputs));
   machines : l.all.machines.items ≡ map machine_of (map object_of (take l.index l.inputs));
   sound : (arch : Arch) → All (λ (machine : Arch). machine ≡ arch) l.all.machines.items → All (IsSound arch) l.all.read.entries;
 }

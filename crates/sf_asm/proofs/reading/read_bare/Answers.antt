@@ -12,5 +12,5 @@ returns-clause-exact c =
 pub returns-clause-lent : goal.returns-clause-lent
 returns-clause-lent c =
     on_ok c.read_section.result
-    (alone omitted_functions omitted_listwise c.args.arch c.args.item (bare_section c.args.input.now.bytes.now c.args.input.now.base) (functions_lent c.args.read.now.sources.items) (functions_lent c.read_section.new.read.sources.items))
+    (λ h asked. alone omitted_functions omitted_listwise c.args.arch c.args.item (bare_section c.args.input.now.bytes.now c.args.input.now.base) (functions_lent c.args.read.now.sources.items) (functions_lent c.read_section.new.read.sources.items) (h asked))
     c.read_section.ensures.lent

@@ -33,7 +33,7 @@ loop-fde-init c =
       named = subst (λ (fs : List FdeView). All (HasNamed c.args.section.now.arch c.args.section.now.bytes.now) fs) (sym left) named;
       initials = c.new-initials.ensures c.args.section.now.arch c.args.section.now.bytes.now;
       reads = λ relocations. ap (λ (fs : List FdeView). after_read c.args.read.now.entries (read_of c.args.section.now.arch c.args.section.now.item (seen_section c.args.section.now relocations) (overlaid (written_by c.args.overlay.now)) fs)) left;
-      lent = λ relocations. ap (λ (fs : List FdeView). after_read (functions_lent c.args.read.now.sources.items) (seen_as omitted_functions (functions_in c.args.section.now.arch c.args.section.now.item (seen_section c.args.section.now relocations) (overlaid (written_by c.args.overlay.now)) fs))) left;
+      lent = λ asked relocations. ap (λ (fs : List FdeView). after_read (functions_lent c.args.read.now.sources.items) (seen_as omitted_functions (functions_in c.args.section.now.arch c.args.section.now.item (seen_section c.args.section.now relocations) (overlaid (written_by c.args.overlay.now)) fs))) left;
     }
 
 pub loop-fde-preserved-then-dropped : goal.loop-fde-preserved-then-dropped
@@ -47,7 +47,7 @@ loop-fde-preserved-then-dropped c =
       named = All-tail (HasNamed c.args.section.now.arch c.args.section.now.bytes.now) (fde_view c.in-Some.fde) (frames_left c.next.new.self) named;
       initials = c.loop-fde.invariant.initials;
       reads = λ relocations. passes_on (map entry_of) c.args.section.now.arch c.args.section.now.item (seen_section c.args.section.now relocations) (overlaid (written_by c.args.overlay.now)) c.loop-fde.read.entries (fde_view c.in-Some.fde) (frames_left c.loop-fde.fde-iterator) (frames_left c.next.new.self) _ left (sym c.dropped.ensures ∙ c.if-dropped.true) (c.loop-fde.invariant.reads relocations);
-      lent = λ relocations. passes_on omitted_functions c.args.section.now.arch c.args.section.now.item (seen_section c.args.section.now relocations) (overlaid (written_by c.args.overlay.now)) (functions_lent c.loop-fde.read.sources.items) (fde_view c.in-Some.fde) (frames_left c.loop-fde.fde-iterator) (frames_left c.next.new.self) _ left (sym c.dropped.ensures ∙ c.if-dropped.true) (c.loop-fde.invariant.lent relocations);
+      lent = λ asked relocations. passes_on omitted_functions c.args.section.now.arch c.args.section.now.item (seen_section c.args.section.now relocations) (overlaid (written_by c.args.overlay.now)) (functions_lent c.loop-fde.read.sources.items) (fde_view c.in-Some.fde) (frames_left c.loop-fde.fde-iterator) (frames_left c.next.new.self) _ left (sym c.dropped.ensures ∙ c.if-dropped.true) (c.loop-fde.invariant.lent asked relocations);
     }
 
 pub loop-fde-preserved : goal.loop-fde-preserved
@@ -67,11 +67,11 @@ loop-fde-preserved c =
           ap (λ (before : List Entry). after_read before (read_of c.args.section.now.arch c.args.section.now.item section values (frames_left c.next.new.self))) c.in_ok-push.ensures
           ∙ goes_on (map entry_of) entries_listwise c.args.section.now.arch c.args.section.now.item section values c.loop-fde.read.entries (entry ∷ []) (fde_view c.in-Some.fde) (frames_left c.loop-fde.fde-iterator) (frames_left c.next.new.self) _ left (sym c.dropped.ensures ∙ c.if-dropped.false)
           (one_entry _ entry (c.in_ok-entry.ensures.exact relocations)) (c.loop-fde.invariant.reads relocations);
-      lent = λ relocations.
+      lent = λ asked relocations.
           let section = seen_section c.args.section.now relocations in
           let values = overlaid (written_by c.args.overlay.now) in
-          ap (λ (before : List Function). after_read before (seen_as omitted_functions (functions_in c.args.section.now.arch c.args.section.now.item section values (frames_left c.next.new.self)))) c.in_ok-lend.ensures.lent
+          ap (λ (before : List Function). after_read before (seen_as omitted_functions (functions_in c.args.section.now.arch c.args.section.now.item section values (frames_left c.next.new.self)))) (c.in_ok-lend.ensures.lent asked)
           ∙ goes_on omitted_functions omitted_listwise c.args.section.now.arch c.args.section.now.item section values (functions_lent c.loop-fde.read.sources.items) (if_left entry.outcome (function_by_span c.args.section.now.arch c.in-Some.fde entry.span)) (fde_view c.in-Some.fde) (frames_left c.loop-fde.fde-iterator) (frames_left c.next.new.self) _ left
           (sym c.dropped.ensures ∙ c.if-dropped.false)
-          (one_lent _ entry (function_by_span c.args.section.now.arch c.in-Some.fde entry.span) (c.in_ok-entry.ensures.exact relocations) (c.in_ok-entry.ensures.function relocations)) (c.loop-fde.invariant.lent relocations);
+          (one_lent _ entry (function_by_span c.args.section.now.arch c.in-Some.fde entry.span) (c.in_ok-entry.ensures.exact relocations) (c.in_ok-entry.ensures.function relocations)) (c.loop-fde.invariant.lent asked relocations);
     }

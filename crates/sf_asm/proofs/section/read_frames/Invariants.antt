@@ -26,7 +26,7 @@ invariant-loop-fde l = record {
   reads : (relocations : Result (List RelocatedField) RelocFault)
       → after_read l.read.entries (read_of l.section.arch l.section.item (seen_section l.section relocations) (overlaid (written_by l.overlay)) (frames_left l.fde-iterator))
       ≡ after_read l.fn.read.entries (seen_as (map entry_of) (functions_in l.section.arch l.section.item (seen_section l.section relocations) (overlaid (written_by l.overlay)) (frames (entries l.records))));
-  lent : (relocations : Result (List RelocatedField) RelocFault)
+  lent : IsTrue l.lending → (relocations : Result (List RelocatedField) RelocFault)
       → after_read (functions_lent l.read.sources.items) (seen_as omitted_functions (functions_in l.section.arch l.section.item (seen_section l.section relocations) (overlaid (written_by l.overlay)) (frames_left l.fde-iterator)))
       ≡ after_read (functions_lent l.fn.read.sources.items) (seen_as omitted_functions (functions_in l.section.arch l.section.item (seen_section l.section relocations) (overlaid (written_by l.overlay)) (frames (entries l.records))));
 }

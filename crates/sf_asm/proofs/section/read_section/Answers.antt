@@ -50,4 +50,4 @@ returns-clause-lent c =
     let given = relocations_by (option_map (λ (p : Bor Placed). placing p.now) c.args.placed) c.args.section.now.number in
     rw (section_over c.args.section.now.arch c.args.section.now.item (seen_section c.args.section.now given) (entries c.in_ok-records.records) (option_map (λ (p : Bor Placed). placing p.now) c.args.placed) c.args.section.now.number (written_by c.in_ok-overlay.overlay)
     c.in_ok-records.ensures.whole c.in_ok-overlay.ensures.read c.in_ok-overlay.ensures.from c.in_ok-check_overlay.ensures.lie c.in_ok-check_overlay.ensures.checked)
-    (on_ok c.read_frames.result (λ h. h given) c.read_frames.ensures.lent)
+    (on_ok c.read_frames.result (λ h asked. h asked given) c.read_frames.ensures.lent)
