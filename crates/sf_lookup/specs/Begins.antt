@@ -1,21 +1,17 @@
--- Where spans of addresses begin, in order.
-use Rattle.std.specs.Prelude.{◌≡◌, ℕ, ◌<◌, List, All, length, slice_index_or}
+-- Spans of addresses in the order in which they begin.
+use Rattle.std.specs.Prelude.{ℕ, zero, suc, ◌<◌, List, [], ◌∷◌, All, length}
 use Rattle.std.specs.List.{Contains}
 use Rattle.std.specs.List.Sorted.{IsNonDecreasingBy}
 use Rattle.sf_lookup.specs.declared.span.Span.{Span}
-use Rattle.sf_lookup.specs.declared.sweep.Begin.{Begin}
 
--- where the span of a number begins
-abbrev pub begin_of : {A : Type 0} → (number : ℕ) → Span A → Begin
-begin_of number s = record { start = s.start; number = number }
+-- where the span of a number begins, 0 where there is none
+abbrev pub start_of : {A : Type 0} → List (Span A) → (number : ℕ) → ℕ
+start_of [] number = 0
+start_of (s ∷ spans) zero = s.start
+start_of (s ∷ spans) (suc number) = start_of spans number
 
--- a span of the list begins there
-pub record IsBegin {A : Type 0} (spans : List (Span A)) (b : Begin) : Type 0 where
-  pub within : b.number < length spans
-  pub is : (d : Span A) → b ≡ begin_of b.number (slice_index_or spans b.number d)
-
--- all spans begin at these, in order
-pub record AreBegins {A : Type 0} (spans : List (Span A)) (begins : List Begin) : Type 0 where
-  pub rise : IsNonDecreasingBy (λ (b : Begin). b.start) begins
-  pub each : All (IsBegin spans) begins
-  pub all : (k : ℕ) (d : Span A) → k < length spans → Contains begins (begin_of k (slice_index_or spans k d))
+-- these are the numbers of the spans, in that order
+pub record AreInOrder {A : Type 0} (spans : List (Span A)) (numbers : List ℕ) : Type 0 where
+  pub rise : IsNonDecreasingBy (start_of spans) numbers
+  pub each : All (λ (k : ℕ). k < length spans) numbers
+  pub all : (k : ℕ) → k < length spans → Contains numbers k

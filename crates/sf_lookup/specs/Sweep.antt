@@ -7,31 +7,30 @@ use Rattle.std.specs.Ordering.{nat_cmp}
 use Rattle.std.specs.declared.cmp.Ordering.{Ordering}
 use Rattle.std.specs.declared.cmp.Reverse.{Reverse}
 use Rattle.sf_lookup.specs.declared.span.Span.{Span}
-use Rattle.sf_lookup.specs.declared.sweep.Begin.{Begin}
 use Rattle.sf_lookup.specs.declared.sweep.Sweep.{Sweep}
-use Rattle.sf_lookup.specs.Begins.{IsBegin, begin_of}
+use Rattle.sf_lookup.specs.Begins.{start_of}
 
 -- a span of the list that begins by the point
 pub record HasBegun {A : Type 0} (spans : List (Span A)) (point : ℕ) (r : Reverse ℕ) : Type 0 where
   pub within : r.0 < length spans
-  pub by : (d : Span A) → (slice_index_or spans r.0 d).start ≤ point
+  pub by : start_of spans r.0 ≤ point
 
 -- the span of a number waits, begins later, or has ended by the point
-abbrev pub IsKept : {A : Type 0} → List (Span A) → (point : ℕ) → List (Reverse ℕ) → List Begin → (k : ℕ) → (d : Span A) → Type 0
+abbrev pub IsKept : {A : Type 0} → List (Span A) → (point : ℕ) → List (Reverse ℕ) → List ℕ → (k : ℕ) → (d : Span A) → Type 0
 IsKept spans point begun later k d =
     let s = slice_index_or spans k d in
-    Contains begun (record { 0 = k }) ⊎ Contains later (begin_of k s) ⊎ (s.start + s.size ≤ point)
+    Contains begun (record { 0 = k }) ⊎ Contains later k ⊎ (s.start + s.size ≤ point)
 
 -- the order of numbers in which the least is the greatest
 abbrev pub last_first : Reverse ℕ → Reverse ℕ → Ordering
 last_first x y = nat_cmp y.0 x.0
 
 -- what has begun by a point, and what begins later: no span that has the point or a later address is missing
-pub record IsAtPoint {A : Type 0} (spans : List (Span A)) (point : ℕ) (begun : List (Reverse ℕ)) (later : List Begin) : Type 0 where
+pub record IsAtPoint {A : Type 0} (spans : List (Span A)) (point : ℕ) (begun : List (Reverse ℕ)) (later : List ℕ) : Type 0 where
   pub order : IsHeap last_first begun
   pub by : All (HasBegun spans point) begun
-  pub rise : IsNonDecreasingBy (λ (b : Begin). b.start) later
-  pub each : All (IsBegin spans) later
+  pub rise : IsNonDecreasingBy (start_of spans) later
+  pub each : All (λ (k : ℕ). k < length spans) later
   pub kept : (k : ℕ) (d : Span A) → k < length spans → IsKept spans point begun later k d
 
 abbrev pub IsAt : {A : Type 0} → (point : ℕ) → Sweep A → Type 0
@@ -39,4 +38,4 @@ IsAt point sweep = IsAtPoint sweep.spans.now point (heap_items sweep.begun) swee
 
 -- all others begin after the point
 abbrev pub AllLater : {A : Type 0} → (point : ℕ) → Sweep A → Type 0
-AllLater point sweep = All (λ (b : Begin). point < b.start) sweep.later.now
+AllLater point sweep = All (λ (k : ℕ). point < start_of sweep.spans.now k) sweep.later.now

@@ -5,7 +5,7 @@ ghost use Rattle.std.specs.List.Sorted.{IsNonDecreasing};
 ghost use Rattle.sf_lookup.specs.Span as spec;
 
 use crate::span::Span;
-use crate::sweep::{Sweep, begins_of};
+use crate::sweep::{Sweep, numbers_of};
 use std::alloc::{AllocError, Global};
 
 /// Appends the answer at each point.
@@ -18,8 +18,8 @@ pub fn push_answers<A: Copy>(
     requires { IsNonDecreasing points.now }
     ensures { OnOk result (answers.new.items ≡ answers.old.items ++ map (spec.answer_of spans.now) points.now) }
 {
-    let begins = begins_of(alloc, spans)?;
-    let mut sweep = Sweep::new(alloc, spans, &begins);
+    let numbers = numbers_of(alloc, spans)?;
+    let mut sweep = Sweep::new(alloc, spans, &numbers)?;
     for point in points {
         answers.push(sweep.answer_at(*point)?)?;
     }

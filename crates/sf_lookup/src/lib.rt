@@ -16,7 +16,7 @@
 //! over them; the rows of the function are then read from the first up to the one that holds. [`Indexed::new`] takes
 //! the time of a sort of the functions where they are not sorted, and reads the rows of functions with more than 64;
 //! `Indexed::find` then halves the functions either way, and of a function's rows it halves each 64th and reads the
-//! rows from there on, 65 at most. `Indexed::new` and `Spans::new` alone allocate: less than 80 bytes for each function
+//! rows from there on, 65 at most. `Indexed::new` and `Spans::new` alone allocate: less than 70 bytes for each function
 //! that is not in order, and 56 for each 64 rows of a function.
 #![tactic(auto)]
 

@@ -11,8 +11,8 @@ use crate::points::{points_of, reached};
 use crate::span::Span;
 use std::alloc::{AllocError, Global};
 
-/// Spans of addresses put in order, once for many look-ups: for n spans in the time of a sort of them, and with less than
-/// 80 bytes for each of them, whether they overlap or not.
+/// Spans of addresses put in order, once for many look-ups: for n spans in the time of a sort of them, and with some
+/// 40 bytes for each of them, whether they overlap or not.
 #[derive(Drop)]
 pub struct Spans<A> {
     points: Vec<u64>,
@@ -29,7 +29,7 @@ impl<A: Copy> Spans<A> {
 
     /// The spans, put in order.
     ///
-    /// `AllocError` where memory ran out.
+    /// `AllocError` where memory ran out, and for 2^32 spans or more.
     pub fn new(alloc: Global, spans: &[Span<A>]) -> Result<Spans<A>, AllocError>
         ensures { IfOk result (λ ordered. InOrder ordered spans.now) }
     {

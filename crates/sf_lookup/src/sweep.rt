@@ -1,33 +1,38 @@
 //! Spans gone through from the least address up.
 
-ghost use Rattle.std.specs.Prelude.{IfOk};
-ghost use Rattle.sf_lookup.specs.Begins.{AreBegins};
+ghost use Rattle.std.specs.Prelude.{◌≡◌, IfOk};
+ghost use Rattle.sf_lookup.specs.Begins.{AreInOrder, start_of};
 
 use crate::span::{Span, covers};
 use std::alloc::{AllocError, Global};
 use std::cmp::Reverse;
 use std::collections::BinaryHeap;
 
-/// Where a span begins, and its number in the list.
-#[derive(Clone, Copy)]
-pub struct Begin {
-    pub start: u64,
-    pub number: usize,
+/// Where the span of a number begins, 0 where there is none.
+fn start_of<A>(spans: &[Span<A>], number: u32) -> u64
+    ensures { result ≡ start_of spans.now number }
+{
+    match spans.get(number as usize) {
+        Some(span) => span.start,
+        None => 0,
+    }
 }
 
-/// Where spans begin, in order.
-pub fn begins_of<A>(alloc: Global, spans: &[Span<A>]) -> Result<Vec<Begin>, AllocError>
-    ensures { IfOk result (λ begins. AreBegins spans.now begins.items) }
+/// The numbers of spans in the order in which they begin.
+///
+/// `AllocError` where memory ran out, and for 2^32 spans or more.
+pub fn numbers_of<A>(alloc: Global, spans: &[Span<A>]) -> Result<Vec<u32>, AllocError>
+    ensures { IfOk result (λ numbers. AreInOrder spans.now numbers.items) }
 {
-    let mut begins = Vec::with_capacity(alloc, spans.len())?;
-    for (number, span) in spans.iter().enumerate() {
-        begins.push(Begin {
-            start: span.start,
-            number,
-        })?;
+    let Ok(count) = u32::try_from(spans.len()) else {
+        return Err(AllocError);
+    };
+    let mut numbers = Vec::with_capacity(alloc, spans.len())?;
+    for number in 0..count {
+        numbers.push(number)?;
     }
-    begins.sort_unstable_by_key(|begin| begin.start);
-    Ok(begins)
+    numbers.sort_unstable_by_key(|number| start_of(spans, *number));
+    Ok(numbers)
 }
 
 /// The spans by an address: those that begin later, and those that have begun, the first of the list on top. One that has
@@ -35,8 +40,8 @@ pub fn begins_of<A>(alloc: Global, spans: &[Span<A>]) -> Result<Vec<Begin>, Allo
 #[derive(Drop)]
 pub struct Sweep<'a, A> {
     spans: &'a [Span<A>],
-    later: &'a [Begin],
-    begun: BinaryHeap<Reverse<usize>>,
+    later: &'a [u32],
+    begun: BinaryHeap<Reverse<u32>>,
 }
 
 impl<'a, A: Copy> Sweep<'a, A> {
@@ -45,16 +50,20 @@ impl<'a, A: Copy> Sweep<'a, A> {
     ghost use Rattle.sf_lookup.specs.Sweep.{AllLater, IsAt};
 
     /// Before all addresses.
-    pub fn new(alloc: Global, spans: &'a [Span<A>], begins: &'a [Begin]) -> Sweep<'a, A>
-        requires { AreBegins spans.now begins.now }
-        ensures at { (point : ℕ) → IsAt point result }
-        ensures spans { result.spans.now ≡ spans.now }
+    pub fn new(
+        alloc: Global,
+        spans: &'a [Span<A>],
+        numbers: &'a [u32],
+    ) -> Result<Sweep<'a, A>, AllocError>
+        requires { AreInOrder spans.now numbers.now }
+        ensures at { IfOk result (λ sweep. (point : ℕ) → IsAt point sweep) }
+        ensures spans { IfOk result (λ sweep. sweep.spans.now ≡ spans.now) }
     {
-        Sweep {
+        Ok(Sweep {
             spans,
-            later: begins,
-            begun: BinaryHeap::new(alloc),
-        }
+            later: numbers,
+            begun: BinaryHeap::with_capacity(alloc, spans.len())?,
+        })
     }
 
     // Takes what begins by a point.
@@ -64,11 +73,11 @@ impl<'a, A: Copy> Sweep<'a, A> {
         ensures later { OnOk result (AllLater point self.new) }
         ensures spans { self.new.spans.now ≡ self.old.spans.now }
     {
-        while let [begin, later @ ..] = self.later {
-            if begin.start > point {
+        while let [number, later @ ..] = self.later {
+            if start_of(self.spans, *number) > point {
                 return Ok(());
             }
-            self.begun.push(Reverse(begin.number))?;
+            self.begun.push(Reverse(*number))?;
             self.later = later;
         }
         Ok(())
@@ -83,7 +92,7 @@ impl<'a, A: Copy> Sweep<'a, A> {
         ensures answer { result ≡ answer_of self.old.spans.now point }
     {
         while let Some(top) = self.begun.peek() {
-            let span = &self.spans[top.0];
+            let span = &self.spans[top.0 as usize];
             if covers(span, point) {
                 return Some(span.leads_to);
             }

@@ -3,7 +3,7 @@ use Rattle.sf_lookup.proofs.Sweeping.{at_later}
 use Rattle.sf_lookup.proofs.answers.push_answers.Goals as goal
 
 pub loop-point-init : goal.loop-point-init
-loop-point-init g c = (c.new-sweep.ensures.at (get_or c.args.points.now 0 0), c.new-sweep.ensures.spans, search rules)
+loop-point-init g c = (c.in_ok-sweep.ensures.at (get_or c.args.points.now 0 0), c.in_ok-sweep.ensures.spans, search rules)
 
 pub answer_at-requires : goal.answer_at-requires
 answer_at-requires g c =
