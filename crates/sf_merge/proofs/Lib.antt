@@ -15,3 +15,4 @@ pub mod OneRising
 pub mod InParts
 pub mod PartsCan
 pub mod Heads
+pub mod InSection

@@ -2,6 +2,7 @@ pub mod Located
 pub mod Merging
 pub mod OneSection
 pub mod Heads
+pub mod InSection
 pub mod Joining
 pub mod Views
 pub mod Answers

@@ -4,9 +4,9 @@
 //! address: each function that holds an address and has a row is taken over row for row, by rising start.
 //! What merging comes to is one definition (`Merges` of `specs/Merging.antt`): these functions, or the first
 //! fault. The answer is the `Tight` and `Narrow` section, by the definitions of `sf_model`, of the tables'
-//! union (`IsUnion`). [`join`] makes lists of functions into one list by rising start. [`in_order`] reads the
-//! functions of one section, by start, and [`shared_entry`] finds the entry of the first one that shares an
-//! address with the one before it, with rows or without.
+//! union (`IsUnion`). [`join`] makes lists of functions into one list by rising start. [`in_order`] gives the
+//! functions of one section by start, whose rows it leaves in the section, and [`shared_entry`] finds the entry of
+//! the first one that shares an address with the one before it, with rows or without.
 //!
 //! Laws: merging comes to one result ([`merging_comes_to_one_result`], [`merging_comes_to_a_result`]), so the
 //! answer is Ok exactly where the definition has no fault; a look-up in the union finds what the one section
@@ -24,6 +24,7 @@ mod checking;
 mod fault;
 mod functions;
 mod head;
+mod in_section;
 mod joining;
 mod laws;
 mod located;
@@ -34,6 +35,7 @@ mod reading;
 mod with_rows;
 
 pub use fault::MergeFault;
+pub use in_section::{SectionEntry, SectionFunctions};
 pub use joining::join;
 pub use laws::{
     merged_sections_answer_alike, merging_comes_to_a_result, merging_comes_to_one_result,

@@ -1,8 +1,5 @@
 //! Functions of several sections, each with its section and its entry.
 
-ghost use Rattle.std.specs.Prelude.{◌≡◌};
-ghost use Rattle.sf_merge.specs.Located.{rank_of};
-
 use sf_model::Func;
 
 /// The place of a function in the order of all: by start, then by section, then by entry.
@@ -22,18 +19,4 @@ pub struct Located {
     pub item: u32,
     /// The number of its entry in the section, from 0.
     pub number: u32,
-}
-
-impl Located {
-    /// Its place in the order of all functions.
-    #[inline(always)]
-    pub fn rank(&self) -> Rank
-        ensures { result ≡ rank_of self.now }
-    {
-        Rank {
-            start: self.func.start,
-            item: self.item,
-            number: self.number,
-        }
-    }
 }

@@ -7,7 +7,7 @@ ghost use Rattle.sf_decode.specs.View.{section_bytes};
 ghost use Rattle.sf_merge.specs.Merging.{neighbours, overlap_by};
 ghost use Rattle.sf_merge.specs.OneSection as spec;
 
-use crate::located::Located;
+use crate::in_section::SectionFunctions;
 use sf_decode::View;
 
 /// Something that takes up addresses.
@@ -25,22 +25,6 @@ pub trait HasAddresses {
     /// Its size in bytes.
     fn size(&self) -> u32
         ensures { result ≡ size_of self.now };
-}
-
-impl HasAddresses for Located {
-    ghost first_address = { λ l. l.func.start };
-
-    ghost size_of = { λ l. l.func.size };
-
-    #[inline(always)]
-    fn start(&self) -> u64 {
-        self.func.start
-    }
-
-    #[inline(always)]
-    fn size(&self) -> u32 {
-        self.func.size
-    }
 }
 
 /// Whether the second function begins before the end of the first.
@@ -68,10 +52,9 @@ pub fn first_overlap<F: HasAddresses>(ordered: &[F]) -> Option<(&F, &F)>
 
 /// The place of the function descriptor entry of the later one of the first two neighbours that share an
 /// address, of the functions of a section in order.
-#[tactic(auto, unfolding(crate::specs::OneSection::shared_entry))]
-pub fn shared_entry(view: &View<'_>, ordered: &[Located]) -> Option<u64>
+pub fn shared_entry(view: &View<'_>, ordered: &SectionFunctions<'_>) -> Option<u64>
     ensures { result ≡ spec.shared_entry (section_bytes view.now) ordered.now }
 {
-    let (_, function) = first_overlap(ordered)?;
+    let (_, function) = first_overlap(ordered.entries())?;
     Some(view.entry_place(function.number))
 }

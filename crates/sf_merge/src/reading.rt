@@ -2,13 +2,14 @@
 
 ghost use Rattle.std.specs.Prelude.{◌≡◌, ◌<◌, ◌≤◌, ◌++◌, length, map, IfOk, OnOk, All};
 ghost use Rattle.std.specs.List.{filter};
-ghost use Rattle.std.specs.List.Sorted.{IsPermutation, IsSorted};
 ghost use Rattle.sf_decode.specs.View.{table_of, function_of};
-ghost use Rattle.sf_merge.specs.Located.{compared, has_bytes, located, sized, InOrder};
+ghost use Rattle.sf_merge.specs.InSection.{IsEntry, all_at};
+ghost use Rattle.sf_merge.specs.Located.{has_bytes, located, sized, InOrder};
+ghost use Rattle.sf_merge.specs.OneSection.{sized as sized_in};
 ghost use Rattle.sf_merge.specs.Views.{IsRead};
 
 use crate::functions::LocatedFunctions;
-use crate::located::Located;
+use crate::in_section::{SectionEntry, SectionFunctions};
 use sf_base::NoMemory;
 use sf_decode::{View, functions_are_numbered, view_is_a_section};
 use sf_model::{Func, Key, Rows, Shape};
@@ -52,54 +53,43 @@ fn read_function(view: &View<'_>, number: u32, func: &mut Func) -> Result<(), No
     read_rows(view, number, &mut func.rows)
 }
 
-/// The function of an entry, with its rows.
-#[inline(always)]
-fn function(alloc: Global, view: &View<'_>, number: u32) -> Result<Func, NoMemory>
-    requires { number < length (table_of view.now).functions }
-    ensures { IfOk result (λ func. func ≡ function_of view.now number) }
+/// The entries of a section whose functions have bytes, by number.
+fn entries_of(alloc: Global, view: &View<'_>) -> Result<Vec<SectionEntry>, NoMemory>
+    ensures all { IfOk result (λ entries. all_at view.now entries.items ≡ sized_in (table_of view.now)) }
+    ensures each { IfOk result (λ entries. All (IsEntry view.now) entries.items) }
 {
-    let mut func = empty_function(alloc, view.func(number).rows)?;
-    read_function(view, number, &mut func)?;
-    Ok(func)
-}
-
-/// Appends the functions of a section that have bytes, by entry.
-fn push_functions(
-    alloc: Global,
-    all: &mut Vec<Located>,
-    item: u32,
-    view: &View<'_>,
-) -> Result<(), NoMemory>
-    ensures all { OnOk result (all.new.items ≡ all.old.items ++ filter has_bytes (located item (table_of view.now))) }
-    ensures read { IsRead view.now }
-{
-    view_is_a_section(view);
     functions_are_numbered(view);
+    let mut entries = Vec::new(alloc);
     for number in 0..view.len() {
-        if view.func(number).size != 0 {
-            let func = function(alloc, view, number)?;
-            all.push(Located { func, item, number })?;
+        let head = view.func(number);
+        if head.size != 0 {
+            entries.push(SectionEntry {
+                start: head.start,
+                size: head.size,
+                number,
+            })?;
         }
     }
-    Ok(())
+    Ok(entries)
 }
 
-/// The functions of a section that hold an address, by start and then by entry, each with the number of
-/// its entry; `item` is the number that the section is given. Where the section has them in order, sorting
-/// costs one pass.
+/// The functions of a section that hold an address, by start and then by entry. Where the section has them in
+/// order, sorting costs one pass.
 ///
 /// # Errors
 ///
 /// `NoMemory` alone.
-pub fn in_order(alloc: Global, item: u32, view: &View<'_>) -> Result<Vec<Located>, NoMemory>
-    ensures moved { IfOk result (λ v. IsPermutation (filter has_bytes (located item (table_of view.now))) v.items) }
-    ensures sorted { IfOk result (λ v. IsSorted compared v.items) }
+pub fn in_order<'a>(alloc: Global, view: &View<'a>) -> Result<SectionFunctions<'a>, NoMemory>
+    ensures order { IfOk result (λ functions. InOrder (sized_in (table_of view.now)) functions) }
     ensures read { IsRead view.now }
 {
-    let mut functions = Vec::new(alloc);
-    push_functions(alloc, &mut functions, item, view)?;
-    functions.sort_by_key(|function| function.rank())?;
-    Ok(functions)
+    view_is_a_section(view);
+    let mut entries = entries_of(alloc, view)?;
+    entries.sort_by_key(|entry| entry.rank())?;
+    Ok(SectionFunctions {
+        view: *view,
+        entries,
+    })
 }
 
 /// Stores the functions of a section that have bytes, by entry. Each is read over `spare`.

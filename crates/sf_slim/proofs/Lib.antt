@@ -1,4 +1,3 @@
-pub mod AllKept
 pub mod Overlaps
 pub mod Least
 pub mod Sweep
@@ -9,3 +8,4 @@ pub mod Slims
 pub mod Alike
 pub mod Ranges
 pub mod Shorter
+pub mod Storing

@@ -2,6 +2,7 @@
 use Rattle.std.specs.Prelude.{ℕ, Bool, false, true, not, ◌&&◌, nat_lt, List, [], ◌∷◌, Option, Some, None, if◌then◌else◌}
 use Rattle.sf_model.specs.declared.content.Content.{Content}
 use Rattle.sf_model.specs.declared.function.Func.{Func}
+use Rattle.sf_model.specs.declared.function.FuncHead.{FuncHead}
 use Rattle.sf_model.specs.declared.function.Shape.{Shape}
 use Rattle.sf_model.specs.declared.function.Shape.TheVariants.{Plain, Repeat}
 use Rattle.sf_model.specs.declared.rows.Row.{Row}
@@ -16,11 +17,6 @@ abbrev pub kept : (last : Option Content) → (size : ℕ) → List Row → List
 kept last size [] = []
 kept last size (row ∷ rows) = if is_kept last size row then row ∷ kept (Some row.content) size rows else kept last size rows
 
--- all rows are kept
-abbrev pub all_kept : (last : Option Content) → (size : ℕ) → List Row → Bool
-all_kept last size [] = true
-all_kept last size (row ∷ rows) = is_kept last size row && all_kept (Some row.content) size rows
-
 abbrev pub kept_of : Shape → (size : ℕ) → List Row → List Row
 kept_of Plain size rows = kept None size rows
 kept_of (Repeat block) size rows = rows
@@ -28,6 +24,10 @@ kept_of (Repeat block) size rows = rows
 -- the function with the rows that are kept
 abbrev pub kept_function : Func → Func
 kept_function f = record { start = f.start; size = f.size; shape = f.shape; key = f.key; rows = kept_of f.shape f.size f.rows }
+
+-- the function of a head and rows
+abbrev pub with_rows : FuncHead → List Row → Func
+with_rows head rows = record { start = head.start; size = head.size; shape = head.shape; key = head.key; rows = rows }
 
 -- an offset is within a block
 abbrev pub is_in_block : Shape → (offset : ℕ) → Bool

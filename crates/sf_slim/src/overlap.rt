@@ -6,11 +6,14 @@ ghost use Rattle.sf_slim.specs.Slimming.{overlap_fault, unless_fault};
 
 use crate::fault::SlimFault;
 use sf_decode::View;
-use sf_merge::{Located, shared_entry};
+use sf_merge::{SectionFunctions, shared_entry};
 
 /// Tries each function against the one before it.
 #[tactic(auto, unfolding(crate::specs::Slimming::overlap_fault))]
-pub(crate) fn check_overlap(view: &View<'_>, ordered: &[Located]) -> Result<(), SlimFault>
+pub(crate) fn check_overlap(
+    view: &View<'_>,
+    ordered: &SectionFunctions<'_>,
+) -> Result<(), SlimFault>
     ensures { result ≡ unless_fault (overlap_fault (section_bytes view.now) ordered.now) tt }
 {
     match shared_entry(view, ordered) {

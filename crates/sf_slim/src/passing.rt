@@ -1,11 +1,13 @@
 //! One pass over a function's rows.
 
-ghost use Rattle.std.specs.Prelude.{◌≡◌, None, IfOk};
+ghost use Rattle.std.specs.Prelude.{◌≡◌, None, OnOk};
+ghost use Rattle.sf_decode.specs.View.{rows_left};
 ghost use Rattle.sf_slim.specs.Pass as spec;
 
 use sf_base::NoMemory;
+use sf_decode::RowIter;
 use sf_express::is_repeated;
-use sf_model::{Content, Func, Row, Rows, Shape};
+use sf_model::{Content, Func, FuncHead, Key, Row, Rows, Shape};
 use std::alloc::Global;
 
 /// Whether a row begins within the function and says something new.
@@ -16,55 +18,67 @@ fn is_kept(last: Option<Content>, size: u32, row: &Row) -> bool
     row.start < size && !is_repeated(last, row.content)
 }
 
-/// Whether all rows begin within the function and say something new.
-fn all_kept(size: u32, rows: &[Row]) -> bool
-    ensures { result ≡ spec.all_kept None size rows.now }
+/// Reads the rows that begin within the function and say something new, over those that are there.
+fn keep_rows(size: u32, rows: RowIter<'_>, kept: &mut Rows) -> Result<(), NoMemory>
+    ensures { OnOk result (kept.new ≡ spec.kept None size (rows_left rows.entry)) }
 {
+    kept.clear();
     let mut last = None;
     for row in rows {
-        if !is_kept(last, size, row) {
-            return false;
-        }
-        last = Some(row.content);
-    }
-    true
-}
-
-/// The rows that begin within the function and say something new.
-fn kept_rows(alloc: Global, size: u32, rows: &[Row]) -> Result<Rows, NoMemory>
-    ensures { IfOk result (λ kept. kept ≡ spec.kept None size rows.now) }
-{
-    let mut kept = Rows::new(alloc);
-    let mut last = None;
-    for row in rows {
-        if is_kept(last, size, row) {
-            kept.push(*row)?;
+        if is_kept(last, size, &row) {
+            kept.push(row)?;
             last = Some(row.content);
         }
     }
-    Ok(kept)
+    Ok(())
 }
 
-/// The function with the rows that are needed; those of repeated blocks stay.
-#[inline(always)]
-#[tactic(auto, using(crate::proofs::AllKept::all_stay))]
-pub(crate) fn kept_function(alloc: Global, func: Func) -> Result<Func, NoMemory>
-    ensures { IfOk result (λ kept. kept ≡ spec.kept_function func) }
+/// Reads all rows, over those that are there.
+fn all_rows(rows: RowIter<'_>, all: &mut Rows) -> Result<(), NoMemory>
+    ensures { OnOk result (all.new ≡ rows_left rows.entry) }
 {
-    match func.shape {
-        Shape::Repeat(_) => Ok(func),
-        // Most sections have no row too many: these rows stay where they are.
-        Shape::Plain if all_kept(func.size, func.rows.as_slice()) => Ok(func),
-        Shape::Plain => {
-            let rows = kept_rows(alloc, func.size, func.rows.as_slice())?;
-            Ok(Func {
-                start: func.start,
-                size: func.size,
-                shape: Shape::Plain,
-                key: func.key,
-                rows,
-            })
-        }
+    all.clear();
+    for row in rows {
+        all.push(row)?;
+    }
+    Ok(())
+}
+
+/// Reads the rows of a function that are needed, over those that are there. Those of repeated blocks stay.
+#[inline(always)]
+fn needed_rows(head: &FuncHead, rows: RowIter<'_>, kept: &mut Rows) -> Result<(), NoMemory>
+    ensures { OnOk result (kept.new ≡ spec.kept_of head.now.shape head.now.size (rows_left rows.entry)) }
+{
+    match head.shape {
+        Shape::Repeat(_) => all_rows(rows, kept),
+        Shape::Plain => keep_rows(head.size, rows, kept),
+    }
+}
+
+/// Reads a function with the rows that are needed, over the one that is there.
+#[inline(always)]
+pub(crate) fn keep_function(
+    head: &FuncHead,
+    rows: RowIter<'_>,
+    kept: &mut Func,
+) -> Result<(), NoMemory>
+    ensures { OnOk result (kept.new ≡ spec.kept_function (spec.with_rows head.now (rows_left rows.entry))) }
+{
+    kept.start = head.start;
+    kept.size = head.size;
+    kept.shape = head.shape;
+    kept.key = head.key;
+    needed_rows(head, rows, &mut kept.rows)
+}
+
+/// A function to read into.
+pub(crate) fn empty_function(alloc: Global) -> Func {
+    Func {
+        start: 0,
+        size: 0,
+        shape: Shape::Plain,
+        key: Key::A,
+        rows: Rows::new(alloc),
     }
 }
 
@@ -81,11 +95,12 @@ fn is_in_block(shape: Shape, offset: u32) -> bool
 
 /// Whether a function has a row at some address: its first one begins within it.
 #[inline(always)]
-pub(crate) fn answers(func: &Func) -> bool
-    ensures { result ≡ spec.answers func.now }
+pub(crate) fn answers(head: &FuncHead, rows: RowIter<'_>) -> bool
+    ensures { result ≡ spec.answers (spec.with_rows head.now (rows_left rows.entry)) }
 {
-    match func.rows.as_slice() {
-        [] => false,
-        [first, ..] => first.start < func.size && is_in_block(func.shape, first.start),
+    let mut rows = rows;
+    match rows.next() {
+        None => false,
+        Some(first) => first.start < head.size && is_in_block(head.shape, first.start),
     }
 }

@@ -1,20 +1,22 @@
 //! A section slimmed.
 
-ghost use Rattle.std.specs.Prelude.{◌≡◌, ◌≤◌, ◌^◌, map, IfOk, IfErr, All};
+ghost use Rattle.std.specs.Prelude.{◌≡◌, ◌≤◌, ◌^◌, true, map, IfOk, IfErr, All};
 ghost use Rattle.std.specs.List.{filter};
-ghost use Rattle.sf_model.specs.Table.{row_count};
+ghost use Rattle.sf_model.specs.Function.{IsWritable};
 ghost use Rattle.sf_decode.specs.View.{section_bytes, table_of};
+ghost use Rattle.sf_write.specs.Stored.{IsStored, stored_count, stored_in};
+ghost use Rattle.sf_merge.specs.declared.located.Located.{Located as located};
 ghost use Rattle.sf_slim.specs.Answers.{IsFirstFault, IsSlimmed};
 ghost use Rattle.sf_slim.specs.Pass as pass;
 
 use crate::fault::SlimFault;
 use crate::overlap::check_overlap;
-use crate::passing::{answers, kept_function};
+use crate::passing::{answers, empty_function, keep_function};
 use sf_base::NoMemory;
 use sf_decode::View;
-use sf_merge::{Located, in_order};
-use sf_model::Func;
-use sf_write::{WriteFault, write};
+use sf_merge::{SectionFunctions, in_order};
+use sf_model::Arch;
+use sf_write::{StoredFunction, StoredRows, WriteFault, write_stored};
 use std::alloc::Global;
 
 /// A section that was made, and what it holds.
@@ -28,28 +30,41 @@ pub struct Slimmed {
     pub rows: u32,
 }
 
-/// The functions that have a row at some address, each with the rows that are needed.
-fn needed(alloc: Global, ordered: Vec<Located>) -> Result<Vec<Func>, NoMemory>
-    ensures { IfOk result (λ needed. needed.items ≡ map pass.kept_function (filter pass.answers (map (λ l. l.func) ordered.items))) }
+/// The functions that are written, and their rows.
+#[derive(Drop)]
+struct Written {
+    functions: Vec<StoredFunction>,
+    rows: StoredRows,
+}
+
+/// Stores the functions that have a row at some address, each with the rows that are needed. One function at a
+/// time is read.
+fn needed(alloc: Global, arch: Arch, ordered: &SectionFunctions<'_>) -> Result<Written, NoMemory>
+    requires { All (λ (l : located). pass.answers l.func ≡ true → IsWritable arch (pass.kept_function l.func)) ordered.now }
+    ensures stored { IfOk result (λ needed. All (IsStored needed.rows) needed.functions.items) }
+    ensures needed { IfOk result (λ needed. map (stored_in needed.rows) needed.functions.items ≡ map pass.kept_function (filter pass.answers (map (λ (l : located). l.func) ordered.now))) }
 {
-    let mut needed = Vec::with_capacity(alloc, ordered.len())?;
-    for located in ordered {
-        if answers(&located.func) {
-            let func = kept_function(alloc, located.func)?;
-            needed.push(func)?;
+    let mut rows = StoredRows::new(alloc);
+    let mut functions = Vec::with_capacity(alloc, ordered.len())?;
+    let mut kept = empty_function(alloc);
+    for place in 0..ordered.len() {
+        let head = ordered.head(place);
+        if answers(&head, ordered.rows(place)) {
+            keep_function(&head, ordered.rows(place), &mut kept)?;
+            functions.push(rows.push(arch, &kept)?)?;
         }
     }
-    Ok(needed)
+    Ok(Written { functions, rows })
 }
 
 /// The number of all rows.
-fn count_rows(functions: &[Func]) -> u32
-    requires { row_count functions.now ≤ 2 ^ 24 }
-    ensures { result ≡ row_count functions.now }
+fn count_rows(functions: &[StoredFunction]) -> u32
+    requires { stored_count functions.now ≤ 2 ^ 24 }
+    ensures { result ≡ stored_count functions.now }
 {
     let mut rows = 0;
-    for func in functions {
-        rows += func.rows.as_slice().len() as u32;
+    for function in functions {
+        rows += function.head.rows;
     }
     rows
 }
@@ -68,14 +83,15 @@ pub fn slim(alloc: Global, view: &View<'_>, at: u64) -> Result<Slimmed, SlimFaul
     // A fault is the first one.
     ensures fault { IfErr result (IsFirstFault (section_bytes view.now) (table_of view.now) at) }
 {
-    let ordered = in_order(alloc, 0, view)?;
+    let arch = view.arch();
+    let ordered = in_order(alloc, view)?;
     check_overlap(view, &ordered)?;
-    let needed = needed(alloc, ordered)?;
-    match write(alloc, view.arch(), at, &needed) {
+    let needed = needed(alloc, arch, &ordered)?;
+    match write_stored(alloc, arch, at, &needed.rows, &needed.functions) {
         Ok(section) => Ok(Slimmed {
             section,
-            functions: needed.len() as u32,
-            rows: count_rows(&needed),
+            functions: needed.functions.len() as u32,
+            rows: count_rows(&needed.functions),
         }),
         Err(WriteFault::OutOfReach(start)) => Err(SlimFault::OutOfReach(start)),
         Err(WriteFault::NoMemory) => Err(SlimFault::NoMemory),

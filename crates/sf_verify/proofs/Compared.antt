@@ -138,9 +138,6 @@ edge_within rows place size = within (slice_get rows place)
     within (Some r) = omega arith
     within None = omega arith
 
-pub edge_last : (rows : List Row) (place size from : ℕ) → length rows ≤ place → from ≡ edge rows place size → from ≡ size
-edge_last rows place size from le is = is ∙ edge_past rows place size le
-
 -- the edges rise
 pub edge_rises : (rows : List Row) (place size : ℕ) → RowsRise rows → edge rows place size ≤ edge rows (place + 1) size
 edge_rises rows place size h = elim (cases_lt (place + 1) (length rows)) [

@@ -12,3 +12,4 @@ pub mod Signs
 pub mod Fitting
 pub mod SomeVerdict
 pub mod NeverMemory
+pub mod Rowwise

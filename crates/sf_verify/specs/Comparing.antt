@@ -3,11 +3,14 @@ use Rattle.std.specs.Prelude.{◌≡◌, ◌<◌, ◌≤◌, ◌+◌, ◌^◌, �
 use Rattle.std.specs.List.{All}
 use Rattle.std.specs.Option.{option_and_then}
 use Rattle.sf_model.specs.declared.function.Func.{Func}
+use Rattle.sf_model.specs.declared.function.FuncHead.{FuncHead}
 use Rattle.sf_model.specs.declared.machine.Arch.{Arch}
 use Rattle.sf_model.specs.declared.rows.Row.{Row}
 use Rattle.sf_model.specs.Content.{content_fits}
 use Rattle.sf_model.specs.Function.{RowsRise}
 use Rattle.sf_model.specs.Lookup.{row_in}
+use Rattle.sf_decode.specs.declared.iter.RowIter.{RowIter}
+use Rattle.sf_decode.specs.View.{rows_left}
 use Rattle.sf_merge.specs.declared.located.Located.{Located}
 use Rattle.sf_verify.specs.declared.sweep.Difference.{Difference}
 use Rattle.sf_verify.specs.Agreement.{Agree, DifferFirst, content_said}
@@ -45,6 +48,10 @@ edge_of None size = size
 
 abbrev pub edge : List Row → (place size : ℕ) → ℕ
 edge rows place size = edge_of (slice_get rows place) size
+
+-- the function of a head and of the rows that are left to read
+abbrev pub func_read : FuncHead → RowIter → Func
+func_read head rows = record { start = head.start; size = head.size; shape = head.shape; key = head.key; rows = rows_left rows }
 
 -- its rows rise, and their contents are those of the machine
 pub record IsComparable (arch : Arch) (f : Func) : Type 0 where

@@ -2,16 +2,17 @@
 
 ghost use Rattle.std.specs.Prelude.{◌≡◌, ◌≤◌, ◌<◌, ◌^◌, ◌&&◌, ◌==◌, ℕ, IsTrue, get_or, length, map, false};
 ghost use Rattle.std.specs.List.{filter};
-ghost use Rattle.sf_decode.specs.View.{table_of};
+ghost use Rattle.sf_model.specs.declared.function.Func.{Func as func};
+ghost use Rattle.sf_decode.specs.View.{head_of, table_of};
 ghost use Rattle.sf_merge.specs.declared.located.Located.{Located as located};
 ghost use Rattle.sf_verify.specs.Comparing.{functions_in};
 ghost use Rattle.sf_verify.specs.Agreement as spec;
 ghost use Rattle.sf_verify.specs.Counting.{KeptRise, StartBefore, StartsRise, covers, is_absent};
 
-use crate::sweep::{is_plain, is_plain_shape};
+use crate::sweep::is_plain_shape;
 use sf_decode::{View, functions_are_numbered};
-use sf_merge::Located;
-use sf_model::Func;
+use sf_merge::SectionFunctions;
+use sf_model::{Func, FuncHead};
 
 /// The number of plain functions of a section.
 pub fn count_plain(view: &View<'_>) -> u32
@@ -28,36 +29,37 @@ pub fn count_plain(view: &View<'_>) -> u32
 }
 
 /// The place of the first function from a place on that doesn't start before an address.
-fn pass(functions: &[Located], passed: usize, start: u64) -> usize
+fn pass(functions: &SectionFunctions<'_>, passed: usize, start: u64) -> usize
     requires { StartBefore functions.now passed start }
     ensures passed { StartBefore functions.now result start }
     ensures here { (d : located) → result < length functions.now → start ≤ (get_or functions.now result d).func.start }
 {
     let mut next = passed;
-    while next < functions.len() && functions[next].func.start < start {
+    while next < functions.len() && functions.start(next) < start {
         next += 1;
     }
     next
 }
 
 /// Whether the function at a place is a plain one with the start and size of a kept one.
-fn is_there(functions: &[Located], place: usize, kept: &Func) -> bool
+fn is_there(functions: &SectionFunctions<'_>, place: usize, kept: &Func) -> bool
     ensures within { IsTrue result → place < length functions.now }
     ensures there { (d : located) → place < length functions.now → result ≡ covers kept.now (get_or functions.now place d).func }
 {
-    place < functions.len() && covers(&functions[place].func, kept)
+    place < functions.len() && covers(&functions.head(place), kept)
 }
 
 /// Whether a function is a plain one with the start and size of a kept one.
-fn covers(func: &Func, kept: &Func) -> bool
-    ensures { result ≡ covers kept.now func.now }
+#[inline(always)]
+fn covers(head: &FuncHead, kept: &Func) -> bool
+    ensures { (f : func) → head.now ≡ head_of f → result ≡ covers kept.now f }
 {
-    is_plain(func) && func.start == kept.start && func.size == kept.size
+    is_plain_shape(head.shape) && head.start == kept.start && head.size == kept.size
 }
 
 /// The number of kept functions for which there is no plain function of the same start and size. Both lists
 /// are by rising start, and are passed once.
-pub fn count_missing(kept: &[Func], functions: &[Located]) -> u32
+pub fn count_missing(kept: &[Func], functions: &SectionFunctions<'_>) -> u32
     requires few { length kept.now ≤ 2 ^ 21 }
     requires kept { KeptRise kept.now }
     requires functions { StartsRise functions.now }

@@ -6,11 +6,11 @@ ghost use Rattle.sf_verify.specs.Verifying.{section_fault};
 
 use crate::fault::VerifyFault;
 use sf_decode::View;
-use sf_merge::{Located, shared_entry};
+use sf_merge::{SectionFunctions, shared_entry};
 
 /// Tries each function against the one before it.
 #[tactic(auto, unfolding(crate::specs::Verifying::section_fault))]
-pub fn shared_address(view: &View<'_>, ordered: &[Located]) -> Option<VerifyFault>
+pub fn shared_address(view: &View<'_>, ordered: &SectionFunctions<'_>) -> Option<VerifyFault>
     ensures { result ≡ section_fault (section_bytes view.now) ordered.now }
 {
     let place = shared_entry(view, ordered)?;

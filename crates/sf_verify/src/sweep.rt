@@ -1,20 +1,19 @@
 //! A section's functions and call frame information, compared by rising address.
 
-ghost use Rattle.std.specs.Prelude.{◌≡◌, ◌≤◌, ◌<◌, ◌+◌, IfOk, OnOk, IsTrue, Some, get_or, length};
-ghost use Rattle.sf_model.specs.declared.rows.Row.{Row as row};
+ghost use Rattle.std.specs.Prelude.{◌≡◌, ◌≤◌, ◌+◌, IfOk, OnOk, IsTrue, Some};
 ghost use Rattle.sf_model.specs.Content.{content_fits};
 ghost use Rattle.sf_verify.specs.Agreement as spec;
 ghost use Rattle.sf_verify.specs.Asking.{IsReady, IsSame, says};
-ghost use Rattle.sf_verify.specs.Comparing.{AreComparable, Compares, ComparesAll, IsComparable, edge, func_says, functions_in};
+ghost use Rattle.sf_verify.specs.Comparing.{AreComparable, Compares, ComparesAll, IsComparable, edge_of, func_read, func_says, functions_in};
 ghost use Rattle.sf_verify.specs.Said.{section_at};
-ghost use Rattle.sf_asm.specs.Said.{with_key};
 
 use crate::agreement::recover_alike;
 use crate::dwarf::Dwarf;
 use sf_asm::Said;
 use sf_base::NoMemory;
-use sf_merge::Located;
-use sf_model::{Content, Func, Key, Row, Shape};
+use sf_decode::RowIter;
+use sf_merge::SectionFunctions;
+use sf_model::{Content, FuncHead, Row, Shape};
 use std::alloc::Global;
 
 /// The least address at which they differ, and what they say there.
@@ -64,51 +63,44 @@ fn compare_run(
     }
 }
 
-/// The offset at which the row of a place begins, but the size where it begins after that or there is none.
+/// The offset at which a row begins, but the size where it begins after that or there is none.
 #[inline(always)]
-fn edge(rows: &[Row], place: usize, size: u32) -> u32
-    ensures { result ≡ edge rows.now place size }
+fn edge(row: Option<Row>, size: u32) -> u32
+    ensures { result ≡ edge_of row size }
 {
-    if place < rows.len() && rows[place].start < size {
-        rows[place].start
-    } else {
-        size
+    match row {
+        Some(row) if row.start < size => row.start,
+        _ => size,
     }
 }
 
-/// What the row of a place says.
-#[inline(always)]
-fn said_at(rows: &[Row], place: usize, key: Key) -> Said
-    requires { place < length rows.now }
-    ensures { (d : row) → result ≡ with_key key (get_or rows.now place d).content }
-{
-    Said {
-        content: rows[place].content,
-        key,
-    }
-}
-
-/// Compares a plain function of the section.
+/// Compares a plain function of the section. Its rows are read once, and none is kept but the next one.
 fn compare_function(
     alloc: Global,
-    func: &Func,
+    head: &FuncHead,
+    rows: RowIter<'_>,
     dwarf: &mut Dwarf<'_>,
 ) -> Result<Option<Difference>, NoMemory>
-    requires ready { IsReady dwarf.old func.now.start }
-    requires plain { IsTrue (spec.is_plain func.now) }
-    requires comparable { IsComparable dwarf.old.arch func.now }
+    requires ready { IsReady dwarf.old head.now.start }
+    requires plain { IsTrue (spec.is_plain_shape head.now.shape) }
+    requires comparable { IsComparable dwarf.old.arch (func_read head.now rows) }
     ensures same { OnOk result (IsSame dwarf.old dwarf.new) }
-    ensures ready { OnOk result (IsReady dwarf.new (func.now.start + func.now.size)) }
-    ensures compared { IfOk result (Compares (func_says func.now) (says dwarf.old) func.now.start (func.now.start + func.now.size)) }
+    ensures ready { OnOk result (IsReady dwarf.new (head.now.start + head.now.size)) }
+    ensures compared { IfOk result (Compares (func_says (func_read head.now rows.entry)) (says dwarf.old) head.now.start (head.now.start + head.now.size)) }
 {
-    let rows = func.rows.as_slice();
-    let mut from = edge(rows, 0, func.size);
-    for place in 0..rows.len() {
-        let end = edge(rows, place + 1, func.size);
+    let mut left = rows;
+    let mut next = left.next();
+    let mut from = edge(next, head.size);
+    while let Some(row) = next {
+        next = left.next();
+        let end = edge(next, head.size);
         if from < end {
-            let said = said_at(rows, place, func.key);
-            let first = func.start + u64::from(from);
-            let last = func.start + u64::from(end - 1);
+            let said = Said {
+                content: row.content,
+                key: head.key,
+            };
+            let first = head.start + u64::from(from);
+            let last = head.start + u64::from(end - 1);
             let compared = compare_run(alloc, said, first, last, dwarf)?;
             if compared.is_some() {
                 return Ok(compared);
@@ -130,28 +122,21 @@ pub fn is_plain_shape(shape: Shape) -> bool
     }
 }
 
-/// Whether a function's rows are.
-#[inline(always)]
-pub fn is_plain(func: &Func) -> bool
-    ensures { result ≡ spec.is_plain func.now }
-{
-    is_plain_shape(func.shape)
-}
-
 /// Compares the plain functions of a section, which are given by rising start and share no address. The
 /// least address at which they differ is found.
 pub fn compare(
     alloc: Global,
-    functions: &[Located],
+    functions: &SectionFunctions<'_>,
     dwarf: &mut Dwarf<'_>,
 ) -> Result<Option<Difference>, NoMemory>
     requires ready { IsReady dwarf.old 0 }
     requires comparable { AreComparable dwarf.old.arch functions.now }
     ensures { IfOk result (ComparesAll (section_at (functions_in functions.now)) (says dwarf.old)) }
 {
-    for located in functions {
-        if is_plain(&located.func) {
-            let compared = compare_function(alloc, &located.func, dwarf)?;
+    for place in 0..functions.len() {
+        let head = functions.head(place);
+        if is_plain_shape(head.shape) {
+            let compared = compare_function(alloc, &head, functions.rows(place), dwarf)?;
             if compared.is_some() {
                 return Ok(compared);
             }

@@ -19,7 +19,7 @@ use crate::sweep::compare;
 use sf_asm::{GatherFault, Input, WithSources, gather_with_sources};
 use sf_base::NoMemory;
 use sf_decode::View;
-use sf_merge::{Located, in_order};
+use sf_merge::{SectionFunctions, in_order};
 use sf_model::Verdict;
 use std::alloc::Global;
 
@@ -41,7 +41,7 @@ fn refused(section: Option<VerifyFault>, fault: GatherFault) -> VerifyFault
 fn verdict_on(
     alloc: Global,
     view: &View<'_>,
-    ordered: &[Located],
+    ordered: &SectionFunctions<'_>,
     gathered: &WithSources<'_>,
 ) -> Result<Verdict, NoMemory>
     requires machine { gathered.now.arch ≡ (table_of view.now).arch }
@@ -89,7 +89,7 @@ pub fn verify(alloc: Global, view: &View<'_>, inputs: &[Input<'_>]) -> Result<Ve
     ensures answered { IfErr result (λ fault. IsTrue (is_answered fault)) }
 {
     let gathered = gather_with_sources(alloc, inputs, Some(view.arch()));
-    let ordered = in_order(alloc, 0, view)?;
+    let ordered = in_order(alloc, view)?;
     let shared = shared_address(view, &ordered);
     match gathered {
         Err(fault) => Err(refused(shared, fault)),

@@ -1,6 +1,6 @@
 use Rattle.std.proofs.Common.{◌≡◌, take}
-use Rattle.sf_model.specs.Table.{row_count}
+use Rattle.sf_write.specs.Stored.{stored_count}
 use Rattle.sf_slim.proofs.slimming.count_rows.Given as goal
 
-abbrev pub invariant-loop-func : goal.invariant-loop-func
-invariant-loop-func l = l.rows ≡ row_count (take l.func-index l.functions)
+abbrev pub invariant-loop-function : goal.invariant-loop-function
+invariant-loop-function l = l.rows ≡ stored_count (take l.function-index l.functions)

@@ -1,8 +1,12 @@
-use Rattle.std.proofs.Common.{◌≡◌, map}
-use Rattle.std.specs.List.{filter}
-use Rattle.sf_merge.specs.declared.located.Located.{Located}
-use Rattle.sf_slim.specs.Pass.{answers, kept_function}
+use Rattle.std.proofs.Common.{◌≡◌, All, map, take}
+use Rattle.sf_write.specs.Stored.{IsStored, stored_in}
+use Rattle.sf_merge.proofs.Apart.{function_of}
+use Rattle.sf_slim.proofs.Needed.{needed}
 use Rattle.sf_slim.proofs.slimming.needed.Given as goal
 
-abbrev pub invariant-loop-located : goal.invariant-loop-located
-invariant-loop-located l = l.needed.items ≡ map kept_function (filter answers (map (λ (l : Located). l.func) l.yielded))
+-- the functions so far are stored
+abbrev pub invariant-loop-place : goal.invariant-loop-place
+invariant-loop-place l = record {
+  stored : All (IsStored l.rows) l.functions.items;
+  functions : map (stored_in l.rows) l.functions.items ≡ needed (map function_of (take l.place l.ordered));
+}

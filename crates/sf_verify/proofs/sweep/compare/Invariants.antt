@@ -6,9 +6,9 @@ use Rattle.sf_verify.specs.Said.{section_at}
 use Rattle.sf_verify.proofs.Swept.{AgreeOver}
 use Rattle.sf_verify.proofs.sweep.compare.Given as goal
 
-abbrev pub invariant-loop-located : goal.invariant-loop-located
-invariant-loop-located l = record {
+abbrev pub invariant-loop-place : goal.invariant-loop-place
+invariant-loop-place l = record {
   same : IsSame l.initial.dwarf l.dwarf;
-  ready : (d : Located) → l.located-index < length l.functions → IsReady l.dwarf (get_or l.functions l.located-index d).func.start;
-  agree : (i : ℕ) (d : Located) → i < l.located-index → i < length l.functions → AgreeOver (section_at (functions_in l.functions)) (says l.initial.dwarf) (get_or l.functions i d).func;
+  ready : (d : Located) → l.place < length l.functions → IsReady l.dwarf (get_or l.functions l.place d).func.start;
+  agree : (i : ℕ) (d : Located) → i < l.place → i < length l.functions → AgreeOver (section_at (functions_in l.functions)) (says l.initial.dwarf) (get_or l.functions i d).func;
 }

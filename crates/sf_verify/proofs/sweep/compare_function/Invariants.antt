@@ -1,12 +1,20 @@
-use Rattle.std.proofs.Common.{◌≡◌, ◌+◌, None}
+use Rattle.std.proofs.Common.{◌≡◌, ◌+◌, ℕ, None, drop, length}
+use Rattle.sf_decode.specs.View.{rows_left}
 use Rattle.sf_verify.specs.Asking.{IsReady, IsSame, says}
-use Rattle.sf_verify.specs.Comparing.{Compares, edge, func_says}
+use Rattle.sf_verify.specs.Comparing.{Compares, edge_of, func_read, func_says}
+use Rattle.sf_verify.proofs.Rowwise.{lead}
 use Rattle.sf_verify.proofs.sweep.compare_function.Given as goal
 
-abbrev pub invariant-loop-place : goal.invariant-loop-place
-invariant-loop-place l = record {
-  from : l.from ≡ edge l.rows l.place l.func.size;
+-- the rows before the place were compared
+abbrev pub invariant-loop-next : goal.invariant-loop-next
+invariant-loop-next l = record {
+  place : ℕ;
+  left_are : drop place (rows_left l.rows) ≡ lead l.next (rows_left l.left);
+  from : l.from ≡ edge_of l.next l.head.size;
   same : IsSame l.initial.dwarf l.dwarf;
-  ready : IsReady l.dwarf (l.func.start + l.from);
-  compared : Compares (func_says l.func) (says l.initial.dwarf) l.func.start (l.func.start + l.from) None;
+  ready : IsReady l.dwarf (l.head.start + l.from);
+  compared : Compares (func_says (func_read l.head l.rows)) (says l.initial.dwarf) l.head.start (l.head.start + l.from) None;
 }
+
+abbrev pub decreases-loop-next : goal.decreases-loop-next
+decreases-loop-next l = length (lead l.next (rows_left l.left))

@@ -1,11 +1,8 @@
 use Rattle.std.specs.Prelude.{IsTrue}
-use Rattle.std.proofs.Common.{◌∙◌, List, map, sym, subst}
-use Rattle.sf_merge.specs.declared.located.Located.{Located}
+use Rattle.std.proofs.Common.{◌∙◌, map, refl, sym, subst}
 use Rattle.sf_asm.specs.Functions.{object_of}
 use Rattle.sf_decode.specs.View.{section_bytes}
 use Rattle.sf_verify.specs.declared.fault.VerifyFault.{VerifyFault}
-use Rattle.sf_verify.specs.Comparing.{AreComparable}
-use Rattle.sf_verify.specs.Counting.{StartsRise}
 use Rattle.sf_verify.specs.FaultShown.{is_answered}
 use Rattle.sf_verify.proofs.NeverMemory.{refused_is_answered, shared_is_answered}
 use Rattle.sf_verify.proofs.Verdicts.{has_verdict, prepared}
@@ -13,41 +10,41 @@ use Rattle.sf_verify.proofs.verifying.verify.Goals as goal
 
 pub verdict_on-requires-clause-machine : goal.verdict_on-requires-clause-machine
 verdict_on-requires-clause-machine c =
-    (prepared c.args.view.now (map object_of c.args.inputs.now) c.arch.result c.in-Ok.gathered.arch c.in-Ok.gathered.kept.items c.in-Ok.gathered.omitted.items c.in-Ok.gathered.sources.items c.in_ok-ordered.ordered.items c.deref.result.now c.shared_address-shared.result
-    c.arch.ensures c.in-Ok.ensures.gathered c.in-Ok.ensures.machine c.in_order.ensures.read c.in_ok-ordered.ensures.moved c.in_ok-ordered.ensures.sorted c.deref.ensures.value c.shared_address-shared.ensures c.in-None.is).machine
+    (prepared c.args.view.now (map object_of c.args.inputs.now) c.arch.result c.in-Ok.gathered.arch c.in-Ok.gathered.kept.items c.in-Ok.gathered.omitted.items c.in-Ok.gathered.sources.items c.in_ok-ordered.ordered c.in_ok-ordered.ordered c.shared_address-shared.result
+    c.arch.ensures c.in-Ok.ensures.gathered c.in-Ok.ensures.machine c.in_order.ensures.read c.in_ok-ordered.ensures.order.moved c.in_ok-ordered.ensures.order.rising refl c.shared_address-shared.ensures c.in-None.is).machine
 
 pub verdict_on-requires-clause-comparable : goal.verdict_on-requires-clause-comparable
-verdict_on-requires-clause-comparable c = subst (λ (ls : List Located). AreComparable c.in-Ok.gathered.arch ls) (sym c.deref-in-None.ensures.value)
-    (prepared c.args.view.now (map object_of c.args.inputs.now) c.arch.result c.in-Ok.gathered.arch c.in-Ok.gathered.kept.items c.in-Ok.gathered.omitted.items c.in-Ok.gathered.sources.items c.in_ok-ordered.ordered.items c.deref.result.now c.shared_address-shared.result
-    c.arch.ensures c.in-Ok.ensures.gathered c.in-Ok.ensures.machine c.in_order.ensures.read c.in_ok-ordered.ensures.moved c.in_ok-ordered.ensures.sorted c.deref.ensures.value c.shared_address-shared.ensures c.in-None.is).comparable
+verdict_on-requires-clause-comparable c =
+    (prepared c.args.view.now (map object_of c.args.inputs.now) c.arch.result c.in-Ok.gathered.arch c.in-Ok.gathered.kept.items c.in-Ok.gathered.omitted.items c.in-Ok.gathered.sources.items c.in_ok-ordered.ordered c.in_ok-ordered.ordered c.shared_address-shared.result
+    c.arch.ensures c.in-Ok.ensures.gathered c.in-Ok.ensures.machine c.in_order.ensures.read c.in_ok-ordered.ensures.order.moved c.in_ok-ordered.ensures.order.rising refl c.shared_address-shared.ensures c.in-None.is).comparable
 
 pub verdict_on-requires-clause-rise : goal.verdict_on-requires-clause-rise
-verdict_on-requires-clause-rise c = subst (λ (ls : List Located). StartsRise ls) (sym c.deref-in-None.ensures.value)
-    (prepared c.args.view.now (map object_of c.args.inputs.now) c.arch.result c.in-Ok.gathered.arch c.in-Ok.gathered.kept.items c.in-Ok.gathered.omitted.items c.in-Ok.gathered.sources.items c.in_ok-ordered.ordered.items c.deref.result.now c.shared_address-shared.result
-    c.arch.ensures c.in-Ok.ensures.gathered c.in-Ok.ensures.machine c.in_order.ensures.read c.in_ok-ordered.ensures.moved c.in_ok-ordered.ensures.sorted c.deref.ensures.value c.shared_address-shared.ensures c.in-None.is).rise
+verdict_on-requires-clause-rise c =
+    (prepared c.args.view.now (map object_of c.args.inputs.now) c.arch.result c.in-Ok.gathered.arch c.in-Ok.gathered.kept.items c.in-Ok.gathered.omitted.items c.in-Ok.gathered.sources.items c.in_ok-ordered.ordered c.in_ok-ordered.ordered c.shared_address-shared.result
+    c.arch.ensures c.in-Ok.ensures.gathered c.in-Ok.ensures.machine c.in_order.ensures.read c.in_ok-ordered.ensures.order.moved c.in_ok-ordered.ensures.order.rising refl c.shared_address-shared.ensures c.in-None.is).rise
 
 pub verdict_on-requires-clause-holders : goal.verdict_on-requires-clause-holders
 verdict_on-requires-clause-holders c =
-    (prepared c.args.view.now (map object_of c.args.inputs.now) c.arch.result c.in-Ok.gathered.arch c.in-Ok.gathered.kept.items c.in-Ok.gathered.omitted.items c.in-Ok.gathered.sources.items c.in_ok-ordered.ordered.items c.deref.result.now c.shared_address-shared.result
-    c.arch.ensures c.in-Ok.ensures.gathered c.in-Ok.ensures.machine c.in_order.ensures.read c.in_ok-ordered.ensures.moved c.in_ok-ordered.ensures.sorted c.deref.ensures.value c.shared_address-shared.ensures c.in-None.is).holders
+    (prepared c.args.view.now (map object_of c.args.inputs.now) c.arch.result c.in-Ok.gathered.arch c.in-Ok.gathered.kept.items c.in-Ok.gathered.omitted.items c.in-Ok.gathered.sources.items c.in_ok-ordered.ordered c.in_ok-ordered.ordered c.shared_address-shared.result
+    c.arch.ensures c.in-Ok.ensures.gathered c.in-Ok.ensures.machine c.in_order.ensures.read c.in_ok-ordered.ensures.order.moved c.in_ok-ordered.ensures.order.rising refl c.shared_address-shared.ensures c.in-None.is).holders
 
 pub verdict_on-requires-clause-kept : goal.verdict_on-requires-clause-kept
 verdict_on-requires-clause-kept c =
-    (prepared c.args.view.now (map object_of c.args.inputs.now) c.arch.result c.in-Ok.gathered.arch c.in-Ok.gathered.kept.items c.in-Ok.gathered.omitted.items c.in-Ok.gathered.sources.items c.in_ok-ordered.ordered.items c.deref.result.now c.shared_address-shared.result
-    c.arch.ensures c.in-Ok.ensures.gathered c.in-Ok.ensures.machine c.in_order.ensures.read c.in_ok-ordered.ensures.moved c.in_ok-ordered.ensures.sorted c.deref.ensures.value c.shared_address-shared.ensures c.in-None.is).kept_rises
+    (prepared c.args.view.now (map object_of c.args.inputs.now) c.arch.result c.in-Ok.gathered.arch c.in-Ok.gathered.kept.items c.in-Ok.gathered.omitted.items c.in-Ok.gathered.sources.items c.in_ok-ordered.ordered c.in_ok-ordered.ordered c.shared_address-shared.result
+    c.arch.ensures c.in-Ok.ensures.gathered c.in-Ok.ensures.machine c.in_order.ensures.read c.in_ok-ordered.ensures.order.moved c.in_ok-ordered.ensures.order.rising refl c.shared_address-shared.ensures c.in-None.is).kept_rises
 
 pub returns-clause-verdict : goal.returns-clause-verdict
 returns-clause-verdict c =
-    has_verdict c.args.view.now (map object_of c.args.inputs.now) c.arch.result c.in-Ok.gathered.arch c.in-Ok.gathered.kept.items c.in-Ok.gathered.omitted.items c.in-Ok.gathered.sources.items c.in_ok-ordered.ordered.items c.deref-in-None.result.now c.in_ok-verdict_on-in-None.field-0
+    has_verdict c.args.view.now (map object_of c.args.inputs.now) c.arch.result c.in-Ok.gathered.arch c.in-Ok.gathered.kept.items c.in-Ok.gathered.omitted.items c.in-Ok.gathered.sources.items c.in_ok-ordered.ordered c.in_ok-ordered.ordered c.in_ok-verdict_on-in-None.field-0
     c.arch.ensures c.in-Ok.ensures.gathered c.in-Ok.ensures.machine
-    (prepared c.args.view.now (map object_of c.args.inputs.now) c.arch.result c.in-Ok.gathered.arch c.in-Ok.gathered.kept.items c.in-Ok.gathered.omitted.items c.in-Ok.gathered.sources.items c.in_ok-ordered.ordered.items c.deref.result.now c.shared_address-shared.result
-    c.arch.ensures c.in-Ok.ensures.gathered c.in-Ok.ensures.machine c.in_order.ensures.read c.in_ok-ordered.ensures.moved c.in_ok-ordered.ensures.sorted c.deref.ensures.value c.shared_address-shared.ensures c.in-None.is)
-    c.deref-in-None.ensures.value c.in_ok-verdict_on-in-None.ensures
+    (prepared c.args.view.now (map object_of c.args.inputs.now) c.arch.result c.in-Ok.gathered.arch c.in-Ok.gathered.kept.items c.in-Ok.gathered.omitted.items c.in-Ok.gathered.sources.items c.in_ok-ordered.ordered c.in_ok-ordered.ordered c.shared_address-shared.result
+    c.arch.ensures c.in-Ok.ensures.gathered c.in-Ok.ensures.machine c.in_order.ensures.read c.in_ok-ordered.ensures.order.moved c.in_ok-ordered.ensures.order.rising refl c.shared_address-shared.ensures c.in-None.is)
+    refl c.in_ok-verdict_on-in-None.ensures
 
 pub returns-in-Err-clause-answered : goal.returns-in-Err-clause-answered
 returns-in-Err-clause-answered c =
     subst (λ (f : VerifyFault). IsTrue (is_answered f)) (sym c.refused.ensures)
-    (refused_is_answered (section_bytes c.args.view.now) c.deref.result.now c.shared_address-shared.result c.in-Err.fault c.shared_address-shared.ensures c.in-Err.ensures.answered)
+    (refused_is_answered (section_bytes c.args.view.now) c.in_ok-ordered.ordered c.shared_address-shared.result c.in-Err.fault c.shared_address-shared.ensures c.in-Err.ensures.answered)
 
 pub returns-in-Some-clause-answered : goal.returns-in-Some-clause-answered
-returns-in-Some-clause-answered c = shared_is_answered (section_bytes c.args.view.now) c.deref.result.now c.in-Some.fault (sym c.in-Some.is ∙ c.shared_address-shared.ensures)
+returns-in-Some-clause-answered c = shared_is_answered (section_bytes c.args.view.now) c.in_ok-ordered.ordered c.in-Some.fault (sym c.in-Some.is ∙ c.shared_address-shared.ensures)
