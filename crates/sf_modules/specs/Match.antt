@@ -28,9 +28,9 @@ is_match p word file load e = matches p word file load (longest_tail word p.entr
 abbrev pub entry_of : ProcessView → (word file : List ℕ) → (load : ℕ) → Option EntryView
 entry_of p word file load = find (is_match p word file load) p.entries
 
--- another entry of another name matches
+-- so does another entry, of another name
 abbrev pub matches_too : ProcessView → (word file : List ℕ) → (load tail : ℕ) → (e other : EntryView) → Bool
-matches_too p word file load tail e other = not (bytes_eq other.name e.name) && matches p word file load tail other
+matches_too p word file load tail e other = (common_tail word other.name == tail) && not (bytes_eq other.name e.name) && fits p file load other
 
 -- there is one
 abbrev pub is_ambiguous : ProcessView → (word file : List ℕ) → (load : ℕ) → EntryView → Bool

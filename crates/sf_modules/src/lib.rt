@@ -12,9 +12,10 @@
 //! leads to the function's own module, it is the answer of one table that has the functions of all.
 //!
 //! The caller owes files of fewer than 2^32 bytes, and a page size that isn't 0, as `entries` returns. `read_module`
-//! allocates nothing, and goes once over the file's headers and once over the entries. `Modules::new` takes the time of a
-//! sort of the entries, and of the functions of each section that doesn't say to be sorted; an address is then found by two
-//! searches by halves.
+//! allocates nothing. It goes over the entries three times, and, for each entry of a nearest name that has the first loaded
+//! segment's place, over the file's program headers, with the entries and the core file's segments for each loaded one.
+//! `Modules::new` takes the time of a sort of the entries, and of the functions of each section that doesn't say to be
+//! sorted; an address is then found by two searches by halves.
 #![tactic(auto)]
 
 mod build;

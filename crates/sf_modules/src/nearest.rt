@@ -78,8 +78,11 @@ fn any_by_fields(
 ) -> bool
     ensures { result ≡ list_any (λ e. spec.matches_too (process_view process.now) word.now (file program.now.elf) program.now.load tail (entry_view found.now) (entry_view e)) process.now.entries.now }
 {
-    process.entries.iter().any(|entry| entry.name != found.name
-        && matches(process, word, tail, program, entry))
+    process.entries.iter().any(|entry| {
+        common_tail(word, entry.name) == tail
+            && entry.name != found.name
+            && fits(process, program, entry)
+    })
 }
 
 // The same by what entries show.

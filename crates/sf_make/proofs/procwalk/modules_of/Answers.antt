@@ -10,8 +10,8 @@ use Rattle.sf_make.proofs.Procwalks.{ReadingFiles, file_at, files_of, no_file_le
 use Rattle.sf_make.proofs.Reading.{all_fine, all_made, one_more_read}
 use Rattle.sf_make.proofs.procwalk.modules_of.Goals as goal
 
-pub read_module-requires-clause-small : goal.read_module-requires-clause-small
-read_module-requires-clause-small c =
+pub read_module-requires : goal.read_module-requires
+read_module-requires c =
     let t = zip_turn c.args.names.now c.args.items.now c.loop-name.yielded c.into_iter-name-iterator.result c.loop-name.name-iterator c.next.new.self c.next.result (cc) (cc) c.loop-name.yielded_by
     (c.in-Some.name, c.in-Some.bytes) c.in-Some.is c.next.ensures.steps in
     let k = length c.loop-name.yielded in
