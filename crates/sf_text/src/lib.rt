@@ -9,7 +9,8 @@
 //! [`fault_line`], [`file_limit_line`] and [`put_name`] append `fault_text`, `file_limit_text` and `shown_name`.
 //! The caller owes a notice that has a line to `fault_line`, and nothing to the others.
 //!
-//! What appends to a sink allocates nothing: what a section says goes there in pieces, and is never held whole.
+//! What appends to a sink allocates nothing: what a section says goes there in pieces, and is never held whole. [`dump`]
+//! gives it as one text.
 //! The others build their text in one growing buffer, in the time of its length; they fail for memory alone.
 #![tactic(auto)]
 
@@ -21,6 +22,7 @@ mod found_row;
 mod frames;
 mod gen_summary;
 mod link_report;
+mod list_forms;
 mod merge_text;
 mod names;
 mod number;
@@ -38,6 +40,7 @@ pub use found_row::found;
 pub use frames::thread_text;
 pub use gen_summary::summary;
 pub use link_report::report;
+pub use list_forms::dump;
 pub use merge_text::merged;
 pub use output::{Output, put_output};
 pub use plt_report::report_plt;

@@ -3,7 +3,7 @@
 use crate::samples::{PUSHING, SIGNING};
 use sf_base::MemSink;
 use sf_decode::View;
-use sf_text::{Output, found, put_output};
+use sf_text::{Output, dump, found, put_output};
 use std::test::Fail;
 
 // A whole procedure linkage table: its head, and its repeated entries.
@@ -42,6 +42,8 @@ func 0x1010 size 32 repeat 16 key a rows 2
     ];
     for (section, text) in cases {
         let view = View::parse(section, 0x3000).ok().ok_or("a section")?;
+        let shown = dump(rt.alloc(), &view)?;
+        assert_eq!(rt; shown.as_slice(), text.as_bytes());
         let mut sink = MemSink::new(rt.alloc(), 7, Vec::new(rt.alloc()));
         put_output(&mut sink, &Output::Section(view))?;
         assert_eq!(rt; sink.bytes(), text.as_bytes());
