@@ -304,7 +304,7 @@ def long_record(count, start=0x1000):
 
 
 def rows_of_one_record(size):
-    """A record with so many rows that 64 MiB have more than a section may hold."""
+    """A record of many rows: 64 MiB have more than a section may hold."""
     return link_bare(long_record(size // 3))
 
 
@@ -546,7 +546,7 @@ def segments_of_threads(size):
 
 
 def threads_in_a_long_function(count, rows):
-    """Threads at the last address of a function of so many rows, and memory that leads back there."""
+    """Threads at the last address of a function with this number of rows, and memory that leads back there."""
     pc = 0x1000 + rows - 1
     return [(PT_NOTE, 0, threads(count, pc)), stack(pc)]
 
@@ -572,7 +572,7 @@ def backtrace_in_a_long_function(size):
 # ---- processes
 def shared_object(content, address, segments=(), front=b""):
     """A shared object of one segment from address 0 on, with this section at this address. Further segments have a kind, flags, a place in the file,
-    an address, and a size in the file and in memory; behind their headers there may be other bytes."""
+    an address, and a size in the file and in memory; after their headers there may be other bytes."""
     count = 1 + len(segments)
     place = 64 + 56 * count + len(front)
     names = b"\0.sframe\0"
