@@ -9,7 +9,7 @@ use crate::read::{first_byte, first_of, short_uleb};
 use sf_bytes::Part;
 
 /// The instructions of a part with their places. After a fault it ends.
-#[derive(Clone, Copy, Debug)]
+#[derive(Clone, Copy)]
 pub struct Insns<'a> {
     part: Part<'a>,
 }

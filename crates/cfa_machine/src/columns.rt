@@ -14,7 +14,7 @@ use cfa_insn::opcodes::DW_CFA_AARCH64_NEGATE_RA_STATE;
 use sf_model::Arch;
 
 /// A row without its start.
-#[derive(Clone, Copy, Debug)]
+#[derive(Clone, Copy)]
 pub struct Columns {
     pub cfa: CfaRule,
     pub sp: Rule,

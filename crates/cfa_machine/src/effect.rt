@@ -8,7 +8,7 @@ use crate::rule::{CfaRule, Rule};
 use cfa_insn::Insn;
 
 /// A change of the present row alone.
-#[derive(Clone, Copy, Debug)]
+#[derive(Clone, Copy)]
 pub enum RowEffect {
     /// Nothing changes.
     Nothing,
@@ -25,7 +25,7 @@ pub enum RowEffect {
 }
 
 /// What an instruction does.
-#[derive(Clone, Copy, Debug)]
+#[derive(Clone, Copy)]
 pub enum Effect {
     /// It changes the present row.
     Row(RowEffect),

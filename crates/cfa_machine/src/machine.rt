@@ -17,7 +17,7 @@ use sf_model::Arch;
 pub const MOST_REMEMBERED: usize = 64;
 
 /// What stays while a function's instructions run.
-#[derive(Clone, Copy, Debug)]
+#[derive(Clone, Copy)]
 pub struct FunctionContext {
     /// The machine of the code.
     pub arch: Arch,
@@ -30,7 +30,7 @@ pub struct FunctionContext {
 }
 
 /// What changes while they run.
-#[derive(Debug, Drop)]
+#[derive(Drop)]
 pub struct Machine {
     /// The present row.
     pub columns: Columns,

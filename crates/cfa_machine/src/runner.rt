@@ -18,7 +18,7 @@ use sf_model::Arch;
 
 /// Gives the rows of a function by rising start, and allocates nothing. It can be started again for the next
 /// function.
-#[derive(Debug, Drop)]
+#[derive(Drop)]
 pub struct Runner<'a> {
     machine: Machine,
     setup: FunctionContext,

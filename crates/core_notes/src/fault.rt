@@ -3,7 +3,7 @@
 use elf_read::ElfFault;
 
 /// A refused core file, with the place of what is wrong, in bytes from the file's start.
-#[derive(Clone, Copy, Debug, PartialEq, Eq)]
+#[derive(Clone, Copy, PartialEq, Eq)]
 pub enum CoreFault {
     /// The ELF file is refused.
     Elf(ElfFault),

@@ -12,7 +12,7 @@ use crate::status::{Thread, is_mask_note, is_status, mask_of, thread_of};
 use sf_model::Arch;
 
 /// An iterator over the threads of a core file, in the order of their notes.
-#[derive(Clone, Copy, Debug)]
+#[derive(Clone, Copy)]
 pub struct ThreadIter<'a> {
     arch: Arch,
     notes: Notes<'a>,

@@ -8,7 +8,7 @@ use crate::layout::NOTE_ALIGN;
 use sf_bytes::{ByteFault, Part};
 
 /// A note of a core file.
-#[derive(Clone, Copy, Debug)]
+#[derive(Clone, Copy)]
 pub struct Note<'a> {
     /// Its place in the file.
     pub place: u64,

@@ -10,7 +10,7 @@ use sf_bytes::Part;
 
 /// An iterator over the notes of all PT_NOTE segments. A note that is cut is an error with its place, and the last of
 /// its segment.
-#[derive(Clone, Copy, Debug)]
+#[derive(Clone, Copy)]
 pub struct Notes<'a> {
     elf: Elf<'a>,
     // What is left of the segment that is being read, and the number of the next one.

@@ -18,7 +18,7 @@ use sf_bytes::Part;
 use sf_model::{Arch, Memory};
 
 /// A core file that was checked. It lends the file's bytes, of which there are fewer than 2^32.
-#[derive(Clone, Copy, Debug)]
+#[derive(Clone, Copy)]
 pub struct Core<'a> {
     pub(crate) elf: Elf<'a>,
     threads: u32,

@@ -9,7 +9,7 @@ use crate::look_up::LookUp;
 use sf_model::{Content, Frame, Key, Memory, Ra, Recovered, Regs, Stop, moved, recover};
 
 /// Where the walk goes on.
-#[derive(Clone, Copy, Debug)]
+#[derive(Clone, Copy)]
 pub struct Caller {
     /// The address that it returns to.
     pub pc: u64,

@@ -8,7 +8,7 @@ use sf_bytes::Field;
 use sf_model::Key;
 
 /// The form of function pointers.
-#[derive(Clone, Copy, Debug)]
+#[derive(Clone, Copy)]
 pub struct PointerForm {
     pub encoding: u8,
     /// How many bytes a pointer has.
@@ -18,7 +18,7 @@ pub struct PointerForm {
 }
 
 /// What the letters of an augmentation string say.
-#[derive(Clone, Copy, Debug)]
+#[derive(Clone, Copy)]
 pub struct Augmentation {
     /// The form of function pointers.
     pub pointers: PointerForm,

@@ -8,7 +8,7 @@ use sf_bytes::{Field, Part};
 use sf_model::Key;
 
 /// A common information entry: what several functions share.
-#[derive(Clone, Copy, Debug)]
+#[derive(Clone, Copy)]
 pub struct Cie<'a> {
     /// The place of its length word in the section.
     pub place: u32,
@@ -31,7 +31,7 @@ pub struct Cie<'a> {
 }
 
 /// The numbers of an entry.
-#[derive(Clone, Copy, Debug)]
+#[derive(Clone, Copy)]
 pub struct NumberFields {
     /// The code alignment factor.
     pub code: u64,
@@ -42,7 +42,7 @@ pub struct NumberFields {
 }
 
 /// A common information entry with what only its frame description entries read.
-#[derive(Clone, Copy, Debug)]
+#[derive(Clone, Copy)]
 pub struct CieWithForm<'a> {
     pub cie: Cie<'a>,
     /// How many bytes a function pointer has.

@@ -10,7 +10,7 @@ use crate::layout::{CIE_ID, EXTENDED_LENGTH, WORD_LEN};
 use crate::reader::Reader;
 
 /// A record as it was cut.
-#[derive(Clone, Copy, Debug)]
+#[derive(Clone, Copy)]
 pub struct RawRecord<'a> {
     /// The place of its length word.
     pub place: u32,

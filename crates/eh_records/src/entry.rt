@@ -21,7 +21,7 @@ use crate::reader::Reader;
 use sf_model::Arch;
 
 /// An entry of a section.
-#[derive(Clone, Copy, Debug)]
+#[derive(Clone, Copy)]
 pub enum Entry<'a> {
     /// A common information entry.
     Common(CieWithForm<'a>),

@@ -7,7 +7,7 @@ use crate::cie::Cie;
 use sf_bytes::{Field, Part};
 
 /// A frame description entry: one function.
-#[derive(Clone, Copy, Debug)]
+#[derive(Clone, Copy)]
 pub struct Fde<'a> {
     /// The place of its length word in the section.
     pub place: u32,

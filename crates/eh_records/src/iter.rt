@@ -17,7 +17,7 @@ use sf_model::Arch;
 
 /// An iterator over the frame description entries of a section that was parsed. Each record that is left was
 /// read before, so it ends at the section's end and no earlier.
-#[derive(Clone, Copy, Debug)]
+#[derive(Clone, Copy)]
 pub struct FdeIter<'a> {
     section: &'a [u8],
     arch: Arch,

@@ -8,7 +8,7 @@ use crate::fault::RecordFault;
 use sf_model::Arch;
 
 /// A common information entry with its place.
-#[derive(Clone, Copy, Debug)]
+#[derive(Clone, Copy)]
 pub struct CommonAt<'a> {
     pub place: u32,
     pub shared: CieWithForm<'a>,

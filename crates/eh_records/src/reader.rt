@@ -6,7 +6,7 @@ use crate::fault::RecordFault;
 use sf_bytes::{ByteFault, Field, Part};
 
 /// What is left of a section, or of one record of it.
-#[derive(Clone, Copy, Debug)]
+#[derive(Clone, Copy)]
 pub struct Reader<'a> {
     pub part: Part<'a>,
     ghost small: { part.place + length part.bytes.now < 2 ^ 32 },

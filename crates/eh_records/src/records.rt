@@ -18,7 +18,7 @@ use sf_model::Arch;
 use std::alloc::Global;
 
 /// A section's records, all of which were read. It lends the section's bytes.
-#[derive(Clone, Copy, Debug)]
+#[derive(Clone, Copy)]
 pub struct Records<'a> {
     bytes: &'a [u8],
     arch: Arch,

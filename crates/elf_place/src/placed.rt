@@ -14,7 +14,7 @@ use elf_read::Elf;
 use std::alloc::Global;
 
 /// An ELF file with the addresses of its sections.
-#[derive(Debug, Drop)]
+#[derive(Drop)]
 pub struct Placed<'a> {
     elf: Elf<'a>,
     shift: u64,

@@ -16,7 +16,7 @@ use elf_read::layout::{
 use std::alloc::{AllocError, Global};
 
 /// A section with relocations of call frame information, in whatever form, and the section that they are applied to.
-#[derive(Clone, Copy, Debug)]
+#[derive(Clone, Copy)]
 pub struct RelocationSection {
     /// The number of the section that the relocations are applied to, which its info says.
     pub target: u32,

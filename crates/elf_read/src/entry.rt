@@ -3,7 +3,7 @@
 use crate::text::Text;
 
 /// A section header's fields (ELF64 gABI, "Sections").
-#[derive(Clone, Copy, Debug, PartialEq, Eq)]
+#[derive(Clone, Copy, PartialEq, Eq)]
 pub struct Section {
     /// sh_type.
     pub kind: u32,
@@ -26,7 +26,7 @@ pub struct Section {
 }
 
 /// A segment (ELF64 gABI, "Program Header").
-#[derive(Clone, Copy, Debug)]
+#[derive(Clone, Copy)]
 pub struct Segment<'a> {
     /// p_type.
     pub kind: u32,
@@ -63,7 +63,7 @@ pub struct Symbol {
 }
 
 /// A section group (ELF64 gABI, "Section Groups").
-#[derive(Clone, Copy, Debug)]
+#[derive(Clone, Copy)]
 pub struct GroupHead<'a> {
     /// Whether one copy of it is kept.
     pub comdat: bool,

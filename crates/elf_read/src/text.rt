@@ -27,7 +27,7 @@ pub fn text_at(table: &[u8], place: u64) -> &[u8]
 }
 
 /// A text of a string table. Its end is looked for when its bytes are asked for.
-#[derive(Clone, Copy, Debug)]
+#[derive(Clone, Copy)]
 pub struct Text<'a> {
     /// Its place in the file.
     pub place: u64,

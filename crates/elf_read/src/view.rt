@@ -15,7 +15,7 @@ use crate::{entries, header, program_header, reading, section_header, sections, 
 use sf_model::Arch;
 
 /// An ELF file that was checked. It lends the file's bytes, of which there are fewer than 2^32.
-#[derive(Clone, Copy, Debug)]
+#[derive(Clone, Copy)]
 pub struct Elf<'a> {
     bytes: &'a [u8],
     ghost small: { length bytes.now < 2 ^ 32 },

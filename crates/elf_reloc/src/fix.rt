@@ -3,7 +3,7 @@
 use crate::table::Range;
 
 /// A field that a relocation writes.
-#[derive(Clone, Copy, Debug, PartialEq, Eq)]
+#[derive(Clone, Copy, PartialEq, Eq)]
 pub struct RelocatedField {
     /// Its place in the section.
     pub place: u64,

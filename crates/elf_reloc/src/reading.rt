@@ -17,7 +17,7 @@ use elf_read::{Kind, room_law};
 use std::alloc::Global;
 
 /// What was read so far: the fields that are written, and the number of the next relocation.
-#[derive(Debug, Drop)]
+#[derive(Drop)]
 pub struct FixesSoFar {
     pub fixes: Vec<RelocatedField>,
     pub next: u32,

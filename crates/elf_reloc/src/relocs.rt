@@ -14,7 +14,7 @@ use sf_bytes::{Field, Values};
 use std::alloc::Global;
 
 /// What the relocations of a section with call frame information write, by place.
-#[derive(Debug, Drop)]
+#[derive(Drop)]
 pub struct Relocs {
     fixes: Vec<RelocatedField>,
     ghost rising: { IsNonDecreasingBy place_of fixes.items },

@@ -13,7 +13,7 @@ use sf_model::Arch;
 const MODULUS: u128 = 1 << 64;
 
 /// In which range the value of a field must lie.
-#[derive(Clone, Copy, Debug, PartialEq, Eq)]
+#[derive(Clone, Copy, PartialEq, Eq)]
 pub enum Range {
     /// Eight bytes hold every value.
     Any,
@@ -26,7 +26,7 @@ pub enum Range {
 }
 
 /// What a relocation writes.
-#[derive(Clone, Copy, Debug, PartialEq, Eq)]
+#[derive(Clone, Copy, PartialEq, Eq)]
 pub enum Effect {
     /// Nothing.
     Nothing,

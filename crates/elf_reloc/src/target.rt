@@ -8,7 +8,7 @@ use elf_place::Placed;
 use elf_read::layout::{SHN_ABS, SHN_LORESERVE, SHN_UNDEF};
 
 /// What a symbol stands for once sections are placed.
-#[derive(Clone, Copy, Debug, PartialEq, Eq)]
+#[derive(Clone, Copy, PartialEq, Eq)]
 pub enum Target {
     /// An address.
     Address(u64),

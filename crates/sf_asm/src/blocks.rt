@@ -10,7 +10,7 @@ use std::collections::BTreeMap;
 pub const BLOCK: usize = 256;
 
 /// A text of whole blocks.
-#[derive(Clone, Copy, Debug)]
+#[derive(Clone, Copy)]
 struct Numbered<'a> {
     /// The number of what follows its first block.
     rest: usize,

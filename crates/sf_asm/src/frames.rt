@@ -5,7 +5,7 @@ ghost use Rattle.std.specs.Prelude.{◌<◌, ◌^◌, length};
 use sf_model::Arch;
 
 /// A call frame section and where it comes from.
-#[derive(Clone, Copy, Debug)]
+#[derive(Clone, Copy)]
 pub struct CallFrameSection<'a> {
     /// The machine of its input.
     pub arch: Arch,

@@ -21,7 +21,7 @@ use std::collections::BTreeMap;
 const LONG: usize = 64;
 
 /// The instructions of a common information entry, and what else gives its initial row.
-#[derive(Clone, Copy, Debug)]
+#[derive(Clone, Copy)]
 pub struct InitialInstructions<'a> {
     /// The place of the entry.
     pub place: u32,

@@ -3,7 +3,7 @@
 use sf_model::Form;
 
 /// An input at its load address.
-#[derive(Clone, Copy, Debug)]
+#[derive(Clone, Copy)]
 pub struct Input<'a> {
     /// What its bytes are.
     pub form: Form,

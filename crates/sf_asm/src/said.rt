@@ -3,7 +3,7 @@
 use sf_model::{Content, Key};
 
 /// What is said of the caller's frame: a content, with the key of its function.
-#[derive(Clone, Copy, Debug, PartialEq, Eq)]
+#[derive(Clone, Copy, PartialEq, Eq)]
 pub struct Said {
     /// The content.
     pub content: Content,

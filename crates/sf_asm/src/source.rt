@@ -13,7 +13,7 @@ use sf_model::{Arch, FdeFacts, Origin};
 
 /// A function as its records say it (LSB Core, "The .eh_frame section"), with its instructions lent from
 /// its input.
-#[derive(Clone, Copy, Debug)]
+#[derive(Clone, Copy)]
 pub struct Source<'a> {
     /// The machine of its input.
     pub arch: Arch,

@@ -4,7 +4,7 @@ ghost use Rattle.std.specs.Prelude.{◌≡◌, ◌+◌, ◌-◌, ◌^◌, min, l
 use crate::{Failed, Sink};
 
 /// A sink that keeps the number of its bytes alone. It tells none of them, allocates nothing and never fails.
-#[derive(Clone, Copy, Debug, PartialEq, Eq)]
+#[derive(Clone, Copy, PartialEq, Eq)]
 pub struct SureSink {
     count: u64,
 }

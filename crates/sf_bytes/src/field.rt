@@ -5,7 +5,7 @@ ghost use Rattle.sf_bytes.specs.Field.{is_field_width};
 
 /// A field that holds a pointer: its place in bytes, its width in bytes (2, 4 or 8), and the number
 /// that stands there.
-#[derive(Clone, Copy, Debug, PartialEq, Eq)]
+#[derive(Clone, Copy, PartialEq, Eq)]
 pub struct Field {
     pub place: u64,
     pub width: u8,
@@ -26,7 +26,7 @@ pub trait Values {
 }
 
 /// Fields as they stand, with no relocation.
-#[derive(Clone, Copy, Debug)]
+#[derive(Clone, Copy)]
 pub struct Plain;
 
 impl Values for Plain {

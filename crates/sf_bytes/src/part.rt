@@ -4,7 +4,7 @@ ghost use Rattle.std.specs.Prelude.{◌<◌, ◌+◌, ◌^◌, length};
 
 /// Bytes that are lent from a file or section, and the place of the first of them there, counted in
 /// bytes from 0.
-#[derive(Clone, Copy, Debug)]
+#[derive(Clone, Copy)]
 pub struct Part<'a> {
     /// The bytes that are left.
     pub bytes: &'a [u8],

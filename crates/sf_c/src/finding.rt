@@ -15,7 +15,7 @@ use sf_model::{Base, Key, Ra, Shape};
 /// A function, and its row that holds at an address (SFrame Version 2, function descriptor entries and frame row
 /// entries).
 #[repr(C)]
-#[derive(Clone, Copy, Debug)]
+#[derive(Clone, Copy)]
 pub struct KiblawenRow {
     /// The function's first address.
     pub function_start: u64,

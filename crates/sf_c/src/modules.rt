@@ -11,7 +11,7 @@ use sf_model::Arch;
 
 /// A module: `size` addresses from `start` on, and the section that has their functions.
 #[repr(C)]
-#[derive(Clone, Copy, Debug)]
+#[derive(Clone, Copy)]
 pub struct KiblawenModule<'a> {
     /// Its first address.
     pub start: u64,

@@ -16,7 +16,7 @@ use sf_model::Recovered;
 
 /// What is recovered of the caller's frame (SFrame Version 2, frame row entries).
 #[repr(C)]
-#[derive(Clone, Copy, Debug)]
+#[derive(Clone, Copy)]
 pub struct KiblawenCaller {
     /// The canonical frame address, which is the caller's stack pointer.
     pub cfa: u64,

@@ -7,7 +7,7 @@ use sf_model::{Memory, Regs};
 
 /// A thread as it was stopped, and a copy of a part of its stack.
 #[repr(C)]
-#[derive(Clone, Copy, Debug)]
+#[derive(Clone, Copy)]
 pub struct KiblawenSample<'a> {
     /// The program counter.
     pub pc: u64,
@@ -62,7 +62,7 @@ impl<'a> KiblawenSample<'a> {
 }
 
 /// A run of bytes that was copied of a stack, at its address.
-#[derive(Clone, Copy, Debug)]
+#[derive(Clone, Copy)]
 pub struct Stack<'a> {
     bytes: &'a [u8],
     start: u64,

@@ -22,7 +22,7 @@ pub fn row_in(section: &LentSection<'_>, address: u64) -> Option<Found>
 }
 
 /// One section, by which a walk looks rows up.
-#[derive(Clone, Copy, Debug)]
+#[derive(Clone, Copy)]
 pub struct OneSection<'s, 'a> {
     /// The section.
     pub section: &'s LentSection<'a>,

@@ -17,7 +17,7 @@ use sf_model::{Frame, Stop};
 
 /// A frame of a walk.
 #[repr(C)]
-#[derive(Clone, Copy, Debug, PartialEq, Eq)]
+#[derive(Clone, Copy, PartialEq, Eq)]
 pub struct KiblawenFrame {
     /// Its program counter.
     pub pc: u64,
@@ -27,7 +27,7 @@ pub struct KiblawenFrame {
 
 /// Why a walk stopped.
 #[repr(C)]
-#[derive(Clone, Copy, Debug, PartialEq, Eq)]
+#[derive(Clone, Copy, PartialEq, Eq)]
 pub struct KiblawenStop {
     /// 0: the room is full. 1: no row holds at an address. 2: a value can't be read. 3: a return address is signed, and
     /// the sample has no mask.

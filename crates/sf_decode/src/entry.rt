@@ -18,7 +18,7 @@ use crate::row::check_rows;
 use sf_model::{Arch, Key, Shape};
 
 /// Where the function of an entry starts and ends, moved up by 2^31, so that neither is below 0.
-#[derive(Clone, Copy, Debug)]
+#[derive(Clone, Copy)]
 pub struct Bounds {
     pub start: u128,
     pub end: u128,

@@ -6,7 +6,7 @@ use crate::row::{row_at, row_end};
 use sf_model::{Arch, Row};
 
 /// An iterator over the rows of a function. It lends the section's bytes.
-#[derive(Clone, Copy, Debug)]
+#[derive(Clone, Copy)]
 pub struct RowIter<'a> {
     arch: Arch,
     rows: &'a [u8],

@@ -8,7 +8,7 @@ use crate::parsing::check_section;
 use crate::view::View;
 
 /// An SFrame section that was checked, at its address. It owns its bytes.
-#[derive(Debug, Drop)]
+#[derive(Drop)]
 pub struct OwnedSection {
     bytes: Vec<u8>,
     at: u64,
@@ -53,7 +53,7 @@ impl OwnedSection {
 /// An SFrame section whose bytes the caller keeps, at its address: open, and then it was checked, or closed.
 /// The fields lie as in C.
 #[repr(C)]
-#[derive(Clone, Copy, Debug)]
+#[derive(Clone, Copy)]
 pub struct LentSection<'a> {
     bytes: &'a [u8],
     at: u64,

@@ -13,7 +13,7 @@ use crate::parsing::check_section;
 use sf_model::{Arch, FuncHead};
 
 /// An SFrame section that was checked, at its address. It lends the section's bytes.
-#[derive(Clone, Copy, Debug)]
+#[derive(Clone, Copy)]
 pub struct View<'a> {
     bytes: &'a [u8],
     at: u64,

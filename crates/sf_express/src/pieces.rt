@@ -17,7 +17,7 @@ use sf_model::{Arch, Content, Row};
 use std::alloc::{AllocError, Global};
 
 /// From an offset up to the next piece, what a function's rows say, where SFrame has a form for it.
-#[derive(Clone, Copy, Debug, PartialEq, Eq)]
+#[derive(Clone, Copy, PartialEq, Eq)]
 pub struct Piece {
     /// The first offset, in bytes from the function's start.
     pub start: u64,

@@ -7,7 +7,7 @@ use sf_model::Notice;
 use std::alloc::{AllocError, AllocFailed};
 
 /// A limit that is exceeded.
-#[derive(Clone, Copy, Debug, PartialEq, Eq)]
+#[derive(Clone, Copy, PartialEq, Eq)]
 pub enum Limit {
     /// The number of items.
     Inputs,

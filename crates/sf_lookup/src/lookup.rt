@@ -19,7 +19,7 @@ use sf_decode::View;
 use sf_model::{FuncHead, Row, Shape};
 
 /// A function without its rows, and its row that holds at an address.
-#[derive(Clone, Copy, Debug, PartialEq, Eq)]
+#[derive(Clone, Copy, PartialEq, Eq)]
 pub struct Found {
     /// The function.
     pub func: FuncHead,

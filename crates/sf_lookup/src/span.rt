@@ -4,7 +4,7 @@ ghost use Rattle.std.specs.Prelude.{◌≡◌};
 ghost use Rattle.sf_lookup.specs.Span as spec;
 
 /// Addresses, and what is there: `size` of them from `start` on, up to 2^64 at most. A span of size 0 has none.
-#[derive(Clone, Copy, Debug)]
+#[derive(Clone, Copy)]
 pub struct Span<A> {
     /// The first address.
     pub start: u64,

@@ -3,7 +3,7 @@
 use sf_text::Output;
 
 /// How a command that made something ends.
-#[derive(Clone, Copy, Debug, PartialEq, Eq)]
+#[derive(Clone, Copy, PartialEq, Eq)]
 pub enum Outcome {
     /// It did what it was asked: status 0.
     Done,

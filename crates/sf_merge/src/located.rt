@@ -3,7 +3,7 @@
 use sf_model::Func;
 
 /// The place of a function in the order of all: by start, then by section, then by entry.
-#[derive(Clone, Copy, Debug, PartialEq, Eq, PartialOrd, Ord)]
+#[derive(Clone, Copy, PartialEq, Eq, PartialOrd, Ord)]
 pub struct Rank {
     pub start: u64,
     pub item: u32,
@@ -11,7 +11,7 @@ pub struct Rank {
 }
 
 /// A function of one of several sections.
-#[derive(Debug, Drop)]
+#[derive(Drop)]
 pub struct Located {
     /// The function.
     pub func: Func,

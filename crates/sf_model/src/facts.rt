@@ -3,7 +3,7 @@
 use crate::machine::Key;
 
 /// A frame description entry's function, without its rows (LSB Core, `.eh_frame`).
-#[derive(Clone, Copy, Debug, PartialEq, Eq)]
+#[derive(Clone, Copy, PartialEq, Eq)]
 pub struct FdeFacts {
     /// The function's first address.
     pub start: u64,

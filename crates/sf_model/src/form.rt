@@ -3,7 +3,7 @@
 use crate::machine::Arch;
 
 /// What an input's bytes are.
-#[derive(Clone, Copy, Debug, PartialEq, Eq)]
+#[derive(Clone, Copy, PartialEq, Eq)]
 pub enum Form {
     /// An ELF file (ELF64 gABI): an object, a program or a shared object.
     Elf,

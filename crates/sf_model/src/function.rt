@@ -28,7 +28,7 @@ pub struct FuncHead {
 }
 
 /// A function with its rows.
-#[derive(Debug, Drop)]
+#[derive(Drop)]
 pub struct Func {
     /// Its first address.
     pub start: u64,

@@ -47,7 +47,7 @@ pub struct Omission {
 }
 
 /// Which record a function came from.
-#[derive(Clone, Copy, Debug, PartialEq, Eq)]
+#[derive(Clone, Copy, PartialEq, Eq)]
 pub struct Origin {
     /// The number of the input among all items.
     pub item: u32,
@@ -58,7 +58,7 @@ pub struct Origin {
 }
 
 /// A function that is left out.
-#[derive(Clone, Copy, Debug, PartialEq, Eq)]
+#[derive(Clone, Copy, PartialEq, Eq)]
 pub struct Omitted {
     /// Its first address.
     pub start: u64,
@@ -71,7 +71,7 @@ pub struct Omitted {
 }
 
 /// The addresses of a function, kept or omitted.
-#[derive(Clone, Copy, Debug, PartialEq, Eq)]
+#[derive(Clone, Copy, PartialEq, Eq)]
 pub struct Span {
     /// Its first address.
     pub start: u64,

@@ -16,7 +16,7 @@ pub struct Row {
 }
 
 /// A growing list of rows, which a contract sees as the list.
-#[derive(Debug, Drop)]
+#[derive(Drop)]
 pub struct Rows {
     items: Vec<Row>,
 }

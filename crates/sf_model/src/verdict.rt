@@ -3,7 +3,7 @@
 use crate::content::Content;
 
 /// Whether a section recovers what the call frame descriptions do.
-#[derive(Clone, Copy, Debug, PartialEq, Eq)]
+#[derive(Clone, Copy, PartialEq, Eq)]
 pub enum Verdict {
     /// They agree at every address where a plain function of the section has a row.
     Agrees {

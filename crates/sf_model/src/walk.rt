@@ -1,7 +1,7 @@
 //! What a walk of a thread's stack lists.
 
 /// A frame of a walk.
-#[derive(Clone, Copy, Debug, PartialEq, Eq)]
+#[derive(Clone, Copy, PartialEq, Eq)]
 pub struct Frame {
     /// Its program counter.
     pub pc: u64,
@@ -23,7 +23,7 @@ pub enum Stop {
 }
 
 /// The frames of a walk from the innermost on, and why it stopped.
-#[derive(Debug, Drop)]
+#[derive(Drop)]
 pub struct Walk {
     /// The frames.
     pub frames: Vec<Frame>,

@@ -7,7 +7,7 @@ ghost use Rattle.sf_modules.specs.Entry.{entry_view};
 
 /// An entry of the note on mapped files: the addresses from `start` up to `end` are those of a file's bytes from `offset`
 /// on.
-#[derive(Clone, Copy, Debug)]
+#[derive(Clone, Copy)]
 pub struct Entry<'a> {
     /// The first address.
     pub start: u64,

@@ -6,7 +6,7 @@ use sf_decode::DecodeFault;
 use std::alloc::{AllocError, AllocFailed};
 
 /// Why the mapped files of a core file, or the module of a file, aren't found.
-#[derive(Clone, Copy, Debug, PartialEq, Eq)]
+#[derive(Clone, Copy, PartialEq, Eq)]
 pub enum ModuleFault {
     /// The core file has no note on mapped files.
     NoFileNote,

@@ -22,7 +22,7 @@ use sf_model::Arch;
 
 /// A module of a process: an executable or a shared object, with its SFrame section at the address at which it was
 /// mapped.
-#[derive(Clone, Copy, Debug)]
+#[derive(Clone, Copy)]
 pub struct Module<'c, 'a> {
     /// The pathname by which the process had the file, which the core file lends.
     pub name: &'c [u8],

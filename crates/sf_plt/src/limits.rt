@@ -9,14 +9,14 @@ use sf_asm::GatherFault;
 use sf_model::Func;
 
 /// The most functions and rows of one run.
-#[derive(Clone, Copy, Debug)]
+#[derive(Clone, Copy)]
 pub struct Limits {
     pub functions: usize,
     pub rows: usize,
 }
 
 /// How many functions, rows of those that are kept, and procedure linkage tables there are.
-#[derive(Clone, Copy, Debug)]
+#[derive(Clone, Copy)]
 pub struct Counts {
     pub functions: usize,
     pub rows: usize,

@@ -6,7 +6,7 @@ ghost use Rattle.sf_slim.specs.declared.fault.SlimFault.TheVariants as slim;
 use sf_base::NoMemory;
 
 /// Why a section is not slimmed. The faults are tried in the order in which they stand here.
-#[derive(Clone, Copy, Debug, PartialEq, Eq)]
+#[derive(Clone, Copy, PartialEq, Eq)]
 pub enum SlimFault {
     /// Two functions share an address: the place of the function descriptor entry of the later one, of the
     /// first neighbours that do, by start and then by entry.

@@ -20,7 +20,7 @@ use sf_write::{StoredFunction, StoredRows, WriteFault, write_stored};
 use std::alloc::Global;
 
 /// A section that was made, and what it holds.
-#[derive(Debug, Drop)]
+#[derive(Drop)]
 pub struct Slimmed {
     /// The section's bytes.
     pub section: Vec<u8>,

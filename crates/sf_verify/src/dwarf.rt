@@ -17,7 +17,7 @@ use sf_model::{Arch, Func, Key};
 use std::alloc::Global;
 
 /// What is said at an address, and the last address up to which the same is said.
-#[derive(Clone, Copy, Debug, PartialEq, Eq)]
+#[derive(Clone, Copy, PartialEq, Eq)]
 pub struct Known {
     pub said: Said,
     pub last: u64,

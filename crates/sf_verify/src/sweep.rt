@@ -17,7 +17,7 @@ use sf_model::{Content, FuncHead, Row, Shape};
 use std::alloc::Global;
 
 /// The least address at which they differ, and what they say there.
-#[derive(Clone, Copy, Debug, PartialEq, Eq)]
+#[derive(Clone, Copy, PartialEq, Eq)]
 pub struct Difference {
     pub pc: u64,
     pub section: Content,

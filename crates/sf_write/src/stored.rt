@@ -9,13 +9,13 @@ use std::alloc::{AllocError, Global};
 
 /// The rows of many functions, as the bytes that a section will hold: about four bytes a row, and no
 /// allocation for each function.
-#[derive(Debug, Drop)]
+#[derive(Drop)]
 pub struct StoredRows {
     bytes: Vec<u8>,
 }
 
 /// A function, and the range of its rows among those of many functions.
-#[derive(Clone, Copy, Debug)]
+#[derive(Clone, Copy)]
 pub struct StoredFunction {
     /// The function without its rows.
     pub head: FuncHead,
