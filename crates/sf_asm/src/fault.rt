@@ -15,19 +15,19 @@ use thiserror::Error;
 #[derive(Debug, Drop, Error)]
 pub enum AsmFault {
     /// An ELF file can't be read, or is a core.
-    #[error("{0:?}")]
+    #[error("an ELF file can't be read")]
     Elf(ElfFault),
     /// A section of it can't be placed.
-    #[error("{0:?}")]
+    #[error("a section can't be placed")]
     Place(PlaceFault),
     /// A relocation of a call frame section can't be applied.
-    #[error("section {0}: {1:?}")]
+    #[error("a relocation can't be applied")]
     Reloc(u32, RelocFault),
     /// A record can't be read, or its function has no start or end.
-    #[error("section {0}: {1:?}")]
+    #[error("a call frame record can't be read")]
     Record(u32, RecordFault),
     /// A call frame instruction can't be read or run.
-    #[error("section {0}: {1:?}")]
+    #[error("a call frame instruction can't be run")]
     Machine(u32, MachineFault),
     /// Memory ran out.
     #[error("memory ran out")]
@@ -38,10 +38,10 @@ pub enum AsmFault {
 #[derive(Debug, Drop, Error)]
 pub enum GatherFault {
     /// The input of this number is refused.
-    #[error("input {0}: {1}")]
+    #[error("{1}")]
     Input(u32, AsmFault),
     /// The machines of these two items differ: item 0, and the least that differs from it.
-    #[error("items {0} and {1} are of different machines")]
+    #[error("the items are of different machines")]
     MixedArch(u32, u32),
     /// There are more than 2^21 functions, omitted ones included.
     #[error("too many functions")]
@@ -50,7 +50,7 @@ pub enum GatherFault {
     #[error("too many rows")]
     TooManyRows,
     /// Two functions share an address: the start and item of the one, and of the other.
-    #[error("functions at {0:#x} of input {1} and at {2:#x} of input {3} overlap")]
+    #[error("two functions overlap")]
     Overlap(u64, u32, u64, u32),
     /// Memory ran out.
     #[error("memory ran out")]
@@ -61,10 +61,10 @@ pub enum GatherFault {
 #[derive(Debug, Drop, Error)]
 pub enum LinkFault {
     /// The inputs are not gathered.
-    #[error("{0}")]
+    #[error(transparent)]
     Gather(GatherFault),
     /// The function at this address lies too far from the section.
-    #[error("the function at {0:#x} is out of reach")]
+    #[error("a function is out of reach")]
     OutOfReach(u64),
     /// Memory ran out.
     #[error("memory ran out")]

@@ -11,12 +11,12 @@ use thiserror::Error;
 #[derive(Debug, Drop, Error)]
 pub enum VerifyFault {
     /// The inputs are not gathered.
-    #[error("{0}")]
+    #[error(transparent)]
     Gather(GatherFault),
     /// Two functions of the section share an address: the place of the function descriptor entry of the
     /// later one, of the first neighbours that do, by start and then by entry. It is tried where an overlap
     /// among the inputs is, and comes before that.
-    #[error("functions of the section overlap, at {0:#x}")]
+    #[error("functions of the section overlap")]
     Overlap(u64),
     /// Memory ran out.
     #[error("memory ran out")]
