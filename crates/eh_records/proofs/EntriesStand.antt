@@ -159,7 +159,7 @@ pub entry_stands : (arch : Arch) (section : List ℕ) (before : List SharedView)
 unfolding entry_at entry_here shared_place
 entry_stands arch section before p e known h = entry_by (p.id == 0) arch section before p e known refl h
 
-entry_given : (arch : Arch) (section : List ℕ) (before : List SharedView) (p : RawRecordView) (e : EntryView) → All (IsAgain arch section) before → EntryStands arch before p e → entry_at arch section (map place_of before) p ≡ Ok e
+pub entry_given : (arch : Arch) (section : List ℕ) (before : List SharedView) (p : RawRecordView) (e : EntryView) → All (IsAgain arch section) before → EntryStands arch before p e → entry_at arch section (map place_of before) p ≡ Ok e
 entry_given arch section before p (Common c) known s = common_given arch section (map place_of before) p c s.0 s.1
 entry_given arch section before p (Frame f) known s = frame_given arch section before p f known s.0 s.1
 

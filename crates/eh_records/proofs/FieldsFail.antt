@@ -70,7 +70,7 @@ text_named : (at : Cursor) (e : RecordFault) → text_field at ≡ failed e → 
 unfolding text_field text_at
 text_named at e h = text_short (position (λ b. b == 0) at.left) at e h
 
-text_lacks : (at : Cursor) (e : RecordFault) → text_field at ≡ failed e → LacksText at e
+pub text_lacks : (at : Cursor) (e : RecordFault) → text_field at ≡ failed e → LacksText at e
 text_lacks at e h = (λ text to s. not_both (text, to) e (sym (text_read at text to s) ∙ h), text_named at e h)
 
 -- ---- LEB128 numbers

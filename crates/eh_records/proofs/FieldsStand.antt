@@ -254,7 +254,7 @@ personality_read field at after s =
     ∙ chosen at.place s.encoding field s.after after s.pointer_stands
 
 -- ---- letters
-saying_read : (letter : ℕ) (s : Saying) (augmentation : AugmentationView) (from to : Cursor) → SayingStands letter s from to → letter_at letter augmentation from ≡ Ok (with_saying augmentation s, to)
+pub saying_read : (letter : ℕ) (s : Saying) (augmentation : AugmentationView) (from to : Cursor) → SayingStands letter s from to → letter_at letter augmentation from ≡ Ok (with_saying augmentation s, to)
 unfolding letter_at
 saying_read letter (pointers form) augmentation from to h =
     ap (λ (l : ℕ). letter_at l augmentation from) h.0 ∙ ap (λ (r : Step Form). r >>= λ f. Ok (record augmentation { pointers = f.0 }, f.1)) (form_read form from to h.1 h.2)
@@ -359,7 +359,7 @@ sayings_stand arch (b ∷ letters) augmentation at result known e =
     }
 
 -- ---- the augmentation string
-string_read : (arch : Arch) (letters : Option (List ℕ)) (at after : Cursor) → StringStands arch letters at after → letters_at arch at ≡ Ok (letters, after)
+pub string_read : (arch : Arch) (letters : Option (List ℕ)) (at after : Cursor) → StringStands arch letters at after → letters_at arch at ≡ Ok (letters, after)
 unfolding letters_at
 string_read arch None at after s = ap (λ (r : Step (List ℕ)). r >>= λ text. letters_in arch at.place text.0 text.1) (text_read at [] after s)
 string_read arch (Some letters) at after s =
@@ -423,7 +423,7 @@ augmentation_read (Some letters) augmentation at after s =
     ∙ ap (λ (d : AugmentationView). Ok (d, after)) (sym s.together)
 
 -- ---- common information entries
-column_read : (version column : ℕ) (at after : Cursor) → ColumnStands version column at after → column_at version at ≡ Ok (column, after)
+pub column_read : (version column : ℕ) (at after : Cursor) → ColumnStands version column at after → column_at version at ≡ Ok (column, after)
 unfolding column_at
 column_read version column at after (inl s) =
     ap (λ (v : ℕ). if v == 1 then number_field 1 at else uleb_field at) s.0 ∙ number_read 1 at column after s.1

@@ -22,3 +22,5 @@ pub mod Given
 pub mod FieldsFail
 pub mod EntriesFail
 pub mod OfRecords
+pub mod FieldsRefused
+pub mod EntriesRefused

@@ -22,7 +22,7 @@ there_if : {X : Type 0} (n place : ℕ) (at : Cursor) (v : X) (b : Bool) → nat
 there_if n place at v true t h = absurd (grind (arith, nat_tests))
 there_if n place at v false t h = refl
 
-number_there : (n : ℕ) (at : Cursor) → n ≤ length at.left → number_field n at ≡ Ok (little_number n (take n at.left), past n at)
+pub number_there : (n : ℕ) (at : Cursor) → n ≤ length at.left → number_field n at ≡ Ok (little_number n (take n at.left), past n at)
 unfolding number_field number_at
 number_there n at h = there_if n at.place at (little_number n (take n at.left)) (nat_lt (length at.left) n) refl h
 

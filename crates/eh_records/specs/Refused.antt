@@ -1,6 +1,6 @@
 -- The first fault of a section's records (LSB Core, "The .eh_frame section"): records with their entries are before it, and the next
 -- one can't be cut, or one of its fields isn't there. All fields before that one are, and the fault is named by it.
-use Rattle.std.specs.Prelude.{◌≡◌, ◌≢◌, ◌⊎◌, ℕ, ℤ, ◌+◌, ◌%◌, ◌<◌, ◌≤◌, Bool, true, false, List, [], ◌∷◌, length, take, Option, Some, None}
+use Rattle.std.specs.Prelude.{◌≡◌, ◌≢◌, ◌⊎◌, ℕ, ℤ, ◌+◌, ◌%◌, ◌<◌, ◌≤◌, Bool, true, false, List, [], ◌∷◌, length, take, Option, Some, None, Result, Ok, Err}
 use Rattle.std.specs.List.{Contains}
 use Rattle.byteorder.specs.Endian.{little_number}
 use Rattle.sf_bytes.specs.Cursor.{Cursor}
@@ -13,7 +13,7 @@ use Rattle.eh_records.specs.declared.fault.RecordFault.TheVariants.{Short, Exten
 use Rattle.eh_records.specs.Augmentation.{are_letters}
 use Rattle.eh_records.specs.Cie.{SharedView}
 use Rattle.eh_records.specs.RawRecord.{RawRecordView}
-use Rattle.eh_records.specs.Cutting.{Stands, with_common, start}
+use Rattle.eh_records.specs.Cutting.{Stands, AreEntries, with_common, start}
 use Rattle.eh_records.specs.Fields.{PointerStands, StringStands, Saying, SayingStands, ColumnStands, DataStands, EntryStands}
 use Rattle.eh_records.specs.Section.{EntryView}
 use Rattle.eh_records.specs.Step.{PointerField}
@@ -151,6 +151,11 @@ FailsFrom arch before (p ∷ ps) (v ∷ vs) at e = (after : Cursor) × Stands at
 -- the first fault of a section
 abbrev pub IsRefused : Arch → List ℕ → RecordFault → Type 0
 IsRefused arch section e = (ps : List RawRecordView) × (vs : List EntryView) × FailsFrom arch [] ps vs (start section) e
+
+-- a section's records are read as this: its entries, or its first fault
+abbrev pub AreReadAs : Arch → (section : List ℕ) → Result (List EntryView) RecordFault → Type 0
+AreReadAs arch section (Ok es) = AreEntries arch section es
+AreReadAs arch section (Err e) = IsRefused arch section e
 
 -- ---- which faults there are
 -- all but those of a function's values, and memory
