@@ -1,14 +1,14 @@
 -- Call frame instructions by the bytes that spell them (DWARF 5, sections 6.4.2 and 7.24, table 7.29; DWARF for the Arm 64-bit
 -- Architecture; GNU): an opcode byte and the operands of its row, in their order.
-use Rattle.std.specs.Prelude.{◌≡◌, ◌≢◌, ◌⊎◌, ℕ, ℤ, ◌%◌, ◌<◌, ◌≤◌, List, [], ◌∷◌, length, Ok, Err}
+use Rattle.std.specs.Prelude.{◌≡◌, ◌≢◌, ◌⊎◌, ℕ, ℤ, ◌%◌, ◌<◌, ◌≤◌, List, [], ◌∷◌, ◌++◌, length, Ok, Err}
 use Rattle.sf_bytes.specs.Cursor.{Cursor}
 use Rattle.sf_bytes.specs.Leb.{Uleb, Sleb}
 use Rattle.sf_bytes.specs.Standing.{Stands, Number, Bytes}
 use Rattle.cfa_insn.specs.declared.fault.InsnFault.{InsnFault}
+use Rattle.cfa_insn.specs.declared.fault.InsnFault.TheVariants.{Opcode, Short, Leb}
 use Rattle.cfa_insn.specs.Instruction.{Instruction, advance_loc, offset, restore, nop, advance_loc_n, offset_extended, restore_extended, undefined, same_value, in_register, remember_state, restore_state, def_cfa, def_cfa_register, def_cfa_offset, def_cfa_expression, expression, offset_extended_sf, def_cfa_sf, def_cfa_offset_sf, val_offset, val_offset_sf, val_expression, negate_ra_state, args_size}
 use Rattle.cfa_insn.specs.Listing.{Item}
 use Rattle.cfa_insn.specs.Opcodes.{DW_CFA_nop, DW_CFA_advance_loc1, DW_CFA_advance_loc2, DW_CFA_advance_loc4, DW_CFA_offset_extended, DW_CFA_restore_extended, DW_CFA_undefined, DW_CFA_same_value, DW_CFA_register, DW_CFA_remember_state, DW_CFA_restore_state, DW_CFA_def_cfa, DW_CFA_def_cfa_register, DW_CFA_def_cfa_offset, DW_CFA_def_cfa_expression, DW_CFA_expression, DW_CFA_offset_extended_sf, DW_CFA_def_cfa_sf, DW_CFA_def_cfa_offset_sf, DW_CFA_val_offset, DW_CFA_val_offset_sf, DW_CFA_val_expression, DW_CFA_AARCH64_negate_ra_state, DW_CFA_GNU_args_size, DW_CFA_advance_loc, DW_CFA_offset, DW_CFA_restore}
-use Rattle.cfa_insn.specs.Table.{instruction_at}
 
 -- a block: its length, and as many bytes
 abbrev pub Block : (block : List ℕ) → (from to : Cursor) → Type 0
@@ -58,11 +58,35 @@ OperandsStand opcode (args_size n) from to = (opcode ≡ DW_CFA_GNU_args_size) �
 abbrev pub InstructionStands : Instruction → (from to : Cursor) → Type 0
 InstructionStands i from to = (opcode : ℕ) × (between : Cursor) × Stands (Number 1) opcode from between × OperandsStand opcode i between to
 
+-- ---- why no instruction is at the front
+-- the byte at the front
+abbrev pub HasOpcode : Cursor → (opcode : ℕ) → Type 0
+HasOpcode at opcode = (after : Cursor) × Stands (Number 1) opcode at after
+
+-- the table has the opcode: some operands are its own
+abbrev pub IsOpcode : (opcode : ℕ) → Type 0
+IsOpcode opcode = (i : Instruction) × (from : Cursor) × (to : Cursor) × OperandsStand opcode i from to
+
+-- the same bytes, and more after them
+abbrev pub with_more : Cursor → (more : List ℕ) → Cursor
+with_more at more = record { place = at.place; left = at.left ++ more }
+
+-- with some bytes more an instruction is at the front
+abbrev pub CanGoOn : Cursor → Type 0
+CanGoOn at = (more : List ℕ) × (i : Instruction) × (to : Cursor) × InstructionStands i (with_more at more) to
+
+-- the fault, with the place of the opcode: the table doesn't have the opcode; or the bytes end inside the instruction, which more bytes could
+-- end; or one of its operands is no LEB128 number, whatever follows
+abbrev pub IsFault : Cursor → InsnFault → Type 0
+IsFault at (Opcode place opcode) = (place ≡ at.place) × HasOpcode at opcode × (IsOpcode opcode → ⊥)
+IsFault at (Short place) = (place ≡ at.place) × CanGoOn at
+IsFault at (Leb place) = (place ≡ at.place) × ((opcode : ℕ) × HasOpcode at opcode × IsOpcode opcode) × (CanGoOn at → ⊥)
+
 -- bytes at whose front no instruction is, and why
 pub record NoInstruction (at : Cursor) (e : InsnFault) : Type 0 where
   pub more : at.left ≢ []
   pub none : (i : Instruction) (to : Cursor) → InstructionStands i at to → ⊥
-  pub fault : instruction_at at ≡ Err e
+  pub fault : IsFault at e
 
 -- instructions with their places, whose bytes are all that is left; or those before the first that can't be read, and its fault
 abbrev pub AreInstructions : List Item → Cursor → Type 0

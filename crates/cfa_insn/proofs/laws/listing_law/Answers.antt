@@ -1,6 +1,6 @@
 use Rattle.std.proofs.Common.{refl}
 use Rattle.cfa_insn.specs.Listing.{listing}
-use Rattle.cfa_insn.proofs.Spelled.{listed, stand_as_listed, one_listing}
+use Rattle.cfa_insn.proofs.Listed.{listed, stand_as_listed, one_listing}
 use Rattle.cfa_insn.proofs.laws.listing_law.Goals as goal
 
 pub returns : goal.returns
