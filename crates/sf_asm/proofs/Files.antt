@@ -17,7 +17,7 @@ use Rattle.sf_asm.specs.declared.fault.AsmFault.TheVariants as asm
 use Rattle.sf_model.specs.declared.form.Form.TheVariants.{Elf}
 use Rattle.sf_asm.specs.Fault.{wraps_place}
 use Rattle.sf_asm.specs.Functions.{◌>>=◌, Function, CallFrames, named, object_functions, sections_functions}
-use Rattle.sf_asm.specs.Groups.{gone_groups}
+use Rattle.elf_groups.specs.Groups.{gone_groups}
 use Rattle.sf_asm.specs.Placing.{IsPlacing}
 use Rattle.sf_asm.specs.Relocated.{relocations_of}
 use Rattle.sf_asm.specs.Sections.{dropped_after, placing_of, placed_section, linked_check}

@@ -10,12 +10,7 @@ pub mod HandedOut
 pub mod GatheredInputs
 pub mod Relocating
 pub mod Patching
-pub mod WholeBlocks
-pub mod Known
-pub mod Signatures
-pub mod Runs
 pub mod Files
-pub mod Gone
 pub mod Limits
 pub mod Finding
 pub mod Agreeing

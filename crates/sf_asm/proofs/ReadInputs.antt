@@ -8,13 +8,13 @@ use Rattle.sf_asm.specs.declared.fault.AsmFault.{AsmFault}
 use Rattle.sf_asm.specs.declared.fault.AsmFault.TheVariants as asm
 use Rattle.sf_asm.specs.declared.fault.GatherFault.{GatherFault}
 use Rattle.sf_asm.specs.declared.fault.GatherFault.TheVariants as gather
-use Rattle.sf_asm.specs.declared.groups.Seen.{Seen}
+use Rattle.elf_groups.specs.declared.groups.Seen.{Seen}
 use Rattle.sf_asm.specs.declared.input.Input.{Input}
 use Rattle.sf_asm.specs.Answers.{after_read, seen_as}
 use Rattle.sf_asm.specs.Fault.{wraps_input}
 use Rattle.sf_asm.specs.Functions.{◌>>=◌, Function, Object, functions_after, functions_of, machine_of, named, object_functions, object_of, seen_behind}
 use Rattle.sf_asm.specs.Kept.{entry_of, omitted_functions}
-use Rattle.sf_asm.specs.Seen.{HasSeen}
+use Rattle.elf_groups.specs.Seen.{HasSeen}
 use Rattle.sf_asm.proofs.Lending.{omitted_listwise}
 use Rattle.sf_asm.proofs.ReadFunctions.{IsListwise, entries_listwise, from_none, refused_unseen}
 

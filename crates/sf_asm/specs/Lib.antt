@@ -2,7 +2,6 @@ pub mod Entry
 pub mod Heads
 pub mod Fault
 pub mod Order
-pub mod Groups
 pub mod Relocated
 pub mod Sections
 pub mod Functions
@@ -14,9 +13,6 @@ pub mod Faithful
 pub mod Answers
 pub mod FaultShown
 pub mod Views
-pub mod Ends
-pub mod Blocks
-pub mod Seen
 pub mod Placing
 pub mod Accepted
 pub mod Sources

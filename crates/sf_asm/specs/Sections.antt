@@ -18,7 +18,7 @@ use Rattle.sf_asm.specs.declared.fault.AsmFault.TheVariants as asm
 use Rattle.sf_model.specs.declared.form.Form.{Form}
 use Rattle.sf_model.specs.declared.form.Form.TheVariants.{Elf, Bare}
 use Rattle.sf_asm.specs.declared.input.Input.{Input}
-use Rattle.sf_asm.specs.Groups.{gone_groups, seen_after}
+use Rattle.elf_groups.specs.Groups.{gone_groups, seen_after}
 use Rattle.sf_asm.specs.Relocated.{relocations_of}
 use Rattle.sf_bytes.specs.Steps.{◌>>=◌, named}
 

@@ -9,14 +9,14 @@ ghost use Rattle.sf_asm.specs.Fault.{wraps_input};
 ghost use Rattle.sf_asm.specs.Functions.{functions_of, machine_of, named, object_functions, object_of, seen_behind, unless};
 ghost use Rattle.sf_asm.specs.Inputs.{is_same, mixed_among, with_before};
 ghost use Rattle.sf_asm.specs.Kept.{entry_of};
-ghost use Rattle.sf_asm.specs.Seen.{HasSeen};
+ghost use Rattle.elf_groups.specs.Seen.{HasSeen};
 ghost use Rattle.sf_asm.specs.Sources.{functions_lent};
 
 use crate::fault::{AsmFault, GatherFault};
-use crate::groups::Seen;
 use crate::input::Input;
 use crate::read::{AllFunctions, ReadFunctions};
 use crate::reading::read_input;
+use elf_groups::Seen;
 use sf_model::Arch;
 use std::alloc::Global;
 

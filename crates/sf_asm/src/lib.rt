@@ -17,16 +17,12 @@
 
 mod address;
 mod assembling;
-mod blocks;
 mod elf;
-mod ends;
 mod entries;
 mod entry;
 mod fault;
-mod file_texts;
 mod frames;
 mod gathering;
-mod groups;
 mod initials;
 mod input;
 mod inputs;

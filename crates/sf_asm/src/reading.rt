@@ -4,16 +4,16 @@ ghost use Rattle.std.specs.Prelude.{IsTrue, ◌≡◌, ◌<◌, ◌^◌, ℕ, Li
 ghost use Rattle.sf_asm.specs.Answers.{LendsMore, ReadsMore};
 ghost use Rattle.sf_asm.specs.Entry.{IsSound};
 ghost use Rattle.sf_asm.specs.Functions.{bare_section, machine_of, object_functions, object_of, sections_functions, seen_behind};
-ghost use Rattle.sf_asm.specs.Seen.{HasSeen};
+ghost use Rattle.elf_groups.specs.Seen.{HasSeen};
 ghost use Rattle.sf_asm.specs.Sources.{functions_lent};
 
 use crate::elf::read_elf;
 use crate::fault::AsmFault;
 use crate::frames::CallFrameSection;
-use crate::groups::Seen;
 use crate::input::Input;
 use crate::read::ReadFunctions;
 use crate::section::read_section;
+use elf_groups::Seen;
 use sf_model::{Arch, Form};
 use std::alloc::Global;
 

@@ -1,6 +1,6 @@
 use Rattle.std.proofs.Common.{ℕ, List, subst}
-use Rattle.sf_asm.specs.Groups.{seen_after}
-use Rattle.sf_asm.specs.Seen.{HasSeen}
+use Rattle.elf_groups.specs.Groups.{seen_after}
+use Rattle.elf_groups.specs.Seen.{HasSeen}
 use Rattle.sf_asm.proofs.elf.read_elf.Goals as goal
 
 pub returns-clause-seen : goal.returns-clause-seen

@@ -1,8 +1,8 @@
 use Rattle.std.proofs.Common.{sym, subst}
 use Rattle.sf_model.specs.declared.form.Form.{Form}
 use Rattle.sf_asm.specs.Functions.{seen_behind}
-use Rattle.sf_asm.specs.Seen.{HasSeen}
-use Rattle.sf_asm.proofs.Signatures.{on_ok_more}
+use Rattle.elf_groups.specs.Seen.{HasSeen}
+use Rattle.elf_groups.proofs.Signatures.{on_ok_more}
 use Rattle.sf_asm.proofs.reading.read_input.Goals as goal
 
 pub returns-in-Elf-clause-seen : goal.returns-in-Elf-clause-seen

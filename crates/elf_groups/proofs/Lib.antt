@@ -1,0 +1,5 @@
+pub mod WholeBlocks
+pub mod Known
+pub mod Signatures
+pub mod Runs
+pub mod Gone

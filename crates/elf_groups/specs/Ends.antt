@@ -1,0 +1,15 @@
+-- Where the texts of a file end (ELF64 gABI, "String Table"), by what was seen of its bytes.
+use Rattle.std.specs.Prelude.{◌≡◌, ◌<◌, ◌≤◌, ◌==◌, ℕ, false, List, All, get_or}
+use Rattle.elf_groups.specs.declared.ends.Ends.{Ends}
+use Rattle.elf_groups.specs.declared.ends.Run.{Run}
+
+-- none of these bytes is zero, from one place to another
+abbrev pub IsFree : List ℕ → (first end : ℕ) → Type 0
+IsFree bytes first end = (k : ℕ) → first ≤ k → k < end → (get_or bytes k 1 == 0) ≡ false
+
+abbrev pub IsRun : List ℕ → Run → Type 0
+IsRun file run = IsFree file run.first run.end
+
+-- of a file are all runs that are kept
+abbrev pub AreRuns : List ℕ → Ends → Type 0
+AreRuns file ends = All (λ e. IsRun file e.1) ends.runs.entries

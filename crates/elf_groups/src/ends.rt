@@ -1,0 +1,91 @@
+//! Where the texts of a file end. Each byte of the file is looked at once, however many texts it is part of.
+
+ghost use Rattle.std.specs.Prelude.{◌≡◌, ◌≤◌, ◌==◌, ℕ, List, IfOk, OnOk, length, take};
+ghost use Rattle.std.specs.List.{position_or_len};
+ghost use Rattle.elf_read.specs.Number.{StandsAt};
+ghost use Rattle.elf_read.specs.Views.{text_bytes};
+ghost use Rattle.elf_groups.specs.Ends as spec;
+
+use elf_read::{Text, bytes_before_zero};
+use std::alloc::{AllocError, Global};
+use std::collections::BTreeMap;
+
+/// Bytes of a file from one place to another, of which none is zero.
+#[derive(Clone, Copy)]
+struct Run {
+    first: u64,
+    end: u64,
+}
+
+/// The runs of bytes that were looked at in a file, by their ends.
+#[derive(Drop)]
+pub struct Ends {
+    runs: BTreeMap<u64, Run>,
+}
+
+// The first bytes, or all of them.
+fn front(bytes: &[u8], count: usize) -> &[u8]
+    ensures { result.now ≡ take count bytes.now }
+{
+    match bytes.get(..count) {
+        Some(front) => front,
+        None => bytes,
+    }
+}
+
+// How many bytes come before the first zero byte, where none from `first` to `end` is zero. Those are not looked at.
+fn bytes_before_zero_past(bytes: &[u8], first: usize, end: usize) -> usize
+    ensures count { spec.IsFree bytes.now first end → result ≡ position_or_len (λ b. b == 0) bytes.now }
+    ensures within { result ≤ length bytes.now }
+{
+    let before = bytes_before_zero(front(bytes, first));
+    if before < first {
+        return before;
+    }
+    let known = first.max(end).min(bytes.len());
+    let (_, rest) = bytes.split_at(known);
+    let left = rest.len() - bytes_before_zero(rest);
+    bytes.len() - left
+}
+
+impl Ends {
+    /// Nothing was looked at.
+    pub fn new(alloc: Global) -> Ends
+        ensures { (file : List ℕ) → spec.AreRuns file result }
+    {
+        Ends {
+            runs: BTreeMap::new(alloc),
+        }
+    }
+
+    // The first run whose end is not below a place. Where there is none, it has no bytes and is past all places.
+    fn run_from(&self, place: u64) -> Run
+        ensures { (file : List ℕ) → spec.AreRuns file self.now → spec.IsRun file result }
+    {
+        match self.runs.range(place..).next() {
+            Some((_, run)) => *run,
+            None => Run {
+                first: u64::MAX,
+                end: 0,
+            },
+        }
+    }
+
+    /// How many bytes a text of the file has.
+    pub fn len_of(&mut self, text: &Text<'_>) -> Result<usize, AllocError>
+        ensures len { IfOk result (λ len. (file : List ℕ) → spec.AreRuns file self.old → StandsAt text.now.place text.now.rest.now file → text_bytes text.now ≡ take len text.now.rest.now) }
+        ensures within { IfOk result (λ len. len ≤ length text.now.rest.now) }
+        ensures runs { OnOk result ((file : List ℕ) → spec.AreRuns file self.old → StandsAt text.now.place text.now.rest.now file → spec.AreRuns file self.new) }
+    {
+        let run = self.run_from(text.place);
+        let first = run.first.saturating_sub(text.place);
+        let end = run.end.saturating_sub(text.place);
+        let len = bytes_before_zero_past(text.rest, first as usize, end as usize);
+        if text.place < run.first {
+            let first = text.place;
+            let end = first.saturating_add(len as u64);
+            self.runs.insert(end, Run { first, end })?;
+        }
+        Ok(len)
+    }
+}

@@ -1,0 +1,102 @@
+//! Section groups of which an earlier one has the signature.
+
+ghost use Rattle.std.specs.Prelude.{◌≡◌, ◌<◌, ◌+◌, ◌^◌, ℕ, List, [], ◌∷◌, ◌++◌, IfOk, OnOk, bytes_eq, length};
+ghost use Rattle.std.specs.List.{list_any};
+ghost use Rattle.elf_read.specs.Number.{StandsAt};
+ghost use Rattle.elf_read.specs.Views.{file, text_bytes};
+ghost use Rattle.elf_groups.specs.Groups.{gone_groups, is_repeated, seen_after, signature_of, with_signature};
+ghost use Rattle.elf_groups.specs.Seen.{HasSeen, HasTexts};
+
+use crate::blocks::{BLOCK, Blocks};
+use crate::file_texts::FileTexts;
+use elf_read::{Elf, Text};
+use std::alloc::{AllocError, Global};
+use std::collections::BTreeSet;
+
+/// The signatures of the COMDAT groups that were seen. Many may be ends of one long text, so whole blocks are compared by
+/// their numbers.
+#[derive(Drop)]
+pub struct Seen<'a> {
+    blocks: Blocks<'a>,
+    /// Each by the number of its whole blocks, and what comes before these.
+    signatures: BTreeSet<(usize, &'a [u8])>,
+}
+
+impl<'a> Seen<'a> {
+    /// None yet.
+    pub fn new(alloc: Global) -> Seen<'a>
+        ensures { HasSeen result [] }
+    {
+        Seen {
+            blocks: Blocks::new(alloc),
+            signatures: BTreeSet::new(alloc),
+        }
+    }
+
+    // Whether a signature that stands at a place of a file was seen before. It is seen from now on.
+    fn is_repeated(
+        &mut self,
+        texts: &mut FileTexts,
+        place: u64,
+        signature: &'a [u8],
+    ) -> Result<bool, AllocError>
+        requires { place + length signature.now < 2 ^ 64 }
+        ensures repeated { IfOk result (λ repeated. (file : List ℕ) (seen : List (List ℕ)) → HasSeen self.old seen → HasTexts file self.old.blocks texts.old → StandsAt place signature.now file → repeated ≡ list_any (bytes_eq signature.now) seen) }
+        ensures seen { OnOk result ((file : List ℕ) (seen : List (List ℕ)) → HasSeen self.old seen → HasTexts file self.old.blocks texts.old → StandsAt place signature.now file → HasSeen self.new (seen ++ signature.now ∷ [])) }
+        ensures texts { OnOk result ((file : List ℕ) (seen : List (List ℕ)) → HasSeen self.old seen → HasTexts file self.old.blocks texts.old → StandsAt place signature.now file → HasTexts file self.new.blocks texts.new) }
+    {
+        let (front, whole) = signature.split_at(signature.len() % BLOCK);
+        let number = texts.number(&mut self.blocks, place + front.len() as u64, whole)?;
+        Ok(!self.signatures.insert((number, front))?)
+    }
+
+    // Whether a text of a file was seen before. It is seen from now on.
+    fn is_text_repeated(
+        &mut self,
+        texts: &mut FileTexts,
+        text: &Text<'a>,
+    ) -> Result<bool, AllocError>
+        requires { text.now.place + length text.now.rest.now < 2 ^ 64 }
+        ensures repeated { IfOk result (λ repeated. (file : List ℕ) (seen : List (List ℕ)) → HasSeen self.old seen → HasTexts file self.old.blocks texts.old → StandsAt text.now.place text.now.rest.now file → repeated ≡ list_any (bytes_eq (text_bytes text.now)) seen) }
+        ensures seen { OnOk result ((file : List ℕ) (seen : List (List ℕ)) → HasSeen self.old seen → HasTexts file self.old.blocks texts.old → StandsAt text.now.place text.now.rest.now file → HasSeen self.new (seen ++ text_bytes text.now ∷ [])) }
+        ensures texts { OnOk result ((file : List ℕ) (seen : List (List ℕ)) → HasSeen self.old seen → HasTexts file self.old.blocks texts.old → StandsAt text.now.place text.now.rest.now file → HasTexts file self.new.blocks texts.new) }
+    {
+        let len = texts.ends.len_of(text)?;
+        let (signature, _) = text.rest.split_at(len);
+        self.is_repeated(texts, text.place, signature)
+    }
+
+    // Whether a section is a COMDAT group whose signature was seen before.
+    #[tactic(auto, unfolding(crate::specs::Groups::signature_of))]
+    fn is_gone(&mut self, texts: &mut FileTexts, elf: &Elf<'a>, i: u32) -> Result<bool, AllocError>
+        ensures gone { IfOk result (λ gone. (seen : List (List ℕ)) → HasSeen self.old seen → HasTexts (file elf.now) self.old.blocks texts.old → gone ≡ is_repeated seen (signature_of (file elf.now) i)) }
+        ensures seen { OnOk result ((seen : List (List ℕ)) → HasSeen self.old seen → HasTexts (file elf.now) self.old.blocks texts.old → HasSeen self.new (with_signature seen (signature_of (file elf.now) i))) }
+        ensures texts { OnOk result ((seen : List (List ℕ)) → HasSeen self.old seen → HasTexts (file elf.now) self.old.blocks texts.old → HasTexts (file elf.now) self.new.blocks texts.new) }
+    {
+        match elf.group(i) {
+            Some(group) => {
+                if group.comdat {
+                    self.is_text_repeated(texts, &group.signature)
+                } else {
+                    Ok(false)
+                }
+            }
+            None => Ok(false),
+        }
+    }
+
+    /// The numbers of a file's COMDAT groups whose signature was seen before, in order.
+    pub fn gone_groups(&mut self, alloc: Global, elf: &Elf<'a>) -> Result<Vec<u32>, AllocError>
+        ensures gone { IfOk result (λ gone. (seen : List (List ℕ)) → HasSeen self.old seen → gone.items ≡ gone_groups seen (file elf.now)) }
+        ensures seen { OnOk result ((seen : List (List ℕ)) → HasSeen self.old seen → HasSeen self.new (seen_after seen (file elf.now))) }
+    {
+        let mut texts = FileTexts::new(alloc);
+        let mut gone = Vec::new(alloc);
+        for i in 0..elf.sections() {
+            if self.is_gone(&mut texts, elf, i)? {
+                gone.push(i)?;
+            }
+        }
+        Ok(gone)
+    }
+}
