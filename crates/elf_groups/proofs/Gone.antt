@@ -1,6 +1,7 @@
 -- The groups that are gone, one section after the other.
 use Rattle.std.proofs.Common.{◌≡◌, ℕ, ◌+◌, Bool, true, false, cond, List, [], ◌∷◌, ◌++◌, refl, sym, ap, ◌∙◌, add-one}
-use Rattle.elf_groups.specs.Groups.{gone_below, is_repeated, seen_below, signature_of, with_signature}
+use Rattle.elf_groups.specs.Dropped.{signature_of}
+use Rattle.elf_groups.specs.Groups.{gone_below, is_repeated, seen_below, with_signature}
 
 pub none_gone : (seen : List (List ℕ)) (file : List ℕ) → gone_below seen file 0 ≡ []
 unfolding gone_below

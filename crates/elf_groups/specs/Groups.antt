@@ -1,17 +1,9 @@
--- Section groups (ELF64 gABI, "Section Groups"): of several COMDAT groups with one signature the first stays. One that was dropped
--- itself counts as an earlier one, and signatures are compared as bytes.
+-- The COMDAT groups that are dropped, file by file: the signatures that were seen so far, and the groups whose signature is one of them.
+-- The law `groups_of_earlier_signatures_are_dropped` joins them to the definition in `Dropped.antt`.
 use Rattle.std.specs.Prelude.{ℕ, zero, suc, Bool, false, List, [], ◌∷◌, ◌++◌, Option, Some, None, bytes_eq, if◌then◌else◌}
-use Rattle.std.specs.Option.{option_and_then}
 use Rattle.std.specs.List.{list_any}
 use Rattle.elf_read.specs.Sections.{section_count}
-use Rattle.elf_read.specs.Views.{GroupView, group_of}
-
-abbrev pub if_comdat : GroupView → Option (List ℕ)
-if_comdat g = if g.comdat then Some g.signature else None
-
--- the signature of a section that is a COMDAT group
-unfoldable pub signature_of : (file : List ℕ) → ℕ → Option (List ℕ)
-signature_of file i = option_and_then if_comdat (group_of file i)
+use Rattle.elf_groups.specs.Dropped.{signature_of}
 
 abbrev pub with_signature : List (List ℕ) → Option (List ℕ) → List (List ℕ)
 with_signature seen None = seen
@@ -38,3 +30,8 @@ seen_after seen file = seen_below seen file (section_count file)
 
 abbrev pub gone_groups : (seen : List (List ℕ)) → (file : List ℕ) → List ℕ
 gone_groups seen file = gone_below seen file (section_count file)
+
+-- the signatures that were seen once files are read, behind those that were seen before
+abbrev pub seen_in : (seen : List (List ℕ)) → (files : List (List ℕ)) → List (List ℕ)
+seen_in seen [] = seen
+seen_in seen (file ∷ files) = seen_in (seen_after seen file) files

@@ -4,7 +4,8 @@ ghost use Rattle.std.specs.Prelude.{◌≡◌, ◌<◌, ◌+◌, ◌^◌, ℕ, L
 ghost use Rattle.std.specs.List.{list_any};
 ghost use Rattle.elf_read.specs.Number.{StandsAt};
 ghost use Rattle.elf_read.specs.Views.{file, text_bytes};
-ghost use Rattle.elf_groups.specs.Groups.{gone_groups, is_repeated, seen_after, signature_of, with_signature};
+ghost use Rattle.elf_groups.specs.Dropped.{signature_of};
+ghost use Rattle.elf_groups.specs.Groups.{gone_groups, is_repeated, seen_after, with_signature};
 ghost use Rattle.elf_groups.specs.Seen.{HasSeen, HasTexts};
 
 use crate::blocks::{BLOCK, Blocks};
@@ -67,7 +68,7 @@ impl<'a> Seen<'a> {
     }
 
     // Whether a section is a COMDAT group whose signature was seen before.
-    #[tactic(auto, unfolding(crate::specs::Groups::signature_of))]
+    #[tactic(auto, unfolding(crate::specs::Dropped::signature_of))]
     fn is_gone(&mut self, texts: &mut FileTexts, elf: &Elf<'a>, i: u32) -> Result<bool, AllocError>
         ensures gone { IfOk result (λ gone. (seen : List (List ℕ)) → HasSeen self.old seen → HasTexts (file elf.now) self.old.blocks texts.old → gone ≡ is_repeated seen (signature_of (file elf.now) i)) }
         ensures seen { OnOk result ((seen : List (List ℕ)) → HasSeen self.old seen → HasTexts (file elf.now) self.old.blocks texts.old → HasSeen self.new (with_signature seen (signature_of (file elf.now) i))) }

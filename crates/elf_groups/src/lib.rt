@@ -6,17 +6,22 @@
 //! files are asked for in the order of the inputs. A group that is dropped counts as an earlier one of its signature;
 //! signatures are compared as bytes. What is a group, and what its signature is, is read by `elf_read`.
 //!
-//! The meaning of the set is the list of the signatures that were seen (`specs/Seen.antt`, `HasSeen`), and of what is
-//! dropped the list of the numbers (`specs/Groups.antt`), as functions of that list and the file's bytes.
+//! Which groups are dropped is a definition of its own (`specs/Dropped.antt`, `AreDroppedGroups`): no signatures are
+//! collected there. The meaning of the set is the list of the signatures that were seen (`specs/Seen.antt`, `HasSeen`), and
+//! `gone_groups` gives what that list and the file's bytes come to (`specs/Groups.antt`). A law joins them
+//! ([`groups_of_earlier_signatures_are_dropped`]).
 //!
-//! The caller owes nothing: each file that was read is in order. The one error is out of memory, and then nothing is
-//! said of the set, which is used no more. Each byte of a file is looked at once, whatever names its signatures have in
-//! common, and a look-up compares fewer than 256 bytes of each of as many signatures as the logarithm of their number.
+//! The caller owes nothing but files that `elf_read` has read, in the order of the inputs. The one error is out of
+//! memory; then nothing is said of the set, and it is not used again. A file's bytes are looked at once for the ends of
+//! its texts, and each 256 bytes before an end once for their number, whatever names its signatures have in common. A
+//! look-up compares at most 256 bytes with those of as many texts as the logarithm of their number.
 #![tactic(auto)]
 
 mod blocks;
 mod ends;
 mod file_texts;
 mod groups;
+mod laws;
 
 pub use groups::Seen;
+pub use laws::groups_of_earlier_signatures_are_dropped;

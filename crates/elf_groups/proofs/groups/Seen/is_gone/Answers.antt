@@ -1,7 +1,8 @@
 use Rattle.std.proofs.Common.{◌≡◌, Bool, Some, None, cond, sym, ap, subst, ◌∙◌}
 use Rattle.std.specs.Option.{option_and_then}
 use Rattle.elf_read.specs.Views.{file, text_bytes}
-use Rattle.elf_groups.specs.Groups.{if_comdat, signature_of, with_signature}
+use Rattle.elf_groups.specs.Dropped.{if_comdat, signature_of}
+use Rattle.elf_groups.specs.Groups.{with_signature}
 use Rattle.elf_groups.specs.Seen.{HasSeen}
 use Rattle.elf_groups.proofs.Signatures.{on_ok_more}
 use Rattle.elf_groups.proofs.groups.Seen.is_gone.Goals as goal

@@ -1,0 +1,192 @@
+-- The groups that are gone, file by file, are those that the definition drops.
+use Rattle.std.specs.Prelude.{Contains, bytes_eq}
+use Rattle.std.specs.List.Sorted.{IsStrictlyIncreasing}
+use Rattle.std.proofs.Common.{◌≡◌, ◌⊎◌, ◌<◌, ◌≤◌, ◌+◌, ℕ, zero, suc, Bool, true, false, cond, List, [], ◌∷◌, ◌++◌, length, get_or, Option, Some, None, refl, sym, ap, subst, ◌∙◌, inl, inr, arith}
+use Rattle.std.proofs.lemmas.Bool.{cases_eq, cases_lt}
+use Rattle.std.proofs.lemmas.List.{get_or_append_left, length-append}
+use Rattle.std.proofs.lemmas.List.Elements.{Contains-append_left, Contains-push, Contains-push_cases, Contains-get_or}
+use Rattle.std.proofs.lemmas.List.Folds.{list_any-from_Any}
+use Rattle.std.proofs.lemmas.Map.Views.{Contains-from_any}
+use Rattle.std.proofs.lemmas.Slice.Eq.{bytes_eq-Decides}
+use Rattle.std.proofs.Math.Seq.{get_or-append_seam}
+use Rattle.elf_read.specs.Sections.{section_count}
+use Rattle.elf_groups.specs.Dropped.{AreDroppedGroups, HasAmong, HasBelow, IsDroppedGroup, signature_of}
+use Rattle.elf_groups.proofs.Rising.{same_members}
+use Rattle.elf_groups.specs.Groups.{gone_below, gone_groups, is_repeated, seen_after, seen_below, seen_in, with_signature}
+
+-- ---- the signatures that were seen
+seen_cases : (seen : List (List ℕ)) (o : Option (List ℕ)) (s : List ℕ) → Contains (with_signature seen o) s → Contains seen s ⊎ (o ≡ Some s)
+seen_cases seen None s h = inl h
+seen_cases seen (Some x) s h = elim (Contains-push_cases seen x s h) [
+  | inl there ↦ inl there
+  | inr same ↦ inr (ap Some same)
+]
+
+still_seen : (seen : List (List ℕ)) (o : Option (List ℕ)) (s : List ℕ) → Contains seen s → Contains (with_signature seen o) s
+still_seen seen None s h = h
+still_seen seen (Some x) s h = Contains-append_left seen (x ∷ []) s h
+
+now_seen : (seen : List (List ℕ)) (o : Option (List ℕ)) (s : List ℕ) → o ≡ Some s → Contains (with_signature seen o) s
+now_seen seen o s e = subst (λ (p : Option (List ℕ)). Contains (with_signature seen p) s) (sym e) (Contains-push seen s)
+
+-- of the groups of a file below a number, and before them
+from_below : (seen : List (List ℕ)) (file : List ℕ) (n : ℕ) (s : List ℕ) → Contains (seen_below seen file n) s → Contains seen s ⊎ HasBelow file n s
+unfolding seen_below
+from_below seen file zero s h = inl h
+from_below seen file (suc n) s h = elim (seen_cases (seen_below seen file n) (signature_of file n) s h) [
+  | inl there ↦ elim (from_below seen file n s there) [
+    | inl old ↦ inl old
+    | inr has ↦ inr (has.0, omega (arith, has.1), has.2)
+  ]
+  | inr here ↦ inr (n, omega arith, here)
+]
+
+old_below : (seen : List (List ℕ)) (file : List ℕ) (n : ℕ) (s : List ℕ) → Contains seen s → Contains (seen_below seen file n) s
+unfolding seen_below
+old_below seen file zero s h = h
+old_below seen file (suc n) s h = still_seen (seen_below seen file n) (signature_of file n) s (old_below seen file n s h)
+
+to_below : (seen : List (List ℕ)) (file : List ℕ) (n m : ℕ) (s : List ℕ) → m < n → signature_of file m ≡ Some s → Contains (seen_below seen file n) s
+unfolding seen_below
+to_below seen file zero m s low is = absurd (omega (arith, low))
+to_below seen file (suc n) m s low is = elim (cases_eq m n) [
+  | inl same ↦ now_seen (seen_below seen file n) (signature_of file n) s (ap (signature_of file) (sym same) ∙ is)
+  | inr other ↦ still_seen (seen_below seen file n) (signature_of file n) s (to_below seen file n m s (omega (arith, low, other)) is)
+]
+
+-- of all groups of files, and before them
+from_files : (seen files : List (List ℕ)) (s : List ℕ) → Contains (seen_in seen files) s → Contains seen s ⊎ HasAmong files s
+from_files seen [] s h = inl h
+from_files seen (file ∷ files) s h = elim (from_files (seen_after seen file) files s h) [
+  | inl after ↦ elim (from_below seen file (section_count file) s after) [
+    | inl old ↦ inl old
+    | inr has ↦ inr (file, (0, omega arith, refl), has)
+  ]
+  | inr among ↦ inr (among.0, (suc among.1.0, omega (arith, among.1.1), among.1.2), among.2)
+]
+
+old_files : (seen files : List (List ℕ)) (s : List ℕ) → Contains seen s → Contains (seen_in seen files) s
+old_files seen [] s h = h
+old_files seen (file ∷ files) s h = old_files (seen_after seen file) files s (old_below seen file (section_count file) s h)
+
+-- `k` is the place of the file among them
+to_files : (seen files : List (List ℕ)) (file : List ℕ) (k : ℕ) (s : List ℕ) → k < length files → get_or files k file ≡ file → HasBelow file (section_count file) s → Contains (seen_in seen files) s
+to_files seen [] file k s low is has = absurd (omega (arith, low))
+to_files seen (f ∷ fs) file zero s low is has =
+    old_files (seen_after seen f) fs s (subst (λ (g : List ℕ). Contains (seen_after seen g) s) (sym is) (to_below seen file (section_count file) has.0 s has.1 has.2))
+to_files seen (f ∷ fs) file (suc k) s low is has = to_files (seen_after seen f) fs file k s (omega (arith, low)) is has
+
+-- ---- a signature that is repeated
+repeated : (seen : List (List ℕ)) (o : Option (List ℕ)) → is_repeated seen o ≡ true → (s : List ℕ) × (o ≡ Some s) × Contains seen s
+repeated seen None h = cc
+repeated seen (Some s) h = (s, refl, Contains-from_any (λ (x y : List ℕ). (bytes_eq-Decides x y).0) s seen h)
+
+is_among : (seen : List (List ℕ)) (o : Option (List ℕ)) (s : List ℕ) → o ≡ Some s → Contains seen s → is_repeated seen o ≡ true
+is_among seen o s e h = ap (is_repeated seen) e ∙ list_any-from_Any (bytes_eq s) seen (h.0, s, h.1, h.2, (bytes_eq-Decides s s).1 refl)
+
+-- ---- the numbers below n
+gone_cases : (b : Bool) (n : ℕ) (gone : List ℕ) (k : ℕ) → Contains (cond b (gone ++ n ∷ []) gone) k → Contains gone k ⊎ ((n ≡ k) × (b ≡ true))
+gone_cases false n gone k h = inl h
+gone_cases true n gone k h = elim (Contains-push_cases gone n k h) [
+  | inl there ↦ inl there
+  | inr same ↦ inr (same, refl)
+]
+
+still_gone : (b : Bool) (n : ℕ) (gone : List ℕ) (k : ℕ) → Contains gone k → Contains (cond b (gone ++ n ∷ []) gone) k
+still_gone false n gone k h = h
+still_gone true n gone k h = Contains-append_left gone (n ∷ []) k h
+
+abbrev Repeats : (seen : List (List ℕ)) → (file : List ℕ) → ℕ → Type 0
+Repeats seen file k = is_repeated (seen_below seen file k) (signature_of file k) ≡ true
+
+gone_is : (seen : List (List ℕ)) (file : List ℕ) (n k : ℕ) → Contains (gone_below seen file n) k → (k < n) × Repeats seen file k
+unfolding gone_below
+gone_is seen file zero k h = absurd (omega (arith, h.1))
+gone_is seen file (suc n) k h = elim (gone_cases (is_repeated (seen_below seen file n) (signature_of file n)) n (gone_below seen file n) k h) [
+  | inl there ↦ let rest = gone_is seen file n k there in (omega (arith, rest.0), rest.1)
+  | inr here ↦ (omega (arith, here.0), subst (Repeats seen file) here.0 here.1)
+]
+
+is_gone : (seen : List (List ℕ)) (file : List ℕ) (n k : ℕ) → k < n → Repeats seen file k → Contains (gone_below seen file n) k
+unfolding gone_below
+is_gone seen file zero k low is = absurd (omega (arith, low))
+is_gone seen file (suc n) k low is = elim (cases_eq k n) [
+  | inl same ↦
+      subst (λ (b : Bool). Contains (cond b (gone_below seen file n ++ n ∷ []) (gone_below seen file n)) k) (sym (subst (Repeats seen file) same is))
+      (subst (Contains (gone_below seen file n ++ n ∷ [])) (sym same) (Contains-push (gone_below seen file n) n))
+  | inr other ↦ still_gone (is_repeated (seen_below seen file n) (signature_of file n)) n (gone_below seen file n) k (is_gone seen file n k (omega (arith, low, other)) is)
+]
+
+-- they rise
+one_higher : (xs : List ℕ) (n : ℕ) → IsStrictlyIncreasing xs → ((k : ℕ) → Contains xs k → k < n) → IsStrictlyIncreasing (xs ++ n ∷ [])
+one_higher xs n rising all k within = at_test (cases_lt (k + 1) (length xs))
+  where
+    long : length (xs ++ n ∷ []) ≡ length xs + 1
+    long = length-append xs (n ∷ [])
+
+    here : k < length xs
+    here = omega (arith, long, within)
+
+    at_test : (k + 1 < length xs) ⊎ (length xs ≤ k + 1) → get_or (xs ++ n ∷ []) k 0 < get_or (xs ++ n ∷ []) (k + 1) 0
+    at_test (inl inside) =
+        let one : get_or (xs ++ n ∷ []) k 0 ≡ get_or xs k 0 = get_or_append_left xs (n ∷ []) 0 k here in
+        let next : get_or (xs ++ n ∷ []) (k + 1) 0 ≡ get_or xs (k + 1) 0 = get_or_append_left xs (n ∷ []) 0 (k + 1) inside in
+        let below = rising k inside in
+        omega (arith, one, next, below)
+    at_test (inr past) =
+        let one : get_or (xs ++ n ∷ []) k 0 ≡ get_or xs k 0 = get_or_append_left xs (n ∷ []) 0 k here in
+        let end : k + 1 ≡ length xs = omega (arith, long, within, past) in
+        let last : get_or (xs ++ n ∷ []) (k + 1) 0 ≡ n = ap (λ (j : ℕ). get_or (xs ++ n ∷ []) j 0) end ∙ get_or-append_seam xs n [] 0 in
+        let below : get_or xs k 0 < n = all (get_or xs k 0) (Contains-get_or xs k 0 here) in
+        omega (arith, one, last, below)
+
+or_one_higher : (b : Bool) (xs : List ℕ) (n : ℕ) → IsStrictlyIncreasing xs → ((k : ℕ) → Contains xs k → k < n) → IsStrictlyIncreasing (cond b (xs ++ n ∷ []) xs)
+or_one_higher false xs n rising all = rising
+or_one_higher true xs n rising all = one_higher xs n rising all
+
+rises : (seen : List (List ℕ)) (file : List ℕ) (n : ℕ) → IsStrictlyIncreasing (gone_below seen file n)
+unfolding gone_below
+rises seen file zero = λ k within. absurd (omega (arith, within))
+rises seen file (suc n) =
+    or_one_higher (is_repeated (seen_below seen file n) (signature_of file n)) (gone_below seen file n) n (rises seen file n) (λ k h. (gone_is seen file n k h).0)
+
+-- ---- all of them
+abbrev after : List (List ℕ) → List (List ℕ)
+after earlier = seen_in [] earlier
+
+is_dropped : (earlier : List (List ℕ)) (file : List ℕ) (k : ℕ) → k < section_count file → Repeats (after earlier) file k → IsDroppedGroup earlier file k
+is_dropped earlier file k inside is =
+    let before = repeated (seen_below (after earlier) file k) (signature_of file k) is in
+    record {
+      inside = inside;
+      signature = before.0;
+      has = before.1;
+      before = elim (from_below (after earlier) file k before.0 before.2) [
+        | inl old ↦ elim (from_files [] earlier before.0 old) [
+          | inl none ↦ absurd (omega (arith, none.1))
+          | inr among ↦ inl among
+        ]
+        | inr has ↦ inr has
+      ];
+    }
+
+repeats : (earlier : List (List ℕ)) (file : List ℕ) (k : ℕ) → IsDroppedGroup earlier file k → Repeats (after earlier) file k
+repeats earlier file k d = is_among (seen_below (after earlier) file k) (signature_of file k) d.signature d.has (elim d.before [
+  | inl among ↦ old_below (after earlier) file k d.signature (to_files [] earlier among.0 among.1.0 d.signature among.1.1 among.1.2 among.2)
+  | inr has ↦ to_below (after earlier) file k has.0 d.signature has.1 has.2
+])
+
+pub gone_are_dropped : (earlier : List (List ℕ)) (file : List ℕ) → AreDroppedGroups earlier file (gone_groups (after earlier) file)
+gone_are_dropped earlier file = record {
+  rising = rises (after earlier) file (section_count file);
+  are = λ k. (
+    (λ h. let is = gone_is (after earlier) file (section_count file) k h in is_dropped earlier file k is.0 is.1),
+    (λ d. is_gone (after earlier) file (section_count file) k d.inside (repeats earlier file k d)),
+  );
+}
+
+-- and there is one such list
+pub dropped_are_gone : (earlier : List (List ℕ)) (file : List ℕ) (numbers : List ℕ) → AreDroppedGroups earlier file numbers → gone_groups (after earlier) file ≡ numbers
+dropped_are_gone earlier file numbers d =
+    let own = gone_are_dropped earlier file in
+    same_members (gone_groups (after earlier) file) numbers own.rising d.rising (λ k c. (d.are k).1 ((own.are k).0 c)) (λ k c. (own.are k).1 ((d.are k).0 c))

@@ -1,0 +1,34 @@
+-- Which COMDAT groups are dropped (ELF64 gABI, "Section Groups"): those whose signature one of an earlier place has. The places in a file
+-- are after those in the files before it, and in a file they go by the number. Signatures are compared as bytes.
+use Rattle.std.specs.Prelude.{◌≡◌, ◌⊎◌, ◌↔◌, ◌<◌, ℕ, List, Contains, Option, Some, None, if◌then◌else◌}
+use Rattle.std.specs.Option.{option_and_then}
+use Rattle.std.specs.List.Sorted.{IsStrictlyIncreasing}
+use Rattle.elf_read.specs.Sections.{section_count}
+use Rattle.elf_read.specs.Views.{GroupView, group_of}
+
+abbrev pub if_comdat : GroupView → Option (List ℕ)
+if_comdat g = if g.comdat then Some g.signature else None
+
+-- the signature of a section that is a COMDAT group
+unfoldable pub signature_of : (file : List ℕ) → ℕ → Option (List ℕ)
+signature_of file i = option_and_then if_comdat (group_of file i)
+
+-- one of the groups of a file, with a number below this, has the signature
+abbrev pub HasBelow : (file : List ℕ) → (number : ℕ) → (signature : List ℕ) → Type 0
+HasBelow file number signature = (n : ℕ) × (n < number) × (signature_of file n ≡ Some signature)
+
+-- one of the groups of these files has it
+abbrev pub HasAmong : (files : List (List ℕ)) → (signature : List ℕ) → Type 0
+HasAmong files signature = (file : List ℕ) × Contains files file × HasBelow file (section_count file) signature
+
+-- the group of this number is dropped, in a file that comes after these
+pub record IsDroppedGroup (earlier : List (List ℕ)) (file : List ℕ) (number : ℕ) : Type 0 where
+  pub inside : number < section_count file
+  pub signature : List ℕ
+  pub has : signature_of file number ≡ Some signature
+  pub before : HasAmong earlier signature ⊎ HasBelow file number signature
+
+-- these are the dropped groups of the file, by rising number
+pub record AreDroppedGroups (earlier : List (List ℕ)) (file : List ℕ) (numbers : List ℕ) : Type 0 where
+  pub rising : IsStrictlyIncreasing numbers
+  pub are : (number : ℕ) → Contains numbers number ↔ IsDroppedGroup earlier file number
