@@ -1,6 +1,10 @@
 -- An object of the outside counts its faults. A count never falls, stands still at the last number of 64 bits, and a call that succeeds
 -- leaves it as it was.
-use Rattle.std.specs.Prelude.{◌≡◌, ◌⊎◌, ◌<◌, ◌≤◌, ◌-◌, ◌^◌, ℕ, Result, IsErr, IsOk}
+use Rattle.std.specs.Prelude.{◌≡◌, ◌⊎◌, ◌<◌, ◌≤◌, ◌+◌, ◌-◌, ◌^◌, ℕ, Result, IsErr, IsOk, min}
+
+-- the count after one fault more
+abbrev pub one_more : ℕ → ℕ
+one_more faults = min (faults + 1) (2 ^ 64 - 1)
 
 -- the count is greater than before, or stands at its last number
 abbrev pub Rose : ℕ → ℕ → Type 0

@@ -1,7 +1,6 @@
 // What every crate may run into: no memory is left, or a call of the outside failed.
 ghost use Rattle.std.specs.Prelude.{◌≡◌, ◌≤◌};
-ghost use Rattle.sf_base.specs.Calls.{one_more};
-ghost use Rattle.sf_base.specs.Faults.{Rose};
+ghost use Rattle.sf_base.specs.Faults.{Rose, one_more};
 
 use std::alloc::{AllocError, AllocFailed};
 
@@ -25,8 +24,8 @@ impl<T: Drop> From<AllocFailed<T>> for NoMemory {
     }
 }
 
-// Counts a fault. The count stands still at its last number.
-pub(crate) fn count_fault(faults: &mut u64)
+/// Counts a fault, for an object of the outside. The count stays at its last number.
+pub fn count_fault(faults: &mut u64)
     ensures count { faults.new ≡ one_more faults.old }
     ensures later { faults.old ≤ faults.new }
     ensures rose { Rose faults.old faults.new }

@@ -1,8 +1,9 @@
 // What no clause says: that calls succeed with ample memory, at which call a fault shows, and the machine's side.
 use sf_base::{
-    Failed, Files, HostFiles, HostSink, LoadFault, MemFiles, MemSink, Sink, SureFiles, SureSink,
-    dec_word, hex_word, load, put_all, put_file,
+    Failed, Files, HostFiles, HostSink, LoadFault, Sink, dec_word, hex_word, load, put_all,
+    put_file,
 };
+use sf_fakes::{MemFiles, MemSink, SureFiles, SureSink};
 use std::alloc::Global;
 use std::test::Fail;
 use std::{env, process};

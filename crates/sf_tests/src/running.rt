@@ -5,7 +5,7 @@ ghost use Rattle.std.specs.Prelude.{◌<◌};
 
 mod worked;
 
-use sf_base::{MemFiles, MemSink};
+use sf_fakes::{MemFiles, MemSink};
 use sf_run::{Status, run};
 use std::alloc::{AllocError, Global};
 use std::process::Abort;

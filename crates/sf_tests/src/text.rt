@@ -5,7 +5,7 @@ mod sections;
 mod walks;
 
 use arrayvec::ArrayVec;
-use sf_base::MemSink;
+use sf_fakes::MemSink;
 use sf_model::{Group, Notice, Omission, Omitted, Origin, Reason, Span};
 use sf_text::{
     fault_line, file_limit_line, merged, put_name, report, report_plt, slim_line, summary,

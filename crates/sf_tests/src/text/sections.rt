@@ -1,8 +1,8 @@
 //! What sections and look-ups print.
 
 use crate::samples::{PUSHING, SIGNING};
-use sf_base::MemSink;
 use sf_decode::View;
+use sf_fakes::MemSink;
 use sf_text::{Output, dump, found, put_output};
 use std::test::Fail;
 

@@ -1,0 +1,4 @@
+pub mod Pairs
+pub mod Lent
+pub mod Reading
+pub mod Calls

@@ -1,0 +1,102 @@
+// A file by its name, in a list of names with bytes.
+ghost use Rattle.std.specs.Prelude.{◌≡◌, ◌<◌, ◌≤◌, length, IfOk, IfSome, OnOk, OnErr, Some, is_some, position, string_bytes, vec_len};
+ghost use Rattle.std.specs.Str.{bytes_eq};
+ghost use Rattle.sf_base.specs.Contents.{contents_of};
+ghost use Rattle.sf_fakes.specs.Pairs.{pairs_of, has_name, place_of, with_file, with_more, name_at, bytes_at};
+
+use sf_base::NoMemory;
+use std::alloc::Global;
+
+fn first_named(files: &[(String, Vec<u8>)], name: &str) -> Option<usize>
+    ensures { result ≡ position (λ file. bytes_eq (string_bytes file.0) name.now) files.now }
+{
+    files.iter().position(|file| file.0.as_str() == name)
+}
+
+// The place of the first file with this name.
+pub(crate) fn find_file(files: &[(String, Vec<u8>)], name: &str) -> Option<usize>
+    ensures place { result ≡ place_of (pairs_of files.now) name.now }
+    ensures below { IfSome result (λ place. place < length files.now) }
+    ensures found { is_some result ≡ has_name (pairs_of files.now) name.now }
+    ensures bytes { IfSome result (λ place.
+        bytes_at (pairs_of files.now) place ≡ contents_of (pairs_of files.now) name.now) }
+{
+    first_named(files, name)
+}
+
+// The bytes of the first file with this name.
+pub(crate) fn find_bytes<'a>(files: &'a [(String, Vec<u8>)], name: &str) -> Option<&'a [u8]>
+    ensures found { is_some result ≡ has_name (pairs_of files.now) name.now }
+    ensures bytes { IfSome result (λ bytes. bytes.now ≡ contents_of (pairs_of files.now) name.now) }
+{
+    let place = find_file(files, name)?;
+    Some(files[place].1.as_slice())
+}
+
+// The bytes of the first file with this name, of which there are none where there is no such file.
+pub(crate) fn bytes_of<'a>(files: &'a [(String, Vec<u8>)], name: &str) -> &'a [u8]
+    ensures { result.now ≡ contents_of (pairs_of files.now) name.now }
+{
+    match find_bytes(files, name) {
+        Some(bytes) => bytes,
+        None => &[],
+    }
+}
+
+// Gives the first file with this name these bytes. Where there is none it comes at the end. Answers its place.
+pub(crate) fn set_file(
+    alloc: Global,
+    files: &mut Vec<(String, Vec<u8>)>,
+    name: &str,
+    bytes: Vec<u8>,
+) -> Result<usize, NoMemory>
+    ensures place { IfOk result (λ place. place < vec_len files.new) }
+    ensures name { IfOk result (λ place. name_at (pairs_of files.new.items) place ≡ name.now) }
+    ensures ok { OnOk result (
+        pairs_of files.new.items ≡ with_file (pairs_of files.old.items) name.now bytes.items) }
+    ensures longer { vec_len files.old ≤ vec_len files.new }
+    ensures err { OnErr result (pairs_of files.new.items ≡ pairs_of files.old.items) }
+{
+    if let Some(place) = find_file(files, name) {
+        files[place].1 = bytes;
+        return Ok(place);
+    }
+    let name = String::from_str(alloc, name)?;
+    files.push((name, bytes))?;
+    Ok(files.len() - 1)
+}
+
+// The place of the first file with the name that stands at this place.
+fn first_like(files: &[(String, Vec<u8>)], place: usize) -> usize
+    requires { place < length files.now }
+    ensures first { place_of (pairs_of files.now) (name_at (pairs_of files.now) place) ≡ Some result }
+    ensures below { result < length files.now }
+{
+    let name = files[place].0.as_str();
+    find_file(files, name).unwrap_or(place)
+}
+
+// Appends the bytes to the first file with the name that stands at this place.
+fn append_to(files: &mut [(String, Vec<u8>)], place: usize, piece: &[u8]) -> Result<(), NoMemory>
+    requires { place < length files.old }
+    ensures ok { OnOk result (pairs_of files.new ≡ with_more (pairs_of files.old) place piece.now) }
+    ensures err { OnErr result (pairs_of files.new ≡ pairs_of files.old) }
+{
+    let first = first_like(files, place);
+    files[first].1.extend_from_slice(piece)?;
+    Ok(())
+}
+
+// The same in a list that is kept. Each name stays at its place.
+pub(crate) fn append_file(
+    files: &mut Vec<(String, Vec<u8>)>,
+    place: usize,
+    piece: &[u8],
+) -> Result<(), NoMemory>
+    requires { place < vec_len files.old }
+    ensures ok { OnOk result (pairs_of files.new.items ≡ with_more (pairs_of files.old.items) place piece.now) }
+    ensures err { OnErr result (pairs_of files.new.items ≡ pairs_of files.old.items) }
+    ensures len { vec_len files.new ≡ vec_len files.old }
+{
+    append_to(files, place, piece)
+}
