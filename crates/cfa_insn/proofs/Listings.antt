@@ -1,4 +1,4 @@
--- The first item of a listing, and the listing behind it.
+-- The first item of a listing, and the listing after it.
 use Rattle.std.proofs.Common.{◌≡◌, ℕ, suc, ◌+◌, ◌<◌, List, [], ◌∷◌, length, Ok, Err, refl, ap, subst, arith}
 use Rattle.sf_bytes.specs.Cursor.{Cursor, past}
 use Rattle.sf_bytes.proofs.Skipped.{behind}

@@ -12,12 +12,12 @@ use Rattle.cfa_insn.specs.Table.{instruction_at}
 abbrev pub Item : Type 0
 Item = Result (ℕ × Instruction) InsnFault
 
--- how many bytes are left behind the instruction
+-- how many bytes are left after the instruction
 abbrev pub left_behind : Result (Instruction × Cursor) InsnFault → ℕ
 left_behind (Ok (i, after)) = length after.left
 left_behind (Err e) = 0
 
--- the instruction and those behind it, or the fault alone
+-- the instruction and those after it, or the fault alone
 abbrev pub front_of : ℕ → Result (Instruction × Cursor) InsnFault → List Item → List Item
 front_of place (Ok (i, after)) others = Ok (place, i) ∷ others
 front_of place (Err e) others = Err e ∷ []

@@ -118,11 +118,11 @@ or_fault place op (Ok (Some i, after)) = Ok (i, after)
 or_fault place op (Ok (None, after)) = Err (Opcode place op)
 or_fault place op (Err e) = Err (placed place e)
 
--- behind the opcode byte
+-- after the opcode byte
 abbrev pub after_opcode : ℕ → Read ℕ → Result (Instruction × Cursor) InsnFault
 after_opcode place (Ok (op, after)) = or_fault place op (operands_at op after)
 after_opcode place (Err e) = Err (placed place e)
 
--- the instruction at the front, and the cursor behind it
+-- the instruction at the front, and the cursor after it
 unfoldable pub instruction_at : Cursor → Result (Instruction × Cursor) InsnFault
 instruction_at at = after_opcode at.place (number_at 1 at)

@@ -114,7 +114,7 @@ pub fn instruction_of<'a>(part: &mut Part<'a>) -> Result<Insn<'a>, InsnFault>
     }
 }
 
-// The first item of bytes that aren't empty, and the part behind it, which is empty after a fault.
+// The first item of bytes that aren't empty, and the part after it, which is empty after a fault.
 #[inline(always)]
 fn item_of<'a>(part: Part<'a>) -> (Result<(u64, Insn<'a>), InsnFault>, Part<'a>)
     requires { 0 < length part.bytes.now }
@@ -131,7 +131,7 @@ fn item_of<'a>(part: Part<'a>) -> (Result<(u64, Insn<'a>), InsnFault>, Part<'a>)
     }
 }
 
-/// The first item of a part and the part behind it, which is empty after a fault. None at the end.
+/// The first item of a part and the part after it, which is empty after a fault. None at the end.
 #[inline(always)]
 pub fn first_of<'a>(part: Part<'a>) -> Option<(Result<(u64, Insn<'a>), InsnFault>, Part<'a>)>
     ensures { GivesFirst result (listing (cursor part.entry)) }

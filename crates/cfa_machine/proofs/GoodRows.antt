@@ -77,7 +77,7 @@ pub record StateFits (k : FunctionContext) (s : State) : Type 0 where
   pub remembered : All (SignFits k.arch) s.remembered
   pub capped : s.offset < 2 ^ 64
 
--- where an instruction goes: on with no row, or to a later offset behind a row
+-- where an instruction goes: on with no row, or to a later offset after a row
 abbrev pub Moves : FunctionContext → State → State → Option DwRow → Type 0
 Moves k s t None = (t.offset ≡ s.offset) ⊎ ((k.size ≤ s.offset) × (s.offset ≤ t.offset))
 Moves k s t (Some row) = (row ≡ row_from s.offset s.columns) × (s.offset < t.offset) × (s.offset < k.size)

@@ -26,7 +26,7 @@ abbrev pub rule_of : ℕ → List (ℕ × Rule) → Rule
 rule_of q [] = rule.Missing
 rule_of q ((r, new) ∷ rules) = if r == q then new else rule_of q rules
 
--- a rule, or that the register keeps its value where there is none
+-- a rule; without one the register keeps its value
 abbrev pub or_same : Rule → Rule
 or_same rule.Missing = rule.Same
 or_same given = given

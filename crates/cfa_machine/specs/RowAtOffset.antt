@@ -28,7 +28,7 @@ after_instruction initial (Restore r) s = record { row = with_register_rule r (r
 after_instruction initial Remember s = record { row = s.row; remembered = s.row ∷ s.remembered }
 after_instruction initial Recall s = recalled s.remembered s
 
--- the offset behind an instruction
+-- the offset after an instruction
 abbrev pub offset_behind : (code : ℕ) → Effect → ℕ → ℕ
 offset_behind code (Advance n) offset = offset + code * n
 offset_behind code (Row change) offset = offset

@@ -81,7 +81,7 @@ pub fn set_rule(arch: Arch, register: u64, rule: Rule, columns: &mut Columns)
     }
 }
 
-// A rule, or that the register keeps its value where there is none.
+// A rule; without one the register keeps its value.
 #[inline(always)]
 fn or_same(rule: Rule) -> Rule
     ensures { result ≡ rule_or_same rule }

@@ -41,7 +41,7 @@ fn pass(
 /// arrives at, the state from there on. For size 0 there are none.
 ///
 /// `code` and `factor` are the code and data alignment factors of the common information entry, `cie`
-/// and `fde` the instructions of both entries. Every instruction is read and run, also behind the
+/// and `fde` the instructions of both entries. Every instruction is read and run, also after the
 /// function's end, and the first one that can't be is the fault, the common information entry's before
 /// the frame description entry's.
 pub fn rows(

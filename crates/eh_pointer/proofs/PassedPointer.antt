@@ -1,4 +1,4 @@
--- What is left behind a pointer that was passed stands behind a run of bytes.
+-- What is left after a pointer that was passed stands after a run of bytes.
 use Rattle.std.proofs.Common.{◌≡◌, ℕ, ◌%◌, Bool, true, false, cond, List, Option, Some, None, Result, Ok, Err, refl, subst}
 use Rattle.std.specs.Prelude.{◌==◌}
 use Rattle.sf_bytes.specs.Cursor.{Cursor, Read, part_at}

@@ -15,7 +15,7 @@ abbrev pub as_pointer_fault : ByteFault → PointerFault
 as_pointer_fault (byte_faults.Short place) = Short
 as_pointer_fault (byte_faults.Leb place) = Leb
 
--- the cursor behind what a read gives
+-- the cursor after what a read gives
 abbrev pub passed : {X : Type 0} → Read X → Result Cursor PointerFault
 passed (Ok x) = Ok x.1
 passed (Err e) = Err (as_pointer_fault e)
@@ -28,7 +28,7 @@ passed_width None encoding at =
     else if format_of encoding == 9 then passed (sleb_at at)
     else Err Encoding
 
--- the cursor behind the pointer, or the fault
+-- the cursor after the pointer, or the fault
 unfoldable pub pointer_passed : ℕ → Cursor → Result Cursor PointerFault
 pointer_passed encoding at = if above_format encoding % 8 == 5 then Err Encoding else passed_width (pointer_width encoding) encoding at
 

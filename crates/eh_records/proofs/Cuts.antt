@@ -1,4 +1,4 @@
--- The first record from a cursor on, and those behind it.
+-- The first record from a cursor on, and those after it.
 use Rattle.std.proofs.Common.{◌≡◌, ℕ, suc, ◌+◌, ◌-◌, ◌<◌, ◌≤◌, List, [], ◌∷◌, length, drop, Some, None, Ok, Err, refl, ap, ◌∙◌, arith}
 use Rattle.sf_bytes.specs.Cursor.{Cursor, past}
 use Rattle.sf_bytes.proofs.Skipped.{behind}

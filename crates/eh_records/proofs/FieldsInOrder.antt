@@ -1,4 +1,4 @@
--- Pointer fields that stand one behind the other between two places.
+-- Pointer fields that stand one after the other between two places.
 use Rattle.std.proofs.Common.{◌≡◌, ℕ, zero, suc, ◌+◌, ◌<◌, ◌≤◌, List, [], ◌∷◌, ◌++◌, length, map, None, get_or, sym, subst, ◌∙◌, arith}
 use Rattle.std.proofs.lemmas.List.{map-id}
 use Rattle.sf_bytes.specs.declared.field.Field.{Field}

@@ -1,4 +1,4 @@
--- The first entry from a cursor on, and those behind it.
+-- The first entry from a cursor on, and those after it.
 use Rattle.std.proofs.Common.{◌≡◌, ℕ, true, false, List, [], ◌∷◌, Option, Some, None, Result, Ok, Err, refl, sym, ap, ◌∙◌}
 use Rattle.std.specs.Prelude.{◌&&◌, ◌==◌, is_ok, MatchOption}
 use Rattle.sf_bytes.specs.Cursor.{Cursor}
@@ -44,7 +44,7 @@ reads_here arch section at p after r h e =
     ap (are_read arch section) (starts_with_record at p after h) ∙ reads_cons arch section p (cuts after)
     ∙ ap (λ (x : Result EntryView RecordFault). is_ok x && are_read arch section (cuts after)) e
 
--- where each record is read, the next one is cut off and read, and so are those behind it
+-- where each record is read, the next one is cut off and read, and so are those after it
 pub is_cut : (arch : Arch) (section : List ℕ) (at : Cursor) (e : RecordFault) → are_read arch section (cuts at) ≡ true → raw_record_at at ≡ Err e → ⊥
 is_cut arch section at e read h =
     let none : are_read arch section (cuts at) ≡ false = ap (are_read arch section) (faults at e h) ∙ reads_fault arch section e [] in
@@ -99,7 +99,7 @@ left_behind : (arch : Arch) (section : List ℕ) (at : Cursor) (p : RawRecordVie
 left_behind arch section at p after (Ok f) read h frame is ok = (passes_frame arch section at p after f read h frame is).1
 left_behind arch section at p after (Err x) read h frame is ok = absurd (cc)
 
--- and the records behind it are read
+-- and the records after it are read
 pub behind_frame : (arch : Arch) (section : List ℕ) (at : Cursor) (p : RawRecordView) (after : Cursor) → are_read arch section (cuts at) ≡ true → raw_record_at at ≡ Ok (Some (p, after)) → (p.id == 0) ≡ false
     → are_read arch section (cuts after) ≡ true
 behind_frame arch section at p after read h frame = left_behind arch section at p after (fde_of arch section p) read h frame refl (frame_read arch section at p after read h frame)

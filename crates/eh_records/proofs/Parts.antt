@@ -32,7 +32,7 @@ part-part a b c h k = record {
       h.bytes place low high ∙ k.bytes place (omega (arith, h.inside.from, low)) (omega (arith, h.inside.to, high));
 }
 
--- what is left behind a run
+-- what is left after a run
 pub rest-part : (run : List ℕ) (from to : Cursor) → Passes run from to → IsPart to from
 rest-part run from to p = record {
   inside = passes-inside run from to p;
@@ -73,7 +73,7 @@ sleb_part at x after e = let s = sleb_takes at x after e in rest-part s.run at a
 pub text_part : (at : Cursor) (x : List ℕ) (after : Cursor) → text_at at ≡ Ok (x, after) → IsPart after at
 text_part at x after e = let s = text_takes at x after e in rest-part s.run at after s.passes
 
--- both what is taken and what is behind it
+-- both what is taken and what is after it
 pub both_parts : (n : ℕ) (at taken after : Cursor) → part_at n at ≡ Ok (taken, after) → IsPart taken at × IsPart after at
 both_parts n at taken after e =
     let s = part_takes n at taken after e in

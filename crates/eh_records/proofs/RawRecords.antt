@@ -29,7 +29,7 @@ ok x = Ok x
 pub ok_same : {X : Type 0} (x y : X) → ok x ≡ ok y → x ≡ y
 ok_same x y e = cc
 
--- a field that was read lies in the bytes, and gives this value and the cursor behind it
+-- a field that was read lies in the bytes, and gives this value and the cursor after it
 pub record IsRead {X : Type 0} (n : ℕ) (at : Cursor) (v : X) (x : X × Cursor) : Type 0 where
   pub within : n ≤ length at.left
   pub value : x.0 ≡ v

@@ -1,4 +1,4 @@
--- The pointer fields of a section's entries stand one behind the other, with the numbers that stand there.
+-- The pointer fields of a section's entries stand one after the other, with the numbers that stand there.
 use Rattle.std.specs.Prelude.{is_ok}
 use Rattle.std.proofs.Common.{◌≡◌, ℕ, ◌+◌, ◌-◌, ◌≤◌, true, List, [], ◌∷◌, ◌++◌, append-nil, length, take, drop, Ok, refl, sym, ap, subst, ◌∙◌, arith, length-drop}
 use Rattle.std.proofs.lemmas.List.{length-take-le}
@@ -37,7 +37,7 @@ after_part : (at : Cursor) (p : RawRecordView) (after : Cursor) → Stands at p 
 after_part at p after s =
     subst (λ (c : Cursor). IsPart c at) (sym s.behind) (rest-part (take (4 + s.len) at.left) at (past (4 + s.len) at) (past-passes (4 + s.len) at s.within))
 
--- the bytes behind the length, and those behind the word behind that
+-- the bytes after the length, and those after the word after that
 abbrev behind_length : ℕ → Cursor → Cursor
 behind_length len at = record { place = at.place + 4; left = take len (drop 4 at.left) }
 
@@ -64,7 +64,7 @@ after_inside at p after s =
     let left : length after.left ≡ length at.left - (4 + s.len) = ap (λ (c : Cursor). length c.left) s.behind ∙ length-drop (4 + s.len) at.left in
     omega (arith, behind, left, s.within)
 
--- the fields of a record and of those behind it
+-- the fields of a record and of those after it
 then_lie : (at : Cursor) (p : RawRecordView) (after : Cursor) (fs gs : List PointerField) → Stands at p after → LieIn p.body fs → LieIn after gs → LieIn at (fs ++ gs)
 then_lie at p after fs gs s h k = record {
   between = both_between at.place after.place (end_of at) fs gs (body_lies at p after fs s h) (subst (λ (n : ℕ). Between after.place n gs) (after_inside at p after s) k.between);

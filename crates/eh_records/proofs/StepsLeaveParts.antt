@@ -30,7 +30,7 @@ pub text_on : (at : Cursor) (x : List ℕ × Cursor) → text_field at ≡ Ok x 
 unfolding text_field
 text_on at x e = read_on at.place (text_at at) at x (text_part at) e
 
--- both the part and what is behind it
+-- both the part and what is after it
 part_of : (place n : ℕ) (r : Read Cursor) (at : Cursor) (x : Cursor × Cursor) → ((part c : Cursor) → r ≡ Ok (part, c) → IsPart part at × IsPart c at) → placed place r ≡ Ok x → IsPart x.0 at × IsPart x.1 at
 part_of place n (Ok (part, c)) at x h e = subst (λ (z : Cursor × Cursor). IsPart z.0 at × IsPart z.1 at) (ok_same (part, c) x e) (h part c refl)
 part_of place n (Err f) at x h e = absurd cc

@@ -54,7 +54,7 @@ unfoldable pub are_letters : Arch → List ℕ → List ℕ → Bool
 are_letters arch before [] = true
 are_letters arch before (b ∷ bs) = is_new arch before b && are_letters arch (before ++ b ∷ []) bs
 
--- the letters behind `z`, or none
+-- the letters after `z`, or none
 abbrev pub letters_in : Arch → ℕ → List ℕ → Cursor → Step (Option (List ℕ))
 letters_in arch place [] after = Ok (None, after)
 letters_in arch place (b ∷ bs) after = if (b == 122) && are_letters arch [] bs then Ok (Some bs, after) else Err (faults.Augmentation place)
@@ -62,7 +62,7 @@ letters_in arch place (b ∷ bs) after = if (b == 122) && are_letters arch [] bs
 unfoldable pub letters_at : Arch → Cursor → Step (Option (List ℕ))
 letters_at arch at = text_field at >>= λ text. letters_in arch at.place text.0 text.1
 
--- the augmentation data behind its length
+-- the augmentation data after its length
 unfoldable pub data_at : Cursor → Step Cursor
 data_at at = uleb_field at >>= λ len. part_field len.0 len.1
 

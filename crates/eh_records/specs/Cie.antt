@@ -78,7 +78,7 @@ cie_with_form place numbers augmented augmentation insns = record {
   lsda = augmentation.lsda;
 }
 
--- the fields behind the version, from left to right
+-- the fields after the version, from left to right
 unfoldable pub cie_fields : Arch → ℕ → ℕ → Cursor → Result SharedView RecordFault
 cie_fields arch place version at = do
   letters ← letters_at arch at

@@ -1,4 +1,4 @@
--- The cut of a section in the standard's words (LSB Core, "The .eh_frame section"): records that stand one behind
+-- The cut of a section in the standard's words (LSB Core, "The .eh_frame section"): records that stand one after
 -- the other from the first byte on, each a length word and as many bytes, and then nothing or a length word of 0.
 use Rattle.std.specs.Prelude.{◌≡◌, ◌≢◌, ◌⊎◌, ℕ, ◌+◌, ◌≤◌, List, [], ◌∷◌, ◌++◌, length, take, drop, Ok}
 use Rattle.sf_model.specs.declared.machine.Arch.{Arch}
@@ -9,7 +9,7 @@ use Rattle.eh_records.specs.Cie.{SharedView}
 use Rattle.eh_records.specs.Fields.{EntryStands}
 use Rattle.eh_records.specs.Section.{Cutting, EntryView, Common, Frame}
 
--- a record stands at the front: its length, the word behind that, and the bytes to its end
+-- a record stands at the front: its length, the word after that, and the bytes to its end
 pub record Stands (at : Cursor) (p : RawRecordView) (after : Cursor) : Type 0 where
   pub len : ℕ
   pub word : little_number 4 (take 4 at.left) ≡ len

@@ -37,7 +37,7 @@ abbrev pub lsda_in : Option ℕ → Cursor → Option PointerField
 lsda_in None at = None
 lsda_in (Some encoding) at = lsda_of_width (pointer_width encoding) at
 
--- the pointer to a language-specific data area, and the instructions behind the augmentation data
+-- the pointer to a language-specific data area, and the instructions after the augmentation data
 unfoldable pub lsda_at : SharedView → Cursor → Step (Option PointerField)
 lsda_at shared at = if shared.augmented then (data_at at >>= λ inner. Ok (lsda_in shared.lsda inner.0, inner.1)) else Ok (None, at)
 

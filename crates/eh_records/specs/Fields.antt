@@ -1,5 +1,5 @@
 -- The fields inside a record, in their order, each by the bytes that stand for it (LSB Core, "The .eh_frame section"; DWARF 5,
--- sections 6.4.1 and 7.6). A record's length word and the word behind it are in Cutting.antt.
+-- sections 6.4.1 and 7.6). A record's length word and the word after it are in Cutting.antt.
 use Rattle.std.specs.Prelude.{◌≡◌, ◌≢◌, ◌⊎◌, ℕ, ℤ, ◌+◌, ◌%◌, ◌<◌, Bool, true, false, List, [], ◌∷◌, length, Option, Some, None, is_some}
 use Rattle.std.specs.List.{Contains}
 use Rattle.sf_bytes.specs.Cursor.{Cursor}
@@ -162,7 +162,7 @@ pub record FrameStands (before : List SharedView) (p : RawRecordView) (f : FdeVi
   pub fields : FdeStands shared p f
 
 -- ---- entries
--- the word behind the length is 0 in a common information entry
+-- the word after the length is 0 in a common information entry
 abbrev pub EntryStands : Arch → (before : List SharedView) → RawRecordView → EntryView → Type 0
 EntryStands arch before p (Common c) = (p.id ≡ 0) × CieStands arch p c
 EntryStands arch before p (Frame f) = (p.id ≢ 0) × FrameStands before p f

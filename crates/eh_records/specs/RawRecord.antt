@@ -8,7 +8,7 @@ use Rattle.eh_records.specs.declared.fault.RecordFault.{RecordFault}
 use Rattle.eh_records.specs.declared.fault.RecordFault.TheVariants.{Short, Extended, CiePointer}
 use Rattle.eh_records.specs.Step.{Step, ◌>>=◌, number_field, part_field, reader_cursor}
 
--- a record: the place of its length word, the place of the word behind that and its number, and the rest
+-- a record: the place of its length word, the place of the word after that and its number, and the rest
 pub record RawRecordView : Type 0 where
   pub place : ℕ
   pub id_place : ℕ

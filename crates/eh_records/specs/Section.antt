@@ -1,4 +1,4 @@
--- A whole section (LSB Core, "The .eh_frame section"): records one behind the other, up to the section's end or
+-- A whole section (LSB Core, "The .eh_frame section"): records one after the other, up to the section's end or
 -- to a length word of 0. A frame description entry names a common information entry that stands before it.
 use Rattle.std.specs.Prelude.{ℕ, zero, suc, ◌+◌, ◌-◌, ◌==◌, ◌&&◌, Bool, true, false, is_ok, List, [], ◌∷◌, ◌++◌, length, Option, Some, None, Result, Ok, Err, if◌then◌else◌}
 use Rattle.std.specs.List.{list_any}
@@ -18,19 +18,19 @@ Cutting = Result RawRecordView RecordFault
 abbrev pub Front : Type 0
 Front = Result (Option (RawRecordView × Cursor)) RecordFault
 
--- how many bytes are left behind the first record
+-- how many bytes are left after the first record
 abbrev pub left_behind : Front → ℕ
 left_behind (Ok (Some (p, after))) = length after.left
 left_behind (Ok None) = 0
 left_behind (Err e) = 0
 
--- the first record and those behind it
+-- the first record and those after it
 abbrev pub front_of : Front → List Cutting → List Cutting
 front_of (Ok (Some (p, after))) others = Ok p ∷ others
 front_of (Ok None) others = []
 front_of (Err e) others = Err e ∷ []
 
--- the records behind that many further bytes of a record that was cut off
+-- the records after that many further bytes of a record that was cut off
 unfoldable pub cuts_after : (skipped place : ℕ) → List ℕ → List Cutting
 cuts_after skipped place [] = []
 cuts_after (suc n) place (b ∷ bs) = cuts_after n (place + 1) bs
@@ -51,7 +51,7 @@ pub data EntryView : Type 0 where
   Common : SharedView → EntryView
   Frame : FdeView → EntryView
 
--- the entry of a record, by the word behind its length
+-- the entry of a record, by the word after its length
 unfoldable pub entry_here : Arch → List ℕ → RawRecordView → Result EntryView RecordFault
 entry_here arch section p = if p.id == 0 then (cie_of arch p >>= λ c. Ok (Common c)) else (fde_of arch section p >>= λ f. Ok (Frame f))
 

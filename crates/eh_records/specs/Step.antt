@@ -11,7 +11,7 @@ use Rattle.eh_records.specs.declared.fault.RecordFault.TheVariants.{Short, Leb}
 use Rattle.eh_records.specs.declared.reader.Reader.{Reader}
 pub use Rattle.sf_bytes.specs.Steps.{◌>>=◌}
 
--- a value and the cursor behind it, or the first fault
+-- a value and the cursor after it, or the first fault
 abbrev pub Step : Type 0 → Type 0
 Step X = Result (X × Cursor) RecordFault
 

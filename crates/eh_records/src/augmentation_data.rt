@@ -15,7 +15,7 @@ use eh_pointer::{PointerFault, skip, usable, width};
 use sf_bytes::Field;
 use sf_model::Key;
 
-/// The augmentation data behind its length.
+/// The augmentation data after its length.
 #[tactic(auto, unfolding(crate::specs::Augmentation::data_at))]
 pub fn read_data<'a>(body: &mut Reader<'a>) -> Result<Reader<'a>, RecordFault>
     ensures { Answers reader_cursor body.new result (data_at (reader_cursor body.old)) }

@@ -94,7 +94,7 @@ fn shared<'a>(
     }
 }
 
-// The fields behind the version of the entry that stands at a place.
+// The fields after the version of the entry that stands at a place.
 #[tactic(auto, using(crate::proofs::LetterViews::some_same), unfolding(crate::specs::Cie::cie_fields))]
 fn read_fields<'a>(
     place: u32,

@@ -14,12 +14,12 @@ use crate::reader::Reader;
 pub struct RawRecord<'a> {
     /// The place of its length word.
     pub place: u32,
-    /// The place of the word behind that one.
+    /// The place of the word after that one.
     pub id_place: u32,
-    /// The word behind the length: 0 in a common information entry, else the distance back from the word's
+    /// The word after the length: 0 in a common information entry, else the distance back from the word's
     /// own place to the entry that it names.
     pub id: u32,
-    /// What stands behind that word.
+    /// What stands after that word.
     pub body: Reader<'a>,
 }
 

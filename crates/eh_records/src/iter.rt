@@ -64,7 +64,7 @@ fn next_cut<'a>(rest: &mut Reader<'a>) -> Option<RawRecord<'a>>
     }
 }
 
-// The next record of a frame description entry of what is left, which is passed. None where there is none.
+// The next record of a frame description entry of what is left, which is passed, or none at the end.
 #[inline(always)]
 fn next_frame<'a>(section: &'a [u8], arch: Arch, rest: &mut Reader<'a>) -> Option<RawRecord<'a>>
     requires { are_read arch section.now (cuts (reader_cursor rest.old)) ≡ true }

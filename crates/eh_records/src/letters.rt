@@ -20,7 +20,7 @@ fn may_stand(letter: u8, arch: Arch) -> bool
     }
 }
 
-// Whether a letter may stand behind these others.
+// Whether a letter may stand after these others.
 fn is_new_letter(letter: u8, before: &[u8], arch: Arch) -> bool
     ensures { result ≡ is_new arch before.now letter }
 {
@@ -40,7 +40,7 @@ fn letters_are_known(letters: &[u8], arch: Arch) -> bool
     true
 }
 
-/// The letters behind the `z` of the augmentation string, or none where the string is empty.
+/// The letters after the `z` of the augmentation string, or none where the string is empty.
 #[tactic(auto, unfolding(crate::specs::Augmentation::letters_at))]
 pub fn read_letters<'a>(body: &mut Reader<'a>, arch: Arch) -> Result<Option<&'a [u8]>, RecordFault>
     ensures { Answers (λ letters. option_map (λ text. text.now) letters) body.new result (letters_at arch (reader_cursor body.old)) }

@@ -41,7 +41,7 @@ by_front rest first below =
     (λ k low. ap is_zero (sym (get_or-take first rest k 1 (omega (arith, low, below)))) ∙ passes (take first rest) k low)
     (λ some. ap is_zero (sym (get_or-take first rest n 1 below)) ∙ stops (take first rest) (omega (arith, some, len, below))))
 
--- bytes that are known not to be zero, before and behind a place
+-- bytes that are known not to be zero, before and after a place
 known_free : (rest : List ℕ) (first end known : ℕ) → first ≤ before_zero (take first rest) → IsFree rest first end → known ≤ max first end → (k : ℕ) → k < known → is_zero (get_or rest k 1) ≡ false
 known_free rest first end known front free upto k low = elim (cases_lt k first) [
   | inl before ↦ ap is_zero (sym (get_or-take first rest k 1 before)) ∙ passes (take first rest) k (omega (arith, before, front))

@@ -9,7 +9,7 @@ abbrev pub with_signature : List (List ℕ) → Option (List ℕ) → List (List
 with_signature seen None = seen
 with_signature seen (Some signature) = seen ++ signature ∷ []
 
--- those of the sections below n, behind those that were seen before
+-- those of the sections below n, after those that were seen before
 unfoldable pub seen_below : (seen : List (List ℕ)) → (file : List ℕ) → ℕ → List (List ℕ)
 seen_below seen file zero = seen
 seen_below seen file (suc n) = with_signature (seen_below seen file n) (signature_of file n)
@@ -31,7 +31,7 @@ seen_after seen file = seen_below seen file (section_count file)
 abbrev pub gone_groups : (seen : List (List ℕ)) → (file : List ℕ) → List ℕ
 gone_groups seen file = gone_below seen file (section_count file)
 
--- the signatures that were seen once files are read, behind those that were seen before
+-- the signatures that were seen once files are read, after those that were seen before
 abbrev pub seen_in : (seen : List (List ℕ)) → (files : List (List ℕ)) → List (List ℕ)
 seen_in seen [] = seen
 seen_in seen (file ∷ files) = seen_in (seen_after seen file) files

@@ -71,7 +71,7 @@ unfolding overflow_from overflow_check
 overflow_from-is file dropped base i cursor is =
     ap (λ (start : ℕ). where_so (is_placed file dropped i) (unless (is_in_memory start (sh_size file i)) (AddressOverflow i))) (start_from-is file dropped base i cursor is)
 
--- the cursor behind a section is where the sections up to it end
+-- the cursor after a section is where the sections up to it end
 pub is_cursor-next : (file : List ℕ) (dropped : List Bool) (base i cursor : ℕ) → IsCursor file dropped base i cursor → IsCursor file dropped base (i + 1) (cursor_from file dropped base cursor i)
 unfolding cursor_from
 is_cursor-next file dropped base i cursor is object =

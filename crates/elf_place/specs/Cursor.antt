@@ -11,7 +11,7 @@ use Rattle.elf_place.specs.Place.{is_placed, aligned, is_in_memory, placed_below
 unfoldable pub start_from : List ℕ → (base cursor : ℕ) → ℕ → ℕ
 start_from file base cursor i = if is_rel file then aligned cursor (sh_addralign file i) else base + sh_addr file i
 
--- the cursor behind a section
+-- the cursor after a section
 unfoldable pub cursor_from : List ℕ → List Bool → (base cursor : ℕ) → ℕ → ℕ
 cursor_from file dropped base cursor i = if is_placed file dropped i then start_from file base cursor i + sh_size file i else cursor
 

@@ -37,7 +37,7 @@ unfoldable pub end_of : List ℕ → (from : ℕ) → List ℕ → ℕ
 end_of file from [] = from
 end_of file from (i ∷ sections) = end_of file (aligned from (sh_addralign file i) + sh_size file i) sections
 
--- where a section starts: in an object behind those before it, as its alignment asks; else at its own address, moved by the base
+-- where a section starts: in an object after those before it, as its alignment asks; else at its own address, moved by the base
 unfoldable pub start_of : List ℕ → List Bool → (base i : ℕ) → ℕ
 start_of file dropped base i =
     if is_rel file then aligned (end_of file base (placed_below file dropped i)) (sh_addralign file i) else base + sh_addr file i

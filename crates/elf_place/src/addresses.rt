@@ -13,10 +13,10 @@ use crate::fault::PlaceFault;
 use elf_read::{Elf, Kind};
 use std::alloc::Global;
 
-/// The first number behind all addresses.
+/// The first number after all addresses.
 const ADDRESS_END: u128 = 1 << 64;
 
-/// A section's address, where it gets one, and the cursor behind it.
+/// A section's address, where it gets one, and the cursor after it.
 #[derive(Clone, Copy)]
 struct Spot {
     address: Option<u64>,

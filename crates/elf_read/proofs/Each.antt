@@ -20,7 +20,7 @@ each_below-more {E = E} i check before here =
     let next : i + 1 ≡ suc i = omega arith in
     ap (λ (n : ℕ). each_below n check) next ∙ each_below-suc i check ∙ ap (λ (c : Result (Unit {0}) E). c >> check i) before ∙ here
 
--- an item that fails behind items that don't is the fault of all
+-- an item that fails after items that don't is the fault of all
 pub each_below-stop : {E : Type 0} → (n i : ℕ) (check : ℕ → Result (Unit {0}) E) (e : E) → i < n → each_below i check ≡ Ok tt → check i ≡ Err e → each_below n check ≡ Err e
 each_below-stop {E = E} zero i check e within before here = absurd (omega arith)
 each_below-stop {E = E} (suc n) i check e within before here =

@@ -44,7 +44,7 @@ has_text place table = is_some (position (λ b. b == 0) (drop place table))
 abbrev pub EndsTexts : List ℕ → ℕ → Type 0
 EndsTexts table end = (place : ℕ) → has_text place table ≡ nat_lt place end
 
--- the place of the first zero byte from a place on, or where there is none the first place past the bytes
+-- the place of the first zero byte from a place on, or else the first place past the bytes
 abbrev pub zero_from : List ℕ → ℕ → ℕ
 zero_from bytes place = place + position_or_len (λ b. b == 0) (drop place bytes)
 

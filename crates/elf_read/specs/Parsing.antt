@@ -20,7 +20,7 @@ used_check file =
 unfoldable pub table_check : List ℕ → Check
 table_check file = where_so (needs_sections file) (first_section_check file)
 
--- everything behind the file header and section 0's header
+-- everything after the file header and section 0's header
 unfoldable pub content_check : List ℕ → Check
 content_check file = if is_core file then core_check file else (sections_check file >> names_check file >> used_check file)
 

@@ -115,7 +115,7 @@ rela_symbol file i k = number_in 4 (24 * k + 12) (section_bytes file i)
 unfoldable pub group_member : List ℕ → ℕ → ℕ → ℕ
 group_member file i k = number_in 4 (4 * k + 4) (section_bytes file i)
 
--- how many members a group's bytes hold behind its flags
+-- how many members a group's bytes hold after its flags
 unfoldable pub member_count : List ℕ → ℕ → ℕ
 member_count file i = length (section_bytes file i) / 4 - 1
 

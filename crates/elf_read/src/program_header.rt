@@ -8,7 +8,7 @@ use crate::header::e_phoff;
 use crate::layout::{P_FILESZ, P_OFFSET, P_TYPE, P_VADDR, PROGRAM_HEADER_LEN};
 use crate::number::{bytes_from, u32_at, u64_at};
 
-// The program headers, and what stands behind them.
+// The program headers, and what stands after them.
 fn headers(file: &[u8]) -> &[u8]
     ensures { result.now ≡ drop (phoff file.now) file.now }
 {

@@ -32,7 +32,7 @@ fn read_size(file: &[u8], i: u32) -> u64
     }
 }
 
-/// The room in the file for each of the first `count` sections that is read whole, behind those before it.
+/// The room in the file for each of the first `count` sections that is read whole, after those before it.
 pub fn check_room(file: &[u8], count: u32) -> Result<(), ElfFault>
     requires small { length file.now < 2 ^ 32 }
     requires headers { shoff file.now < 2 ^ 32 }

@@ -12,7 +12,7 @@ use crate::layout::{
 };
 use crate::number::{bytes_from, u32_at, u64_at};
 
-// The section headers, and what stands behind them.
+// The section headers, and what stands after them.
 fn headers(file: &[u8]) -> &[u8]
     ensures { result.now ≡ drop (shoff file.now) file.now }
 {

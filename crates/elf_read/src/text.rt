@@ -62,7 +62,7 @@ pub fn text_is(table: &[u8], place: u64, text: &[u8]) -> bool
     text_at(bytes_at(table, place, text.len() as u64 + 1), 0) == text
 }
 
-/// The first place behind all texts of a string table: texts stand at the places before, and at no other.
+/// The first place after all texts of a string table: texts stand at the places before, and at no other.
 pub fn texts_end(table: &[u8]) -> u64
     ensures { EndsTexts table.now result }
 {

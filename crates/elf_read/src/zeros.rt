@@ -31,7 +31,7 @@ pub struct Zeros {
     ghost small: { piece_len ≤ 2 ^ 32 },
 }
 
-// The place of the first zero byte from a place on, or where there is none the first place past the file.
+// The place of the first zero byte from a place on, or else the first place past the file.
 fn zero_from(file: &[u8], place: u64) -> u64
     requires { place < 2 ^ 62 }
     ensures { result ≡ spec.zero_from file.now place }
@@ -111,7 +111,7 @@ impl Zeros {
         Zeros::unknown()
     }
 
-    // The place of the first zero byte from a piece's first byte on, or where there is none the first place past the file.
+    // The place of the first zero byte from a piece's first byte on, or else the first place past the file.
     fn first_from_piece(&self, file: &[u8], piece: u64) -> u64
         requires zeros { AreZeros file.now self.now }
         requires small { piece * self.now.piece_len < 2 ^ 61 }
@@ -135,7 +135,7 @@ impl Zeros {
         }
     }
 
-    // The place of the first zero byte from a place on, or where there is none the first place past the file.
+    // The place of the first zero byte from a place on, or else the first place past the file.
     fn first_from(&self, file: &[u8], place: u64) -> u64
         requires zeros { AreZeros file.now self.now }
         requires small { place < 2 ^ 60 }

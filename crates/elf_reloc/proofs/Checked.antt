@@ -56,7 +56,7 @@ width_positive Unsigned = omega arith
 width_positive Signed = omega arith
 width_positive Either = omega arith
 
--- fields that don't overlap begin at the end of the one before or behind
+-- fields that don't overlap begin at the end of the one before or after
 begin_behind : (end : ℕ) (fs : List RelocatedField) → overlap_check end fs ≡ Ok tt → All (λ f. end ≤ f.place) fs
 begin_behind end [] h = All-nil (λ (f : RelocatedField). end ≤ f.place)
 begin_behind end (f ∷ fs) h =

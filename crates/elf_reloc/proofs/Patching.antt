@@ -105,7 +105,7 @@ apart_here end f fs apart =
     let p = guarded (nat_lt f.place end) (Twice f.index) (overlap_check (f.place + width_of f.range) fs) (sym (overlap_check-cons end f fs) ∙ apart) in
     (ltb-false f.place end p.0, p.1)
 
--- behind the end of the fields before, a place below is clear of the others
+-- after the end of the fields before, a place below is clear of the others
 clear_below : (end k : ℕ) (fs : List RelocatedField) → overlap_check end fs ≡ Ok tt → k < end → Clear k fs
 clear_below end k [] apart low = tt
 clear_below end k (f ∷ fs) apart low =

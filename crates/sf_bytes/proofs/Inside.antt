@@ -1,4 +1,4 @@
--- What is read from the front of a cursor, and what is left behind it, lies inside what was there.
+-- What is read from the front of a cursor, and what is left after it, lies inside what was there.
 use Rattle.std.proofs.Common.{◌≡◌, ℕ, ℤ, ◌+◌, ◌≤◌, List, length, Ok, ap, ◌∙◌, arith}
 use Rattle.std.proofs.lemmas.List.{length-append}
 use Rattle.sf_bytes.specs.Cursor.{Cursor, number_at, part_at}
@@ -9,7 +9,7 @@ use Rattle.sf_bytes.proofs.Fields.{number_takes, part_takes}
 use Rattle.sf_bytes.proofs.Lebs.{uleb_takes, sleb_takes}
 use Rattle.sf_bytes.proofs.Texts.{text_takes}
 
--- the place behind the last byte
+-- the place after the last byte
 abbrev pub end_of : Cursor → ℕ
 end_of at = at.place + length at.left
 
@@ -41,7 +41,7 @@ sleb_inside at x after e = let s = sleb_takes at x after e in passes-inside s.ru
 pub text_inside : (at : Cursor) (x : List ℕ) (after : Cursor) → text_at at ≡ Ok (x, after) → Inside after at
 text_inside at x after e = let s = text_takes at x after e in passes-inside s.run at after s.passes
 
--- both the part and what is behind it
+-- both the part and what is after it
 pub part_inside : (n : ℕ) (at part after : Cursor) → part_at n at ≡ Ok (part, after) → Inside part at × Inside after at
 part_inside n at part after e =
     let s = part_takes n at part after e in

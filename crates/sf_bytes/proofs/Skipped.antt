@@ -1,4 +1,4 @@
--- A list that goes over bytes one by one, and passes those that an item of it has read: the items behind an item
+-- A list that goes over bytes one by one, and passes those that an item of it has read: the items after an item
 -- are those from its end on.
 use Rattle.std.proofs.Common.{◌≡◌, ℕ, zero, suc, ◌+◌, ◌-◌, List, [], ◌∷◌, length, drop, refl, sym, ap, ◌∙◌, arith, length-drop}
 use Rattle.sf_bytes.specs.Cursor.{Cursor}

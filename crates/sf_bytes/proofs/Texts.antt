@@ -52,7 +52,7 @@ not_zero : (b : ℕ) → b ≢ 0 → eqb b 0 ≡ false
 not_zero zero h = absurd (h refl)
 not_zero (suc b) h = eqb-suc-zero b
 
--- the zero byte behind a text is the first
+-- the zero byte after a text is the first
 zero_position : (text rest : List ℕ) → ((k : ℕ) → k < length text → get_or text k 0 ≢ 0) → position (λ (b : ℕ). b == 0) (text ++ 0 ∷ rest) ≡ Some (length text)
 zero_position text rest others =
     let long : length text < length (text ++ 0 ∷ rest) = omega (arith, length-append text (0 ∷ rest)) in

@@ -17,11 +17,11 @@ pub record Cursor : Type 0 where
 abbrev pub cursor : Part → Cursor
 cursor p = record { place = p.place; left = p.bytes.now }
 
--- the cursor behind the next n bytes
+-- the cursor after the next n bytes
 abbrev pub past : ℕ → Cursor → Cursor
 past n at = record { place = at.place + n; left = drop n at.left }
 
--- a value and the cursor behind it, or the first fault
+-- a value and the cursor after it, or the first fault
 abbrev pub Read : Type 0 → Type 0
 Read X = Result (X × Cursor) ByteFault
 

@@ -5,7 +5,7 @@ use Rattle.std.specs.List.{position}
 use Rattle.sf_bytes.specs.declared.fault.ByteFault.TheVariants.{Short}
 use Rattle.sf_bytes.specs.Cursor.{Cursor, Read, past}
 
--- a text of n bytes at the front, and the cursor behind its zero byte
+-- a text of n bytes at the front, and the cursor after its zero byte
 abbrev pub text_upto : Option ℕ → Cursor → Read (List ℕ)
 text_upto None at = Err (Short at.place)
 text_upto (Some n) at = Ok (take n at.left, past (n + 1) at)

@@ -162,7 +162,7 @@ nothing = record { start = 0; size = 0; shape = Plain; key = A; rows = [] }
 some_if : (i : ℕ) → IsTrue (not (i == 0)) → 0 < i
 some_if i e = search arith
 
--- the order of an entry behind another one
+-- the order of an entry after another one
 order_of : (bytes : List ℕ) (at : ℕ) (t : Table) → AreBytes bytes → Section bytes at t → FunctionsStand (arch_in bytes) bytes (flags_in bytes) at (functions_place bytes) t.functions
     → (i : ℕ) → i < length t.functions → IsTrue (is_sorted (flags_in bytes)) → IsTrue (not (i == 0)) → order_check bytes at (entry_place bytes (i - 1)) (entry_place bytes i) ≡ Ok tt
 order_of bytes at t all s stand i lt sorted follows =

@@ -44,7 +44,7 @@ row_passed arch rows o w p least e =
       rising = le_if _ _ (unless_holds _ _ five.1);
     }
 
--- so many signed numbers of a width, one behind the other
+-- so many signed numbers of a width, one after the other
 abbrev offsets_from : (w len p count : ℕ) → List ℕ → List ℤ
 offsets_from w len p zero rows = []
 offsets_from w len p (suc count) rows = signed_in w p rows ∷ offsets_from w len (p + len) count rows

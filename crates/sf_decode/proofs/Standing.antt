@@ -26,13 +26,13 @@ drop_cons [] p lt = absurd (omega (lt, arith))
 drop_cons (x ∷ xs) zero lt = refl
 drop_cons (x ∷ xs) (suc p) lt = drop_cons xs p (omega (lt, arith))
 
--- a byte, and a run behind it
+-- a byte, and a run after it
 pub stands_cons : (bytes : List ℕ) (p x : ℕ) (run : List ℕ) → p < length bytes → slice_index bytes p ≡ x → StandsAt bytes (suc p) run → StandsAt bytes p (x ∷ run)
 stands_cons bytes p x run lt here later =
     ap (take (suc (length run))) (drop_cons bytes p lt)
     ∙ (ap (λ y. y ∷ take (length run) (drop (suc p) bytes)) here ∙ ap (λ l. x ∷ l) later)
 
--- a run, and another one behind it
+-- a run, and another one after it
 pub stands_append : (bytes : List ℕ) (p : ℕ) (a b : List ℕ) → StandsAt bytes p a → StandsAt bytes (p + length a) b → StandsAt bytes p (a ++ b)
 stands_append bytes p a b x y =
     ap (λ n. take n (drop p bytes)) (length-append a b)

@@ -69,7 +69,7 @@ lies_in_memory start end = nat_le (2 ^ 31) start && nat_lt start (2 ^ 64 + 2 ^ 3
 unfoldable pub is_in_memory : List ℕ → (at place : ℕ) → Bool
 is_in_memory bytes at place = lies_in_memory (raised_start bytes at place) (raised_end bytes at place)
 
--- an entry behind another one: it starts where that one ends, or behind; all are moved up
+-- an entry after another one: it starts where that one ends, or after; all are moved up
 abbrev pub behind_check : (start_before end_before start place : ℕ) → Check
 behind_check start_before end_before start place =
     unless (nat_le start_before start) (Unsorted place)

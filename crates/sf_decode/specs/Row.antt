@@ -25,7 +25,7 @@ unsigned_in width place bytes = little_from place (number_len width) bytes
 unfoldable pub signed_in : (width place : ℕ) → List ℕ → ℤ
 signed_in width place bytes = twos_complement (number_len width) (little_from place (number_len width) bytes)
 
--- the place of a row's info byte, behind its start
+-- the place of a row's info byte, after its start
 abbrev pub info_place : (start_width place : ℕ) → ℕ
 info_place start_width place = place + number_len start_width
 
@@ -78,7 +78,7 @@ row_check arch rows origin start_width place least =
     >> unless (may_be_signed arch (is_signed_in info)) (Reserved (origin + place))
     >> unless (nat_le least (unsigned_in start_width place rows)) (RowOrder (origin + place))
 
--- the same of so many rows one behind the other: each start is above the one before
+-- the same of so many rows one after the other: each start is above the one before
 unfoldable pub rows_check : Arch → List ℕ → (origin start_width place least count : ℕ) → Check
 rows_check arch rows origin start_width place least zero = Ok tt
 rows_check arch rows origin start_width place least (suc count) =
@@ -114,7 +114,7 @@ row_in arch rows start_width place = record {
   content = content_in arch rows (row_info rows start_width place) (offsets_place start_width place);
 }
 
--- so many rows one behind the other
+-- so many rows one after the other
 unfoldable pub rows_in : Arch → List ℕ → (start_width place count : ℕ) → List Row
 rows_in arch rows start_width place zero = []
 rows_in arch rows start_width place (suc count) =

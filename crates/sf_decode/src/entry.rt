@@ -203,7 +203,7 @@ fn check_fields(bytes: &[u8], at: u64, place: u64) -> Result<Bounds, DecodeFault
     Ok(bounds)
 }
 
-// That a function of a sorted section starts where the one before ends, or behind.
+// That a function of a sorted section starts where the one before ends, or after.
 #[inline(always)]
 fn check_order(before: Bounds, here: Bounds, place: u64) -> Result<(), DecodeFault>
     ensures { result ≡ spec.behind_check before.start before.end here.start place }

@@ -9,7 +9,7 @@ use crate::layout::{MOST_WIDTH, OFFSET_COUNT, OFFSET_COUNTS, OFFSET_WIDTH, OFFSE
 use crate::number::{byte_at, number_len, signed_at, unsigned_at};
 use sf_model::{Arch, Base, Content, Ra, Row};
 
-// The place of a row's info byte, behind its start.
+// The place of a row's info byte, after its start.
 #[inline(always)]
 fn info_place(start_width: u8, place: u64) -> u64
     requires { place < 2 ^ 62 }

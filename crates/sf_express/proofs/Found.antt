@@ -39,7 +39,7 @@ rise_filter p least (r ∷ rows) h = at_test (p r) (rise_filter p (r.start + 1) 
     at_test true rest = (h.0, rest)
     at_test false rest = rise_lower least (r.start + 1) (filter p rows) (omega (arith, h.0)) rest
 
--- an earlier row changes nothing for rows behind it
+-- an earlier row changes nothing for rows after it
 one_earlier : (r x : Row) (others : List Row) → r.start + 1 ≤ x.start → begins_last (r ∷ others) x ≡ begins_last others x
 one_earlier r x others le =
     let below : r.start ≤ x.start = omega (arith, le) in

@@ -25,7 +25,7 @@ offset_in_block (Repeat size) offset = offset % size
 abbrev pub begins_by : (offset : ℕ) → Row → Bool
 begins_by offset row = nat_le row.start offset
 
--- no row begins behind this one
+-- no row begins after this one
 abbrev pub begins_last : List Row → Row → Bool
 begins_last rows row = list_all (λ (other : Row). nat_le other.start row.start) rows
 

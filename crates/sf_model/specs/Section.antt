@@ -124,7 +124,7 @@ pub record RowStands (arch : Arch) (rows : List ℕ) (start_width offset_width p
   pub offset_width_fits : IsWidth (holds_row_offsets row.content) offset_width
   pub spelled : StandsAt rows place (spelled_row start_width offset_width row)
 
--- These rows stand one behind the other from a place up to an end, each by a width of its own that may be chosen so.
+-- These rows stand one after the other from a place up to an end, each by a width of its own that may be chosen so.
 abbrev pub RowsStand : (MayHave : Content → (offset_width : ℕ) → Type 0) → Arch → (rows : List ℕ) → (start_width place end : ℕ) → List Row → Type 0
 RowsStand MayHave arch rows start_width place end [] = place ≡ end
 RowsStand MayHave arch rows start_width place end (row ∷ later) =
@@ -153,7 +153,7 @@ abbrev pub FunctionRowsStand : Arch → List ℕ → (place : ℕ) → Func → 
 FunctionRowsStand arch bytes place f =
     (end : ℕ) × RowsStand AnyWidth arch (row_bytes_of bytes) (start_width_at bytes place) (row_offset_at bytes place) end f.rows
 
--- the functions stand in entries one behind the other from a place on
+-- the functions stand in entries one after the other from a place on
 abbrev pub FunctionsStand : Arch → List ℕ → (flags at place : ℕ) → List Func → Type 0
 FunctionsStand arch bytes flags at place [] = ⊤
 FunctionsStand arch bytes flags at place (f ∷ later) =

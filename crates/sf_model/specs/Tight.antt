@@ -26,7 +26,7 @@ WithoutGaps arch bytes place offset (f ∷ later) =
     × WithoutGaps arch bytes (place + 20) end later)
 
 -- A section whose functions are sorted and whose starts count from their own fields, without an auxiliary header: the header,
--- the entries and the rows stand one behind the other, and nothing stands besides.
+-- the entries and the rows stand one after the other, and nothing stands besides.
 pub record Tight (bytes : List ℕ) (at : ℕ) (table : Table) : Type 0 where
   pub section : Section bytes at table
   pub flags : table.flags ≡ 5
@@ -36,7 +36,7 @@ pub record Tight (bytes : List ℕ) (at : ℕ) (table : Table) : Type 0 where
   pub without_gaps : WithoutGaps table.arch bytes (functions_place bytes) 0 table.functions
   pub nothing_besides : length bytes ≡ 28 + 20 * length table.functions + rows_len bytes
 
--- the start of the last row, 0 where there is none
+-- the start of the last row, or 0 without rows
 abbrev pub last_start : List Row → ℕ
 last_start [] = 0
 last_start (row ∷ []) = row.start

@@ -24,7 +24,7 @@ pub record Listing : Type 0 where
   pub frames : List Frame
   pub stop : Stop
 
--- a listing behind one frame more
+-- a listing after one frame more
 abbrev pub behind : Frame → Listing → Listing
 behind frame listing = record { frames = frame ∷ listing.frames; stop = listing.stop }
 
@@ -59,7 +59,7 @@ abbrev pub on_by : Going → (mask : Option ℕ) → Recovery → (return_addres
 on_by go mask r (Known return_address) = on_by_pointer go mask r return_address r.frame_pointer
 on_by go mask r (Value.Unreadable address) = stopped (Unreadable address)
 
--- a frame, by what is recovered at the asked address, and the walk behind it
+-- a frame, by what is recovered at the asked address, and the walk after it
 abbrev pub frame_by : Going → (mask : Option ℕ) → (asked pc : ℕ) → Option Recovery → Listing
 frame_by go mask asked pc (Some r) = behind (record { pc = pc; cfa = Some r.frame_address }) (on_by go mask r r.return_address)
 frame_by go mask asked pc None = behind (record { pc = pc; cfa = None }) (stopped (Outside asked))
@@ -72,7 +72,7 @@ Recovering = (asked : ℕ) → Regs → Option Recovery
 abbrev pub address_before : ℕ → ℕ
 address_before pc = moved pc (negsuc 0)
 
--- a frame of the walk and all behind it, at most as many as the depth says: a caller is asked for at the address before the
+-- a frame of the walk and all after it, at most as many as the depth says: a caller is asked for at the address before the
 -- one that it returns to
 unfoldable pub frames_from : Recovering → (mask : Option ℕ) → (depth asked pc : ℕ) → Regs → Listing
 frames_from recover_at mask zero asked pc regs = stopped Depth

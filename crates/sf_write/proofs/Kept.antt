@@ -1,4 +1,4 @@
--- What is stored stays as it is where bytes are added behind it.
+-- What is stored stays as it is where bytes are added after it.
 use Rattle.std.proofs.Common.{◌≡◌, ◌≤◌, ◌<◌, ◌+◌, ℕ, Bool, true, false, zero, suc, List, [], ◌∷◌, ◌++◌, length, take, drop, get_or, refl, sym, ap, subst, ◌∙◌, arith}
 use Rattle.std.proofs.Math.Seq.{take-append_seam, take-length, take-suc}
 use Rattle.std.proofs.lemmas.List.{drop-take, length-take, map-append}
@@ -70,7 +70,7 @@ All-one : {X : Type 0} (P : X → Type 0) (x : X) → P x → All P (x ∷ [])
 All-one P x p zero d lt = p
 All-one P x p (suc k) d lt = absurd (omega (lt, arith))
 
--- one function more is stored, behind the first of a list
+-- one function more is stored, after the first of a list
 pub one_more : (old new : StoredRows) (fs more : List StoredFunction) (f : StoredFunction) (functions : List Func) (i : ℕ) (d : Func) → Keeps old new → All (IsStored old) fs → map (stored_in old) fs ≡ take i functions
     → i < length functions → IsStored new f × (stored_in new f ≡ get_or functions i d) → more ≡ fs ++ f ∷ [] → All (IsStored new) more × (map (stored_in new) more ≡ take (i + 1) functions)
 one_more old new fs more f functions i d keeps stored same within one e =

@@ -17,7 +17,7 @@ pub after : (bytes : List ℕ) (place n : ℕ) (run tail : List ℕ) → drop pl
 after bytes place n run tail h e =
     sym (drop-drop n place bytes) ∙ (ap (drop n) h ∙ (ap (λ k. drop k (run ++ tail)) (sym e) ∙ drop-append_seam run tail))
 
--- one byte behind a place
+-- one byte after a place
 pub byte_at : (bytes tail : List ℕ) (place k : ℕ) → drop place bytes ≡ tail → slice_index bytes (place + k) ≡ slice_index tail k
 byte_at bytes tail place k h = sym (get_or-drop place bytes k 0) ∙ ap (λ l. slice_index l k) h
 

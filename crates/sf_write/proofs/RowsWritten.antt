@@ -84,7 +84,7 @@ row_is_held : (row : Row) → IsTrue (offsets_fit row) → IsWidth (holds_row_of
 unfolding offsets_fit
 row_is_held row h = record { there_is = least_is_there (holds_row_offsets row.content); held = h }
 
--- rows stand one behind the other, by any condition on the widths that the least meet
+-- rows stand one after the other, by any condition on the widths that the least meet
 pub rows_stand : (MayHave : Content → ℕ → Type 0) → ((content : Content) → MayHave content (offset_width content)) → (arch : Arch) (bytes : List ℕ) (width place : ℕ) (rows : List Row) (tail : List ℕ)
     → width ≤ 2 → IsTrue (holds_unsigned (last_start rows) width) → RowsRise rows → All (λ (row : Row). IsTrue (content_fits arch row.content)) rows → IsTrue (list_all offsets_fit rows)
     → drop place bytes ≡ flat_map (narrow_row width) rows ++ tail

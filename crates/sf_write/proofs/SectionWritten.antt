@@ -46,7 +46,7 @@ preamble_reads bytes tail arch h = record {
   no_auxiliary_header = ap (λ l. slice_index l 7) h;
 }
 
--- the five words behind them
+-- the five words after them
 record WordsRead (bytes : List ℕ) (functions rows len : ℕ) : Type 0 where
   functions_is : number_in 4 8 bytes ≡ functions
   rows_is : number_in 4 12 bytes ≡ rows
@@ -89,7 +89,7 @@ header_reads bytes tail arch functions rows len few some small h =
       };
     }
 
--- the parts of a section behind its header
+-- the parts of a section after its header
 record PartsRead (bytes : List ℕ) (at : ℕ) (functions : List Func) : Type 0 where
   entries : drop 28 bytes ≡ entries_bytes at 0 0 functions ++ flat_map (λ (f : Func). rows_bytes f.rows) functions
   rows : drop (28 + 20 * length functions) bytes ≡ flat_map (λ (f : Func). rows_bytes f.rows) functions

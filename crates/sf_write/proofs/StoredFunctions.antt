@@ -46,7 +46,7 @@ is_spelled func f same room held width = record {
   offsets_fit = subst (λ (g : Func). IsTrue (rows_fit g)) (sym same) room;
 }
 
--- rows that were spelled behind what was there, for this function
+-- rows that were spelled after what was there, for this function
 pub record RowsPushed (rows : List Row) (old : List ℕ) (new : StoredRows) (f : StoredFunction) : Type 0 where
   pub bytes : new.bytes.items ≡ old ++ rows_bytes rows
   pub width : f.width ≡ start_width rows

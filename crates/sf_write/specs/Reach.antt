@@ -6,7 +6,7 @@ use Rattle.sf_model.specs.Width.{holds_signed}
 use Rattle.sf_write.specs.declared.fault.WriteFault.{WriteFault}
 use Rattle.sf_write.specs.declared.fault.WriteFault.TheVariants.{OutOfReach, NoMemory}
 
--- the address of the start field of the function with this number, in a section at `at`: behind the header's 28 bytes and
+-- the address of the start field of the function with this number, in a section at `at`: after the header's 28 bytes and
 -- the entries before, of 20 bytes each
 abbrev pub field_address : (at number : ℕ) → ℕ
 field_address at number = at + (28 + 20 * number)

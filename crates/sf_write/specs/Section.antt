@@ -23,7 +23,7 @@ abbrev pub row_section_len : List Func → ℕ
 row_section_len functions = sum_by (λ (f : Func). rows_len f.rows) functions
 
 -- the header: the preamble, the numbers of functions and of rows, the length of the rows, and the places of the entries and
--- of the rows behind the header
+-- of the rows after the header
 unfoldable pub header_bytes : Arch → (functions rows rows_len : ℕ) → List ℕ
 header_bytes arch functions rows rows_len =
     preamble arch ++ word_bytes functions ++ word_bytes rows ++ word_bytes rows_len ++ word_bytes 0

@@ -5,7 +5,7 @@ use Rattle.sf_write.specs.Room.{offsets_fit}
 use Rattle.sf_write.specs.Row.{narrow_row}
 use Rattle.sf_write.proofs.row.push_rows.Given as goal
 
--- behind what was there are the rows so far
+-- after what was there are the rows so far
 abbrev pub invariant-loop-row : goal.invariant-loop-row
 invariant-loop-row l = record {
   rows : l.bytes.items ≡ l.initial.bytes.items ++ flat_map (narrow_row l.width) (take l.row-index l.rows);

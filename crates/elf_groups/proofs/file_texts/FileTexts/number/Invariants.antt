@@ -4,7 +4,7 @@ use Rattle.elf_groups.specs.Blocks.{AreBlocks, Grows, Numbers}
 use Rattle.elf_groups.specs.Seen.{AreKnown, HasTexts}
 use Rattle.elf_groups.proofs.file_texts.FileTexts.number.Given as goal
 
--- what comes behind the blocks that are left has a number, and all that is known is right
+-- what comes after the blocks that are left has a number, and all that is known is right
 abbrev pub invariant-loop-index : goal.invariant-loop-index
 invariant-loop-index l = record {
   number : (file : List ℕ) → AreBlocks l.fn.blocks → HasTexts file l.fn.blocks l.fn.self → StandsAt l.place l.text file → Numbers l.blocks l.number (drop (l.left - l.index * 256) l.text);
