@@ -22,7 +22,7 @@ none_known file blocks end =
       text = sym (ap (λ (n : ℕ). take n (drop end file)) nothing);
     }
 
--- what is left of a text that stands in a file
+-- what is left of a text of a file
 end_of : (file text : List ℕ) (place from : ℕ) → StandsAt place text file → from ≤ length text → drop from text ≡ window (place + from) (length text - from) file
 end_of file text place from stands upto =
     let all : length text ≡ from + (length text - from) = omega (arith, upto) in

@@ -54,6 +54,6 @@ pub record Numbers (b : Blocks) (n : ℕ) (bytes : List ℕ) : Type 0 where
 abbrev pub Grows : (old new : Blocks) → Type 0
 Grows old new = (n : ℕ) (text : List ℕ) → Numbers old n text → Numbers new n text
 
--- so many bytes are whole blocks
+-- the length is that of whole blocks
 abbrev pub IsWhole : List ℕ → Type 0
 IsWhole text = (count : ℕ) × (length text ≡ count * 256)

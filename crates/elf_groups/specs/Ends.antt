@@ -10,6 +10,6 @@ IsFree bytes first end = (k : ℕ) → first ≤ k → k < end → (get_or bytes
 abbrev pub IsRun : List ℕ → Run → Type 0
 IsRun file run = IsFree file run.first run.end
 
--- of a file are all runs that are kept
+-- all runs that are kept are runs of the file
 abbrev pub AreRuns : List ℕ → Ends → Type 0
 AreRuns file ends = All (λ e. IsRun file e.1) ends.runs.entries

@@ -20,13 +20,13 @@ pub record IsKeptIn (blocks : Blocks) (kept : ℕ × Bor (List ℕ)) : Type 0 wh
   pub short : length kept.1.now < 256
   pub number : Numbers blocks kept.0 (text_of blocks kept.0)
 
--- it answers of each signature whether it is one of these
+-- the set has these signatures, and no others
 pub record HasSeen (set : Seen) (seen : List (List ℕ)) : Type 0 where
   pub blocks : AreBlocks set.blocks
   pub kept : All (IsKeptIn set.blocks) (keys set.signatures)
   pub each : (signature : List ℕ) → list_any (is_kept_as set.blocks signature) (keys set.signatures) ≡ list_any (bytes_eq signature) seen
 
--- a number of what stands from one place of a file to another
+-- a number of the bytes from one place of a file to another
 unfoldable pub IsKnown : List ℕ → Blocks → Known → Type 0
 IsKnown file blocks known = Numbers blocks known.number (window known.place (known.end - known.place) file)
 

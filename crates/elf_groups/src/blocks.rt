@@ -6,7 +6,7 @@ ghost use Rattle.elf_groups.specs.Blocks.{AreBlocks, Grows, Numbers};
 use std::alloc::{AllocError, Global};
 use std::collections::BTreeMap;
 
-/// How many bytes a block has.
+/// The length of a block in bytes.
 pub const BLOCK: usize = 256;
 
 /// A text of whole blocks.
@@ -27,7 +27,7 @@ pub struct Blocks<'a> {
 }
 
 impl<'a> Blocks<'a> {
-    /// No texts yet.
+    /// Begins with no texts.
     pub fn new(alloc: Global) -> Blocks<'a>
         ensures { AreBlocks result }
     {
@@ -37,7 +37,7 @@ impl<'a> Blocks<'a> {
         }
     }
 
-    /// The number of a text. `rest` is that of what follows its first block.
+    /// Gives the number of a text, a new one where it has none yet. `rest` is the number of what follows its first block.
     pub fn number(&mut self, rest: usize, text: &'a [u8]) -> Result<usize, AllocError>
         requires { 256 ≤ length text.now }
         ensures number { IfOk result (λ number. AreBlocks self.old → Numbers self.old rest (drop 256 text.now) → Numbers self.new number text.now) }

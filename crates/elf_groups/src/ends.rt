@@ -10,7 +10,7 @@ use elf_read::{Text, bytes_before_zero};
 use std::alloc::{AllocError, Global};
 use std::collections::BTreeMap;
 
-/// Bytes of a file from one place to another, of which none is zero.
+/// Bytes of a file from one place to another, none of them zero.
 #[derive(Clone, Copy)]
 struct Run {
     first: u64,
@@ -23,7 +23,7 @@ pub struct Ends {
     runs: BTreeMap<u64, Run>,
 }
 
-// The first bytes, or all of them.
+// Gives the first `count` bytes, or all of them.
 fn front(bytes: &[u8], count: usize) -> &[u8]
     ensures { result.now ≡ take count bytes.now }
 {
@@ -33,7 +33,7 @@ fn front(bytes: &[u8], count: usize) -> &[u8]
     }
 }
 
-// How many bytes come before the first zero byte, where none from `first` to `end` is zero. Those are not looked at.
+// Counts the bytes before the first zero byte. Those from `first` to `end` are known not to be zero, and are not looked at.
 fn bytes_before_zero_past(bytes: &[u8], first: usize, end: usize) -> usize
     ensures count { spec.IsFree bytes.now first end → result ≡ position_or_len (λ b. b == 0) bytes.now }
     ensures within { result ≤ length bytes.now }
@@ -49,7 +49,7 @@ fn bytes_before_zero_past(bytes: &[u8], first: usize, end: usize) -> usize
 }
 
 impl Ends {
-    /// Nothing was looked at.
+    /// Begins with no runs.
     pub fn new(alloc: Global) -> Ends
         ensures { (file : List ℕ) → spec.AreRuns file result }
     {
@@ -58,7 +58,7 @@ impl Ends {
         }
     }
 
-    // The first run whose end is not below a place. Where there is none, it has no bytes and is past all places.
+    // Finds the first run whose end is not below a place, or else gives an empty one past all places.
     fn run_from(&self, place: u64) -> Run
         ensures { (file : List ℕ) → spec.AreRuns file self.now → spec.IsRun file result }
     {
@@ -71,7 +71,7 @@ impl Ends {
         }
     }
 
-    /// How many bytes a text of the file has.
+    /// Counts the bytes of a text of the file.
     pub fn len_of(&mut self, text: &Text<'_>) -> Result<usize, AllocError>
         ensures len { IfOk result (λ len. (file : List ℕ) → spec.AreRuns file self.old → StandsAt text.now.place text.now.rest.now file → text_bytes text.now ≡ take len text.now.rest.now) }
         ensures within { IfOk result (λ len. len ≤ length text.now.rest.now) }

@@ -29,7 +29,7 @@ pub struct FileTexts {
 }
 
 impl FileTexts {
-    /// Nothing is known yet.
+    /// Begins with nothing known.
     pub fn new(alloc: Global) -> FileTexts
         ensures { (file : List ℕ) (blocks : numbered_texts) → HasTexts file blocks result }
     {
@@ -39,7 +39,7 @@ impl FileTexts {
         }
     }
 
-    // The longest text with a number from a place on, or a later one, to an end.
+    // Finds the longest text with a number that begins at a place or after it and ends at `end`: the empty one, if no other.
     fn known(&self, place: u64, end: u64) -> Known
         requires { place ≤ end }
         ensures known { (file : List ℕ) (blocks : numbered_texts) → AreKnown file blocks self.now → IsKnown file blocks result }
@@ -59,8 +59,8 @@ impl FileTexts {
         }
     }
 
-    /// The number of a text of whole blocks that stands at a place of the file. Each block from a place to an end is
-    /// looked at once, in however many texts it is.
+    /// Gives the number of a text of whole blocks at a place of the file. Each block before an end is looked at once, in
+    /// however many texts it is.
     pub fn number<'a>(
         &mut self,
         blocks: &mut Blocks<'a>,

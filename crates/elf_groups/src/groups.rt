@@ -1,4 +1,4 @@
-//! Section groups of which an earlier one has the signature.
+//! The COMDAT groups whose signature an earlier one has.
 
 ghost use Rattle.std.specs.Prelude.{◌≡◌, ◌<◌, ◌+◌, ◌^◌, ℕ, List, [], ◌∷◌, ◌++◌, IfOk, OnOk, bytes_eq, length};
 ghost use Rattle.std.specs.List.{list_any};
@@ -24,7 +24,7 @@ pub struct Seen<'a> {
 }
 
 impl<'a> Seen<'a> {
-    /// None yet.
+    /// Begins with no signatures.
     pub fn new(alloc: Global) -> Seen<'a>
         ensures { HasSeen result [] }
     {
@@ -34,7 +34,7 @@ impl<'a> Seen<'a> {
         }
     }
 
-    // Whether a signature that stands at a place of a file was seen before. It is seen from now on.
+    // Puts a signature at a place of a file into the set, and says whether the set had it.
     fn is_repeated(
         &mut self,
         texts: &mut FileTexts,
@@ -51,7 +51,7 @@ impl<'a> Seen<'a> {
         Ok(!self.signatures.insert((number, front))?)
     }
 
-    // Whether a text of a file was seen before. It is seen from now on.
+    // Puts a text of a file into the set, and says whether the set had it.
     fn is_text_repeated(
         &mut self,
         texts: &mut FileTexts,
@@ -67,7 +67,7 @@ impl<'a> Seen<'a> {
         self.is_repeated(texts, text.place, signature)
     }
 
-    // Whether a section is a COMDAT group whose signature was seen before.
+    // Says whether a section is a COMDAT group whose signature the set had, and puts the signature into it.
     #[tactic(auto, unfolding(crate::specs::Dropped::signature_of))]
     fn is_gone(&mut self, texts: &mut FileTexts, elf: &Elf<'a>, i: u32) -> Result<bool, AllocError>
         ensures gone { IfOk result (λ gone. (seen : List (List ℕ)) → HasSeen self.old seen → HasTexts (file elf.now) self.old.blocks texts.old → gone ≡ is_repeated seen (signature_of (file elf.now) i)) }
@@ -86,7 +86,12 @@ impl<'a> Seen<'a> {
         }
     }
 
-    /// The numbers of a file's COMDAT groups whose signature was seen before, in order.
+    /// Lists the numbers of a file's COMDAT groups whose signature was seen before, by rising number. The signatures of
+    /// the file are seen from then on.
+    ///
+    /// # Errors
+    ///
+    /// Out of memory alone. Nothing is said of the set then.
     pub fn gone_groups(&mut self, alloc: Global, elf: &Elf<'a>) -> Result<Vec<u32>, AllocError>
         ensures gone { IfOk result (λ gone. (seen : List (List ℕ)) → HasSeen self.old seen → gone.items ≡ gone_groups seen (file elf.now)) }
         ensures seen { OnOk result ((seen : List (List ℕ)) → HasSeen self.old seen → HasSeen self.new (seen_after seen (file elf.now))) }
