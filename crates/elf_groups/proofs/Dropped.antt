@@ -76,6 +76,10 @@ to_files seen (f ∷ fs) file zero s low is has =
     old_files (seen_after seen f) fs s (subst (λ (g : List ℕ). Contains (seen_after seen g) s) (sym is) (to_below seen file (section_count file) has.0 s has.1 has.2))
 to_files seen (f ∷ fs) file (suc k) s low is has = to_files (seen_after seen f) fs file k s (omega (arith, low)) is has
 
+pub one_file_more : (seen files : List (List ℕ)) (file : List ℕ) → seen_in seen (files ++ file ∷ []) ≡ seen_after (seen_in seen files) file
+one_file_more seen [] file = refl
+one_file_more seen (f ∷ fs) file = one_file_more (seen_after seen f) fs file
+
 -- ---- a signature that is repeated
 repeated : (seen : List (List ℕ)) (o : Option (List ℕ)) → is_repeated seen o ≡ true → (s : List ℕ) × (o ≡ Some s) × Contains seen s
 repeated seen None h = cc
