@@ -3,7 +3,8 @@ ghost use Rattle.std.specs.Prelude.{◌≡◌, [], None, true, false, is_some};
 
 use crate::fault::count_fault;
 use crate::{Failed, Files};
-use std::io::{Read, Write};
+use std::fs::OpenFile;
+use std::io::{ErrorKind, Read, Write};
 use std::os::unix::fs::MetadataExt;
 use std::{fs, rt};
 
@@ -15,6 +16,10 @@ const STREAMS: [&str; 2] = ["/proc/self/fd/1", "/proc/self/fd/2"];
 ///
 /// A regular file that standard output or standard error goes to is not created, so that no text is written
 /// over what the file is to hold. Where the machine has no `/proc`, this is not seen.
+///
+/// A write that takes a whole piece has failed where the machine can't store the file's bytes, which some file
+/// systems tell only then; the file may hold the piece. [`put_file`](crate::put_file) hands over all that is left
+/// at each write, so its last one alone waits for the machine.
 #[derive(Drop)]
 pub struct HostFiles<'a, R: rt::Files> {
     runtime: &'a R,
@@ -61,6 +66,18 @@ fn create<R: rt::Files>(runtime: &R, name: &str) -> Option<R::File> {
         return None;
     }
     fs::create(runtime, name).ok()
+}
+
+/// Whether the machine has stored what was written to this file. What can't be stored, as in a pipe, a terminal
+/// or a device, is not asked for.
+fn is_stored<F: OpenFile>(file: &F) -> bool {
+    match file.sync_data() {
+        Ok(()) => true,
+        Err(fault) => matches!(
+            fault.kind(),
+            ErrorKind::InvalidInput | ErrorKind::Unsupported | ErrorKind::ReadOnlyFilesystem
+        ),
+    }
 }
 
 impl<'a, R: rt::Files> Files for HostFiles<'a, R> {
@@ -114,7 +131,7 @@ impl<'a, R: rt::Files> Files for HostFiles<'a, R> {
         if let Some(file) = &mut self.created {
             if let Ok(n) = file.write(piece) {
                 // A file that takes nothing would be asked for ever.
-                if n > 0 {
+                if n > 0 && (n < piece.len() || is_stored(file)) {
                     return Ok(n);
                 }
             }

@@ -48,6 +48,8 @@ mod sizes;
 #[cfg(test)]
 mod slim;
 #[cfg(test)]
+mod storing;
+#[cfg(test)]
 mod tables;
 #[cfg(test)]
 mod text;
