@@ -1,5 +1,6 @@
--- The augmentation of a common information entry (LSB Core, "The .eh_frame section"): a string that is
--- empty, or `z` and letters of `R`, `P`, `L`, `S` and `B`, none twice; and its data in the letters' order.
+-- The augmentation of a common information entry: a string that is empty, or `z` and letters, none twice, and its data in the letters'
+-- order. `z`, `R`, `P` and `L` are those of LSB Core, "The .eh_frame section"; `S` is GNU's (`.cfi_signal_frame`), and `B` that of DWARF for
+-- the Arm 64-bit Architecture.
 use Rattle.std.specs.Prelude.{ℕ, ◌==◌, ◌||◌, ◌&&◌, Bool, true, false, not, List, [], ◌∷◌, ◌++◌, Option, Some, None, Result, Ok, Err, if◌then◌else◌}
 use Rattle.std.specs.List.{list_any}
 use Rattle.std.specs.Option.{option_map}

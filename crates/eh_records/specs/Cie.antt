@@ -38,7 +38,7 @@ pub record SharedView : Type 0 where
 abbrev pub shared_view : CieWithForm → SharedView
 shared_view s = record { cie = cie_view s.cie; width = s.width; augmented = s.augmented; lsda = s.lsda }
 
--- a byte in version 1, a LEB128 number in version 3
+-- a byte in version 1 (LSB Core, "The .eh_frame section"), a LEB128 number in version 3 (DWARF 3, section 6.4.1)
 unfoldable pub column_at : ℕ → Cursor → Step ℕ
 column_at version at = if version == 1 then number_field 1 at else uleb_field at
 

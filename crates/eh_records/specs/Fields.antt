@@ -102,7 +102,7 @@ AugmentationStands None augmentation from to = (augmentation ≡ plain_augmentat
 AugmentationStands (Some letters) augmentation from to = LettersStand letters augmentation from to
 
 -- ---- common information entries
--- the return address column: a byte in version 1, a LEB128 number in version 3
+-- the return address column: a byte in version 1 (LSB Core), a LEB128 number in version 3 (DWARF 3, section 6.4.1)
 abbrev pub ColumnStands : (version column : ℕ) → (from to : Cursor) → Type 0
 ColumnStands version column from to = ((version ≡ 1) × Stands (Number 1) column from to) ⊎ ((version ≡ 3) × Stands Uleb column from to)
 

@@ -1,4 +1,5 @@
--- A function's start and size (LSB Core, "The .eh_frame section" and "DWARF Exception Header Encoding").
+-- A function's start and size (LSB Core, "The .eh_frame section" and "DWARF Exception Header Encoding"; GNU: the size is in the low four
+-- bits of the encoding, its format, and counts from nothing).
 use Rattle.std.specs.Prelude.{ℕ, ◌+◌, ◌%◌, ◌^◌, Option, Some, None, Result, Ok, Err, nat_lt, if◌then◌else◌}
 use Rattle.eh_pointer.specs.Pointer.{pointer_bits, pointer_value}
 use Rattle.eh_records.specs.declared.fault.RecordFault.{RecordFault}

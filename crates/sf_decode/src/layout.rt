@@ -1,59 +1,59 @@
-//! The numbers of the format (SFrame Version 2), by the standard's names.
+//! The numbers of the format (SFrame Version 2), each with the specification's name of its field.
 
-/// The first two bytes, little-endian.
+/// `SFRAME_MAGIC`, the first two bytes, little-endian.
 pub const MAGIC: u16 = 0xdee2;
-/// The version that is read.
+/// `SFRAME_VERSION_2`, the version that is read.
 pub const VERSION: u8 = 2;
-/// Functions are sorted by start.
+/// `SFRAME_F_FDE_SORTED`: functions are sorted by start.
 pub const SORTED: u8 = 0x1;
-/// A start counts from the address of its own field.
+/// `SFRAME_F_FDE_FUNC_START_PCREL`: a start counts from the address of its own field.
 pub const COUNTS_FROM_FIELD: u8 = 0x4;
 /// One above the greatest mix of flags.
 pub const FLAGS_END: u8 = 8;
-/// The abi and architecture of AArch64, little-endian.
+/// `SFRAME_ABI_AARCH64_ENDIAN_LITTLE`.
 pub const ABI_AARCH64: u8 = 2;
-/// The abi and architecture of AMD64.
+/// `SFRAME_ABI_AMD64_ENDIAN_LITTLE`.
 pub const ABI_AMD64: u8 = 3;
-/// The fixed offset of the return address on AMD64, -8 as a byte.
+/// `sfh_cfa_fixed_ra_offset` of AMD64, -8 as a byte.
 pub const FIXED_RETURN_AMD64: u8 = 0xf8;
 
 /// The header's length in bytes, without the auxiliary header.
 pub const HEADER_LEN: u64 = 28;
 
-/// The place of the magic number.
+/// The place of `sfp_magic`.
 pub const MAGIC_PLACE: u64 = 0;
 
-/// The place of the version.
+/// The place of `sfp_version`.
 pub const VERSION_PLACE: u64 = 2;
 
-/// The place of the flags.
+/// The place of `sfp_flags`.
 pub const FLAGS_PLACE: u64 = 3;
 
-/// The place of the abi and architecture.
+/// The place of `sfh_abi_arch`.
 pub const ABI_PLACE: u64 = 4;
 
-/// The place of the fixed offset of the frame pointer.
+/// The place of `sfh_cfa_fixed_fp_offset`, the frame pointer's.
 pub const FIXED_FRAME_POINTER_PLACE: u64 = 5;
 
-/// The place of the fixed offset of the return address.
+/// The place of `sfh_cfa_fixed_ra_offset`, the return address's.
 pub const FIXED_RETURN_PLACE: u64 = 6;
 
-/// The place of the auxiliary header's length.
+/// The place of `sfh_auxhdr_len`, the auxiliary header's length.
 pub const AUXILIARY_LEN_PLACE: u64 = 7;
 
-/// The place of the number of functions.
+/// The place of `sfh_num_fdes`, the number of functions.
 pub const FUNCTION_COUNT_PLACE: u64 = 8;
 
-/// The place of the number of rows.
+/// The place of `sfh_num_fres`, the number of rows.
 pub const ROW_COUNT_PLACE: u64 = 12;
 
-/// The place of the rows' length in bytes.
+/// The place of `sfh_fre_len`, the rows' length in bytes.
 pub const ROWS_LEN_PLACE: u64 = 16;
 
-/// The place of the offset of the function descriptor entries.
+/// The place of `sfh_fdeoff`, the offset of the function descriptor entries.
 pub const FUNCTIONS_OFFSET_PLACE: u64 = 20;
 
-/// The place of the offset of the rows.
+/// The place of `sfh_freoff`, the offset of the rows.
 pub const ROWS_OFFSET_PLACE: u64 = 24;
 
 /// The most functions that are read.
@@ -65,19 +65,19 @@ pub const MOST_ROWS: u32 = 1 << 24;
 /// The length of a function descriptor entry in bytes.
 pub const FUNCTION_ENTRY_LEN: u64 = 20;
 
-/// The place of the function's size in its entry.
+/// The place of `sfde_func_size` in an entry.
 pub const SIZE_PLACE: u64 = 4;
 
-/// The place of the offset of its first row.
+/// The place of `sfde_func_start_fre_off`, the offset of its first row.
 pub const ROW_OFFSET_PLACE: u64 = 8;
 
-/// The place of the number of its rows.
+/// The place of `sfde_func_num_fres`, the number of its rows.
 pub const ENTRY_ROW_COUNT_PLACE: u64 = 12;
 
-/// The place of its info byte.
+/// The place of `sfde_func_info`.
 pub const INFO_PLACE: u64 = 16;
 
-/// The place of its repeat size.
+/// The place of `sfde_func_rep_size`.
 pub const REPEAT_SIZE_PLACE: u64 = 17;
 
 /// The greatest width of a number of a row: 4 bytes.
@@ -86,23 +86,23 @@ pub const MOST_WIDTH: u8 = 2;
 /// How many row types the info byte of a function descriptor entry has room for: they are its low four bits.
 pub const ROW_TYPES: u8 = 16;
 
-/// What the type of the function counts in that byte.
+/// What the type of the function (PCINC 0, PCMASK 1) counts in that byte.
 pub const FUNCTION_TYPE: u8 = 16;
 
-/// What the key of signed return addresses counts in that byte.
+/// What `pauth_key`, the key of signed return addresses, counts in that byte.
 pub const KEY: u8 = 32;
 
-/// What the number of offsets counts in the info byte of a row, whose lowest bit is the base register.
+/// What `fre_offset_count` counts in the info byte of a row, whose lowest bit is the base register (`fre_cfa_base_reg_id`).
 pub const OFFSET_COUNT: u8 = 2;
 
 /// How many numbers of offsets it has room for.
 pub const OFFSET_COUNTS: u8 = 16;
 
-/// What the width of the offsets counts in it.
+/// What `fre_offset_size`, the width of the offsets, counts in it.
 pub const OFFSET_WIDTH: u8 = 32;
 
 /// How many widths it has room for.
 pub const OFFSET_WIDTHS: u8 = 4;
 
-/// What a signed return address counts in it.
+/// What `fre_mangled_ra_p`, a signed return address, counts in it.
 pub const SIGNED: u8 = 128;

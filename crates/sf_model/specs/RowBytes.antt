@@ -23,22 +23,23 @@ row_offsets content = content.cfa ∷ (return_offset content.ra ++ option_to_lis
 abbrev pub holds_row_offsets : Content → (width : ℕ) → Bool
 holds_row_offsets content width = list_all (λ offset. holds_signed offset width) (row_offsets content)
 
--- bit 0 of the info byte: the base of the canonical frame address
+-- fre_cfa_base_reg_id, bit 0 of the info byte: the base of the canonical frame address
 abbrev pub base_number : Base → ℕ
 base_number Fp = 0
 base_number Sp = 1
 
--- bit 7 of the info byte: the return address is signed
+-- fre_mangled_ra_p, bit 7 of the info byte: the return address is signed
 abbrev pub signed_number : Bool → ℕ
 signed_number false = 0
 signed_number true = 1
 
--- the info byte: bit 0 the base, bits 1 to 4 the number of offsets, bits 5 and 6 their width, bit 7 a signed return address
+-- sfre_info: bit 0 the base, bits 1 to 4 the number of offsets (fre_offset_count), bits 5 and 6 their width (fre_offset_size: 1B, 2B, 4B),
+-- bit 7 a signed return address
 abbrev pub row_info_byte : (offset_width : ℕ) → Content → ℕ
 row_info_byte offset_width content =
     base_number content.base + 2 * length (row_offsets content) + 32 * offset_width + 128 * signed_number content.signed
 
--- a row: its start, the info byte, the offsets
+-- a row: its start (sfre_start_address), the info byte, the offsets
 unfoldable pub spelled_row : (start_width offset_width : ℕ) → Row → List ℕ
 spelled_row start_width offset_width row =
     unsigned_bytes start_width row.start

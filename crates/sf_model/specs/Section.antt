@@ -27,16 +27,20 @@ AreBytes bytes = (k : ℕ) → slice_index bytes k < 256
 abbrev pub number_in : (len place : ℕ) → List ℕ → ℕ
 number_in len place bytes = little_from place len bytes
 
--- The header's numbers.
+-- The header's numbers (struct sframe_header).
+-- sfh_auxhdr_len
 abbrev pub auxiliary_len : List ℕ → ℕ
 auxiliary_len bytes = slice_index bytes 7
 
+-- sfh_fre_len
 abbrev pub rows_len : List ℕ → ℕ
 rows_len bytes = number_in 4 16 bytes
 
+-- sfh_fdeoff
 abbrev pub functions_offset : List ℕ → ℕ
 functions_offset bytes = number_in 4 20 bytes
 
+-- sfh_freoff
 abbrev pub rows_offset : List ℕ → ℕ
 rows_offset bytes = number_in 4 24 bytes
 
@@ -56,17 +60,18 @@ rows_place bytes = header_end bytes + rows_offset bytes
 abbrev pub row_bytes_of : List ℕ → List ℕ
 row_bytes_of bytes = take (rows_len bytes) (drop (rows_place bytes) bytes)
 
--- the abi and architecture: AArch64 little-endian, or AMD64
+-- sfh_abi_arch: AArch64 little-endian, or AMD64
 abbrev pub abi_number : Arch → ℕ
 abi_number Aarch64 = 2
 abi_number Amd64 = 3
 
--- the fixed offset of the return address as a byte: -8 on AMD64, none on AArch64
+-- sfh_cfa_fixed_ra_offset as a byte: -8 on AMD64, none on AArch64
 abbrev pub fixed_return_byte : Arch → ℕ
 fixed_return_byte Amd64 = 0xf8
 fixed_return_byte Aarch64 = 0
 
--- the header: the preamble, the counts, and both sub-sections within the bytes
+-- The header: the preamble (sfp_magic, sfp_version, sfp_flags), sfh_cfa_fixed_fp_offset, the counts (sfh_num_fdes, sfh_num_fres), and both
+-- sub-sections within the bytes.
 pub record IsHeader (bytes : List ℕ) (table : Table) : Type 0 where
   pub magic : number_in 2 0 bytes ≡ 0xdee2
   pub version : slice_index bytes 2 ≡ 2
@@ -83,11 +88,11 @@ pub record IsHeader (bytes : List ℕ) (table : Table) : Type 0 where
   pub functions_within : functions_place bytes + 20 * length table.functions ≤ length bytes
   pub rows_within : rows_place bytes + rows_len bytes ≤ length bytes
 
--- the flag 0x1: the functions stand by rising start
+-- the flag 0x1, SFRAME_F_FDE_SORTED: the functions stand by rising start
 abbrev pub is_sorted : (flags : ℕ) → Bool
 is_sorted flags = flags % 2 == 1
 
--- the flag 0x4: a start counts from the address of its own field
+-- the flag 0x4, SFRAME_F_FDE_FUNC_START_PCREL: a start counts from the address of its own field
 abbrev pub counts_from_field : (flags : ℕ) → Bool
 counts_from_field flags = flags / 4 % 2 == 1
 
@@ -95,19 +100,21 @@ counts_from_field flags = flags / 4 % 2 == 1
 abbrev pub start_origin : (flags at place : ℕ) → ℕ
 start_origin flags at place = if counts_from_field flags then at + place else at
 
--- The numbers of a function descriptor entry at a place: the low four bits of its info byte and the place of its first row.
+-- The numbers of a function descriptor entry at a place (struct sframe_func_desc_entry).
+-- the FRE type, the low four bits of sfde_func_info: 0, 1 and 2 for ADDR1, ADDR2 and ADDR4
 abbrev pub start_width_at : List ℕ → (place : ℕ) → ℕ
 start_width_at bytes place = slice_index bytes (place + 16) % 16
 
+-- sfde_func_start_fre_off
 abbrev pub row_offset_at : List ℕ → (place : ℕ) → ℕ
 row_offset_at bytes place = number_in 4 (place + 8) bytes
 
--- bit 4 of the info byte: rows by the offset, or by the offset modulo the repeat size
+-- the FDE type, bit 4 of sfde_func_info: rows by the offset (PCINC), or by the offset modulo the repeat size (PCMASK)
 abbrev pub shape_number : Shape → ℕ
 shape_number Plain = 0
 shape_number (Repeat size) = 1
 
--- bit 5: the key of signed return addresses
+-- pauth_key, bit 5 of it: the key of signed return addresses
 abbrev pub key_number : Key → ℕ
 key_number A = 0
 key_number B = 1
@@ -135,7 +142,8 @@ RowsStand MayHave arch rows start_width place end (row ∷ later) =
 abbrev pub AnyWidth : Content → (offset_width : ℕ) → Type 0
 AnyWidth content offset_width = ⊤
 
--- the function descriptor entry of 20 bytes at a place says this of a function, apart from its rows
+-- The function descriptor entry of 20 bytes at a place says this of a function, apart from its rows: sfde_func_start_address,
+-- sfde_func_size, sfde_func_num_fres, sfde_func_info and sfde_func_rep_size.
 pub record EntryStands (arch : Arch) (bytes : List ℕ) (origin place : ℕ) (f : Func) : Type 0 where
   pub start : pos f.start ≡ pos origin +ℤ twos_complement 4 (number_in 4 place bytes)
   pub end : f.start + f.size ≤ 2 ^ 64

@@ -4,7 +4,7 @@ use Rattle.std.specs.Prelude.{◌-◌, ◌*◌, ◌^◌, ◌<◌, ◌≤◌, ℕ
 use Rattle.std.specs.Int.{w32, cast_unsigned}
 use Rattle.byteorder.specs.Endian.{little_bytes}
 
--- the widths 0, 1 and 2 are 1, 2 and 4 bytes
+-- the widths 0, 1 and 2 are 1, 2 and 4 bytes: ADDR1, ADDR2, ADDR4 of a row's start, 1B, 2B, 4B of its offsets
 abbrev pub width_len : (width : ℕ) → ℕ
 width_len width = 2 ^ width
 
