@@ -5,12 +5,12 @@ use Rattle.std.proofs.Math.Nat.{pow-suc, mul_assoc, mul-le-mul_left, le-mul_of_p
 use Rattle.std.proofs.lemmas.List.Sorted.{IsNonDecreasingBy-from_all_adjacent}
 use Rattle.sf_lookup.specs.Starts.{NeverFall}
 
--- Each address before `low` is reached, and none from `high` on; so many steps were taken, and so many are left at most.
+-- Each address before `low` is reached, and none from `high` on; `now - before` steps were taken.
 pub record Halving (starts : List ℕ) (pc low high before now : ℕ) : Type 0 where
   pub order : low ≤ high
   pub within : high ≤ length starts
   pub reached : 0 < low → slice_index starts (low - 1) ≤ pc
-  pub behind : (j : ℕ) → high ≤ j → j < length starts → pc < slice_index starts j
+  pub above : (j : ℕ) → high ≤ j → j < length starts → pc < slice_index starts j
   pub counted : before ≤ now
   pub left : 2 ^ (now - before) * (high - low) ≤ length starts
   pub cost : 2 ^ (now - before) ≤ 2 * length starts + 1
@@ -31,7 +31,7 @@ halves power width half most le h =
 once : (power width most : ℕ) → power * width ≤ most → 0 < width → power * 2 ≤ 2 * most + 1
 once power width most le lt = let more = le-mul_of_pos_right power lt in omega (more, le, arith)
 
--- a step that leaves the numbers behind the middle, or those before it
+-- a step that leaves the numbers after the middle, or those before it
 pub upper : (starts : List ℕ) (pc low high before now next : ℕ) → Halving starts pc low high before now → low < high → next ≡ now + 1
     → slice_index starts (low + (high - low) / 2) ≤ pc → Halving starts pc (low + (high - low) / 2 + 1) high before next
 upper starts pc low high before now next h lt step le =
@@ -40,7 +40,7 @@ upper starts pc low high before now next h lt step le =
       order = omega (lt, arith);
       within = h.within;
       reached = λ _. subst (λ k. slice_index starts k ≤ pc) (omega arith) le;
-      behind = h.behind;
+      above = h.above;
       counted = omega (h.counted, step, arith);
       left = rw power (halves (2 ^ (now - before)) (high - low) (high - (low + (high - low) / 2 + 1)) (length starts) h.left (omega (lt, arith)));
       cost = rw power (once (2 ^ (now - before)) (high - low) (length starts) h.left (omega (lt, arith)));
@@ -54,7 +54,7 @@ lower starts pc low high before now next falls h lt step gt =
       order = omega (lt, arith);
       within = omega (lt, h.within, arith);
       reached = h.reached;
-      behind = λ j le within. let rises = IsNonDecreasingBy-from_all_adjacent (λ (n : ℕ). n) starts falls (low + (high - low) / 2) j 0 le within in omega (rises, gt, arith);
+      above = λ j le within. let rises = IsNonDecreasingBy-from_all_adjacent (λ (n : ℕ). n) starts falls (low + (high - low) / 2) j 0 le within in omega (rises, gt, arith);
       counted = omega (h.counted, step, arith);
       left = rw power (halves (2 ^ (now - before)) (high - low) (low + (high - low) / 2 - low) (length starts) h.left (omega (lt, arith)));
       cost = rw power (once (2 ^ (now - before)) (high - low) (length starts) h.left (omega (lt, arith)));

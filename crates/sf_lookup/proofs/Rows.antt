@@ -51,7 +51,7 @@ all_rise least (r ∷ rows) h (suc k) d lt =
     subst (λ j. (get_or rows k d).start < (get_or (r ∷ rows) j d).start) same (all_rise (r.start + 1) rows h.1 k d (omega (lt, arith)))
 
 -- ---- the latest row
--- the latest row, or the one found before; it ends at the first row that begins behind the offset
+-- the latest row, or the one found before; it ends at the first row that begins after the offset
 abbrev pub latest : (offset : ℕ) → Option Row → List Row → Option Row
 latest offset found [] = found
 latest offset found (r ∷ rows) = if nat_le r.start offset then latest offset (Some r) rows else found
@@ -60,16 +60,16 @@ latest offset found (r ∷ rows) = if nat_le r.start offset then latest offset (
 pub latest_begun : (offset : ℕ) (found : Option Row) (r : Row) (rows : List Row) → r.start ≤ offset → latest offset found (r ∷ rows) ≡ latest offset (Some r) rows
 latest_begun offset found r rows le = rw (le-leb r.start offset le) refl
 
--- a row that begins behind the offset ends the search
+-- a row that begins after the offset ends the search
 pub latest_stops : (offset : ℕ) (found : Option Row) (r : Row) (rows : List Row) → offset < r.start → latest offset found (r ∷ rows) ≡ found
 latest_stops offset found r rows lt = rw (lt-leb r.start offset lt) refl
 
--- rows that all begin behind the offset change nothing
+-- rows that all begin after the offset change nothing
 pub latest_stays : (offset least : ℕ) (found : Option Row) (rows : List Row) → offset < least → Rise least rows → latest offset found rows ≡ found
 latest_stays offset least found [] lt h = refl
 latest_stays offset least found (r ∷ rows) lt h = latest_stops offset found r rows (omega (lt, h.0, arith))
 
--- rows that all begin behind the offset
+-- rows that all begin after the offset
 none_begun : (offset least : ℕ) (rows : List Row) → offset < least → Rise least rows → filter (begins_by offset) rows ≡ []
 none_begun offset least [] lt h = refl
 none_begun offset least (r ∷ rows) lt h =

@@ -41,7 +41,7 @@ never_fall functions apart k d lt =
     let one = apart k none_such (omega (lt, starts_length functions, arith)) in
     omega (here, next, one, arith)
 
--- a function that starts behind the address, and one that ends at it or before
+-- a function that starts after the address, and one that ends at it or before
 starts_behind : (pc : ℕ) (f : Func) → pc < f.start → contains pc f ≡ false
 starts_behind pc f lt = rw (lt-leb f.start pc lt) refl
 

@@ -4,7 +4,7 @@ use Rattle.std.specs.List.{Contains}
 use Rattle.std.specs.List.Sorted.{IsNonDecreasingBy}
 use Rattle.sf_lookup.specs.declared.span.Span.{Span}
 
--- where the span of a number begins, 0 where there is none
+-- where the span of a number begins, 0 for a number past the last
 abbrev pub start_of : {A : Type 0} → List (Span A) → (number : ℕ) → ℕ
 start_of [] number = 0
 start_of (s ∷ spans) zero = s.start

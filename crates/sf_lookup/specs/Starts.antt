@@ -16,7 +16,7 @@ Apart functions = AllAdjacentBelow (λ (f : Func) (g : Func). f.start + f.size �
 abbrev pub NeverFall : List ℕ → Type 0
 NeverFall starts = AllAdjacentBelow (λ a b. a ≤ b) starts (length starts)
 
--- the greatest number whose address is not above this one, or none where there is no such number
+-- the greatest number whose address is not above this one, if there is one
 abbrev pub IsLastStart : List ℕ → (pc : ℕ) → Option ℕ → Type 0
 IsLastStart starts pc None = (i : ℕ) → i < length starts → pc < slice_index starts i
 IsLastStart starts pc (Some i) =

@@ -8,7 +8,7 @@ use std::alloc::{AllocError, Global};
 use std::cmp::Reverse;
 use std::collections::BinaryHeap;
 
-/// Where the span of a number begins, 0 where there is none.
+/// Returns where the span of a number begins, 0 for a number past the last.
 fn start_of<A>(spans: &[Span<A>], number: u32) -> u64
     ensures { result ≡ start_of spans.now number }
 {
