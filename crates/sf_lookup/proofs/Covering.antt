@@ -5,11 +5,12 @@ use Rattle.std.specs.List.Sorted.{IsNonDecreasing, IsPermutation}
 use Rattle.std.specs.Option.{option_map}
 use Rattle.std.proofs.Common.{◌≡◌, ℕ, zero, suc, ◌+◌, ◌^◌, ◌<◌, ◌≤◌, Bool, true, false, cond, ◌&&◌, List, [], ◌∷◌, ◌++◌, All, length, get_or, map, take, Option, Some, None, refl, sym, ap, subst, ◌∙◌, arith, inl, inr}
 use Rattle.std.proofs.lemmas.Bool.{and_parts, cases_lt, le-leb, leb-true, lt-leb, lt-ltb, le-ltb, ltb-true}
-use Rattle.std.proofs.lemmas.List.{get_or_default, take_all, take_more}
+use Rattle.std.proofs.lemmas.List.{get_or_default, length-append, take_all, take_more}
 use Rattle.std.proofs.lemmas.List.Elements.{All-head, All-push, All-tail, All-weaker, Contains-append_left, Contains-push}
 use Rattle.std.proofs.lemmas.List.Sorted.{Contains-permutation}
 use Rattle.sf_lookup.specs.declared.span.Span.{Span}
 use Rattle.sf_lookup.specs.Span.{HasEnds, IsReached, answer_at, answer_of, covers}
+use Rattle.sf_lookup.specs.Starts.{IsLastStart}
 
 -- ---- the first that passes
 pub find-same : {X : Type 0} (p q : X → Bool) (xs : List X) → All (λ (x : X). p x ≡ q x) xs → find p xs ≡ find q xs
@@ -114,7 +115,21 @@ answer_is spans points pc (suc i) small rise ends h =
     get_or-answers spans points i (omega (h.within, arith))
     ∙ ap (option_map (λ (s : Span _). s.leads_to)) (find-same (covers (get_or points i 0)) (covers pc) spans (all_alike points pc i small rise h spans ends))
 
+-- the last start that an address has reached, among points
+pub upto_last : (points : List ℕ) (pc i : ℕ) → IsNonDecreasing points → IsLastStart points pc (Some i) → IsReached points pc (suc i)
+upto_last points pc i rise h = record {
+  within = let within = h.0 in omega (within, arith);
+  reached = λ k lt. let up = rise k i 0 (omega (lt, arith)) h.0 in let last = h.1 in omega (up, last, arith);
+  above = λ k le lt. h.2 k (omega (le, arith)) lt;
+}
+
+pub none_upto : (points : List ℕ) (pc : ℕ) → IsLastStart points pc None → IsReached points pc 0
+none_upto points pc h = record { within = omega arith; reached = λ k lt. absurd (omega (lt, arith)); above = λ k le lt. h k lt }
+
 -- ---- a loop over spans
+pub one_longer : (xs new : List ℕ) (x : ℕ) → new ≡ xs ++ x ∷ [] → length new ≡ length xs + 1
+one_longer xs new x grown = ap length grown ∙ length-append xs (x ∷ [])
+
 -- points that are there stay there, and a span whose ends are there is one more
 more_ends : {A : Type 0} (spans : List (Span A)) (i : ℕ) (s : Span A) (points new : List ℕ) → i < length spans → s ≡ get_or spans i s → ((x : ℕ) → Contains points x → Contains new x) → HasEnds new s
     → All (HasEnds points) (take i spans) → All (HasEnds new) (take (i + 1) spans)

@@ -2,12 +2,16 @@
 use Rattle.std.specs.Prelude.{nat_le, nat_lt}
 use Rattle.std.specs.List.{filter, find}
 use Rattle.std.specs.Option.{option_map}
-use Rattle.std.proofs.Common.{◌≡◌, ℕ, suc, ◌+◌, ◌-◌, ◌≤◌, Bool, true, false, cond, IsTrue, List, [], ◌∷◌, All, Option, Some, None, refl, sym, ap, subst, ◌∙◌, arith}
+use Rattle.std.proofs.Common.{◌≡◌, ℕ, suc, ◌+◌, ◌-◌, ◌<◌, ◌≤◌, Bool, true, false, cond, IsTrue, List, [], ◌∷◌, All, Option, Some, None, refl, sym, ap, subst, ◌∙◌, arith}
+use Rattle.std.proofs.Math.Nat.{mod-le}
+use Rattle.std.proofs.lemmas.Bool.{and_parts, ltb-true}
 use Rattle.std.proofs.lemmas.List.Elements.{All-filter}
 use Rattle.sf_model.specs.declared.machine.Arch.{Arch}
 use Rattle.sf_model.specs.declared.rows.Row.{Row}
 use Rattle.sf_model.specs.declared.recovery.Regs.{Regs}
 use Rattle.sf_model.specs.declared.function.Func.{Func}
+use Rattle.sf_model.specs.declared.function.Shape.{Shape}
+use Rattle.sf_model.specs.declared.function.Shape.TheVariants.{Plain, Repeat}
 use Rattle.sf_model.specs.declared.function.FuncHead.{FuncHead}
 use Rattle.sf_model.specs.Content.{content_fits}
 use Rattle.sf_model.specs.Lookup.{FoundRow, begins_by, begins_last, contains, found_at, offset_in_block, row_at, row_in_first}
@@ -48,6 +52,14 @@ row_asked pc f head offset o h at e = e ∙ ap (λ (n : ℕ). row_at n f.rows) a
 -- what is found starts by the address
 pub starts_by : (functions : List Func) (pc : ℕ) (f : Func) → Some f ≡ find (contains pc) functions → f.start ≤ pc
 starts_by functions pc f e = le_if f.start pc (first_of (nat_le f.start pc) (nat_lt pc (f.start + f.size)) (found_passes (contains pc) functions f (sym e)))
+
+-- and its bytes have not ended there
+pub ends_after : (functions : List Func) (pc : ℕ) (f : Func) → Some f ≡ find (contains pc) functions → pc < f.start + f.size
+ends_after functions pc f e = ltb-true pc (f.start + f.size) (and_parts (nat_le f.start pc) (nat_lt pc (f.start + f.size)) (found_passes (contains pc) functions f (sym e))).1
+
+pub block_below : (shape : Shape) (offset : ℕ) → offset_in_block shape offset ≤ offset
+block_below Plain offset = omega arith
+block_below (Repeat size) offset = mod-le offset size
 
 -- what holds of each holds of the one that is found
 all_found : {X : Type 0} (P : X → Type 0) (p : X → Bool) (xs : List X) (x : X) → All P xs → find p xs ≡ Some x → P x

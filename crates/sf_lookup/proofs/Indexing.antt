@@ -33,6 +33,10 @@ one_more functions i f head spans new size lt at is sized grown h =
     ∙ ap (λ (n : ℕ). numbered 0 (take i functions) ++ spans_as n f ∷ []) (sym count)
     ∙ sym (numbered-append 0 (take i functions) f) ∙ ap (numbered 0) (sym whole)
 
+pub numbered_length : (first : ℕ) (functions : List Func) → length (numbered first functions) ≡ length functions
+numbered_length first [] = refl
+numbered_length first (f ∷ functions) = ap suc (numbered_length (first + 1) functions)
+
 -- ---- what the first span leads to
 -- functions whose numbers begin at `first` are those of a numbering
 abbrev pub AreNumbered : (of : ℕ → Func) (first : ℕ) → List Func → Type 0

@@ -7,4 +7,5 @@ pub mod FoundRows
 pub mod Covering
 pub mod Sweeping
 pub mod Marking
+pub mod Nearing
 pub mod Indexing

@@ -1,6 +1,7 @@
 pub mod Starts
 pub mod Lookup
 pub mod Mark
+pub mod Steps
 pub mod Span
 pub mod Spans
 pub mod Begins

@@ -1,12 +1,12 @@
 //! The first function that contains an address (SFrame Version 2, function descriptor entries).
 
-ghost use Rattle.std.specs.Prelude.{◌≡◌, ◌+◌, ◌<◌, ◌&&◌, IsTrue, IfSome, length, nat_le, nat_lt};
+ghost use Rattle.std.specs.Prelude.{◌≡◌, ◌+◌, ◌-◌, ◌<◌, ◌≤◌, ◌&&◌, IsTrue, IfSome, length, nat_le, nat_lt};
 ghost use Rattle.std.specs.List.{find};
 ghost use Rattle.std.specs.Option.{option_map};
 ghost use Rattle.sf_model.specs.Lookup.{contains};
 ghost use Rattle.sf_model.specs.Section.{is_sorted};
 ghost use Rattle.sf_decode.specs.View.{table_of, function_of};
-ghost use Rattle.sf_lookup.specs.Starts.{starts_of, NeverFall, IsLastStart};
+ghost use Rattle.sf_lookup.specs.Steps.{IsWithinDigits};
 
 use crate::search::last_start;
 use crate::sound::{functions_stand_apart, starts_never_fall};
@@ -14,8 +14,7 @@ use crate::steps::Steps;
 use sf_decode::layout::SORTED;
 use sf_decode::{View, functions_are_numbered};
 use sf_model::FuncHead;
-use std::marker::Brand;
-use std::sync::ledger::{Blank, Ledger};
+use std::sync::ledger::Ledger;
 
 /// Whether the function's bytes hold the address.
 #[inline(always)]
@@ -33,33 +32,23 @@ pub fn is_sorted(flags: u8) -> bool
     flags % 2 == SORTED
 }
 
-/// The number of the last function that starts at the address or before. It counts its steps and forgets
-/// the count.
-fn last_started<L: Ledger>(view: &View<'_>, pc: u64, blank: Blank) -> Option<u32>
-    requires name { blank.name ≡ L.name }
-    requires parts { blank.parts ≡ L.parts }
-    requires some { 0 < blank.parts }
-    requires sorted { NeverFall (starts_of (table_of view.now).functions) }
-    ensures { IsLastStart (starts_of (table_of view.now).functions) pc result }
-{
-    last_start(view, pc, &mut Steps::<L>::new(blank))
-}
-
-/// The number of the first function that contains the address, where functions are sorted. An earlier one
+/// Finds the number of the first function that contains the address, where functions are sorted. An earlier one
 /// than the last that starts by then has ended, so that this one contains the address or none does.
-fn by_start(view: &View<'_>, pc: u64) -> Option<u32>
+pub fn by_start<L: Ledger>(view: &View<'_>, pc: u64, steps: &mut Steps<L>) -> Option<u32>
     requires { IsTrue (is_sorted (table_of view.now).flags) }
     ensures within { IfSome result (λ i. i < length (table_of view.now).functions) }
     ensures first { option_map (function_of view.now) result ≡ find (contains pc) (table_of view.now).functions }
+    ensures counted { steps.old ≤ steps.new }
+    ensures cost { IsWithinDigits (steps.new - steps.old) (length (table_of view.now).functions) }
 {
     functions_stand_apart(view);
     starts_never_fall(view);
     functions_are_numbered(view);
-    let i = last_started::<Brand>(view, pc, Blank::new(1))?;
+    let i = last_start(view, pc, steps)?;
     contains(&view.func(i), pc).then_some(i)
 }
 
-/// The number of the first function that contains the address, in whatever order the functions stand.
+/// Finds the number of the first function that contains the address, in whatever order the functions are.
 fn by_scan(view: &View<'_>, pc: u64) -> Option<u32>
     ensures within { IfSome result (λ i. i < length (table_of view.now).functions) }
     ensures first { option_map (function_of view.now) result ≡ find (contains pc) (table_of view.now).functions }
@@ -73,13 +62,13 @@ fn by_scan(view: &View<'_>, pc: u64) -> Option<u32>
     None
 }
 
-/// The number of the first function that contains the address.
-pub fn first_containing(view: &View<'_>, pc: u64) -> Option<u32>
+/// Finds the number of the first function that contains the address. Only the steps among sorted functions are counted.
+pub fn first_containing<L: Ledger>(view: &View<'_>, pc: u64, steps: &mut Steps<L>) -> Option<u32>
     ensures within { IfSome result (λ i. i < length (table_of view.now).functions) }
     ensures first { option_map (function_of view.now) result ≡ find (contains pc) (table_of view.now).functions }
 {
     if is_sorted(view.flags()) {
-        by_start(view, pc)
+        by_start(view, pc, steps)
     } else {
         by_scan(view, pc)
     }

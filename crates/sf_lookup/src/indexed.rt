@@ -1,17 +1,21 @@
 //! A section put in order for many look-ups.
 
-ghost use Rattle.std.specs.Prelude.{◌≡◌, All, IfOk};
+ghost use Rattle.std.specs.Prelude.{◌≡◌, IfOk, IsTrue, None};
+ghost use Rattle.sf_model.specs.Section.{is_sorted};
 ghost use Rattle.sf_decode.specs.View.{table_of};
-ghost use Rattle.sf_lookup.specs.Mark.{IsMark};
+ghost use Rattle.sf_lookup.specs.Mark.{AreMarks};
 ghost use Rattle.sf_lookup.specs.Numbered.{AreInOrder, numbered};
 
-use crate::function::{first_containing, is_sorted};
-use crate::lookup::{Found, found_in};
-use crate::marks::{Mark, marks_of};
+use crate::function::{by_start, is_sorted};
+use crate::lookup::{Found, found_of, offset_at};
+use crate::marks::{Mark, marks_of, row_near};
 use crate::span::Span;
 use crate::spans::Spans;
+use crate::steps::Steps;
 use sf_decode::{View, functions_are_numbered};
 use std::alloc::{AllocError, Global};
+use std::marker::Brand;
+use std::sync::ledger::{Blank, Ledger};
 
 /// A section whose functions are found by halves, whether they are sorted or not, and so are the rows of a function: the
 /// spans of functions that are not sorted are put in order, and each 64th row of a function is marked.
@@ -21,10 +25,11 @@ pub struct Indexed<'a> {
     spans: Option<Spans<u32>>,
     marks: Vec<Mark<'a>>,
     ghost ordered: { AreInOrder spans (table_of view).functions },
-    ghost marked: { All (IsMark view) marks.items },
+    ghost sorted: { spans ≡ None → IsTrue (is_sorted (table_of view).flags) },
+    ghost marked: { AreMarks view marks.items },
 }
 
-// The functions of a section as spans, each with its number.
+// Lists the functions of a section as spans, each with its number.
 fn spans_of(alloc: Global, view: &View<'_>) -> Result<Vec<Span<u32>>, AllocError>
     ensures { IfOk result (λ spans. spans.items ≡ numbered 0 (table_of view.now).functions) }
 {
@@ -42,7 +47,7 @@ fn spans_of(alloc: Global, view: &View<'_>) -> Result<Vec<Span<u32>>, AllocError
 }
 
 impl<'a> Indexed<'a> {
-    ghost use Rattle.std.specs.Prelude.{◌≡◌, ◌<◌, IfOk, IfSome, IsTrue, length};
+    ghost use Rattle.std.specs.Prelude.{◌≡◌, ◌-◌, ◌*◌, ◌<◌, ◌≤◌, IfOk, IfSome, IsTrue, length};
     ghost use Rattle.std.specs.List.{find};
     ghost use Rattle.std.specs.Option.{option_map};
     ghost use Rattle.sf_model.specs.Content.{content_fits};
@@ -50,8 +55,9 @@ impl<'a> Indexed<'a> {
     ghost use Rattle.sf_decode.specs.View.{function_of};
     ghost use Rattle.sf_lookup.specs.Indexed.{table_in, view_in};
     ghost use Rattle.sf_lookup.specs.Lookup.{shown};
+    ghost use Rattle.sf_lookup.specs.Steps.{AreFew, IsWithinDigits};
 
-    /// The section, put in order. One whose functions are sorted and have at most 64 rows each allocates nothing.
+    /// Puts the section in order. One whose functions are sorted and have at most 64 rows each allocates nothing.
     ///
     /// `AllocError` where memory ran out.
     pub fn new(alloc: Global, view: View<'a>) -> Result<Indexed<'a>, AllocError>
@@ -73,31 +79,60 @@ impl<'a> Indexed<'a> {
         })
     }
 
-    /// The section.
+    /// Returns the section.
     pub fn view(&self) -> &View<'a>
         ensures { result.now ≡ view_in self.now }
     {
         &self.view
     }
 
-    // The number of the first function that contains the address.
-    fn first_containing(&self, pc: u64) -> Option<u32>
+    // Finds the number of the first function that contains the address.
+    fn first_containing<L: Ledger>(&self, pc: u64, steps: &mut Steps<L>) -> Option<u32>
         ensures within { IfSome result (λ i. i < length (table_in self.now).functions) }
         ensures first { option_map (function_of (view_in self.now)) result ≡ find (contains pc) (table_in self.now).functions }
+        ensures counted { steps.old ≤ steps.new }
+        ensures cost { IsWithinDigits (steps.new - steps.old) (2 * length (table_in self.now).functions) }
     {
         functions_are_numbered(&self.view);
         match &self.spans {
-            Some(spans) => spans.first_at(pc),
-            None => first_containing(&self.view, pc),
+            Some(spans) => spans.first_counted(pc, steps),
+            None => by_start(&self.view, pc, steps),
         }
     }
 
-    /// The function and the row that hold at an address: what [`find`](crate::find) finds in the section.
+    /// Finds the function and the row that hold at an address: what [`find`](crate::find) finds in the section. Each start or
+    /// end of a function that is looked at is a step, each marked row that is looked at, and each row that is read.
+    pub fn find_counted<L: Ledger>(&self, pc: u64, steps: &mut Steps<L>) -> Option<Found>
+        ensures found { result ≡ option_map shown (found_at (table_in self.now).functions pc) }
+        ensures fits { IfSome result (λ found. IsTrue (content_fits (table_in self.now).arch found.row.content)) }
+        ensures counted { steps.old ≤ steps.new }
+        // At most the binary digits of the number of functions' starts and ends, those of the number of rows, and 64.
+        ensures cost { AreFew (table_in self.now).functions (steps.new - steps.old) }
+    {
+        let i = self.first_containing(pc, steps)?;
+        let func = self.view.func(i);
+        let offset = offset_at(&self.view, i, &func, pc);
+        let row = row_near(&self.view, &self.marks, i, offset, steps);
+        found_of(&self.view, i, pc, func, row)
+    }
+
+    // Finds what `find` does. It counts its steps and forgets the count.
+    fn find_uncounted<L: Ledger>(&self, pc: u64, blank: Blank) -> Option<Found>
+        requires name { blank.name ≡ L.name }
+        requires parts { blank.parts ≡ L.parts }
+        requires some { 0 < blank.parts }
+        ensures found { result ≡ option_map shown (found_at (table_in self.now).functions pc) }
+        ensures fits { IfSome result (λ found. IsTrue (content_fits (table_in self.now).arch found.row.content)) }
+    {
+        self.find_counted(pc, &mut Steps::<L>::new(blank))
+    }
+
+    /// Finds the function and the row that hold at an address: what [`find`](crate::find) finds in the section, in the steps
+    /// of [`Indexed::find_counted`].
     pub fn find(&self, pc: u64) -> Option<Found>
         ensures found { result ≡ option_map shown (found_at (table_in self.now).functions pc) }
         ensures fits { IfSome result (λ found. IsTrue (content_fits (table_in self.now).arch found.row.content)) }
     {
-        let i = self.first_containing(pc)?;
-        found_in(&self.view, &self.marks, i, pc)
+        self.find_uncounted::<Brand>(pc, Blank::new(1))
     }
 }

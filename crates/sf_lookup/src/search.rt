@@ -7,7 +7,7 @@ use crate::starts::Starts;
 use crate::steps::Steps;
 use std::sync::ledger::Ledger;
 
-/// The greatest number whose address is not above `pc`. The addresses never fall. Of n addresses it reads
+/// Finds the greatest number whose address is not above `pc`. The addresses never fall. Of n addresses it reads
 /// at most k, where 2^k <= 2n + 1.
 pub fn last_start<L: Ledger, S: Starts<L>>(starts: &S, pc: u64, steps: &mut Steps<L>) -> Option<u32>
     requires { NeverFall (S.starts starts.now) }

@@ -1,10 +1,11 @@
 //! What was checked of the functions of a section.
 
-ghost use Rattle.std.specs.Prelude.{◌<◌, All, IsTrue, length};
+ghost use Rattle.std.specs.Prelude.{◌^◌, ◌<◌, ◌≤◌, All, IsTrue, length};
 ghost use Rattle.sf_model.specs.declared.rows.Row.{Row as row};
 ghost use Rattle.sf_model.specs.Content.{content_fits};
 ghost use Rattle.sf_model.specs.Function.{RowsRise, shape_fits};
 ghost use Rattle.sf_model.specs.Section.{is_sorted};
+ghost use Rattle.sf_model.specs.Table.{row_count};
 ghost use Rattle.sf_decode.specs.View.{table_of, function_of};
 ghost use Rattle.sf_lookup.specs.Starts.{Apart, NeverFall, starts_of};
 
@@ -19,6 +20,19 @@ pub fn function_is_sound(view: &View<'_>, i: u32)
 {
     view_is_a_section(view);
     functions_are_numbered(view);
+}
+
+/// A number of four bytes is below 2^32.
+#[inline(always)]
+pub fn fits_in_four_bytes(number: u32)
+    ensures { number < 2 ^ 32 }
+{}
+
+/// All functions together have at most 2^24 rows.
+pub fn rows_are_limited(view: &View<'_>)
+    ensures { row_count (table_of view.now).functions ≤ 2 ^ 24 }
+{
+    view_is_a_section(view);
 }
 
 /// Where the functions are sorted, each ends where the next one starts, or before.

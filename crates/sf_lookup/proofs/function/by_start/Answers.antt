@@ -7,15 +7,15 @@ use Rattle.sf_lookup.proofs.Searched.{last_decides, last_within, none_reached}
 use Rattle.sf_lookup.proofs.function.by_start.Goals as goal
 
 pub returns-in_err-i-clause-first : goal.returns-in_err-i-clause-first
-returns-in_err-i-clause-first c =
-    ap (option_map (function_of c.args.view.now)) c.from_residual.ensures ∙ sym (none_reached (table_of c.args.view.now).functions c.args.pc c.in_err-i.ensures)
+returns-in_err-i-clause-first g c =
+    ap (option_map (function_of c.args.view.now)) c.from_residual.ensures ∙ sym (none_reached (table_of c.args.view.now).functions c.args.pc c.in_err-i.ensures.last)
 
 pub returns-clause-first : goal.returns-clause-first
-returns-clause-first c =
+returns-clause-first g c =
     let functions = (table_of c.args.view.now).functions in
     let f = function_of c.args.view.now c.in_ok-i.i in
-    let within : c.in_ok-i.i < length functions = last_within functions c.args.pc c.in_ok-i.i c.in_ok-i.ensures in
+    let within : c.in_ok-i.i < length functions = last_within functions c.args.pc c.in_ok-i.i c.in_ok-i.ensures.last in
     let holds : contains c.args.pc f ≡ c.contains.result = contains_head c.args.pc f c.func.result c.contains.result c.func.ensures c.contains.ensures in
     ap (option_map (function_of c.args.view.now)) c.then_some.ensures
-    ∙ last_decides functions c.args.pc c.in_ok-i.i (function_of c.args.view.now) c.contains.result c.functions_stand_apart.ensures c.in_ok-i.ensures
+    ∙ last_decides functions c.args.pc c.in_ok-i.i (function_of c.args.view.now) c.contains.result c.functions_stand_apart.ensures c.in_ok-i.ensures.last
     (λ d. c.functions_are_numbered.ensures c.in_ok-i.i d within) holds

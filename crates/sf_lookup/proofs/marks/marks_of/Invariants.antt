@@ -1,6 +1,5 @@
-use Rattle.std.proofs.Common.{All}
-use Rattle.sf_lookup.specs.Mark.{IsMark}
+use Rattle.sf_lookup.specs.Mark.{AreMarksUpto}
 use Rattle.sf_lookup.proofs.marks.marks_of.Given as goal
 
 abbrev pub invariant-loop-i : goal.invariant-loop-i
-invariant-loop-i l = All (IsMark l.view) l.marks.items
+invariant-loop-i l = AreMarksUpto l.view l.i 0 l.marks.items

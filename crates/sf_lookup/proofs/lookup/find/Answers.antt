@@ -1,7 +1,0 @@
-use Rattle.std.proofs.Common.{◌∙◌}
-use Rattle.sf_decode.specs.View.{table_of}
-use Rattle.sf_lookup.proofs.FoundRows.{nothing_found}
-use Rattle.sf_lookup.proofs.lookup.find.Goals as goal
-
-pub returns-in_err-i-clause-found : goal.returns-in_err-i-clause-found
-returns-in_err-i-clause-found c = c.from_residual.ensures ∙ nothing_found (table_of c.args.view.now).functions c.args.pc c.in_err-i.ensures.first
