@@ -14,13 +14,14 @@ use Rattle.sf_model.specs.Function.{AreWritable, IsWritable}
 use Rattle.sf_model.specs.Section.{AreBytes}
 use Rattle.sf_model.specs.Table.{Table, row_count}
 use Rattle.sf_model.specs.Tight.{Narrow, Tight}
-use Rattle.sf_model.specs.Union.{all_functions, is_of_use}
+use Rattle.sf_model.specs.Union.{IsUnion, all_functions, is_of_use}
+use Rattle.sf_model.proofs.Unions.{answered, unanswered}
 use Rattle.sf_write.specs.Reach.{first_out_of_reach}
 use Rattle.sf_write.specs.Section.{table_of}
 use Rattle.sf_merge.specs.declared.fault.MergeFault.{MergeFault}
 use Rattle.sf_merge.specs.declared.fault.MergeFault.TheVariants as merge
 use Rattle.sf_merge.specs.declared.located.Located.{Located}
-use Rattle.sf_merge.specs.Answers.{IsMerged}
+use Rattle.sf_merge.specs.Answers.{FindAlike, IsMerged}
 use Rattle.sf_merge.specs.Located.{sized, InOrder}
 use Rattle.sf_merge.specs.Merging.{rows_in_all, mixed_fault, limits_fault, overlap_fault, reach_fault, or_later, unless, unless_fault, written, Merges, MergesUnless}
 use Rattle.sf_merge.proofs.Apart.{EndsBy, adjacent, useful, written_apart}
@@ -90,6 +91,9 @@ comes_to tables at ordered mixed limits order overlaps reach =
     subst (λ (o : Option MergeFault). MergesUnless o tables at (Ok (written ordered))) (sym (none_later (mixed_fault tables) (limits_fault tables) mixed limits))
     (ordered, order, sym (ap (λ (o : Option MergeFault). unless_fault o (written ordered)) none))
 
+find_alike : (arch : Arch) (tables : List Table) (functions : List Func) → IsUnion arch tables functions → FindAlike tables functions
+find_alike arch tables functions union = record { found = answered arch tables functions union; none = unanswered arch tables functions union }
+
 pub merged : (arch : Arch) (tables : List Table) (at : ℕ) (section : List ℕ) (ordered : List Located) → All (λ (table : Table). table.arch ≡ arch) tables → mixed_fault tables ≡ None → limits_fault tables ≡ None
     → InOrder (sized tables) ordered → overlap_fault ordered ≡ None → first_out_of_reach at 0 (written ordered) ≡ None → Tight section at (table_of arch (written ordered)) → Narrow section (table_of arch (written ordered))
     → AreBytes section → IsMerged tables at section (length (written ordered)) (row_count (written ordered))
@@ -98,6 +102,7 @@ merged arch tables at section ordered machines mixed limits order overlaps reach
   functions = written ordered;
   are = comes_to tables at ordered mixed limits order overlaps reach;
   union = united arch tables ordered machines order overlaps;
+  finds = find_alike arch tables (written ordered) (united arch tables ordered machines order overlaps);
   tight = tight;
   narrow = narrow;
   are_bytes = bytes;

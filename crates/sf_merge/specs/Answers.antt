@@ -1,7 +1,9 @@
 -- What merging answers, by the definition of what it comes to.
-use Rattle.std.specs.Prelude.{◌≡◌, ◌⊎◌, ℕ, List, length, Ok, Err}
+use Rattle.std.specs.Prelude.{◌≡◌, ◌⊎◌, ℕ, List, All, length, Some, None, Ok, Err}
+use Rattle.std.specs.List.{Contains}
 use Rattle.sf_model.specs.declared.machine.Arch.{Arch}
 use Rattle.sf_model.specs.declared.function.Func.{Func}
+use Rattle.sf_model.specs.Lookup.{FoundRow, found_at}
 use Rattle.sf_model.specs.Section.{AreBytes}
 use Rattle.sf_model.specs.Table.{Table, row_count}
 use Rattle.sf_model.specs.Tight.{Narrow, Tight}
@@ -11,19 +13,26 @@ use Rattle.sf_merge.specs.declared.fault.MergeFault.{MergeFault}
 use Rattle.sf_merge.specs.declared.fault.MergeFault.TheVariants.{NoMemory}
 use Rattle.sf_merge.specs.Merging.{Merges}
 
+-- At each address the functions have the row of the table that has one there, and none where no table has one.
+pub record FindAlike (tables : List Table) (functions : List Func) : Type 0 where
+  pub found : (pc : ℕ) (table : Table) (row : FoundRow) → Contains tables table → found_at table.functions pc ≡ Some row → found_at functions pc ≡ Some row
+  pub none : (pc : ℕ) → All (λ (table : Table). found_at table.functions pc ≡ None) tables → found_at functions pc ≡ None
+
 -- These bytes are the sections merged into one at this address: none of the faults is there, and they are the section of the
--- union of the tables, without gaps and with the least widths. It has this many functions and rows.
+-- union of the tables, without gaps and with the least widths, in which a look-up finds what it finds in them. It has this many
+-- functions and rows.
 pub record IsMerged (tables : List Table) (at : ℕ) (section : List ℕ) (count rows : ℕ) : Type 0 where
   pub arch : Arch
   pub functions : List Func
   pub are : Merges tables at (Ok functions)
   pub union : IsUnion arch tables functions
+  pub finds : FindAlike tables functions
   pub tight : Tight section at (table_of arch functions)
   pub narrow : Narrow section (table_of arch functions)
   pub are_bytes : AreBytes section
   pub count_is : count ≡ length functions
   pub rows_are : rows ≡ row_count functions
 
--- the fault is the first one, or memory was wanting
+-- the fault is the first one, or memory ran out
 abbrev pub IsFirstFault : List Table → (at : ℕ) → MergeFault → Type 0
 IsFirstFault tables at fault = (fault ≡ NoMemory) ⊎ Merges tables at (Err fault)

@@ -1,13 +1,9 @@
-//! Laws: what merging comes to, and what is looked up in the section that is made.
+//! Laws: what merging comes to, at once and in parts.
 
-ghost use Rattle.std.specs.Prelude.{◌≡◌, ◌<◌, ◌++◌, ℕ, All, List, [], ◌∷◌, Some, None, Result, Err, length};
-ghost use Rattle.std.specs.List.{Contains};
+ghost use Rattle.std.specs.Prelude.{◌≡◌, ◌<◌, ◌++◌, ℕ, List, [], ◌∷◌, Result, Err, length};
 ghost use Rattle.std.specs.List.Sorted.{IsPermutation};
-ghost use Rattle.sf_model.specs.declared.machine.Arch.{Arch};
 ghost use Rattle.sf_model.specs.declared.function.Func.{Func};
-ghost use Rattle.sf_model.specs.Lookup.{FoundRow, found_at};
 ghost use Rattle.sf_model.specs.Table.{Table};
-ghost use Rattle.sf_model.specs.Union.{IsUnion};
 ghost use Rattle.sf_merge.specs.declared.fault.MergeFault.{MergeFault};
 ghost use Rattle.sf_merge.specs.Merging.{Merges};
 ghost use Rattle.sf_merge.specs.Parts.{AreMerged, AreMergedInParts, IsTooFar, Part, tables_of};
@@ -21,13 +17,6 @@ pub fn merging_comes_to_one_result()
 #[tactic(auto, using(crate::proofs::SomeResult::some_result))]
 pub fn merging_comes_to_a_result()
     ensures { (tables : List Table) (at : ℕ) → (result : Result (List Func) MergeFault) × Merges tables at result }
-{}
-
-/// What the union of tables has at an address is what the one table has that has a row there; where none
-/// has one, the union has none.
-pub fn merged_sections_answer_alike()
-    ensures answered { (arch : Arch) (tables : List Table) (functions : List Func) → IsUnion arch tables functions → (pc : ℕ) (table : Table) (found : FoundRow) → Contains tables table → found_at table.functions pc ≡ Some found → found_at functions pc ≡ Some found }
-    ensures unanswered { (arch : Arch) (tables : List Table) (functions : List Func) → IsUnion arch tables functions → (pc : ℕ) → All (λ (table : Table). found_at table.functions pc ≡ None) tables → found_at functions pc ≡ None }
 {}
 
 /// Sections that are merged in parts, in any groups and any order, come to the bytes that they come to
