@@ -5,7 +5,7 @@ use Rattle.std.proofs.Common.{◌≡◌, ℕ, suc, ◌+◌, ◌-◌, ◌<◌, �
 use Rattle.std.proofs.lemmas.List.Elements.{All-nil, All-cons, All-head, All-tail, All-weaker}
 use Rattle.std.proofs.lemmas.List.Kept.{AllPairs-cons}
 use Rattle.std.proofs.lemmas.List.Sums.{sum_by-cons}
-use Rattle.std.proofs.lemmas.List.{length-map}
+use Rattle.std.proofs.lemmas.List.{get_or_default, length-map}
 use Rattle.std.proofs.Math.Nat.{mul-le-mul_left}
 use Rattle.std.proofs.lemmas.Bool.{le-leb, lt-ltb}
 use Rattle.sf_model.specs.declared.machine.Arch.{Arch}
@@ -32,10 +32,10 @@ use Rattle.sf_sizes.specs.RowLength.{offset_width, row_len}
 use Rattle.sf_write.specs.Row.{rows_len}
 use Rattle.sf_write.specs.Section.{row_section_len, section_len}
 use Rattle.sf_merge.proofs.Apart.{EndsBy, pairs_none, pairs_weaker}
-use Rattle.sf_model.proofs.Unions.{Member, found_alone, found_by, one_contains}
+use Rattle.sf_model.proofs.Unions.{Member, found_alone, found_by, member, one_contains}
 use Rattle.sf_merge.proofs.Sound.{IsSound, functions_sound}
 use Rattle.sf_slim.specs.Slim.{content_at, slim_function, slim_rows, slim_rows_of, IsSlim}
-use Rattle.sf_slim.specs.Shortest.{HoldsStarts, IsPlain, SaysTheSame, StandsFor, row_bytes, span}
+use Rattle.sf_slim.specs.Shortest.{HasLeastRows, HoldsStarts, IsPlain, SaysTheSame, StandsFor, row_bytes, span}
 use Rattle.sf_slim.proofs.Alike.{all_member, by_content, from_table, one, recovers}
 use Rattle.sf_slim.proofs.Least.{IsOne, found_one, least_is_least, none_is_shorter, of_filter, rows_alike, wider}
 use Rattle.sf_slim.proofs.Ranges.{IsGood, functions_good}
@@ -149,13 +149,35 @@ slim_again : (size : ℕ) (rows : List Row) → RowsRise rows → slim_rows size
 unfolding slim_rows
 slim_again size rows h = rows_alike (content_at (slim_rows size rows)) (content_at rows) 0 size (λ p lt. slim_says size rows h p (omega (lt, arith)))
 
+-- the rows of a section's functions rise
+pub table_rises : (bytes : List ℕ) (at : ℕ) (given : Table) → Section bytes at given → All (λ (f : Func). RowsRise f.rows) given.functions
+table_rises bytes at given is_section =
+    All-weaker (IsSound given.arch) (λ (f : Func). RowsRise f.rows) (λ f s. s.rise) given.functions (functions_sound given.arch bytes given.flags at _ given.functions is_section.functions)
+
+-- of a function that is needed, its own rows are those that are needed
+own_needed : (given : Table) (functions : List Func) → All (λ (f : Func). RowsRise f.rows) given.functions → IsSlim given functions → (f : Func) → Member functions f → IsPlain f → slim_rows f.size f.rows ≡ f.rows
+own_needed given functions rise slim f m plain =
+    let back = from_table given functions rise slim 0 f m in
+    let f0 = back.0 in
+    let is : slim_function f0 ≡ f = back.3 in
+    let rising = all_member (λ (x : Func). RowsRise x.rows) given.functions f0 rise back.1 in
+    let p : f0.shape ≡ Plain = ap (λ (x : Func). x.shape) is ∙ plain in
+    let size : f0.size ≡ f.size = ap (λ (x : Func). x.size) is in
+    let rows : f.rows ≡ slim_rows f0.size f0.rows = sym (ap (λ (x : Func). x.rows) is) ∙ plain_rows f0.shape f0.size f0.rows p in
+    ap (λ (k : ℕ). slim_rows k f.rows) (sym size) ∙ (ap (slim_rows f0.size) rows ∙ (slim_again f0.size f0.rows rising ∙ sym rows))
+
+pub rows_least : (bytes : List ℕ) (at : ℕ) (given : Table) (functions : List Func) → Section bytes at given → IsSlim given functions → All (λ (f : Func). IsPlain f → HasLeastRows given.arch f) functions
+rows_least bytes at given functions is_section slim k d lt plain rows width stands le held =
+    let f : Func = get_or functions k d in
+    let m : Member functions f = member functions f (k, lt, get_or_default functions k f d lt) in
+    let own = ap (λ (rs : List Row). rows_len rs) (own_needed given functions (table_rises bytes at given is_section) slim f m plain) in
+    let fewer = none_is_shorter given.arch f rows width stands le held in
+    omega (own, fewer, arith)
+
 module _ (bytes : List ℕ) (at : ℕ) (given : Table) (functions : List Func) (is_section : Section bytes at given) (slim : IsSlim given functions) (plain : All IsPlain functions)
     (place : ℕ) (other : List ℕ) (table : Table) (says : SaysTheSame given functions place other table) where
-  sound : All (IsSound given.arch) given.functions
-  sound = functions_sound given.arch bytes given.flags at _ given.functions is_section.functions
-
   rise : All (λ (f : Func). RowsRise f.rows) given.functions
-  rise = All-weaker (IsSound given.arch) (λ (f : Func). RowsRise f.rows) (λ f s. s.rise) given.functions sound
+  rise = table_rises bytes at given is_section
 
   good : All (λ (f : Func). All (IsGood given.arch) f.rows) given.functions
   good = functions_good given.arch bytes given.flags at _ given.functions is_section.functions
@@ -218,7 +240,7 @@ module _ (bytes : List ℕ) (at : ℕ) (given : Table) (functions : List Func) (
               said_alike f0 g back.1 n p q start size o within
               ∙ (sym (slim_says f0.size f0.rows rising o within) ∙ ap (λ (rs : List Row). content_at rs o) (sym rows));
         };
-        least = ap (λ (k : ℕ). slim_rows k f.rows) (sym size0) ∙ (ap (slim_rows f0.size) rows ∙ (slim_again f0.size f0.rows rising ∙ sym rows));
+        least = own_needed given functions rise slim f m (all_member IsPlain functions f plain m);
       }
 
   each : (fs gs : List Func) → ((f : Func) → Member fs f → Member functions f) → ((g : Func) → Member gs g → Member table.functions g) → map span gs ≡ map span fs → Each given.arch fs gs

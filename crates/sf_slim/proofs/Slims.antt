@@ -1,7 +1,7 @@
 -- What slimming comes to, by the results of its steps.
 use Rattle.std.specs.Option.{option_map}
 use Rattle.std.specs.List.Sorted.{IsPermutation, IsSorted}
-use Rattle.std.proofs.Common.{◌≡◌, ℕ, List, length, map, Option, Some, None, Ok, Err, sym, ap, ◌∙◌}
+use Rattle.std.proofs.Common.{◌≡◌, ℕ, List, length, map, Option, Some, None, Ok, Err, sym, ap, ◌∙◌, arith}
 use Rattle.sf_model.specs.declared.function.Func.{Func}
 use Rattle.sf_model.specs.Section.{AreBytes}
 use Rattle.sf_model.specs.Table.{row_count}
@@ -18,7 +18,9 @@ use Rattle.sf_slim.specs.declared.fault.SlimFault.{SlimFault}
 use Rattle.sf_slim.specs.declared.fault.SlimFault.TheVariants.{OutOfReach}
 use Rattle.sf_slim.specs.Answers.{IsSlimmed}
 use Rattle.sf_slim.specs.Slimming.{or_later, overlap_fault, reach_fault, sized, slimmed, unless_fault, Slims}
+use Rattle.sf_slim.proofs.Alike.{alike}
 use Rattle.sf_slim.proofs.Needed.{is_slim, needed, ordered_sound, slimmed_is}
+use Rattle.sf_slim.proofs.Shorter.{none_is_shorter_than, rows_least, table_rises}
 
 pub in_order : (given : View) (ordered : List Located) → IsPermutation (sized (view.table_of given)) ordered → IsSorted compared ordered → InOrder (sized (view.table_of given)) ordered
 in_order given ordered moved rising = record { moved = moved; rising = rising }
@@ -46,6 +48,11 @@ is_slimmed given at section functions rows ordered read order apart reach tight 
       needed = needed (map function_of ordered);
       are = (ordered, order, sym (ap (λ (o : Option SlimFault). unless_fault o (slimmed ordered)) none ∙ ap (λ (fs : List Func). Ok fs) written));
       slim = is_slim given ordered read order apart;
+      recovers = alike (view.table_of given) (needed (map function_of ordered)) (table_rises (view.section_bytes given) (view.section_address given) (view.table_of given) read) (is_slim given ordered read order apart);
+      least_rows = rows_least (view.section_bytes given) (view.section_address given) (view.table_of given) (needed (map function_of ordered)) read (is_slim given ordered read order apart);
+      least = λ plain place other table says.
+          let shorter = none_is_shorter_than (view.section_bytes given) (view.section_address given) (view.table_of given) (needed (map function_of ordered)) read (is_slim given ordered read order apart) plain place other table says in
+          omega (len, shorter, arith);
       tight = tight;
       narrow = narrow;
       are_bytes = bytes;

@@ -1,5 +1,5 @@
 -- What slimming answers, by the definition of what it comes to.
-use Rattle.std.specs.Prelude.{◌≡◌, ◌⊎◌, ℕ, List, length, Ok, Err}
+use Rattle.std.specs.Prelude.{◌≡◌, ◌⊎◌, ℕ, List, All, length, Ok, Err}
 use Rattle.sf_model.specs.declared.function.Func.{Func}
 use Rattle.sf_model.specs.Section.{AreBytes}
 use Rattle.sf_model.specs.Table.{Table, row_count}
@@ -7,15 +7,20 @@ use Rattle.sf_model.specs.Tight.{Narrow, Tight}
 use Rattle.sf_write.specs.Section.{section_len, table_of}
 use Rattle.sf_slim.specs.declared.fault.SlimFault.{SlimFault}
 use Rattle.sf_slim.specs.declared.fault.SlimFault.TheVariants.{NoMemory}
+use Rattle.sf_slim.specs.Shortest.{HasLeastRows, IsLeast, IsPlain, RecoverAlike}
 use Rattle.sf_slim.specs.Slim.{IsSlim}
 use Rattle.sf_slim.specs.Slimming.{Slims}
 
 -- This section is that of what is needed of the section of these bytes, which says this table, without gaps and with the least
--- widths, and these are the numbers of its functions and rows.
+-- widths, and these are the numbers of its functions and rows. It recovers what the given section recovers. No rows that say the same
+-- of one of its plain functions take fewer bytes, and where all are plain, no section that says the same is shorter.
 pub record IsSlimmed (bytes : List ℕ) (table : Table) (at : ℕ) (section : List ℕ) (functions rows : ℕ) : Type 0 where
   pub needed : List Func
   pub are : Slims bytes table at (Ok needed)
   pub slim : IsSlim table needed
+  pub recovers : RecoverAlike needed table.functions
+  pub least_rows : All (λ (f : Func). IsPlain f → HasLeastRows table.arch f) needed
+  pub least : All IsPlain needed → IsLeast table needed (length section)
   pub tight : Tight section at (table_of table.arch needed)
   pub narrow : Narrow section (table_of table.arch needed)
   pub are_bytes : AreBytes section

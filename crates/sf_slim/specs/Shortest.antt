@@ -1,5 +1,5 @@
 -- GNU SFrame specification, Version 2, frame row entries: the bytes of rows, and which lists of rows say the same.
-use Rattle.std.specs.Prelude.{◌≡◌, ◌<◌, ℕ, List, map, IsTrue, All, sum_by}
+use Rattle.std.specs.Prelude.{◌≡◌, ◌<◌, ◌≤◌, ℕ, List, length, map, IsTrue, All, sum_by}
 use Rattle.sf_model.specs.declared.machine.Arch.{Arch}
 use Rattle.sf_model.specs.declared.function.Func.{Func}
 use Rattle.sf_model.specs.declared.function.Shape.TheVariants.{Plain}
@@ -13,6 +13,7 @@ use Rattle.sf_model.specs.Tight.{Tight}
 use Rattle.sf_model.specs.Walk.{recover_by_rows}
 use Rattle.sf_model.specs.Width.{holds_unsigned}
 use Rattle.sf_sizes.specs.RowLength.{row_len}
+use Rattle.sf_write.specs.Row.{rows_len}
 use Rattle.sf_slim.specs.Slim.{content_at}
 
 -- the bytes of rows whose starts have this width, each with the least width for its offsets
@@ -30,7 +31,15 @@ pub record StandsFor (arch : Arch) (f : Func) (rows : List Row) : Type 0 where
   pub fit : All (λ (r : Row). IsTrue (content_fits arch r.content)) rows
   pub same : (offset : ℕ) → offset < f.size → content_at rows offset ≡ content_at f.rows offset
 
+-- no rows that say the same take fewer bytes than the function's own
+abbrev pub HasLeastRows : Arch → Func → Type 0
+HasLeastRows arch f = (rows : List Row) (width : ℕ) → StandsFor arch f rows → width ≤ 2 → HoldsStarts width rows → rows_len f.rows ≤ row_bytes width rows
+
 -- ---- whole sections
+-- at every address both recover the same, for all registers and any memory, or both nothing
+abbrev pub RecoverAlike : (functions others : List Func) → Type 0
+RecoverAlike functions others = (pc : ℕ) (regs : Regs) (memory : List Region) → recover_by_rows functions memory pc regs ≡ recover_by_rows others memory pc regs
+
 abbrev pub span : Func → ℕ × ℕ
 span f = (f.start, f.size)
 
@@ -44,4 +53,8 @@ pub record SaysTheSame (given : Table) (functions : List Func) (at : ℕ) (bytes
   pub machine : table.arch ≡ given.arch
   pub plain : All IsPlain table.functions
   pub spans : map span table.functions ≡ map span functions
-  pub alike : (pc : ℕ) (regs : Regs) (memory : List Region) → recover_by_rows table.functions memory pc regs ≡ recover_by_rows given.functions memory pc regs
+  pub alike : RecoverAlike table.functions given.functions
+
+-- no section of plain functions that says the same is shorter
+abbrev pub IsLeast : (given : Table) → (functions : List Func) → (len : ℕ) → Type 0
+IsLeast given functions len = (at : ℕ) (bytes : List ℕ) (table : Table) → SaysTheSame given functions at bytes table → len ≤ length bytes

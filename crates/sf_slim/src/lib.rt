@@ -5,11 +5,11 @@
 //! begins or changes, and no other. A function of repeated blocks keeps its rows. Which these are is a
 //! filter over all offsets of a function (`IsSlim` of `specs/Slim.antt`); the code makes one pass over the
 //! rows. The answer is the `Tight` and `Narrow` section of these functions, by the definitions of
-//! `sf_model`.
+//! `sf_model`. The same is recovered at every address, and it can't be said in fewer bytes (`RecoverAlike`,
+//! `HasLeastRows` and `IsLeast` of `specs/Shortest.antt`).
 //!
-//! [`slim_functions_recover_alike`], [`no_list_of_rows_is_shorter`] and [`no_section_is_shorter`] are laws: the
-//! same is recovered at every address, and it can't be said in fewer bytes. [`slimming_comes_to_one_result`] is
-//! one too: so the answer is Ok exactly where the definition (`Slims` of `specs/Slimming.antt`) has no fault.
+//! By the law [`slimming_comes_to_one_result`] the answer is Ok exactly where the definition (`Slims` of
+//! `specs/Slimming.antt`) has no fault.
 //!
 //! The caller owes nothing. Memory is taken for the functions and for the section.
 #![tactic(auto)]
@@ -22,8 +22,5 @@ mod passing;
 mod slimming;
 
 pub use fault::SlimFault;
-pub use laws::{
-    no_list_of_rows_is_shorter, no_section_is_shorter, slim_functions_recover_alike,
-    slimming_comes_to_one_result,
-};
+pub use laws::slimming_comes_to_one_result;
 pub use slimming::{Slimmed, slim};
