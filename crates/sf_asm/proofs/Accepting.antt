@@ -23,6 +23,7 @@ use Rattle.sf_asm.specs.Kept.{entry_of}
 use Rattle.sf_asm.specs.Linking.{Gathers, GathersFrom, InOrder, Links, LinksFrom, functions_fault, limits_fault, link_fault, or_later, overlap, overlap_after, overlap_fault, overlap_in, overlap_with, start_of, unless_fault}
 use Rattle.sf_asm.specs.Order.{are_apart, entry_rows}
 use Rattle.sf_asm.proofs.ByStart.{by_key, by_key-moved, by_key-rising, by_key-stable}
+use Rattle.sf_asm.proofs.Described.{describe, described, from_gathers, from_links, to_gathers, to_links}
 use Rattle.sf_asm.proofs.GatheredInputs.{are_read, by_parts, parts_of}
 use Rattle.sf_asm.proofs.Kept.{not_overlapping_apart}
 use Rattle.sf_asm.proofs.Limits.{within_limits, few_functions, few_rows}
@@ -225,7 +226,7 @@ gathered_with before objects functions ordered are unmixed order fine =
     let apart = not_overlapping_apart ordered (no_mapped overlap_fault (overlap_in (spans_of ordered)) checks.1) in
     record {
       functions = functions;
-      are = are;
+      are = describe (first_item before) objects (Ok functions) are;
       arch = one.arch;
       machine = one.all;
       few = (let mapped = length-map functions entry_of in omega (arith, count, few, mapped));
@@ -253,7 +254,7 @@ accepted_from before objects at (Ok functions) ordered e (other, order, is) =
 accepted_from before objects at (Err fault) ordered e is = cc
 
 pub links_accepted : (before : Option Arch) (objects : List Object) (at : ℕ) (ordered : List Entry) → Links before objects at (Ok ordered) → IsAccepted before objects at
-links_accepted before objects at ordered h = accepted_from before objects at (all_functions before objects) ordered refl h
+links_accepted before objects at ordered h = accepted_from before objects at (all_functions before objects) ordered refl (from_links before objects at (Ok ordered) h)
 
 fine_in_order : (functions : List Function) (ordered : List Entry) → InOrder (map entry_of functions) ordered → length functions ≤ 2 ^ 21 → sum_by entry_rows (map entry_of functions) ≤ 2 ^ 24
     → ((address : ℕ) → how_many_at address (map entry_of functions) ≤ 1) → functions_fault ordered ≡ None
@@ -269,7 +270,7 @@ fine_in_order functions ordered order few rows apart =
 -- what is read of inputs that can be gathered
 read_all : (before : Option Arch) (objects : List Object) (h : CanBeGathered before objects) → all_functions before objects ≡ Ok h.functions
 read_all before objects h =
-    ap (λ (given : Result (List Function) GatherFault). by_parts given (mixed_fault before objects)) h.are
+    ap (λ (given : Result (List Function) GatherFault). by_parts given (mixed_fault before objects)) (described (first_item before) objects (Ok h.functions) h.are)
     ∙ ap (λ (mixed : Option GatherFault). by_parts (Ok h.functions) mixed) (one_is_unmixed h.arch (machines_of before objects) h.machine)
 
 pub accepted_links : (before : Option Arch) (objects : List Object) (at : ℕ) (h : IsAccepted before objects at) → Links before objects at (Ok h.ordered)
@@ -278,8 +279,8 @@ accepted_links before objects at h =
     let fine : link_fault at h.ordered ≡ None =
     ap (λ (x : Option GatherFault). or_later (option_map link.Gather x) (option_map link.OutOfReach (first_out_of_reach at 0 (kept_of h.ordered)))) (fine_in_order g.functions h.ordered h.in_order g.few g.few_rows g.apart)
     ∙ ap (option_map link.OutOfReach) h.near in
-    subst (λ (given : Result (List Function) GatherFault). LinksFrom at given (Ok h.ordered)) (sym (read_all before objects g))
-    (h.ordered, h.in_order, sym (ap (λ (x : Option LinkFault). unless_fault x h.ordered) fine))
+    to_links before objects at (Ok h.ordered) (subst (λ (given : Result (List Function) GatherFault). LinksFrom at given (Ok h.ordered)) (sym (read_all before objects g))
+    (h.ordered, h.in_order, sym (ap (λ (x : Option LinkFault). unless_fault x h.ordered) fine)))
 
 -- ---- gathering
 entries_in_order : (functions : List Function) → InOrder (map entry_of functions) (by_key start_of (map entry_of functions))
@@ -295,8 +296,8 @@ are_gathered before objects h =
     let order = entries_in_order h.functions in
     let fine = fine_in_order h.functions ordered order h.few h.few_rows h.apart in (
       ordered,
-      subst (λ (given : Result (List Function) GatherFault). GathersFrom given (Ok ordered)) (sym (read_all before objects h))
-          (ordered, order, sym (ap (λ (x : Option GatherFault). unless_fault x ordered) fine)),
+      to_gathers before objects (Ok ordered) (subst (λ (given : Result (List Function) GatherFault). GathersFrom given (Ok ordered)) (sym (read_all before objects h))
+          (ordered, order, sym (ap (λ (x : Option GatherFault). unless_fault x ordered) fine))),
     )
 
 pub gathered_can_be : (before : Option Arch) (objects : List Object) (ordered : List Entry) → Gathers before objects (Ok ordered) → CanBeGathered before objects
@@ -314,4 +315,4 @@ refused_by functions fault few rows apart (ordered, order, is) =
 
 pub none_refused : (before : Option Arch) (objects : List Object) (fault : GatherFault) → CanBeGathered before objects → Gathers before objects (Err fault) → ⊥
 none_refused before objects fault h is =
-    refused_by h.functions fault h.few h.few_rows h.apart (subst (λ (given : Result (List Function) GatherFault). GathersFrom given (Err fault)) (read_all before objects h) is)
+    refused_by h.functions fault h.few h.few_rows h.apart (subst (λ (given : Result (List Function) GatherFault). GathersFrom given (Err fault)) (read_all before objects h) (from_gathers before objects (Err fault) is))

@@ -19,9 +19,11 @@ use Rattle.sf_asm.specs.Entry.{kept_of, omitted_of, spans_of}
 use Rattle.sf_asm.specs.Faithful.{Faithful}
 use Rattle.sf_asm.specs.Functions.{Function, Object}
 use Rattle.sf_asm.specs.Inputs.{HaveMachine, all_functions}
+use Rattle.sf_asm.specs.Inputs.{first_item}
 use Rattle.sf_asm.specs.Kept.{entry_of}
 use Rattle.sf_asm.specs.Linking.{InOrder, overlap_fault, overlap_in, limits_fault, functions_fault, link_fault, or_later, unless_fault, Gathers, GathersFrom, Links, LinksFrom}
 use Rattle.sf_asm.proofs.Agreeing.{recovers_by_dwarf}
+use Rattle.sf_asm.proofs.Described.{describe, from_gathers, to_links}
 use Rattle.sf_asm.proofs.GatheredInputs.{are_read, checked_is}
 use Rattle.sf_asm.proofs.Walking.{walks_by_dwarf}
 
@@ -54,7 +56,7 @@ linked before objects at section kept arch functions omitted ordered h machine k
     let read = are_read before objects ordered h in
     record {
       functions = read.functions;
-      are = read.are;
+      are = describe (first_item before) objects (Ok read.functions) read.are;
       arch = arch;
       machine = machine;
       ordered = ordered;
@@ -79,7 +81,7 @@ gathered_refused objects at (Ok functions) fault (ordered, order, is) = (ordered
 gathered_refused objects at (Err other) fault is = ap (λ (x : GatherFault). Err (link.Gather x)) (let same : fault ≡ other = cc in same)
 
 pub not_gathered : (before : Option Arch) (objects : List Object) (at : ℕ) (fault : GatherFault) → Gathers before objects (Err fault) → Links before objects at (Err (link.Gather fault))
-not_gathered before objects at fault h = gathered_refused objects at (all_functions before objects) fault h
+not_gathered before objects at fault h = to_links before objects at (Err (link.Gather fault)) (gathered_refused objects at (all_functions before objects) fault (from_gathers before objects (Err fault) h))
 
 out_of_reach : (at : ℕ) (given : Result (List Function) GatherFault) (ordered : List Entry) (start : ℕ) → first_out_of_reach at 0 (kept_of ordered) ≡ Some start → GathersFrom given (Ok ordered) → LinksFrom at given (Err (link.OutOfReach start))
 out_of_reach at (Ok functions) ordered start far (other, order, is) =
@@ -98,4 +100,4 @@ reach_refused fault start far is h = subst (λ (f : WriteFault). Refuses f far) 
 pub not_reached : (before : Option Arch) (objects : List Object) (at : ℕ) (functions : List Func) (ordered : List Entry) (start : ℕ) → Gathers before objects (Ok ordered) → functions ≡ kept_of ordered → first_out_of_reach at 0 functions ≡ Some start
     → Links before objects at (Err (link.OutOfReach start))
 not_reached before objects at functions ordered start h kept_are far =
-    out_of_reach at (all_functions before objects) ordered start (subst (λ (fs : List Func). first_out_of_reach at 0 fs ≡ Some start) kept_are far) h
+    to_links before objects at (Err (link.OutOfReach start)) (out_of_reach at (all_functions before objects) ordered start (subst (λ (fs : List Func). first_out_of_reach at 0 fs ≡ Some start) kept_are far) (from_gathers before objects (Ok ordered) h))

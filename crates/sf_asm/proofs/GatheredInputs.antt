@@ -1,13 +1,14 @@
 -- What gathering inputs comes to, from what was read of them and tried.
-use Rattle.std.proofs.Common.{◌≡◌, ◌+◌, All, List, length, map, Option, Some, None, Result, Ok, Err, refl, sym, ap, subst}
+use Rattle.std.proofs.Common.{◌≡◌, ℕ, ◌+◌, All, List, length, map, Option, Some, None, Result, Ok, Err, refl, sym, ap, subst, ◌∙◌}
 use Rattle.sf_model.specs.declared.machine.Arch.{Arch}
 use Rattle.sf_asm.specs.declared.entry.Entry.{Entry}
 use Rattle.sf_asm.specs.declared.fault.GatherFault.{GatherFault}
 use Rattle.sf_asm.specs.Answers.{seen_as}
-use Rattle.sf_asm.specs.Functions.{◌>>=◌, Function, Object, functions_of, unless}
-use Rattle.sf_asm.specs.Inputs.{all_functions, first_item, mixed_fault}
+use Rattle.sf_asm.specs.Functions.{◌>>=◌, Function, Object, functions_of, machine_of, unless}
+use Rattle.sf_asm.specs.Inputs.{all_functions, first_item, mixed_among, mixed_fault, with_before}
 use Rattle.sf_asm.specs.Kept.{entry_of}
 use Rattle.sf_asm.specs.Linking.{InOrder, functions_fault, unless_fault, Gathers, GathersFrom}
+use Rattle.sf_asm.proofs.Described.{from_gathers, to_gathers}
 use Rattle.sf_asm.proofs.Items.{IsWithin, ordered_within}
 
 -- ---- from what was read, and from the machines
@@ -30,8 +31,8 @@ with_one_machine (Err fault) mixed e = refl
 pub tried : (before : Option Arch) (objects : List Object) (entries ordered : List Entry) (fault : Option GatherFault) → seen_as (map entry_of) (functions_of (first_item before) objects) ≡ Ok entries → mixed_fault before objects ≡ None
     → InOrder entries ordered → functions_fault ordered ≡ fault → Gathers before objects (unless_fault fault ordered)
 tried before objects entries ordered fault reads one order checked =
-    subst (λ (given : Result (List Function) GatherFault). GathersFrom given (unless_fault fault ordered)) (sym (with_one_machine (functions_of (first_item before) objects) (mixed_fault before objects) one))
-    (in_order_from (functions_of (first_item before) objects) entries ordered fault reads order checked)
+    to_gathers before objects (unless_fault fault ordered) (subst (λ (given : Result (List Function) GatherFault). GathersFrom given (unless_fault fault ordered)) (sym (with_one_machine (functions_of (first_item before) objects) (mixed_fault before objects) one))
+    (in_order_from (functions_of (first_item before) objects) entries ordered fault reads order checked))
 
 refused_from : (given : Result (List Function) GatherFault) (fault : GatherFault) → given ≡ Err fault → GathersFrom given (Err fault)
 refused_from (Ok functions) fault e = cc
@@ -39,7 +40,7 @@ refused_from (Err other) fault e = let is : other ≡ fault = cc in ap Err (sym 
 
 pub input_refused : (before : Option Arch) (objects : List Object) (fault : GatherFault) → functions_of (first_item before) objects ≡ Err fault → Gathers before objects (Err fault)
 input_refused before objects fault e =
-    refused_from (all_functions before objects) fault (ap (λ (given : Result (List Function) GatherFault). by_parts given (mixed_fault before objects)) e)
+    to_gathers before objects (Err fault) (refused_from (all_functions before objects) fault (ap (λ (given : Result (List Function) GatherFault). by_parts given (mixed_fault before objects)) e))
 
 mixed_refused : (given : Result (List Function) GatherFault) (entries : List Entry) (mixed : Option GatherFault) (fault : GatherFault) → seen_as (map entry_of) given ≡ Ok entries → mixed ≡ Some fault → by_parts given mixed ≡ Err fault
 mixed_refused (Ok functions) entries (Some other) fault reads e = ap Err (let is : other ≡ fault = cc in is)
@@ -49,7 +50,23 @@ mixed_refused (Err other) entries mixed fault reads e = cc
 pub machines_refused : (before : Option Arch) (objects : List Object) (entries : List Entry) (fault : GatherFault) → seen_as (map entry_of) (functions_of (first_item before) objects) ≡ Ok entries → mixed_fault before objects ≡ Some fault
     → Gathers before objects (Err fault)
 machines_refused before objects entries fault reads e =
-    refused_from (all_functions before objects) fault (mixed_refused (functions_of (first_item before) objects) entries (mixed_fault before objects) fault reads e)
+    to_gathers before objects (Err fault) (refused_from (all_functions before objects) fault (mixed_refused (functions_of (first_item before) objects) entries (mixed_fault before objects) fault reads e))
+
+-- the same from what the calls answered
+pub none_if : (x : Option GatherFault) (u : Unit {0}) → Ok u ≡ unless x → x ≡ None
+none_if None u e = refl
+none_if (Some fault) u e = cc
+
+pub some_if : (x : Option GatherFault) (fault : GatherFault) → Err fault ≡ unless x → x ≡ Some fault
+some_if None fault e = cc
+some_if (Some other) fault e = let same : fault ≡ other = cc in ap Some (sym same)
+
+pub tried_by : (before : Option Arch) (objects : List Object) (first : ℕ) (entries ordered : List Entry) (machines : List Arch) (u : Unit {0}) (fault : Option GatherFault) → first ≡ first_item before
+    → seen_as (map entry_of) (functions_of first objects) ≡ Ok entries → machines ≡ map machine_of objects → Ok u ≡ unless (mixed_among (with_before before machines)) → InOrder entries ordered → functions_fault ordered ≡ fault
+    → Gathers before objects (unless_fault fault ordered)
+tried_by before objects first entries ordered machines u fault at reads are exact order checked =
+    tried before objects entries ordered fault (ap (λ (n : ℕ). seen_as (map entry_of) (functions_of n objects)) (sym at) ∙ reads)
+    (ap (λ (ms : List Arch). mixed_among (with_before before ms)) (sym are) ∙ none_if (mixed_among (with_before before machines)) u exact) order checked
 
 -- ---- back
 -- what inputs come to of which none is refused
@@ -87,7 +104,7 @@ ordered_is before objects (Ok functions) ordered e (other, order, is) =
 ordered_is before objects (Err fault) ordered e is = cc
 
 pub are_read : (before : Option Arch) (objects : List Object) (ordered : List Entry) → Gathers before objects (Ok ordered) → AreRead before objects ordered
-are_read before objects ordered h = ordered_is before objects (all_functions before objects) ordered refl h
+are_read before objects ordered h = ordered_is before objects (all_functions before objects) ordered refl (from_gathers before objects (Ok ordered) h)
 
 -- the functions are of these inputs
 pub gathered_within : (before : Option Arch) (objects : List Object) (ordered : List Entry) → Gathers before objects (Ok ordered) → All (IsWithin (first_item before) (first_item before + length objects)) ordered

@@ -29,3 +29,4 @@ pub mod Holding
 pub mod SaidPieces
 pub mod RowAt
 pub mod NeverMemory
+pub mod Described

@@ -9,7 +9,6 @@ use Rattle.sf_model.specs.declared.omission.Omission.{Omission}
 use Rattle.sf_model.specs.declared.omission.Reason.{Reason}
 use Rattle.sf_model.specs.declared.rows.Row.{Row}
 use Rattle.sf_model.specs.Function.{key_fits}
-use Rattle.cfa_insn.specs.Listing.{listing}
 use Rattle.cfa_machine.specs.declared.fault.MachineFault.{MachineFault}
 use Rattle.cfa_machine.specs.declared.row.DwRow.{DwRow}
 use Rattle.cfa_machine.specs.FirstFault.{first_fault}
@@ -34,7 +33,7 @@ use Rattle.sf_asm.proofs.ReadFunctions.{are_said}
 
 -- the rows of a function, or the fault of its first instruction that can't be run
 abbrev pub rows_of : Function → Result (List DwRow) MachineFault
-rows_of f = rows_by f.arch f.code f.factor f.size (listing f.initial) (listing f.own)
+rows_of f = rows_by f.arch f.code f.factor f.size f.initial f.own
 
 abbrev pub made_of : Function → Result (List DwRow) MachineFault → Result Outcome MachineFault
 made_of f given = on_rows (λ rows. outcome_by (function_by f.arch (facts_of f) rows)) given
@@ -44,7 +43,7 @@ meant : (f : Function) (rows : List DwRow) (x : Result Func Omission) → AreRow
 meant f rows (Ok g) h are e = answer_means f.arch (facts_of f) rows (Ok g) h e (answer_omits f.arch (facts_of f) rows (Ok g) h e) (says_of f) are
 meant f rows (Err omission) h are e = answer_means f.arch (facts_of f) rows (Err (Omit omission)) h e (answer_omits f.arch (facts_of f) rows (Err (Omit omission)) h e) (says_of f) are
 
-means_by : (f : Function) (given : Result (List DwRow) MachineFault) (outcome : Outcome) → AreRowsIfOk f.arch f.size given → SaysAllIfOk f.arch f.code f.factor f.size (listing f.initial) (listing f.own) given → made_of f given ≡ Ok outcome → outcome ≡ outcome_by (function_of f.arch (facts_of f) (says_of f))
+means_by : (f : Function) (given : Result (List DwRow) MachineFault) (outcome : Outcome) → AreRowsIfOk f.arch f.size given → SaysAllIfOk f.arch f.code f.factor f.size f.initial f.own given → made_of f given ≡ Ok outcome → outcome ≡ outcome_by (function_of f.arch (facts_of f) (says_of f))
 means_by f (Ok rows) outcome h say e =
     let is : outcome_by (function_by f.arch (facts_of f) rows) ≡ outcome = cc in
     sym is ∙ ap outcome_by (sym (meant f rows (function_by f.arch (facts_of f) rows) h (are_said f rows say) refl))
@@ -108,5 +107,5 @@ made_here f facts left outcome same is e =
 pub refused_here : (section : ℕ) (f : Function) (left : Result (List DwRow) MachineFault) (fault : AsmFault) → left ≡ rows_of f → named (asm.Machine section) left ≡ Err fault → named (asm.Machine section) (rows_of f) ≡ Err fault
 refused_here section f left fault is e = subst (λ (x : Result (List DwRow) MachineFault). named (asm.Machine section) x ≡ Err fault) is e
 
-pub first_of : (f : Function) → fault_of (rows_of f) ≡ first_fault f.arch f.factor (listing f.initial) (listing f.own)
-first_of f = rows_by-fault f.arch f.code f.factor f.size (listing f.initial) (listing f.own)
+pub first_of : (f : Function) → fault_of (rows_of f) ≡ first_fault f.arch f.factor f.initial f.own
+first_of f = rows_by-fault f.arch f.code f.factor f.size f.initial f.own

@@ -63,6 +63,7 @@ use Rattle.sf_asm.specs.Linking.{Gathers, GathersFrom, functions_fault, limits_f
 use Rattle.sf_asm.specs.Order.{entry_rows}
 use Rattle.sf_asm.specs.Relocated.{Values, by_place, on_pointers, patched_values, pointer_check, pointer_slot, relocations_of}
 use Rattle.sf_asm.specs.Sections.{dropped_after, elf_sections, linked_check, linked_kind, placed_section, placing_of}
+use Rattle.sf_asm.proofs.Described.{from_gathers}
 
 -- ---- which faults there are
 -- a fault, where there is one, is of this kind
@@ -404,7 +405,7 @@ gathers_from (Err fault) result h is = subst (FaultIs is_wrapped_answered) (sym 
 
 -- gathering comes to no fault but a refusal or a limit
 gathers : (before : Option Arch) (objects : List Object) (result : Result (List Entry) GatherFault) → Gathers before objects result → FaultIs is_wrapped_answered result
-gathers before objects result h = gathers_from (all_functions before objects) result (all_refused before objects) h
+gathers before objects result h = gathers_from (all_functions before objects) result (all_refused before objects) (from_gathers before objects result h)
 
 -- and a call returns that fault, or that memory ran out
 pub first_is_answered : (before : Option Arch) (objects : List Object) (fault : GatherFault) → IsFirstGathered before objects fault → IsTrue (is_gather_answered fault)

@@ -9,6 +9,7 @@ use Rattle.sf_asm.specs.Functions.{Function, Object}
 use Rattle.sf_asm.specs.Inputs.{all_functions}
 use Rattle.sf_asm.specs.Kept.{entry_of}
 use Rattle.sf_asm.specs.Linking.{start_of, InOrder, link_fault, unless_fault, Links, LinksFrom}
+use Rattle.sf_asm.proofs.Described.{from_links}
 
 pub one_order : (all es fs : List Entry) → InOrder all es → InOrder all fs → es ≡ fs
 one_order all es fs a b = one_order_of start_of es fs a.rising b.rising (λ x. a.stable x ∙ sym (b.stable x))
@@ -21,4 +22,4 @@ result_from at (Ok functions) r r' (es, order, e) (fs, order', e') =
 result_from at (Err fault) r r' e e' = e ∙ sym e'
 
 pub one_result : (before : Option Arch) (objects : List Object) (at : ℕ) (r r' : Result (List Entry) LinkFault) → Links before objects at r → Links before objects at r' → r ≡ r'
-one_result before objects at r r' h h' = result_from at (all_functions before objects) r r' h h'
+one_result before objects at r r' h h' = result_from at (all_functions before objects) r r' (from_links before objects at r h) (from_links before objects at r' h')

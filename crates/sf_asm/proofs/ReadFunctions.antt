@@ -3,7 +3,6 @@ use Rattle.std.proofs.Math.Seq.{drop-cons}
 use Rattle.std.proofs.Common.{◌≡◌, ℕ, suc, ◌<◌, length, drop, get_or, Bool, true, false, cond, List, [], ◌∷◌, ◌++◌, map, Option, Some, None, Result, Ok, Err, refl, sym, ap, ◌∙◌, append_assoc, inl, inr}
 use Rattle.std.proofs.lemmas.List.{append-nil, map-append}
 use Rattle.sf_model.specs.declared.machine.Arch.{Arch}
-use Rattle.cfa_insn.specs.Listing.{listing}
 use Rattle.cfa_machine.specs.declared.row.DwRow.{DwRow}
 use Rattle.cfa_machine.specs.RowAtOffset.{SayAll}
 use Rattle.cfa_machine.specs.Columns.{row_from}
@@ -32,7 +31,7 @@ content_anywhere : (arch : Arch) (a b : ℕ) (columns : Columns) → content_of 
 unfolding content_of
 content_anywhere arch a b columns = refl
 
-pub are_said : (f : Function) (rows : List DwRow) → SayAll f.arch f.code f.factor f.size (listing f.initial) (listing f.own) rows → AreSaid f.arch f.size rows (says_of f)
+pub are_said : (f : Function) (rows : List DwRow) → SayAll f.arch f.code f.factor f.size f.initial f.own rows → AreSaid f.arch f.size rows (says_of f)
 are_said f rows h = λ o lt.
     let there = h o lt in
     ap (said f.arch) there.is ∙ ap Some (content_anywhere f.arch there.start o (columns_of f.arch (full_row f o)))

@@ -14,16 +14,18 @@ use Rattle.sf_model.specs.Function.{IsWritable}
 use Rattle.sf_model.specs.Lookup.{contains}
 use Rattle.sf_express.specs.declared.pieces.Piece.{Piece}
 use Rattle.sf_express.specs.Pieces.{ArePieces, AreSaidBy, PiecesDiffer, piece_of_row, said_by}
+use Rattle.sf_asm.specs.Described.{Describe}
 use Rattle.sf_asm.specs.declared.source.Source.{Source}
 use Rattle.sf_asm.specs.Entry.{kept_of}
 use Rattle.sf_asm.specs.Faithful.{holds_address}
-use Rattle.sf_asm.specs.Functions.{Function, Object, functions_of}
+use Rattle.sf_asm.specs.Functions.{Function, Object}
 use Rattle.sf_asm.specs.Kept.{entry_of, is_kept, kept_functions, omitted_functions}
 use Rattle.sf_asm.specs.Order.{are_apart}
 use Rattle.sf_asm.specs.Said.{IsSaidUpTo, RowAt, SaidTo, SaysUpTo, dwarf_at, form_content, said_in, with_key}
 use Rattle.sf_asm.specs.Sources.{AreWithSources, functions_lent, source_function}
 use Rattle.sf_asm.specs.declared.said.Said.{Said}
 use Rattle.sf_asm.proofs.Agreeing.{expressed_of, find_kept, found_passes}
+use Rattle.sf_asm.proofs.Described.{described}
 use Rattle.sf_model.proofs.Unions.{Member, found, found_alone, from_filter, in_filter, some_found}
 use Rattle.sf_asm.proofs.Finding.{found_alike}
 use Rattle.sf_asm.proofs.Holding.{IsWithin, gathered_apart, is_within, kept_said_by, one_holds, within}
@@ -193,9 +195,9 @@ module _ (objects : List Object) (arch : Arch) (kept : List Func) (omitted : Lis
   apart : are_apart 0 (map entry_of h.sorted) ≡ true
   apart = gathered_apart None objects (map entry_of h.sorted) h.is
 
-  of_these : (row : Option (Content × Key × ℕ)) → RowAt h.functions pc row → (functions : List Function) → functions_of 0 objects ≡ Ok functions → RowAt functions pc row
+  of_these : (row : Option (Content × Key × ℕ)) → RowAt h.functions pc row → (functions : List Function) → Describe 0 objects (Ok functions) → RowAt functions pc row
   of_these row is functions are =
-      let both : Ok h.functions ≡ Ok functions = sym h.are ∙ are in
+      let both : Ok h.functions ≡ Ok functions = sym (described 0 objects (Ok h.functions) h.are) ∙ described 0 objects (Ok functions) are in
       let same : h.functions ≡ functions = cc in
       subst (λ (fs : List Function). RowAt fs pc row) same is
 
@@ -223,18 +225,18 @@ module _ (objects : List Object) (arch : Arch) (kept : List Func) (omitted : Lis
 
   pub row_of_kept : (g : Func) → find (contains pc) kept ≡ Some g → (row : Option (Content × Key × ℕ))
       → ((f : Function) → f.start ≡ g.start → f.size ≡ g.size → f.key ≡ g.key → AreSaidBy g.size (form_content f) (map piece_of_row g.rows) → SaysUpTo (λ p. said_in p f) f pc row)
-      → (functions : List Function) → functions_of 0 objects ≡ Ok functions → RowAt functions pc row
+      → (functions : List Function) → Describe 0 objects (Ok functions) → RowAt functions pc row
   row_of_kept g e row says =
       let k = kept_function g e in
       let own = says k.f (sym (ap (λ (x : Func). x.start) k.is)) (sym (ap (λ (x : Func). x.size) k.is)) (sym (ap (λ (x : Func). x.key) k.is)) (said_by_rows g k) in
       of_these row (by_holder h.functions pc k.f row k.holder own)
 
   pub row_of_omitted : (s : Source) → find (λ (x : Source). holds_address pc (source_function x)) sources ≡ Some s → (row : Option (Content × Key × ℕ)) → SaysUpTo (λ p. said_in p (source_function s)) (source_function s) pc row
-      → (functions : List Function) → functions_of 0 objects ≡ Ok functions → RowAt functions pc row
+      → (functions : List Function) → Describe 0 objects (Ok functions) → RowAt functions pc row
   row_of_omitted s e row says = of_these row (by_holder h.functions pc (source_function s) row (omitted_there h.functions h.sorted h.by_start.moved apart pc sources s h.sources_are e) says)
 
   pub omitted_within : (s : Source) → find (λ (x : Source). holds_address pc (source_function x)) sources ≡ Some s → IsWithin pc s.facts.start s.facts.size
   omitted_within s e = within pc (source_function s) (found (λ (x : Source). holds_address pc (source_function x)) sources s e).passes
 
-  pub no_row : find (contains pc) kept ≡ None → find (λ (x : Source). holds_address pc (source_function x)) sources ≡ None → (functions : List Function) → functions_of 0 objects ≡ Ok functions → RowAt functions pc None
+  pub no_row : find (contains pc) kept ≡ None → find (λ (x : Source). holds_address pc (source_function x)) sources ≡ None → (functions : List Function) → Describe 0 objects (Ok functions) → RowAt functions pc None
   no_row no_kept no_omitted = of_these None (none_there h.functions h.sorted h.by_start.moved apart pc sources h.sources_are (subst (λ (ks : List Func). find (contains pc) ks ≡ None) h.kept_are no_kept) no_omitted)

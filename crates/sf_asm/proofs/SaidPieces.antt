@@ -7,7 +7,6 @@ use Rattle.std.proofs.lemmas.List.Elements.{All-nil, All-cons, All-head, All-tai
 use Rattle.sf_model.specs.declared.machine.Arch.{Arch}
 use Rattle.sf_model.specs.declared.content.Content.{Content}
 use Rattle.sf_model.specs.declared.omission.Reason.{Reason}
-use Rattle.cfa_insn.specs.Listing.{listing}
 use Rattle.cfa_machine.specs.declared.fault.MachineFault.{MachineFault}
 use Rattle.cfa_machine.specs.declared.row.DwRow.{DwRow}
 use Rattle.cfa_machine.specs.RowList.{sign_fits}
@@ -47,7 +46,7 @@ pub record AreMade (f : Function) (pieces : List Piece) : Type 0 where
   pub said : AreSaidBy f.size (λ offset. content_in (says_of f offset)) pieces
   pub fit : AllFit f.arch pieces
 
-made_by : (f : Function) (pieces : List Piece) (given : Result (List DwRow) MachineFault) → 0 < f.size → AreRowsIfOk f.arch f.size given → SaysAllIfOk f.arch f.code f.factor f.size (listing f.initial) (listing f.own) given
+made_by : (f : Function) (pieces : List Piece) (given : Result (List DwRow) MachineFault) → 0 < f.size → AreRowsIfOk f.arch f.size given → SaysAllIfOk f.arch f.code f.factor f.size f.initial f.own given
     → on_rows (pieces_of f.arch None) given ≡ Ok pieces → AreMade f pieces
 made_by f pieces (Ok rows) some good say e =
     let is : pieces_of f.arch None rows ≡ pieces = cc in

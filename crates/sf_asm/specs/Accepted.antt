@@ -4,9 +4,10 @@ use Rattle.std.specs.Prelude.{◌≡◌, ◌≤◌, ◌+◌, ◌^◌, ◌&&◌, 
 use Rattle.sf_model.specs.declared.machine.Arch.{Arch}
 use Rattle.sf_model.specs.declared.omission.Span.{Span}
 use Rattle.sf_write.specs.Reach.{first_out_of_reach}
+use Rattle.sf_asm.specs.Described.{Describe}
 use Rattle.sf_asm.specs.declared.entry.Entry.{Entry}
 use Rattle.sf_asm.specs.Entry.{kept_of}
-use Rattle.sf_asm.specs.Functions.{Function, Object, functions_of}
+use Rattle.sf_asm.specs.Functions.{Function, Object}
 use Rattle.sf_asm.specs.Inputs.{HaveMachine, first_item}
 use Rattle.sf_asm.specs.Kept.{entry_of}
 use Rattle.sf_asm.specs.Linking.{InOrder}
@@ -24,7 +25,7 @@ how_many_at address entries = sum_by (λ (e : Entry). if has_address address e.s
 pub record CanBeGathered (before : Option Arch) (objects : List Object) : Type 0 where
   pub functions : List Function
   -- none is malformed
-  pub are : functions_of (first_item before) objects ≡ Ok functions
+  pub are : Describe (first_item before) objects (Ok functions)
   -- all items have one machine
   pub arch : Arch
   pub machine : HaveMachine before objects arch

@@ -11,6 +11,7 @@ use Rattle.elf_reloc.specs.declared.fault.RelocFault.{RelocFault}
 use Rattle.sf_model.specs.Function.{AreWritable}
 use Rattle.sf_model.specs.Tight.{Narrow, Tight}
 use Rattle.sf_write.specs.Section.{table_of}
+use Rattle.sf_asm.specs.Described.{Describe}
 use Rattle.sf_asm.specs.declared.entry.Entry.{Entry}
 use Rattle.sf_asm.specs.declared.fault.AsmFault.{AsmFault}
 use Rattle.sf_asm.specs.declared.fault.AsmFault.TheVariants as asm
@@ -20,7 +21,7 @@ use Rattle.sf_asm.specs.declared.fault.LinkFault.{LinkFault}
 use Rattle.sf_asm.specs.declared.fault.LinkFault.TheVariants as link
 use Rattle.sf_asm.specs.Entry.{kept_by_item, kept_of, omitted_of, spans_of}
 use Rattle.sf_asm.specs.Faithful.{Faithful}
-use Rattle.sf_asm.specs.Functions.{Function, Object, functions_of, named, unless}
+use Rattle.sf_asm.specs.Functions.{Function, Object, named, unless}
 use Rattle.sf_asm.specs.Inputs.{HaveMachine, first_item}
 use Rattle.sf_asm.specs.Kept.{entry_of, omitted_functions}
 use Rattle.sf_asm.specs.Linking.{Gathers, InOrder, Links, link_fault}
@@ -98,12 +99,12 @@ pub record AreTogether (before : Option Arch) (objects : List Object) (arch : Ar
 abbrev pub IsFirstGathered : (before : Option Arch) → List Object → GatherFault → Type 0
 IsFirstGathered before objects fault = (fault ≡ gather.NoMemory) ⊎ Gathers before objects (Err fault)
 
--- These bytes are the section of inputs behind an item of this machine or of none: their functions are read and none is refused, all
--- items have one machine, the bytes are a faithful section of the functions, without gaps and with the least widths, and so many
--- functions are kept, and these are left out.
+-- These bytes are the section of inputs after an item of this machine or of none: the inputs describe functions, none of them is
+-- refused, all items have one machine, the bytes are a faithful section of the functions, without gaps and with the least widths, this
+-- number of functions is kept, and these are left out.
 pub record IsLinked (before : Option Arch) (objects : List Object) (at : ℕ) (section : List ℕ) (kept : ℕ) (omitted : List Omitted) : Type 0 where
   pub functions : List Function
-  pub are : functions_of (first_item before) objects ≡ Ok functions
+  pub are : Describe (first_item before) objects (Ok functions)
   pub arch : Arch
   pub machine : HaveMachine before objects arch
   pub ordered : List Entry

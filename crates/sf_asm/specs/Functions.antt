@@ -1,11 +1,10 @@
--- The functions that call frame sections describe, in the order of inputs, sections and records (LSB Core, "The .eh_frame section";
--- DWARF 5, section 6.4), or the first fault.
+-- The functions that call frame sections describe, as they are read: in the order of inputs, sections and records (LSB Core, "The .eh_frame
+-- section"; DWARF 5, section 6.4), or the first fault. `Describe` says the same by what the bytes are.
 use Rattle.std.specs.Prelude.{ℕ, ◌+◌, ℤ, Bool, List, [], ◌∷◌, ◌++◌, Option, Result, Ok, if◌then◌else◌}
-use Rattle.sf_bytes.specs.Cursor.{Cursor}
 use Rattle.sf_model.specs.declared.machine.Arch.{Arch}
 use Rattle.sf_model.specs.declared.machine.Key.{Key}
 use Rattle.sf_model.specs.declared.omission.Origin.{Origin}
-use Rattle.cfa_insn.specs.Listing.{listing}
+use Rattle.cfa_insn.specs.Listing.{Item, listing}
 use Rattle.cfa_machine.specs.declared.fault.MachineFault.{MachineFault}
 use Rattle.cfa_machine.specs.FirstFault.{first_fault}
 use Rattle.eh_records.specs.declared.fault.RecordFault.{RecordFault}
@@ -35,9 +34,9 @@ pub record Function : Type 0 where
   -- the code and data alignment factors
   pub code : ℕ
   pub factor : ℤ
-  -- the instructions of its common information entry, and its own, each with the place of its first byte
-  pub initial : Cursor
-  pub own : Cursor
+  -- the instructions of its common information entry, and its own, each with its place
+  pub initial : List Item
+  pub own : List Item
   pub origin : Origin
 
 -- ---- one function
@@ -49,8 +48,8 @@ span_in section values f = span_of f.cie.encoding f.begin.place section.address 
 abbrev pub fault_in : Arch → FdeView → Option MachineFault
 fault_in arch f = first_fault arch f.cie.factor (listing f.cie.insns) (listing f.insns)
 
-abbrev pub function_at : Arch → (item : ℕ) → CallFrames → FdeView → ℕ × ℕ → Function
-function_at arch item section f span = record {
+abbrev pub function_with : Arch → (item : ℕ) → CallFrames → FdeView → (initial own : List Item) → ℕ × ℕ → Function
+function_with arch item section f initial own span = record {
   arch = arch;
   start = span.0;
   size = span.1;
@@ -59,17 +58,24 @@ function_at arch item section f span = record {
   key = f.cie.key;
   code = f.cie.code;
   factor = f.cie.factor;
-  initial = f.cie.insns;
-  own = f.insns;
+  initial = initial;
+  own = own;
   origin = record { item = item; section = section.number; place = f.place };
 }
 
--- the function of a frame description entry: its start and size are known, and each of its instructions can be run
-unfoldable pub function_in : Arch → (item : ℕ) → CallFrames → Values → FdeView → Result Function AsmFault
-function_in arch item section values f = do
+abbrev pub function_at : Arch → (item : ℕ) → CallFrames → FdeView → ℕ × ℕ → Function
+function_at arch item section f span = function_with arch item section f (listing f.cie.insns) (listing f.insns) span
+
+-- the function of a frame description entry with these instructions: its start and size are known, and each instruction can be run
+abbrev pub by_instructions : Arch → (item : ℕ) → CallFrames → Values → FdeView → (initial own : List Item) → Result Function AsmFault
+by_instructions arch item section values f initial own = do
   span ← named (Record section.number) (span_in section values f)
-  _ ← named (Machine section.number) (unless (fault_in arch f))
-  Ok (function_at arch item section f span)
+  _ ← named (Machine section.number) (unless (first_fault arch f.cie.factor initial own))
+  Ok (function_with arch item section f initial own span)
+
+-- with those that are read
+unfoldable pub function_in : Arch → (item : ℕ) → CallFrames → Values → FdeView → Result Function AsmFault
+function_in arch item section values f = by_instructions arch item section values f (listing f.cie.insns) (listing f.insns)
 
 -- ---- all functions, or the first fault
 -- an entry whose start lies in a dropped section describes no function

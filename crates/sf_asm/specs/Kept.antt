@@ -5,7 +5,6 @@ use Rattle.std.specs.List.{filter}
 use Rattle.sf_model.specs.declared.facts.FdeFacts.{FdeFacts}
 use Rattle.sf_model.specs.declared.function.Func.{Func}
 use Rattle.sf_model.specs.declared.omission.Omission.{Omission}
-use Rattle.cfa_insn.specs.Listing.{listing}
 use Rattle.cfa_machine.specs.RowAtOffset.{row_at_offset}
 use Rattle.cfa_machine.specs.Columns.{row_from}
 use Rattle.cfa_machine.specs.FullRow.{FullRow, columns_of}
@@ -18,7 +17,7 @@ use Rattle.sf_asm.specs.Functions.{Function}
 
 -- the row of a function at an offset, with all registers
 abbrev pub full_row : Function → (offset : ℕ) → FullRow
-full_row f offset = row_at_offset f.code f.factor (listing f.initial) (listing f.own) offset
+full_row f offset = row_at_offset f.code f.factor f.initial f.own offset
 
 -- what SFrame can say of it: a content, or the first reason against the row
 abbrev pub says_of : Function → Saying

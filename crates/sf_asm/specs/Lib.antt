@@ -17,3 +17,4 @@ pub mod Placing
 pub mod Accepted
 pub mod Sources
 pub mod Said
+pub mod Described

@@ -15,7 +15,7 @@ use Rattle.sf_asm.specs.declared.fault.LinkFault.{LinkFault}
 use Rattle.sf_asm.specs.declared.fault.LinkFault.TheVariants.{Gather, OutOfReach}
 use Rattle.sf_asm.specs.Entry.{kept_of, spans_of}
 use Rattle.sf_asm.specs.Functions.{Function, Object}
-use Rattle.sf_asm.specs.Inputs.{all_functions}
+use Rattle.sf_asm.specs.Described.{DescribeTogether}
 use Rattle.sf_asm.specs.Kept.{entry_of}
 use Rattle.sf_asm.specs.Order.{entry_rows}
 pub use Rattle.sf_model.specs.Firsts.{or_later, unless_fault}
@@ -85,16 +85,22 @@ abbrev pub Ordered : Result (List Function) GatherFault → (List Entry → Type
 Ordered (Ok functions) Then Fails = (ordered : List Entry) × InOrder (map entry_of functions) ordered × Then ordered
 Ordered (Err fault) Then Fails = Fails fault
 
--- gathering inputs, behind an item of this machine or of none, comes to this
+-- gathering these functions, or the fault in their place, comes to this
 abbrev pub GathersFrom : Result (List Function) GatherFault → Result (List Entry) GatherFault → Type 0
 GathersFrom given result = Ordered given (λ ordered. result ≡ unless_fault (functions_fault ordered) ordered) (λ fault. result ≡ Err fault)
 
-abbrev pub Gathers : (before : Option Arch) → List Object → Result (List Entry) GatherFault → Type 0
-Gathers before objects result = GathersFrom (all_functions before objects) result
+-- gathering inputs, after an item of this machine or of none, comes to this
+pub record Gathers (before : Option Arch) (objects : List Object) (result : Result (List Entry) GatherFault) : Type 0 where
+  pub given : Result (List Function) GatherFault
+  pub described : DescribeTogether before objects given
+  pub comes : GathersFrom given result
 
 -- linking them for this address comes to this
 abbrev pub LinksFrom : (at : ℕ) → Result (List Function) GatherFault → Result (List Entry) LinkFault → Type 0
 LinksFrom at given result = Ordered given (λ ordered. result ≡ unless_fault (link_fault at ordered) ordered) (λ fault. result ≡ Err (Gather fault))
 
-abbrev pub Links : (before : Option Arch) → List Object → (at : ℕ) → Result (List Entry) LinkFault → Type 0
-Links before objects at result = LinksFrom at (all_functions before objects) result
+-- linking inputs for this address comes to this
+pub record Links (before : Option Arch) (objects : List Object) (at : ℕ) (result : Result (List Entry) LinkFault) : Type 0 where
+  pub given : Result (List Function) GatherFault
+  pub described : DescribeTogether before objects given
+  pub comes : LinksFrom at given result

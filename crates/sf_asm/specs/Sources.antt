@@ -3,17 +3,19 @@ use Rattle.std.specs.Prelude.{◌≡◌, ℕ, List, [], ◌∷◌, map, Option, 
 use Rattle.std.specs.List.Sorted.{IsPermutation, IsNonDecreasingBy, IsStableByKey}
 use Rattle.std.specs.Ordering.{nat_cmp}
 use Rattle.sf_bytes.specs.Cursor.{cursor}
+use Rattle.cfa_insn.specs.Listing.{listing}
 use Rattle.sf_model.specs.declared.machine.Arch.{Arch}
 use Rattle.sf_model.specs.declared.function.Func.{Func}
 use Rattle.sf_model.specs.declared.omission.Omitted.{Omitted}
 use Rattle.sf_model.specs.declared.omission.Span.{Span}
 use Rattle.eh_records.specs.declared.fde.Fde.{Fde}
 use Rattle.sf_model.specs.Function.{AreWritable}
+use Rattle.sf_asm.specs.Described.{Describe}
 use Rattle.sf_asm.specs.declared.entry.Outcome.{Outcome}
 use Rattle.sf_asm.specs.declared.entry.Outcome.TheVariants.{Kept, Left}
 use Rattle.sf_asm.specs.declared.source.Source.{Source}
 use Rattle.sf_asm.specs.Entry.{kept_of, omitted_of}
-use Rattle.sf_asm.specs.Functions.{Function, Object, functions_of}
+use Rattle.sf_asm.specs.Functions.{Function, Object}
 use Rattle.sf_asm.specs.Inputs.{first_item}
 use Rattle.sf_asm.specs.Kept.{entry_of, omitted_functions}
 use Rattle.sf_asm.specs.Linking.{Gathers}
@@ -29,8 +31,8 @@ source_function s = record {
   key = s.facts.key;
   code = s.code;
   factor = s.factor;
-  initial = cursor s.initial;
-  own = cursor s.own;
+  initial = listing (cursor s.initial);
+  own = listing (cursor s.own);
   origin = s.origin;
 }
 
@@ -45,8 +47,8 @@ function_by_span arch f span = record {
   key = f.cie.key;
   code = f.cie.code;
   factor = f.cie.factor;
-  initial = cursor f.cie.insns;
-  own = cursor f.insns;
+  initial = listing (cursor f.cie.insns);
+  own = listing (cursor f.insns);
   origin = span.origin;
 }
 
@@ -74,7 +76,7 @@ pub record AreByStart (all sorted : List Function) : Type 0 where
 -- ones, and these are the kept ones, the omitted ones, and the omitted ones as their records say them, one for each in the same order.
 pub record AreWithSources (before : Option Arch) (objects : List Object) (arch : Arch) (kept : List Func) (omitted : List Omitted) (sources : List Function) : Type 0 where
   pub functions : List Function
-  pub are : functions_of (first_item before) objects ≡ Ok functions
+  pub are : Describe (first_item before) objects (Ok functions)
   pub sorted : List Function
   pub by_start : AreByStart functions sorted
   pub is : Gathers before objects (Ok (map entry_of sorted))

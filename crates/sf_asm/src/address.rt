@@ -8,7 +8,8 @@ ghost use Rattle.sf_express.specs.Pieces.{ArePieces, AreSaidBy, piece_of_row};
 ghost use Rattle.sf_asm.specs.declared.fault.GatherFault.TheVariants as gather;
 ghost use Rattle.sf_asm.specs.Accepted.{CanBeGathered};
 ghost use Rattle.sf_asm.specs.Faithful.{holds_address};
-ghost use Rattle.sf_asm.specs.Functions.{Function, functions_of, object_of};
+ghost use Rattle.sf_asm.specs.Described.{Describe};
+ghost use Rattle.sf_asm.specs.Functions.{Function, object_of};
 ghost use Rattle.sf_asm.specs.Said.{RowAt, SaysUpTo, form_content, said_in};
 ghost use Rattle.sf_asm.specs.Sources.{AreWithSources, functions_lent, source_function};
 
@@ -141,7 +142,7 @@ pub fn row_at(
     requires small { All (λ input. length input.bytes.now < 2 ^ 32) inputs.now }
     requires accepted { CanBeGathered None (map object_of inputs.now) }
     // It is what the definition says of the functions of the inputs.
-    ensures { IfOk result (λ row. (functions : List Function) → functions_of 0 (map object_of inputs.now) ≡ Ok functions → RowAt functions pc row) }
+    ensures { IfOk result (λ row. (functions : List Function) → Describe 0 (map object_of inputs.now) (Ok functions) → RowAt functions pc row) }
 {
     let gathered = gather_accepted(alloc, inputs)?;
     if let Some(func) = kept_at(&gathered.kept, pc) {

@@ -105,6 +105,7 @@ fn check(entries: &OrderedEntries) -> Result<(), GatherFault>
 }
 
 /// The functions of all inputs, in order. Where `lending`, those that are left out are lent.
+#[tactic(auto, using(crate::proofs::GatheredInputs::tried, crate::proofs::GatheredInputs::input_refused, crate::proofs::GatheredInputs::machines_refused))]
 fn ordered<'a>(
     alloc: Global,
     inputs: &[Input<'a>],

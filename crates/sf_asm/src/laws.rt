@@ -1,6 +1,6 @@
 //! Laws: what the kept functions of inputs recover, and the walks over them.
 
-ghost use Rattle.std.specs.Prelude.{◌≡◌, ℕ, List, Option, None, Result, Ok, map};
+ghost use Rattle.std.specs.Prelude.{◌≡◌, ◌↔◌, ℕ, List, Option, None, Result, Ok, map};
 ghost use Rattle.std.specs.Option.{option_map};
 ghost use Rattle.sf_model.specs.declared.machine.Arch.{Arch};
 ghost use Rattle.sf_model.specs.declared.recovery.Regs.{Regs};
@@ -16,7 +16,9 @@ ghost use Rattle.elf_place.specs.Views.{Placing};
 ghost use Rattle.elf_reloc.specs.Applied.{applied_to};
 ghost use Rattle.sf_asm.specs.Relocated.{applied_by, pointer_slot};
 ghost use Rattle.sf_asm.specs.Faithful.{dwarf_walk, recovered_at};
-ghost use Rattle.sf_asm.specs.Functions.{Function, Object};
+ghost use Rattle.sf_asm.specs.Described.{Describe};
+ghost use Rattle.sf_asm.specs.Functions.{Function, Object, functions_of};
+ghost use Rattle.sf_asm.specs.declared.fault.GatherFault.{GatherFault as gather_fault};
 ghost use Rattle.sf_asm.specs.Kept.{entry_of};
 ghost use Rattle.sf_asm.specs.Linking.{Gathers, InOrder, Links, overlap_in};
 
@@ -53,4 +55,10 @@ pub fn inputs_that_can_be_gathered_are()
 /// patched bytes, and the fields that are unresolved or dropped; or the first fault.
 pub fn relocations_of_sections_are_applied()
     ensures { (p : Placing) (section : ℕ) (fields : List PointerField) → applied_to p section (map pointer_slot fields) ≡ applied_by p section fields }
+{}
+
+/// Says, by its contract alone, that what is read of inputs is what they describe: by the records, fields and
+/// instructions that their bytes are, their functions or their first fault, and nothing else. It does nothing.
+pub fn functions_are_described()
+    ensures { (item : ℕ) (objects : List Object) (r : Result (List Function) gather_fault) → Describe item objects r ↔ (functions_of item objects ≡ r) }
 {}

@@ -46,8 +46,9 @@ pub use gathering::{
 };
 pub use input::Input;
 pub use laws::{
-    accepted_inputs_are_linked, inputs_that_can_be_gathered_are, kept_functions_recover_alike,
-    linking_comes_to_one_result, relocations_of_sections_are_applied, walks_are_alike,
+    accepted_inputs_are_linked, functions_are_described, inputs_that_can_be_gathered_are,
+    kept_functions_recover_alike, linking_comes_to_one_result, relocations_of_sections_are_applied,
+    walks_are_alike,
 };
 pub use pieces::pieces_said;
 pub use said::Said;

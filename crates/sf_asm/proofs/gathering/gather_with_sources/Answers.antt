@@ -4,8 +4,10 @@ use Rattle.sf_model.specs.Function.{AreWritable}
 use Rattle.sf_asm.specs.declared.entry.Entry.{Entry}
 use Rattle.sf_asm.specs.Entry.{kept_of, omitted_of}
 use Rattle.sf_asm.specs.Functions.{object_of}
+use Rattle.sf_asm.specs.Inputs.{first_item}
 use Rattle.sf_asm.specs.Linking.{Gathers}
 use Rattle.sf_asm.proofs.ByStart.{are_by_start, ordered_are, sorted_functions, sources_are}
+use Rattle.sf_asm.proofs.Described.{describe}
 use Rattle.sf_asm.proofs.GatheredInputs.{are_read}
 use Rattle.sf_asm.proofs.Kept.{kept_of_checked}
 use Rattle.sf_asm.proofs.Lending.{are_lent}
@@ -21,7 +23,7 @@ returns-clause-gathered c =
     let kept = c.in_ok-functions.ensures ∙ c.in_ok-together.ensures.kept in
     record {
       functions = read.functions;
-      are = read.are;
+      are = describe (first_item c.args.before) objects (Ok read.functions) read.are;
       sorted = sorted_functions read.functions;
       by_start = are_by_start read.functions;
       is = subst (λ (es : List Entry). Gathers c.args.before objects (Ok es)) is c.in_ok-read.ensures.gathered;
