@@ -8,7 +8,7 @@ use Rattle.sf_asm.specs.declared.fault.LinkFault.TheVariants as link
 use Rattle.sf_asm.specs.Linking.{Links}
 use Rattle.sf_asm.proofs.Accepting.{accepted_links, links_accepted}
 use Rattle.sf_asm.proofs.OneOrder.{one_result}
-use Rattle.sf_items.specs.declared.refusal.Limit.{Limit}
+use Rattle.sf_words.specs.declared.refusal.Limit.{Limit}
 use Rattle.sf_words.specs.Words.{CommandWords, InputWords, Link, SectionAndInputs}
 use Rattle.sf_make.specs.Comes.{Comes, CommandComes, RefusesNothing, command_limit}
 use Rattle.sf_make.specs.Coming.{Coming, ComesWithin, Exceeded, Makes, Refused}

@@ -32,8 +32,8 @@ use Rattle.sf_plt.specs.Linking.{LinksPlts, LinksPltsFrom, unless_fault as unles
 use Rattle.sf_text.specs.Merged.{merged_text}
 use Rattle.sf_text.specs.PltReport.{plt_report_text}
 use Rattle.sf_text.specs.Slim.{slim_text}
-use Rattle.sf_items.specs.declared.refusal.Refusal.{Refusal}
-use Rattle.sf_items.specs.declared.refusal.Refusal.TheVariants as refusal
+use Rattle.sf_words.specs.declared.refusal.Refusal.{Refusal}
+use Rattle.sf_words.specs.declared.refusal.Refusal.TheVariants as refusal
 use Rattle.sf_make.specs.declared.made.Outcome.TheVariants.{Done}
 use Rattle.sf_make.specs.Coming.{Coming, Makes, Refused}
 use Rattle.sf_make.specs.FirstFault.{first_fault}

@@ -14,8 +14,8 @@ use Rattle.sf_asm.specs.Answers.{IsLinked}
 use Rattle.sf_asm.specs.Faithful.{dwarf_walk}
 use Rattle.sf_asm.specs.declared.input.Input.{Input}
 use Rattle.sf_asm.specs.Functions.{Function, Object, object_of}
-use Rattle.sf_items.specs.Loading.{bytes_limit, items_limit, of_kinds}
-use Rattle.sf_items.proofs.Loads.{goes_on, within_both}
+use Rattle.sf_words.specs.Loading.{bytes_limit, items_limit, of_kinds}
+use Rattle.sf_words.proofs.Loads.{goes_on, within_both}
 use Rattle.sf_words.specs.declared.item.ItemKind.{ItemKind}
 use Rattle.sf_words.specs.declared.item.ItemKind.TheVariants as kind
 use Rattle.sf_words.specs.Items.{ItemWords, core_item, input_item}

@@ -4,8 +4,8 @@ use Rattle.std.proofs.Common.{Vec, Global, ◌≡◌, ℕ, ◌<◌, ◌≤◌, B
 use Rattle.std.proofs.lemmas.Bool.{lt-ltb}
 use Rattle.std.proofs.lemmas.Bool.Decides.{nat_tests}
 use Rattle.std.proofs.lemmas.List.{length-map}
-use Rattle.sf_items.specs.declared.refusal.Limit.TheVariants.{Inputs}
-use Rattle.sf_items.specs.Loading.{items_limit}
+use Rattle.sf_words.specs.declared.refusal.Limit.TheVariants.{Inputs}
+use Rattle.sf_words.specs.Loading.{items_limit}
 use Rattle.sf_words.specs.declared.asked.Asked.{Asked}
 use Rattle.sf_words.specs.Items.{counted_items, items_of}
 use Rattle.sf_words.specs.Parsed.{words_of}

@@ -8,8 +8,8 @@ use Rattle.sf_asm.specs.Functions.{Object, object_of}
 use Rattle.sf_asm.specs.declared.input.Input.{Input}
 use Rattle.sf_words.specs.declared.words.InputFile.{InputFile}
 use Rattle.sf_make.specs.LinkComes.{object_in, objects_in}
-use Rattle.sf_items.specs.Loading.{bytes_limit, of_kinds}
-use Rattle.sf_items.proofs.Loads.{goes_on, within_both}
+use Rattle.sf_words.specs.Loading.{bytes_limit, of_kinds}
+use Rattle.sf_words.proofs.Loads.{goes_on, within_both}
 use Rattle.sf_words.specs.declared.item.ItemKind.TheVariants as kind
 use Rattle.sf_words.specs.Items.{input_item}
 use Rattle.sf_words.specs.Words.{InputWords}

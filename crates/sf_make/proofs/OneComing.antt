@@ -41,7 +41,7 @@ use Rattle.sf_verify.proofs.OneVerdict.{one_result as one_verdict}
 use Rattle.sf_text.specs.Merged.{merged_text}
 use Rattle.sf_text.specs.PltReport.{plt_report_text}
 use Rattle.sf_text.specs.Slim.{slim_text}
-use Rattle.sf_items.specs.declared.refusal.Limit.{Limit}
+use Rattle.sf_words.specs.declared.refusal.Limit.{Limit}
 use Rattle.sf_make.specs.declared.section.Query.{Query}
 use Rattle.sf_make.specs.declared.section.Query.TheVariants.{Whole, RowAt}
 use Rattle.sf_make.specs.declared.made.Outcome.{Outcome}

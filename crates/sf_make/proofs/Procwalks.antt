@@ -16,10 +16,10 @@ use Rattle.sf_modules.specs.Module.{ModuleView}
 use Rattle.sf_modules.specs.Note.{HasEntries, entries_check}
 use Rattle.sf_modules.specs.Process.{ProcessView}
 use Rattle.sf_modules.specs.Union.{tables_of}
-use Rattle.sf_items.specs.declared.refusal.Refusal.{Refusal}
-use Rattle.sf_items.specs.declared.refusal.Refusal.TheVariants as refusal
-use Rattle.sf_items.specs.Loading.{bytes_limit, of_kinds}
-use Rattle.sf_items.proofs.Loads.{goes_on, within_both}
+use Rattle.sf_words.specs.declared.refusal.Refusal.{Refusal}
+use Rattle.sf_words.specs.declared.refusal.Refusal.TheVariants as refusal
+use Rattle.sf_words.specs.Loading.{bytes_limit, of_kinds}
+use Rattle.sf_words.proofs.Loads.{goes_on, within_both}
 use Rattle.sf_words.specs.declared.item.ItemKind.TheVariants as kind
 use Rattle.sf_words.specs.Items.{file_item}
 use Rattle.sf_make.specs.declared.made.Made.{Made}

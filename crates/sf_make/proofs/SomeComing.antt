@@ -47,7 +47,7 @@ use Rattle.sf_text.specs.Dump.{dump_text}
 use Rattle.sf_text.specs.Found.{found_text}
 use Rattle.sf_text.specs.Merged.{merged_text}
 use Rattle.sf_text.specs.Slim.{slim_text}
-use Rattle.sf_items.specs.declared.refusal.Limit.{Limit}
+use Rattle.sf_words.specs.declared.refusal.Limit.{Limit}
 use Rattle.sf_words.specs.Words.{CommandWords, SectionWords, Link, LinkPlt, Merge, Slim, Dump, Lookup, Verify, Walk, Backtrace, Procwalk, Gen}
 use Rattle.sf_make.specs.declared.section.Query.{Query}
 use Rattle.sf_make.specs.declared.section.Query.TheVariants.{Whole, RowAt}

@@ -10,8 +10,8 @@ use Rattle.sf_modules.specs.declared.mapped.Module.{Module}
 use Rattle.sf_modules.specs.Module.{module_view}
 use Rattle.sf_modules.specs.Union.{tables_of}
 use Rattle.sf_merge.specs.Merging.{functions_in_all, rows_in_all}
-use Rattle.sf_items.specs.declared.refusal.Limit.{Limit}
-use Rattle.sf_items.specs.declared.refusal.Limit.TheVariants.{Functions, Rows}
+use Rattle.sf_words.specs.declared.refusal.Limit.{Limit}
+use Rattle.sf_words.specs.declared.refusal.Limit.TheVariants.{Functions, Rows}
 use Rattle.sf_make.specs.ProcwalkComes.{sums_limit}
 
 -- ---- the limits

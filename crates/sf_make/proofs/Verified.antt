@@ -13,10 +13,10 @@ use Rattle.sf_verify.specs.declared.fault.VerifyFault.{VerifyFault}
 use Rattle.sf_verify.specs.declared.fault.VerifyFault.TheVariants as verify_fault
 use Rattle.sf_verify.specs.Verifying.{IsFirstFault, Verifies}
 use Rattle.sf_text.specs.Verdict.{verdict_text}
-use Rattle.sf_items.specs.declared.refusal.Refusal.{Refusal}
-use Rattle.sf_items.specs.declared.refusal.Refusal.TheVariants as refusal
-use Rattle.sf_items.specs.Loading.{bytes_limit, items_limit, of_kinds}
-use Rattle.sf_items.proofs.Loads.{goes_on, within_both}
+use Rattle.sf_words.specs.declared.refusal.Refusal.{Refusal}
+use Rattle.sf_words.specs.declared.refusal.Refusal.TheVariants as refusal
+use Rattle.sf_words.specs.Loading.{bytes_limit, items_limit, of_kinds}
+use Rattle.sf_words.proofs.Loads.{goes_on, within_both}
 use Rattle.sf_words.specs.declared.item.ItemKind.TheVariants as kind
 use Rattle.sf_words.specs.Items.{input_item, section_item}
 use Rattle.sf_words.specs.Words.{InputWords, SectionWords}

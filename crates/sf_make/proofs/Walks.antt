@@ -3,8 +3,8 @@ use Rattle.std.proofs.Common.{◌≡◌, ◌+◌, ◌++◌, ◌<◌, ◌^◌, �
 use Rattle.sf_model.specs.Walk.{Listing, ThreadState}
 use Rattle.core_notes.specs.declared.status.Thread.{Thread}
 use Rattle.core_walk.specs.Walk.{thread_state}
-use Rattle.sf_items.specs.Loading.{items_limit}
-use Rattle.sf_items.proofs.Loads.{goes_on, within_both}
+use Rattle.sf_words.specs.Loading.{items_limit}
+use Rattle.sf_words.proofs.Loads.{goes_on, within_both}
 use Rattle.sf_words.specs.declared.item.ItemKind.TheVariants as kind
 use Rattle.sf_words.specs.Items.{items_of}
 use Rattle.sf_words.specs.Words.{Walk, WalkWords}

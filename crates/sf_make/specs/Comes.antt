@@ -1,9 +1,9 @@
 -- What a run of each command comes to over the bytes of its items: the limits of loading first, and then what the command makes of them.
 use Rattle.std.specs.Prelude.{◌≡◌, ℕ, nat_lt, List, length, Option, Some, if◌then◌else◌}
 use Rattle.sf_model.specs.FaultShown.{FaultShown}
-use Rattle.sf_items.specs.declared.refusal.Limit.{Limit}
-use Rattle.sf_items.specs.declared.refusal.Limit.TheVariants.{Inputs}
-use Rattle.sf_items.specs.Loading.{items_limit}
+use Rattle.sf_words.specs.declared.refusal.Limit.{Limit}
+use Rattle.sf_words.specs.declared.refusal.Limit.TheVariants.{Inputs}
+use Rattle.sf_words.specs.Loading.{items_limit}
 use Rattle.sf_words.specs.Items.{counted_items, items_of}
 use Rattle.sf_words.specs.Words.{CanBeAsked, CommandWords, Link, LinkPlt, Merge, Slim, Dump, Lookup, Verify, Walk, Backtrace, Procwalk, Gen}
 use Rattle.sf_make.specs.declared.section.Query.TheVariants.{Whole, RowAt}

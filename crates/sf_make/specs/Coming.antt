@@ -1,7 +1,7 @@
 -- What a run comes to over the bytes of its items: a refusal, a limit that is exceeded, or what is made.
 use Rattle.std.specs.Prelude.{◌≡◌, ℕ, List, Option, Some, None}
 use Rattle.sf_model.specs.FaultShown.{FaultShown}
-use Rattle.sf_items.specs.declared.refusal.Limit.{Limit}
+use Rattle.sf_words.specs.declared.refusal.Limit.{Limit}
 use Rattle.sf_make.specs.declared.made.Outcome.{Outcome}
 
 -- refused, and what the line shows; a limit is exceeded; or made: with this outcome, a section or none, and a text

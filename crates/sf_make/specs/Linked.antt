@@ -11,7 +11,7 @@ use Rattle.sf_asm.specs.Answers.{IsLinked}
 use Rattle.sf_asm.specs.Functions.{Object}
 use Rattle.sf_asm.specs.Linking.{Links}
 use Rattle.sf_asm.specs.FaultShown.{shown_of_linking}
-use Rattle.sf_items.specs.declared.refusal.Limit.TheVariants.{Functions, Rows}
+use Rattle.sf_words.specs.declared.refusal.Limit.TheVariants.{Functions, Rows}
 use Rattle.sf_make.specs.Coming.{Coming, Refused, Exceeded}
 
 -- what a fault of linking comes to

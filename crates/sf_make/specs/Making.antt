@@ -4,8 +4,8 @@ use Rattle.std.specs.Option.{option_map}
 use Rattle.sf_model.specs.Notice.{HasLine}
 use Rattle.sf_model.specs.FaultShown.{shown_by}
 use Rattle.sf_text.specs.Output.{output_text}
-use Rattle.sf_items.specs.declared.refusal.Refusal.{Refusal}
-use Rattle.sf_items.specs.declared.refusal.Refusal.TheVariants as refusal
+use Rattle.sf_words.specs.declared.refusal.Refusal.{Refusal}
+use Rattle.sf_words.specs.declared.refusal.Refusal.TheVariants as refusal
 use Rattle.sf_make.specs.declared.made.Made.{Made}
 use Rattle.sf_make.specs.Coming.{Coming, Refused, Exceeded, Makes}
 

@@ -12,7 +12,7 @@ use Rattle.sf_merge.specs.Answers.{IsMerged}
 use Rattle.sf_merge.specs.Merging.{Merges}
 use Rattle.sf_merge.specs.FaultShown.{shown_of_merging}
 use Rattle.sf_text.specs.Merged.{merged_text}
-use Rattle.sf_items.specs.declared.refusal.Limit.TheVariants.{Functions, Rows}
+use Rattle.sf_words.specs.declared.refusal.Limit.TheVariants.{Functions, Rows}
 use Rattle.sf_words.specs.Words.{SectionWords}
 use Rattle.sf_make.specs.declared.made.Outcome.TheVariants.{Done}
 use Rattle.sf_make.specs.Coming.{Coming, Refused, Exceeded, Makes}

@@ -26,8 +26,8 @@ use Rattle.sf_merge.specs.Merging.{functions_in_all, rows_in_all}
 use Rattle.sf_asm.specs.declared.fault.GatherFault.TheVariants.{MixedArch}
 use Rattle.sf_asm.specs.Inputs.{is_same}
 use Rattle.sf_asm.specs.FaultShown.{shown_of_gathering}
-use Rattle.sf_items.specs.declared.refusal.Limit.{Limit}
-use Rattle.sf_items.specs.declared.refusal.Limit.TheVariants.{Functions, Rows}
+use Rattle.sf_words.specs.declared.refusal.Limit.{Limit}
+use Rattle.sf_words.specs.declared.refusal.Limit.TheVariants.{Functions, Rows}
 use Rattle.sf_words.specs.Words.{ProcwalkWords}
 use Rattle.sf_make.specs.declared.made.Outcome.TheVariants.{Done}
 use Rattle.sf_make.specs.Coming.{Coming, Exceeded, Makes, Refused}

@@ -15,7 +15,7 @@ use Rattle.sf_decode.specs.Fault.{number_and_place}
 use Rattle.sf_decode.specs.View.{head_of}
 use Rattle.sf_text.specs.Dump.{dump_text}
 use Rattle.sf_text.specs.Found.{found_text}
-use Rattle.sf_items.specs.declared.refusal.Limit.TheVariants.{Functions, Rows}
+use Rattle.sf_words.specs.declared.refusal.Limit.TheVariants.{Functions, Rows}
 use Rattle.sf_make.specs.declared.made.Outcome.{Outcome}
 use Rattle.sf_make.specs.declared.made.Outcome.TheVariants.{Done, No}
 use Rattle.sf_make.specs.declared.section.Query.{Query}

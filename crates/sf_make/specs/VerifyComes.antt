@@ -13,7 +13,7 @@ use Rattle.sf_verify.specs.declared.fault.VerifyFault.TheVariants.{Gather}
 use Rattle.sf_verify.specs.FaultShown.{shown_of_verifying}
 use Rattle.sf_verify.specs.Verifying.{Verifies}
 use Rattle.sf_text.specs.Verdict.{verdict_text}
-use Rattle.sf_items.specs.declared.refusal.Limit.TheVariants.{Functions, Rows}
+use Rattle.sf_words.specs.declared.refusal.Limit.TheVariants.{Functions, Rows}
 use Rattle.sf_words.specs.Words.{SectionAndInputs}
 use Rattle.sf_make.specs.declared.made.Outcome.{Outcome}
 use Rattle.sf_make.specs.declared.made.Outcome.TheVariants.{Done, No}

@@ -17,7 +17,7 @@ use Rattle.sf_asm.specs.declared.fault.GatherFault.TheVariants.{MixedArch}
 use Rattle.sf_asm.specs.Inputs.{is_same}
 use Rattle.sf_asm.specs.FaultShown.{shown_of_gathering}
 use Rattle.sf_text.specs.Frames.{walk_text}
-use Rattle.sf_items.specs.declared.refusal.Limit.TheVariants.{Threads}
+use Rattle.sf_words.specs.declared.refusal.Limit.TheVariants.{Threads}
 use Rattle.sf_make.specs.declared.made.Outcome.TheVariants.{Done}
 use Rattle.sf_make.specs.Coming.{Coming, Exceeded, Makes, Refused}
 use Rattle.sf_make.specs.SectionComes.{coming_of_decoding}

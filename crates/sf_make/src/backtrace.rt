@@ -6,7 +6,7 @@ ghost use Rattle.sf_model.specs.Table.{Table};
 ghost use Rattle.sf_model.specs.Walk.{section_walk};
 ghost use Rattle.core_notes.specs.Checks.{core_check};
 ghost use Rattle.core_notes.specs.Views.{memory_of, threads_of};
-ghost use Rattle.sf_items.specs.Loading.{bytes_limit, of_kinds};
+ghost use Rattle.sf_words.specs.Loading.{bytes_limit, of_kinds};
 ghost use Rattle.sf_words.specs.declared.item.ItemKind.{ItemKind as kind};
 ghost use Rattle.sf_words.specs.Items.{input_item};
 ghost use Rattle.sf_words.specs.Parsed.{input_of};
@@ -21,10 +21,9 @@ use crate::walk::{unread_core, view_walks};
 use core_notes::Core;
 use sf_base::NoMemory;
 use sf_decode::View;
-use sf_items::Refusal;
 use sf_link::link;
 use sf_text::Output;
-use sf_words::InputFile;
+use sf_words::{InputFile, Refusal};
 use std::alloc::Global;
 
 /// The texts of the walks of all threads by a section that was made, of so many frames each at most.

@@ -3,7 +3,7 @@
 ghost use Rattle.std.specs.Prelude.{◌≡◌, ◌<◌, ◌≤◌, None, IfOk, IsTrue, length, map};
 ghost use Rattle.sf_asm.specs.Fault.{is_answered};
 ghost use Rattle.sf_asm.specs.Functions.{object_of};
-ghost use Rattle.sf_items.specs.Loading.{items_limit};
+ghost use Rattle.sf_words.specs.Loading.{items_limit};
 ghost use Rattle.sf_words.specs.Items.{input_item};
 ghost use Rattle.sf_words.specs.Parsed.{input_of};
 ghost use Rattle.sf_make.specs.Coming.{Coming};
@@ -14,10 +14,9 @@ ghost use Rattle.sf_make.specs.Making.{ComesAs, ComesTo};
 use crate::made::{Made, Outcome};
 use sf_asm::{GatherFault, Input, LinkFault};
 use sf_base::NoMemory;
-use sf_items::{Limit, Refusal};
 use sf_link::link;
 use sf_text::{Output, report};
-use sf_words::InputFile;
+use sf_words::{InputFile, Limit, Refusal};
 use std::alloc::Global;
 
 /// Why inputs were not linked, as a refusal of the run.

@@ -1,7 +1,7 @@
 //! What `linkplt` makes.
 
 ghost use Rattle.std.specs.Prelude.{◌≡◌, ◌<◌, ◌≤◌, None, length, map};
-ghost use Rattle.sf_items.specs.Loading.{items_limit};
+ghost use Rattle.sf_words.specs.Loading.{items_limit};
 ghost use Rattle.sf_words.specs.Items.{input_item};
 ghost use Rattle.sf_words.specs.Parsed.{input_of};
 ghost use Rattle.sf_make.specs.LinkPltComes.{LinkPltComes};
@@ -9,10 +9,9 @@ ghost use Rattle.sf_make.specs.Making.{ComesTo};
 
 use crate::link::{inputs_in, unlinked};
 use crate::made::{Made, Outcome};
-use sf_items::Refusal;
 use sf_plt::link_plt;
 use sf_text::{Output, report_plt};
-use sf_words::InputFile;
+use sf_words::{InputFile, Refusal};
 use std::alloc::Global;
 
 /// The section of the inputs of these bytes, with their procedure linkage tables.

@@ -8,10 +8,10 @@ use crate::link::unlinked;
 use crate::made::{Made, Outcome};
 use sf_asm::Input;
 use sf_gen::object;
-use sf_items::Refusal;
 use sf_link::link;
 use sf_model::Form;
 use sf_text::{Output, summary};
+use sf_words::Refusal;
 use std::alloc::Global;
 
 /// Where the sections of the made object are laid out.

@@ -16,8 +16,7 @@ use crate::section::{Query, section_made};
 use crate::slim::slim_made;
 use crate::verify::verify_made;
 use crate::walk::walk_made;
-use sf_items::Refusal;
-use sf_words::Asked;
+use sf_words::{Asked, Refusal};
 use std::alloc::Global;
 
 /// Makes what is asked for of the bytes of the items, which are within the limits of loading.

@@ -11,10 +11,9 @@ ghost use Rattle.sf_make.specs.MergeComes.{IsSectionOf, MergeComes, coming_of_me
 use crate::made::{Made, Outcome};
 use crate::section::undecoded;
 use sf_decode::View;
-use sf_items::{Limit, Refusal};
 use sf_merge::{MergeFault, merge};
 use sf_text::{Output, merged};
-use sf_words::SectionFile;
+use sf_words::{Limit, Refusal, SectionFile};
 use std::alloc::Global;
 
 /// Why sections were not merged, as a refusal of the run.

@@ -10,7 +10,7 @@ ghost use Rattle.sf_modules.specs.Entry.{entry_view};
 ghost use Rattle.sf_modules.specs.Module.{module_view};
 ghost use Rattle.sf_modules.specs.Process.{process_view};
 ghost use Rattle.sf_modules.specs.Union.{tables_of};
-ghost use Rattle.sf_items.specs.Loading.{bytes_limit, of_kinds};
+ghost use Rattle.sf_words.specs.Loading.{bytes_limit, of_kinds};
 ghost use Rattle.sf_words.specs.declared.item.ItemKind.{ItemKind as kind};
 ghost use Rattle.sf_words.specs.Items.{file_item};
 ghost use Rattle.sf_make.specs.Coming.{Coming};
@@ -22,10 +22,10 @@ use crate::made::{Made, Outcome};
 use crate::walk::{mixed, same_machine, unread_core, walks_text};
 use core_notes::Core;
 use sf_decode::DecodeFault;
-use sf_items::{Limit, Refusal};
 use sf_model::Arch;
 use sf_modules::{Entry, Module, ModuleFault, Modules, Process, entries, read_module};
 use sf_text::Output;
+use sf_words::{Limit, Refusal};
 use std::alloc::Global;
 
 /// The most functions of all modules together.

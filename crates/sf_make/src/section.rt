@@ -11,9 +11,9 @@ ghost use Rattle.sf_make.specs.SectionComes.{SectionComesFrom, Shows, coming_of_
 use crate::made::{Made, Outcome};
 use sf_base::NoMemory;
 use sf_decode::{DecodeFault, View};
-use sf_items::{Limit, Refusal};
 use sf_lookup::find;
 use sf_text::{Output, found};
+use sf_words::{Limit, Refusal};
 use std::alloc::Global;
 
 /// What is asked of a section.

@@ -10,9 +10,9 @@ ghost use Rattle.sf_make.specs.SlimComes.{SlimComesFrom};
 use crate::made::{Made, Outcome};
 use crate::section::undecoded;
 use sf_decode::View;
-use sf_items::Refusal;
 use sf_slim::{SlimFault, slim};
 use sf_text::{Output, slim_line};
+use sf_words::Refusal;
 use std::alloc::Global;
 
 /// Why the section of the first item was not slimmed, as a refusal of the run.

@@ -3,7 +3,7 @@
 ghost use Rattle.std.specs.Prelude.{◌≡◌, ◌<◌, ◌≤◌, ◌∷◌, None, IsTrue, length, map};
 ghost use Rattle.sf_decode.specs.Decoding.{section_check};
 ghost use Rattle.sf_verify.specs.FaultShown.{is_answered};
-ghost use Rattle.sf_items.specs.Loading.{bytes_limit, of_kinds};
+ghost use Rattle.sf_words.specs.Loading.{bytes_limit, of_kinds};
 ghost use Rattle.sf_words.specs.declared.item.ItemKind.{ItemKind as kind};
 ghost use Rattle.sf_words.specs.Items.{input_item};
 ghost use Rattle.sf_words.specs.Parsed.{input_of};
@@ -18,11 +18,10 @@ use crate::made::{Made, Outcome};
 use crate::section::undecoded;
 use sf_asm::GatherFault;
 use sf_decode::View;
-use sf_items::{Limit, Refusal};
 use sf_model::Verdict;
 use sf_text::{Output, verdict};
 use sf_verify::{VerifyFault, verify};
-use sf_words::InputFile;
+use sf_words::{InputFile, Limit, Refusal};
 use std::alloc::Global;
 
 /// Why a section was not verified, as a refusal of the run. The section is item 0.

@@ -20,10 +20,10 @@ use core_walk::{LookUp, walk_by};
 use sf_asm::GatherFault;
 use sf_base::NoMemory;
 use sf_decode::View;
-use sf_items::{Limit, Refusal};
 use sf_lookup::Indexed;
 use sf_model::Arch;
 use sf_text::{Output, thread_text};
+use sf_words::{Limit, Refusal};
 use std::alloc::Global;
 
 /// Why the core file of an item was not read, as a refusal of the run.

@@ -7,11 +7,11 @@ use Rattle.sf_base.specs.Contents.{contents_of}
 use Rattle.sf_base.specs.Faults.{Rose}
 use Rattle.sf_base.specs.Seen.{FilesSeen, SinkSeen, OnlyReads}
 use Rattle.sf_model.specs.FaultShown.{shown_by}
-use Rattle.sf_items.specs.declared.refusal.Limit.{Limit}
-use Rattle.sf_items.specs.declared.refusal.Limit.TheVariants.{Inputs}
-use Rattle.sf_items.specs.declared.refusal.Refusal.{Refusal}
-use Rattle.sf_items.specs.declared.refusal.Refusal.TheVariants as refusal
-use Rattle.sf_items.specs.Loading.{AreBytesOf, AreLoaded, Contents, IsLoadingRefusal, IsRead, bytes_known}
+use Rattle.sf_words.specs.declared.refusal.Limit.{Limit}
+use Rattle.sf_words.specs.declared.refusal.Limit.TheVariants.{Inputs}
+use Rattle.sf_words.specs.declared.refusal.Refusal.{Refusal}
+use Rattle.sf_words.specs.declared.refusal.Refusal.TheVariants as refusal
+use Rattle.sf_words.specs.Loading.{AreBytesOf, AreLoaded, Contents, IsLoadingRefusal, IsRead, bytes_known}
 use Rattle.sf_words.specs.declared.item.Item.{Item}
 use Rattle.sf_words.specs.Items.{ItemWords, counted_items, item_of, items_of, names_of}
 use Rattle.sf_words.specs.Words.{CanBeAsked, CommandWords, out_name}

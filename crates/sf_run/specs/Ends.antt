@@ -8,11 +8,11 @@ use Rattle.sf_model.specs.declared.notice.Notice.{Notice}
 use Rattle.sf_model.specs.Notice.{HasLine}
 use Rattle.sf_model.specs.FaultShown.{shown_by}
 use Rattle.sf_text.specs.FaultLine.{fault_text}
-use Rattle.sf_items.specs.declared.refusal.Limit.{Limit}
-use Rattle.sf_items.specs.declared.refusal.Limit.TheVariants.{Inputs}
-use Rattle.sf_items.specs.declared.refusal.Refusal.{Refusal}
-use Rattle.sf_items.specs.declared.refusal.Refusal.TheVariants as refusal
-use Rattle.sf_items.specs.Loading.{AreBytesOf, Contents, bytes_known}
+use Rattle.sf_words.specs.declared.refusal.Limit.{Limit}
+use Rattle.sf_words.specs.declared.refusal.Limit.TheVariants.{Inputs}
+use Rattle.sf_words.specs.declared.refusal.Refusal.{Refusal}
+use Rattle.sf_words.specs.declared.refusal.Refusal.TheVariants as refusal
+use Rattle.sf_words.specs.Loading.{AreBytesOf, Contents, bytes_known}
 use Rattle.sf_words.specs.Items.{item_names, items_of}
 use Rattle.sf_words.specs.Words.{CommandWords, out_name}
 use Rattle.sf_make.specs.declared.made.Outcome.{Outcome}

@@ -5,8 +5,8 @@ use Rattle.sf_base.specs.Seen.{SinkSeen}
 use Rattle.sf_base.specs.Written.{Appends, AppendsPrefix}
 use Rattle.sf_text.specs.Merged.{file_limit_text}
 use Rattle.sf_text.specs.ShownName.{shown_name}
-use Rattle.sf_items.specs.declared.refusal.Limit.{Limit}
-use Rattle.sf_items.specs.declared.refusal.Limit.TheVariants.{Inputs, File, Total, Functions, Rows, Threads}
+use Rattle.sf_words.specs.declared.refusal.Limit.{Limit}
+use Rattle.sf_words.specs.declared.refusal.Limit.TheVariants.{Inputs, File, Total, Functions, Rows, Threads}
 
 -- a text and a line feed
 abbrev pub line : List ℕ → List ℕ

@@ -5,7 +5,7 @@ ghost use Rattle.std.specs.Option.{option_map};
 ghost use Rattle.std.specs.String.{string_bytes};
 ghost use Rattle.sf_base.specs.Faults.{Rose};
 ghost use Rattle.sf_base.specs.Seen.{OnlyReads};
-ghost use Rattle.sf_items.specs.Loading.{AreLoaded, IsRead};
+ghost use Rattle.sf_words.specs.Loading.{AreLoaded, IsRead};
 ghost use Rattle.sf_words.specs.Items.{counted_items, item_names, items_of};
 ghost use Rattle.sf_words.specs.Parsed.{Asks, words_of};
 ghost use Rattle.sf_words.specs.Words.{CanBeAsked, CommandWords, HasNoForm, IsCommand, out_name};
@@ -17,9 +17,8 @@ use crate::lines::say;
 use crate::status::Status;
 use crate::tell::tell;
 use sf_base::{Files, Sink};
-use sf_items::{Limit, Refusal, load_all};
 use sf_make::make;
-use sf_words::{Asked, Command, command_words, items, read_words};
+use sf_words::{Asked, Command, Limit, Refusal, command_words, items, load_all, read_words};
 use std::alloc::Global;
 
 /// The most files that the list of a command names.

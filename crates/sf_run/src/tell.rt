@@ -6,8 +6,8 @@ ghost use Rattle.sf_run.specs.Lines.{Says, limit_line};
 use crate::lines::{say, say_name};
 use crate::status::Status;
 use sf_base::Sink;
-use sf_items::{Limit, Refusal};
 use sf_text::{fault_line, file_limit_line};
+use sf_words::{Limit, Refusal};
 
 /// Says which limit is exceeded.
 fn say_limit<E: Sink>(limit: Limit, err: &mut E)

@@ -1,3 +1,4 @@
 pub mod Items
 pub mod Parsed
 pub mod Words
+pub mod Loading

@@ -1,13 +1,16 @@
-//! The words of a command line, from their forms to the files that a command reads.
+//! The words of a command line, from their forms to the bytes of the files that a command reads.
 //!
-//! `command_words` finds the form and allocates nothing, `read_words` reads each word, and `items` names the files in
-//! order. What each form says stands in specs/Words.antt.
+//! [`command_words`] finds the form and allocates nothing, [`read_words`] reads each word, [`items`] names the files
+//! in order, and [`load_all`] loads them, one after the other, each within the limits of its kind. [`Refusal`] is why a
+//! run makes nothing. What each form says is in specs/Words.antt, and the limits in specs/Loading.antt.
 #![tactic(auto)]
 
 mod asked;
 mod command;
 mod item;
 mod lists;
+mod loading;
+mod refusal;
 mod words;
 
 pub use asked::{Asked, Backtrace, Merge, SectionAndInputFiles, items, read_words};
@@ -16,4 +19,6 @@ pub use command::{
     WalkFiles, command_words,
 };
 pub use item::{Item, ItemKind};
+pub use loading::load_all;
+pub use refusal::{Limit, Refusal};
 pub use words::{InputFile, SectionFile};

@@ -1,7 +1,7 @@
 use Rattle.std.proofs.Common.{Vec, Global, ◌≡◌, ◌-◌, ℕ, suc, List, ◌∷◌, None, length, get_or, string_bytes, map, take, drop, ap, sym, subst, ◌∙◌, arith}
 use Rattle.std.proofs.Math.ListN.{get_or-map}
 use Rattle.std.proofs.lemmas.List.{length-map}
-use Rattle.sf_items.specs.Loading.{bytes_limit, items_limit, of_kinds}
+use Rattle.sf_words.specs.Loading.{bytes_limit, items_limit, of_kinds}
 use Rattle.sf_words.specs.declared.item.ItemKind.TheVariants as kind
 use Rattle.sf_words.specs.declared.words.InputFile.{InputFile}
 use Rattle.sf_words.specs.Items.{file_item, input_item, section_item}

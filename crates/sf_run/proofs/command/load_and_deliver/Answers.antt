@@ -1,5 +1,5 @@
 use Rattle.std.proofs.Common.{Vec, Global, ℕ, List, Ok, Err, refl, sym, subst, ◌∙◌}
-use Rattle.sf_items.specs.Loading.{AreLoaded}
+use Rattle.sf_words.specs.Loading.{AreLoaded}
 use Rattle.sf_words.specs.Items.{items_of}
 use Rattle.sf_words.specs.Parsed.{words_of}
 use Rattle.sf_make.specs.Comes.{Comes}

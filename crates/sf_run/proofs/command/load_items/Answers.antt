@@ -1,6 +1,6 @@
 use Rattle.std.proofs.Common.{◌≡◌, List, map, ap, subst, ◌∙◌}
 use Rattle.std.proofs.lemmas.Result.{IfErr-weaker, IfOk-weaker}
-use Rattle.sf_items.specs.Loading.{AreLoaded, IsLoadingRefusal}
+use Rattle.sf_words.specs.Loading.{AreLoaded, IsLoadingRefusal}
 use Rattle.sf_words.specs.Items.{ItemWords, item_of, items_of}
 use Rattle.sf_words.specs.Parsed.{words_of}
 use Rattle.sf_make.proofs.Linked.{bytes_of}

@@ -1,6 +1,6 @@
 use Rattle.std.proofs.Common.{◌<◌, refl, subst, arith}
-use Rattle.sf_items.specs.declared.refusal.Limit.TheVariants.{Inputs}
-use Rattle.sf_items.specs.declared.refusal.Refusal.TheVariants as refusal
+use Rattle.sf_words.specs.declared.refusal.Limit.TheVariants.{Inputs}
+use Rattle.sf_words.specs.declared.refusal.Refusal.TheVariants as refusal
 use Rattle.sf_words.specs.Items.{counted_items}
 use Rattle.sf_words.specs.Words.{CommandWords}
 use Rattle.sf_run.specs.Ends.{RunEnds, seen}

@@ -1,5 +1,5 @@
 use Rattle.std.proofs.Common.{sym, subst}
-use Rattle.sf_items.specs.declared.refusal.Limit.{Limit}
+use Rattle.sf_words.specs.declared.refusal.Limit.{Limit}
 use Rattle.sf_run.specs.Lines.{Says, limit_line}
 use Rattle.sf_run.proofs.tell.say_limit.Goals as goal
 

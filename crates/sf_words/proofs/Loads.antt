@@ -1,6 +1,6 @@
 -- Files that are loaded one after the other, and the first limit that they exceed.
 use Rattle.std.specs.Prelude.{nat_lt, IfSome}
-use Rattle.std.proofs.Common.{Vec, Global, ◌≡◌, ℕ, zero, suc, ◌+◌, ◌<◌, ◌≤◌, ◌^◌, Bool, true, false, cond, List, [], ◌∷◌, ◌++◌, map, length, take, drop, get_or, Option, Some, None, refl, ap, sym, subst, ◌∙◌, arith}
+use Rattle.std.proofs.Common.{Vec, Global, ◌≡◌, ℕ, zero, suc, ◌+◌, ◌<◌, ◌≤◌, ◌^◌, Bool, true, false, cond, List, [], ◌∷◌, ◌++◌, map, length, take, drop, get_or, Option, Some, None, refl, ap, sym, subst, append_assoc, ◌∙◌, arith}
 use Rattle.std.proofs.lemmas.Bool.{lt-ltb, le-ltb}
 use Rattle.std.proofs.lemmas.Bool.Decides.{nat_tests}
 use Rattle.std.proofs.lemmas.List.{length-map, length-append, take_more, drop_more, append-nil}
@@ -12,11 +12,11 @@ use Rattle.sf_words.specs.declared.item.ItemKind.{ItemKind}
 use Rattle.sf_words.specs.declared.item.Item.{Item}
 use Rattle.sf_words.specs.Items.{ItemWords, counted_bytes, item_of, limit_of, names_of}
 use Rattle.std.proofs.Math.ListN.{get_or-map}
-use Rattle.sf_items.specs.declared.refusal.Limit.{Limit}
-use Rattle.sf_items.specs.declared.refusal.Limit.TheVariants.{File, Total}
-use Rattle.sf_items.specs.declared.refusal.Refusal.{Refusal}
-use Rattle.sf_items.specs.declared.refusal.Refusal.TheVariants as refusal
-use Rattle.sf_items.specs.Loading.{Contents, bytes_limit, items_limit, of_kinds, bytes_known, AreLoaded, Exceeds, IsReadOf, IsLoadRefusal, IsLoadingRefusal}
+use Rattle.sf_words.specs.declared.refusal.Limit.{Limit}
+use Rattle.sf_words.specs.declared.refusal.Limit.TheVariants.{File, Total}
+use Rattle.sf_words.specs.declared.refusal.Refusal.{Refusal}
+use Rattle.sf_words.specs.declared.refusal.Refusal.TheVariants as refusal
+use Rattle.sf_words.specs.Loading.{Contents, bytes_limit, items_limit, of_kinds, bytes_known, AreLoaded, Exceeds, IsReadOf, IsLoadRefusal, IsLoadingRefusal}
 
 one_step : (item total : ℕ) (kind : ItemKind) (bytes : List ℕ) (rest : List (ItemKind × List ℕ)) (long much : Bool) → nat_lt (limit_of kind) (length bytes) ≡ long
     → nat_lt (2 ^ 30) (total + counted_bytes kind (length bytes)) ≡ much
@@ -88,10 +88,6 @@ map_push : {A : Type 0} (f : A → List ℕ) (xs : List A) (x : A) → map f (xs
 map_push f [] x = refl
 map_push f (y ∷ ys) x = ap (λ (r : List (List ℕ)). f y ∷ r) (map_push f ys x)
 
-pushed : {A : Type 0} (xs : List A) (x : A) (later : List A) → (xs ++ x ∷ []) ++ later ≡ xs ++ x ∷ later
-pushed [] x later = refl
-pushed (y ∷ ys) x later = ap (λ (r : List _). y ∷ r) (pushed ys x later)
-
 -- the file at hand, before any later ones
 at_hand : (contents : Contents) (items : List ItemWords) (k : ℕ) (d : ItemWords) (loaded : List (List ℕ)) (total : ℕ) → Begun contents items k loaded total → k < length items → (bytes : List ℕ) (later : List (List ℕ))
     → items_limit items (loaded ++ bytes ∷ later) ≡ bytes_limit k total (((get_or items k d).kind, bytes) ∷ of_kinds (drop (k + 1) items) later)
@@ -107,7 +103,7 @@ go_on contents items k d loaded total bytes h lt short few are = record {
       (λ known e is. ap (λ (i : List (List ℕ)). i ++ bytes ∷ []) e ∙ ap (λ (b : List ℕ). bytes_known known (take k items) ++ b ∷ []) is ∙ one_more known)
       h.known are;
   so_far = λ later.
-      ap (items_limit items) (pushed loaded bytes later) ∙ at_hand contents items k d loaded total h lt bytes later
+      ap (items_limit items) (append_assoc loaded (bytes ∷ []) later) ∙ at_hand contents items k d loaded total h lt bytes later
       ∙ goes_on k total (get_or items k d).kind bytes (of_kinds (drop (k + 1) items) later) short few;
 }
   where

@@ -37,7 +37,7 @@ pub enum Refusal<'a> {
 }
 
 impl<'a> From<NoMemory> for Refusal<'a> {
-    ghost use Rattle.sf_items.specs.declared.refusal.Refusal.TheVariants.{Memory};
+    ghost use Rattle.sf_words.specs.declared.refusal.Refusal.TheVariants.{Memory};
 
     ghost from_gives = { λ _ refused. refused ≡ Memory };
 
@@ -47,7 +47,7 @@ impl<'a> From<NoMemory> for Refusal<'a> {
 }
 
 impl<'a> From<AllocError> for Refusal<'a> {
-    ghost use Rattle.sf_items.specs.declared.refusal.Refusal.TheVariants.{Memory};
+    ghost use Rattle.sf_words.specs.declared.refusal.Refusal.TheVariants.{Memory};
 
     ghost from_gives = { λ _ refused. refused ≡ Memory };
 
@@ -57,7 +57,7 @@ impl<'a> From<AllocError> for Refusal<'a> {
 }
 
 impl<'a, T: Drop> From<AllocFailed<T>> for Refusal<'a> {
-    ghost use Rattle.sf_items.specs.declared.refusal.Refusal.TheVariants.{Memory};
+    ghost use Rattle.sf_words.specs.declared.refusal.Refusal.TheVariants.{Memory};
 
     ghost from_gives = { λ _ refused. refused ≡ Memory };
 

@@ -6,10 +6,10 @@ use Rattle.sf_base.specs.declared.loading.LoadFault.{LoadFault}
 use Rattle.sf_base.specs.declared.loading.LoadFault.TheVariants as load
 use Rattle.sf_words.specs.declared.item.ItemKind.{ItemKind}
 use Rattle.sf_words.specs.Items.{ItemWords, counted_bytes, limit_of, names_of}
-use Rattle.sf_items.specs.declared.refusal.Limit.{Limit}
-use Rattle.sf_items.specs.declared.refusal.Limit.TheVariants.{File, Total}
-use Rattle.sf_items.specs.declared.refusal.Refusal.{Refusal}
-use Rattle.sf_items.specs.declared.refusal.Refusal.TheVariants as refusal
+use Rattle.sf_words.specs.declared.refusal.Limit.{Limit}
+use Rattle.sf_words.specs.declared.refusal.Limit.TheVariants.{File, Total}
+use Rattle.sf_words.specs.declared.refusal.Refusal.{Refusal}
+use Rattle.sf_words.specs.declared.refusal.Refusal.TheVariants as refusal
 
 -- the contents of all names, where they are known
 abbrev pub Contents : Type 0

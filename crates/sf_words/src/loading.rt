@@ -4,11 +4,11 @@ ghost use Rattle.std.specs.Prelude.{◌≡◌, ◌<◌, ◌^◌, All, map, lengt
 ghost use Rattle.sf_base.specs.Faults.{Rose};
 ghost use Rattle.sf_base.specs.Seen.{OnlyReads};
 ghost use Rattle.sf_words.specs.Items.{item_of};
-ghost use Rattle.sf_items.specs.Loading.{AreLoaded, IsLoadRefusal, IsLoadingRefusal, IsRead};
+ghost use Rattle.sf_words.specs.Loading.{AreLoaded, IsLoadRefusal, IsLoadingRefusal, IsRead};
 
+use crate::Item;
 use crate::refusal::{Limit, Refusal};
 use sf_base::{Files, LoadFault, load};
-use sf_words::Item;
 use std::alloc::Global;
 
 /// The most bytes of all files of one run, cores left out.

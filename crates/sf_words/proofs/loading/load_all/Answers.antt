@@ -2,8 +2,8 @@ use Rattle.std.proofs.Common.{Vec, Global, ◌≡◌, ◌≤◌, ◌<◌, ◌^�
 use Rattle.std.proofs.lemmas.List.{length-map}
 use Rattle.sf_base.specs.Seen.{FilesSeen}
 use Rattle.sf_words.specs.Items.{item_of}
-use Rattle.sf_items.proofs.Loads.{Begun, begin, go_on_at, all_loaded, long_in_all_at, load_refuses_at, map_items_push}
-use Rattle.sf_items.proofs.loading.load_all.Goals as goal
+use Rattle.sf_words.proofs.Loads.{Begun, begin, go_on_at, all_loaded, long_in_all_at, load_refuses_at, map_items_push}
+use Rattle.sf_words.proofs.loading.load_all.Goals as goal
 
 pub loop-item-init : goal.loop-item-init
 loop-item-init g c = record {

@@ -1,7 +1,7 @@
 use Rattle.std.proofs.Common.{◌≡◌, ◌≤◌, ◌^◌, map}
 use Rattle.sf_words.specs.Items.{item_of}
-use Rattle.sf_items.proofs.Loads.{Begun}
-use Rattle.sf_items.proofs.loading.load_all.Given as goal
+use Rattle.sf_words.proofs.Loads.{Begun}
+use Rattle.sf_words.proofs.loading.load_all.Given as goal
 
 abbrev pub invariant-loop-item : goal.invariant-loop-item
 invariant-loop-item g l =
