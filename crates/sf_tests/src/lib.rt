@@ -1,59 +1,12 @@
-//! What no clause says of the other crates: values from outside, and one call of each public function that allocates, with
-//! ample memory. A module for each crate, above all of them, since a crate with tests is proved once with them and once
-//! without.
+//! What no clause says of linking and of whole runs: values from outside, and one call of each public function that
+//! allocates, with ample memory. The crates below have their tests in `sf_part_tests`.
 #![tactic(auto)]
 
 #[cfg(test)]
 mod assembling;
 #[cfg(test)]
-mod base;
-#[cfg(test)]
-mod bytes;
-#[cfg(test)]
-mod decode;
-#[cfg(test)]
-mod elf;
-#[cfg(test)]
-mod express;
-#[cfg(test)]
-mod generated;
-#[cfg(test)]
-mod insn;
-#[cfg(test)]
 mod linking;
-#[cfg(test)]
-mod lookup;
-#[cfg(test)]
-mod machine;
-#[cfg(test)]
-mod merge;
-#[cfg(test)]
-mod model;
-#[cfg(test)]
-mod notes;
-#[cfg(test)]
-mod placing;
-#[cfg(test)]
-mod pointer;
-#[cfg(test)]
-mod records;
-#[cfg(test)]
-mod relocating;
 #[cfg(test)]
 mod running;
 #[cfg(test)]
-mod samples;
-#[cfg(test)]
-mod sizes;
-#[cfg(test)]
-mod slim;
-#[cfg(test)]
-mod storing;
-#[cfg(test)]
 mod tables;
-#[cfg(test)]
-mod text;
-#[cfg(test)]
-mod walk;
-#[cfg(test)]
-mod write;

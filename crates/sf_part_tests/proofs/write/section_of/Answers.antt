@@ -1,8 +1,8 @@
 use Rattle.std.proofs.Common.{[], ◌∷◌, sym, subst}
 use Rattle.sf_model.specs.declared.function.Func.{Func}
 use Rattle.sf_model.specs.Function.{AreWritable}
-use Rattle.sf_tests.proofs.Writing.{are_writable_gives}
-use Rattle.sf_tests.proofs.write.section_of.Goals as goal
+use Rattle.sf_part_tests.proofs.Writing.{are_writable_gives}
+use Rattle.sf_part_tests.proofs.write.section_of.Goals as goal
 
 pub write-requires : goal.write-requires
 write-requires c =

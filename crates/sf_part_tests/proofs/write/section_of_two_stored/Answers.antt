@@ -6,9 +6,9 @@ use Rattle.sf_model.specs.declared.function.Func.{Func}
 use Rattle.sf_model.specs.Function.{AreWritable}
 use Rattle.sf_write.specs.declared.stored.StoredFunction.{StoredFunction}
 use Rattle.sf_write.specs.Stored.{stored_in}
-use Rattle.sf_tests.specs.Writable.{are_writable, function_of}
-use Rattle.sf_tests.proofs.Writing.{are_writable_gives}
-use Rattle.sf_tests.proofs.write.section_of_two_stored.Goals as goal
+use Rattle.sf_part_tests.specs.Writable.{are_writable, function_of}
+use Rattle.sf_part_tests.proofs.Writing.{are_writable_gives}
+use Rattle.sf_part_tests.proofs.write.section_of_two_stored.Goals as goal
 
 both : (arch : Arch) (rows : List Row) (f g : Func) → f ≡ function_of 0x1000 6 A rows → g ≡ function_of 0x9000 6 A rows
     → IsTrue (are_writable arch (function_of 0x1000 6 A rows ∷ function_of 0x9000 6 A rows ∷ [])) → AreWritable arch (f ∷ g ∷ [])

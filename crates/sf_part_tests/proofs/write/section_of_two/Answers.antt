@@ -2,9 +2,9 @@ use Rattle.std.proofs.Common.{[], ◌∷◌, sym, subst}
 use Rattle.sf_model.specs.declared.function.Func.{Func}
 use Rattle.sf_model.specs.Function.{AreWritable}
 use Rattle.sf_model.specs.declared.machine.Key.TheVariants.{A}
-use Rattle.sf_tests.specs.Writable.{function_of}
-use Rattle.sf_tests.proofs.Writing.{are_writable_gives}
-use Rattle.sf_tests.proofs.write.section_of_two.Goals as goal
+use Rattle.sf_part_tests.specs.Writable.{function_of}
+use Rattle.sf_part_tests.proofs.Writing.{are_writable_gives}
+use Rattle.sf_part_tests.proofs.write.section_of_two.Goals as goal
 
 pub write-requires : goal.write-requires
 write-requires c =

@@ -10,7 +10,7 @@ use Rattle.sf_model.specs.declared.function.Func.{Func}
 use Rattle.sf_model.specs.Content.{content_fits}
 use Rattle.sf_model.specs.Function.{key_fits, shape_fits, IsWritable, AreWritable}
 use Rattle.sf_model.specs.Table.{row_count}
-use Rattle.sf_tests.specs.Writable.{each_next, is_writable, are_writable}
+use Rattle.sf_part_tests.specs.Writable.{each_next, is_writable, are_writable}
 
 both-first : (a b : Bool) → (a && b) ≡ true → a ≡ true
 both-first true b h = refl

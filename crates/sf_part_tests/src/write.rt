@@ -1,5 +1,5 @@
 ghost use Rattle.std.specs.Prelude.{◌≡◌, [], ◌∷◌, IfOk, IsTrue, None, false, pos};
-ghost use Rattle.sf_tests.specs.Writable.{are_writable, function_of, row_of};
+ghost use Rattle.sf_part_tests.specs.Writable.{are_writable, function_of, row_of};
 
 use sf_model::{Arch, Base, Content, Func, Key, Ra, Row, Rows, Shape};
 use sf_write::{StoredRows, WriteFault, write, write_stored};
