@@ -18,6 +18,8 @@ mod express;
 #[cfg(test)]
 mod generated;
 #[cfg(test)]
+mod groups;
+#[cfg(test)]
 mod insn;
 #[cfg(test)]
 mod lookup;
