@@ -4,6 +4,9 @@ as it is done. A crate of tests alone is no part of either.
 
     demo/build.py LOG [WORD ..]     the words are those of the program's run
 
+A line of the log that begins with == names a crate and the processor seconds that it took. demo/seconds.txt has those of a build from
+nothing: what is expected of a crate, and of what is left, is reckoned by them, and by how fast the crates before were here.
+
 Crates that don't stand on each other are proved side by side. `rt` keeps all other runs out of the folders below the crate that it
 proves, so each library is proved in a copy of these folders, over the libraries that are ready; its own out/ is moved there and back.
 """
@@ -98,17 +101,25 @@ class Proof:
                 os.rename(self.out, f"{folder}/out")
         self.said = open(f"{ROOMS}/{name}.log", "w+", encoding="utf-8", errors="replace")
         self.process = subprocess.Popen(["rt", *command], cwd=folder, stdout=self.said, stderr=subprocess.STDOUT)
+        self.status, self.seconds = None, 0
 
     def list_crates(self, names):
         with open(f"{TOP}/crates.txt", encoding="utf-8") as file, open(f"{self.room}/crates.txt", "w", encoding="utf-8") as to:
             to.writelines(it for it in file if re.split("[ :]", it)[0] in names)
 
-    def memory(self):
-        return FIRST + (self.jobs - 1) * FURTHER
+    def has_ended(self):
+        """Whether the run has ended. Its processor seconds are known then."""
+        if self.status is None:
+            ended, status, usage = os.wait4(self.process.pid, os.WNOHANG)
+            if ended:
+                self.status = os.WEXITSTATUS(status) if os.WIFEXITED(status) else -os.WTERMSIG(status)
+                self.process.returncode = self.status
+                self.seconds = usage.ru_utime + usage.ru_stime
+        return self.status is not None
 
     def leave(self):
         """Ends the run, and gives the crate what was made."""
-        if self.process.poll() is None:
+        if not self.has_ended():
             self.process.terminate()
             self.process.wait()
         if self.room:
@@ -120,38 +131,98 @@ class Proof:
         """Returns the number of functions that were proved, or none where `rt` failed."""
         self.said.seek(0)
         said = self.said.read().replace(self.room or TOP, TOP)
-        print(f"== {self.name}\n{said}", end="", file=log, flush=True)
+        print(f"== {self.name} {self.seconds:.0f}\n{said}", end="", file=log, flush=True)
         self.leave()
         functions = re.findall(r"(?m)^logic=proved .*?functions=(\d+)", said)
-        return None if self.process.returncode else int(functions[-1]) if functions else 0
+        return None if self.status else int(functions[-1]) if functions else 0
+
+
+def seconds():
+    """The processor seconds that each crate took where they were measured, by name."""
+    with open(f"{TOP}/demo/seconds.txt", encoding="utf-8") as file:
+        return {name: float(number) for name, number in (it.split() for it in file if not it.startswith("#"))}
+
+
+class Plan:
+    """Which crates are proved next, with how many jobs, and how long what is left takes.
+
+    Of the crates that wait for none, those with the longest chain of others above them come first. The head of the longest chain gets
+    the processors that no other crate needs, and two of four at least: all else is proved before it, whatever is done beside it."""
+
+    # How much faster two, three and four jobs are than one.
+    SPEED = (0, 1, 1.65, 2.1, 2.4)
+
+    def __init__(self, all_below):
+        measured = seconds()
+        a_line = sum(measured.values()) / max(1, sum(lines(it) for it in measured if it in all_below))
+        self.all_below = all_below
+        self.cost = {it: measured.get(it, lines(it) * a_line) for it in all_below}
+        self.chain = collections.Counter()
+        for name in reversed(all_below):
+            self.chain[name] += self.cost[name]
+            for it in all_below[name]:
+                self.chain[it] = max(self.chain[it], self.chain[name])
+        self.processors, self.memory = len(os.sched_getaffinity(0)), free_memory()
+
+    def share(self, name):
+        return 100 * self.cost[name] / sum(self.cost.values())
+
+    def begun(self, left, done, jobs):
+        """The crates that begin now, each with its jobs, where those of `jobs` run with theirs."""
+        ready = sorted((it for it in left if done.issuperset(self.all_below[it])), key=lambda it: -self.chain[it])
+        found = {}
+        for at, name in enumerate(ready):
+            running = [*jobs.values(), *found.values()]
+            idle = self.processors - sum(running)
+            room = self.memory - sum(memory_of(it) for it in running)
+            # All that still waits stands on this crate: it is hurried, at the cost of those beside it.
+            is_neck = all(name in self.all_below[it] for it in left if it not in ready)
+            if running and (room < FIRST or idle < 1 and not is_neck):
+                continue
+            others = len(ready) - at - 1
+            is_head = self.chain[name] >= max(self.chain[it] for it in [*left, *jobs])
+            count = max(idle - others, self.processors // 2) if is_head else idle // (others + 1)
+            count = max(count, min(self.processors, 3) if is_neck else 1)
+            found[name] = max(1, min(count, 4, 1 + int((room - FIRST) / FURTHER)))
+        return found
+
+    def wait(self, left, done, jobs, since, slowness):
+        """How many seconds it takes until all is proved, by the same choices. `since` tells how long each of `jobs` has run."""
+        left, done, jobs = list(left), set(done), dict(jobs)
+        due = {it: self.took(it, jobs[it], slowness) for it in jobs}
+        due = {it: max(due[it] - since[it], due[it] / 10) for it in due}
+        now = 0
+        while left or due:
+            for name, count in self.begun(left, done, jobs).items():
+                left.remove(name)
+                jobs[name] = count
+                due[name] = now + self.took(name, count, slowness)
+            name = min(due, key=due.get)
+            now = due.pop(name)
+            del jobs[name]
+            done.add(name)
+        return now
+
+    def took(self, name, jobs, slowness):
+        return self.cost[name] * slowness / self.SPEED[jobs]
+
+
+def memory_of(jobs):
+    return FIRST + (jobs - 1) * FURTHER
 
 
 def prove(all_below, words, log):
-    """Proves the crates: of those that wait for none, the ones with the longest chain of others above them first."""
-    behind = collections.Counter()
-    for name in reversed(all_below):
-        behind[name] += lines(name)
-        for it in all_below[name]:
-            behind[it] = max(behind[it], behind[name])
-    left, done, running, functions = sorted(all_below, key=lambda it: -behind[it]), set(), [], 0
-    processors, memory, began = len(os.sched_getaffinity(0)), free_memory(), time.monotonic()
+    """Proves the crates in the order of the plan, and tells what is left after each."""
+    plan = Plan(all_below)
+    left, done, running, functions = list(all_below), set(), [], 0
+    began, worked, expected = time.monotonic(), 0, 0
     try:
         while left or running:
-            ready = [it for it in left if done.issuperset(all_below[it])]
-            for at, name in enumerate(ready):
-                idle = processors - sum(it.jobs for it in running)
-                room = memory - sum(it.memory() for it in running)
-                # All that still waits stands on this crate: it is hurried, at the cost of those beside it.
-                is_neck = all(name in all_below[it] for it in left if it not in ready)
-                if running and (room < FIRST or idle < 1 and not is_neck):
-                    continue
-                # Any other crate gets the processors that no other one waits for.
-                jobs = max(idle // (len(ready) - at), 3 if is_neck else 1)
-                jobs = min(jobs, 4, 1 + int((room - FIRST) / FURTHER))
+            for name, jobs in plan.begun(left, done, {it.name: it.jobs for it in running}).items():
                 left.remove(name)
-                running.append(Proof(name, all_below[name], max(1, jobs), words))
+                running.append(Proof(name, all_below[name], jobs, words))
             time.sleep(0.1)
-            for proof in [it for it in running if it.process.poll() is not None]:
+            for proof in [it for it in running if it.has_ended()]:
                 proved = proof.end(log)
                 if proved is None:
                     return proof.name
@@ -159,7 +230,16 @@ def prove(all_below, words, log):
                 done.add(proof.name)
                 functions += proved
                 number = f"{len(done):{len(str(len(all_below)))}}/{len(all_below)}"
-                what = f"{proved:4} functions {clock(proof.began)}" if proved else "kept from an earlier run"
+                what = "kept from an earlier run"
+                if proved:
+                    # What is kept tells nothing of the machine's speed.
+                    worked += plan.SPEED[proof.jobs] * (time.monotonic() - proof.began)
+                    expected += plan.cost[proof.name]
+                    what = f"{proved:4} functions {clock(proof.began)} {plan.share(proof.name):4.0f} %"
+                    if left or running:
+                        jobs = {it.name: it.jobs for it in running}
+                        since = {it.name: time.monotonic() - it.began for it in running}
+                        what += f"   about {plan.wait(left, done, jobs, since, worked / expected) / 60:.0f} minutes left"
                 print(f"   [{number}] {proof.name:14} {what}", flush=True)
     finally:
         for proof in running:
