@@ -32,11 +32,13 @@ use Rattle.sf_asm.specs.declared.fault.LinkFault.TheVariants as link
 use Rattle.sf_asm.specs.Entry.{kept_of, omitted_of, spans_of}
 use Rattle.sf_asm.specs.Functions.{Function, Object, unless}
 use Rattle.sf_asm.specs.Inputs.{HaveMachine, all_functions, mixed_fault}
+use Rattle.sf_asm.specs.Inputs.{first_item}
 use Rattle.sf_asm.specs.Kept.{entry_of, is_kept, kept_functions, omitted_functions}
 use Rattle.sf_asm.specs.Linking.{Gathers, GathersFrom, functions_fault, limits_fault, or_later, overlap_fault, overlap_in, unless_fault as unless_gathered}
 use Rattle.sf_asm.specs.Order.{are_apart, entry_rows, rows_of}
 use Rattle.sf_asm.specs.Sources.{AreByStart, AreWithSources}
 use Rattle.sf_asm.proofs.ByStart.{are_by_start, ordered_are, sorted_functions}
+use Rattle.sf_asm.proofs.Described.{described, from_gathers}
 use Rattle.sf_asm.proofs.GatheredInputs.{are_read, by_parts}
 use Rattle.sf_asm.proofs.Kept.{not_overlapping_apart}
 use Rattle.sf_asm.proofs.Limits.{few_functions}
@@ -50,6 +52,7 @@ use Rattle.sf_plt.specs.Sorting.{func_start}
 use Rattle.sf_plt.specs.Written.{first_entry, later_entries, plt_pair, written_functions}
 use Rattle.sf_plt.proofs.Apart.{neighbours, pairs_of, sorted_written, written_apart}
 use Rattle.sf_plt.proofs.Cases.{Case, kept_case, table_case, other_case, case_of, expressed_of, kept_lists, table_lists, other_lists}
+use Rattle.sf_plt.proofs.Described.{from_links, to_links}
 use Rattle.sf_plt.proofs.Found.{recovers_with_plts}
 use Rattle.sf_plt.proofs.Sorted.{lines_alone, omitted_count, are_omitted}
 
@@ -175,7 +178,7 @@ pub ready : (before : Option Arch) (objects : List Object) (arch : Arch) (kept :
 ready before objects arch kept omitted lent g =
     let read = are_read before objects (map entry_of g.sorted) g.is in
     record {
-      all = ap (λ (given : Result (List Function) GatherFault). by_parts given (mixed_fault before objects)) g.are ∙ ap (by_parts (Ok g.functions)) read.one;
+      all = ap (λ (given : Result (List Function) GatherFault). by_parts given (mixed_fault before objects)) (described (first_item before) objects (Ok g.functions) g.are) ∙ ap (by_parts (Ok g.functions)) read.one;
       checked = read.checked;
       apart = not_overlapping_apart (map entry_of g.sorted) (apart_from (limits_fault (map entry_of g.sorted)) (overlap_in (spans_of (map entry_of g.sorted))) read.checked);
     }
@@ -183,7 +186,7 @@ ready before objects arch kept omitted lent g =
 -- the machine of what was lent
 pub machine_of_lent : (before : Option Arch) (objects : List Object) (arch : Arch) (kept : List Func) (omitted : List Omitted) (lent : List Function) → AreWithSources before objects arch kept omitted lent → HaveMachine before objects arch → All (λ (f : Function). f.arch ≡ arch) lent
 machine_of_lent before objects arch kept omitted lent g machine =
-    let all = machine_of_functions before objects arch g.functions g.are machine in
+    let all = machine_of_functions before objects arch g.functions (described (first_item before) objects (Ok g.functions) g.are) machine in
     let sorted = All-permutation (λ (f : Function). f.arch ≡ arch) g.functions g.sorted g.by_start.moved all in
     subst (All (λ (f : Function). f.arch ≡ arch)) (sym g.sources_are) (All-filter (λ (f : Function). not (is_kept f)) (λ (f : Function). f.arch ≡ arch) g.sorted sorted)
 
@@ -256,11 +259,11 @@ gathered_refused at (Ok functions) fault (ordered, order, is) =
         ∙ ap (λ (x : GatherFault). Err (link.Gather x)) (sym same))
 
 pub not_gathered : (before : Option Arch) (objects : List Object) (at : ℕ) (fault : GatherFault) → Gathers before objects (Err fault) → LinksPlts before objects at (Err (link.Gather fault))
-not_gathered before objects at fault h = gathered_refused at (all_functions before objects) fault h
+not_gathered before objects at fault h = to_links before objects at (Err (link.Gather fault)) (gathered_refused at (all_functions before objects) fault (from_gathers before objects (Err fault) h))
 
 by_fault : (before : Option Arch) (objects : List Object) (at : ℕ) (functions sorted : List Function) (fault : LinkFault) → all_functions before objects ≡ Ok functions → AreByStart functions sorted → plt_link_fault at sorted ≡ Some fault → LinksPlts before objects at (Err fault)
 by_fault before objects at functions sorted fault all order e =
-    subst (λ (given : Result (List Function) GatherFault). LinksPltsFrom at given (Err fault)) (sym all) (sorted, order, sym (ap (λ (x : Option LinkFault). unless_fault x sorted) e))
+    to_links before objects at (Err fault) (subst (λ (given : Result (List Function) GatherFault). LinksPltsFrom at given (Err fault)) (sym all) (sorted, order, sym (ap (λ (x : Option LinkFault). unless_fault x sorted) e)))
 
 pub too_many : (before : Option Arch) (objects : List Object) (at : ℕ) (functions sorted : List Function) (fault : GatherFault) → Ready before objects functions sorted → AreByStart functions sorted → plts_fault sorted ≡ Some fault → LinksPlts before objects at (Err (link.Gather fault))
 too_many before objects at functions sorted fault h order e =
@@ -318,7 +321,7 @@ result_from at (Ok functions) r r' (one, order, e) (other, order', e') =
 result_from at (Err fault) r r' e e' = e ∙ sym e'
 
 pub one_result : (before : Option Arch) (objects : List Object) (at : ℕ) (r r' : Result (List Function) LinkFault) → LinksPlts before objects at r → LinksPlts before objects at r' → r ≡ r'
-one_result before objects at r r' h h' = result_from at (all_functions before objects) r r' h h'
+one_result before objects at r r' h h' = result_from at (all_functions before objects) r r' (from_links before objects at r h) (from_links before objects at r' h')
 
 -- ---- what a check answers
 pub none_over : (first : Option GatherFault) (u : Unit {0}) → Ok u ≡ unless first → first ≡ None

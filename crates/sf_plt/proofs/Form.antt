@@ -10,7 +10,6 @@ use Rattle.sf_model.specs.declared.machine.Arch.TheVariants.{Amd64, Aarch64}
 use Rattle.sf_model.specs.declared.machine.Base.{Base}
 use Rattle.sf_model.specs.declared.machine.Base.TheVariants.{Fp, Sp}
 use Rattle.sf_model.specs.declared.omission.Reason.TheVariants.{EmptyRange, SizeTooLarge, ReturnColumn, SignalFrame}
-use Rattle.cfa_insn.specs.Listing.{listing}
 use Rattle.cfa_machine.specs.Registers.{return_address}
 use Rattle.sf_express.specs.Expressed.{reason_of, same_base}
 use Rattle.sf_asm.specs.Functions.{Function}
@@ -48,14 +47,14 @@ pub record PltForm (f : Function) : Type 0 where
   pub aligned : f.start % 16 ≡ 0
   pub above : 16 < f.size
   pub code : f.code ≡ 1
-  pub text : is_plt_text (without_nops (listing f.own)) ≡ true
+  pub text : is_plt_text (without_nops f.own) ≡ true
   pub initial : OfStack (initial_content f)
 
 pub plt_form : (f : Function) → is_plt f ≡ true → PltForm f
 unfolding is_plt
 plt_form f e =
-    let seven = both (is_amd64 f.arch && is_none (reason_of f.arch (facts_of f)) && eqb (f.start % 16) 0 && nat_lt 16 f.size && eqb f.code 1 && is_plt_text (without_nops (listing f.own))) (counts_from_stack (initial_content f)) e in
-    let six = both (is_amd64 f.arch && is_none (reason_of f.arch (facts_of f)) && eqb (f.start % 16) 0 && nat_lt 16 f.size && eqb f.code 1) (is_plt_text (without_nops (listing f.own))) seven.0 in
+    let seven = both (is_amd64 f.arch && is_none (reason_of f.arch (facts_of f)) && eqb (f.start % 16) 0 && nat_lt 16 f.size && eqb f.code 1 && is_plt_text (without_nops f.own)) (counts_from_stack (initial_content f)) e in
+    let six = both (is_amd64 f.arch && is_none (reason_of f.arch (facts_of f)) && eqb (f.start % 16) 0 && nat_lt 16 f.size && eqb f.code 1) (is_plt_text (without_nops f.own)) seven.0 in
     let five = both (is_amd64 f.arch && is_none (reason_of f.arch (facts_of f)) && eqb (f.start % 16) 0 && nat_lt 16 f.size) (eqb f.code 1) six.0 in
     let four = both (is_amd64 f.arch && is_none (reason_of f.arch (facts_of f)) && eqb (f.start % 16) 0) (nat_lt 16 f.size) five.0 in
     let three = both (is_amd64 f.arch && is_none (reason_of f.arch (facts_of f))) (eqb (f.start % 16) 0) four.0 in

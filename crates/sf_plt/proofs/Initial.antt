@@ -7,7 +7,7 @@ use Rattle.sf_model.specs.declared.machine.Arch.{Arch}
 use Rattle.sf_model.specs.declared.machine.Base.{Base}
 use Rattle.sf_model.specs.declared.machine.Base.TheVariants.{Fp, Sp}
 use Rattle.sf_model.specs.declared.omission.Reason.{Reason}
-use Rattle.cfa_insn.specs.Listing.{Item, listing}
+use Rattle.cfa_insn.specs.Listing.{Item}
 use Rattle.cfa_machine.specs.declared.columns.Columns.{Columns}
 use Rattle.cfa_machine.specs.declared.fault.MachineFault.{MachineFault}
 use Rattle.cfa_machine.specs.declared.row.DwRow.{DwRow}
@@ -84,19 +84,19 @@ form f = is_amd64 f.arch && is_none (reason_of f.arch (facts_of f)) && eqb (f.st
 
 pub no_form : (f : Function) → form f ≡ false → None ≡ chosen f
 unfolding is_plt
-no_form f e = sym (ap (λ (b : Bool). cond b (initial_content f) None) (first_false (form f) (is_plt_text (without_nops (listing f.own))) (counts_from_stack (initial_content f)) e))
+no_form f e = sym (ap (λ (b : Bool). cond b (initial_content f) None) (first_false (form f) (is_plt_text (without_nops f.own)) (counts_from_stack (initial_content f)) e))
 
-pub no_text : (f : Function) → is_plt_text (without_nops (listing f.own)) ≡ false → None ≡ chosen f
+pub no_text : (f : Function) → is_plt_text (without_nops f.own) ≡ false → None ≡ chosen f
 unfolding is_plt
-no_text f e = sym (ap (λ (b : Bool). cond b (initial_content f) None) (second_false (form f) (is_plt_text (without_nops (listing f.own))) (counts_from_stack (initial_content f)) e))
+no_text f e = sym (ap (λ (b : Bool). cond b (initial_content f) None) (second_false (form f) (is_plt_text (without_nops f.own)) (counts_from_stack (initial_content f)) e))
 
 pub no_stack : (f : Function) → counts_from_stack (initial_content f) ≡ false → None ≡ chosen f
 unfolding is_plt
-no_stack f e = sym (ap (λ (b : Bool). cond b (initial_content f) None) (third_false (form f) (is_plt_text (without_nops (listing f.own))) (counts_from_stack (initial_content f)) e))
+no_stack f e = sym (ap (λ (b : Bool). cond b (initial_content f) None) (third_false (form f) (is_plt_text (without_nops f.own)) (counts_from_stack (initial_content f)) e))
 
-pub is_table : (f : Function) → form f ≡ true → is_plt_text (without_nops (listing f.own)) ≡ true → counts_from_stack (initial_content f) ≡ true → is_plt f ≡ true
+pub is_table : (f : Function) → form f ≡ true → is_plt_text (without_nops f.own) ≡ true → counts_from_stack (initial_content f) ≡ true → is_plt f ≡ true
 unfolding is_plt
-is_table f e g h = all_true (form f) (is_plt_text (without_nops (listing f.own))) (counts_from_stack (initial_content f)) e g h
+is_table f e g h = all_true (form f) (is_plt_text (without_nops f.own)) (counts_from_stack (initial_content f)) e g h
 
 pub taken : (f : Function) → is_plt f ≡ true → initial_content f ≡ chosen f
 taken f e = sym (ap (λ (b : Bool). cond b (initial_content f) None) e)

@@ -13,3 +13,4 @@ pub mod Faults
 pub mod Worked
 pub mod SomeLinked
 pub mod NeverMemory
+pub mod Described

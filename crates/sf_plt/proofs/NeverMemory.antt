@@ -18,6 +18,7 @@ use Rattle.sf_plt.specs.Answers.{IsFirstPltLinked}
 use Rattle.sf_plt.specs.Linking.{LinksPltsFrom, plt_link_fault, plts_fault}
 use Rattle.sf_plt.specs.Plt.{plt_functions}
 use Rattle.sf_plt.specs.Written.{written_functions}
+use Rattle.sf_plt.proofs.Described.{from_links}
 
 limits : (sorted : List Function) → FaultIn is_wrapped_answered (plts_fault sorted)
 unfolding plts_fault
@@ -39,4 +40,4 @@ links_from at (Err fault) result h is = subst (FaultIs is_answered) (sym is) (re
 -- a call returns that fault, or that memory ran out
 pub first_is_answered : (before : Option Arch) (objects : List Object) (at : ℕ) (fault : LinkFault) → IsFirstPltLinked before objects at fault → IsTrue (is_answered fault)
 first_is_answered before objects at fault (inl is) = subst (λ (f : LinkFault). IsTrue (is_answered f)) (sym is) refl
-first_is_answered before objects at fault (inr h) = links_from at (all_functions before objects) (Err fault) (all_refused before objects) h
+first_is_answered before objects at fault (inr h) = links_from at (all_functions before objects) (Err fault) (all_refused before objects) (from_links before objects at (Err fault) h)

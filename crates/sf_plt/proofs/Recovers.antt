@@ -18,7 +18,6 @@ use Rattle.sf_model.specs.Lookup.{FoundRow, begins_last, contains, found_at, row
 use Rattle.sf_model.specs.Memory.{Region}
 use Rattle.sf_model.specs.Recovery.{moved, recovery}
 use Rattle.sf_model.specs.Walk.{recover_by_rows}
-use Rattle.cfa_insn.specs.Listing.{listing}
 use Rattle.cfa_machine.specs.declared.columns.Columns.{Columns}
 use Rattle.cfa_machine.specs.declared.fault.MachineFault.{MachineFault}
 use Rattle.cfa_machine.specs.declared.rule.CfaRule.{CfaRule}
@@ -120,7 +119,7 @@ pub said_before : (f : Function) (content : Content) → initial_content f ≡ S
 unfolding initial_content content_before
 said_before f content e =
     ap (λ (row : FullRow). content_of f.arch (row_from 0 (columns_of f.arch row))) (sym (row_before f))
-    ∙ content_is (first_fault f.arch f.factor (listing f.initial) []) (content_of f.arch (row_from 0 (columns_of f.arch (row_at_offset f.code f.factor (listing f.initial) [] 0)))) content e
+    ∙ content_is (first_fault f.arch f.factor f.initial []) (content_of f.arch (row_from 0 (columns_of f.arch (row_at_offset f.code f.factor f.initial [] 0)))) content e
 
 -- the contents of all rows, and how the canonical frame address is computed
 record Says (f : Function) (content : Content) : Type 0 where

@@ -3,7 +3,7 @@ use Rattle.std.specs.Prelude.{not, nat_lt}
 use Rattle.std.proofs.Common.{◌≡◌, ℕ, suc, ℤ, pos, ◌<◌, ◌≤◌, Bool, true, false, cond, eqb, List, [], ◌∷◌, Ok, Err, refl, sym, ap, ◌∙◌, arith}
 use Rattle.std.proofs.lemmas.Bool.{eqb-true, le-ltb, lt-ltb, ltb-false}
 use Rattle.cfa_insn.specs.Instruction.{Instruction, advance_loc, nop, def_cfa_offset, def_cfa_expression}
-use Rattle.cfa_insn.specs.Listing.{Item, listing}
+use Rattle.cfa_insn.specs.Listing.{Item}
 use Rattle.cfa_machine.specs.declared.effect.Effect.{Effect}
 use Rattle.cfa_machine.specs.declared.effect.Effect.TheVariants.{Row, Advance}
 use Rattle.cfa_machine.specs.declared.effect.RowEffect.TheVariants.{Nothing, SetCfa, SetCfaOffset}
@@ -185,27 +185,27 @@ module _ (f : ℤ) (initial : FullRow) (p q r s t : ℕ) (block : List ℕ) wher
 
 -- the row of a function with this text before its own instructions, and its rows from there
 abbrev pub initial_row : Function → FullRow
-initial_row f = initial_by f.factor no_row (listing f.initial)
+initial_row f = initial_by f.factor no_row f.initial
 
-pub row_is : (f : Function) (o : ℕ) (state : UnwindState) → f.code ≡ 1 → is_plt_text (without_nops (listing f.own)) ≡ true
+pub row_is : (f : Function) (o : ℕ) (state : UnwindState) → f.code ≡ 1 → is_plt_text (without_nops f.own) ≡ true
     → ((p q r s t : ℕ) (block : List ℕ) → state_before (initial_row f) 1 f.factor o 0 (first_state (initial_row f)) (text_of p q r s t block) ≡ state) → full_row f o ≡ state.row
 row_is f o state code text h =
-    let has = has_text (without_nops (listing f.own)) text in
-    ap (λ (c : ℕ). (state_before (initial_row f) c f.factor o 0 (first_state (initial_row f)) (listing f.own)).row) code
+    let has = has_text (without_nops f.own) text in
+    ap (λ (c : ℕ). (state_before (initial_row f) c f.factor o 0 (first_state (initial_row f)) f.own).row) code
     ∙ ap (λ (x : UnwindState). x.row)
-    (skips_nops (initial_row f) 1 f.factor o 0 (first_state (initial_row f)) (listing f.own) (omega arith)
+    (skips_nops (initial_row f) 1 f.factor o 0 (first_state (initial_row f)) f.own (omega arith)
     ∙ ap (state_before (initial_row f) 1 f.factor o 0 (first_state (initial_row f))) has.is ∙ h has.p has.q has.r has.s has.t has.block)
 
-pub row_first : (f : Function) (o : ℕ) → f.code ≡ 1 → is_plt_text (without_nops (listing f.own)) ≡ true → o < 6 → full_row f o ≡ with_cfa (cfa_offset (pos 16) (initial_row f).cfa) (initial_row f)
+pub row_first : (f : Function) (o : ℕ) → f.code ≡ 1 → is_plt_text (without_nops f.own) ≡ true → o < 6 → full_row f o ≡ with_cfa (cfa_offset (pos 16) (initial_row f).cfa) (initial_row f)
 row_first f o code text lt = row_is f o (one f.factor (initial_row f) 0 0 0 0 0 []) code text (λ p q r s t block. at_first f.factor (initial_row f) p q r s t block o lt)
 
-pub row_second : (f : Function) (o : ℕ) → f.code ≡ 1 → is_plt_text (without_nops (listing f.own)) ≡ true → 6 ≤ o → o < 16
+pub row_second : (f : Function) (o : ℕ) → f.code ≡ 1 → is_plt_text (without_nops f.own) ≡ true → 6 ≤ o → o < 16
     → full_row f o ≡ with_cfa (cfa_offset (pos 24) (cfa_offset (pos 16) (initial_row f).cfa)) (initial_row f)
 row_second f o code text le lt = row_is f o (two f.factor (initial_row f) 0 0 0 0 0 []) code text (λ p q r s t block. at_second f.factor (initial_row f) p q r s t block o le lt)
 
-pub row_third : (f : Function) (o : ℕ) → f.code ≡ 1 → is_plt_text (without_nops (listing f.own)) ≡ true → 16 ≤ o → full_row f o ≡ with_cfa cfa.Expression (initial_row f)
+pub row_third : (f : Function) (o : ℕ) → f.code ≡ 1 → is_plt_text (without_nops f.own) ≡ true → 16 ≤ o → full_row f o ≡ with_cfa cfa.Expression (initial_row f)
 row_third f o code text le = row_is f o (three f.factor (initial_row f) 0 0 0 0 0 []) code text (λ p q r s t block. at_third f.factor (initial_row f) p q r s t block o le)
 
 -- before its own instructions
-pub row_before : (f : Function) → row_at_offset f.code f.factor (listing f.initial) [] 0 ≡ initial_row f
+pub row_before : (f : Function) → row_at_offset f.code f.factor f.initial [] 0 ≡ initial_row f
 row_before f = ap (λ (x : UnwindState). x.row) (at_end (initial_row f) f.code f.factor 0 0 (first_state (initial_row f)))

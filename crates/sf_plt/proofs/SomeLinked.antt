@@ -28,6 +28,7 @@ use Rattle.sf_asm.specs.Linking.{functions_fault, limits_fault, or_later, overla
 use Rattle.sf_asm.specs.Order.{are_apart}
 use Rattle.sf_asm.specs.Sources.{AreByStart}
 use Rattle.sf_asm.proofs.ByStart.{are_by_start, sorted_functions}
+use Rattle.sf_asm.proofs.Described.{describe}
 use Rattle.sf_asm.proofs.GatheredInputs.{parts_of}
 use Rattle.sf_asm.proofs.Kept.{not_overlapping_apart}
 use Rattle.sf_plt.specs.Answers.{IsPltLinked, others_in, span_of}
@@ -35,6 +36,7 @@ use Rattle.sf_plt.specs.Linking.{LinksPlts, LinksPltsFrom, plt_link_fault, plts_
 use Rattle.sf_plt.specs.Plt.{is_plt, plt_functions}
 use Rattle.sf_plt.specs.Written.{first_entry, later_entries, pair_by, plt_pair, row_saying, written_by, written_functions, written_of}
 use Rattle.sf_plt.proofs.Cases.{Case, IsKept, IsTable, case_of, expressed_of, kept_case, other_case, table_case}
+use Rattle.sf_plt.proofs.Described.{from_links, to_links}
 use Rattle.sf_plt.proofs.Faults.{accepted_by, apart_from, are_writable}
 use Rattle.sf_plt.proofs.Form.{plt_form, size_small}
 use Rattle.sf_plt.proofs.Found.{recovers_with_plts}
@@ -45,7 +47,7 @@ some_from at (Ok functions) = let sorted = sorted_functions functions in (unless
 some_from at (Err fault) = (Err (link.Gather fault), refl)
 
 pub some_result : (before : Option Arch) (objects : List Object) (at : ℕ) → (result : Result (List Function) LinkFault) × LinksPlts before objects at result
-some_result before objects at = some_from at (all_functions before objects)
+some_result before objects at = let some = some_from at (all_functions before objects) in (some.0, to_links before objects at some.0 some.1)
 
 -- ---- functions in which no fault was found
 pub record AreLinked (before : Option Arch) (objects : List Object) (at : ℕ) (sorted : List Function) : Type 0 where
@@ -93,7 +95,7 @@ linked_from before objects at (Ok functions) sorted e (other, order, is) =
 linked_from before objects at (Err fault) sorted e is = cc
 
 pub are_linked : (before : Option Arch) (objects : List Object) (at : ℕ) (sorted : List Function) → LinksPlts before objects at (Ok sorted) → AreLinked before objects at sorted
-are_linked before objects at sorted h = linked_from before objects at (all_functions before objects) sorted refl h
+are_linked before objects at sorted h = linked_from before objects at (all_functions before objects) sorted refl (from_links before objects at (Ok sorted) h)
 
 -- ---- what is written of a function
 pub all_of : (P : Func → Type 0) (f : Function) → (IsKept f → P (expressed_of f)) → ((t : IsTable f) → P (first_entry f t.content) × P (later_entries f t.content)) → All P (written_of f)
@@ -170,7 +172,7 @@ some_plt_section before objects at sorted arch h machine writable fit =
       are_bytes = made.0;
       linked = record {
         functions = h.functions;
-        are = h.are;
+        are = describe (first_item before) objects (Ok h.functions) h.are;
         arch = arch;
         machine = machine;
         sorted = sorted;

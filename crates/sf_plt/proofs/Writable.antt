@@ -12,7 +12,7 @@ use Rattle.sf_model.specs.declared.omission.Reason.{Reason}
 use Rattle.sf_model.specs.declared.rows.Row.{Row}
 use Rattle.sf_model.specs.Content.{content_fits}
 use Rattle.sf_model.specs.Function.{IsWritable, RowsRise, key_fits}
-use Rattle.cfa_insn.specs.Listing.{Item, listing}
+use Rattle.cfa_insn.specs.Listing.{Item}
 use Rattle.cfa_machine.specs.declared.effect.Effect.{Effect}
 use Rattle.cfa_machine.specs.declared.effect.Effect.TheVariants as effects
 use Rattle.cfa_machine.specs.declared.effect.RowEffect.TheVariants.{Nothing, SetRule, SetCfa, SetCfaRegister, SetCfaOffset, NegateSign}
@@ -78,9 +78,9 @@ no_fault (Some fault) said content e = cc
 row_unsigned : (f : Function) (content : Content) → f.arch ≡ Amd64 → initial_content f ≡ Some content → (initial_row f).signed ≡ false
 unfolding initial_content content_before
 row_unsigned f content arch e =
-    let none = no_fault (first_fault f.arch f.factor (listing f.initial) []) _ content e in
-    let on_amd64 : first_fault Amd64 f.factor (listing f.initial) [] ≡ None = ap (λ (a : Arch). first_fault a f.factor (listing f.initial) []) (sym arch) ∙ none in
-    unsigned_by f.factor no_row (listing f.initial) (neither (initial_fault Amd64 f.factor no_row (listing f.initial)) _ on_amd64).0
+    let none = no_fault (first_fault f.arch f.factor f.initial []) _ content e in
+    let on_amd64 : first_fault Amd64 f.factor f.initial [] ≡ None = ap (λ (a : Arch). first_fault a f.factor f.initial []) (sym arch) ∙ none in
+    unsigned_by f.factor no_row f.initial (neither (initial_fault Amd64 f.factor no_row f.initial) _ on_amd64).0
 
 -- what the rows say can be said on the machine, whatever the canonical frame address
 fits : (f : Function) (content : Content) → f.arch ≡ Amd64 → initial_content f ≡ Some content → (n : ℕ) → IsTrue (content_fits f.arch (record content { cfa = pos n }))

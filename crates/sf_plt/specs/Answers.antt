@@ -13,10 +13,11 @@ use Rattle.sf_model.specs.Tight.{Narrow, Tight}
 use Rattle.sf_model.specs.Walk.{recover_by_rows}
 use Rattle.sf_write.specs.Section.{table_of}
 use Rattle.sf_express.specs.Alike.{defined}
+use Rattle.sf_asm.specs.Described.{Describe}
 use Rattle.sf_asm.specs.declared.fault.LinkFault.{LinkFault}
 use Rattle.sf_asm.specs.declared.fault.LinkFault.TheVariants.{NoMemory}
 use Rattle.sf_asm.specs.Entry.{omitted_of}
-use Rattle.sf_asm.specs.Functions.{Function, Object, functions_of}
+use Rattle.sf_asm.specs.Functions.{Function, Object}
 use Rattle.sf_asm.specs.Inputs.{HaveMachine, first_item}
 use Rattle.sf_asm.specs.Kept.{entry_of, kept_functions, omitted_functions}
 use Rattle.sf_asm.specs.Sources.{AreByStart}
@@ -37,12 +38,13 @@ span_of f = record { start = f.start; size = f.size; origin = f.origin }
 abbrev pub others_in : List Function → List Function
 others_in functions = filter (λ (f : Function). not (is_plt f)) functions
 
--- These bytes are the section of inputs after an item of this machine or of none: their functions are read and none is refused, all items
--- have one machine, the bytes are a section of what is written of the functions by rising start, without gaps and with the least widths,
--- which recovers what it should, and so many functions are kept, these are omitted, and these are procedure linkage tables.
+-- These bytes are the section of inputs after an item of this machine or of none: the inputs describe functions, none of them is refused,
+-- all items have one machine, the bytes are a section of what is written of the functions by rising start, without gaps and with the least
+-- widths, which recovers what it should, this number of functions is kept, these are omitted, and these are
+-- procedure linkage tables.
 pub record IsPltLinked (before : Option Arch) (objects : List Object) (at : ℕ) (section : List ℕ) (kept : ℕ) (omitted : List Omitted) (plts : List Span) : Type 0 where
   pub functions : List Function
-  pub are : functions_of (first_item before) objects ≡ Ok functions
+  pub are : Describe (first_item before) objects (Ok functions)
   pub arch : Arch
   pub machine : HaveMachine before objects arch
   pub sorted : List Function

@@ -8,7 +8,7 @@ use Rattle.sf_asm.specs.declared.fault.GatherFault.TheVariants.{TooManyFunctions
 use Rattle.sf_asm.specs.declared.fault.LinkFault.{LinkFault}
 use Rattle.sf_asm.specs.declared.fault.LinkFault.TheVariants.{Gather, OutOfReach, NoMemory}
 use Rattle.sf_asm.specs.Functions.{Function, Object}
-use Rattle.sf_asm.specs.Inputs.{all_functions}
+use Rattle.sf_asm.specs.Described.{DescribeTogether}
 use Rattle.sf_asm.specs.Kept.{entry_of}
 use Rattle.sf_asm.specs.Linking.{functions_fault, or_later}
 use Rattle.sf_asm.specs.Order.{entry_rows}
@@ -39,8 +39,10 @@ LinksPltsFrom at (Ok functions) result = (sorted : List Function) × AreByStart 
 LinksPltsFrom at (Err fault) result = result ≡ Err (Gather fault)
 
 -- linking inputs, after an item of this machine or of none, for this address comes to this
-abbrev pub LinksPlts : (before : Option Arch) → List Object → (at : ℕ) → Result (List Function) LinkFault → Type 0
-LinksPlts before objects at result = LinksPltsFrom at (all_functions before objects) result
+pub record LinksPlts (before : Option Arch) (objects : List Object) (at : ℕ) (result : Result (List Function) LinkFault) : Type 0 where
+  pub given : Result (List Function) GatherFault
+  pub described : DescribeTogether before objects given
+  pub comes : LinksPltsFrom at given result
 
 -- a fault of gathering, where out of memory stands alone
 abbrev pub wraps_gathering : GatherFault → LinkFault

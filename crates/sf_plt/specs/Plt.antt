@@ -10,7 +10,7 @@ use Rattle.sf_model.specs.declared.omission.Reason.{Reason}
 use Rattle.sf_model.specs.declared.recovery.Regs.{Regs}
 use Rattle.sf_model.specs.Memory.{Region}
 use Rattle.cfa_insn.specs.Instruction.{advance_loc, nop, def_cfa_offset, def_cfa_expression}
-use Rattle.cfa_insn.specs.Listing.{Item, listing}
+use Rattle.cfa_insn.specs.Listing.{Item}
 use Rattle.cfa_machine.specs.declared.fault.MachineFault.{MachineFault}
 use Rattle.cfa_machine.specs.declared.rule.CfaRule.{CfaRule}
 use Rattle.cfa_machine.specs.declared.rule.CfaRule.TheVariants as cfa
@@ -58,7 +58,7 @@ content_before arch code factor initial =
 
 -- of the row before a function's own instructions
 unfoldable pub initial_content : Function → Option Content
-initial_content f = content_before f.arch f.code f.factor (listing f.initial)
+initial_content f = content_before f.arch f.code f.factor f.initial
 
 -- there its canonical frame address counts from the stack pointer
 abbrev pub counts_from_stack : Option Content → Bool
@@ -70,7 +70,7 @@ counts_from_stack (Some content) = same_base content.base Sp
 unfoldable pub is_plt : Function → Bool
 is_plt f =
     is_amd64 f.arch && is_none (reason_of f.arch (facts_of f)) && (f.start % 16 == 0) && nat_lt 16 f.size && (f.code == 1)
-    && is_plt_text (without_nops (listing f.own)) && counts_from_stack (initial_content f)
+    && is_plt_text (without_nops f.own) && counts_from_stack (initial_content f)
 
 -- those among functions that SFrame can't express
 abbrev pub plt_functions : List Function → List Function

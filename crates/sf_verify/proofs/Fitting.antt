@@ -13,7 +13,6 @@ use Rattle.sf_model.specs.declared.omission.Reason.{Reason}
 use Rattle.sf_model.specs.declared.rows.Row.{Row}
 use Rattle.sf_model.specs.Content.{OffsetsInRange, content_fits}
 use Rattle.sf_model.specs.Lookup.{begins_by, begins_last, contains, found_at, offset_in_block, row_at, row_in_first}
-use Rattle.cfa_insn.specs.Listing.{listing}
 use Rattle.cfa_machine.specs.FirstFault.{first_fault}
 use Rattle.sf_express.specs.Pieces.{content_in}
 use Rattle.sf_express.proofs.Writable.{ContentFits, content_of-fits}
@@ -72,10 +71,10 @@ content_says f true (Err reason) fits in_range = tt
 content_says f false said fits in_range = tt
 
 -- a function that runs without a fault
-pub function_fits : (f : Function) → first_fault f.arch f.factor (listing f.initial) (listing f.own) ≡ None → ((offset : ℕ) → IfOk (says_of f offset) OffsetsInRange) → (pc : ℕ) → IfSome (said_in pc f) (IsFitting f.arch)
+pub function_fits : (f : Function) → first_fault f.arch f.factor f.initial f.own ≡ None → ((offset : ℕ) → IfOk (says_of f offset) OffsetsInRange) → (pc : ℕ) → IfSome (said_in pc f) (IsFitting f.arch)
 function_fits f runs in_range pc =
     let offset = pc - f.start in
-    content_says f (has_form f) (says_of f offset) (content_of-fits f.arch _ (signs_fit f.arch f.code f.factor (listing f.initial) (listing f.own) offset runs)) (in_range offset)
+    content_says f (has_form f) (says_of f offset) (content_of-fits f.arch _ (signs_fit f.arch f.code f.factor f.initial f.own offset runs)) (in_range offset)
 
 abbrev SaysFit : Arch → Function → Type 0
 SaysFit arch f = (pc : ℕ) → IfSome (said_in pc f) (IsFitting arch)

@@ -15,6 +15,7 @@ use Rattle.sf_asm.specs.Functions.{Function, Object}
 use Rattle.sf_asm.specs.Inputs.{all_functions}
 use Rattle.sf_asm.specs.Kept.{entry_of}
 use Rattle.sf_asm.specs.Linking.{GathersFrom, functions_fault, unless_fault}
+use Rattle.sf_asm.proofs.Described.{described, from_gathers}
 use Rattle.sf_asm.proofs.OneOrder.{one_order}
 use Rattle.sf_verify.specs.declared.fault.VerifyFault.{VerifyFault}
 use Rattle.sf_verify.specs.Agreement.{DifferFirst, IsVerdict, content_said}
@@ -57,14 +58,14 @@ verdict_one section functions (Differs pc ours theirs) (Differs pc' ours' theirs
 unless_one : (fault : Option VerifyFault) (table : Table) (objects : List Object) (r r' : Result Verdict VerifyFault) → VerdictUnless fault table objects r → VerdictUnless fault table objects r' → r ≡ r'
 unless_one (Some fault) table objects r r' p q = p ∙ sym q
 unless_one None table objects r r' (functions, are, v, is, e) (functions', are', w, is', e') =
-    let both : Ok functions ≡ Ok functions' = sym are ∙ are' in
+    let both : Ok functions ≡ Ok functions' = sym (described 1 objects (Ok functions) are) ∙ described 1 objects (Ok functions') are' in
     let same : functions ≡ functions' = cc in
     let one = verdict_one table.functions functions' v w (subst (λ (fs : List Function). IsVerdict table.functions fs v) same is) is' in
     e ∙ ap (λ (x : Verdict). Ok x) one ∙ sym e'
 
 pub one_result : (bytes : List ℕ) (table : Table) (objects : List Object) (r r' : Result Verdict VerifyFault) → Verifies bytes table objects r → Verifies bytes table objects r' → r ≡ r'
 one_result bytes table objects r r' (inputs, gathers, ordered, order, p) (inputs', gathers', ordered', order', q) =
-    let same = gathered_one (all_functions (Some table.arch) objects) inputs inputs' gathers gathers' in
+    let same = gathered_one (all_functions (Some table.arch) objects) inputs inputs' (from_gathers (Some table.arch) objects inputs gathers) (from_gathers (Some table.arch) objects inputs' gathers') in
     let one = one_section_order (table ∷ []) ordered ordered' (in_tables table ordered order) (in_tables table ordered' order') in
     let moved = subst (λ (i : Result (List Entry) GatherFault). VerdictUnless (first_fault i (section_fault bytes ordered)) table objects r) same p in
     unless_one (first_fault inputs' (section_fault bytes ordered')) table objects r r' (subst (λ (ls : List Located). VerdictUnless (first_fault inputs' (section_fault bytes ls)) table objects r) one moved) q

@@ -24,6 +24,7 @@ use Rattle.sf_asm.specs.Linking.{Gathers, GathersFrom, functions_fault, start_of
 use Rattle.sf_asm.specs.Said.{Answers, dwarf_at}
 use Rattle.sf_asm.proofs.Accepting.{gathered_can_be}
 use Rattle.sf_asm.proofs.ByStart.{by_key, by_key-moved, by_key-rising, by_key-stable}
+use Rattle.sf_asm.proofs.Described.{describe, to_gathers}
 use Rattle.sf_asm.proofs.GatheredInputs.{are_read}
 use Rattle.sf_verify.specs.declared.fault.VerifyFault.{VerifyFault}
 use Rattle.sf_verify.specs.Agreement.{Agree, DifferFirst, IsFitting, IsVerdict, agree, content_said, is_missing, is_plain}
@@ -122,7 +123,7 @@ gathered_from (Ok functions) =
 
 -- gathering inputs comes to a result
 some_gathering : (before : Option Arch) (objects : List Object) → (inputs : Result (List Entry) GatherFault) × Gathers before objects inputs
-some_gathering before objects = gathered_from (all_functions before objects)
+some_gathering before objects = let some = gathered_from (all_functions before objects) in (some.0, to_gathers before objects some.0 some.1)
 
 -- what the functions of inputs of a machine say fits it
 abbrev pub InputsFit : Arch → List Object → Type 0
@@ -138,7 +139,7 @@ some_unless table objects (Ok entries) None gathers f g =
     let machine : table.arch ≡ gathered.arch = All-head (λ (m : Arch). m ≡ gathered.arch) table.arch (map machine_of objects) gathered.machine in
     let machines = subst (λ (a : Arch). All (λ (m : Arch). m ≡ a) (map machine_of objects)) (sym machine) (All-tail (λ (m : Arch). m ≡ gathered.arch) table.arch (map machine_of objects) gathered.machine) in
     let verdict = some_verdict table.arch table.functions read.functions f (g read.functions read.are machines) in
-    (Ok verdict.0, (read.functions, read.are, verdict.0, verdict.1, refl))
+    (Ok verdict.0, (read.functions, describe 1 objects (Ok read.functions) read.are, verdict.0, verdict.1, refl))
 
 pub some_result : (bytes : List ℕ) (table : Table) (objects : List Object) → ((pc : ℕ) → IfSome (section_at table.functions pc) (IsFitting table.arch)) → InputsFit table.arch objects → (result : Result Verdict VerifyFault) × Verifies bytes table objects result
 some_result bytes table objects f g =

@@ -24,6 +24,7 @@ use Rattle.sf_asm.specs.Functions.{Function, Object, machine_of}
 use Rattle.sf_asm.specs.Inputs.{HaveMachine}
 use Rattle.sf_asm.specs.Kept.{entry_of, is_kept}
 use Rattle.sf_asm.specs.Sources.{AreWithSources, functions_lent}
+use Rattle.sf_asm.proofs.Described.{described}
 use Rattle.sf_asm.proofs.Holding.{gathered_apart, kept_size}
 use Rattle.sf_asm.proofs.OneMachine.{machine_of_functions}
 use Rattle.sf_verify.specs.declared.fault.VerifyFault.{VerifyFault}
@@ -87,7 +88,7 @@ pub have_holders : (before : Arch) (objects : List Object) (arch : Arch) (kept :
     → AreHolders arch (dwarf_at h.functions) kept sources
 have_holders before objects arch kept omitted sources h machine =
     let apart = gathered_apart (Some before) objects (map entry_of h.sorted) h.is in
-    let machines = machine_of_functions (Some before) objects arch h.functions h.are machine in
+    let machines = machine_of_functions (Some before) objects arch h.functions (described 1 objects (Ok h.functions) h.are) machine in
     holders arch h.functions h.sorted kept sources h.by_start.moved apart h.kept_are h.sources_are h.by_start.rising h.writable.each machines
 
 -- ---- the results

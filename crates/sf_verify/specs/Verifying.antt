@@ -7,10 +7,11 @@ use Rattle.sf_model.specs.Table.{Table}
 use Rattle.sf_merge.specs.declared.located.Located.{Located}
 use Rattle.sf_merge.specs.Located.{InOrder}
 use Rattle.sf_merge.specs.OneSection.{shared_entry}
+use Rattle.sf_asm.specs.Described.{Describe}
 use Rattle.sf_asm.specs.declared.entry.Entry.{Entry}
 use Rattle.sf_asm.specs.declared.fault.GatherFault.{GatherFault}
 use Rattle.sf_asm.specs.declared.fault.GatherFault.TheVariants as gather
-use Rattle.sf_asm.specs.Functions.{Function, Object, functions_of}
+use Rattle.sf_asm.specs.Functions.{Function, Object}
 use Rattle.sf_asm.specs.Linking.{Gathers}
 use Rattle.sf_verify.specs.declared.fault.VerifyFault.{VerifyFault}
 use Rattle.sf_verify.specs.declared.fault.VerifyFault.TheVariants.{Gather, Overlap, NoMemory}
@@ -35,7 +36,7 @@ first_fault (Err fault) section = Some (refused section fault)
 abbrev pub VerdictUnless : Option VerifyFault → Table → List Object → Result Verdict VerifyFault → Type 0
 VerdictUnless (Some fault) table objects result = result ≡ Err fault
 VerdictUnless None table objects result =
-    (functions : List Function) × (functions_of 1 objects ≡ Ok functions) × (verdict : Verdict) × IsVerdict table.functions functions verdict × (result ≡ Ok verdict)
+    (functions : List Function) × Describe 1 objects (Ok functions) × (verdict : Verdict) × IsVerdict table.functions functions verdict × (result ≡ Ok verdict)
 
 -- verifying the section of these bytes, which says this table, against these inputs comes to this: the functions of the section that
 -- hold an address are taken by start and then by entry
