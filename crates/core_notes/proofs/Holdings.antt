@@ -11,6 +11,7 @@ use Rattle.sf_lookup.specs.declared.span.Span.{Span}
 use Rattle.sf_lookup.specs.Span.{answer_of, covers}
 use Rattle.core_notes.specs.Memory.{holding, holdings, is_holder}
 use Rattle.core_notes.specs.Segment.{SegmentView, is_load, segment_of, segments}
+use Rattle.core_notes.proofs.Loads.{none_covered}
 use Rattle.core_notes.proofs.Segments.{segment_at_number, segments-length}
 
 -- ---- one segment more
@@ -50,23 +51,12 @@ held start len address =
           ]
     ]
 
-none_held : (start address : ℕ) → (nat_le start address && nat_lt address (start + 0)) ≡ false
-none_held start address =
-    elim (cases_lt address start) [
-      | inl before ↦ ap (λ (b : Bool). b && nat_lt address (start + 0)) (lt-leb start address before)
-      | inr from ↦ ap (λ (b : Bool). nat_le start address && b) (le-ltb address (start + 0) (omega (from, arith))) ∙ never (nat_le start address)
-    ]
-  where
-    never : (b : Bool) → (b && false) ≡ false
-    never true = refl
-    never false = refl
-
 covers-holding : (address number : ℕ) (s : SegmentView) → covers address (holding number s) ≡ is_holder address s
 covers-holding address number s = by_kind (is_load s)
   where
     by_kind : (b : Bool) → (nat_le s.vaddr address && nat_lt address (s.vaddr + cond b (length s.bytes - 7) 0)) ≡ (b && (nat_le s.vaddr address && nat_le (address + 8) (s.vaddr + length s.bytes)))
     by_kind true = held s.vaddr (length s.bytes) address
-    by_kind false = none_held s.vaddr address
+    by_kind false = none_covered s.vaddr address
 
 -- ---- what the first span leads to
 -- segments whose numbers begin at `first` are those of a numbering

@@ -3,10 +3,11 @@ pub mod Listings
 pub mod Segments
 pub mod Holdings
 pub mod Rising
-pub mod Holders
 pub mod Scan
 pub mod Numbered
 pub mod BytesHeld
+pub mod Holders
+pub mod Loads
 pub mod Segmented
 pub mod Threaded
 pub mod Rooms

@@ -4,7 +4,8 @@ use Rattle.std.specs.List.{find}
 use Rattle.std.proofs.Common.{◌≡◌, ℕ, zero, suc, ◌+◌, ◌-◌, ◌/◌, ◌<◌, ◌≤◌, Bool, true, false, cond, List, [], ◌∷◌, length, get_or, Option, Some, None, refl, sym, ap, subst, ◌∙◌, arith, inl, inr}
 use Rattle.std.proofs.lemmas.Bool.{leb-true, le-leb, lt-leb, cases_lt}
 use Rattle.core_notes.specs.Segment.{SegmentView, is_load}
-use Rattle.core_notes.specs.Memory.{IsCountUpto, is_holder, memory_end, rise_from}
+use Rattle.core_notes.specs.Memory.{IsCountUpto, memory_end, rise_from}
+use Rattle.core_notes.specs.MemoryBytes.{is_bytes_holder}
 
 first_true : (a b : Bool) → (a && b) ≡ true → a ≡ true
 first_true true b h = refl
@@ -120,18 +121,18 @@ halved ss address low high v le = record {
   above = λ k d from within. v.above k d (omega (v.order, le, from, arith)) within;
 }
 
--- ---- what holds the eight bytes
-ends_if : (b a : Bool) (start len address : ℕ) → cond b (start + len) start ≤ address → (b && (a && nat_le (address + 8) (start + len))) ≡ false
-ends_if false a start len address le = refl
-ends_if true a start len address le = second_false a (nat_le (address + 8) (start + len)) (lt-leb (address + 8) (start + len) (omega (le, arith)))
+-- ---- what holds bytes, of which there is one at least
+ends_if : (b a : Bool) (start size address len : ℕ) → 0 < len → cond b (start + size) start ≤ address → (b && (a && nat_le (address + len) (start + size))) ≡ false
+ends_if false a start size address len some le = refl
+ends_if true a start size address len some le = second_false a (nat_le (address + len) (start + size)) (lt-leb (address + len) (start + size) (omega (some, le, arith)))
 
-ends_before : (address : ℕ) (s : SegmentView) → memory_end s ≤ address → is_holder address s ≡ false
-ends_before address s le = ends_if (is_load s) (nat_le s.vaddr address) s.vaddr (length s.bytes) address le
+ends_before : (address len : ℕ) (s : SegmentView) → 0 < len → memory_end s ≤ address → is_bytes_holder address len s ≡ false
+ends_before address len s some le = ends_if (is_load s) (nat_le s.vaddr address) s.vaddr (length s.bytes) address len some le
 
-starts_after : (address : ℕ) (s : SegmentView) → address < s.vaddr → is_holder address s ≡ false
-starts_after address s lt =
-    second_false (is_load s) (nat_le s.vaddr address && nat_le (address + 8) (s.vaddr + length s.bytes))
-    (ap (λ (b : Bool). b && nat_le (address + 8) (s.vaddr + length s.bytes)) (lt-leb s.vaddr address lt))
+starts_after : (address len : ℕ) (s : SegmentView) → address < s.vaddr → is_bytes_holder address len s ≡ false
+starts_after address len s lt =
+    second_false (is_load s) (nat_le s.vaddr address && nat_le (address + len) (s.vaddr + length s.bytes))
+    (ap (λ (b : Bool). b && nat_le (address + len) (s.vaddr + length s.bytes)) (lt-leb s.vaddr address lt))
 
 none_passes : (p : SegmentView → Bool) (ss : List SegmentView) → ((k : ℕ) (d : SegmentView) → k < length ss → p (get_or ss k d) ≡ false) → find p ss ≡ None
 none_passes p [] h = refl
@@ -149,15 +150,15 @@ only_one p (s ∷ ss) (suc i) d lt h =
     let here : p s ≡ false = h 0 s (omega arith) (λ no. omega (no, arith)) in
     rw here (only_one p ss i d (omega (lt, arith)) (λ k e within other. h (suc k) e (omega (within, arith)) (λ same. other (omega (same, arith)))))
 
-pub none_reached : (address : ℕ) (ss : List SegmentView) → IsCountUpto address ss 0 → find (is_holder address) ss ≡ None
-none_reached address ss c = none_passes (is_holder address) ss (λ k d lt. starts_after address (get_or ss k d) (c.above k d (omega arith) lt))
+pub none_reached : (address len : ℕ) (ss : List SegmentView) → IsCountUpto address ss 0 → find (is_bytes_holder address len) ss ≡ None
+none_reached address len ss c = none_passes (is_bytes_holder address len) ss (λ k d lt. starts_after address len (get_or ss k d) (c.above k d (omega arith) lt))
 
 -- only the last segment that is reached can hold the bytes
-pub last_reached : (address : ℕ) (ss : List SegmentView) (n : ℕ) (d : SegmentView) → rise_from 0 ss ≡ true → IsCountUpto address ss (n + 1)
-    → find (is_holder address) ss ≡ cond (is_holder address (get_or ss n d)) (Some (get_or ss n d)) None
-last_reached address ss n d h c =
-    only_one (is_holder address) ss n d (omega (c.within, arith)) (λ k e within other.
+pub last_reached : (address len : ℕ) (ss : List SegmentView) (n : ℕ) (d : SegmentView) → 0 < len → rise_from 0 ss ≡ true → IsCountUpto address ss (n + 1)
+    → find (is_bytes_holder address len) ss ≡ cond (is_bytes_holder address len (get_or ss n d)) (Some (get_or ss n d)) None
+last_reached address len ss n d some h c =
+    only_one (is_bytes_holder address len) ss n d (omega (c.within, arith)) (λ k e within other.
     elim (cases_lt k n) [
-      | inl before ↦ ends_before address (get_or ss k e) (omega (ordered 0 ss h k n e before (omega (c.within, arith)), c.reached n e (omega arith), arith))
-      | inr from ↦ starts_after address (get_or ss k e) (c.above k e (omega (from, other, arith)) within)
+      | inl before ↦ ends_before address len (get_or ss k e) some (omega (ordered 0 ss h k n e before (omega (c.within, arith)), c.reached n e (omega arith), arith))
+      | inr from ↦ starts_after address len (get_or ss k e) (c.above k e (omega (from, other, arith)) within)
     ])

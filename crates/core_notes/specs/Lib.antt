@@ -12,5 +12,6 @@ pub mod MemoryBytes
 pub mod SegmentNotes
 pub mod Views
 pub mod CoreMemory
+pub mod MemoryMap
 pub mod FaultShown
 pub mod Core

@@ -1,6 +1,6 @@
 -- The room in the file for the PT_NOTE segments, which are read whole (ELF64 gABI, "Program Header" and "Note Section"): no byte
 -- of the file is in two of them.
-use Rattle.std.specs.Prelude.{ℕ, zero, suc, ◌+◌, ◌≤◌, List, length, nat_le, if◌then◌else◌}
+use Rattle.std.specs.Prelude.{ℕ, zero, suc, ◌+◌, ◌<◌, ◌≤◌, List, length, nat_le, if◌then◌else◌}
 use Rattle.elf_read.specs.declared.fault.ElfFault.TheVariants.{OutOfFile}
 use Rattle.elf_read.specs.Checking.{unless}
 use Rattle.elf_read.specs.Checks.{Check}
@@ -24,3 +24,7 @@ room_check file i = unless (nat_le (note_size_below file (suc i)) (length file))
 -- there is room for all of them, up to any
 abbrev pub HasRoom : List ℕ → Type 0
 HasRoom file = (n : ℕ) → n ≤ segment_count file → note_size_below file n ≤ length file
+
+-- the first n program headers begin in the file
+abbrev pub HeadersLie : List ℕ → ℕ → Type 0
+HeadersLie file n = (i : ℕ) → i < n → program_header file i < length file

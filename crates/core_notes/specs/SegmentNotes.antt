@@ -6,7 +6,7 @@ use Rattle.core_notes.specs.Listing.{notes_from, segment_items, whole_notes}
 use Rattle.core_notes.specs.Note.{NoteView}
 use Rattle.core_notes.specs.Segment.{segment_of}
 
--- those of the segment of this number, none where it is no PT_NOTE
+-- those of the segment of this number; one that is no PT_NOTE has none
 abbrev pub segment_notes : List ℕ → (i : ℕ) → List NoteView
 segment_notes file i = whole_notes (segment_items (segment_of file i))
 

@@ -8,6 +8,7 @@ ghost use Rattle.core_notes.specs.Segment.{segment_view, segments};
 
 use crate::layout::PT_LOAD;
 use crate::memory::{Order, read_eight};
+use crate::memory_bytes::bytes_at;
 use crate::segment::segment_at;
 use crate::view::Core;
 use elf_read::{Elf, Segment};
@@ -19,7 +20,7 @@ use std::alloc::{AllocError, Global};
 /// PT_LOAD segments are put in order.
 #[derive(Drop)]
 pub struct CoreMemory<'a> {
-    core: Core<'a>,
+    pub(crate) core: Core<'a>,
     spans: Option<Spans<u32>>,
     ghost ordered: { AreInOrder spans (segments (file core.elf)) },
 }
@@ -52,14 +53,17 @@ fn holdings_of(alloc: Global, elf: &Elf<'_>) -> Result<Vec<Span<u32>>, AllocErro
 }
 
 impl<'a> CoreMemory<'a> {
-    ghost use Rattle.core_notes.specs.CoreMemory.{memory_in};
-    ghost use Rattle.core_notes.specs.Views.{memory_of};
+    ghost use Rattle.std.specs.Option.{option_map};
+    ghost use Rattle.core_notes.specs.CoreMemory.{bytes_in, memory_in};
+    ghost use Rattle.core_notes.specs.MemoryBytes as held;
+    ghost use Rattle.core_notes.specs.Views.{core_bytes, memory_of};
 
     /// The memory of a core file. Where the segments' addresses rise, as kernels write them, nothing is allocated.
     ///
     /// `AllocError` where memory ran out.
     pub fn new(alloc: Global, core: &Core<'a>) -> Result<CoreMemory<'a>, AllocError>
-        ensures { IfOk result (λ memory. memory_in memory ≡ memory_of core.now) }
+        ensures memory { IfOk result (λ memory. memory_in memory ≡ memory_of core.now) }
+        ensures bytes { IfOk result (λ memory. bytes_in memory ≡ core_bytes core.now) }
     {
         if core.rises {
             return Ok(CoreMemory {
@@ -72,6 +76,16 @@ impl<'a> CoreMemory<'a> {
             core: *core,
             spans: Some(spans),
         })
+    }
+
+    /// `len` bytes from an address on, by the first segment that holds them all.
+    pub fn bytes_at(&self, address: u64, len: u64) -> Option<&'a [u8]>
+        ensures { option_map (λ b. b.now) result ≡ held.bytes_at (memory_in self.now) address len }
+    {
+        match &self.spans {
+            Some(spans) => bytes_at(&self.core.elf, Order::Put(spans), address, len),
+            None => self.core.bytes_at(address, len),
+        }
     }
 }
 

@@ -11,10 +11,12 @@
 //! The meaning of a file is its list of bytes: `AreNotes` says when notes are the bytes of its segments, `threads_in`
 //! which threads the notes have, `file_regions` what its memory is.
 //!
-//! The caller owes a file of fewer than 2^32 bytes. [`CoreMemory::new`] alone allocates. Walking all threads reads each
-//! note twice; `thread` reads the notes up to that thread. A read of a core's memory halves the segments where their
-//! addresses rise, as kernels write them, and else it goes over them. [`CoreMemory`] is the same memory for many reads:
-//! segments that don't rise are put in order once, and each read halves them.
+//! The caller owes a file of fewer than 2^32 bytes. [`CoreMemory::new`] and [`MemoryMap::new`] alone allocate. Walking all
+//! threads reads each note twice; `thread` reads the notes up to that thread. A read of a core's memory halves the segments
+//! where their addresses rise, as kernels write them, and else it goes over them. [`CoreMemory`] is the same memory for
+//! many reads: segments that don't rise are put in order once, and each read halves them. [`MemoryMap`] is the same memory
+//! for questions of what an address has. Bytes that a segment before the one that holds them all has in part are looked for
+//! in all segments, where these don't rise.
 #![tactic(auto)]
 
 mod core_memory;
@@ -24,6 +26,7 @@ mod laws;
 mod layout;
 mod memory;
 mod memory_bytes;
+mod memory_map;
 mod note;
 mod notes;
 mod notice;
@@ -38,7 +41,9 @@ pub use core_memory::CoreMemory;
 pub use fault::CoreFault;
 pub use iter::ThreadIter;
 pub use laws::core_is_its_notes;
+pub use memory_map::MemoryMap;
 pub use note::Note;
+pub use room::check_room;
 pub use segment_notes::SegmentNotes;
 pub use status::Thread;
 pub use view::Core;

@@ -8,6 +8,7 @@ ghost use Rattle.elf_read.specs.Views.{file};
 ghost use Rattle.sf_lookup.specs.Spans.{InOrder};
 ghost use Rattle.core_notes.specs.Memory as spec;
 ghost use Rattle.core_notes.specs.Memory.{file_regions, is_holder};
+ghost use Rattle.core_notes.specs.MemoryBytes.{is_bytes_holder};
 ghost use Rattle.core_notes.specs.Order.{IsOrder};
 ghost use Rattle.core_notes.specs.Segment.{segment_view, segments};
 
@@ -16,14 +17,15 @@ use crate::segment::segment_at;
 use elf_read::{Elf, Segment, u64_at};
 use sf_lookup::Spans;
 
-/// Whether a segment is memory that holds the eight bytes from an address on.
+/// Whether a segment is memory that holds all of `len` bytes from an address on.
 #[inline(always)]
-fn is_holder(segment: &Segment<'_>, address: u64) -> bool
-    ensures { result ≡ is_holder address (segment_view segment.now) }
+pub fn is_holder(segment: &Segment<'_>, address: u64, len: u64) -> bool
+    ensures { result ≡ is_bytes_holder address len (segment_view segment.now) }
 {
     segment.kind == PT_LOAD
         && segment.vaddr <= address
-        && u128::from(address) + 8 <= u128::from(segment.vaddr) + segment.bytes.len() as u128
+        && u128::from(address) + u128::from(len)
+            <= u128::from(segment.vaddr) + segment.bytes.len() as u128
 }
 
 /// Where the memory of a segment ends.
@@ -52,13 +54,13 @@ pub fn rise(elf: &Elf<'_>) -> bool
     true
 }
 
-/// The first segment that holds the eight bytes, in whatever order the segments are.
-fn by_scan<'a>(elf: &Elf<'a>, address: u64) -> Option<Segment<'a>>
-    ensures { option_map segment_view result ≡ find (is_holder address) (segments (file elf.now)) }
+/// The first segment that holds the bytes, in whatever order the segments are.
+pub fn by_scan<'a>(elf: &Elf<'a>, address: u64, len: u64) -> Option<Segment<'a>>
+    ensures { option_map segment_view result ≡ find (is_bytes_holder address len) (segments (file elf.now)) }
 {
     for i in 0..elf.segments() {
         let segment = segment_at(elf, i);
-        if is_holder(&segment, address) {
+        if is_holder(&segment, address, len) {
             return Some(segment);
         }
     }
@@ -84,19 +86,20 @@ fn count_upto(elf: &Elf<'_>, address: u64) -> u32
     low
 }
 
-/// The first segment that holds the eight bytes, where the addresses rise: the memory of an earlier one than the last
-/// that has been reached ends before.
-fn by_halves<'a>(elf: &Elf<'a>, address: u64) -> Option<Segment<'a>>
-    requires { spec.rise_from 0 (segments (file elf.now)) ≡ true }
-    ensures { option_map segment_view result ≡ find (is_holder address) (segments (file elf.now)) }
+/// The first segment that holds the bytes, of which there is one at least, where the addresses rise: the memory of an
+/// earlier one than the last that has been reached ends before.
+pub fn by_halves<'a>(elf: &Elf<'a>, address: u64, len: u64) -> Option<Segment<'a>>
+    requires rise { spec.rise_from 0 (segments (file elf.now)) ≡ true }
+    requires some { 0 < len }
+    ensures { option_map segment_view result ≡ find (is_bytes_holder address len) (segments (file elf.now)) }
 {
     let i = count_upto(elf, address).checked_sub(1)?;
     let segment = segment_at(elf, i);
-    is_holder(&segment, address).then_some(segment)
+    is_holder(&segment, address, len).then_some(segment)
 }
 
-/// The first segment that holds the eight bytes, by the order in which the segments were put.
-fn by_spans<'a>(elf: &Elf<'a>, spans: &Spans<u32>, address: u64) -> Option<Segment<'a>>
+/// The first segment that holds the eight bytes from an address on, by the order in which the segments were put.
+pub fn by_spans<'a>(elf: &Elf<'a>, spans: &Spans<u32>, address: u64) -> Option<Segment<'a>>
     requires { InOrder spans.now (spec.holdings 0 (segments (file elf.now))) }
     ensures { option_map segment_view result ≡ find (is_holder address) (segments (file elf.now)) }
 {
@@ -121,8 +124,8 @@ fn holder<'a>(elf: &Elf<'a>, order: Order<'_>, address: u64) -> Option<Segment<'
     ensures { option_map segment_view result ≡ find (is_holder address) (segments (file elf.now)) }
 {
     match order {
-        Order::Rising => by_halves(elf, address),
-        Order::Unknown => by_scan(elf, address),
+        Order::Rising => by_halves(elf, address, 8),
+        Order::Unknown => by_scan(elf, address, 8),
         Order::Put(spans) => by_spans(elf, spans, address),
     }
 }

@@ -87,7 +87,7 @@ pub fn check_core(bytes: &[u8], elf: &Elf<'_>) -> Result<u32, CoreFault>
     if !is_core(elf.kind()) {
         return Err(CoreFault::NotCore);
     }
-    check_room(bytes, elf)?;
+    check_room(bytes, elf, elf.segments())?;
     let threads = count_threads(elf.arch(), Notes::new(elf))?;
     check_count(threads)?;
     Ok(threads)

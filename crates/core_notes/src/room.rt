@@ -3,7 +3,6 @@
 ghost use Rattle.std.specs.Prelude.{◌≡◌, ◌<◌, ◌≤◌, ◌^◌, length};
 ghost use Rattle.elf_read.specs.Checking.{each_below};
 ghost use Rattle.elf_read.specs.Header.{program_header};
-ghost use Rattle.elf_read.specs.Sections.{segment_count};
 ghost use Rattle.elf_read.specs.Views.{file};
 ghost use Rattle.core_notes.specs.Room as spec;
 ghost use Rattle.core_notes.specs.Segment.{segment_of};
@@ -17,7 +16,7 @@ use elf_read::{Elf, ElfFault, u64_at};
 fn header_place(bytes: &[u8], elf: &Elf<'_>, i: u32) -> u64
     requires small { length (file elf.now) < 2 ^ 32 }
     requires same { bytes.now ≡ file elf.now }
-    requires within { i < segment_count (file elf.now) }
+    requires lies { program_header (file elf.now) i < length (file elf.now) }
     ensures { result ≡ program_header (file elf.now) i }
 {
     u64_at(bytes, E_PHOFF) + PROGRAM_HEADER_LEN * u64::from(i)
@@ -36,14 +35,16 @@ fn note_size(elf: &Elf<'_>, i: u32) -> u64
     }
 }
 
-/// The room in the file for each PT_NOTE segment, after those before it.
-pub fn check_room(bytes: &[u8], elf: &Elf<'_>) -> Result<(), ElfFault>
+/// The room in the file for each PT_NOTE segment, after those before it: of the first `count` program headers, which lie in
+/// the file.
+pub fn check_room(bytes: &[u8], elf: &Elf<'_>, count: u32) -> Result<(), ElfFault>
     requires small { length (file elf.now) < 2 ^ 32 }
     requires same { bytes.now ≡ file elf.now }
-    ensures { result ≡ each_below (segment_count (file elf.now)) (spec.room_check (file elf.now)) }
+    requires lie { spec.HeadersLie (file elf.now) count }
+    ensures { result ≡ each_below count (spec.room_check (file elf.now)) }
 {
     let mut taken = 0;
-    for i in 0..elf.segments() {
+    for i in 0..count {
         taken += note_size(elf, i);
         if taken > bytes.len() as u64 {
             return Err(ElfFault::OutOfFile(header_place(bytes, elf, i)));

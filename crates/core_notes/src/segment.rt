@@ -17,7 +17,7 @@ pub fn segment_at<'a>(elf: &Elf<'a>, i: u32) -> Segment<'a>
     elf.segment(i)
 }
 
-/// The bytes of a segment's notes, none where it is no PT_NOTE.
+/// The bytes of a segment's notes. One that is no PT_NOTE has none.
 pub fn note_bytes<'a>(elf: &Elf<'a>, i: u32) -> Part<'a>
     requires { length (file elf.now) < 2 ^ 32 }
     ensures { notes_from (cursor result) ≡ segment_items (segment_of (file elf.now) i) }

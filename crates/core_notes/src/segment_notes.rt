@@ -18,7 +18,7 @@ impl<'a> SegmentNotes<'a> {
     ghost use Rattle.core_notes.specs.Note.{note_view};
     ghost use Rattle.core_notes.specs.SegmentNotes.{notes_left, segment_notes};
 
-    /// The notes of the segment of a program header's number, none where it is no PT_NOTE.
+    /// The notes of the segment of a program header's number. One that is no PT_NOTE has none.
     pub fn new(elf: &Elf<'a>, i: u32) -> SegmentNotes<'a>
         requires { length (file elf.now) < 2 ^ 32 }
         ensures { notes_left result ≡ segment_notes (file elf.now) i }

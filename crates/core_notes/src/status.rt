@@ -22,7 +22,7 @@ pub struct Thread {
     pub pc: u64,
     /// The registers that a walk of its stack starts with; the link register is 0 on AMD64.
     pub regs: Regs,
-    /// The bits of a return address that hold its signature, none where no note says so.
+    /// The bits of a return address that hold its signature, None without a note that says so.
     pub mask: Option<u64>,
 }
 

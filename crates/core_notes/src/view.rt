@@ -4,12 +4,13 @@ ghost use Rattle.std.specs.Prelude.{◌≡◌, ◌<◌, ◌^◌, IsTrue, is_ok, 
 ghost use Rattle.elf_read.specs.Views.{file};
 ghost use Rattle.core_notes.specs.Checks.{core_check, file_threads};
 ghost use Rattle.core_notes.specs.Memory.{rise_from};
+ghost use Rattle.core_notes.specs.Order.{IsOrder};
 ghost use Rattle.core_notes.specs.Segment.{segments};
 
 use crate::fault::CoreFault;
 use crate::iter::ThreadIter;
 use crate::memory::{Order, read_eight, rise};
-use crate::memory_bytes::{bytes_at, executable_at};
+use crate::memory_bytes::bytes_at;
 use crate::notes::Notes;
 use crate::parsing::check_core;
 use crate::status::{Thread, is_file_note};
@@ -127,18 +128,22 @@ impl<'a> Core<'a> {
         None
     }
 
-    /// So many bytes of its memory from an address on, by the first segment that holds them all.
+    // What is known of the order of its segments.
+    fn order(&self) -> Order<'a>
+        ensures { IsOrder result (segments (file self.now.elf)) }
+    {
+        if self.rises {
+            Order::Rising
+        } else {
+            Order::Unknown
+        }
+    }
+
+    /// `len` bytes of its memory from an address on, by the first segment that holds them all.
     pub fn bytes_at(&self, address: u64, len: u64) -> Option<&'a [u8]>
         ensures { option_map (λ b. b.now) result ≡ held.bytes_at (memory_of self.now) address len }
     {
-        bytes_at(&self.elf, address, len)
-    }
-
-    /// Whether the first load segment that has an address is executable, where there is one.
-    pub fn executable_at(&self, address: u64) -> Option<bool>
-        ensures { result ≡ held.executable_at (core_bytes self.now) address }
-    {
-        executable_at(&self.elf, address)
+        bytes_at(&self.elf, self.order(), address, len)
     }
 }
 
@@ -148,11 +153,6 @@ impl<'a> Memory for Core<'a> {
     ghost regions = { memory_of };
 
     fn read8(&self, address: u64) -> Option<u64> {
-        let order = if self.rises {
-            Order::Rising
-        } else {
-            Order::Unknown
-        };
-        read_eight(&self.elf, order, address)
+        read_eight(&self.elf, self.order(), address)
     }
 }

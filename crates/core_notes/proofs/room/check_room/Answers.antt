@@ -18,7 +18,7 @@ returns-then-taken-bytes c =
     let taken : c.loop-i.taken + c.note_size-taken.result ≡ note_size_below bytes (i + 1) = omega (c.loop-i.invariant.0, c.note_size-taken.ensures.value, more, arith) in
     let over : length bytes < c.loop-i.taken + c.note_size-taken.result = omega (c.if-taken-bytes.true, ap length c.requires.same, arith) in
     ap (λ (place : ℕ). Err (OutOfFile place)) c.header_place.ensures
-    ∙ sym (each_below-stop _ i (room_check bytes) (OutOfFile (program_header bytes i)) (omega (c.loop-i-test.true, c.segments-i-end.ensures, arith)) c.loop-i.invariant.2 (room-fails bytes i _ taken over))
+    ∙ sym (each_below-stop _ i (room_check bytes) (OutOfFile (program_header bytes i)) (c.loop-i-test.true) c.loop-i.invariant.2 (room-fails bytes i _ taken over))
 
 pub loop-i-preserved : goal.loop-i-preserved
 loop-i-preserved c =
@@ -28,3 +28,6 @@ loop-i-preserved c =
     let taken : c.loop-i.taken + c.note_size-taken.result ≡ note_size_below bytes (i + 1) = omega (c.loop-i.invariant.0, c.note_size-taken.ensures.value, more, arith) in
     let fits : c.loop-i.taken + c.note_size-taken.result ≤ length bytes = omega (c.if-taken-bytes.false, ap length c.requires.same, arith) in
     (taken, fits, each_below-more i (room_check bytes) c.loop-i.invariant.2 (room-holds bytes i _ taken fits))
+
+pub header_place-requires : goal.header_place-requires
+header_place-requires c = record { small = c.requires.small; same = c.requires.same; lies = c.requires.lie c.loop-i.i c.loop-i-test.true }

@@ -2,7 +2,6 @@ use Rattle.std.proofs.Common.{◌≡◌, List, ℕ, ap, ◌∙◌, arith}
 use Rattle.elf_read.specs.Header.{e_phoff}
 use Rattle.elf_read.specs.Number.{number_in}
 use Rattle.elf_read.specs.Views.{file}
-use Rattle.core_notes.proofs.Rooms.{header_lies}
 use Rattle.core_notes.proofs.room.header_place.Goals as goal
 
 read : (c : goal.After-from) → c.u64_at.result ≡ e_phoff (file c.args.elf.now)
@@ -10,7 +9,7 @@ unfolding e_phoff
 read c = c.u64_at.ensures ∙ ap (λ (bytes : List ℕ). number_in 8 32 bytes) c.requires.same
 
 pub overflow_add-result : goal.overflow_add-result
-overflow_add-result c = omega (read c, header_lies c.args.elf.now c.args.i c.requires.within, c.requires.small, c.from.ensures, arith)
+overflow_add-result c = omega (read c, c.requires.lies, c.requires.small, c.from.ensures, arith)
 
 pub returns : goal.returns
 returns c = omega (read c, c.from.ensures, arith)
