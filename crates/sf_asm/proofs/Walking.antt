@@ -34,7 +34,7 @@ by_recovery : (go go' : Going) → GoAlike go go' → (mask : Option ℕ) (asked
 by_recovery go go' h mask asked pc (Some r) = ap (behind (record { pc = pc; cfa = Some r.frame_address })) (by_return go go' h mask r r.return_address)
 by_recovery go go' h mask asked pc None = refl
 
-frames_alike : (one other : Recovering) → ((asked : ℕ) (regs : Regs) → one asked regs ≡ other asked regs) → (mask : Option ℕ) (depth asked pc : ℕ) (regs : Regs) → frames_from one mask depth asked pc regs ≡ frames_from other mask depth asked pc regs
+pub frames_alike : (one other : Recovering) → ((asked : ℕ) (regs : Regs) → one asked regs ≡ other asked regs) → (mask : Option ℕ) (depth asked pc : ℕ) (regs : Regs) → frames_from one mask depth asked pc regs ≡ frames_from other mask depth asked pc regs
 unfolding frames_from
 frames_alike one other h mask zero asked pc regs = refl
 frames_alike one other h mask (suc depth) asked pc regs =
@@ -43,7 +43,7 @@ frames_alike one other h mask (suc depth) asked pc regs =
     ∙ ap (frame_by (λ next. frames_from other mask depth (address_before next) next) mask asked pc) (h asked regs)
 
 -- what is recovered whole is recovered by the rules
-undone : (r : Option Recovery) → option_and_then if_whole (option_map defined r) ≡ r
+pub undone : (r : Option Recovery) → option_and_then if_whole (option_map defined r) ≡ r
 undone None = refl
 undone (Some r) = refl
 

@@ -54,6 +54,7 @@ use Rattle.sf_plt.proofs.Apart.{neighbours, pairs_of, sorted_written, written_ap
 use Rattle.sf_plt.proofs.Cases.{Case, kept_case, table_case, other_case, case_of, expressed_of, kept_lists, table_lists, other_lists}
 use Rattle.sf_plt.proofs.Described.{from_links, to_links}
 use Rattle.sf_plt.proofs.Found.{recovers_with_plts}
+use Rattle.sf_plt.proofs.Walking.{walks_with_plts}
 use Rattle.sf_plt.proofs.Sorted.{lines_alone, omitted_count, are_omitted}
 
 -- ---- counts
@@ -303,6 +304,7 @@ plt_linked before objects at section count omitted plts arch kept gathered lent 
       accepted = accepted_by at g.sorted h.checked few (subst (λ (gs : List Func). first_out_of_reach at 0 gs ≡ None) is near);
       is = subst (λ (gs : List Func). Section section at (table_of arch gs)) is section_is;
       recovers = recovers_with_plts g.functions g.sorted g.by_start.moved h.apart;
+      walks = walks_with_plts (written_functions g.sorted) g.functions (recovers_with_plts g.functions g.sorted g.by_start.moved h.apart);
       tight = subst (λ (gs : List Func). Tight section at (table_of arch gs)) is tight;
       narrow = subst (λ (gs : List Func). Narrow section (table_of arch gs)) is narrow;
       kept_is = count_is ∙ ap length g.kept_are ∙ sym c.kept;

@@ -7,6 +7,7 @@ pub mod Recovers
 pub mod Cases
 pub mod Apart
 pub mod Found
+pub mod Walking
 pub mod Writable
 pub mod Sorted
 pub mod Faults

@@ -40,6 +40,7 @@ use Rattle.sf_plt.proofs.Described.{from_links, to_links}
 use Rattle.sf_plt.proofs.Faults.{accepted_by, apart_from, are_writable}
 use Rattle.sf_plt.proofs.Form.{plt_form, size_small}
 use Rattle.sf_plt.proofs.Found.{recovers_with_plts}
+use Rattle.sf_plt.proofs.Walking.{walks_with_plts}
 
 -- ---- a result
 some_from : (at : ℕ) (given : Result (List Function) GatherFault) → (result : Result (List Function) LinkFault) × LinksPltsFrom at given result
@@ -180,6 +181,7 @@ some_plt_section before objects at sorted arch h machine writable fit =
         accepted = accepted_by at sorted h.checked h.few h.near;
         is = made.1.section;
         recovers = recovers_with_plts h.functions sorted h.by_start.moved apart;
+        walks = walks_with_plts (written_functions sorted) h.functions (recovers_with_plts h.functions sorted h.by_start.moved apart);
         tight = made.1;
         narrow = made.2;
         kept_is = refl;

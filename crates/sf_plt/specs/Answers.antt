@@ -10,7 +10,7 @@ use Rattle.sf_model.specs.declared.recovery.Regs.{Regs}
 use Rattle.sf_model.specs.Memory.{Region}
 use Rattle.sf_model.specs.Section.{Section}
 use Rattle.sf_model.specs.Tight.{Narrow, Tight}
-use Rattle.sf_model.specs.Walk.{recover_by_rows}
+use Rattle.sf_model.specs.Walk.{ThreadState, recover_by_rows, section_walk}
 use Rattle.sf_write.specs.Section.{table_of}
 use Rattle.sf_express.specs.Alike.{defined}
 use Rattle.sf_asm.specs.Described.{Describe}
@@ -23,13 +23,18 @@ use Rattle.sf_asm.specs.Kept.{entry_of, kept_functions, omitted_functions}
 use Rattle.sf_asm.specs.Sources.{AreByStart}
 use Rattle.sf_plt.specs.Linking.{LinksPlts, plt_link_fault}
 use Rattle.sf_plt.specs.Plt.{is_plt, plt_functions}
-use Rattle.sf_plt.specs.Written.{recovered_with_plts, written_functions}
+use Rattle.sf_plt.specs.Written.{recovered_with_plts, walk_with_plts, written_functions}
 
 -- At each address, with all registers and all memory, these functions recover what is recovered with procedure linkage tables, where what
 -- can't be read has the same address.
 abbrev pub RecoversWithPlts : List Func → List Function → Type 0
 RecoversWithPlts written functions = (address : ℕ) (regs : Regs) (memory : List Region)
     → option_map defined (recover_by_rows written memory address regs) ≡ recovered_with_plts functions memory address regs
+
+-- Every walk over these functions lists the frames of the walk by what is recovered with procedure linkage tables, and stops alike.
+abbrev pub WalksWithPlts : List Func → List Function → Type 0
+WalksWithPlts written functions = (thread : ThreadState) (memory : List Region) (depth : ℕ)
+    → section_walk written thread memory depth ≡ walk_with_plts functions thread memory depth
 
 abbrev pub span_of : Function → Span
 span_of f = record { start = f.start; size = f.size; origin = f.origin }
@@ -40,7 +45,7 @@ others_in functions = filter (λ (f : Function). not (is_plt f)) functions
 
 -- These bytes are the section of inputs after an item of this machine or of none: the inputs describe functions, none of them is refused,
 -- all items have one machine, the bytes are a section of what is written of the functions by rising start, without gaps and with the least
--- widths, which recovers what it should, this number of functions is kept, these are omitted, and these are
+-- widths, which recovers what it should and is walked as it should be, this number of functions is kept, these are omitted, and these are
 -- procedure linkage tables.
 pub record IsPltLinked (before : Option Arch) (objects : List Object) (at : ℕ) (section : List ℕ) (kept : ℕ) (omitted : List Omitted) (plts : List Span) : Type 0 where
   pub functions : List Function
@@ -52,6 +57,7 @@ pub record IsPltLinked (before : Option Arch) (objects : List Object) (at : ℕ)
   pub accepted : plt_link_fault at sorted ≡ None
   pub is : Section section at (table_of arch (written_functions sorted))
   pub recovers : RecoversWithPlts (written_functions sorted) functions
+  pub walks : WalksWithPlts (written_functions sorted) functions
   pub tight : Tight section at (table_of arch (written_functions sorted))
   pub narrow : Narrow section (table_of arch (written_functions sorted))
   pub kept_is : kept ≡ length (kept_functions sorted)

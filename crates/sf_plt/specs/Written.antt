@@ -1,7 +1,7 @@
 -- What is written of functions (GNU SFrame specification, Version 2, function descriptor entries): a procedure linkage table is two
 -- functions, one of its first entry and one of the repeated blocks of 16 bytes from there to its end.
 use Rattle.std.specs.Prelude.{◌+◌, ◌-◌, ℕ, pos, List, [], ◌∷◌, Option, Some, None, if◌then◌else◌}
-use Rattle.std.specs.Option.{option_map}
+use Rattle.std.specs.Option.{option_map, option_and_then}
 use Rattle.std.specs.List.{find, flat_map}
 use Rattle.sf_model.specs.declared.content.Content.{Content}
 use Rattle.sf_model.specs.declared.function.Func.{Func}
@@ -9,10 +9,11 @@ use Rattle.sf_model.specs.declared.function.Shape.TheVariants.{Plain, Repeat}
 use Rattle.sf_model.specs.declared.recovery.Regs.{Regs}
 use Rattle.sf_model.specs.declared.rows.Row.{Row}
 use Rattle.sf_model.specs.Memory.{Region}
+use Rattle.sf_model.specs.Walk.{ThreadState, Listing, Recovering, walk_by}
 use Rattle.cfa_machine.specs.Recovery.{RuleRecovery}
 use Rattle.sf_asm.specs.declared.entry.Outcome.{Outcome}
 use Rattle.sf_asm.specs.declared.entry.Outcome.TheVariants.{Kept, Left}
-use Rattle.sf_asm.specs.Faithful.{holds_address, recovered_at}
+use Rattle.sf_asm.specs.Faithful.{holds_address, if_whole, recovered_at}
 use Rattle.sf_asm.specs.Functions.{Function}
 use Rattle.sf_asm.specs.Kept.{entry_of}
 use Rattle.sf_plt.specs.Plt.{initial_content, is_plt, plt_functions, recovered_in_plt}
@@ -71,3 +72,11 @@ or_else None other = other
 unfoldable pub recovered_with_plts : List Function → List Region → (address : ℕ) → Regs → Option RuleRecovery
 recovered_with_plts functions memory address regs =
     or_else (recovered_at functions memory address regs) (option_map (recovered_in_plt memory address regs) (find (holds_address address) (plt_functions functions)))
+
+-- the same for a walk
+abbrev pub recover_with_plts : List Function → List Region → Recovering
+recover_with_plts functions memory asked regs = option_and_then if_whole (recovered_with_plts functions memory asked regs)
+
+-- the walk of a thread by what is recovered so
+unfoldable pub walk_with_plts : List Function → ThreadState → List Region → (depth : ℕ) → Listing
+walk_with_plts functions thread memory depth = walk_by (recover_with_plts functions memory) thread depth
