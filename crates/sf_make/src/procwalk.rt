@@ -16,7 +16,7 @@ ghost use Rattle.sf_words.specs.Items.{file_item};
 ghost use Rattle.sf_make.specs.Coming.{Coming};
 ghost use Rattle.sf_make.specs.Making.{ComesAs, ComesTo};
 ghost use Rattle.sf_make.specs.ProcwalkComes as spec;
-ghost use Rattle.sf_make.specs.ProcwalkComes.{FilesCome, IsModuleOf, ProcwalkComesFrom, coming_of_module, coming_of_modules, files_fault, modules_walks, sums_limit};
+ghost use Rattle.sf_make.specs.ProcwalkComes.{FilesCome, IsModuleOf, ProcwalkComesFrom, coming_of_module, coming_of_modules, files_fault, modules_walks, process_of, sums_limit};
 
 use crate::made::{Made, Outcome};
 use crate::walk::{mixed, same_machine, unread_core, walks_text};
@@ -71,6 +71,28 @@ fn modules_of<'a, 'm>(
         }
     }
     Ok(modules)
+}
+
+/// The same by a core file and what its note on mapped files says, which are put in order for this alone.
+fn mapped_modules<'a, 'm>(
+    alloc: Global,
+    core: &Core<'m>,
+    page: u64,
+    entries: &'m [Entry<'m>],
+    names: &[String],
+    items: &'m [Vec<u8>],
+) -> Result<Vec<Module<'m, 'm>>, Refusal<'a>>
+    requires page { 0 < page }
+    requires count { length items.now ≡ length names.now }
+    requires few { length items.now ≤ 512 }
+    requires small { All (λ bytes. length bytes < 2 ^ 32) (map (λ v. v.items) items.now) }
+    ensures count { IfOk result (λ modules. length modules.items ≡ length items.now) }
+    ensures checked { IfOk result (λ _. files_fault (process_of (core_bytes core.now) page (map entry_view entries.now)) (zip (map string_bytes names.now) (map (λ v. v.items) items.now)) ≡ None) }
+    ensures are { IfOk result (λ modules. AllZip (IsModuleOf (process_of (core_bytes core.now) page (map entry_view entries.now))) (zip (map string_bytes names.now) (map (λ v. v.items) items.now)) (map module_view modules.items)) }
+    ensures refused { IfErr result (λ refused. (depth : ℕ) → ComesAs (FilesCome (process_of (core_bytes core.now) page (map entry_view entries.now)) depth (zip (map string_bytes names.now) (map (λ v. v.items) items.now)) (files_fault (process_of (core_bytes core.now) page (map entry_view entries.now)) (zip (map string_bytes names.now) (map (λ v. v.items) items.now)))) refused) }
+{
+    let process = Process::new(alloc, core, page, entries)?;
+    modules_of(alloc, &process, names, items)
 }
 
 /// Whether a module's file, or its section, is for another machine.
@@ -164,11 +186,6 @@ pub fn procwalk_made<'a, 'm>(
         Ok(note) => note,
         Err(fault) => return Err(unread_module(&fault, 0)),
     };
-    let process = Process {
-        core,
-        page,
-        entries: &entries,
-    };
-    let modules = modules_of(alloc, &process, names, items)?;
+    let modules = mapped_modules(alloc, &core, page, &entries, names, items)?;
     walked(alloc, &core, depth, &entries, &modules)
 }

@@ -7,3 +7,6 @@ pub mod Numbers
 pub mod FirstWith
 pub mod Faults
 pub mod Home
+pub mod Lines
+pub mod Stretched
+pub mod Reached

@@ -1,6 +1,8 @@
 pub mod Name
 pub mod Fault
 pub mod Entry
+pub mod Stretch
+pub mod Stretches
 pub mod Note
 pub mod Process
 pub mod File

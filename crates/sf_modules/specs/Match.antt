@@ -16,7 +16,7 @@ longest_tail word (e ∷ es) = max (common_tail word e.name) (longest_tail word 
 abbrev pub is_candidate : (word : List ℕ) → List EntryView → Bool
 is_candidate word entries = nat_lt 0 (longest_tail word entries)
 
--- the entry's name has so many parts in common with the word, and the file fits there
+-- the entry's name has `tail` parts in common with the word, and the file fits there
 abbrev pub matches : ProcessView → (word file : List ℕ) → (load tail : ℕ) → EntryView → Bool
 matches p word file load tail e = (common_tail word e.name == tail) && fits p file load e
 

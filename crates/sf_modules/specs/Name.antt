@@ -1,5 +1,6 @@
 -- The parts of a pathname (POSIX.1, "Pathname" and "Filename"), and how many of them two names have in common at their ends.
-use Rattle.std.specs.Prelude.{ℕ, suc, ◌==◌, Bool, List, [], ◌∷◌, reverse, bytes_eq, if◌then◌else◌}
+use Rattle.std.specs.Prelude.{ℕ, suc, ◌==◌, Bool, List, [], ◌∷◌, reverse, bytes_eq, Option, if◌then◌else◌}
+use Rattle.std.specs.List.{position_from}
 
 -- the slash
 abbrev pub is_slash : ℕ → Bool
@@ -24,3 +25,7 @@ shared (part ∷ parts) (other ∷ others) = if bytes_eq part other then suc (sh
 -- how many parts two names have in common, from the last on: the names are read backwards
 unfoldable pub common_tail : (name other : List ℕ) → ℕ
 common_tail name other = shared (parts_of (reverse name)) (parts_of (reverse other))
+
+-- the number of the first of these names that is a name
+abbrev pub name_number : (name : List ℕ) → (names : List (List ℕ)) → Option ℕ
+name_number name names = position_from (bytes_eq name) 0 names

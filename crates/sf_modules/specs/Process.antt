@@ -1,6 +1,6 @@
 -- A process as its core file shows it (Linux core files, NT_FILE).
 use Rattle.std.specs.Prelude.{ℕ, List, map}
-use Rattle.core_notes.specs.Views.{core_bytes}
+use Rattle.core_notes.specs.MemoryMap.{core_in}
 use Rattle.sf_modules.specs.declared.process.Process.{Process}
 use Rattle.sf_modules.specs.Entry.{EntryView, entry_view}
 
@@ -10,5 +10,8 @@ pub record ProcessView : Type 0 where
   pub page : ℕ
   pub entries : List EntryView
 
+abbrev pub process_of : (core : List ℕ) → (page : ℕ) → List EntryView → ProcessView
+process_of core page entries = record { core = core; page = page; entries = entries }
+
 abbrev pub process_view : Process → ProcessView
-process_view p = record { core = core_bytes p.core; page = p.page; entries = map entry_view p.entries.now }
+process_view p = process_of (core_in p.memory) p.page (map entry_view p.entries.now)

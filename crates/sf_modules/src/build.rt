@@ -6,12 +6,12 @@ ghost use Rattle.elf_read.specs.Sections.{segment_total};
 ghost use Rattle.elf_read.specs.Views.{file};
 ghost use Rattle.core_notes.specs.Note.{note_view};
 ghost use Rattle.core_notes.specs.SegmentNotes.{segment_notes};
-ghost use Rattle.core_notes.specs.Views.{core_bytes};
+ghost use Rattle.core_notes.specs.MemoryMap.{core_in};
 ghost use Rattle.sf_modules.specs.Build as spec;
 
 use crate::file::Program;
 use crate::layout::{GNU, NT_GNU_BUILD_ID, PT_LOAD};
-use core_notes::{Core, Note, SegmentNotes};
+use core_notes::{MemoryMap, Note, SegmentNotes};
 use elf_read::Elf;
 
 // Whether a note is a build identifier.
@@ -49,33 +49,42 @@ fn is_loaded(program: &Program<'_>, i: u32) -> bool
 // Whether the memory of a core file has the descriptor of a note of a segment at its address, or doesn't have all its
 // bytes there.
 #[tactic(auto, unfolding(crate::specs::Build::descriptor_agrees))]
-fn descriptor_agrees(core: &Core<'_>, elf: &Elf<'_>, base: u64, i: u32, note: &Note<'_>) -> bool
-    ensures { result ≡ spec.descriptor_agrees (core_bytes core.now) (file elf.now) base i (note_view note.now) }
+fn descriptor_agrees(
+    memory: &MemoryMap<'_>,
+    elf: &Elf<'_>,
+    base: u64,
+    i: u32,
+    note: &Note<'_>,
+) -> bool
+    ensures { result ≡ spec.descriptor_agrees (core_in memory.now) (file elf.now) base i (note_view note.now) }
 {
+    let id = note.descriptor.bytes;
+    if id.is_empty() {
+        return true;
+    }
     let segment = elf.segment(i);
     let within = note.descriptor.place.saturating_sub(segment.place);
     let address = base.wrapping_add(segment.vaddr).wrapping_add(within);
-    let id = note.descriptor.bytes;
-    match core.bytes_at(address, id.len() as u64) {
+    match memory.bytes_at(address, id.len() as u64) {
         Some(held) => id == held,
         None => true,
     }
 }
 
 // Whether a note is no build identifier or agrees.
-fn note_agrees(core: &Core<'_>, elf: &Elf<'_>, base: u64, i: u32, note: &Note<'_>) -> bool
-    ensures { result ≡ spec.note_agrees (core_bytes core.now) (file elf.now) base i (note_view note.now) }
+fn note_agrees(memory: &MemoryMap<'_>, elf: &Elf<'_>, base: u64, i: u32, note: &Note<'_>) -> bool
+    ensures { result ≡ spec.note_agrees (core_in memory.now) (file elf.now) base i (note_view note.now) }
 {
-    !is_build_id(note) || descriptor_agrees(core, elf, base, i, note)
+    !is_build_id(note) || descriptor_agrees(memory, elf, base, i, note)
 }
 
 // Whether each note of a segment does.
-fn notes_agree(core: &Core<'_>, elf: &Elf<'_>, base: u64, i: u32) -> bool
+fn notes_agree(memory: &MemoryMap<'_>, elf: &Elf<'_>, base: u64, i: u32) -> bool
     requires { length (file elf.now) < 2 ^ 32 }
-    ensures { result ≡ list_all (spec.note_agrees (core_bytes core.now) (file elf.now) base i) (segment_notes (file elf.now) i) }
+    ensures { result ≡ list_all (spec.note_agrees (core_in memory.now) (file elf.now) base i) (segment_notes (file elf.now) i) }
 {
     for note in SegmentNotes::new(elf, i) {
-        if !note_agrees(core, elf, base, i, &note) {
+        if !note_agrees(memory, elf, base, i, &note) {
             return false;
         }
     }
@@ -84,21 +93,21 @@ fn notes_agree(core: &Core<'_>, elf: &Elf<'_>, base: u64, i: u32) -> bool
 
 // Whether each build identifier of a segment agrees, if the segment is loaded.
 #[tactic(auto, unfolding(crate::specs::Build::segment_agrees))]
-fn segment_agrees(core: &Core<'_>, program: &Program<'_>, base: u64, i: u32) -> bool
+fn segment_agrees(memory: &MemoryMap<'_>, program: &Program<'_>, base: u64, i: u32) -> bool
     requires { length (file program.now.elf) < 2 ^ 32 }
-    ensures { result ≡ spec.segment_agrees (core_bytes core.now) (file program.now.elf) base i }
+    ensures { result ≡ spec.segment_agrees (core_in memory.now) (file program.now.elf) base i }
 {
-    notes_agree(core, &program.elf, base, i) || !is_loaded(program, i)
+    notes_agree(memory, &program.elf, base, i) || !is_loaded(program, i)
 }
 
 /// Whether a program, mapped so far up, is the build that a process had: each of its build identifiers is in the memory of
 /// the core file, or isn't all there.
-pub fn is_same_build(core: &Core<'_>, program: &Program<'_>, base: u64) -> bool
+pub fn is_same_build(memory: &MemoryMap<'_>, program: &Program<'_>, base: u64) -> bool
     requires { length (file program.now.elf) < 2 ^ 32 }
-    ensures { result ≡ spec.is_same_build (core_bytes core.now) (file program.now.elf) base }
+    ensures { result ≡ spec.is_same_build (core_in memory.now) (file program.now.elf) base }
 {
     for i in 0..program.count {
-        if !segment_agrees(core, program, base, i) {
+        if !segment_agrees(memory, program, base, i) {
             return false;
         }
     }

@@ -7,11 +7,13 @@ ghost use Rattle.elf_read.specs.Views.{file};
 ghost use Rattle.sf_modules.specs.Entry.{entry_view};
 ghost use Rattle.sf_modules.specs.Fit as spec;
 ghost use Rattle.sf_modules.specs.Process.{process_view};
+ghost use Rattle.sf_modules.specs.Stretches.{IsNamed};
 
-use crate::entry::{Entry, any_maps};
+use crate::entry::Entry;
 use crate::file::{Program, page_floor};
 use crate::layout::PT_LOAD;
 use crate::process::Process;
+use crate::stretches::Named;
 use elf_read::Elf;
 
 /// How far up a file was mapped: from where the page of its first loaded segment's address begins to its entry's start.
@@ -23,12 +25,13 @@ pub fn base_of(page: u64, entry: &Entry<'_>, vaddr: u64) -> u64
 }
 
 // Whether an entry of the name has the segment's bytes at its address.
-fn is_mapped(process: &Process<'_>, elf: &Elf<'_>, name: &[u8], base: u64, i: u32) -> bool
-    ensures { result ≡ spec.is_mapped (process_view process.now) (file elf.now) name.now base i }
+fn is_mapped(process: &Process<'_>, elf: &Elf<'_>, named: &Named<'_>, base: u64, i: u32) -> bool
+    requires { IsNamed process.now.stretches named.now }
+    ensures { result ≡ spec.is_mapped (process_view process.now) (file elf.now) named.now.name.now base i }
 {
     let segment = elf.segment(i);
     let address = base.wrapping_add(segment.vaddr);
-    any_maps(process.entries, name, address, segment.place)
+    process.stretches.any_maps(named, address, segment.place)
 }
 
 // Whether the core file doesn't say that an executable segment's address is not executable.
@@ -39,7 +42,7 @@ fn may_execute(process: &Process<'_>, elf: &Elf<'_>, base: u64, i: u32) -> bool
         return true;
     }
     let address = base.wrapping_add(elf.segment(i).vaddr);
-    process.core.executable_at(address).unwrap_or(true)
+    process.memory.executable_at(address).unwrap_or(true)
 }
 
 // Whether a segment is loaded and has bytes in the file.
@@ -51,19 +54,21 @@ fn has_bytes(elf: &Elf<'_>, i: u32) -> bool
 
 // Whether a segment was where it has to be, if it has bytes.
 #[tactic(auto, unfolding(crate::specs::Fit::segment_fits))]
-fn segment_fits(process: &Process<'_>, elf: &Elf<'_>, name: &[u8], base: u64, i: u32) -> bool
-    ensures { result ≡ spec.segment_fits (process_view process.now) (file elf.now) name.now base i }
+fn segment_fits(process: &Process<'_>, elf: &Elf<'_>, named: &Named<'_>, base: u64, i: u32) -> bool
+    requires { IsNamed process.now.stretches named.now }
+    ensures { result ≡ spec.segment_fits (process_view process.now) (file elf.now) named.now.name.now base i }
 {
     !has_bytes(elf, i)
-        || (is_mapped(process, elf, name, base, i) && may_execute(process, elf, base, i))
+        || (is_mapped(process, elf, named, base, i) && may_execute(process, elf, base, i))
 }
 
 // Whether each segment was.
-fn all_fit(process: &Process<'_>, program: &Program<'_>, name: &[u8], base: u64) -> bool
-    ensures { result ≡ list_all (spec.segment_fits (process_view process.now) (file program.now.elf) name.now base) (range_with_len 0 (segment_total (file program.now.elf))) }
+fn all_fit(process: &Process<'_>, program: &Program<'_>, named: &Named<'_>, base: u64) -> bool
+    requires { IsNamed process.now.stretches named.now }
+    ensures { result ≡ list_all (spec.segment_fits (process_view process.now) (file program.now.elf) named.now.name.now base) (range_with_len 0 (segment_total (file program.now.elf))) }
 {
     for i in 0..program.count {
-        if !segment_fits(process, &program.elf, name, base, i) {
+        if !segment_fits(process, &program.elf, named, base, i) {
             return false;
         }
     }
@@ -80,7 +85,7 @@ pub fn fits(process: &Process<'_>, program: &Program<'_>, entry: &Entry<'_>) -> 
         && all_fit(
             process,
             program,
-            entry.name,
+            &process.stretches.named(entry.name),
             base_of(process.page, entry, segment.vaddr),
         )
 }

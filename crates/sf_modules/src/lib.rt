@@ -1,7 +1,7 @@
 //! The modules of a process: the executables and shared objects that it had mapped, each with its SFrame section, and
 //! walks by them (Linux core files, NT_FILE; ELF64 gABI, "Program Header").
 //!
-//! [`entries`] reads the note on mapped files of a core file. [`read_module`] finds a file among its entries by its name
+//! [`entries`] reads the note on mapped files of a core file, which [`Process::new`] puts in order. [`read_module`] finds a file among its entries by its name
 //! (`specs/Match.antt`), by where its segments were (`specs/Fit.antt`) and by its build identifier (`specs/Build.antt`), and
 //! reads its SFrame section at the address at which it was. [`Modules::new`] puts entries and modules in order, once for
 //! all threads, and [`Modules::walk`] lists a thread's frames; [`walk_modules`] is both for one thread.
@@ -11,11 +11,12 @@
 //! `look_up_walk` of `sf_model` over that. [`modules_answer_as_their_union`] is a law: where each address of a function
 //! leads to the function's own module, it is the answer of one table that has the functions of all.
 //!
-//! The caller owes files of fewer than 2^32 bytes, and a page size that isn't 0, as `entries` returns. `read_module`
-//! allocates nothing. It goes over the entries three times, and, for each entry of a nearest name that has the first loaded
-//! segment's place, over the file's program headers, with the entries and the core file's segments for each loaded one.
-//! `Modules::new` takes the time of a sort of the entries, and of the functions of each section that doesn't say to be
-//! sorted; an address is then found by two searches by halves.
+//! The caller owes files of fewer than 2^32 bytes, and a page size that isn't 0, as `entries` returns. [`Process::new`] puts
+//! a core file and its entries in order once for all files, in the time of a sort of them. `read_module` allocates nothing.
+//! It goes over the entries three times, and, for each entry of a nearest name that has the first loaded segment's place,
+//! over the file's program headers, with two searches by halves for each loaded one. `Modules::new` takes the time of a sort
+//! of the entries, and of the functions of each section that doesn't say to be sorted; an address is then found by two
+//! searches by halves.
 #![tactic(auto)]
 
 mod build;
@@ -34,6 +35,8 @@ mod note;
 mod notice;
 mod process;
 mod spans;
+mod stretch;
+mod stretches;
 
 pub use entry::Entry;
 pub use fault::ModuleFault;

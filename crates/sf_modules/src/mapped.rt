@@ -50,7 +50,7 @@ fn check_build(
     ensures { result ≡ build_part (process_view process.now) (file program.now.elf) program.now.load (entry_view entry.now) }
 {
     if is_same_build(
-        &process.core,
+        &process.memory,
         program,
         file_base(process.page, program, entry),
     ) {

@@ -26,7 +26,7 @@ use std::alloc::Global;
 pub struct Modules<'m> {
     entries: &'m [Entry<'m>],
     modules: &'m [Module<'m, 'm>],
-    spans: Spans<Option<usize>>,
+    spans: Spans<Option<u32>>,
     sections: Vec<Indexed<'m>>,
     ghost ordered: { InOrder spans (map (span_of (map module_view modules.now)) (map entry_view entries.now)) },
     ghost indexed: { map table_in sections.items ≡ tables_of (map module_view modules.now) },
@@ -74,7 +74,7 @@ impl<'m> Modules<'m> {
     }
 
     // The number of the module at an address.
-    fn number_at(&self, pc: u64) -> Option<usize>
+    fn number_at(&self, pc: u64) -> Option<u32>
         ensures { result ≡ number_at (entries_in self.now) (modules_in self.now) pc }
     {
         self.spans.first_at(pc)?
@@ -106,7 +106,7 @@ impl<'m> LookUp for Modules<'m> {
 
     fn look_up(&self, pc: u64) -> Option<(Arch, Found)> {
         let number = self.number_at(pc)?;
-        self.sections[number].look_up(pc)
+        self.sections[number as usize].look_up(pc)
     }
 }
 

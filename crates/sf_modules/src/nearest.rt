@@ -28,7 +28,7 @@ fn longest_tail(word: &[u8], entries: &[Entry<'_>]) -> u128
     longest
 }
 
-// Whether an entry's name has so many parts in common with a word, and the program fits there.
+// Whether an entry's name has `tail` parts in common with a word, and the program fits there.
 fn matches(
     process: &Process<'_>,
     word: &[u8],

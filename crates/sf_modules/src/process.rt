@@ -1,18 +1,56 @@
 //! A process as its core file shows it.
 
-ghost use Rattle.std.specs.Prelude.{◌<◌};
+ghost use Rattle.std.specs.Prelude.{◌<◌, map};
+ghost use Rattle.sf_modules.specs.Entry.{entry_view};
+ghost use Rattle.sf_modules.specs.Stretches.{AreInOrder};
 
 use crate::entry::Entry;
-use core_notes::Core;
+use crate::stretches::Stretches;
+use core_notes::{Core, MemoryMap};
+use sf_base::NoMemory;
+use std::alloc::Global;
 
-/// A process: its core file, and what that file's note on mapped files says, as [`crate::entries`] reads it.
-#[derive(Clone, Copy)]
+/// A process: its core file, put in order, and what that file's note on mapped files says, as [`crate::entries`] reads it.
+#[derive(Drop)]
 pub struct Process<'p> {
-    /// The core file.
-    pub core: Core<'p>,
     /// The page size.
-    pub page: u64,
+    pub(crate) page: u64,
     /// The files that it had mapped.
-    pub entries: &'p [Entry<'p>],
+    pub(crate) entries: &'p [Entry<'p>],
+    /// What an address of it has.
+    pub(crate) memory: MemoryMap<'p>,
+    /// The files, put in order.
+    pub(crate) stretches: Stretches<'p>,
     ghost some: { 0 < page },
+    ghost ordered: { AreInOrder stretches (map entry_view entries.now) },
+}
+
+impl<'p> Process<'p> {
+    ghost use Rattle.std.specs.Prelude.{◌≡◌, IfOk, map};
+    ghost use Rattle.core_notes.specs.Views.{core_bytes};
+    ghost use Rattle.sf_modules.specs.Entry.{entry_view};
+    ghost use Rattle.sf_modules.specs.Process.{process_of, process_view};
+
+    /// The process of a core file, with the page size and the entries of its note on mapped files: put in order, once for
+    /// all files.
+    ///
+    /// `NoMemory` where memory ran out.
+    pub fn new(
+        alloc: Global,
+        core: &Core<'p>,
+        page: u64,
+        entries: &'p [Entry<'p>],
+    ) -> Result<Process<'p>, NoMemory>
+        requires { 0 < page }
+        ensures { IfOk result (λ p. process_view p ≡ process_of (core_bytes core.now) page (map entry_view entries.now)) }
+    {
+        let memory = MemoryMap::new(alloc, core)?;
+        let stretches = Stretches::new(alloc, entries)?;
+        Ok(Process {
+            page,
+            entries,
+            memory,
+            stretches,
+        })
+    }
 }

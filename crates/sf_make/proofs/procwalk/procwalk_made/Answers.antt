@@ -13,8 +13,8 @@ use Rattle.sf_make.proofs.procwalk.procwalk_made.Goals as goal
 pub parse-requires : goal.parse-requires
 parse-requires c = first_short c.args.core.now _ c.requires.within
 
-pub modules_of-requires-clause-small : goal.modules_of-requires-clause-small
-modules_of-requires-clause-small c =
+pub mapped_modules-requires-clause-small : goal.mapped_modules-requires-clause-small
+mapped_modules-requires-clause-small c =
     let count = length-map c.args.items.now (λ v. v.items) ∙ c.requires.count ∙ sym (length-map c.args.names.now string_bytes) in
     files_behind_short c.args.core.now (map string_bytes c.args.names.now) (bytes_of c.args.items.now) count c.requires.within
 

@@ -9,5 +9,5 @@ use Rattle.sf_modules.proofs.fit.all_fit.Given as goal
 
 abbrev pub invariant-loop-i : goal.invariant-loop-i
 invariant-loop-i l =
-    list_all (segment_fits (process_view l.process) (file l.program.elf) l.name l.base) (left_of (segment_total (file l.program.elf)) l.i)
-    ≡ list_all (segment_fits (process_view l.process) (file l.program.elf) l.name l.base) (range_with_len 0 (segment_total (file l.program.elf)))
+    list_all (segment_fits (process_view l.process) (file l.program.elf) l.named.name.now l.base) (left_of (segment_total (file l.program.elf)) l.i)
+    ≡ list_all (segment_fits (process_view l.process) (file l.program.elf) l.named.name.now l.base) (range_with_len 0 (segment_total (file l.program.elf)))
