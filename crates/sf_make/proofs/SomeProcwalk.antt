@@ -22,7 +22,7 @@ use Rattle.sf_modules.specs.Match.{entry_of, is_candidate}
 use Rattle.sf_modules.specs.Module.{IsModule, ModuleView, address_of}
 use Rattle.sf_modules.specs.Note.{HasEntries, entries_check, entries_from, entry_check, entry_count, header_check, names_part, note_check, page_size, texts_in}
 use Rattle.sf_modules.specs.Process.{ProcessView}
-use Rattle.sf_modules.specs.Reading.{build_part, decode_part, entry_part, match_part, module_check, nearest_part, process_part, section_part, segments_part, table_part}
+use Rattle.sf_modules.specs.Reading.{build_part, decode_part, entry_part, match_part, module_check, nearest_part, process_part, room_part, section_part, segments_part, table_part}
 use Rattle.sf_modules.proofs.Placing.{both_fine, build_fine, nearest_fine, passes}
 use Rattle.sf_make.specs.Coming.{Coming}
 use Rattle.sf_make.specs.FirstFault.{first_fault}
@@ -67,7 +67,8 @@ is_checked : (p : ProcessView) (word file : List ℕ) → module_check p word fi
 unfolding module_check
 is_checked p word file e =
     let process = both_fine _ (process_part p word file (first_load file) (sframe_section file)) e in
-    let segments = both_fine _ (segments_part file) process.0 in
+    let room = both_fine _ (room_part file) process.0 in
+    let segments = both_fine _ (segments_part file) room.0 in
     let section = both_fine _ (section_part file (sframe_section file)) segments.0 in
     record { section = section.1; load = passes (is_some (first_load file)) (Segments 56) (both_fine _ _ segments.1).1; process = process.1 }
 

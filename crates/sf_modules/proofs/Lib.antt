@@ -7,6 +7,7 @@ pub mod Numbers
 pub mod FirstWith
 pub mod Faults
 pub mod Home
+pub mod Headers
 pub mod Lines
 pub mod Stretched
 pub mod Reached

@@ -2,11 +2,12 @@
 use Rattle.std.specs.Prelude.{ℕ, not, List, Option, Some, None, Result, Ok, Err, is_some}
 use Rattle.elf_read.specs.declared.fault.ElfFault.{ElfFault}
 use Rattle.elf_read.specs.declared.fault.ElfFault.TheVariants as elf
-use Rattle.elf_read.specs.Checking.{unless, ◌>>◌}
+use Rattle.elf_read.specs.Checking.{each_below, unless, ◌>>◌}
 use Rattle.elf_read.specs.Checks.{program_headers_check}
 use Rattle.elf_read.specs.Header.{kind_of}
 use Rattle.elf_read.specs.Parsing.{file_check}
-use Rattle.elf_read.specs.Sections.{is_compressed, section_bytes, section_header}
+use Rattle.elf_read.specs.Sections.{is_compressed, section_bytes, section_header, segment_total}
+use Rattle.core_notes.specs.Room.{room_check}
 use Rattle.sf_decode.specs.declared.fault.DecodeFault.{DecodeFault}
 use Rattle.sf_decode.specs.Decoding.{section_check}
 use Rattle.sf_modules.specs.declared.fault.ModuleFault.TheVariants.{Elf, NoSection, Segments, NotMapped, Mapping, Ambiguous, Build, Section}
@@ -41,6 +42,10 @@ headers_part (Err fault) = Err (Segments 32)
 -- and one of them is of a loaded segment
 abbrev pub segments_part : List ℕ → Check
 segments_part file = headers_part (program_headers_check file) >> unless (is_some (first_load file)) (Segments 56)
+
+-- there is room in it for its PT_NOTE segments together, which are read whole
+abbrev pub room_part : List ℕ → Check
+room_part file = elf_part (each_below (segment_total file) (room_check file))
 
 -- an entry has its last part; it fits at a nearest one, and at those of one name alone
 abbrev pub match_part : ProcessView → (word file : List ℕ) → (load : ℕ) → Option EntryView → Check
@@ -79,4 +84,5 @@ module_check p word file =
     >> kind_part file
     >> section_part file (sframe_section file)
     >> segments_part file
+    >> room_part file
     >> process_part p word file (first_load file) (sframe_section file)

@@ -5,6 +5,7 @@ ghost use Rattle.elf_read.specs.Checks.{program_headers_check};
 ghost use Rattle.elf_read.specs.Header.{kind_of};
 ghost use Rattle.elf_read.specs.Sections.{section_count, segment_total};
 ghost use Rattle.elf_read.specs.Views.{file};
+ghost use Rattle.core_notes.specs.Room.{HeadersLie};
 ghost use Rattle.sf_modules.specs.Fault.{verdict};
 ghost use Rattle.sf_modules.specs.File as spec;
 ghost use Rattle.sf_modules.specs.Reading.{headers_part, kind_part, section_part, segments_part};
@@ -101,6 +102,7 @@ pub struct Program<'f> {
     /// The number of that of its first loaded segment.
     pub load: u32,
     ghost counted: { count ≡ segment_total (file elf) },
+    ghost lie: { HeadersLie (file elf) count },
 }
 
 /// The program headers of a file.

@@ -7,7 +7,7 @@ ghost use Rattle.sf_modules.specs.Fault.{verdict};
 ghost use Rattle.sf_modules.specs.Module as spec;
 ghost use Rattle.sf_modules.specs.Module.{IsModule, module_view};
 ghost use Rattle.sf_modules.specs.Process.{process_view};
-ghost use Rattle.sf_modules.specs.Reading.{build_part, module_check};
+ghost use Rattle.sf_modules.specs.Reading.{build_part, module_check, room_part};
 
 use crate::build::is_same_build;
 use crate::entry::Entry;
@@ -16,6 +16,7 @@ use crate::file::{Program, check_kind, program_of, section_of};
 use crate::fit::base_of;
 use crate::nearest::entry_of;
 use crate::process::Process;
+use core_notes::check_room;
 use elf_read::Elf;
 use sf_decode::View;
 use sf_model::Arch;
@@ -60,6 +61,16 @@ fn check_build(
     }
 }
 
+// The room in the file for its PT_NOTE segments, which are read whole.
+fn check_notes(bytes: &[u8], program: &Program<'_>) -> Result<(), ModuleFault>
+    requires small { length bytes.now < 2 ^ 32 }
+    requires same { bytes.now ≡ file program.now.elf }
+    ensures { result ≡ room_part (file program.now.elf) }
+{
+    check_room(bytes, &program.elf, program.count)?;
+    Ok(())
+}
+
 // Where a section lay.
 fn address_of(page: u64, program: &Program<'_>, entry: &Entry<'_>, section: u32) -> u64
     requires { 0 < page }
@@ -76,7 +87,7 @@ fn address_of(page: u64, program: &Program<'_>, entry: &Entry<'_>, section: u32)
 ///
 /// The first of these: `Elf` where the ELF file is refused, or is no executable or shared object; `NoSection`; `Elf` where
 /// the section is compressed; `Segments` where the program headers don't have the format's length, don't lie in the file
-/// or are of no loaded segment; `NotMapped` where no entry's name has the word's last part; `Mapping` where the file fits
+/// or are of no loaded segment; `Elf` where the file has no room for its PT_NOTE segments together; `NotMapped` where no entry's name has the word's last part; `Mapping` where the file fits
 /// at none of the nearest; `Ambiguous` where it fits at two of different names; `Build` where the core file has another
 /// build identifier; `Section` where the section is refused.
 #[tactic(auto, unfolding(crate::specs::Reading::module_check))]
@@ -95,6 +106,7 @@ pub fn read_module<'p, 'a>(
     check_kind(&elf)?;
     let section = section_of(&elf)?;
     let program = program_of(&elf)?;
+    check_notes(bytes, &program)?;
     let entry = entry_of(process, word, &program)?;
     check_build(process, &program, entry)?;
     let view = View::parse(
