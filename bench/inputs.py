@@ -486,7 +486,7 @@ def walk_among_nested(size):
 
 
 def walk_among_one_end(size):
-    """Walks whose function is the last of a section in no order, behind functions that end at one address."""
+    """Walks whose function is the last of a section in no order, after functions that end at one address."""
     return walk(one_end(size), core([(PT_NOTE, 0, threads(16)), stack()]))
 
 
@@ -627,17 +627,17 @@ def process_in_a_long_function(size):
 
 
 def entries_that_overlap(size):
-    """The entry that holds the threads' addresses is the last, behind entries that hold each other."""
+    """The entry that holds the threads' addresses is the last, after entries that hold each other."""
     return process([(0x100000 + 4096 * at, 1 << 40, b"x") for at in range(size // 26)] + [OWN], ONE_MODULE)
 
 
 def entries_with_one_end(size):
-    """The entry that holds the threads' addresses is the last, behind entries that end at one address, the shortest first."""
+    """The entry that holds the threads' addresses is the last, after entries that end at one address, the shortest first."""
     return process([((1 << 40) - 4096 * at, 1 << 40, b"x") for at in range(1, size // 26)] + [OWN], ONE_MODULE)
 
 
 def entries_of_one_file(size):
-    """Entries of the walked file, behind its first one at addresses that fall."""
+    """Entries of the walked file, after its first one at addresses that fall."""
     return process([OWN] + [(4096 * at, 4096 * at + 4096, b"m") for at in range(size // 26, 1, -1)], ONE_MODULE)
 
 
