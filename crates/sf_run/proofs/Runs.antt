@@ -1,6 +1,5 @@
 -- How a run ends, from what it comes to and from how its last step ends.
 use Rattle.std.specs.Prelude.{◌⊎◌, IfSome, IfOk, IfErr, IsTrue}
-use Rattle.std.proofs.Math.ListN.{get_or-map}
 use Rattle.std.proofs.Common.{◌≡◌, ◌<◌, ◌≤◌, ℕ, Bool, List, [], ◌∷◌, All, map, Option, Some, None, Result, Ok, Err, refl, ap, sym, subst, ◌∙◌, inl, inr}
 use Rattle.std.proofs.lemmas.List.{length-map}
 use Rattle.sf_base.specs.Contents.{contents_of}
@@ -15,24 +14,22 @@ use Rattle.sf_words.specs.Loading.{AreBytesOf, AreLoaded, Contents, IsLoadingRef
 use Rattle.sf_words.specs.declared.item.Item.{Item}
 use Rattle.sf_words.specs.Items.{ItemWords, counted_items, item_of, items_of, names_of}
 use Rattle.sf_words.specs.Words.{CanBeAsked, CommandWords, out_name}
-use Rattle.sf_make.specs.declared.made.Made.{Made}
-use Rattle.sf_make.specs.declared.made.Outcome.{Outcome}
-use Rattle.sf_make.specs.declared.made.Outcome.TheVariants as outcome
-use Rattle.sf_make.specs.Comes.{AreItems, Comes, CommandComes, RefusesNothing, command_limit}
-use Rattle.sf_make.specs.Coming.{Coming, ComesWithin, Exceeded, Makes}
-use Rattle.sf_make.specs.Making.{ComesAs, ComesTo, coming_of}
-use Rattle.sf_make.proofs.Limits.{few_limit, many_limit}
-use Rattle.sf_make.proofs.Arms.{comes_as}
-use Rattle.sf_make.proofs.OneComing.{one_coming}
+use Rattle.sf_run.specs.declared.made.Made.{Made}
+use Rattle.sf_run.specs.declared.made.Outcome.{Outcome}
+use Rattle.sf_run.specs.declared.made.Outcome.TheVariants as outcome
+use Rattle.sf_run.specs.Comes.{AreItems, Comes, CommandComes, RefusesNothing, command_limit}
+use Rattle.sf_run.specs.Coming.{Coming, ComesWithin, Exceeded, Makes}
+use Rattle.sf_run.specs.Making.{ComesAs, ComesTo, coming_of}
+use Rattle.sf_run.proofs.Limits.{few_limit, many_limit}
+use Rattle.sf_run.proofs.Linked.{unmapped}
+use Rattle.sf_run.proofs.Arms.{comes_as}
+use Rattle.sf_run.proofs.OneComing.{one_coming}
 use Rattle.sf_run.specs.declared.status.Status.{Status}
 use Rattle.sf_run.specs.declared.status.Status.TheVariants as status
 use Rattle.sf_run.specs.Ends.{AnswersFor, CanBeSaid, Delivered, NoneFailed, RunComes, RunEnds, RunIsComplete, RunRefuses, Seen, Tells, seen}
 use Rattle.sf_run.specs.Status.{status_of}
 
 -- ---- the items of a command, as the code has them
-unmapped : {A B : Type 0} (f : A → B) (P : B → Type 0) (xs : List A) → All P (map f xs) → All (λ (x : A). P (f x)) xs
-unmapped f P xs h k d lt = subst P (get_or-map f xs k d) (h k (f d) (subst (λ (n : ℕ). k < n) (sym (length-map xs f)) lt))
-
 named_items : (items : List Item) → names_of (map item_of items) ≡ map (λ (item : Item). item.name.now) items
 named_items [] = refl
 named_items (i ∷ is) = ap (λ (ns : List (List ℕ)). i.name.now ∷ ns) (named_items is)

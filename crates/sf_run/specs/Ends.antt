@@ -15,11 +15,11 @@ use Rattle.sf_words.specs.declared.refusal.Refusal.TheVariants as refusal
 use Rattle.sf_words.specs.Loading.{AreBytesOf, Contents, bytes_known}
 use Rattle.sf_words.specs.Items.{item_names, items_of}
 use Rattle.sf_words.specs.Words.{CommandWords, out_name}
-use Rattle.sf_make.specs.declared.made.Outcome.{Outcome}
-use Rattle.sf_make.specs.declared.made.Outcome.TheVariants as outcome
-use Rattle.sf_make.specs.Comes.{Comes, RefusesNothing}
-use Rattle.sf_make.specs.Coming.{Coming, Refused, Exceeded, Makes}
-use Rattle.sf_make.specs.Making.{ComesAs}
+use Rattle.sf_run.specs.declared.made.Outcome.{Outcome}
+use Rattle.sf_run.specs.declared.made.Outcome.TheVariants as outcome
+use Rattle.sf_run.specs.Comes.{Comes, RefusesNothing}
+use Rattle.sf_run.specs.Coming.{Coming, Refused, Exceeded, Makes}
+use Rattle.sf_run.specs.Making.{ComesAs}
 use Rattle.sf_run.specs.declared.status.Status.{Status}
 use Rattle.sf_run.specs.declared.status.Status.TheVariants as status
 use Rattle.sf_run.specs.Lines.{Says, read_line, write_file_line, write_output_line, memory_line, limit_line}

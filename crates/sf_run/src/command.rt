@@ -14,10 +14,10 @@ ghost use Rattle.sf_run.specs.Lines.{usage_line};
 
 use crate::deliver::deliver;
 use crate::lines::say;
+use crate::making::make;
 use crate::status::Status;
 use crate::tell::tell;
 use sf_base::{Files, Sink};
-use sf_make::make;
 use sf_words::{Asked, Command, Limit, Refusal, command_words, items, load_all, read_words};
 use std::alloc::Global;
 

@@ -9,9 +9,9 @@ ghost use Rattle.sf_run.specs.Ends.{Delivered, Stored, StoredIn, StoredPart, fil
 ghost use Rattle.sf_run.specs.Lines.{Says};
 
 use crate::lines::{say, say_name};
+use crate::made::Made;
 use crate::status::Status;
 use sf_base::{Failed, Files, Sink, put_file};
-use sf_make::Made;
 use sf_text::put_output;
 
 /// Makes the file and writes the bytes.

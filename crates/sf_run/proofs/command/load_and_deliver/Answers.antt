@@ -2,9 +2,9 @@ use Rattle.std.proofs.Common.{Vec, Global, ℕ, List, Ok, Err, refl, sym, subst,
 use Rattle.sf_words.specs.Loading.{AreLoaded}
 use Rattle.sf_words.specs.Items.{items_of}
 use Rattle.sf_words.specs.Parsed.{words_of}
-use Rattle.sf_make.specs.Comes.{Comes}
-use Rattle.sf_make.proofs.Limits.{few_limit}
-use Rattle.sf_make.proofs.Linked.{bytes_of}
+use Rattle.sf_run.specs.Comes.{Comes}
+use Rattle.sf_run.proofs.Limits.{few_limit}
+use Rattle.sf_run.proofs.Linked.{bytes_of}
 use Rattle.sf_run.specs.Ends.{seen}
 use Rattle.sf_run.proofs.Runs.{ends_from_delivered, ends_from_tells, made_runs, no_read, refused_runs}
 use Rattle.sf_run.proofs.command.load_and_deliver.Goals as goal

@@ -3,7 +3,7 @@ use Rattle.std.proofs.lemmas.Result.{IfErr-weaker, IfOk-weaker}
 use Rattle.sf_words.specs.Loading.{AreLoaded, IsLoadingRefusal}
 use Rattle.sf_words.specs.Items.{ItemWords, item_of, items_of}
 use Rattle.sf_words.specs.Parsed.{words_of}
-use Rattle.sf_make.proofs.Linked.{bytes_of}
+use Rattle.sf_run.proofs.Linked.{bytes_of}
 use Rattle.sf_run.specs.Ends.{RunRefuses}
 use Rattle.sf_run.proofs.Runs.{may_open_items, loading_refuses}
 use Rattle.sf_run.proofs.command.load_items.Goals as goal

@@ -1,0 +1,24 @@
+use Rattle.std.specs.List.{AllZip}
+use Rattle.std.specs.Prelude.{IfErr, IfOk}
+use Rattle.std.proofs.Common.{◌≡◌, ℕ, None, map, subst}
+use Rattle.sf_modules.specs.Module.{module_view}
+use Rattle.sf_modules.specs.Process.{ProcessView}
+use Rattle.sf_run.specs.Making.{ComesAs}
+use Rattle.sf_run.specs.ProcwalkComes.{FilesCome, IsModuleOf, files_fault}
+use Rattle.sf_run.proofs.Procwalks.{files_of}
+use Rattle.sf_run.proofs.procwalk.mapped_modules.Goals as goal
+
+pub returns-clause-checked : goal.returns-clause-checked
+returns-clause-checked c =
+    let files = files_of c.args.names.now c.args.items.now in
+    subst (λ (p : ProcessView). IfOk c.modules_of.result (λ ms. files_fault p files ≡ None)) c.in_ok-process.ensures c.modules_of.ensures.checked
+
+pub returns-clause-are : goal.returns-clause-are
+returns-clause-are c =
+    let files = files_of c.args.names.now c.args.items.now in
+    subst (λ (p : ProcessView). IfOk c.modules_of.result (λ ms. AllZip (IsModuleOf p) files (map module_view ms.items))) c.in_ok-process.ensures c.modules_of.ensures.are
+
+pub returns-clause-refused : goal.returns-clause-refused
+returns-clause-refused c =
+    let files = files_of c.args.names.now c.args.items.now in
+    subst (λ (p : ProcessView). IfErr c.modules_of.result (λ refused. (depth : ℕ) → ComesAs (FilesCome p depth files (files_fault p files)) refused)) c.in_ok-process.ensures c.modules_of.ensures.refused

@@ -1,0 +1,22 @@
+-- What `gen` comes to.
+use Rattle.std.specs.Prelude.{ℕ, List, [], ◌∷◌, length, None}
+use Rattle.sf_model.specs.declared.omission.Omitted.{Omitted}
+use Rattle.sf_gen.specs.Object.{object_bytes}
+use Rattle.sf_model.specs.declared.form.Form.TheVariants.{Elf}
+use Rattle.sf_asm.specs.Functions.{Object}
+use Rattle.sf_text.specs.Summary.{summary_text}
+use Rattle.sf_run.specs.declared.made.Outcome.TheVariants.{Done}
+use Rattle.sf_run.specs.Coming.{Coming, Makes}
+use Rattle.sf_run.specs.Linked.{LinkedComes}
+
+-- the made object of n functions, an ELF file whose sections are laid out from 0x400000 on
+abbrev pub made_object : (n : ℕ) → Object
+made_object n = record { form = Elf; bytes = object_bytes n; base = 0x400000 }
+
+-- the summary of its link, and no section
+abbrev pub summary_alone : (n : ℕ) → (section : List ℕ) → (kept : ℕ) → (omitted : List Omitted) → Coming
+summary_alone n section kept omitted = Makes Done None (summary_text n kept (length omitted) section)
+
+-- what linking the made object comes to, for a section at 0x4000000
+abbrev pub GenComes : (n : ℕ) → Coming → Type 0
+GenComes n coming = LinkedComes None (made_object n ∷ []) 0x4000000 (summary_alone n) coming

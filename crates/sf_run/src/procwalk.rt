@@ -1,0 +1,191 @@
+//! What `procwalk` makes.
+
+ghost use Rattle.std.specs.Prelude.{◌≡◌, ◌<◌, ◌≤◌, ◌^◌, ◌∷◌, ℕ, All, List, None, IfOk, IfErr, length, map};
+ghost use Rattle.std.specs.List.{AllZip, position, zip};
+ghost use Rattle.std.specs.String.{string_bytes};
+ghost use Rattle.elf_read.specs.Header.{arch_of};
+ghost use Rattle.core_notes.specs.Checks.{core_check};
+ghost use Rattle.core_notes.specs.Views.{core_bytes, threads_of};
+ghost use Rattle.sf_modules.specs.Entry.{entry_view};
+ghost use Rattle.sf_modules.specs.Module.{module_view};
+ghost use Rattle.sf_modules.specs.Process.{process_view};
+ghost use Rattle.sf_modules.specs.Union.{tables_of};
+ghost use Rattle.sf_words.specs.Loading.{bytes_limit, of_kinds};
+ghost use Rattle.sf_words.specs.declared.item.ItemKind.{ItemKind as kind};
+ghost use Rattle.sf_words.specs.Items.{file_item};
+ghost use Rattle.sf_run.specs.Coming.{Coming};
+ghost use Rattle.sf_run.specs.Making.{ComesAs, ComesTo};
+ghost use Rattle.sf_run.specs.ProcwalkComes as spec;
+ghost use Rattle.sf_run.specs.ProcwalkComes.{FilesCome, IsModuleOf, ProcwalkComesFrom, coming_of_module, coming_of_modules, files_fault, modules_walks, process_of, sums_limit};
+
+use crate::made::{Made, Outcome};
+use crate::walk::{mixed, same_machine, unread_core, walks_text};
+use core_notes::Core;
+use sf_decode::DecodeFault;
+use sf_model::Arch;
+use sf_modules::{Entry, Module, ModuleFault, Modules, Process, entries, read_module};
+use sf_text::Output;
+use sf_words::{Limit, Refusal};
+use std::alloc::Global;
+
+/// The most functions of all modules together.
+const FUNCTION_LIMIT: u64 = 1 << 21;
+
+/// The most rows of all modules together.
+const ROW_LIMIT: u64 = 1 << 24;
+
+/// Why the mapped files, or the module, of an item were not read, as a refusal of the run.
+fn unread_module<'a>(fault: &ModuleFault, item: u32) -> Refusal<'a>
+    ensures memory { (fault.now ≡ ModuleFault.NoMemory) → (result ≡ Refusal.Memory) }
+    ensures is { ComesAs (λ (coming : Coming). coming ≡ coming_of_module item fault.now) result }
+{
+    match fault {
+        ModuleFault::NoMemory => Refusal::Memory,
+        ModuleFault::Section(DecodeFault::TooManyFunctions(_)) => Refusal::Limit(Limit::Functions),
+        ModuleFault::Section(DecodeFault::TooManyRows(_)) => Refusal::Limit(Limit::Rows),
+        _ => Refusal::Input(fault.notice(Some(item))),
+    }
+}
+
+/// The modules of these files, in order. The core file is item 0.
+fn modules_of<'a, 'm>(
+    alloc: Global,
+    process: &Process<'m>,
+    names: &[String],
+    items: &'m [Vec<u8>],
+) -> Result<Vec<Module<'m, 'm>>, Refusal<'a>>
+    requires count { length items.now ≡ length names.now }
+    requires few { length items.now ≤ 512 }
+    requires small { All (λ bytes. length bytes < 2 ^ 32) (map (λ v. v.items) items.now) }
+    ensures count { IfOk result (λ modules. length modules.items ≡ length items.now) }
+    ensures checked { IfOk result (λ _. files_fault (process_view process.now) (zip (map string_bytes names.now) (map (λ v. v.items) items.now)) ≡ None) }
+    ensures are { IfOk result (λ modules. AllZip (IsModuleOf (process_view process.now)) (zip (map string_bytes names.now) (map (λ v. v.items) items.now)) (map module_view modules.items)) }
+    ensures refused { IfErr result (λ refused. (depth : ℕ) → ComesAs (FilesCome (process_view process.now) depth (zip (map string_bytes names.now) (map (λ v. v.items) items.now)) (files_fault (process_view process.now) (zip (map string_bytes names.now) (map (λ v. v.items) items.now)))) refused) }
+{
+    let mut modules: Vec<Module<'m, 'm>> = Vec::new(alloc);
+    for (name, bytes) in names.iter().zip(items) {
+        let item = modules.len() as u32 + 1;
+        match read_module(process, name.as_bytes(), bytes) {
+            Ok(module) => modules.push(module)?,
+            Err(fault) => return Err(unread_module(&fault, item)),
+        }
+    }
+    Ok(modules)
+}
+
+/// The same by a core file and what its note on mapped files says, which are put in order for this alone.
+fn mapped_modules<'a, 'm>(
+    alloc: Global,
+    core: &Core<'m>,
+    page: u64,
+    entries: &'m [Entry<'m>],
+    names: &[String],
+    items: &'m [Vec<u8>],
+) -> Result<Vec<Module<'m, 'm>>, Refusal<'a>>
+    requires page { 0 < page }
+    requires count { length items.now ≡ length names.now }
+    requires few { length items.now ≤ 512 }
+    requires small { All (λ bytes. length bytes < 2 ^ 32) (map (λ v. v.items) items.now) }
+    ensures count { IfOk result (λ modules. length modules.items ≡ length items.now) }
+    ensures checked { IfOk result (λ _. files_fault (process_of (core_bytes core.now) page (map entry_view entries.now)) (zip (map string_bytes names.now) (map (λ v. v.items) items.now)) ≡ None) }
+    ensures are { IfOk result (λ modules. AllZip (IsModuleOf (process_of (core_bytes core.now) page (map entry_view entries.now))) (zip (map string_bytes names.now) (map (λ v. v.items) items.now)) (map module_view modules.items)) }
+    ensures refused { IfErr result (λ refused. (depth : ℕ) → ComesAs (FilesCome (process_of (core_bytes core.now) page (map entry_view entries.now)) depth (zip (map string_bytes names.now) (map (λ v. v.items) items.now)) (files_fault (process_of (core_bytes core.now) page (map entry_view entries.now)) (zip (map string_bytes names.now) (map (λ v. v.items) items.now)))) refused) }
+{
+    let process = Process::new(alloc, core, page, entries)?;
+    modules_of(alloc, &process, names, items)
+}
+
+/// Whether a module's file, or its section, is for another machine.
+fn is_other(arch: Arch, mapped: &Module<'_, '_>) -> bool
+    ensures { result ≡ spec.is_other arch (module_view mapped.now) }
+{
+    !(same_machine(arch, mapped.machine) && same_machine(arch, mapped.view.arch()))
+}
+
+/// The place of the first such module.
+fn first_other(arch: Arch, modules: &[Module<'_, '_>]) -> Option<usize>
+    ensures { result ≡ position (λ m. spec.is_other arch (module_view m)) modules.now }
+{
+    modules.iter().position(|mapped| is_other(arch, mapped))
+}
+
+/// The item of the first such module. The core file is item 0.
+fn mixed_item(arch: Arch, modules: &[Module<'_, '_>]) -> Option<u32>
+    requires { length modules.now ≤ 512 }
+    ensures { result ≡ spec.mixed_item arch (map module_view modules.now) }
+{
+    let place = first_other(arch, modules)?;
+    Some(place as u32 + 1)
+}
+
+/// The limit that the sections of all modules exceed together: of functions first, then of rows.
+fn exceeded(modules: &[Module<'_, '_>]) -> Option<Limit>
+    requires { length modules.now ≤ 512 }
+    ensures { result ≡ sums_limit (tables_of (map module_view modules.now)) }
+{
+    let mut functions = 0;
+    let mut rows = 0;
+    for mapped in modules {
+        functions += u64::from(mapped.view.len());
+        rows += u64::from(mapped.view.row_count());
+    }
+    if functions > FUNCTION_LIMIT {
+        return Some(Limit::Functions);
+    }
+    if rows > ROW_LIMIT {
+        return Some(Limit::Rows);
+    }
+    None
+}
+
+/// The walks of the threads of a core file by modules, where they are for its machine and within the limits.
+fn walked<'a, 'm>(
+    alloc: Global,
+    core: &Core<'_>,
+    depth: u32,
+    entries: &[Entry<'_>],
+    modules: &[Module<'_, '_>],
+) -> Result<Made<'m>, Refusal<'a>>
+    requires threads { length (threads_of core.now) ≤ 4096 }
+    requires few { length modules.now ≤ 512 }
+    ensures { ComesTo (λ (coming : Coming). coming ≡ coming_of_modules (spec.mixed_item (arch_of (core_bytes core.now)) (map module_view modules.now)) (sums_limit (tables_of (map module_view modules.now))) (modules_walks (map entry_view entries.now) (map module_view modules.now) (core_bytes core.now) depth)) result }
+{
+    if let Some(item) = mixed_item(core.arch(), modules) {
+        return Err(mixed(item));
+    }
+    if let Some(limit) = exceeded(modules) {
+        return Err(Refusal::Limit(limit));
+    }
+    let modules = Modules::new(alloc, entries, modules)?;
+    let text = walks_text(alloc, &modules, core, depth)?;
+    Ok(Made {
+        outcome: Outcome::Done,
+        section: None,
+        output: Output::Text(text),
+    })
+}
+
+/// The walks of the threads of a core file by the modules of these files.
+pub fn procwalk_made<'a, 'm>(
+    alloc: Global,
+    core: &[u8],
+    depth: u32,
+    names: &[String],
+    items: &[Vec<u8>],
+) -> Result<Made<'m>, Refusal<'a>>
+    requires count { length items.now ≡ length names.now }
+    requires few { length items.now ≤ 512 }
+    requires within { bytes_limit 0 0 ((kind.Core, core.now) ∷ of_kinds (map file_item (map string_bytes names.now)) (map (λ v. v.items) items.now)) ≡ None }
+    ensures { ComesTo (ProcwalkComesFrom core.now depth (zip (map string_bytes names.now) (map (λ v. v.items) items.now)) (core_check core.now)) result }
+{
+    let core = match Core::parse(core) {
+        Ok(core) => core,
+        Err(fault) => return Err(unread_core(&fault, 0)),
+    };
+    let (page, entries) = match entries(alloc, &core) {
+        Ok(note) => note,
+        Err(fault) => return Err(unread_module(&fault, 0)),
+    };
+    let modules = mapped_modules(alloc, &core, page, &entries, names, items)?;
+    walked(alloc, &core, depth, &entries, &modules)
+}
