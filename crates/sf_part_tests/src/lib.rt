@@ -3,8 +3,6 @@
 //! them and once without; and apart from `sf_tests`, so that these are proved while the crates above still are.
 #![tactic(auto)]
 
-pub mod samples;
-
 #[cfg(test)]
 mod base;
 #[cfg(test)]
@@ -39,6 +37,7 @@ mod pointer;
 mod records;
 #[cfg(test)]
 mod relocating;
+pub mod samples;
 #[cfg(test)]
 mod sizes;
 #[cfg(test)]
