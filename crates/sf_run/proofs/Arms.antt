@@ -15,6 +15,7 @@ use Rattle.sf_asm.specs.declared.fault.GatherFault.{GatherFault}
 use Rattle.sf_asm.specs.Functions.{Function, Object, functions_of}
 use Rattle.sf_asm.specs.Inputs.{machines_of, mixed_fault, first_item}
 use Rattle.sf_asm.specs.Linking.{unless_fault}
+use Rattle.sf_asm.proofs.Described.{described, to_links}
 use Rattle.sf_asm.proofs.GatheredInputs.{by_parts}
 use Rattle.sf_asm.proofs.Machines.{one_is_unmixed}
 use Rattle.sf_run.specs.Linked.{LinkedComes, Makings}
@@ -29,6 +30,7 @@ use Rattle.sf_slim.specs.Slimming.{Slims}
 use Rattle.sf_slim.specs.FaultShown.{shown_of_slimming}
 use Rattle.sf_plt.specs.Answers.{IsPltLinked}
 use Rattle.sf_plt.specs.Linking.{LinksPlts, LinksPltsFrom, unless_fault as unless_plt_fault}
+use Rattle.sf_plt.proofs.Described.{to_links as to_plt_links}
 use Rattle.sf_text.specs.Merged.{merged_text}
 use Rattle.sf_text.specs.PltReport.{plt_report_text}
 use Rattle.sf_text.specs.Slim.{slim_text}
@@ -112,12 +114,12 @@ by_parts_are (Err fault) mixed functions e f = cc
 
 links_of : (before : Option Arch) (objects : List Object) (at : ℕ) (section : List ℕ) (kept : ℕ) (omitted : List Omitted) → (h : IsLinked before objects at section kept omitted) → Links before objects at (Ok h.ordered)
 links_of before objects at section kept omitted h =
-    let given = by_parts_are (functions_of (first_item before) objects) (mixed_fault before objects) h.functions h.are (one_is_unmixed h.arch (machines_of before objects) h.machine) in
-    subst (λ (g : Result (List Function) GatherFault). LinksFrom at g (Ok h.ordered)) (sym given)
-    (h.ordered, h.in_order, sym (ap (λ (fault : Option LinkFault). unless_fault fault h.ordered) h.accepted))
+    let given = by_parts_are (functions_of (first_item before) objects) (mixed_fault before objects) h.functions (described (first_item before) objects (Ok h.functions) h.are) (one_is_unmixed h.arch (machines_of before objects) h.machine) in
+    to_links before objects at (Ok h.ordered) (subst (λ (g : Result (List Function) GatherFault). LinksFrom at g (Ok h.ordered)) (sym given)
+    (h.ordered, h.in_order, sym (ap (λ (fault : Option LinkFault). unless_fault fault h.ordered) h.accepted)))
 
-pub linked_comes : (before : Option Arch) (objects : List Object) (at : ℕ) (made : Makings) (section : List ℕ) (kept : ℕ) (omitted : List Omitted) → IsLinked before objects at section kept omitted → AreBytes section
-    → LinkedComes before objects at made (made section kept omitted)
+pub linked_comes : (before : Option Arch) (objects : List Object) (at : ℕ) (made : Makings) (section : List ℕ) (kept : ℕ) (omitted : List Omitted) → (h : IsLinked before objects at section kept omitted) → AreBytes section
+    → LinkedComes before objects at made (made h.functions section kept omitted)
 linked_comes before objects at made section kept omitted h bytes = record {
   result = Ok h.ordered;
   links = links_of before objects at section kept omitted h;
@@ -127,9 +129,9 @@ linked_comes before objects at made section kept omitted h bytes = record {
 -- ---- linkplt
 plt_links_of : (objects : List Object) (at : ℕ) (section : List ℕ) (kept : ℕ) (omitted : List Omitted) (plts : List Span) → (h : IsPltLinked None objects at section kept omitted plts) → LinksPlts None objects at (Ok h.sorted)
 plt_links_of objects at section kept omitted plts h =
-    let given = by_parts_are (functions_of (first_item None) objects) (mixed_fault None objects) h.functions h.are (one_is_unmixed h.arch (machines_of None objects) h.machine) in
-    subst (λ (g : Result (List Function) GatherFault). LinksPltsFrom at g (Ok h.sorted)) (sym given)
-    (h.sorted, h.by_start, sym (ap (λ (fault : Option LinkFault). unless_plt_fault fault h.sorted) h.accepted))
+    let given = by_parts_are (functions_of (first_item None) objects) (mixed_fault None objects) h.functions (described (first_item None) objects (Ok h.functions) h.are) (one_is_unmixed h.arch (machines_of None objects) h.machine) in
+    to_plt_links None objects at (Ok h.sorted) (subst (λ (g : Result (List Function) GatherFault). LinksPltsFrom at g (Ok h.sorted)) (sym given)
+    (h.sorted, h.by_start, sym (ap (λ (fault : Option LinkFault). unless_plt_fault fault h.sorted) h.accepted)))
 
 pub plt_linked_comes : (objects : List Object) (at : ℕ) (section : List ℕ) (kept : ℕ) (omitted : List Omitted) (plts : List Span) → IsPltLinked None objects at section kept omitted plts → AreBytes section
     → ObjectsCome objects at (Makes Done (Some section) (plt_report_text kept omitted plts))

@@ -1,6 +1,6 @@
 -- Walks by a linked section are walks by DWARF, and how long files are behind a core file that was loaded.
 use Rattle.std.specs.List.{All}
-use Rattle.std.proofs.Common.{Vec, Global, ◌≡◌, ◌+◌, ◌-◌, ◌++◌, ◌<◌, ◌^◌, ℕ, suc, List, [], ◌∷◌, map, length, take, drop, get_or, Some, None, Result, ap, sym, subst, ◌∙◌, arith}
+use Rattle.std.proofs.Common.{Vec, Global, ◌≡◌, ◌+◌, ◌-◌, ◌++◌, ◌<◌, ◌^◌, ℕ, suc, List, [], ◌∷◌, map, length, take, drop, get_or, Some, None, ap, sym, subst, ◌∙◌, arith}
 use lib.Seq.{take-length}
 use Rattle.sf_model.specs.declared.machine.Arch.{Arch}
 use Rattle.sf_model.specs.declared.omission.Omitted.{Omitted}
@@ -9,18 +9,17 @@ use Rattle.core_notes.specs.declared.status.Thread.{Thread}
 use Rattle.core_notes.specs.Checks.{file_threads}
 use Rattle.core_notes.specs.Memory.{file_regions}
 use Rattle.core_walk.specs.Walk.{thread_state}
-use Rattle.sf_asm.specs.declared.fault.GatherFault.{GatherFault}
 use Rattle.sf_asm.specs.Answers.{IsLinked}
 use Rattle.sf_asm.specs.Faithful.{dwarf_walk}
 use Rattle.sf_asm.specs.declared.input.Input.{Input}
-use Rattle.sf_asm.specs.Functions.{Function, Object, object_of}
+use Rattle.sf_asm.specs.Functions.{Object, object_of}
 use Rattle.sf_words.specs.Loading.{bytes_limit, items_limit, of_kinds}
 use Rattle.sf_words.proofs.Loads.{goes_on, within_both}
 use Rattle.sf_words.specs.declared.item.ItemKind.{ItemKind}
 use Rattle.sf_words.specs.declared.item.ItemKind.TheVariants as kind
 use Rattle.sf_words.specs.Items.{ItemWords, core_item, input_item}
 use Rattle.sf_words.specs.Words.{InputWords}
-use Rattle.sf_run.specs.BacktraceComes.{dwarf_walks, functions_behind, or_none}
+use Rattle.sf_run.specs.BacktraceComes.{dwarf_walks}
 use Rattle.sf_run.specs.LinkComes.{objects_in}
 use Rattle.sf_run.specs.WalkComes.{listing_text, walks_text}
 use Rattle.sf_run.proofs.Linked.{bytes_of, inputs_short}
@@ -39,11 +38,10 @@ same_walks walk other same number (thread ∷ later) =
 -- the walks by the section of inputs behind a core file are those by DWARF
 pub linked_walks : (arch : Arch) (objects : List Object) (at : ℕ) (section : List ℕ) (kept : ℕ) (omitted : List Omitted) → (h : IsLinked (Some arch) objects at section kept omitted)
     → (core : List ℕ) (depth : ℕ)
-    → walks_text (λ thread. section_walk h.faithful.table.functions thread (file_regions core) depth) 0 (file_threads core) ≡ dwarf_walks (functions_behind objects) core depth
+    → walks_text (λ thread. section_walk h.faithful.table.functions thread (file_regions core) depth) 0 (file_threads core) ≡ dwarf_walks h.functions core depth
 linked_walks arch objects at section kept omitted h core depth =
     same_walks (λ thread. section_walk h.faithful.table.functions thread (file_regions core) depth) (λ thread. dwarf_walk h.functions thread (file_regions core) depth)
     (λ thread. h.faithful.walks thread (file_regions core) depth) 0 (file_threads core)
-    ∙ ap (λ (fs : List Function). dwarf_walks fs core depth) (sym (ap (λ (r : Result (List Function) GatherFault). or_none r) h.are))
 
 -- ---- how long files are
 -- the core file, and the files behind it, are within the limits

@@ -20,7 +20,6 @@ use Rattle.sf_model.specs.declared.rows.Row.{Row}
 use Rattle.sf_model.specs.Content.{OffsetsInRange, PointerInRange, ReturnInRange}
 use Rattle.sf_model.specs.Function.{key_fits}
 use Rattle.sf_write.specs.Numbers.{NumbersFit}
-use Rattle.cfa_insn.specs.Listing.{listing}
 use Rattle.cfa_machine.specs.declared.fault.MachineFault.{MachineFault}
 use Rattle.cfa_machine.specs.declared.row.DwRow.{DwRow}
 use Rattle.cfa_machine.specs.declared.rule.CfaRule.{CfaRule}
@@ -73,7 +72,7 @@ pub record IsRead (arch : Arch) (f : Function) : Type 0 where
   pub machine : f.arch ≡ arch
   pub end : f.start + f.size ≤ 2 ^ 64
   pub key : IsTrue (key_fits f.arch f.key)
-  pub runs : first_fault f.arch f.factor (listing f.initial) (listing f.own) ≡ None
+  pub runs : first_fault f.arch f.factor f.initial f.own ≡ None
 
 bounded_ends : (place start size : ℕ) (span : ℕ × ℕ) → bounded place start size ≡ Ok span → span.0 + span.1 ≤ 2 ^ 64
 bounded_ends place start size span e = at_test (nat_lt (2 ^ 64) (start + size)) refl e
@@ -336,7 +335,7 @@ made_there f (Ok rows) e = (_, refl)
 made_there f (Err fault) e = cc
 
 sound_by : (f : Function) (x : Result Func Omission) → function_of f.arch (facts_of f) (says_of f) ≡ x → f.start + f.size ≤ 2 ^ 64 → IsTrue (key_fits f.arch f.key)
-    → first_fault f.arch f.factor (listing f.initial) (listing f.own) ≡ None → IsSoundOutcome f.arch f.start f.size (outcome_by x)
+    → first_fault f.arch f.factor f.initial f.own ≡ None → IsSoundOutcome f.arch f.start f.size (outcome_by x)
 sound_by f (Err omission) e end key runs = tt
 sound_by f (Ok g) e end key runs =
     let small = small_size f.arch (facts_of f) (is_expressed f.arch (facts_of f) (says_of f) g e).none in

@@ -22,9 +22,11 @@ use Rattle.sf_asm.specs.Answers.{IsLinked}
 use Rattle.sf_asm.specs.Entry.{kept_of, omitted_of}
 use Rattle.sf_asm.specs.Functions.{Function, Object}
 use Rattle.sf_asm.specs.Inputs.{HaveMachine, is_same}
+use Rattle.sf_asm.specs.Inputs.{first_item}
 use Rattle.sf_asm.specs.Kept.{entry_of, kept_functions, omitted_functions}
 use Rattle.sf_asm.specs.Linking.{InOrder}
 use Rattle.sf_asm.specs.Sources.{AreByStart}
+use Rattle.sf_asm.proofs.Described.{described}
 use Rattle.sf_asm.proofs.OneOrder.{one_order, one_result}
 use Rattle.sf_plt.specs.Answers.{IsPltLinked, others_in, span_of}
 use Rattle.sf_plt.specs.Plt.{plt_functions}
@@ -172,14 +174,15 @@ some_objects [] items some count = let none : ⊥ = omega (arith, some) in absur
 some_objects (s ∷ ss) [] some count = let none : ⊥ = omega (arith, count) in absurd none
 some_objects (s ∷ ss) (i ∷ is) some count = omega arith
 
-one_linked : (before : Option Arch) (objects : List Object) (at : ℕ) (s t : List ℕ) (j k : ℕ) (m n : List Omitted) → 0 < length objects → AreBytes s → AreBytes t → IsLinked before objects at s j m → IsLinked before objects at t k n
-    → (s ≡ t) × (j ≡ k) × (m ≡ n)
+one_linked : (before : Option Arch) (objects : List Object) (at : ℕ) (s t : List ℕ) (j k : ℕ) (m n : List Omitted) → 0 < length objects → AreBytes s → AreBytes t → (p : IsLinked before objects at s j m) → (q : IsLinked before objects at t k n)
+    → (p.functions ≡ q.functions) × (s ≡ t) × (j ≡ k) × (m ≡ n)
 one_linked before objects at s t j k m n some x y p q =
-    let both : Ok p.functions ≡ Ok q.functions = sym p.are ∙ q.are in
+    let both : Ok p.functions ≡ Ok q.functions = sym (described (first_item before) objects (Ok p.functions) p.are) ∙ described (first_item before) objects (Ok q.functions) q.are in
     let functions : p.functions ≡ q.functions = cc in
     let ordered : p.ordered ≡ q.ordered = one_order (map entry_of q.functions) p.ordered q.ordered (subst (λ (fs : List Function). InOrder (map entry_of fs) p.ordered) functions p.in_order) q.in_order in
     let arch = one_machine before objects some p.arch q.arch p.machine q.machine in
     let table : table_of p.arch (kept_of p.ordered) ≡ table_of q.arch (kept_of q.ordered) = ap (λ (a : Arch). table_of a (kept_of p.ordered)) arch ∙ ap (λ (es : List Entry). table_of q.arch (kept_of es)) ordered in (
+      functions,
       tight_one s t at (table_of q.arch (kept_of q.ordered)) x y (subst (Tight s at) table p.tight) q.tight (subst (Narrow s) table p.narrow) q.narrow,
       p.kept_is ∙ ap (λ (es : List Entry). length (kept_of es)) ordered ∙ sym q.kept_is,
       p.omitted_are ∙ ap omitted_of ordered ∙ sym q.omitted_are,
@@ -188,7 +191,8 @@ one_linked before objects at s t j k m n some x y p q =
 one_made : (before : Option Arch) (objects : List Object) (at : ℕ) (made : Makings) (c d : Coming) → 0 < length objects → MakesLinked before objects at made c → MakesLinked before objects at made d → c ≡ d
 one_made before objects at made c d some p q =
     let same = one_linked before objects at p.section q.section p.kept q.kept p.omitted q.omitted some p.are_bytes q.are_bytes p.linked q.linked in
-    p.is ∙ ap (λ (s : List ℕ). made s p.kept p.omitted) same.0 ∙ ap (λ (k : ℕ). made q.section k p.omitted) same.1 ∙ ap (made q.section q.kept) same.2 ∙ sym q.is
+    p.is ∙ ap (λ (fs : List Function). made fs p.section p.kept p.omitted) same.0 ∙ ap (λ (s : List ℕ). made q.linked.functions s p.kept p.omitted) same.1
+    ∙ ap (λ (k : ℕ). made q.linked.functions q.section k p.omitted) same.2 ∙ ap (made q.linked.functions q.section q.kept) same.3 ∙ sym q.is
 
 one_from_links : (before : Option Arch) (objects : List Object) (at : ℕ) (made : Makings) (result : Result (List Entry) LinkFault) (c d : Coming) → 0 < length objects → LinkedComesFrom before objects at made result c → LinkedComesFrom before objects at made result d → c ≡ d
 one_from_links before objects at made (Err fault) c d some p q = p ∙ sym q
@@ -203,7 +207,7 @@ one_link before objects at made c d some p q =
 one_plt_linked : (objects : List Object) (at : ℕ) (s t : List ℕ) (j k : ℕ) (m n : List Omitted) (u v : List Span) → 0 < length objects → AreBytes s → AreBytes t → IsPltLinked None objects at s j m u → IsPltLinked None objects at t k n v
     → (s ≡ t) × (j ≡ k) × (m ≡ n) × (u ≡ v)
 one_plt_linked objects at s t j k m n u v some x y p q =
-    let both : Ok p.functions ≡ Ok q.functions = sym p.are ∙ q.are in
+    let both : Ok p.functions ≡ Ok q.functions = sym (described 0 objects (Ok p.functions) p.are) ∙ described 0 objects (Ok q.functions) q.are in
     let functions : p.functions ≡ q.functions = cc in
     let sorted : p.sorted ≡ q.sorted = one_sorted q.functions p.sorted q.sorted (subst (λ (fs : List Function). AreByStart fs p.sorted) functions p.by_start) q.by_start in
     let arch = one_machine None objects some p.arch q.arch p.machine q.machine in
@@ -232,7 +236,7 @@ one_plt_link objects at c d some p q =
 -- ---- backtrace
 one_backtrace : (objects : List Object) (at : ℕ) (core : List ℕ) (depth : ℕ) (check : Result (Unit {0}) CoreFault) (c d : Coming) → 0 < length objects → BacktraceComesFrom objects at core depth check c → BacktraceComesFrom objects at core depth check d → c ≡ d
 one_backtrace objects at core depth (Err fault) c d some p q = p ∙ sym q
-one_backtrace objects at core depth (Ok u) c d some p q = one_link (Some (arch_of core)) objects at (section_and_walks objects core depth) c d some p q
+one_backtrace objects at core depth (Ok u) c d some p q = one_link (Some (arch_of core)) objects at (section_and_walks core depth) c d some p q
 
 behind_first : (items : List (List ℕ)) (n : ℕ) → length items ≡ suc n → length (drop 1 items) ≡ n
 behind_first [] n h = let none : ⊥ = omega (arith, h) in absurd none

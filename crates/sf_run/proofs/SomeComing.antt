@@ -40,6 +40,7 @@ use Rattle.sf_asm.specs.Inputs.{HaveMachine, all_functions, first_item}
 use Rattle.sf_asm.specs.Kept.{entry_of}
 use Rattle.sf_asm.specs.Linking.{GathersFrom, InOrder, Links, LinksFrom, functions_fault, link_fault, or_later, start_of, unless_fault}
 use Rattle.sf_asm.proofs.Accepting.{links_accepted}
+use Rattle.sf_asm.proofs.Described.{from_links, to_gathers, to_links}
 use Rattle.sf_asm.proofs.FaithfulSections.{linked}
 use Rattle.sf_asm.proofs.GatheredInputs.{are_read}
 use Rattle.sf_asm.proofs.Kept.{kept_of_checked}
@@ -175,7 +176,7 @@ some_from at (Err fault) = (Err (Gather fault), refl)
 
 -- linking inputs comes to a result
 pub some_links : (before : Option Arch) (objects : List Object) (at : ℕ) → (result : Result (List Entry) LinkFault) × Links before objects at result
-some_links before objects at = some_from at (all_functions before objects)
+some_links before objects at = let some = some_from at (all_functions before objects) in (some.0, to_links before objects at some.0 some.1)
 
 pub links_some : (objects : List Object) (at : ℕ) → (result : Result (List Entry) LinkFault) × Links None objects at result
 links_some objects at = some_links None objects at
@@ -217,8 +218,8 @@ record LinkedSection (before : Option Arch) (objects : List Object) (at : ℕ) :
 
 some_linked_section : (before : Option Arch) (objects : List Object) (at : ℕ) (entries : List Entry) → Links before objects at (Ok entries) → LinkedSection before objects at
 some_linked_section before objects at entries h =
-    let were = were_gathered at (all_functions before objects) entries h in
-    let read = are_read before objects entries were.gathered in
+    let were = were_gathered at (all_functions before objects) entries (from_links before objects at (Ok entries) h) in
+    let read = are_read before objects entries (to_gathers before objects (Ok entries) were.gathered) in
     let accepted = (links_accepted before objects at entries h).gathered in
     let arch = accepted.arch in
     let functions = functions_read arch (first_item before) objects read.functions (inputs_have before objects arch accepted.machine) read.are in
@@ -232,7 +233,7 @@ some_linked_section before objects at entries h =
       kept = length (kept_of entries);
       entries = entries;
       are_bytes = made.0;
-      linked = linked before objects at (section_bytes arch at (kept_of entries)) (length (kept_of entries)) arch (kept_of entries) (omitted_of entries) entries were.gathered accepted.machine
+      linked = linked before objects at (section_bytes arch at (kept_of entries)) (length (kept_of entries)) arch (kept_of entries) (omitted_of entries) entries (to_gathers before objects (Ok entries) were.gathered) accepted.machine
           refl refl made.1.section made.1 made.2 were.near refl;
     }
 
@@ -250,7 +251,7 @@ some_linked before objects at made =
 
 some_backtrace : (objects : List Object) (at : ℕ) (core : List ℕ) (depth : ℕ) (check : Result (Unit {0}) CoreFault) → (coming : Coming) × BacktraceComesFrom objects at core depth check coming
 some_backtrace objects at core depth (Err fault) = (coming_of_core 0 fault, refl)
-some_backtrace objects at core depth (Ok u) = some_linked (Some (arch_of core)) objects at (section_and_walks objects core depth)
+some_backtrace objects at core depth (Ok u) = some_linked (Some (arch_of core)) objects at (section_and_walks core depth)
 
 -- ---- each command
 first_bytes : (items : List (List ℕ)) (i : ℕ) → All AreBytes items → i < length items → AreBytes (get_or items i [])

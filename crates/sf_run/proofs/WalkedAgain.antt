@@ -15,7 +15,7 @@ use Rattle.sf_asm.specs.Functions.{Object}
 use Rattle.sf_asm.specs.Inputs.{is_same}
 use Rattle.sf_words.specs.Words.{InputWords}
 use Rattle.sf_run.specs.declared.made.Outcome.TheVariants.{Done}
-use Rattle.sf_run.specs.BacktraceComes.{BacktraceComes, BacktraceComesFrom, dwarf_walks, functions_behind, section_and_walks}
+use Rattle.sf_run.specs.BacktraceComes.{BacktraceComes, BacktraceComesFrom, dwarf_walks, section_and_walks}
 use Rattle.sf_run.specs.Coming.{Makes}
 use Rattle.sf_run.specs.LinkComes.{objects_in}
 use Rattle.sf_run.specs.Linked.{LinkedComesFrom, MakesLinked}
@@ -36,11 +36,11 @@ same_as_itself Amd64 = refl
 same_as_itself Aarch64 = refl
 
 from_made : (objects : List Object) (at : ℕ) (core : List ℕ) (depth : ℕ) (section text : List ℕ) → core_check core ≡ Ok tt
-    → MakesLinked (Some (arch_of core)) objects at (section_and_walks objects core depth) (Makes Done (Some section) text)
+    → MakesLinked (Some (arch_of core)) objects at (section_and_walks core depth) (Makes Done (Some section) text)
     → WalkComesFrom at section core depth (section_check section at) (core_check core) (Makes Done None text)
 from_made objects at core depth section text e h =
     let f = h.linked.faithful in
-    let walks = dwarf_walks (functions_behind objects) core depth in
+    let walks = dwarf_walks h.linked.functions core depth in
     let is : Makes Done (Some section) text ≡ Makes Done (Some h.section) walks = h.is in
     let sections : h.section ≡ section = cc in
     let texts : walks ≡ text = cc in
@@ -59,7 +59,7 @@ from_made objects at core depth section text e h =
     (subst (λ (check : Result (Unit {0}) DecodeFault). WalkComesFrom at h.section core depth check (Ok tt) (Makes Done None walks)) (sym passes) comes)))
 
 from_result : (objects : List Object) (at : ℕ) (core : List ℕ) (depth : ℕ) (section text : List ℕ) → core_check core ≡ Ok tt → (result : Result (List Entry) LinkFault)
-    → LinkedComesFrom (Some (arch_of core)) objects at (section_and_walks objects core depth) result (Makes Done (Some section) text)
+    → LinkedComesFrom (Some (arch_of core)) objects at (section_and_walks core depth) result (Makes Done (Some section) text)
     → WalkComesFrom at section core depth (section_check section at) (core_check core) (Makes Done None text)
 from_result objects at core depth section text e (Err fault) h = absurd (subst Refuses (sym h) (linking_refuses fault))
 from_result objects at core depth section text e (Ok ordered) h = from_made objects at core depth section text e h

@@ -5,9 +5,8 @@ use Rattle.elf_read.specs.Header.{arch_of}
 use Rattle.core_notes.specs.declared.fault.CoreFault.{CoreFault}
 use Rattle.core_notes.specs.Checks.{core_check, file_threads}
 use Rattle.core_notes.specs.Memory.{file_regions}
-use Rattle.sf_asm.specs.declared.fault.GatherFault.{GatherFault}
 use Rattle.sf_asm.specs.Faithful.{dwarf_walk}
-use Rattle.sf_asm.specs.Functions.{Function, Object, functions_of}
+use Rattle.sf_asm.specs.Functions.{Function, Object}
 use Rattle.sf_words.specs.Words.{InputWords}
 use Rattle.sf_run.specs.declared.made.Outcome.TheVariants.{Done}
 use Rattle.sf_run.specs.Coming.{Coming, Makes}
@@ -19,22 +18,13 @@ use Rattle.sf_run.specs.WalkComes.{coming_of_core, walks_text}
 abbrev pub dwarf_walks : List Function → (core : List ℕ) → (depth : ℕ) → List ℕ
 dwarf_walks functions core depth = walks_text (λ thread. dwarf_walk functions thread (file_regions core) depth) 0 (file_threads core)
 
--- the functions that were read, or none
-abbrev pub or_none : Result (List Function) GatherFault → List Function
-or_none (Ok functions) = functions
-or_none (Err fault) = []
-
--- the functions of inputs behind a core file, which is item 0
-abbrev pub functions_behind : List Object → List Function
-functions_behind objects = or_none (functions_of 1 objects)
-
 -- the section, and the walks by the rows of DWARF: what the section says has no part in their text
-abbrev pub section_and_walks : List Object → (core : List ℕ) → (depth : ℕ) → (section : List ℕ) → (kept : ℕ) → (omitted : List Omitted) → Coming
-section_and_walks objects core depth section kept omitted = Makes Done (Some section) (dwarf_walks (functions_behind objects) core depth)
+abbrev pub section_and_walks : (core : List ℕ) → (depth : ℕ) → List Function → (section : List ℕ) → (kept : ℕ) → (omitted : List Omitted) → Coming
+section_and_walks core depth functions section kept omitted = Makes Done (Some section) (dwarf_walks functions core depth)
 
 abbrev pub BacktraceComesFrom : List Object → (at : ℕ) → (core : List ℕ) → (depth : ℕ) → Result (Unit {0}) CoreFault → Coming → Type 0
 BacktraceComesFrom objects at core depth (Err fault) coming = coming ≡ coming_of_core 0 fault
-BacktraceComesFrom objects at core depth (Ok u) coming = LinkedComes (Some (arch_of core)) objects at (section_and_walks objects core depth) coming
+BacktraceComesFrom objects at core depth (Ok u) coming = LinkedComes (Some (arch_of core)) objects at (section_and_walks core depth) coming
 
 -- what walking the threads of the first item, a core file, by the section of the others, for this address, comes to
 abbrev pub BacktraceComes : List InputWords → (at depth : ℕ) → (items : List (List ℕ)) → Coming → Type 0

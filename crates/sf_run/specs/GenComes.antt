@@ -3,7 +3,7 @@ use Rattle.std.specs.Prelude.{ℕ, List, [], ◌∷◌, length, None}
 use Rattle.sf_model.specs.declared.omission.Omitted.{Omitted}
 use Rattle.sf_gen.specs.Object.{object_bytes}
 use Rattle.sf_model.specs.declared.form.Form.TheVariants.{Elf}
-use Rattle.sf_asm.specs.Functions.{Object}
+use Rattle.sf_asm.specs.Functions.{Function, Object}
 use Rattle.sf_text.specs.Summary.{summary_text}
 use Rattle.sf_run.specs.declared.made.Outcome.TheVariants.{Done}
 use Rattle.sf_run.specs.Coming.{Coming, Makes}
@@ -14,8 +14,8 @@ abbrev pub made_object : (n : ℕ) → Object
 made_object n = record { form = Elf; bytes = object_bytes n; base = 0x400000 }
 
 -- the summary of its link, and no section
-abbrev pub summary_alone : (n : ℕ) → (section : List ℕ) → (kept : ℕ) → (omitted : List Omitted) → Coming
-summary_alone n section kept omitted = Makes Done None (summary_text n kept (length omitted) section)
+abbrev pub summary_alone : (n : ℕ) → List Function → (section : List ℕ) → (kept : ℕ) → (omitted : List Omitted) → Coming
+summary_alone n functions section kept omitted = Makes Done None (summary_text n kept (length omitted) section)
 
 -- what linking the made object comes to, for a section at 0x4000000
 abbrev pub GenComes : (n : ℕ) → Coming → Type 0

@@ -2,7 +2,7 @@
 use Rattle.std.specs.Prelude.{ℕ, List, map, Some, None}
 use Rattle.std.specs.List.{zip}
 use Rattle.sf_model.specs.declared.omission.Omitted.{Omitted}
-use Rattle.sf_asm.specs.Functions.{Object}
+use Rattle.sf_asm.specs.Functions.{Function, Object}
 use Rattle.sf_text.specs.Report.{report_text}
 use Rattle.sf_words.specs.Words.{InputWords}
 use Rattle.sf_run.specs.declared.made.Outcome.TheVariants.{Done}
@@ -17,8 +17,8 @@ abbrev pub objects_in : List InputWords → (items : List (List ℕ)) → List O
 objects_in inputs items = map object_in (zip inputs items)
 
 -- the section, and the report of what it holds and of what was omitted
-abbrev pub section_and_report : (section : List ℕ) → (kept : ℕ) → (omitted : List Omitted) → Coming
-section_and_report section kept omitted = Makes Done (Some section) (report_text kept omitted)
+abbrev pub section_and_report : List Function → (section : List ℕ) → (kept : ℕ) → (omitted : List Omitted) → Coming
+section_and_report functions section kept omitted = Makes Done (Some section) (report_text kept omitted)
 
 -- what linking inputs of these bytes comes to, for a section at this address
 abbrev pub LinkComes : List InputWords → (at : ℕ) → (items : List (List ℕ)) → Coming → Type 0

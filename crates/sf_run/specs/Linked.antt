@@ -8,7 +8,7 @@ use Rattle.sf_asm.specs.declared.fault.GatherFault.TheVariants.{TooManyFunctions
 use Rattle.sf_asm.specs.declared.fault.LinkFault.{LinkFault}
 use Rattle.sf_asm.specs.declared.fault.LinkFault.TheVariants.{Gather}
 use Rattle.sf_asm.specs.Answers.{IsLinked}
-use Rattle.sf_asm.specs.Functions.{Object}
+use Rattle.sf_asm.specs.Functions.{Function, Object}
 use Rattle.sf_asm.specs.Linking.{Links}
 use Rattle.sf_asm.specs.FaultShown.{shown_of_linking}
 use Rattle.sf_words.specs.declared.refusal.Limit.TheVariants.{Functions, Rows}
@@ -20,9 +20,9 @@ coming_of_linking (Gather TooManyFunctions) = Exceeded Functions
 coming_of_linking (Gather TooManyRows) = Exceeded Rows
 coming_of_linking fault = Refused (shown_of_linking None fault)
 
--- what a command makes of a section, of how many functions it holds, and of those that were left out
+-- what a command makes of the functions of its inputs, of their section, of how many functions it holds, and of those that were left out
 abbrev pub Makings : Type 0
-Makings = (section : List ℕ) → (kept : ℕ) → (omitted : List Omitted) → Coming
+Makings = (functions : List Function) → (section : List ℕ) → (kept : ℕ) → (omitted : List Omitted) → Coming
 
 -- The section is the faithful one of the inputs, behind an item of this machine or of none, without gaps and with the least widths, and
 -- this is made of it.
@@ -32,7 +32,7 @@ pub record MakesLinked (before : Option Arch) (objects : List Object) (at : ℕ)
   pub omitted : List Omitted
   pub are_bytes : AreBytes section
   pub linked : IsLinked before objects at section kept omitted
-  pub is : coming ≡ made section kept omitted
+  pub is : coming ≡ made linked.functions section kept omitted
 
 abbrev pub LinkedComesFrom : (before : Option Arch) → List Object → (at : ℕ) → Makings → Result (List Entry) LinkFault → Coming → Type 0
 LinkedComesFrom before objects at made (Err fault) coming = coming ≡ coming_of_linking fault

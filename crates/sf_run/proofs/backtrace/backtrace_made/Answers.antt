@@ -12,7 +12,7 @@ use Rattle.sf_asm.specs.Answers.{IsLinked}
 use Rattle.sf_asm.specs.Functions.{Object, object_of}
 use Rattle.sf_words.specs.Parsed.{input_of}
 use Rattle.sf_run.specs.declared.made.Outcome.TheVariants.{Done}
-use Rattle.sf_run.specs.BacktraceComes.{BacktraceComesFrom, dwarf_walks, functions_behind, section_and_walks}
+use Rattle.sf_run.specs.BacktraceComes.{BacktraceComesFrom, dwarf_walks, section_and_walks}
 use Rattle.sf_run.specs.Coming.{Makes}
 use Rattle.sf_run.specs.LinkComes.{objects_in}
 use Rattle.sf_run.specs.Linked.{LinkedComes}
@@ -53,10 +53,10 @@ returns-in-Ok-link c =
     (subst (λ (os : List Object). IsLinked (Some c.arch.result) os at section kept omitted) are c.in-Ok-link.ensures.linked) in
     let table = linked.faithful.table in
     let is = subst (λ (bytes : List ℕ). Section bytes at table) (sym c.deref-in-Ok-link.ensures.value) linked.faithful.is in
-    let text : c.in_ok-text-in-Ok-link.text.items ≡ dwarf_walks (functions_behind objects) core c.args.depth =
+    let text : c.in_ok-text-in-Ok-link.text.items ≡ dwarf_walks linked.functions core c.args.depth =
     c.in_ok-text-in-Ok-link.ensures table is
     ∙ ap (λ (file : List ℕ). walks_text (λ thread. section_walk table.functions thread (file_regions file) c.args.depth) 0 (file_threads file)) c.in-Ok.ensures.bytes
     ∙ linked_walks (arch_of core) objects at section kept omitted linked core c.args.depth in
     subst (λ (check : Result (Unit {0}) CoreFault). BacktraceComesFrom objects at core c.args.depth check (Makes Done (Some section) c.in_ok-text-in-Ok-link.text.items)) c.in-Ok.ensures.exact
-    (subst (λ (t : List ℕ). LinkedComes (Some (arch_of core)) objects at (section_and_walks objects core c.args.depth) (Makes Done (Some section) t)) (sym text)
-    (linked_comes (Some (arch_of core)) objects at (section_and_walks objects core c.args.depth) section kept omitted linked c.in-Ok-link.ensures.are_bytes))
+    (subst (λ (t : List ℕ). LinkedComes (Some (arch_of core)) objects at (section_and_walks core c.args.depth) (Makes Done (Some section) t)) (sym text)
+    (linked_comes (Some (arch_of core)) objects at (section_and_walks core c.args.depth) section kept omitted linked c.in-Ok-link.ensures.are_bytes))
