@@ -13,8 +13,7 @@ use Rattle.sf_model.specs.declared.omission.Origin.{Origin}
 use Rattle.sf_model.specs.declared.omission.Span.{Span}
 use Rattle.sf_write.specs.declared.stored.StoredFunction.{StoredFunction}
 use Rattle.sf_write.specs.declared.stored.StoredRows.{StoredRows}
-use Rattle.sf_decode.proofs.Checked.{rows_length}
-use Rattle.sf_write.specs.Stored.{IsStored, function_by, range_of, stored_in}
+use Rattle.sf_write.specs.Stored.{IsStored, function_by, stored_in}
 use Rattle.sf_model.specs.declared.function.Func.{Func}
 use Rattle.sf_asm.specs.declared.entries.Place.{Place}
 use Rattle.sf_asm.specs.declared.entry.Entry.{Entry}
@@ -22,9 +21,8 @@ use Rattle.sf_asm.specs.declared.entry.Outcome.TheVariants as outcome
 use Rattle.sf_asm.specs.declared.entry.Head.{Head}
 use Rattle.sf_asm.specs.declared.entry.Head.TheVariants.{Kept, Left}
 use Rattle.sf_asm.specs.Entry.{IsSound, kept_of, omitted_of}
-use Rattle.sf_asm.specs.Heads.{ArePlacesOf, HasRows, HaveRows, IsHeadOf, IsKeptIn, IsPlaceIn, count_in, entries_in, entry_in, head_at, head_span, heads_at, is_kept_head, left_at, left_of, no_head, outcome_in, stored_at, stored_of}
+use Rattle.sf_asm.specs.Heads.{ArePlacesOf, HasRows, HaveRows, IsKeptIn, IsPlaceIn, entries_in, entry_in, head_at, head_span, heads_at, is_kept_head, left_at, left_of, no_head, outcome_in, stored_at, stored_of}
 use Rattle.sf_asm.specs.Linking.{InOrder, start_of}
-use Rattle.sf_asm.specs.Order.{entry_rows}
 
 -- ---- more rows are stored
 -- each function that is stored in one list is the same in the other
@@ -168,24 +166,15 @@ places_in_order rows heads old new were moved rising stable =
     subst (λ (hs : List Head). InOrder (entries_in rows hs) (entries_in rows (heads_at heads new))) were.0
     (in_order rows (heads_at heads old) (heads_at heads new) (IsPermutation-map (head_at heads) old new moved) (rising_at heads new are rising) (stable_at heads old new were.1 are stable))
 
--- ---- numbers of rows, and addresses
-rows_counted : (rows : StoredRows) (f : StoredFunction) → length (stored_in rows f).rows ≡ f.head.rows
-unfolding stored_in function_by
-rows_counted rows f = rows_length f.arch (range_of rows f) f.width 0 f.head.rows
-
-count_is : (rows : StoredRows) (x : Head) → count_in x ≡ entry_rows (entry_in rows x)
-count_is rows (Kept f origin) = sym (rows_counted rows f)
-count_is rows (Left o) = refl
-
+-- ---- addresses
 -- what stands past the end of a list of functions
 abbrev pub no_entry : Entry
 no_entry = record { span = head_span no_head; outcome = outcome.Left record { reason = EmptyRange; offset = None } }
 
--- a function of a list by its head
-pub head_of : (rows : StoredRows) (heads : List Head) (i : ℕ) (d : Entry) → i < length heads → (h : Head) → h ≡ get_or heads i no_head → IsHeadOf (get_or (entries_in rows heads) i d) h
-head_of rows heads i d lt h is =
-    let same : get_or (entries_in rows heads) i d ≡ entry_in rows h = get_or-map (entry_in rows) heads i no_head d lt ∙ ap (entry_in rows) (sym is) in
-    (ap (λ (e : Entry). e.span) (sym same), count_is rows h ∙ ap entry_rows (sym same))
+-- the addresses of a function of a list, by its head
+pub span_of : (rows : StoredRows) (heads : List Head) (i : ℕ) (d : Entry) → i < length heads → (h : Head) → h ≡ get_or heads i no_head → head_span h ≡ (get_or (entries_in rows heads) i d).span
+span_of rows heads i d lt h is =
+    ap (λ (e : Entry). e.span) (sym (get_or-map (entry_in rows) heads i no_head d lt ∙ ap (entry_in rows) (sym is)))
 
 -- ---- kept and omitted ones
 kept_one : (rows : StoredRows) (x : Head) (heads : List Head) → map (stored_in rows) (stored_of heads) ≡ kept_of (entries_in rows heads)

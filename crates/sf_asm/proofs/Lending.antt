@@ -1,6 +1,6 @@
 -- What is lent of the functions that were read is what is left out of them.
 use Rattle.std.specs.Prelude.{is_none, not, OnOk}
-use Rattle.std.proofs.Common.{◌≡◌, cond, List, [], ◌∷◌, Option, Some, None, Result, Ok, Err, refl, sym, ap, ◌∙◌}
+use Rattle.std.proofs.Common.{◌≡◌, cond, List, [], ◌∷◌, ◌++◌, Option, Some, None, Result, Ok, Err, refl, sym, ap, ◌∙◌}
 use Rattle.std.proofs.lemmas.List.Elements.{filter-append}
 use Rattle.sf_model.specs.declared.omission.Omission.{Omission}
 use Rattle.sf_express.specs.Runs.{expressed, function_of, omission_of, unless_omitted}
@@ -10,10 +10,6 @@ use Rattle.sf_asm.specs.Answers.{seen_as}
 use Rattle.sf_asm.specs.Functions.{Function}
 use Rattle.sf_asm.specs.Kept.{entry_of, facts_of, is_kept, omitted_functions, outcome_by, says_of}
 use Rattle.sf_asm.specs.Sources.{if_left}
-use Rattle.sf_asm.proofs.ReadFunctions.{IsListwise}
-
-pub omitted_listwise : IsListwise omitted_functions
-omitted_listwise = record { none = refl; both = filter-append (λ (f : Function). not (is_kept f)) }
 
 -- ---- one function
 by_omission : (f : Function) (omission : Option Omission) → if_left (outcome_by (unless_omitted omission (expressed (facts_of f) (says_of f)))) f ≡ cond (not (is_none omission)) (f ∷ []) []
@@ -24,12 +20,19 @@ left_is : (f : Function) → if_left (entry_of f).outcome f ≡ omitted_function
 unfolding function_of
 left_is f = by_omission f (omission_of f.arch (facts_of f) (says_of f))
 
-pub one_lent : (one : Result Function AsmFault) (entry : Entry) (f : Function) → seen_as entry_of one ≡ Ok entry → one ≡ Ok f → seen_as (λ g. omitted_functions (g ∷ [])) one ≡ Ok (if_left entry.outcome f)
-one_lent (Ok g) entry f e is =
+-- one function more
+pub one_omitted : (before : List Function) (f : Function) (entry : Entry) → entry_of f ≡ entry → omitted_functions (before ++ f ∷ []) ≡ omitted_functions before ++ if_left entry.outcome f
+one_omitted before f entry is =
+    filter-append (λ (g : Function). not (is_kept g)) before (f ∷ [])
+    ∙ ap (λ (fs : List Function). omitted_functions before ++ fs) (sym (left_is f) ∙ ap (λ (e : Entry). if_left e.outcome f) is)
+
+-- what becomes of a function is what was read of it
+pub one_entry : (one : Result Function AsmFault) (entry : Entry) (f : Function) → seen_as entry_of one ≡ Ok entry → one ≡ Ok f → entry_of f ≡ entry
+one_entry (Ok g) entry f e is =
     let same : g ≡ f = cc in
-    let entry_is : entry_of g ≡ entry = cc in
-    ap Ok (sym (left_is g) ∙ ap (λ (x : Function). if_left (entry_of g).outcome x) same ∙ ap (λ (x : Entry). if_left x.outcome f) entry_is)
-one_lent (Err fault) entry f e is = cc
+    let there : entry_of g ≡ entry = cc in
+    sym (ap entry_of same) ∙ there
+one_entry (Err fault) entry f e is = cc
 
 -- what follows from what holds where a call returns a value
 pub on_ok : {A E P Q : Type 0} (r : Result A E) → (P → Q) → OnOk r P → OnOk r Q

@@ -3,11 +3,13 @@ pub mod Heads
 pub mod KeptRows
 pub mod Overlaps
 pub mod ReadFunctions
+pub mod ReadSoFar
 pub mod ReadInputs
 pub mod Machines
 pub mod Items
 pub mod HandedOut
 pub mod GatheredInputs
+pub mod WithinLimits
 pub mod Relocating
 pub mod Patching
 pub mod Files

@@ -1,9 +1,7 @@
 -- The limits of functions and rows.
 use Rattle.std.specs.Prelude.{nat_lt}
-use Rattle.std.proofs.Common.{◌≡◌, ℕ, ◌+◌, ◌^◌, ◌<◌, ◌≤◌, Bool, true, false, cond, List, ◌∷◌, length, take, drop, drop-cons, suc, get_or, sum_by, Option, Some, None, refl, sym, ap, ◌∙◌, arith}
+use Rattle.std.proofs.Common.{◌≡◌, ◌^◌, ◌<◌, ◌≤◌, Bool, true, false, cond, List, length, sum_by, Option, Some, None, refl, sym, ◌∙◌}
 use Rattle.std.proofs.lemmas.Bool.{lt-ltb, le-ltb, ltb-false}
-use Rattle.std.proofs.lemmas.List.{take_all}
-use Rattle.std.proofs.lemmas.List.Sums.{sum_by-take-drop, sum_by-cons}
 use Rattle.sf_asm.specs.declared.entry.Entry.{Entry}
 use Rattle.sf_asm.specs.declared.fault.GatherFault.{GatherFault}
 use Rattle.sf_asm.specs.declared.fault.GatherFault.TheVariants as gather
@@ -26,18 +24,7 @@ too_many_rows entries few many = tested entries false true (le-ltb (2 ^ 21) (len
 pub within_limits : (entries : List Entry) → length entries ≤ 2 ^ 21 → sum_by entry_rows entries ≤ 2 ^ 24 → limits_fault entries ≡ None
 within_limits entries few small = tested entries false false (le-ltb (2 ^ 21) (length entries) few) (le-ltb (2 ^ 24) (sum_by entry_rows entries) small)
 
--- ---- sums of rows so far
-pub more_rows : {X : Type 0} (count : X → ℕ) (xs : List X) (i n : ℕ) (d : X) → i < length xs → n ≡ count (get_or xs i d) → sum_by count (take i xs) + n ≤ sum_by count xs
-more_rows count xs i n d lt e =
-    let whole = sum_by-take-drop count xs i in
-    let left : drop i xs ≡ get_or xs i d ∷ drop (suc i) xs = drop-cons xs i d lt in
-    let sum : sum_by count (drop i xs) ≡ count (get_or xs i d) + sum_by count (drop (suc i) xs) = ap (sum_by count) left ∙ sum_by-cons count (get_or xs i d) (drop (suc i) xs) in
-    omega (arith, whole, sum, e)
-
-pub all_rows : {X : Type 0} (count : X → ℕ) (xs : List X) (i : ℕ) → length xs ≤ i → sum_by count (take i xs) ≡ sum_by count xs
-all_rows count xs i le = ap (sum_by count) (take_all i xs le)
-
--- and back
+-- ---- and back
 functions_within : (entries : List Entry) (b : Bool) → nat_lt (2 ^ 21) (length entries) ≡ b → limits_fault entries ≡ None → b ≡ false
 functions_within entries false p h = refl
 functions_within entries true p h = let is = sym (tested entries true (nat_lt (2 ^ 24) (sum_by entry_rows entries)) p refl) ∙ h in cc

@@ -1,7 +1,6 @@
 -- What was read is what the definitions of functions come to.
-use Rattle.std.proofs.Math.Seq.{drop-cons}
-use Rattle.std.proofs.Common.{◌≡◌, ℕ, suc, ◌<◌, length, drop, get_or, Bool, true, false, cond, List, [], ◌∷◌, ◌++◌, map, Option, Some, None, Result, Ok, Err, refl, sym, ap, ◌∙◌, append_assoc, inl, inr}
-use Rattle.std.proofs.lemmas.List.{append-nil, map-append}
+use Rattle.std.proofs.Common.{◌≡◌, ℕ, ◌+◌, ◌<◌, length, drop, get_or, Bool, true, false, cond, List, [], ◌∷◌, ◌++◌, map, Option, Some, None, Result, Ok, Err, refl, sym, ap, ◌∙◌}
+use Rattle.std.proofs.lemmas.List.{append-nil, drop_more}
 use Rattle.sf_model.specs.declared.machine.Arch.{Arch}
 use Rattle.cfa_machine.specs.declared.row.DwRow.{DwRow}
 use Rattle.cfa_machine.specs.RowAtOffset.{SayAll}
@@ -16,14 +15,16 @@ use Rattle.elf_reloc.specs.declared.fix.RelocatedField.{RelocatedField}
 use Rattle.sf_express.specs.Rules.{content_of}
 use Rattle.sf_express.specs.Offsets.{said}
 use Rattle.sf_express.specs.Runs.{AreSaid, function_of}
-use Rattle.sf_asm.specs.declared.entry.Entry.{Entry}
 use Rattle.sf_asm.specs.declared.entry.Outcome.{Outcome}
 use Rattle.sf_asm.specs.declared.fault.AsmFault.{AsmFault}
 use Rattle.sf_asm.specs.declared.fault.AsmFault.TheVariants as asm
-use Rattle.sf_asm.specs.Answers.{ReadsMore, after_read, seen_as}
+use Rattle.sf_asm.specs.declared.read.ReadFunctions.{ReadFunctions}
+use Rattle.sf_asm.specs.Answers.{seen_as}
 use Rattle.sf_asm.specs.Functions.{◌>>=◌, Function, CallFrames, named, unless, span_in, fault_in, function_at, function_in, functions_in, section_functions, sections_functions}
 use Rattle.sf_asm.specs.Relocated.{Values, on_pointers, patched_values, pointer_check}
 use Rattle.sf_asm.specs.Kept.{full_row, says_of, facts_of, outcome_by, entry_of}
+use Rattle.sf_asm.specs.ReadSoFar.{ReadsAll}
+use Rattle.sf_asm.proofs.ReadSoFar.{GoesOn, goes_on, then_others}
 
 -- ---- one function
 -- what a row says doesn't depend on its start
@@ -64,69 +65,16 @@ run_refused arch item section values f span fault p q =
     ∙ ap (λ (u : Result (Unit {0}) AsmFault). u >>= λ _. Ok (function_at arch item section f span)) q
 
 -- ---- all functions of a section
--- what frame description entries come to
-abbrev pub read_of : Arch → (item : ℕ) → CallFrames → Values → List FdeView → Result (List Entry) AsmFault
-read_of arch item section values fs = seen_as (map entry_of) (functions_in arch item section values fs)
-
 -- an entry that describes a function, and one that doesn't
-kept_on : (arch : Arch) (item : ℕ) (section : CallFrames) (values : Values) (f : FdeView) (fs : List FdeView) → values.dropped f.begin ≡ false
+pub kept_on : (arch : Arch) (item : ℕ) (section : CallFrames) (values : Values) (f : FdeView) (fs : List FdeView) → values.dropped f.begin ≡ false
     → functions_in arch item section values (f ∷ fs) ≡ (function_in arch item section values f >>= λ g. functions_in arch item section values fs >>= λ gs. Ok (g ∷ gs))
 kept_on arch item section values f fs e =
     ap (λ (b : Bool). cond b (functions_in arch item section values fs) (function_in arch item section values f >>= λ g. functions_in arch item section values fs >>= λ gs. Ok (g ∷ gs))) e
 
-passed_on : (arch : Arch) (item : ℕ) (section : CallFrames) (values : Values) (f : FdeView) (fs : List FdeView) → values.dropped f.begin ≡ true
+pub passed_on : (arch : Arch) (item : ℕ) (section : CallFrames) (values : Values) (f : FdeView) (fs : List FdeView) → values.dropped f.begin ≡ true
     → functions_in arch item section values (f ∷ fs) ≡ functions_in arch item section values fs
 passed_on arch item section values f fs e =
     ap (λ (b : Bool). cond b (functions_in arch item section values fs) (function_in arch item section values f >>= λ g. functions_in arch item section values fs >>= λ gs. Ok (g ∷ gs))) e
-
--- what is seen of a list is what is seen of its parts
-pub record IsListwise {X : Type 0} (view : List Function → List X) : Type 0 where
-  pub none : view [] ≡ []
-  pub both : (fs gs : List Function) → view (fs ++ gs) ≡ view fs ++ view gs
-
-pub entries_listwise : IsListwise (map entry_of)
-entries_listwise = record { none = refl; both = map-append entry_of }
-
-one_more : {X : Type 0} (view : List Function → List X) → IsListwise view → (before more : List X) (one : Result Function AsmFault) (others : Result (List Function) AsmFault) → seen_as (λ g. view (g ∷ [])) one ≡ Ok more
-    → after_read before (seen_as view (one >>= λ g. (others >>= λ gs. Ok (g ∷ gs)))) ≡ after_read (before ++ more) (seen_as view others)
-one_more {X} view parts before more (Ok g) (Ok gs) e =
-    let is : view (g ∷ []) ≡ more = cc in
-    ap (λ (xs : List X). Ok (before ++ xs)) (parts.both (g ∷ []) gs) ∙ ap (λ (xs : List X). Ok (before ++ (xs ++ view gs))) is ∙ ap Ok (sym (append_assoc before more (view gs)))
-one_more view parts before more (Ok g) (Err fault) e = refl
-one_more view parts before more (Err fault) others e = cc
-
-pub one_entry : (one : Result Function AsmFault) (entry : Entry) → seen_as entry_of one ≡ Ok entry → seen_as (λ g. map entry_of (g ∷ [])) one ≡ Ok (entry ∷ [])
-one_entry (Ok g) entry e = let is : entry_of g ≡ entry = cc in ap (λ (x : Entry). Ok (x ∷ [])) is
-one_entry (Err fault) entry e = cc
-
-pub goes_on : {X : Type 0} (view : List Function → List X) → IsListwise view → (arch : Arch) (item : ℕ) (section : CallFrames) (values : Values) (before more : List X) (f : FdeView) (left after : List FdeView) (all : Result (List X) AsmFault) → left ≡ f ∷ after
-    → values.dropped f.begin ≡ false → seen_as (λ g. view (g ∷ [])) (function_in arch item section values f) ≡ Ok more → after_read before (seen_as view (functions_in arch item section values left)) ≡ all
-    → after_read (before ++ more) (seen_as view (functions_in arch item section values after)) ≡ all
-goes_on view parts arch item section values before more f left after all p kept q h =
-    sym (one_more view parts before more (function_in arch item section values f) (functions_in arch item section values after) q)
-    ∙ ap (λ (gs : Result (List Function) AsmFault). after_read before (seen_as view gs)) (sym (kept_on arch item section values f after kept))
-    ∙ ap (λ (fs : List FdeView). after_read before (seen_as view (functions_in arch item section values fs))) (sym p) ∙ h
-
-pub passes_on : {X : Type 0} (view : List Function → List X) (arch : Arch) (item : ℕ) (section : CallFrames) (values : Values) (before : List X) (f : FdeView) (left after : List FdeView) (all : Result (List X) AsmFault) → left ≡ f ∷ after → values.dropped f.begin ≡ true
-    → after_read before (seen_as view (functions_in arch item section values left)) ≡ all → after_read before (seen_as view (functions_in arch item section values after)) ≡ all
-passes_on view arch item section values before f left after all p dropped h =
-    ap (λ (gs : Result (List Function) AsmFault). after_read before (seen_as view gs)) (sym (passed_on arch item section values f after dropped))
-    ∙ ap (λ (fs : List FdeView). after_read before (seen_as view (functions_in arch item section values fs))) (sym p) ∙ h
-
-pub is_done : (arch : Arch) (item : ℕ) (section : CallFrames) (values : Values) (before : List Entry) (left : List FdeView) (all : Result (List Entry) AsmFault) → left ≡ [] → after_read before (read_of arch item section values left) ≡ all → all ≡ Ok before
-is_done arch item section values before left all p h = sym h ∙ ap (λ (fs : List FdeView). after_read before (read_of arch item section values fs)) p ∙ ap Ok (append-nil before)
-
-pub refused_unseen : {F : Type 0} (before : List Entry) (given : Result (List Function) F) (fault : F) → after_read before (seen_as (map entry_of) given) ≡ Err fault → given ≡ Err fault
-refused_unseen before (Ok fs) fault e = cc
-refused_unseen before (Err other) fault e = ap Err (let is : other ≡ fault = cc in is)
-
-pub ends : (arch : Arch) (item : ℕ) (section : CallFrames) (values : Values) (first before : List Entry) (f : FdeView) (left after : List FdeView) (fault : AsmFault) (given : Result (List Function) AsmFault) → left ≡ f ∷ after → values.dropped f.begin ≡ false
-    → function_in arch item section values f ≡ Err fault → after_read before (read_of arch item section values left) ≡ after_read first (seen_as (map entry_of) given) → given ≡ Err fault
-ends arch item section values first before f left after fault given p kept q h =
-    refused_unseen first given fault
-    (sym h ∙ ap (λ (xs : List FdeView). after_read before (read_of arch item section values xs)) p
-    ∙ ap (λ (gs : Result (List Function) AsmFault). after_read before (seen_as (map entry_of) gs)) (kept_on arch item section values f after kept)
-    ∙ ap (λ (one : Result Function AsmFault). after_read before (seen_as (map entry_of) (one >>= λ g. (functions_in arch item section values after >>= λ gs. Ok (g ∷ gs))))) q)
 
 -- ---- a section
 -- by its records and its relocations
@@ -177,52 +125,25 @@ pointers_refused arch item section es fixes fault p q r =
     ∙ pointers_fault arch item section es fixes (pointer_check (pointer_fields es) fixes) fault r
 
 -- ---- several sections
-both_read : {X : Type 0} (view : List Function → List X) → IsListwise view → (before after : List X) (one others : Result (List Function) AsmFault) → after_read before (seen_as view one) ≡ Ok after
-    → after_read before (seen_as view (one >>= λ fs. others >>= λ gs. Ok (fs ++ gs))) ≡ after_read after (seen_as view others)
-both_read {X} view parts before after (Ok fs) (Ok gs) e =
-    let is : before ++ view fs ≡ after = cc in
-    ap Ok (ap (λ (xs : List X). before ++ xs) (parts.both fs gs) ∙ sym (append_assoc before (view fs) (view gs)) ∙ ap (λ (xs : List X). xs ++ view gs) is)
-both_read view parts before after (Ok fs) (Err fault) e = refl
-both_read view parts before after (Err fault) others e = cc
-
-pub section_read : {X : Type 0} (view : List Function → List X) → IsListwise view → (arch : Arch) (item : ℕ) (s : CallFrames) (ss : List CallFrames) (before after : List X) → after_read before (seen_as view (section_functions arch item s)) ≡ Ok after
-    → after_read before (seen_as view (sections_functions arch item (s ∷ ss))) ≡ after_read after (seen_as view (sections_functions arch item ss))
-section_read view parts arch item s ss before after e = both_read view parts before after (section_functions arch item s) (sections_functions arch item ss) e
-
-pub section_refused : (arch : Arch) (item : ℕ) (s : CallFrames) (ss : List CallFrames) (fault : AsmFault) → section_functions arch item s ≡ Err fault → sections_functions arch item (s ∷ ss) ≡ Err fault
-section_refused arch item s ss fault e = ap (λ (one : Result (List Function) AsmFault). one >>= λ fs. sections_functions arch item ss >>= λ gs. Ok (fs ++ gs)) e
-
-pub from_none : {X F : Type 0} (given : Result (List X) F) → after_read [] given ≡ given
-from_none (Ok xs) = refl
-from_none (Err fault) = refl
-
--- of no section
-pub none_left : {X : Type 0} (view : List Function → List X) → IsListwise view → (arch : Arch) (item : ℕ) (before : List X) → after_read before (seen_as view (sections_functions arch item [])) ≡ Ok before
-none_left {X} view parts arch item before = ap (λ (xs : List X). Ok (before ++ xs)) parts.none ∙ ap Ok (append-nil before)
-
 -- of one section
-pub alone : {X : Type 0} (view : List Function → List X) → IsListwise view → (arch : Arch) (item : ℕ) (s : CallFrames) (before after : List X) → after_read before (seen_as view (section_functions arch item s)) ≡ Ok after
-    → after_read before (seen_as view (sections_functions arch item (s ∷ []))) ≡ Ok after
-alone view parts arch item s before after e = section_read view parts arch item s [] before after e ∙ none_left view parts arch item after
-
-pub reads_alone : {X : Type 0} (arch : Arch) (item : ℕ) (s : CallFrames) (before after : List Entry) (result : Result X AsmFault) → ReadsMore result before after (section_functions arch item s)
-    → ReadsMore result before after (sections_functions arch item (s ∷ []))
-reads_alone arch item s before after (Ok x) h = alone (map entry_of) entries_listwise arch item s before after h
-reads_alone arch item s before after (Err fault) (inl wanting) = inl wanting
-reads_alone arch item s before after (Err fault) (inr e) = inr (section_refused arch item s [] fault e)
+pub alone : (arch : Arch) (item : ℕ) (s : CallFrames) → sections_functions arch item (s ∷ []) ≡ section_functions arch item s
+alone arch item s = by_functions (section_functions arch item s)
+  where
+    by_functions : (given : Result (List Function) AsmFault) → (given >>= λ fs. Ok (fs ++ [])) ≡ given
+    by_functions (Ok fs) = ap Ok (append-nil fs)
+    by_functions (Err fault) = refl
 
 -- the sections from a number on
-pub sections_more : {X : Type 0} (view : List Function → List X) → IsListwise view → (arch : Arch) (item : ℕ) (section : ℕ → CallFrames) (numbers : List ℕ) (k d : ℕ) (before after : List X) → k < length numbers
-    → after_read before (seen_as view (section_functions arch item (section (get_or numbers k d)))) ≡ Ok after
-    → after_read before (seen_as view (sections_functions arch item (map section (drop k numbers)))) ≡ after_read after (seen_as view (sections_functions arch item (map section (drop (suc k) numbers))))
-sections_more view parts arch item section numbers k d before after within e =
-    ap (λ (xs : List ℕ). after_read before (seen_as view (sections_functions arch item (map section xs)))) (drop-cons numbers k d within)
-    ∙ section_read view parts arch item (section (get_or numbers k d)) (map section (drop (suc k) numbers)) before after e
+sections_from : (arch : Arch) (item : ℕ) (section : ℕ → CallFrames) (numbers : List ℕ) (k d : ℕ) → k < length numbers
+    → sections_functions arch item (map section (drop k numbers))
+    ≡ (section_functions arch item (section (get_or numbers k d)) >>= λ fs. sections_functions arch item (map section (drop (k + 1) numbers)) >>= λ gs. Ok (fs ++ gs))
+sections_from arch item section numbers k d within = ap (λ (xs : List ℕ). sections_functions arch item (map section xs)) (drop_more numbers k d within)
 
-pub sections_end : (arch : Arch) (item : ℕ) (section : ℕ → CallFrames) (numbers : List ℕ) (k d : ℕ) (first before : List Entry) (fault : AsmFault) (given : Result (List Function) AsmFault) → k < length numbers
-    → section_functions arch item (section (get_or numbers k d)) ≡ Err fault
-    → after_read before (seen_as (map entry_of) (sections_functions arch item (map section (drop k numbers)))) ≡ after_read first (seen_as (map entry_of) given) → given ≡ Err fault
-sections_end arch item section numbers k d first before fault given within e h =
-    refused_unseen first given fault
-    (sym h ∙ ap (λ (xs : List ℕ). after_read before (seen_as (map entry_of) (sections_functions arch item (map section xs)))) (drop-cons numbers k d within)
-    ∙ ap (λ (r : Result (List Function) AsmFault). after_read before (seen_as (map entry_of) r)) (section_refused arch item (section (get_or numbers k d)) (map section (drop (suc k) numbers)) fault e))
+-- its first one is read
+pub section_more : (lending : Bool) (old mid new : ReadFunctions) (arch : Arch) (item : ℕ) (section : ℕ → CallFrames) (numbers : List ℕ) (k d : ℕ) (all : Result (List Function) AsmFault) → k < length numbers
+    → GoesOn lending old mid (sections_functions arch item (map section (drop k numbers))) all → ReadsAll lending mid new (section_functions arch item (section (get_or numbers k d)))
+    → GoesOn lending old new (sections_functions arch item (map section (drop (k + 1) numbers))) all
+section_more lending old mid new arch item section numbers k d all within h (functions, is, reads) =
+    let others = sections_functions arch item (map section (drop (k + 1) numbers)) in
+    goes_on lending old mid new functions (sections_functions arch item (map section (drop k numbers))) others all h
+    (sections_from arch item section numbers k d within ∙ then_others (section_functions arch item (section (get_or numbers k d))) functions others is) reads

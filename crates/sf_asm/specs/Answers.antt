@@ -57,21 +57,7 @@ abbrev pub after_read : {X F : Type 0} → List X → Result (List X) F → Resu
 after_read before (Ok others) = Ok (before ++ others)
 after_read before (Err fault) = Err fault
 
--- what was read of all functions stands behind what was read before; or the first fault was answered, or memory ran out
-abbrev pub ReadsMore : {X : Type 0} → Result X AsmFault → (before after : List Entry) → Result (List Function) AsmFault → Type 0
-ReadsMore (Ok x) before after given = after_read before (seen_as (map entry_of) given) ≡ Ok after
-ReadsMore (Err fault) before after given = (fault ≡ asm.NoMemory) ⊎ (given ≡ Err fault)
-
--- what was lent of all functions is what is left out of them, after what was lent before
-abbrev pub LendsMore : (before after : List Function) → Result (List Function) AsmFault → Type 0
-LendsMore before after given = after_read before (seen_as omitted_functions given) ≡ Ok after
-
--- the same of all functions of an input
-abbrev pub ReadsAll : {V : Type 0} → (V → List Entry) → Result V AsmFault → Result (List Function) AsmFault → Type 0
-ReadsAll items (Ok entries) given = seen_as (map entry_of) given ≡ Ok (items entries)
-ReadsAll items (Err fault) given = (fault ≡ asm.NoMemory) ⊎ (given ≡ Err fault)
-
--- and what was lent of them
+-- what was lent of all functions is what is left out of them
 abbrev pub LendsAll : {F : Type 0} → (lent : List Function) → Result (List Function) F → Type 0
 LendsAll lent given = seen_as omitted_functions given ≡ Ok lent
 

@@ -1,7 +1,6 @@
 -- Functions that were read, whose rows are kept in one list: a head for each.
-use Rattle.std.specs.Prelude.{◌≡◌, ◌<◌, ℕ, Bool, true, false, List, get_or, length, map, All, Option, Some, None}
+use Rattle.std.specs.Prelude.{◌≡◌, ◌<◌, Bool, true, false, List, get_or, length, map, All, Option, Some, None}
 use Rattle.std.specs.List.{filter_map}
-use Rattle.sf_asm.specs.Order.{entry_rows}
 use Rattle.sf_model.specs.declared.omission.Omitted.{Omitted}
 use Rattle.sf_model.specs.declared.omission.Reason.TheVariants.{EmptyRange}
 use Rattle.sf_model.specs.declared.omission.Span.{Span}
@@ -38,15 +37,6 @@ HasRows rows (Left o) = Unit {0}
 
 abbrev pub HaveRows : StoredRows → List Head → Type 0
 HaveRows rows heads = All (HasRows rows) heads
-
--- the number of a kept function's rows
-abbrev pub count_in : Head → ℕ
-count_in (Kept f origin) = f.head.rows
-count_in (Left o) = 0
-
--- this is the head of this function
-abbrev pub IsHeadOf : Entry → Head → Type 0
-IsHeadOf e h = (head_span h ≡ e.span) × (count_in h ≡ entry_rows e)
 
 -- ---- places in a list of heads
 -- what stands past the end of a list

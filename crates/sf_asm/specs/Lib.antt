@@ -9,6 +9,7 @@ pub mod Kept
 pub mod Inputs
 pub mod Initials
 pub mod Linking
+pub mod ReadSoFar
 pub mod Faithful
 pub mod Answers
 pub mod FaultShown

@@ -1,23 +1,21 @@
 //! The functions of an ELF file, in the order of its sections and records.
 
-ghost use Rattle.std.specs.Prelude.{IsTrue, ◌≡◌, ◌<◌, ◌^◌, ◌+◌, ◌-◌, ◌%◌, ◌⊎◌, ℕ, List, All, Ok, Err, length, map, IfOk, IfErr, OnOk};
+ghost use Rattle.std.specs.Prelude.{◌≡◌, ◌<◌, ◌^◌, ◌+◌, ◌-◌, ◌%◌, ◌⊎◌, ℕ, List, Ok, Err, length, map, IfOk, IfErr, OnOk};
 ghost use Rattle.elf_read.specs.Header as head;
 ghost use Rattle.elf_read.specs.Sections.{section_bytes};
 ghost use Rattle.elf_read.specs.Views.{file};
 ghost use Rattle.elf_place.specs.Place.{place_check};
 ghost use Rattle.elf_place.specs.Views as placed_views;
 ghost use Rattle.elf_reloc.specs.Reading.{section_address};
-ghost use Rattle.sf_asm.specs.Answers.{LendsMore, ReadsMore};
 ghost use Rattle.sf_asm.specs.declared.fault.AsmFault.TheVariants as asm;
 ghost use Rattle.sf_model.specs.declared.form.Form.TheVariants as Form;
-ghost use Rattle.sf_asm.specs.Entry.{IsSound};
 ghost use Rattle.sf_asm.specs.Fault.{wraps_place};
 ghost use Rattle.sf_asm.specs.Functions.{named, object_functions, sections_functions};
 ghost use Rattle.elf_groups.specs.Groups.{seen_after};
 ghost use Rattle.sf_asm.specs.Placing.{IsPlacing};
 ghost use Rattle.sf_asm.specs.Sections.{dropped_after, linked_check, placed_section};
+ghost use Rattle.sf_asm.specs.ReadSoFar.{AreSound, ReadsMore};
 ghost use Rattle.elf_groups.specs.Seen.{HasSeen};
-ghost use Rattle.sf_asm.specs.Sources.{functions_lent};
 
 use crate::fault::AsmFault;
 use crate::frames::CallFrameSection;
@@ -109,9 +107,8 @@ fn read_sections<'a>(
     lending: bool,
     read: &mut ReadFunctions<'a>,
 ) -> Result<(), AsmFault>
-    ensures exact { ReadsMore result read.old.entries read.new.entries (sections_functions arch item (map (placed_section (placed_views.placing placed.now) (placed_views.shift_in placed.now)) (placed_views.eh_frames placed.now))) }
-    ensures lent { OnOk result (IsTrue lending → LendsMore (functions_lent read.old.sources.items) (functions_lent read.new.sources.items) (sections_functions arch item (map (placed_section (placed_views.placing placed.now) (placed_views.shift_in placed.now)) (placed_views.eh_frames placed.now)))) }
-    ensures sound { OnOk result (All (IsSound arch) read.old.entries → All (IsSound arch) read.new.entries) }
+    ensures exact { ReadsMore lending result read.old read.new (sections_functions arch item (map (placed_section (placed_views.placing placed.now) (placed_views.shift_in placed.now)) (placed_views.eh_frames placed.now))) }
+    ensures sound { OnOk result (AreSound arch read.old → AreSound arch read.new) }
 {
     let numbers = placed.eh_frames();
     for number in numbers {
@@ -133,11 +130,10 @@ pub fn read_elf<'a>(
     read: &mut ReadFunctions<'a>,
 ) -> Result<Arch, AsmFault>
     requires { length bytes.now < 2 ^ 32 }
-    ensures exact { (signatures : List (List ℕ)) → HasSeen seen.old signatures → ReadsMore result read.old.entries read.new.entries (object_functions item signatures (record { form = Form.Elf; bytes = bytes.now; base = base })) }
-    ensures lent { OnOk result (IsTrue lending → (signatures : List (List ℕ)) → HasSeen seen.old signatures → LendsMore (functions_lent read.old.sources.items) (functions_lent read.new.sources.items) (object_functions item signatures (record { form = Form.Elf; bytes = bytes.now; base = base }))) }
+    ensures exact { (signatures : List (List ℕ)) → HasSeen seen.old signatures → ReadsMore lending result read.old read.new (object_functions item signatures (record { form = Form.Elf; bytes = bytes.now; base = base })) }
     ensures seen { OnOk result ((signatures : List (List ℕ)) → HasSeen seen.old signatures → HasSeen seen.new (seen_after signatures bytes.now)) }
     ensures arch { IfOk result (λ arch. arch ≡ head.arch_of bytes.now) }
-    ensures sound { IfOk result (λ arch. All (IsSound arch) read.old.entries → All (IsSound arch) read.new.entries) }
+    ensures sound { IfOk result (λ arch. AreSound arch read.old → AreSound arch read.new) }
 {
     let elf = parse(bytes)?;
     let placed = place(alloc, &elf, base, seen)?;

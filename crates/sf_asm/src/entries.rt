@@ -1,6 +1,6 @@
 //! The functions that were read, whose rows are kept in one list.
 
-ghost use Rattle.std.specs.Prelude.{◌≡◌, ◌++◌, [], ◌∷◌, IfOk, OnOk, IfErr};
+ghost use Rattle.std.specs.Prelude.{◌≡◌, ◌++◌, [], ◌∷◌, IfOk, OnOk, IfErr, length};
 ghost use Rattle.sf_asm.specs.Entry.{IsSound};
 ghost use Rattle.sf_asm.specs.Heads.{ArePlacesOf, HasRows, entry_in};
 ghost use Rattle.sf_asm.specs.Linking.{InOrder};
@@ -8,7 +8,7 @@ ghost use Rattle.sf_write.specs.declared.stored.StoredFunction.{StoredFunction a
 ghost use Rattle.sf_write.specs.Stored.{IsStored, stored_in};
 
 use crate::entry::{Entry, Head, Outcome};
-use sf_model::{Arch, Omitted, Rows};
+use sf_model::{Arch, Omitted, Rows, Span};
 use sf_write::{StoredFunction, StoredList, StoredRows};
 use std::alloc::{AllocError, Global};
 use std::marker::Model;
@@ -157,6 +157,14 @@ impl Entries {
         }
     }
 
+    /// Counts the functions.
+    #[inline(always)]
+    pub fn len(&self) -> usize
+        ensures { result ≡ length self.now }
+    {
+        self.heads.len()
+    }
+
     /// Adds a function. The memory of its list of rows goes to `spare`.
     #[inline(always)]
     pub fn push(&mut self, arch: Arch, entry: Entry, spare: &mut Rows) -> Result<(), AllocError>
@@ -188,7 +196,6 @@ impl OrderedEntries {
     ghost use Rattle.std.specs.Prelude.{◌<◌, All, get_or, length, map};
     ghost use Rattle.sf_asm.specs.declared.entry.Entry.{Entry as entry};
     ghost use Rattle.sf_asm.specs.Entry.{kept_of, omitted_of};
-    ghost use Rattle.sf_asm.specs.Heads.{IsHeadOf};
 
     /// How many functions there are.
     #[inline(always)]
@@ -198,13 +205,13 @@ impl OrderedEntries {
         self.places.len()
     }
 
-    /// A function without its rows.
+    /// Gives the addresses and the origin of a function.
     #[inline(always)]
-    pub fn head(&self, number: usize) -> &Head
+    pub fn span(&self, number: usize) -> Span
         requires { number < length self.now }
-        ensures { (d : entry) → IsHeadOf (get_or self.now number d) result.now }
+        ensures { (d : entry) → result ≡ (get_or self.now number d).span }
     {
-        &self.heads[self.places[number].index]
+        self.heads[self.places[number].index].span()
     }
 
     /// The functions that are left out.

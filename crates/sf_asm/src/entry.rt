@@ -19,6 +19,22 @@ pub struct Entry {
     pub outcome: Outcome,
 }
 
+impl Entry {
+    ghost use Rattle.std.specs.Prelude.{◌≡◌};
+    ghost use Rattle.sf_asm.specs.Order.{entry_rows};
+
+    /// Counts its rows. A function that is left out has none.
+    #[inline(always)]
+    pub fn row_count(&self) -> usize
+        ensures { result ≡ entry_rows self.now }
+    {
+        match &self.outcome {
+            Outcome::Kept(function) => function.rows.as_slice().len(),
+            Outcome::Left(_) => 0,
+        }
+    }
+}
+
 /// A function that was read, whose rows are kept in the list of all.
 #[derive(Clone, Copy)]
 pub enum Head {
@@ -30,7 +46,7 @@ pub enum Head {
 
 impl Head {
     ghost use Rattle.std.specs.Prelude.{◌≡◌};
-    ghost use Rattle.sf_asm.specs.Heads.{count_in, head_span};
+    ghost use Rattle.sf_asm.specs.Heads.{head_span};
 
     /// Its first address.
     #[inline(always)]
@@ -59,17 +75,6 @@ impl Head {
                 size: omitted.size,
                 origin: omitted.origin,
             },
-        }
-    }
-
-    /// The number of its rows, where it is kept.
-    #[inline(always)]
-    pub fn row_count(&self) -> usize
-        ensures { result ≡ count_in self.now }
-    {
-        match self {
-            Head::Kept(function, _) => function.head.rows as usize,
-            Head::Left(_) => 0,
         }
     }
 }

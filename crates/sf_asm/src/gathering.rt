@@ -10,7 +10,7 @@ ghost use Rattle.sf_asm.specs.declared.fault.GatherFault.TheVariants.{NoMemory};
 ghost use Rattle.sf_asm.specs.Answers.{AreGathered, AreTogether, IsFirstGathered, LendsAll};
 ghost use Rattle.sf_asm.specs.Functions.{functions_of, object_of, unless};
 ghost use Rattle.sf_asm.specs.Inputs.{HaveMachine, first_item as item_of_first};
-ghost use Rattle.sf_asm.specs.Linking.{Gathers, InOrder, functions_fault};
+ghost use Rattle.sf_asm.specs.Linking.{Gathers, InOrder, functions_fault, overlap_fault, overlap_in};
 ghost use Rattle.sf_asm.specs.Sources.{AreWithSources, functions_lent, source_start};
 ghost use Rattle.sf_asm.specs.Fault.{is_gather_answered};
 ghost use Rattle.sf_write.specs.Stored.{IsStored, stored_in};
@@ -20,18 +20,12 @@ use crate::entry::{Entry, Outcome};
 use crate::fault::GatherFault;
 use crate::input::Input;
 use crate::inputs::{one_machine, read_all};
-use crate::read::{AllFunctions, ReadFunctions};
+use crate::read::AllFunctions;
 use crate::source::Source;
 use crate::spans::Overlaps;
 use sf_model::{Arch, Func, Omitted, Span};
 use sf_write::{StoredList, StoredRows};
 use std::alloc::{AllocError, Global};
-
-/// The most functions of one run, omitted ones included.
-const FUNCTION_LIMIT: usize = 1 << 21;
-
-/// The most rows of one run.
-const ROW_LIMIT: usize = 1 << 24;
 
 /// The functions of the inputs.
 #[derive(Drop)]
@@ -82,30 +76,20 @@ struct ReadInOrder<'a> {
     sources: Vec<Source<'a>>,
 }
 
-/// Tries the limits, of functions first and then of rows, and then each function that has bytes against the one
-/// before it, in one pass.
-fn check(entries: &OrderedEntries) -> Result<(), GatherFault>
-    ensures { result ≡ unless (functions_fault entries.now) }
+/// Tries each function that has bytes against the one before it.
+fn check_overlaps(entries: &OrderedEntries) -> Result<(), GatherFault>
+    ensures { result ≡ unless (option_map overlap_fault (overlap_in (spans_of entries.now))) }
 {
-    if entries.len() > FUNCTION_LIMIT {
-        return Err(GatherFault::TooManyFunctions);
-    }
-    let mut total = 0usize;
     let mut overlaps = Overlaps::new();
     for number in 0..entries.len() {
-        let head = entries.head(number);
-        let count = head.row_count();
-        if count > ROW_LIMIT - total {
-            return Err(GatherFault::TooManyRows);
-        }
-        total += count;
-        overlaps.see(head.span());
+        overlaps.see(entries.span(number));
     }
     overlaps.into_result()
 }
 
-/// The functions of all inputs, in order. Where `lending`, those that are left out are lent.
-#[tactic(auto, using(crate::proofs::GatheredInputs::tried, crate::proofs::GatheredInputs::input_refused, crate::proofs::GatheredInputs::machines_refused))]
+/// Reads the functions of all inputs, tries their machines and the limits, brings them into order, and tries overlaps.
+/// Where `lending`, those that are left out are lent.
+#[tactic(auto, using(crate::proofs::GatheredInputs::input_refused))]
 fn ordered<'a>(
     alloc: Global,
     inputs: &[Input<'a>],
@@ -123,13 +107,13 @@ fn ordered<'a>(
 {
     let AllFunctions { machines, read } = read_all(alloc, first_item(before), inputs, lending)?;
     let arch = one_machine(before, &machines)?;
-    let ReadFunctions { entries, sources } = read;
-    let entries = entries.in_order(alloc)?;
-    check(&entries)?;
+    let held = read.within_limits()?;
+    let entries = held.entries.in_order(alloc)?;
+    check_overlaps(&entries)?;
     Ok(ReadInOrder {
         arch,
         entries,
-        sources,
+        sources: held.sources,
     })
 }
 

@@ -1,16 +1,14 @@
 //! All inputs, one behind the other: their functions, and their one machine.
 
-ghost use Rattle.std.specs.Prelude.{IsTrue, ◌≡◌, ◌⊎◌, ◌≤◌, ◌<◌, ◌^◌, ℕ, List, All, length, map, not, Ok, Err, IfOk, IfErr, OnOk, position};
+ghost use Rattle.std.specs.Prelude.{◌≡◌, ◌⊎◌, ◌≤◌, ◌<◌, ◌^◌, ℕ, List, All, length, map, not, Ok, Err, IfOk, IfErr, OnOk, position};
 ghost use Rattle.sf_model.specs.declared.machine.Arch.{Arch as machine};
-ghost use Rattle.sf_asm.specs.Answers.{LendsAll, LendsMore, after_read, seen_as};
-ghost use Rattle.sf_asm.specs.Entry.{IsSound};
+ghost use Rattle.sf_asm.specs.Answers.{seen_as};
 ghost use Rattle.sf_asm.specs.declared.fault.GatherFault.TheVariants.{Input as RefusedInput, NoMemory};
 ghost use Rattle.sf_asm.specs.Fault.{wraps_input};
-ghost use Rattle.sf_asm.specs.Functions.{functions_of, machine_of, named, object_functions, object_of, seen_behind, unless};
+ghost use Rattle.sf_asm.specs.Functions.{Function, functions_of, machine_of, named, object_functions, object_of, seen_behind, unless};
 ghost use Rattle.sf_asm.specs.Inputs.{is_same, mixed_among, with_before};
-ghost use Rattle.sf_asm.specs.Kept.{entry_of};
+ghost use Rattle.sf_asm.specs.ReadSoFar.{AreRead, AreSound, ReadsAll};
 ghost use Rattle.elf_groups.specs.Seen.{HasSeen};
-ghost use Rattle.sf_asm.specs.Sources.{functions_lent};
 
 use crate::fault::{AsmFault, GatherFault};
 use crate::input::Input;
@@ -41,11 +39,10 @@ fn read_item<'a>(
     read: &mut ReadFunctions<'a>,
 ) -> Result<Arch, GatherFault>
     requires { length input.now.bytes.now < 2 ^ 32 }
-    ensures reads { OnOk result ((signatures : List (List ℕ)) → HasSeen seen.old signatures → after_read read.old.entries (seen_as (map entry_of) (object_functions item signatures (object_of input.now))) ≡ Ok read.new.entries) }
-    ensures lent { OnOk result (IsTrue lending → (signatures : List (List ℕ)) → HasSeen seen.old signatures → LendsMore (functions_lent read.old.sources.items) (functions_lent read.new.sources.items) (object_functions item signatures (object_of input.now))) }
+    ensures reads { OnOk result ((signatures : List (List ℕ)) → HasSeen seen.old signatures → ReadsAll lending read.old read.new (object_functions item signatures (object_of input.now))) }
     ensures seen { OnOk result ((signatures : List (List ℕ)) → HasSeen seen.old signatures → HasSeen seen.new (seen_behind signatures (object_of input.now))) }
     ensures arch { IfOk result (λ arch. arch ≡ machine_of (object_of input.now)) }
-    ensures sound { IfOk result (λ arch. All (IsSound arch) read.old.entries → All (IsSound arch) read.new.entries) }
+    ensures sound { IfOk result (λ arch. AreSound arch read.old → AreSound arch read.new) }
     ensures fault { IfErr result (λ fault. (signatures : List (List ℕ)) → HasSeen seen.old signatures → (fault ≡ NoMemory) ⊎ (named (RefusedInput item) (object_functions item signatures (object_of input.now)) ≡ Err fault)) }
 {
     match read_input(alloc, item, input, lending, seen, read) {
@@ -54,8 +51,8 @@ fn read_item<'a>(
     }
 }
 
-/// The functions of all inputs, as they stand in them, and the machine of each. The inputs are numbered
-/// from `first` on. Where `lending`, those that are left out are lent.
+/// Reads the functions of all inputs, as they are in them, and the machine of each. The inputs are numbered
+/// from `first` on. Where `lending`, those that are left out are lent. Past a limit functions are counted alone.
 pub fn read_all<'a>(
     alloc: Global,
     first: u32,
@@ -64,10 +61,9 @@ pub fn read_all<'a>(
 ) -> Result<AllFunctions<'a>, GatherFault>
     requires few { (first ≤ 1) × (length inputs.now ≤ 512) }
     requires small { All (λ input. length input.bytes.now < 2 ^ 32) inputs.now }
-    ensures reads { IfOk result (λ all. seen_as (map entry_of) (functions_of first (map object_of inputs.now)) ≡ Ok all.read.entries) }
-    ensures lent { IfOk result (λ all. IsTrue lending → LendsAll (functions_lent all.read.sources.items) (functions_of first (map object_of inputs.now))) }
+    ensures reads { IfOk result (λ all. (functions : List Function) × (functions_of first (map object_of inputs.now) ≡ Ok functions) × AreRead lending all.read functions) }
     ensures machines { IfOk result (λ all. all.machines.items ≡ map machine_of (map object_of inputs.now)) }
-    ensures sound { IfOk result (λ all. (arch : machine) → All (λ machine. machine ≡ arch) all.machines.items → All (IsSound arch) all.read.entries) }
+    ensures sound { IfOk result (λ all. (arch : machine) → All (λ machine. machine ≡ arch) all.machines.items → AreSound arch all.read) }
     ensures fault { IfErr result (λ fault. (fault ≡ NoMemory) ⊎ (functions_of first (map object_of inputs.now) ≡ Err fault)) }
 {
     let mut seen = Seen::new(alloc);

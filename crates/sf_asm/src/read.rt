@@ -1,20 +1,46 @@
-//! The functions that were read of inputs.
+//! The functions that were read of inputs, within the limits of a run.
 
-ghost use Rattle.std.specs.Prelude.{◌≡◌, []};
+ghost use Rattle.std.specs.Prelude.{◌≡◌, ◌≤◌, ◌<◌, ◌+◌, ◌^◌, ◌&&◌, ◌++◌, [], ◌∷◌, List, Bool, IfOk, IfErr, OnOk, length, map, min, nat_le, nat_lt, Some};
+ghost use Rattle.sf_asm.specs.declared.read.ReadFunctions.TheVariants.{Within, Past};
+ghost use Rattle.sf_asm.specs.Entry.{IsSound};
+ghost use Rattle.sf_asm.specs.Functions.{Function};
+ghost use Rattle.sf_asm.specs.Kept.{entry_of};
+ghost use Rattle.sf_asm.specs.Linking.{limits_fault};
+ghost use Rattle.sf_asm.specs.Order.{entry_rows};
+ghost use Rattle.sf_asm.specs.ReadSoFar.{AreRead, counted_in};
 
 use crate::entries::Entries;
+use crate::entry::Entry;
+use crate::fault::GatherFault;
 use crate::source::Source;
-use sf_model::Arch;
-use std::alloc::Global;
+use sf_model::{Arch, Rows};
+use std::alloc::{AllocError, Global};
 
-/// The functions that were read.
+/// The most functions of one run, omitted ones included.
+const FUNCTION_LIMIT: usize = 1 << 21;
+
+/// The most rows of one run.
+const ROW_LIMIT: usize = 1 << 24;
+
+/// The functions that were read, where they are within the limits.
 #[derive(Drop)]
-pub struct ReadFunctions<'a> {
+pub struct HeldFunctions<'a> {
     /// The functions, in the order of the inputs, sections and records.
     pub entries: Entries,
-    /// Those of them that are left out, as their records say them, in the same order; none where they need not be
-    /// lent.
+    /// How many rows more there may be.
+    pub rows_left: usize,
+    /// Those of them that are left out, as their records say them, in the same order, if they are to be lent.
     pub sources: Vec<Source<'a>>,
+}
+
+/// The functions that were read. Past a limit they are counted alone and nothing of them is held. They are still read,
+/// since each fault of a later input comes before the limits.
+#[derive(Drop)]
+pub enum ReadFunctions<'a> {
+    /// There are no more functions, and no more rows, than the limits allow.
+    Within(HeldFunctions<'a>),
+    /// There are more. This is the number of functions; a number above the limit counts as one above it.
+    Past(usize),
 }
 
 /// The functions that were read of all inputs.
@@ -26,15 +52,76 @@ pub struct AllFunctions<'a> {
     pub read: ReadFunctions<'a>,
 }
 
-impl<'a> ReadFunctions<'a> {
-    /// No functions.
-    pub fn new(alloc: Global) -> ReadFunctions<'a>
-        ensures entries { result.entries ≡ [] }
-        ensures sources { result.sources.items ≡ [] }
+impl<'a> HeldFunctions<'a> {
+    /// Tells whether the limits allow one function more, with its rows.
+    #[inline(always)]
+    pub fn has_room(&self, entry: &Entry) -> bool
+        ensures { result ≡ (nat_lt (length self.now.entries) (2 ^ 21) && nat_le (entry_rows entry.now) self.now.rows_left) }
     {
-        ReadFunctions {
+        self.entries.len() < FUNCTION_LIMIT && entry.row_count() <= self.rows_left
+    }
+
+    /// Adds a function that there is room for. The memory of its list of rows goes to `spare`.
+    #[inline(always)]
+    pub fn add(&mut self, arch: Arch, entry: Entry, spare: &mut Rows) -> Result<(), AllocError>
+        requires sound { IsSound arch entry }
+        requires room { entry_rows entry ≤ self.old.rows_left }
+        ensures entries { OnOk result (self.new.entries ≡ self.old.entries ++ entry ∷ []) }
+        ensures rows { OnOk result (self.new.rows_left + entry_rows entry ≡ self.old.rows_left) }
+        ensures sources { OnOk result (self.new.sources ≡ self.old.sources) }
+    {
+        let count = entry.row_count();
+        self.entries.push(arch, entry, spare)?;
+        self.rows_left -= count;
+        Ok(())
+    }
+}
+
+impl<'a> ReadFunctions<'a> {
+    /// Makes an empty list of functions.
+    pub fn new(alloc: Global) -> ReadFunctions<'a>
+        ensures { (lending : Bool) → AreRead lending result [] }
+    {
+        ReadFunctions::Within(HeldFunctions {
             entries: Entries::new(alloc),
+            rows_left: ROW_LIMIT,
             sources: Vec::new(alloc),
+        })
+    }
+
+    /// Gives the number of functions, as far as they are counted.
+    fn counted(&self) -> usize
+        ensures { result ≡ counted_in self.now }
+    {
+        match self {
+            ReadFunctions::Within(held) => held.entries.len(),
+            ReadFunctions::Past(count) => *count,
+        }
+    }
+
+    /// Counts one function more, which there is no room for. Those that were held are dropped.
+    pub fn count(&mut self)
+        ensures { self.new ≡ Past (min (counted_in self.old) (2 ^ 21) + 1) }
+    {
+        *self = ReadFunctions::Past(self.counted().min(FUNCTION_LIMIT) + 1);
+    }
+
+    /// Hands over the functions.
+    ///
+    /// # Errors
+    ///
+    /// The limit that they exceed, of functions first, and then of rows.
+    pub fn within_limits(self) -> Result<HeldFunctions<'a>, GatherFault>
+        ensures held { IfOk result (λ held. self.entry ≡ Within held) }
+        ensures fault { IfErr result (λ fault. (lending : Bool) (functions : List Function) → AreRead lending self.entry functions → limits_fault (map entry_of functions) ≡ Some fault) }
+    {
+        match self {
+            ReadFunctions::Within(held) => Ok(held),
+            ReadFunctions::Past(count) => Err(if count > FUNCTION_LIMIT {
+                GatherFault::TooManyFunctions
+            } else {
+                GatherFault::TooManyRows
+            }),
         }
     }
 }

@@ -1,11 +1,9 @@
 //! The functions of one input, in the order of its sections and records.
 
-ghost use Rattle.std.specs.Prelude.{IsTrue, ◌≡◌, ◌<◌, ◌^◌, ℕ, List, All, [], ◌∷◌, length, IfOk, OnOk};
-ghost use Rattle.sf_asm.specs.Answers.{LendsMore, ReadsMore};
-ghost use Rattle.sf_asm.specs.Entry.{IsSound};
+ghost use Rattle.std.specs.Prelude.{◌≡◌, ◌<◌, ◌^◌, ℕ, List, [], ◌∷◌, length, IfOk, OnOk};
 ghost use Rattle.sf_asm.specs.Functions.{bare_section, machine_of, object_functions, object_of, sections_functions, seen_behind};
+ghost use Rattle.sf_asm.specs.ReadSoFar.{AreSound, ReadsMore};
 ghost use Rattle.elf_groups.specs.Seen.{HasSeen};
-ghost use Rattle.sf_asm.specs.Sources.{functions_lent};
 
 use crate::elf::read_elf;
 use crate::fault::AsmFault;
@@ -30,9 +28,8 @@ fn read_bare<'a>(
     read: &mut ReadFunctions<'a>,
 ) -> Result<(), AsmFault>
     requires { length input.now.bytes.now < 2 ^ 32 }
-    ensures exact { ReadsMore result read.old.entries read.new.entries (sections_functions arch item (bare_section input.now.bytes.now input.now.base ∷ [])) }
-    ensures lent { OnOk result (IsTrue lending → LendsMore (functions_lent read.old.sources.items) (functions_lent read.new.sources.items) (sections_functions arch item (bare_section input.now.bytes.now input.now.base ∷ []))) }
-    ensures sound { OnOk result (All (IsSound arch) read.old.entries → All (IsSound arch) read.new.entries) }
+    ensures exact { ReadsMore lending result read.old read.new (sections_functions arch item (bare_section input.now.bytes.now input.now.base ∷ [])) }
+    ensures sound { OnOk result (AreSound arch read.old → AreSound arch read.new) }
 {
     let section = CallFrameSection {
         arch,
@@ -56,11 +53,10 @@ pub fn read_input<'a>(
     read: &mut ReadFunctions<'a>,
 ) -> Result<Arch, AsmFault>
     requires { length input.now.bytes.now < 2 ^ 32 }
-    ensures exact { (signatures : List (List ℕ)) → HasSeen seen.old signatures → ReadsMore result read.old.entries read.new.entries (object_functions item signatures (object_of input.now)) }
-    ensures lent { OnOk result (IsTrue lending → (signatures : List (List ℕ)) → HasSeen seen.old signatures → LendsMore (functions_lent read.old.sources.items) (functions_lent read.new.sources.items) (object_functions item signatures (object_of input.now))) }
+    ensures exact { (signatures : List (List ℕ)) → HasSeen seen.old signatures → ReadsMore lending result read.old read.new (object_functions item signatures (object_of input.now)) }
     ensures seen { OnOk result ((signatures : List (List ℕ)) → HasSeen seen.old signatures → HasSeen seen.new (seen_behind signatures (object_of input.now))) }
     ensures arch { IfOk result (λ arch. arch ≡ machine_of (object_of input.now)) }
-    ensures sound { IfOk result (λ arch. All (IsSound arch) read.old.entries → All (IsSound arch) read.new.entries) }
+    ensures sound { IfOk result (λ arch. AreSound arch read.old → AreSound arch read.new) }
 {
     match input.form {
         Form::Elf => read_elf(alloc, item, input.bytes, input.base, lending, seen, read),

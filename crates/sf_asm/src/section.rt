@@ -16,13 +16,14 @@ ghost use Rattle.elf_reloc.specs.declared.fault.RelocFault.{RelocFault as reloc_
 ghost use Rattle.elf_reloc.specs.declared.fix.RelocatedField.{RelocatedField};
 ghost use Rattle.sf_express.specs.Expressed.{function_by};
 ghost use Rattle.sf_express.specs.Run.{on_rows};
-ghost use Rattle.sf_asm.specs.Answers.{IsRecordsFault, IsRelocFault, IsRowsFault, LendsMore, ReadsMore, ReadsOne};
+ghost use Rattle.sf_asm.specs.Answers.{IsRecordsFault, IsRelocFault, IsRowsFault, ReadsOne};
 ghost use Rattle.sf_asm.specs.Entry.{IsSound};
 ghost use Rattle.sf_asm.specs.Fault.{wraps_record, wraps_reloc, wraps_machine};
 ghost use Rattle.sf_asm.specs.declared.fault.AsmFault.TheVariants.{NoMemory, Record};
 ghost use Rattle.sf_asm.specs.Functions.{function_in, functions_in, named, section_functions, span_in};
 ghost use Rattle.sf_asm.specs.Initials.{AreInitial};
-ghost use Rattle.sf_asm.specs.Kept.{outcome_by};
+ghost use Rattle.sf_asm.specs.Kept.{entry_of, outcome_by};
+ghost use Rattle.sf_asm.specs.ReadSoFar.{AreSound, Reads, ReadsMore};
 ghost use Rattle.sf_asm.specs.Relocated.{pointer_check};
 ghost use Rattle.sf_asm.specs.Sources.{function_by_span, functions_lent, if_left};
 ghost use Rattle.sf_asm.specs.Views.{AreChecked, IsReadFrom, overlaid, relocations_by, seen_section, written_by};
@@ -295,7 +296,41 @@ fn read_function<'a>(
     Ok(Entry { span, outcome })
 }
 
-/// The functions of the records, after those that were read before.
+/// Adds a function to those that were read. Past a limit it is counted alone.
+#[inline(always)]
+fn add_function<'a>(
+    section: &CallFrameSection<'a>,
+    fde: &Fde<'a>,
+    entry: Entry,
+    lending: bool,
+    initials: &mut Initials,
+    spare: &mut Rows,
+    read: &mut ReadFunctions<'a>,
+) -> Result<(), AsmFault>
+    requires key { IsTrue (key_fits section.now.arch fde.now.cie.key) }
+    requires initials { AreInitial section.now.arch section.now.bytes.now initials.old }
+    requires named { HasNamed section.now.arch section.now.bytes.now (fde_view fde.now) }
+    requires end { entry.span.start + entry.span.size ≤ 2 ^ 64 }
+    requires ran { is_ok (rows_by section.now.arch fde.now.cie.code fde.now.cie.factor entry.span.size (listing (cursor fde.now.cie.insns)) (listing (cursor fde.now.insns))) ≡ true }
+    requires sound { IsSound section.now.arch entry }
+    requires function { entry_of (function_by_span section.now.arch fde.now entry.span) ≡ entry }
+    ensures initials { OnOk result (AreInitial section.now.arch section.now.bytes.now initials.new) }
+    ensures reads { OnOk result (Reads lending read.old read.new (function_by_span section.now.arch fde.now entry.span ∷ [])) }
+    ensures sound { OnOk result (AreSound section.now.arch read.old → AreSound section.now.arch read.new) }
+    ensures refused { IfErr result (λ fault. fault ≡ NoMemory) }
+{
+    if let ReadFunctions::Within(held) = read {
+        if held.has_room(&entry) {
+            lend(section, fde, &entry, lending, initials, &mut held.sources)?;
+            held.add(section.arch, entry, spare)?;
+            return Ok(());
+        }
+    }
+    read.count();
+    Ok(())
+}
+
+/// Reads the functions of the records, after those that were read before.
 fn read_frames<'a>(
     alloc: Global,
     section: &CallFrameSection<'a>,
@@ -306,9 +341,8 @@ fn read_frames<'a>(
 ) -> Result<(), AsmFault>
     requires machine { machine_of_records records.now ≡ section.now.arch }
     requires bytes { bytes_of_records records.now ≡ section.now.bytes.now }
-    ensures exact { (relocations : Result (List RelocatedField) reloc_fault) → ReadsMore result read.old.entries read.new.entries (functions_in section.now.arch section.now.item (seen_section section.now relocations) (overlaid (written_by overlay.now)) (frames (entries_of_records records.now))) }
-    ensures lent { OnOk result (IsTrue lending → (relocations : Result (List RelocatedField) reloc_fault) → LendsMore (functions_lent read.old.sources.items) (functions_lent read.new.sources.items) (functions_in section.now.arch section.now.item (seen_section section.now relocations) (overlaid (written_by overlay.now)) (frames (entries_of_records records.now)))) }
-    ensures sound { OnOk result (All (IsSound section.now.arch) read.old.entries → All (IsSound section.now.arch) read.new.entries) }
+    ensures exact { (relocations : Result (List RelocatedField) reloc_fault) → ReadsMore lending result read.old read.new (functions_in section.now.arch section.now.item (seen_section section.now relocations) (overlaid (written_by overlay.now)) (frames (entries_of_records records.now))) }
+    ensures sound { OnOk result (AreSound section.now.arch read.old → AreSound section.now.arch read.new) }
 {
     let mut initials = Initials::new(alloc);
     let mut run = Runner::new();
@@ -326,21 +360,21 @@ fn read_frames<'a>(
             &mut run,
             &mut spare,
         )?;
-        lend(
+        add_function(
             section,
             &fde,
-            &entry,
+            entry,
             lending,
             &mut initials,
-            &mut read.sources,
+            &mut spare,
+            read,
         )?;
-        read.entries.push(section.arch, entry, &mut spare)?;
     }
     Ok(())
 }
 
-/// The functions of a section of a file, or of none, after those that were read before. Where `lending`, those that
-/// are left out are lent.
+/// Reads the functions of a section of a file, or of none, after those that were read before. Where `lending`, those
+/// that are left out are lent.
 pub fn read_section<'a>(
     alloc: Global,
     section: &CallFrameSection<'a>,
@@ -348,9 +382,8 @@ pub fn read_section<'a>(
     lending: bool,
     read: &mut ReadFunctions<'a>,
 ) -> Result<(), AsmFault>
-    ensures exact { ReadsMore result read.old.entries read.new.entries (section_functions section.now.arch section.now.item (seen_section section.now (relocations_by (option_map (λ p. placing p.now) placed.entry) section.now.number))) }
-    ensures lent { OnOk result (IsTrue lending → LendsMore (functions_lent read.old.sources.items) (functions_lent read.new.sources.items) (section_functions section.now.arch section.now.item (seen_section section.now (relocations_by (option_map (λ p. placing p.now) placed.entry) section.now.number)))) }
-    ensures sound { OnOk result (All (IsSound section.now.arch) read.old.entries → All (IsSound section.now.arch) read.new.entries) }
+    ensures exact { ReadsMore lending result read.old read.new (section_functions section.now.arch section.now.item (seen_section section.now (relocations_by (option_map (λ p. placing p.now) placed.entry) section.now.number))) }
+    ensures sound { OnOk result (AreSound section.now.arch read.old → AreSound section.now.arch read.new) }
 {
     let records = records_of(alloc, section)?;
     let overlay = overlay_of(alloc, placed, section.number)?;

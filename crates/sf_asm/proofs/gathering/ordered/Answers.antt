@@ -1,25 +1,47 @@
-use Rattle.std.proofs.Common.{None, Some, inr, map, ◌∙◌}
-use Rattle.std.proofs.lemmas.Result.{err_from_is_err_and}
-use Rattle.sf_asm.specs.Functions.{object_of}
-use Rattle.sf_asm.specs.Linking.{functions_fault}
-use Rattle.sf_asm.proofs.GatheredInputs.{none_if, some_if, tried_by}
+use Rattle.std.proofs.Common.{inr, map, subst, ◌∙◌}
 use Rattle.std.proofs.lemmas.List.Sorted.{All-permutation}
+use Rattle.std.proofs.lemmas.Result.{err_from_is_err_and}
 use Rattle.sf_asm.specs.Entry.{IsSound}
+use Rattle.sf_asm.specs.Functions.{object_of}
+use Rattle.sf_asm.specs.ReadSoFar.{AreSound}
 use Rattle.sf_asm.proofs.Machines.{inputs_have}
+use Rattle.sf_asm.proofs.WithinLimits.{checked, gathered, machines_differ, overlapping, past_limit}
 use Rattle.sf_asm.proofs.gathering.ordered.Goals as goal
 
-pub returns-clause-sound : goal.returns-clause-sound
-returns-clause-sound c =
-    All-permutation (IsSound c.in_ok-arch.arch) _ _ c.in_ok-entries.ensures.moved
-    (c.in_ok-machines.ensures.sound c.in_ok-arch.arch (inputs_have c.args.before c.in_ok-arch.arch c.in_ok-machines.field-0.machines.items (rw c.deref.ensures.value at c.in_ok-arch.ensures.one)))
+pub returns-in_err-arch-clause-fault : goal.returns-in_err-arch-clause-fault
+returns-in_err-arch-clause-fault c =
+    let p = err_from_is_err_and c.from_residual-in_err-arch.result c.from_residual-in_err-arch.ensures.1 in
+    rw (p.1, p.2)
+    (inr (machines_differ c.args.before (map object_of c.args.inputs.now) c.first_item.result c.args.lending c.in_ok-machines.field-0.read c.deref.result.now c.first_item.ensures (c.deref.ensures.value ∙ c.in_ok-machines.ensures.machines) c.in_ok-machines.ensures.reads
+    c.in_err-arch.field-0.0 c.in_err-arch.ensures.exact))
+
+pub returns-in_err-held-clause-fault : goal.returns-in_err-held-clause-fault
+returns-in_err-held-clause-fault c =
+    let p = err_from_is_err_and c.from_residual-in_err-held.result c.from_residual-in_err-held.ensures.1 in
+    let all = c.in_ok-machines.ensures.reads in
+    rw (p.1, p.2)
+    (inr (past_limit c.args.before (map object_of c.args.inputs.now) c.first_item.result c.args.lending c.in_ok-machines.field-0.read c.deref.result.now c.first_item.ensures (c.deref.ensures.value ∙ c.in_ok-machines.ensures.machines) c.in_ok-arch.ensures.exact all
+    c.in_err-held.field-0.0 (c.in_err-held.ensures.fault c.args.lending all.0 all.2)))
+
+pub returns-in_err-check_overlaps-clause-fault : goal.returns-in_err-check_overlaps-clause-fault
+returns-in_err-check_overlaps-clause-fault c =
+    let p = err_from_is_err_and c.from_residual-in_err-check_overlaps.result c.from_residual-in_err-check_overlaps.ensures.1 in
+    rw (p.1, p.2)
+    (inr (overlapping c.args.before (map object_of c.args.inputs.now) c.first_item.result c.args.lending c.in_ok-machines.field-0.read c.deref.result.now c.first_item.ensures (c.deref.ensures.value ∙ c.in_ok-machines.ensures.machines) c.in_ok-arch.ensures.exact c.in_ok-machines.ensures.reads
+    c.in_ok-held.held c.in_ok-entries.entries c.in_ok-held.ensures.held c.in_ok-entries.ensures c.in_err-check_overlaps.field-0.0 c.in_err-check_overlaps.ensures))
 
 pub returns-clause-gathered : goal.returns-clause-gathered
 returns-clause-gathered c =
-    tried_by c.args.before (map object_of c.args.inputs.now) c.first_item.result c.in_ok-machines.field-0.read.entries c.in_ok-entries.entries c.deref.result.now tt None c.first_item.ensures c.in_ok-machines.ensures.reads
-    (c.deref.ensures.value ∙ c.in_ok-machines.ensures.machines) c.in_ok-arch.ensures.exact c.in_ok-entries.ensures (none_if (functions_fault c.in_ok-entries.entries) c.in_ok-check.field-0 c.in_ok-check.ensures)
+    gathered c.args.before (map object_of c.args.inputs.now) c.first_item.result c.args.lending c.in_ok-machines.field-0.read c.deref.result.now c.first_item.ensures (c.deref.ensures.value ∙ c.in_ok-machines.ensures.machines) c.in_ok-arch.ensures.exact c.in_ok-machines.ensures.reads
+    c.in_ok-held.held c.in_ok-entries.entries c.in_ok-held.ensures.held c.in_ok-entries.ensures c.in_ok-check_overlaps.ensures
 
-pub returns-in_err-check-clause-fault : goal.returns-in_err-check-clause-fault
-returns-in_err-check-clause-fault c =
-    let p = err_from_is_err_and c.from_residual-in_err-check.result c.from_residual-in_err-check.ensures.1 in
-    rw (p.1, p.2) (inr (tried_by c.args.before (map object_of c.args.inputs.now) c.first_item.result c.in_ok-machines.field-0.read.entries c.in_ok-entries.entries c.deref.result.now tt (Some c.in_err-check.field-0.0) c.first_item.ensures
-    c.in_ok-machines.ensures.reads (c.deref.ensures.value ∙ c.in_ok-machines.ensures.machines) c.in_ok-arch.ensures.exact c.in_ok-entries.ensures (some_if (functions_fault c.in_ok-entries.entries) c.in_err-check.field-0.0 c.in_err-check.ensures)))
+pub returns-clause-checked : goal.returns-clause-checked
+returns-clause-checked c =
+    checked c.args.before (map object_of c.args.inputs.now) c.first_item.result c.args.lending c.in_ok-machines.field-0.read c.deref.result.now c.first_item.ensures (c.deref.ensures.value ∙ c.in_ok-machines.ensures.machines) c.in_ok-arch.ensures.exact c.in_ok-machines.ensures.reads
+    c.in_ok-held.held c.in_ok-entries.entries c.in_ok-held.ensures.held c.in_ok-entries.ensures c.in_ok-check_overlaps.ensures
+
+pub returns-clause-sound : goal.returns-clause-sound
+returns-clause-sound c =
+    let arch = c.in_ok-arch.arch in
+    let sound = c.in_ok-machines.ensures.sound arch (inputs_have c.args.before arch c.in_ok-machines.field-0.machines.items (rw c.deref.ensures.value at c.in_ok-arch.ensures.one)) in
+    All-permutation (IsSound arch) _ _ c.in_ok-entries.ensures.moved (subst (AreSound arch) c.in_ok-held.ensures.held sound)

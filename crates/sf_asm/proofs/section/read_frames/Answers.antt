@@ -1,6 +1,6 @@
-use Rattle.std.proofs.Common.{◌≡◌, ℕ, List, [], ◌∷◌, map, ap, sym, subst, ◌∙◌}
+use Rattle.std.proofs.Common.{◌≡◌, ℕ, List, ◌∷◌, Ok, [], ap, sym, subst, ◌∙◌}
 use Rattle.std.specs.List.{All}
-use Rattle.std.proofs.lemmas.List.Elements.{All-append, All-from_recursion, All-tail}
+use Rattle.std.proofs.lemmas.List.Elements.{All-tail}
 use Rattle.std.specs.Prelude.{IsTrue}
 use Rattle.sf_model.specs.Function.{key_fits}
 use Rattle.sf_model.specs.declared.machine.Arch.{Arch}
@@ -8,15 +8,12 @@ use Rattle.eh_records.specs.Fde.{FdeView, fde_view}
 use Rattle.eh_records.specs.Named.{HasNamed}
 use Rattle.eh_records.specs.Section.{frames}
 use Rattle.eh_records.specs.View.{bytes_of, entries, frames_left}
-use Rattle.sf_asm.specs.declared.entry.Entry.{Entry}
-use Rattle.sf_asm.specs.Answers.{after_read, seen_as}
-use Rattle.sf_asm.specs.Entry.{IsSound}
-use Rattle.sf_asm.specs.Functions.{Function, functions_in}
-use Rattle.sf_asm.specs.Kept.{entry_of, omitted_functions}
-use Rattle.sf_asm.specs.Sources.{function_by_span, functions_lent, if_left}
+use Rattle.sf_asm.specs.Functions.{functions_in}
+use Rattle.sf_asm.specs.Sources.{function_by_span}
 use Rattle.sf_asm.specs.Views.{overlaid, seen_section, written_by}
-use Rattle.sf_asm.proofs.ReadFunctions.{read_of, goes_on, passes_on, entries_listwise, one_entry}
-use Rattle.sf_asm.proofs.Lending.{omitted_listwise, one_lent}
+use Rattle.sf_asm.proofs.Lending.{one_entry}
+use Rattle.sf_asm.proofs.ReadFunctions.{kept_on, passed_on}
+use Rattle.sf_asm.proofs.ReadSoFar.{begins, goes_on, is_done, passes_on, then_more}
 use Rattle.sf_asm.proofs.section.read_frames.Goals as goal
 
 pub loop-fde-init : goal.loop-fde-init
@@ -32,8 +29,7 @@ loop-fde-init c =
       keys = subst (λ (fs : List FdeView). All (λ (f : FdeView). IsTrue (key_fits c.args.section.now.arch f.cie.key)) fs) (sym left) keys;
       named = subst (λ (fs : List FdeView). All (HasNamed c.args.section.now.arch c.args.section.now.bytes.now) fs) (sym left) named;
       initials = c.new-initials.ensures c.args.section.now.arch c.args.section.now.bytes.now;
-      reads = λ relocations. ap (λ (fs : List FdeView). after_read c.args.read.now.entries (read_of c.args.section.now.arch c.args.section.now.item (seen_section c.args.section.now relocations) (overlaid (written_by c.args.overlay.now)) fs)) left;
-      lent = λ asked relocations. ap (λ (fs : List FdeView). after_read (functions_lent c.args.read.now.sources.items) (seen_as omitted_functions (functions_in c.args.section.now.arch c.args.section.now.item (seen_section c.args.section.now relocations) (overlaid (written_by c.args.overlay.now)) fs))) left;
+      reads = λ relocations. begins c.args.lending c.args.read.now _ _ (ap (functions_in c.args.section.now.arch c.args.section.now.item (seen_section c.args.section.now relocations) (overlaid (written_by c.args.overlay.now))) left);
     }
 
 pub loop-fde-preserved-then-dropped : goal.loop-fde-preserved-then-dropped
@@ -46,32 +42,39 @@ loop-fde-preserved-then-dropped c =
       keys = All-tail (λ (f : FdeView). IsTrue (key_fits c.args.section.now.arch f.cie.key)) (fde_view c.in-Some.fde) (frames_left c.next.new.self) keys;
       named = All-tail (HasNamed c.args.section.now.arch c.args.section.now.bytes.now) (fde_view c.in-Some.fde) (frames_left c.next.new.self) named;
       initials = c.loop-fde.invariant.initials;
-      reads = λ relocations. passes_on (map entry_of) c.args.section.now.arch c.args.section.now.item (seen_section c.args.section.now relocations) (overlaid (written_by c.args.overlay.now)) c.loop-fde.read.entries (fde_view c.in-Some.fde) (frames_left c.loop-fde.fde-iterator) (frames_left c.next.new.self) _ left (sym c.dropped.ensures ∙ c.if-dropped.true) (c.loop-fde.invariant.reads relocations);
-      lent = λ asked relocations. passes_on omitted_functions c.args.section.now.arch c.args.section.now.item (seen_section c.args.section.now relocations) (overlaid (written_by c.args.overlay.now)) (functions_lent c.loop-fde.read.sources.items) (fde_view c.in-Some.fde) (frames_left c.loop-fde.fde-iterator) (frames_left c.next.new.self) _ left (sym c.dropped.ensures ∙ c.if-dropped.true) (c.loop-fde.invariant.lent asked relocations);
+      reads = λ relocations.
+          let section = seen_section c.args.section.now relocations in
+          let values = overlaid (written_by c.args.overlay.now) in
+          passes_on c.args.lending c.args.read.now c.loop-fde.read _ _ _ (c.loop-fde.invariant.reads relocations)
+          (ap (functions_in c.args.section.now.arch c.args.section.now.item section values) left
+          ∙ passed_on c.args.section.now.arch c.args.section.now.item section values (fde_view c.in-Some.fde) (frames_left c.next.new.self) (sym c.dropped.ensures ∙ c.if-dropped.true));
     }
+
+pub add_function-requires-clause-function : goal.add_function-requires-clause-function
+add_function-requires-clause-function c = one_entry _ c.in_ok-entry.entry _ (c.in_ok-entry.ensures.exact (Ok [])) (c.in_ok-entry.ensures.function (Ok []))
 
 pub loop-fde-preserved : goal.loop-fde-preserved
 loop-fde-preserved c =
     let left : frames_left c.loop-fde.fde-iterator ≡ fde_view c.in-Some.fde ∷ frames_left c.next.new.self = c.in-Some.ensures.steps in
     let keys : All (λ (f : FdeView). IsTrue (key_fits c.args.section.now.arch f.cie.key)) (fde_view c.in-Some.fde ∷ frames_left c.next.new.self) = rw left at c.loop-fde.invariant.keys in
     let named : All (HasNamed c.args.section.now.arch c.args.section.now.bytes.now) (fde_view c.in-Some.fde ∷ frames_left c.next.new.self) = rw left at c.loop-fde.invariant.named in
-    let entry = c.in_ok-entry.entry in
+    let f = function_by_span c.args.section.now.arch c.in-Some.fde c.in_ok-entry.entry.span in
     record {
-      sound = λ h. subst (All (IsSound c.args.section.now.arch)) (sym c.in_ok-push.ensures) (All-append (IsSound c.args.section.now.arch) c.loop-fde.read.entries (entry ∷ []) (c.loop-fde.invariant.sound h) (All-from_recursion (IsSound c.args.section.now.arch) (entry ∷ []) (c.in_ok-entry.ensures.sound, tt)));
+      sound = λ h. c.in_ok-add_function.ensures.sound (c.loop-fde.invariant.sound h);
       keys = All-tail (λ (f : FdeView). IsTrue (key_fits c.args.section.now.arch f.cie.key)) (fde_view c.in-Some.fde) (frames_left c.next.new.self) keys;
       named = All-tail (HasNamed c.args.section.now.arch c.args.section.now.bytes.now) (fde_view c.in-Some.fde) (frames_left c.next.new.self) named;
-      initials = c.in_ok-lend.ensures.initials;
+      initials = c.in_ok-add_function.ensures.initials;
       reads = λ relocations.
           let section = seen_section c.args.section.now relocations in
           let values = overlaid (written_by c.args.overlay.now) in
-          ap (λ (before : List Entry). after_read before (read_of c.args.section.now.arch c.args.section.now.item section values (frames_left c.next.new.self))) c.in_ok-push.ensures
-          ∙ goes_on (map entry_of) entries_listwise c.args.section.now.arch c.args.section.now.item section values c.loop-fde.read.entries (entry ∷ []) (fde_view c.in-Some.fde) (frames_left c.loop-fde.fde-iterator) (frames_left c.next.new.self) _ left (sym c.dropped.ensures ∙ c.if-dropped.false)
-          (one_entry _ entry (c.in_ok-entry.ensures.exact relocations)) (c.loop-fde.invariant.reads relocations);
-      lent = λ asked relocations.
-          let section = seen_section c.args.section.now relocations in
-          let values = overlaid (written_by c.args.overlay.now) in
-          ap (λ (before : List Function). after_read before (seen_as omitted_functions (functions_in c.args.section.now.arch c.args.section.now.item section values (frames_left c.next.new.self)))) (c.in_ok-lend.ensures.lent asked)
-          ∙ goes_on omitted_functions omitted_listwise c.args.section.now.arch c.args.section.now.item section values (functions_lent c.loop-fde.read.sources.items) (if_left entry.outcome (function_by_span c.args.section.now.arch c.in-Some.fde entry.span)) (fde_view c.in-Some.fde) (frames_left c.loop-fde.fde-iterator) (frames_left c.next.new.self) _ left
-          (sym c.dropped.ensures ∙ c.if-dropped.false)
-          (one_lent _ entry (function_by_span c.args.section.now.arch c.in-Some.fde entry.span) (c.in_ok-entry.ensures.exact relocations) (c.in_ok-entry.ensures.function relocations)) (c.loop-fde.invariant.lent asked relocations);
+          goes_on c.args.lending c.args.read.now c.loop-fde.read c.add_function.new.read (f ∷ []) _ _ _ (c.loop-fde.invariant.reads relocations)
+          (ap (functions_in c.args.section.now.arch c.args.section.now.item section values) left
+          ∙ kept_on c.args.section.now.arch c.args.section.now.item section values (fde_view c.in-Some.fde) (frames_left c.next.new.self) (sym c.dropped.ensures ∙ c.if-dropped.false)
+          ∙ then_more _ f (functions_in c.args.section.now.arch c.args.section.now.item section values (frames_left c.next.new.self)) (c.in_ok-entry.ensures.function relocations))
+          c.in_ok-add_function.ensures.reads;
     }
+
+pub returns-clause-exact : goal.returns-clause-exact
+returns-clause-exact c = λ relocations.
+    is_done c.args.lending c.args.read.now c.loop-fde.read _ _ (c.loop-fde.invariant.reads relocations)
+    (ap (functions_in c.args.section.now.arch c.args.section.now.item (seen_section c.args.section.now relocations) (overlaid (written_by c.args.overlay.now))) c.in-None.ensures.steps.0)

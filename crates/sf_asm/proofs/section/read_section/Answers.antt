@@ -6,7 +6,6 @@ use Rattle.eh_records.specs.View.{entries}
 use Rattle.elf_place.specs.declared.placed.Placed.{Placed}
 use Rattle.elf_place.specs.Views.{placing}
 use Rattle.sf_asm.specs.Views.{relocations_by, seen_section, written_by}
-use Rattle.sf_asm.proofs.Lending.{on_ok}
 use Rattle.sf_asm.proofs.Patching.{section_over}
 use Rattle.sf_asm.proofs.ReadFunctions.{records_refused, relocations_refused, pointers_refused}
 use Rattle.sf_asm.proofs.section.read_section.Goals as goal
@@ -44,10 +43,3 @@ returns-clause-exact c =
     rw (section_over c.args.section.now.arch c.args.section.now.item (seen_section c.args.section.now given) (entries c.in_ok-records.records) (option_map (λ (p : Bor Placed). placing p.now) c.args.placed) c.args.section.now.number (written_by c.in_ok-overlay.overlay)
     c.in_ok-records.ensures.whole c.in_ok-overlay.ensures.read c.in_ok-overlay.ensures.from c.in_ok-check_overlay.ensures.lie c.in_ok-check_overlay.ensures.checked)
     (c.read_frames.ensures.exact given)
-
-pub returns-clause-lent : goal.returns-clause-lent
-returns-clause-lent c =
-    let given = relocations_by (option_map (λ (p : Bor Placed). placing p.now) c.args.placed) c.args.section.now.number in
-    rw (section_over c.args.section.now.arch c.args.section.now.item (seen_section c.args.section.now given) (entries c.in_ok-records.records) (option_map (λ (p : Bor Placed). placing p.now) c.args.placed) c.args.section.now.number (written_by c.in_ok-overlay.overlay)
-    c.in_ok-records.ensures.whole c.in_ok-overlay.ensures.read c.in_ok-overlay.ensures.from c.in_ok-check_overlay.ensures.lie c.in_ok-check_overlay.ensures.checked)
-    (on_ok c.read_frames.result (λ h asked. h asked given) c.read_frames.ensures.lent)

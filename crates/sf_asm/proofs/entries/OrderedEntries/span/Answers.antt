@@ -1,9 +1,9 @@
 use Rattle.std.proofs.Common.{◌≡◌, ◌<◌, List, get_or, length, refl, subst, sym, ap, ◌∙◌, arith}
 use Rattle.std.proofs.lemmas.List.{get_or-map, get_or_read_under, length-map}
 use Rattle.sf_asm.specs.declared.entry.Entry.{Entry}
-use Rattle.sf_asm.specs.Heads.{IsHeadOf, IsPlaceIn, entry_in, head_at, heads_at, no_head}
-use Rattle.sf_asm.proofs.Heads.{head_of}
-use Rattle.sf_asm.proofs.entries.OrderedEntries.head.Goals as goal
+use Rattle.sf_asm.specs.Heads.{IsPlaceIn, entry_in, head_at, heads_at, no_head}
+use Rattle.sf_asm.proofs.Heads.{span_of}
+use Rattle.sf_asm.proofs.entries.OrderedEntries.span.Goals as goal
 
 pub returns : goal.returns
 returns c = λ d.
@@ -20,5 +20,5 @@ returns c = λ d.
     get_or_read_under heads place.index (length heads) head no_head c.index-2.ensures there.0 refl
     ∙ ap (head_at heads) c.index.ensures
     ∙ sym (get_or-map (head_at heads) places number place no_head low) in
-    subst (λ (es : List Entry). IsHeadOf (get_or es number d) head) c.self.view_is
-    (head_of c.self.inside.rows (heads_at heads places) number d (omega (arith, all, c.requires)) head is)
+    c.span.ensures ∙ span_of c.self.inside.rows (heads_at heads places) number d (omega (arith, all, c.requires)) head is
+    ∙ ap (λ (es : List Entry). (get_or es number d).span) c.self.view_is

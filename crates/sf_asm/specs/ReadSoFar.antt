@@ -1,0 +1,53 @@
+-- The functions that were read so far: within the limits they are held, and past one they are counted alone.
+use Rattle.std.specs.Prelude.{◌≡◌, ◌⊎◌, ◌≤◌, ◌+◌, ◌^◌, ℕ, Bool, false, IsTrue, is_none, List, ◌++◌, map, length, min, sum_by, All, Result, Ok, Err}
+use Rattle.sf_model.specs.declared.machine.Arch.{Arch}
+use Rattle.sf_asm.specs.declared.fault.AsmFault.{AsmFault}
+use Rattle.sf_asm.specs.declared.fault.AsmFault.TheVariants as asm
+use Rattle.sf_asm.specs.declared.read.HeldFunctions.{HeldFunctions}
+use Rattle.sf_asm.specs.declared.read.ReadFunctions.{ReadFunctions}
+use Rattle.sf_asm.specs.declared.read.ReadFunctions.TheVariants.{Within, Past}
+use Rattle.sf_asm.specs.Entry.{IsSound}
+use Rattle.sf_asm.specs.Functions.{Function}
+use Rattle.sf_asm.specs.Kept.{entry_of, omitted_functions}
+use Rattle.sf_asm.specs.Linking.{limits_fault}
+use Rattle.sf_asm.specs.Order.{entry_rows}
+use Rattle.sf_asm.specs.Sources.{functions_lent}
+
+-- within the limits: all functions, the number of rows that may still come, and the omitted ones where they are to be lent
+pub record AreHeld (lending : Bool) (held : HeldFunctions) (functions : List Function) : Type 0 where
+  pub entries : held.entries ≡ map entry_of functions
+  pub few : length functions ≤ 2 ^ 21
+  pub rows : sum_by entry_rows (map entry_of functions) + held.rows_left ≡ 2 ^ 24
+  pub lent : IsTrue lending → functions_lent held.sources.items ≡ omitted_functions functions
+
+-- past a limit: how many there are, where all above the limit count as one above it
+pub record AreCounted (count : ℕ) (functions : List Function) : Type 0 where
+  pub counted : count ≡ min (length functions) (2 ^ 21 + 1)
+  pub past : is_none (limits_fault (map entry_of functions)) ≡ false
+
+-- these are the functions that were read so far
+abbrev pub AreRead : (lending : Bool) → ReadFunctions → List Function → Type 0
+AreRead lending (Within held) functions = AreHeld lending held functions
+AreRead lending (Past count) functions = AreCounted count functions
+
+abbrev pub counted_in : ReadFunctions → ℕ
+counted_in (Within held) = length held.entries
+counted_in (Past count) = count
+
+-- one section can hold each kept function that is held
+abbrev pub AreSound : Arch → ReadFunctions → Type 0
+AreSound arch (Within held) = All (IsSound arch) held.entries
+AreSound arch (Past count) = Unit {0}
+
+-- these functions were read after those that were read before
+abbrev pub Reads : (lending : Bool) → (old new : ReadFunctions) → (functions : List Function) → Type 0
+Reads lending old new functions = (before : List Function) → AreRead lending old before → AreRead lending new (before ++ functions)
+
+-- all of these were read, and none is refused
+abbrev pub ReadsAll : {F : Type 0} → (lending : Bool) → (old new : ReadFunctions) → Result (List Function) F → Type 0
+ReadsAll lending old new given = (functions : List Function) × (given ≡ Ok functions) × Reads lending old new functions
+
+-- all of these were read; or the first fault was returned, or memory ran out
+abbrev pub ReadsMore : {X : Type 0} → (lending : Bool) → Result X AsmFault → (old new : ReadFunctions) → Result (List Function) AsmFault → Type 0
+ReadsMore lending (Ok x) old new given = ReadsAll lending old new given
+ReadsMore lending (Err fault) old new given = (fault ≡ asm.NoMemory) ⊎ (given ≡ Err fault)
