@@ -16,7 +16,7 @@ loop-thread-preserved g c =
     let count : length (threads_left c.loop-thread.thread-iterator) ≡ length (c.in-Some.thread ∷ threads_left c.next.new.self) = ap length left in
     let piece : c.in_ok-thread_text.field-0.items ≡ listing_text c.loop-thread.number c.in-Some.thread (walk_of (thread_state c.in-Some.thread)) =
     c.in_ok-thread_text.ensures ∙ ap (λ (l : Listing). listing_text c.loop-thread.number c.in-Some.thread l)
-    (c.in_ok-walked.ensures ∙ ap (λ (m : List Region). look_up_walk (g.L.LookUp.found_at c.args.rows.now) (thread_state c.in-Some.thread) m c.args.depth) c.in_ok-memory.ensures) in
+    (c.in_ok-walked.ensures ∙ ap (λ (m : List Region). look_up_walk (g.L.LookUp.found_at c.args.rows.now) (thread_state c.in-Some.thread) m c.args.depth) c.in_ok-memory.ensures.memory) in
     let grown : c.extend_from_slice.new.self.items ≡ c.loop-thread.text.items ++ c.in_ok-thread_text.field-0.items =
     c.in_ok-extend_from_slice.ensures.items ∙ ap (λ (b : List ℕ). c.loop-thread.text.items ++ b) c.deref.ensures.value in
     record {
