@@ -9,7 +9,8 @@ import re
 import shutil
 import subprocess
 
-import common
+from kiblawen import common
+from kiblawen.program import linked
 
 # The process has read the first LENGTH bytes of its C library, by a mapping a little lower than those of the library's segments.
 READS_LIBRARY = """
@@ -73,7 +74,7 @@ def with_section(tool, path, folder):
     os.makedirs(folder, exist_ok=True)
     copy = os.path.join(folder, os.path.basename(path))
     section = copy + ".sframe"
-    at, said = common.linked(tool, path, section)
+    at, said = linked(tool, path, section)
     if at is None:
         raise ValueError(f"{path}: {said}")
     loaded = ["--set-section-flags", ".sframe=alloc,readonly,data", "--change-section-address", f".sframe={at:#x}"]

@@ -1,18 +1,15 @@
-#!/usr/bin/env python3
-"""Prints the processor time of commands in microseconds, and their peak memory in MB: a line for each, with its name.
+"""The processor time of commands, and their peak memory.
 
-    measure.py OUT COMMANDS
-
-The file COMMANDS has for each command a line with its name, a line for each of its words, and an empty line. Time is that of user and
-system together, the least of seven rounds. The commands are run in turn in each round, so that what else the machine does meets all of
-them alike. A command that is too quick to be measured is run again, and the time divided. Its output goes to the file OUT. It has to
+Time is that of user and system together, the least of seven rounds. The commands are run in turn in each round, so that what else the machine
+does meets all of them alike. A command that is too quick to be measured is run again, and the time divided. Its output goes to a file. It has to
 end with 0; readelf and objdump may end with 1 where they print something, as they do on some files that they read whole.
 """
 
 import os
 import resource
 import subprocess
-import sys
+
+from kiblawen import common
 
 # A processor's time is counted in steps of up to 10 ms on some machines: 20 of them are measured well enough.
 ENOUGH = 0.2
@@ -24,7 +21,7 @@ def run(words, out, **how):
     with open(out, "wb") as file:
         child = subprocess.Popen(words, stdout=file, **how)
         _, status, used = os.wait4(child.pid, 0)
-    child.returncode = os.waitstatus_to_exitcode(status)
+    child.returncode = os.WEXITSTATUS(status) if os.WIFEXITED(status) else -os.WTERMSIG(status)
     return child.returncode, used.ru_utime + used.ru_stime, used.ru_maxrss
 
 
@@ -40,7 +37,7 @@ class Command:
         status, seconds, peak = run(self.words, out)
         may_be_1 = os.path.basename(self.words[0]) in ("readelf", "objdump") and os.path.getsize(out) > 0
         if status != 0 and not (status == 1 and may_be_1):
-            sys.exit(f"bench: {' '.join(self.words)} ended with {status}")
+            common.fail("bench", f"{' '.join(self.words)} ended with {status}")
         self.peak = max(self.peak, peak)
         return seconds
 
@@ -55,19 +52,16 @@ class Command:
         # What this process has itself counts for the command too, until the command begins: less can't be told.
         own = resource.getrusage(resource.RUSAGE_SELF).ru_maxrss
         peak = f"{self.peak / 1024:.0f}" if self.peak > 1.1 * own else f"<{own / 1024:.0f}"
-        return f"{round(self.least * 1e6)} {peak} {self.name}"
+        return f"{self.name:<42} {self.least * 1e3:10.2f} ms {peak:>6} MB"
 
 
-def main(out, path):
-    with open(path, encoding="utf-8", errors="surrogateescape") as file:
-        commands = [Command(*lines.split("\n")) for lines in file.read().split("\n\n") if lines]
+def measure(commands, out):
+    """Measures these commands in turn, and prints a line for each with the time and the memory. Returns the seconds by name."""
     for command in commands:
         command.warm(out)
     for _ in range(ROUNDS):
         for command in commands:
             command.measure(out)
-    print("\n".join(command.line() for command in commands))
-
-
-if __name__ == "__main__":
-    main(*sys.argv[1:])
+    for command in commands:
+        print(command.line(), flush=True)
+    return {command.name: command.least for command in commands}

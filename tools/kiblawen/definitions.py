@@ -1,24 +1,20 @@
-#!/usr/bin/env python3
 """Makes the page of definitions from the comments in crates/NAME/specs.
 
-    docs/definitions            prints the made part
-    docs/definitions --write    writes it into docs/definitions.md, between the marks
-    docs/definitions --check    fails where docs/definitions.md has another one
+    ./x definitions             prints the made part
+    ./x definitions --write     writes it into docs/definitions.md, between the marks
+    ./x definitions --check     fails where docs/definitions.md has another one
 
 Crates have the order of crates.txt, files that of specs/Lib.antt, definitions that of their file. A comment before a
 definition says what it is, also what the definitions after it are that have no comment of their own. A comment
-`-- ---- text` is a heading. What the clauses of a run rest on (docs/closure) has the first sentence of its comment; others
-are named alone, and apart from them those that no contract of a public function reaches (docs/closure --unreached).
+`-- ---- text` is a heading. What the clauses of a run rest on (./x closure) has the first sentence of its comment; others
+are named alone, and apart from them those that no contract of a public function reaches (./x closure --unreached).
 """
 
 import os
 import re
-import runpy
-import sys
 
-HERE = os.path.dirname(os.path.abspath(__file__))
-TOP = os.path.dirname(HERE)
-closure = runpy.run_path(f"{HERE}/closure")
+from kiblawen import closure
+from kiblawen.common import TOP
 
 
 def lines_of(path):
@@ -81,8 +77,8 @@ class File:
                 self.groups.append((None, [line[len("-- ----") :].strip()]))
             elif line.startswith("--"):
                 comment.append(line[2:].strip())
-            elif line.startswith(closure["ITEM"]):
-                self.add(closure["HEAD"].match(line)[1], comment)
+            elif line.startswith(closure.ITEM):
+                self.add(closure.HEAD.match(line)[1], comment)
                 comment = []
             elif line and not line.startswith("infix"):
                 comment = []
@@ -123,9 +119,9 @@ def listed(names):
 
 
 def made():
-    found = closure["Definitions"]()
-    unreached = set(closure["unreached"](found))
-    trusted = found.below(closure["rows"](found)["a run of any command"]) - unreached
+    found = closure.Definitions()
+    unreached = set(closure.unreached(found))
+    trusted = found.below(closure.rows(found)["a run of any command"]) - unreached
     lines = []
     shown = [(crate, files(crate)) for crate in crates()]
     shown = [(crate, names) for crate, names in shown if names]
@@ -138,5 +134,5 @@ def made():
     return "\n".join(lines).rstrip("\n")
 
 
-if __name__ == "__main__":
-    sys.exit(closure["keep"](sys.argv[1:], "definitions", "definitions.md", made, __doc__))
+def main(words):
+    return closure.keep(words, "definitions", "definitions.md", made, __doc__)

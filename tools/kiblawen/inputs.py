@@ -1,6 +1,6 @@
 """Inputs that are made to be slow, or to take much memory.
 
-    inputs.py NAME SIZE FOLDER   writes the files of an input into a folder, and prints the words of its command, one a line
+    python3 -m kiblawen.inputs NAME SIZE FOLDER   writes the files of an input into a folder, and prints the words of its command, one a line
 
 A maker gets a size in bytes, and returns the words and the contents of the files by name. The files have about that size together; what is said of
 16 MiB holds of other sizes in proportion.

@@ -1,8 +1,7 @@
-#!/usr/bin/env python3
 """Refuses memory to the program: each growth in turn, and all past a bound.
 
-    world/growth                  with the program that was built
-    world/growth PROGRAM          with another one
+    ./x growth                   with the program that was built
+    ./x growth --tool PROGRAM    with another one
 
 The runs are those of the cases that end with 0 or 1, the first one of each case. A run is made twice for each call by which it asks for memory
 (malloc, calloc, realloc and the aligned ones, counted by a library that is loaded before the C library): once that call alone gets none, and once
@@ -17,14 +16,11 @@ library.
 
 import concurrent.futures
 import os
-import runpy
 import subprocess
-import sys
 import tempfile
 
-TOP = os.path.dirname(os.path.dirname(os.path.abspath(__file__)))
-CASES = runpy.run_path(os.path.join(TOP, "cases", "run"))
-MADE = os.path.join(TOP, "bench", "made.py")
+from kiblawen import cases, common, program
+
 SECONDS = 60
 # Bounds between the least that a run starts with and what it needs.
 BOUNDS = 8
@@ -61,17 +57,17 @@ int posix_memalign(void **made_at, size_t align, size_t size) { return (*made_at
 """
 
 
-def run(program, words, files, bound=None, environment=None):
+def run(tool, words, files, bound=None, environment=None):
     """Runs the program in a folder of its own: its status, both streams, and the files afterwards."""
-    words = [os.fsencode(program), *words]
+    words = [os.fsencode(tool), *words]
     if bound is not None:
         words = ["/bin/sh", "-c", f'ulimit -v {bound}; exec "$@"', "sh", *words]
     with tempfile.TemporaryDirectory(prefix="growth-") as room:
         for name, contents in files.items():
-            CASES["put"](os.path.join(room, name), contents)
+            cases.put(os.path.join(room, name), contents)
         ran = subprocess.run(words, cwd=room, env=environment or {}, stdin=subprocess.DEVNULL, capture_output=True, timeout=SECONDS, check=False)
         after = {}
-        for name in CASES["files_below"](room):
+        for name in cases.files_below(room):
             with open(os.path.join(room, name), "rb") as file:
                 after[name] = file.read()
     return ran.returncode, ran.stdout, ran.stderr, after
@@ -79,14 +75,12 @@ def run(program, words, files, bound=None, environment=None):
 
 def worked_runs():
     """The name, words and files of the first run of each case that ends with 0 or 1, with files in memory and streams as they are."""
-    folder = os.path.join(TOP, "cases")
-    for name in sorted(os.listdir(folder)):
-        if name.endswith(".cases"):
-            for case in CASES["Reader"](os.path.join(folder, name)).cases:
-                zeros = any(isinstance(it, CASES["Zeros"]) for it in case.files.values())
-                if case.status in (0, 1) and not case.prepare and not zeros:
-                    first = next(case.runs())
-                    yield f"{case.place}: {first.name}", first.words, first.files
+    for path in cases.all_paths():
+        for case in cases.Reader(path).cases:
+            zeros = any(isinstance(it, cases.Zeros) for it in case.files.values())
+            if case.status in (0, 1) and not case.prepare and not zeros:
+                first = next(case.runs())
+                yield f"{case.place}: {first.name}", first.words, first.files
 
 
 class Tried:
@@ -111,32 +105,32 @@ class Tried:
         print(f"FAILED {name}: status {status}, errors {errors[:200]}, output {output[:200]}, changed files {changed}", flush=True)
 
 
-def refuse_each(program, library, room, name, words, files):
+def refuse_each(tool, library, room, name, words, files):
     """Refuses each call of a run, alone and with those after it, up to the first number that it does not come to."""
-    tried, mark, number, whole = Tried(), os.path.join(room, "refused"), 1, run(program, words, files)
+    tried, mark, number, whole = Tried(), os.path.join(room, "refused"), 1, run(tool, words, files)
     while True:
         refusing = {"LD_PRELOAD": library, "REFUSE": str(number), "REFUSED": mark}
-        came = run(program, words, files, environment=refusing)
+        came = run(tool, words, files, environment=refusing)
         if not os.path.exists(mark):
             return tried
         tried.refusals += 2
         tried.look(f"{name}, call {number}", files, came, whole)
-        tried.look(f"{name}, call {number} and those after it", files, run(program, words, files, environment={**refusing, "REFUSE_REST": "1"}))
+        tried.look(f"{name}, call {number} and those after it", files, run(tool, words, files, environment={**refusing, "REFUSE_REST": "1"}))
         os.remove(mark)
         number += 1
 
 
-def large_runs(program, room):
+def large_runs(tool, room):
     """The words and files of a run of each command that takes some MiB."""
 
     def made(kind, count):
         path = os.path.join(room, kind)
-        subprocess.run([sys.executable, MADE, path, kind, str(count)], check=True)
+        subprocess.run(common.module_words("made", path, kind, str(count)), env=common.module_environment(), check=True)
         with open(path, "rb") as file:
             return file.read()
 
     core, frames = made("threads", THREADS), made("functions", FUNCTIONS)
-    linked = run(program, [b"link", b"s@0x50000000", b"eh-amd64:e@0x40000000"], {"e": frames})
+    linked = run(tool, [b"link", b"s@0x50000000", b"eh-amd64:e@0x40000000"], {"e": frames})
     section = linked[3]["s"]
     of_inputs, of_section = {"e": frames}, {"s": section}
     yield b"link o@0x50000000 eh-amd64:e@0x40000000", of_inputs
@@ -159,31 +153,29 @@ def least(low, high, is_enough):
     return high
 
 
-def bound_each(tried, program, room):
+def bound_each(tried, tool, room):
     """Runs each command with less address space than it needs."""
-    starts = least(0, 1 << 20, lambda bound: run(program, [], {}, bound)[:3] == (2, b"", b"usage\n"))
-    for words, files in large_runs(program, room):
-        whole = run(program, words.split(), files)
-        needs = least(starts, 1 << 20, lambda bound: run(program, words.split(), files, bound) == whole)
+    starts = least(0, 1 << 20, lambda bound: run(tool, [], {}, bound)[:3] == (2, b"", b"usage\n"))
+    for words, files in large_runs(tool, room):
+        whole = run(tool, words.split(), files)
+        needs = least(starts, 1 << 20, lambda bound: run(tool, words.split(), files, bound) == whole)
         print(f"{words.decode()}: status {whole[0]}, starts with {starts} KiB of address space, needs {needs}", flush=True)
         for bound in sorted({starts + (needs - 1 - starts) * part // BOUNDS for part in range(BOUNDS + 1)} - {needs}):
             tried.bounds += 1
-            tried.look(f"{words.decode()} with {bound} KiB", files, run(program, words.split(), files, bound))
+            tried.look(f"{words.decode()} with {bound} KiB", files, run(tool, words.split(), files, bound))
 
 
-def main(arguments):
-    program = os.path.abspath(arguments[0]) if arguments else CASES["built_program"]()
+def main(words):
+    parser = common.parser(__name__, __doc__)
+    program.add_option(parser)
+    tool = program.find(__name__, parser.parse_args(words).tool, has_to_be_new=True)
     tried = Tried()
     with tempfile.TemporaryDirectory(prefix="growth-") as room:
         library = os.path.join(room, "refusing.so")
         subprocess.run(["cc", "-O1", "-fno-builtin", "-shared", "-fPIC", "-x", "c", "-o", library, "-"], input=REFUSING.encode(), check=True)
         with concurrent.futures.ThreadPoolExecutor(os.cpu_count()) as pool:
-            for of_run in pool.map(lambda it: refuse_each(program, library, tempfile.mkdtemp(dir=room), *it), worked_runs()):
+            for of_run in pool.map(lambda it: refuse_each(tool, library, tempfile.mkdtemp(dir=room), *it), worked_runs()):
                 tried.add(of_run)
-        bound_each(tried, program, room)
+        bound_each(tried, tool, room)
     print(f"{tried.refusals} refusals, {tried.again} asked again, {tried.bounds} bounds, {tried.failed} failed")
     return 1 if tried.failed or not tried.refusals or not tried.bounds else 0
-
-
-if __name__ == "__main__":
-    sys.exit(main(sys.argv[1:]))

@@ -1,10 +1,8 @@
-#!/usr/bin/env python3
-"""Proves the program, the C library and the crates of crates.txt that they stand on, and runs the program, with a line for each crate
-as it is done. A crate of tests alone is no part of either.
+"""Proves the program, the C library and the crates below them, with a line for each, and runs the program.
 
-    demo/build.py LOG [WORD ..]     the words are those of the program's run
+    ./x build LOG [WORD ..]     the words are those of the program's run
 
-A line of the log that begins with == names a crate and the processor seconds that it took. demo/seconds.txt has those of a build from
+The crates are those of crates.txt that the two are made of; a crate of tests alone is no part of either. What `rt` says goes to the file LOG. A line of the log that begins with == names a crate and the processor seconds that it took. demo/seconds.txt has those of a build from
 nothing: what is expected of a crate, and of what is left, is reckoned by them, and by how fast the crates before were here.
 
 Crates that don't stand on each other are proved side by side. `rt` keeps all other runs out of the folders below the crate that it
@@ -21,7 +19,8 @@ import subprocess
 import sys
 import time
 
-TOP = os.path.dirname(os.path.dirname(os.path.abspath(__file__)))
+from kiblawen.common import TOP, fail
+
 ROOMS = f"{TOP}/demo/out/rooms"
 # The memory that is set aside for a check, in bytes: its first process, and each further one. Most checks take less than 2 GB, and
 # rt reckons with 1.5 GB for a further process.
@@ -254,7 +253,12 @@ def clock(began):
     return f"{took // 60:3}:{took % 60:02}"
 
 
-def main(to, *words):
+def main(words):
+    if not words:
+        fail(__name__, "no LOG is named")
+    for number in (signal.SIGINT, signal.SIGTERM, signal.SIGHUP):
+        signal.signal(number, lambda number, _: sys.exit(128 + number))
+    to, *words = words
     shutil.rmtree(ROOMS, ignore_errors=True)
     os.makedirs(ROOMS)
     try:
@@ -267,9 +271,3 @@ def main(to, *words):
     finally:
         shutil.rmtree(ROOMS, ignore_errors=True)
     return 1 if failed else 0
-
-
-if __name__ == "__main__":
-    for number in (signal.SIGINT, signal.SIGTERM, signal.SIGHUP):
-        signal.signal(number, lambda number, _: sys.exit(128 + number))
-    sys.exit(main(*sys.argv[1:]))

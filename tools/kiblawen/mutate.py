@@ -1,8 +1,7 @@
-#!/usr/bin/env python3
 """Runs the program on the files of cases with bytes of them changed.
 
-    .ci/mutate SECONDS [SEED]             for so many seconds, with the program that was built; seed 1 where none is given
-    .ci/mutate SECONDS SEED PROGRAM       with another one
+    ./x mutate SECONDS [SEED]                   for this many seconds, with the program that was built; seed 1 where none is given
+    ./x mutate SECONDS [SEED] --tool PROGRAM    with another one
 
 The same seed tries the same runs in the same order, on any machine. Each run is made twice, each time in a folder of its own, and has to
 
@@ -17,14 +16,12 @@ A run that does not is shown, with the seed and its number, and its files are ke
 import os
 import random
 import re
-import runpy
 import subprocess
-import sys
 import tempfile
 import time
 
-TOP = os.path.dirname(os.path.dirname(os.path.abspath(__file__)))
-CASES = runpy.run_path(os.path.join(TOP, "cases", "run"))
+from kiblawen import cases, common, program
+
 SECONDS = 20
 # What the program says on standard error, by status (docs/messages.md).
 LINES = {
@@ -37,14 +34,12 @@ ENDS = [0, 1, 0x7F, 0x80, 0xFF]
 
 def is_plain(case):
     """Whether the case can be run with changed bytes: files in memory alone, and streams as they are."""
-    return bool(case.files) and not case.prepare and not any(isinstance(it, CASES["Zeros"]) for it in case.files.values())
+    return bool(case.files) and not case.prepare and not any(isinstance(it, cases.Zeros) for it in case.files.values())
 
 
 def all_cases():
-    folder = os.path.join(TOP, "cases")
-    for name in sorted(os.listdir(folder)):
-        if name.endswith(".cases"):
-            yield from filter(is_plain, CASES["Reader"](os.path.join(folder, name)).cases)
+    for path in cases.all_paths():
+        yield from filter(is_plain, cases.Reader(path).cases)
 
 
 def changed(chance, contents):
@@ -68,17 +63,17 @@ def changed(chance, contents):
     return bytes(bytes_)
 
 
-def run_once(program, words, files):
+def run_once(tool, words, files):
     """Runs the program in a folder of its own: status, both streams, and the files afterwards."""
     with tempfile.TemporaryDirectory(prefix="mutate-") as room:
         for name, contents in files.items():
-            CASES["put"](os.path.join(room, name), contents)
+            cases.put(os.path.join(room, name), contents)
         try:
-            ran = subprocess.run([program, *words], cwd=room, env={}, stdin=subprocess.DEVNULL, capture_output=True, timeout=SECONDS, check=False)
+            ran = subprocess.run([tool, *words], cwd=room, env={}, stdin=subprocess.DEVNULL, capture_output=True, timeout=SECONDS, check=False)
         except subprocess.TimeoutExpired:
             return None
         after = {}
-        for name in CASES["files_below"](room):
+        for name in cases.files_below(room):
             with open(os.path.join(room, name), "rb") as file:
                 after[name] = file.read()
     return ran.returncode, ran.stdout, ran.stderr, after
@@ -102,27 +97,27 @@ def fault_of(files, came, again):
     return None
 
 
-def main(arguments):
-    seconds, seed = float(arguments[0]), int(arguments[1]) if len(arguments) > 1 else 1
-    program = os.path.abspath(arguments[2]) if len(arguments) > 2 else CASES["built_program"]()
-    cases, chance = list(all_cases()), random.Random(seed)
-    runs, failed, end = 0, 0, time.monotonic() + seconds
+def main(words):
+    parser = common.parser(__name__, __doc__)
+    program.add_option(parser)
+    parser.add_argument("seconds", type=float, metavar="SECONDS")
+    parser.add_argument("seed", type=int, nargs="?", default=1, metavar="SEED")
+    given = parser.parse_args(words)
+    tool, seed = program.find(__name__, given.tool, has_to_be_new=True), given.seed
+    plain, chance = list(all_cases()), random.Random(seed)
+    runs, failed, end = 0, 0, time.monotonic() + given.seconds
     while time.monotonic() < end:
-        case = chance.choice(cases)
+        case = chance.choice(plain)
         files, name = dict(case.files), chance.choice(sorted(case.files))
         files[name] = changed(chance, files[name])
-        came, again = (run_once(program, case.words, files) for _ in range(2))
+        came, again = (run_once(tool, case.words, files) for _ in range(2))
         runs += 1
         fault = fault_of(files, came, again)
         if fault:
             failed += 1
             kept = tempfile.mkdtemp(prefix=f"mutate-{seed}-{runs}-")
             for name, contents in files.items():
-                CASES["put"](os.path.join(kept, name), contents)
+                cases.put(os.path.join(kept, name), contents)
             print(f"FAILED seed {seed} run {runs}, {case.place}: {case.name}", f"  {b' '.join(case.words).decode(errors='replace')[:300]}", f"  {fault}", f"  its files are in {kept}", sep="\n")
     print(f"{runs} runs, {failed} failed")
     return 1 if failed or not runs else 0
-
-
-if __name__ == "__main__":
-    sys.exit(main(sys.argv[1:]))

@@ -1,17 +1,16 @@
-#!/usr/bin/env python3
 """Writes an .eh_frame section for AMD64 that lies at 0x40000000, or a core file.
 
-    made.py OUT functions N     N functions of 16 bytes from 0x1000 on, each with four rows
-    made.py OUT rows N          one function at 0x1000 with N rows
-    made.py OUT threads N       a core file of N threads, each deep in calls of the function at 0x1000 of 6 bytes
-    made.py OUT process N       a core file of 4096 threads, each deep in calls from one of N shared objects to another, and these: OUT.0 and on
+    python3 -m kiblawen.made OUT functions N     N functions of 16 bytes from 0x1000 on, each with four rows
+    python3 -m kiblawen.made OUT rows N          one function at 0x1000 with N rows
+    python3 -m kiblawen.made OUT threads N       a core file of N threads, each deep in calls of the function at 0x1000 of 6 bytes
+    python3 -m kiblawen.made OUT process N       a core file of 4096 threads, each deep in calls from one of N shared objects to another, and these: OUT.0 and on
 """
 
 import os
 import struct
 import sys
 
-import inputs
+from kiblawen import inputs
 
 SECTION, FIRST = 0x40000000, 0x1000
 

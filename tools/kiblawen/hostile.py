@@ -1,31 +1,26 @@
-#!/usr/bin/env python3
 """Runs the program on inputs that are made to be slow or to take much memory, and compares what they take with their limits.
 
-    bench/hostile                    all inputs at 1, 2 and 16 MiB
-    bench/hostile --small            those with limits, at 1 and 2 MiB: what `.ci/run` does
-    bench/hostile --mib 2,64 NAME .. these sizes; these inputs only
-    bench/hostile --tool PROGRAM     another program
+    ./x bench hostile                    all inputs at 1, 2 and 16 MiB
+    ./x bench hostile --small            those with limits, at 1 and 2 MiB: what `./x gate` does, as a test of the limits
+    ./x bench hostile --mib 2,64 NAME .. these sizes; these inputs only
+    ./x bench hostile --tool PROGRAM     another program
 
 Without a program it takes the one that `sh demo/run` builds. A line has the input's name, its command and size, the processor time in seconds, the
 peak memory in MiB, the MiB of its files and of all that it wrote, its status, and the line on standard error. A line with EXCEEDS has a limit that
-was exceeded; the status is 1 where there is one. bench/inputs.py makes the inputs; each is well formed, or is refused at its end. What is made lies
+was exceeded; the status is 1 where there is one. tools/kiblawen/inputs.py makes the inputs; each is well formed, or is refused at its end. What is made lies
 in bench/out.
 """
 
-import argparse
 import collections
 import os
 import resource
 import shutil
 import signal
 import subprocess
-import sys
 
-import measure
+from kiblawen import common, measure, program
 
-TOP = os.path.dirname(os.path.dirname(os.path.abspath(__file__)))
-TOOL = os.path.join(TOP, "crates", "sf_tool", "out", "sf_tool")
-OUT = os.path.join(TOP, "bench", "out")
+OUT = common.at_top("bench", "out")
 MIB = 1 << 20
 
 # The seconds of processor time after which a run is ended, usually and with `--small`, and the address space that it has.
@@ -72,7 +67,7 @@ PRINTED = Limits(written=0)
 # What holds the records of omitted functions, each as long as it says.
 LENDING = Limits(files=40)
 
-# The limits of each input of bench/inputs.py. One without is only shown.
+# The limits of each input of inputs.py. One without is only shown.
 INPUTS = {
     "empty_sections": USUAL,
     "relocated_sections": USUAL,
@@ -178,34 +173,32 @@ def made(names, sizes):
         name, mib, folder, maker = waiting.popleft()
         words, _ = maker.communicate()
         if maker.returncode != 0:
-            sys.exit("bench/hostile: %s can't be made" % name)
+            common.fail("bench", "%s can't be made" % name)
         return name, Run(mib, words.decode().split("\n")[:-1], folder)
 
     for name in names:
         for mib in sizes:
             folder = os.path.join(OUT, "%s-%g" % (name, mib))
             os.makedirs(folder)
-            words = [sys.executable, os.path.join(TOP, "bench", "inputs.py"), name, str(int(mib * MIB)), folder]
-            waiting.append((name, mib, folder, subprocess.Popen(words, stdout=subprocess.PIPE)))
+            words = common.module_words("inputs", name, str(int(mib * MIB)), folder)
+            waiting.append((name, mib, folder, subprocess.Popen(words, stdout=subprocess.PIPE, env=common.module_environment())))
             if len(waiting) > (os.cpu_count() or 1):
                 yield first()
     while waiting:
         yield first()
 
 
-def main():
-    parser = argparse.ArgumentParser(description=__doc__.splitlines()[0])
-    parser.add_argument("--tool", default=TOOL)
+def main(words):
+    parser = common.parser("bench", __doc__)
+    program.add_option(parser)
     parser.add_argument("--small", action="store_true")
     parser.add_argument("--mib", metavar="MIB,..")
     parser.add_argument("names", nargs="*", metavar="NAME")
-    given = parser.parse_args()
-    tool = os.path.abspath(given.tool)
-    if not os.access(tool, os.X_OK):
-        sys.exit("bench/hostile: %s is no program: run demo/run first" % tool)
+    given = parser.parse_args(words)
+    tool = program.find("bench", given.tool)
     unknown = [it for it in given.names if it not in INPUTS]
     if unknown:
-        sys.exit("bench/hostile: no input %s; there are %s" % (unknown[0], ", ".join(INPUTS)))
+        common.fail("bench", "no input %s; there are %s" % (unknown[0], ", ".join(INPUTS)))
     sizes = sorted(float(it) for it in (given.mib or ("1,2" if given.small else "1,2,16")).split(","))
     names = given.names or [name for name, limits in INPUTS.items() if limits or not given.small]
     seconds = SECONDS_SMALL if given.small else SECONDS
@@ -235,7 +228,3 @@ def main():
     shutil.rmtree(OUT, ignore_errors=True)
     print("%d inputs, %d exceed a limit" % (len(names), len(set(exceeded))))
     return 1 if exceeded else 0
-
-
-if __name__ == "__main__":
-    sys.exit(main())

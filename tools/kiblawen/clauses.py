@@ -1,9 +1,8 @@
-#!/usr/bin/env python3
 """Makes the page of clauses from the sources: what each crate says of itself, and the contract of each public function.
 
-    docs/clauses            prints the made part
-    docs/clauses --write    writes it into docs/clauses.md, between the marks
-    docs/clauses --check    fails where docs/clauses.md has another one, or where a cell has more than 200 characters
+    ./x clauses             prints the made part
+    ./x clauses --write     writes it into docs/clauses.md, between the marks
+    ./x clauses --check     fails where docs/clauses.md has another one, or where a cell has more than 200 characters
 
 A crate's front page is the text at the front of its lib.rt. A function is public where the crate exports it or its type;
 what it does is the first sentence of its comment. A clause is shown by its name, one without a name by its text, if that
@@ -14,13 +13,11 @@ import collections
 import glob
 import os
 import re
-import runpy
 import sys
 
-HERE = os.path.dirname(os.path.abspath(__file__))
-TOP = os.path.dirname(HERE)
-definitions = runpy.run_path(f"{HERE}/definitions")
-lines_of = definitions["lines_of"]
+from kiblawen import closure, definitions
+from kiblawen.common import TOP
+from kiblawen.definitions import lines_of
 
 # The most characters of a cell, and of the text of a clause.
 CELL, TEXT = 200, 90
@@ -90,9 +87,9 @@ class Source:
 
     def function(self, function, comment, lines):
         indent, _, _, name = function.groups()
-        path = os.path.relpath(self.path, HERE)
+        path = os.path.relpath(self.path, f"{TOP}/docs")
         name = f"{self.kind}::{name}" if indent else name
-        does = definitions["unlinked"](definitions["first_sentence"]("\n".join(comment)))
+        does = definitions.unlinked(definitions.first_sentence("\n".join(comment)))
         found = list(clauses(lines, indent))
         if name.endswith("::next") and self.gives:
             found.append((None, self.gives))
@@ -151,7 +148,7 @@ def section(crate):
     names = exported(crate)
     sources = [Source(path, names) for path in sorted(glob.glob(f"{TOP}/crates/{crate}/src/*.rt"))]
     functions = [it for source in sources for it in source.functions if it.clauses]
-    yield from [f"## `{crate}`", "", definitions["front_page"](crate), ""]
+    yield from [f"## `{crate}`", "", definitions.front_page(crate), ""]
     if functions:
         yield from ["| function | what it does | its clauses |", "|---|---|---|"]
         for row in rows(functions):
@@ -173,12 +170,12 @@ TRAITS = traits()
 
 
 def made():
-    lines = [line for crate in definitions["crates"]() for line in section(crate)]
+    lines = [line for crate in definitions.crates() for line in section(crate)]
     for line in lines:
         if line.startswith("|") and max(len(it) for it in re.split(r" (?<!\\)\| ", line)) > CELL:
-            sys.exit(f"docs/clauses: a cell has more than {CELL} characters: {line}")
+            sys.exit(f"./x clauses: a cell has more than {CELL} characters: {line}")
     return "\n".join(lines).rstrip("\n")
 
 
-if __name__ == "__main__":
-    sys.exit(definitions["closure"]["keep"](sys.argv[1:], "clauses", "clauses.md", made, __doc__))
+def main(words):
+    return closure.keep(words, "clauses", "clauses.md", made, __doc__)

@@ -1,11 +1,10 @@
-#!/usr/bin/env python3
 """Counts the definitions that a clause rests on.
 
-    docs/closure                prints the table: the run's clauses, and what each command comes to
-    docs/closure --list TITLE   prints the definitions below a row of the table, with their files
-    docs/closure --unreached    prints the definitions that no contract of a public function reaches
-    docs/closure --write        writes the table into docs/proof.md, between its two marks
-    docs/closure --check        fails where docs/proof.md has another table
+    ./x closure                prints the table: the run's clauses, and what each command comes to
+    ./x closure --list TITLE   prints the definitions below a row of the table, with their files
+    ./x closure --unreached    prints the definitions that no contract of a public function reaches
+    ./x closure --write        writes the table into docs/proof.md, between its two marks
+    ./x closure --check        fails where docs/proof.md has another table
 
 A definition is an item of a file crates/NAME/specs/*.antt; types that the source declares don't count. It rests on each
 definition that its text names, by the imports of its file.
@@ -17,7 +16,8 @@ import os
 import re
 import sys
 
-TOP = os.path.dirname(os.path.dirname(os.path.abspath(__file__)))
+from kiblawen.common import TOP
+
 HEAD = re.compile(r"^(?:abbrev |unfoldable )?(?:pub )?(?:record |data )?([^\s:]+)(?= |$)")
 ITEM = ("abbrev ", "unfoldable ", "pub record ", "pub data ", "record ", "data ")
 IMPORT = re.compile(r"^(?:pub )?(?:ghost )?use Rattle\.(\w+)\.specs\.([\w.]+?)(?:\.\{(.*)\})?(?: as (\w+))?;?$")
@@ -174,25 +174,25 @@ def show(found, definitions):
     print(f"{len(definitions)} of {len(found.lines)} definitions, {found.count(definitions)} lines")
 
 
-def keep(words, script, name, made, doc):
-    """Prints what a script makes, writes it into its page between the two marks, or compares."""
+def keep(words, command, page, made, doc):
+    """Prints what a command makes, writes it into its page between the two marks, or compares."""
     if words not in ([], ["--write"], ["--check"]):
         print(doc, file=sys.stderr)
         return 2
     if not words:
         print(made())
         return 0
-    with open(f"{TOP}/docs/{name}", encoding="utf-8") as file:
-        page = file.read()
-    mark, end = f"<!-- made by docs/{script} -->\n", "<!-- end -->\n"
-    before, _, rest = page.partition(mark)
+    with open(f"{TOP}/docs/{page}", encoding="utf-8") as file:
+        text = file.read()
+    mark, end = f"<!-- made by ./x {command} -->\n", "<!-- end -->\n"
+    before, _, rest = text.partition(mark)
     _, _, after = rest.partition(end)
     anew = f"{before}{mark}{made()}\n{end}{after}"
     if words == ["--write"]:
-        with open(f"{TOP}/docs/{name}", "w", encoding="utf-8") as file:
+        with open(f"{TOP}/docs/{page}", "w", encoding="utf-8") as file:
             file.write(anew)
-    elif anew != page:
-        print(f"docs/{script}: docs/{name} is not what the sources say; docs/{script} --write makes it anew", file=sys.stderr)
+    elif anew != text:
+        print(f"./x {command}: docs/{page} is not what the sources say; ./x {command} --write makes it anew", file=sys.stderr)
         return 1
     return 0
 
@@ -206,7 +206,3 @@ def main(words):
     else:
         return keep(words, "closure", "proof.md", lambda: table(found), __doc__)
     return 0
-
-
-if __name__ == "__main__":
-    sys.exit(main(sys.argv[1:]))

@@ -1,23 +1,19 @@
-#!/usr/bin/env python3
 """Links every ELF file below folders, and shows what is kept, what is omitted and why, and for how many bytes of code there is a row.
 
-    world/coverage DIR ..                      with the program that was built
-    world/coverage --tool PROGRAM DIR ..       with another one
+    ./x coverage DIR ..                      with the program that was built
+    ./x coverage --tool PROGRAM DIR ..       with another one
 
 The files are linked side by side, each by a process of its own; nothing beside them is changed. The last lines are a table and a bar. Files
 that the program refuses are listed with its line, and files of which it keeps nothing (`kept 0`, with status 0) are counted as empty. Code is
 what sections with SHF_EXECINSTR hold.
 """
 
-import argparse
 import collections
 import concurrent.futures
 import os
-import sys
 import tempfile
 
-sys.path.insert(0, os.path.dirname(os.path.abspath(__file__)))
-import common
+from kiblawen import common, elf, program
 
 
 def code_bytes(path):
@@ -35,20 +31,20 @@ def look(job):
     tool, path = job
     with tempfile.TemporaryDirectory(prefix="coverage-") as room:
         section = os.path.join(room, "sframe")
-        at, said = common.linked(tool, path, section)
+        at, said = program.linked(tool, path, section)
         if at is None:
             return path, said, None
-        omitted, kept = common.report(said)
-        answered = sum(size for size, rows in common.functions(tool, section, at).values() if rows)
+        omitted, kept = program.report(said)
+        answered = sum(size for size, rows in program.functions(tool, section, at).values() if rows)
     return path, None, (kept, collections.Counter(it.reason for it in omitted.values()), answered, code_bytes(path))
 
 
-def main():
-    parser = argparse.ArgumentParser(description=__doc__.splitlines()[0])
-    parser.add_argument("--tool")
+def main(words):
+    parser = common.parser(__name__, __doc__)
+    program.add_option(parser)
     parser.add_argument("folders", nargs="+", metavar="DIR")
-    given = parser.parse_args()
-    tool, paths = common.program(given.tool), common.elf_files(given.folders)
+    given = parser.parse_args(words)
+    tool, paths = program.find(__name__, given.tool), elf.files_below(given.folders)
     kept, answered, code, refused, whole, empty = 0, 0, 0, [], 0, 0
     reasons, files = collections.Counter(), collections.Counter()
     with concurrent.futures.ThreadPoolExecutor(os.cpu_count()) as workers:
@@ -79,7 +75,3 @@ def main():
     for reason, count in reasons.most_common():
         print(f"{reason:16}{count:>12}{files[reason]:>10}")
     return 0 if paths else 1
-
-
-if __name__ == "__main__":
-    sys.exit(main())

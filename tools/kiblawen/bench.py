@@ -1,0 +1,256 @@
+"""Takes the processor time of the program's commands, beside readelf, objdump, gdb and others.
+
+    ./x bench             link, linkplt, merge, slim, verify, dump and lookup on the largest library for AMD64 or AArch64 on this machine,
+                          beside readelf and objdump on the same file: which is faster, and by how much
+    ./x bench FILE        the same on another executable or shared object
+    ./x bench made        made inputs: 2^15 to 2^21 small functions, one function of 2^14 to 2^20 rows, and a look-up in 2^20 functions
+                          beside bench/pass.c, a C program that reads the same file and goes over it once (where there is a cc)
+    ./x bench core        walks: made core files of 4096 threads, of one section and of 200 files, and a core file of a program 1000
+                          calls deep beside gdb and eu-stack
+    ./x bench library     look-ups and walks by the C library on a made section of 100,000 functions, beside bsearch() and libsframe
+    ./x bench hostile ..  inputs that are made to be slow, beside limits; `./x bench hostile --help` says more
+    ./x bench --tool PROGRAM ..   with another program
+
+It needs the program and the library (`sh demo/run` builds both), binutils and, for the library, a C compiler. Where there is a rustc, link is
+also measured beside bench/plain.rs, a Rust program that makes the same section and checks nothing. Each time is the least of seven, user and
+system time together; the commands of one table are run in turn, seven times, and a quick command many times for each. What is made lies in
+bench/out. The gate runs none of these but `hostile --small`, which is a test of limits.
+"""
+
+import filecmp
+import os
+import shlex
+import shutil
+import subprocess
+import sys
+
+from kiblawen import common, elf, hostile, program
+from kiblawen.measure import Command, measure
+
+OUT = common.at_top("bench", "out")
+OUTPUT = os.path.join(OUT, "output")
+LIBRARIES = ["/usr/lib", "/usr/lib64", "/lib", "/lib64"]
+READELF, OBJDUMP = "readelf --debug-dump=frames-interp", "objdump --dwarf=frames-interp"
+# The section of the program's own example, for the made core files.
+EXAMPLE = f"eh-amd64:{common.at_top('crates', 'sf_tool', 'data', 'e1')}@0x2000"
+DEEP = """
+#include <stdlib.h>
+int sum;
+__attribute__((noinline)) int deep(int n)
+{
+    volatile char bytes[n % 64 + 1];
+    bytes[n % 64] = 1;
+    if (n == 0)
+        abort();
+    sum += deep(n - 1);
+    return bytes[n % 64];
+}
+int main(void) { return deep(1000); }
+"""
+
+
+def out(name):
+    return os.path.join(OUT, name)
+
+
+def say(text=""):
+    print(text, flush=True)
+
+
+def said(*words):
+    """What a command prints, which has to end with 0."""
+    ran = subprocess.run(words, stdout=subprocess.PIPE, check=False)
+    if ran.returncode != 0:
+        common.fail(__name__, f"{' '.join(words)} ended with {ran.returncode}")
+    return ran.stdout.decode(errors="replace")
+
+
+def works(*words):
+    """Whether a command is there and ends with 0. Nothing that it prints is shown."""
+    quiet = {"stdin": subprocess.DEVNULL, "stdout": subprocess.DEVNULL, "stderr": subprocess.DEVNULL}
+    return shutil.which(words[0]) is not None and subprocess.run(words, check=False, **quiet).returncode == 0
+
+
+def make(name, kind, count):
+    """Makes an input, by a process of its own: what it takes is not to count for the program."""
+    subprocess.run(common.module_words("made", out(name), kind, str(count)), env=common.module_environment(), check=True)
+
+
+def largest():
+    """The largest library of the machine."""
+    found = []
+    for top in (it for it in LIBRARIES if not os.path.islink(it)):
+        for folder, _, names in os.walk(top):
+            found += [os.path.join(folder, name) for name in names if ".so" in name]
+    sizes = {it: os.path.getsize(it) for it in found if os.path.isfile(it) and not os.path.islink(it)}
+    for path in sorted(sizes, key=sizes.get, reverse=True):
+        if elf.machine(path):
+            return path
+    return common.fail(__name__, "no library was found")
+
+
+def compare(name, time, other, than):
+    """A sentence on two times."""
+    times = max(time, than) / min(time, than)
+    if times < 1.05:
+        say(f"{name} takes the time of {other}.")
+    else:
+        say(f"{name} is {times:.1f} times as {'fast' if time < than else 'slow'} as {other}.")
+
+
+def speed(time, count, what):
+    return f"{count / time:.0f} {what} a second"
+
+
+def made(tool):
+    say("Processor time of `sf_tool link` on made .eh_frame sections (the least of seven), and its peak memory")
+    for what, powers in ("functions", range(15, 22)), ("rows", range(14, 21, 2)):
+        names = {power: f"2^{power} {what}" for power in powers}
+        for power in powers:
+            make(f"made.{power}", what, 1 << power)
+        commands = [Command(names[it], tool, "link", out("sframe@0x50000000"), f"eh-amd64:{out(f'made.{it}')}@0x40000000") for it in powers]
+        say()
+        times = measure(commands, OUTPUT)
+        for power in powers:
+            say(f"{names[power]:<42} {times[names[power]] * 1e6 / (1 << power):10.3f} microseconds each")
+    say()
+    make("made", "functions", 1 << 20)
+    said(tool, "link", out("sframe@0x50000000"), f"eh-amd64:{out('made')}@0x40000000")
+    commands = [Command("sf_tool lookup, in 2^20 functions", tool, "lookup", out("sframe@0x50000000"), "0x1005")]
+    if works("cc", "-O2", "-o", out("pass"), common.at_top("bench", "pass.c")):
+        commands.append(Command("bench/pass.c, on the same file", out("pass"), out("sframe"), "0x50000000"))
+    times = list(measure(commands, OUTPUT).values())
+    if len(times) == 2:
+        say(f"sf_tool lookup takes {times[0] / times[1]:.2f} of its time.")
+    shutil.rmtree(OUT)
+
+
+def core(tool):
+    say("Processor time of walks (the least of seven), and peak memory")
+    say()
+    make("threads", "threads", 4096)
+    said(tool, "link", out("one@0x3000"), EXAMPLE)
+    make("process", "process", 200)
+    files = [out(f"process.{it}") for it in range(200)]
+    times = measure([
+        Command("sf_tool walk, 4096 threads of 64 frames", tool, "walk", out("one@0x3000"), out("threads"), "64"),
+        Command("sf_tool procwalk, the same over 200 files", tool, "procwalk", out("process"), "64", *files),
+    ], OUTPUT)
+    for time in times.values():
+        say(speed(time, 4096 * 64, "frames"))
+    deep, core_file, section = out("deep"), out("core"), out("deep.sframe@0x8000000")
+    with open(out("deep.c"), "w", encoding="utf-8") as file:
+        file.write(DEEP)
+    if works("cc", "-O1", "-static", "-no-pie", "-o", deep, out("deep.c")):
+        works("gdb", "-nx", "-batch", "-ex", "set confirm off", "-ex", "run", "-ex", f"generate-core-file {core_file}", deep)
+    if os.path.exists(core_file):
+        said(tool, "link", section, f"{deep}@0x0")
+        commands = [
+            Command("sf_tool walk, 1000 frames", tool, "walk", section, core_file, "1024"),
+            Command("sf_tool backtrace, linking the program", tool, "backtrace", out("again@0x8000000"), core_file, "1024", f"{deep}@0x0"),
+            Command("gdb backtrace", "gdb", "-nx", "-batch", "-ex", "backtrace", deep, core_file),
+        ]
+        if shutil.which("eu-stack"):
+            commands.append(Command("eu-stack", "eu-stack", "-n", "0", "-e", deep, "--core", core_file))
+        measure(commands, OUTPUT)
+    else:
+        say("No core file of a program can be had here: that wants a static C library, and gdb.")
+    shutil.rmtree(OUT)
+
+
+def is_plain(at, path):
+    """Whether bench/plain.rs is built, and makes the section that link made."""
+    words = ["rustc", "--edition", "2021", "-O", "-C", "panic=abort", "-o", out("plain"), common.at_top("bench", "plain.rs")]
+    is_made = works(*words) and works(out("plain"), out("plain.sframe"), at, path)
+    return is_made and filecmp.cmp(out("plain.sframe"), out("sframe"), shallow=False)
+
+
+def of_file(tool, path):
+    if elf.machine(path) is None or elf.last_loaded(path) == 0:
+        common.fail(__name__, f"{path} has no loaded segment")
+    at = f"{elf.page_after(path):#x}"
+    section, source = out(f"sframe@{at}"), f"{path}@0x0"
+    say(f"File: {path}, {os.path.getsize(path)} bytes")
+    say("Processor time (the least of seven measurements; less is faster) and peak memory; on a large file this takes a minute or two")
+    say()
+    counts = said(tool, "link", section, source).splitlines()[-1]
+    said(tool, "merge", out(f"merged@{at}"), section)
+    if not filecmp.cmp(out("merged"), out("sframe"), shallow=False):
+        common.fail(__name__, "a section merged for its own address is another one")
+    shown = [it.split() for it in said(tool, "dump", section).splitlines()]
+    starts, rows = [it[1] for it in shown if it[0] == "func"], int(shown[0][8])
+    commands = [
+        Command("sf_tool link", tool, "link", section, source),
+        Command("sf_tool merge", tool, "merge", out(f"merged@{at}"), section),
+        Command("sf_tool linkplt", tool, "linkplt", out(f"plt@{at}"), source),
+        Command("sf_tool slim", tool, "slim", out(f"slimmed@{at}"), section),
+        Command("sf_tool verify", tool, "verify", section, source),
+        Command("sf_tool dump", tool, "dump", section),
+        *(Command("sf_tool lookup, of one address", tool, "lookup", section, it) for it in starts[:1]),
+    ]
+    del shown
+    if is_plain(at, path):
+        commands.append(Command("bench/plain.rs", out("plain"), out("plain.sframe"), at, path))
+    commands += [Command(READELF, *READELF.split(), path), Command(OBJDUMP, *OBJDUMP.split(), path)]
+    times = measure(commands, OUTPUT)
+    link, merge, verify, dump = (times[f"sf_tool {it}"] for it in ("link", "merge", "verify", "dump"))
+    readelf, plain = times[READELF], times.get("bench/plain.rs")
+    say()
+    say(f"The section: {counts}, {rows} rows, {os.path.getsize(out('sframe'))} bytes")
+    say()
+    compare("link", link, READELF, readelf)
+    compare("link", link, OBJDUMP, times[OBJDUMP])
+    compare("verify", verify, "link", link)
+    compare("merge", merge, READELF, readelf)
+    compare("dump", dump, READELF, readelf)
+    say(f"Of the time of readelf link takes {link / readelf:.3f}, merge {merge / readelf:.3f} and dump {dump / readelf:.3f}.")
+    if plain:
+        say(f"Of the time of bench/plain.rs, which checks nothing, link takes {link / plain:.2f}.")
+    functions = int(counts.split()[1]) + int(counts.split()[3])
+    say(f"link: {speed(link, functions, 'functions')}, {speed(link, rows, 'rows')}")
+    say(f"merge: {speed(merge, functions, 'functions')}; dump: {speed(dump, functions, 'functions')}")
+    say("(readelf and objdump compute and print the rows of each function; link computes them and writes a section; merge and dump read one.)")
+    os.remove(OUTPUT)
+
+
+def library():
+    if not os.access(program.LIBRARY, os.R_OK):
+        common.fail(__name__, "the library is not built")
+    os.makedirs(OUT, exist_ok=True)
+    compiler = shlex.split(os.environ.get("CC") or "cc")
+    source, include = common.at_top("bench", "library.c"), f"-I{common.at_top('include')}"
+    words = [*compiler, "-std=gnu11", "-O2", "-Wall", "-Wextra", include, "-o", out("library"), source, program.LIBRARY, "-ldl"]
+    status = common.status_of(words) or common.status_of([out("library")])
+    if os.path.exists(out("library")):
+        os.remove(out("library"))
+    return status
+
+
+def main(words):
+    if words[:1] == ["hostile"]:
+        return hostile.main(words[1:])
+    parser = common.parser(__name__, __doc__)
+    program.add_option(parser)
+    parser.add_argument("what", nargs="?", metavar="FILE|made|core|library")
+    given = parser.parse_args(words)
+    if given.what == "library":
+        return library()
+    for command in ("readelf", "objdump"):
+        if not shutil.which(command):
+            common.fail(__name__, f"{command} is not on PATH")
+    path = given.what if given.what in ("made", "core") else os.path.abspath(given.what or largest())
+    if path == given.what or os.access(path, os.R_OK):
+        tool = program.find(__name__, given.tool)
+    else:
+        common.fail(__name__, f"{path} cannot be read")
+    os.environ["LC_ALL"] = "C"
+    shutil.rmtree(OUT, ignore_errors=True)
+    os.makedirs(OUT)
+    sys.stdout.flush()
+    if path == "made":
+        made(tool)
+    elif path == "core":
+        core(tool)
+    else:
+        of_file(tool, path)
+    return 0

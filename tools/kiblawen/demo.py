@@ -1,0 +1,14 @@
+"""Builds the program, makes the section of a real library, and shows what each command does with it.
+
+    ./x demo          the library is the machine's C library, or else the program itself
+    ./x demo FILE     another executable or shared object for AMD64 or AArch64
+
+It needs `rt`, with python3 and clang as `rt` itself does, binutils, awk and cmp. The objects are compiled where there is a C
+compiler, and core files are made by gdb where it is there. What is made lies in demo/out. demo/show.sh has the steps.
+"""
+
+from kiblawen import common
+
+
+def main(words):
+    common.become("sh", common.at_top("demo", "show.sh"), *words)

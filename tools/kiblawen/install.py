@@ -1,0 +1,103 @@
+"""Puts the program, its man page, the C library, its header and pkg-config file, and the documents under a prefix.
+
+    ./x install [PREFIX]                               /usr/local where none is given
+    LIBDIR=lib/x86_64-linux-gnu ./x install /usr       the folder of the C library; without it PREFIX/lib
+    DESTDIR=/tmp/root ./x install /usr                 the files go below /tmp/root, and are to be used below /usr
+
+PREFIX and DESTDIR count from the folder where the script is started, LIBDIR from PREFIX. DESTDIR is for packages: no installed
+file names it. Build first: `sh demo/run` builds both. Nothing else is needed, and nothing outside of the prefix is changed.
+"""
+
+import os
+import shutil
+
+from kiblawen import common, program
+
+DOCUMENTS = ["README.md", "CHANGELOG.md", "CONTRIBUTING.md", "SECURITY.md", "VERSION", "LICENSE-MIT", "LICENSE-APACHE"]
+# The quotes keep a folder with a blank in its name one word.
+PKG_CONFIG = """prefix={prefix}
+libdir={libdir}
+includedir=${{prefix}}/include
+
+Name: kiblawen
+Description: SFrame Version 2 sections, look-ups and walks of samples
+Version: {version}
+Cflags: -I"${{includedir}}"
+Libs: -L"${{libdir}}" -lkiblawen
+"""
+
+
+def here():
+    """The folder where the script is started, by the name that the shell has for it."""
+    named = os.environ.get("PWD", "")
+    return named if os.path.isabs(named) and os.path.isdir(named) and os.path.samefile(named, ".") else os.getcwd()
+
+
+def absolute(folder, start):
+    """The folder, counted from another one."""
+    return folder if folder.startswith("/") else f"{start[:-1] if start.endswith('/') else start}/{folder}"
+
+
+class Installation:
+    """The folders that files are put into, below DESTDIR where it is given."""
+
+    def __init__(self, prefix, libdir, root):
+        self.prefix = absolute(prefix or "/usr/local", here())
+        self.prefix = self.prefix[:-1] if self.prefix.endswith("/") else self.prefix
+        self.libdir = absolute(libdir or "lib", self.prefix)
+        self.root = absolute(root, here()) if root else ""
+
+    def put(self, mode, path, folder, name=None):
+        """A copy of a file in a folder."""
+        os.makedirs(self.root + folder, exist_ok=True)
+        to = f"{self.root}{folder}/{name or os.path.basename(path)}"
+        shutil.copyfile(path, to)
+        os.chmod(to, mode)
+
+    def put_all(self, version):
+        self.put(0o755, program.BUILT, f"{self.prefix}/bin")
+        self.put(0o644, common.at_top("man", "sf_tool.1"), f"{self.prefix}/share/man/man1")
+        self.put(0o644, program.LIBRARY, self.libdir, "libkiblawen.a")
+        self.put(0o644, common.at_top("include", "kiblawen.h"), f"{self.prefix}/include")
+        documents = f"{self.prefix}/share/doc/kiblawen"
+        for name in DOCUMENTS:
+            self.put(0o644, common.at_top(name), documents)
+        for name in sorted(os.listdir(common.at_top("docs"))):
+            if name.endswith(".md"):
+                self.put(0o644, common.at_top("docs", name), f"{documents}/docs")
+        self.put_pkg_config(version)
+
+    def put_pkg_config(self, version):
+        folder = f"{self.root}{self.libdir}/pkgconfig"
+        os.makedirs(folder, exist_ok=True)
+        is_below = self.libdir.startswith(f"{self.prefix}/")
+        named = f"${{prefix}}{self.libdir[len(self.prefix):]}" if is_below else self.libdir
+        with open(f"{folder}/kiblawen.pc", "w", encoding="utf-8", errors="surrogateescape") as file:
+            file.write(PKG_CONFIG.format(prefix=self.prefix, libdir=named, version=version))
+        os.chmod(f"{folder}/kiblawen.pc", 0o644)
+
+
+def main(words):
+    parser = common.parser(__name__, __doc__)
+    parser.add_argument("prefix", nargs="?", metavar="PREFIX")
+    given = parser.parse_args(words)
+    to = Installation(given.prefix, os.environ.get("LIBDIR"), os.environ.get("DESTDIR"))
+    if any(it in to.prefix + to.libdir for it in '"\\$#\n'):
+        common.fail(__name__, 'a pkg-config file can hold no ", \\, $, # or line feed of PREFIX or LIBDIR')
+    top = to.root + to.prefix
+    try:
+        os.makedirs(top or "/", exist_ok=True)
+    except OSError:
+        common.fail(__name__, f"{top} cannot be made")
+    if not os.access(top or "/", os.W_OK):
+        common.fail(__name__, f"{top} is not writable")
+    for path in (program.BUILT, program.LIBRARY):
+        if not os.access(path, os.R_OK):
+            common.fail(__name__, f"{os.path.relpath(path, common.TOP)} is not built: sh demo/run builds it")
+    version = common.version()
+    try:
+        to.put_all(version)
+    except OSError as fault:
+        common.fail(__name__, str(fault))
+    print(f"kiblawen {version} for {to.prefix} is installed{f' under {to.root}' if to.root else ''}")
+    return 0

@@ -1,0 +1,29 @@
+"""Checks that what repeats the version of VERSION has the same, and that the pages name the toolchain that is here.
+
+    ./x version     prints both; the status is 1 where a file names another one
+"""
+
+import subprocess
+
+from kiblawen import common
+
+
+def main(words):
+    common.parser(__name__, __doc__).parse_args(words)
+    version = common.version()
+    kit = subprocess.run(["rt", "version"], stdout=subprocess.PIPE, check=False).stdout.decode().strip()
+    named = (
+        ("CHANGELOG.md", f"## {version}"),
+        ("man/sf_tool.1", f"Kiblawen {version}"),
+        ("README.md", kit),
+        ("docs/proof.md", kit),
+    )
+    failed = 0
+    for name, text in named:
+        with open(common.at_top(name), encoding="utf-8") as file:
+            if not text or text not in file.read():
+                failed = 1
+                print(f"FAILED {name} does not say: {text}")
+    if not failed:
+        print(f"version {version}, {kit}")
+    return failed
