@@ -67,6 +67,7 @@ make_core() {
         gdb -nx -batch -ex 'set confirm off' -ex run -ex "generate-core-file $out/core" -ex backtrace "$1" >"$out/gdb" 2>&1 </dev/null || :
     else
         : >"$out/gdb"
+        # shellcheck disable=SC3045
         (cd "$out" && ulimit -c unlimited && exec "./$(basename "$1")") 2>/dev/null || :
     fi
 }
