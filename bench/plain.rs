@@ -1,6 +1,6 @@
-//! What linking a program costs plain Rust, for `bench/run`: reads one program or shared object for AMD64 and writes the SFrame
+//! What linking a program costs plain Rust, for `./x bench`: reads one program or shared object for AMD64 and writes the SFrame
 //! section of its functions, of the usual call frame information alone. It checks nothing, names no fault, and stops by a panic where a
-//! file is unusual. Its times count only where its section is the one that `sf_tool link` writes, which `bench/run` compares.
+//! file is unusual. Its times count only where its section is the one that `sf_tool link` writes, which `./x bench` compares.
 //!
 //!     plain OUT AT FILE
 
