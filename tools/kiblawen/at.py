@@ -17,9 +17,10 @@ def main(words):
     if elf.machine(given.file) is None:
         common.fail(__name__, f"{given.file} is no ELF file for AMD64 or AArch64")
     if given.build_id:
-        found = elf.build_id(given.file) or common.fail(__name__, f"{given.file} has no build identifier")
+        found, lacks = elf.build_id(given.file), "build identifier"
     else:
-        elf.last_loaded(given.file) or common.fail(__name__, f"{given.file} has no loaded segment")
-        found = f"{elf.page_after(given.file):#x}"
+        found, lacks = elf.last_loaded(given.file) and f"{elf.page_after(given.file):#x}", "loaded segment"
+    if not found:
+        common.fail(__name__, f"{given.file} has no {lacks}")
     print(found)
     return 0

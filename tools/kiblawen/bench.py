@@ -18,11 +18,11 @@ bench/out. The gate runs none of these but `hostile --small`, which is a test of
 """
 
 import filecmp
+import functools
 import os
 import shlex
 import shutil
 import subprocess
-import sys
 
 from kiblawen import common, elf, hostile, program
 from kiblawen.measure import Command, measure
@@ -165,7 +165,7 @@ def is_plain(at, path):
     return is_made and filecmp.cmp(out("plain.sframe"), out("sframe"), shallow=False)
 
 
-def of_file(tool, path):
+def of_file(path, tool):
     if elf.machine(path) is None or elf.last_loaded(path) == 0:
         common.fail(__name__, f"{path} has no loaded segment")
     at = f"{elf.page_after(path):#x}"
@@ -238,19 +238,15 @@ def main(words):
     for command in ("readelf", "objdump"):
         if not shutil.which(command):
             common.fail(__name__, f"{command} is not on PATH")
-    path = given.what if given.what in ("made", "core") else os.path.abspath(given.what or largest())
-    if path == given.what or os.access(path, os.R_OK):
-        tool = program.find(__name__, given.tool)
-    else:
-        common.fail(__name__, f"{path} cannot be read")
+    measured = {"made": made, "core": core}.get(given.what)
+    if measured is None:
+        path = os.path.abspath(given.what) if given.what else largest()
+        measured = functools.partial(of_file, path)
+        if not os.access(path, os.R_OK):
+            common.fail(__name__, f"{path} cannot be read")
+    tool = program.find(__name__, given.tool)
     os.environ["LC_ALL"] = "C"
     shutil.rmtree(OUT, ignore_errors=True)
     os.makedirs(OUT)
-    sys.stdout.flush()
-    if path == "made":
-        made(tool)
-    elif path == "core":
-        core(tool)
-    else:
-        of_file(tool, path)
+    measured(tool)
     return 0

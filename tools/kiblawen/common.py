@@ -18,7 +18,7 @@ def at_top(*names):
 
 def name_of(module):
     """A command's name, of the module's `__name__`."""
-    return module.rpartition(".")[2].replace("_", "-")
+    return module.rpartition(".")[2]
 
 
 def fail(module, text):
