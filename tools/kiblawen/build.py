@@ -127,7 +127,7 @@ class Proof:
             shutil.rmtree(self.room, ignore_errors=True)
 
     def end(self, log):
-        """Returns the number of functions that were proved, or none where `rt` failed."""
+        """Returns the number of functions that were proved, or None if `rt` failed."""
         self.said.seek(0)
         said = self.said.read().replace(self.room or TOP, TOP)
         print(f"== {self.name} {self.seconds:.0f}\n{said}", end="", file=log, flush=True)

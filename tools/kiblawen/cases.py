@@ -44,7 +44,7 @@ class Case:
         self.words = None
         self.files = {}
         self.cut = None
-        # Values for the run, of which there is one for each list.
+        # Values for the run, one for each list.
         self.rows = []
         # Shell commands that prepare the streams and the memory.
         self.prepare = []

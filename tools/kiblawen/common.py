@@ -49,7 +49,7 @@ def status_of(words, **how):
 
 
 def output(*words, status=(0,)):
-    """What a command prints; none where it ends with another status."""
+    """Returns what a command prints, or None if its exit status is not among `status`."""
     ran = subprocess.run(words, stdin=subprocess.DEVNULL, stdout=subprocess.PIPE, stderr=subprocess.PIPE, timeout=SECONDS, check=False)
     return ran.stdout.decode(errors="replace") if ran.returncode in status else None
 

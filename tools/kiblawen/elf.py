@@ -74,7 +74,7 @@ def page_after(path):
 
 
 def build_id(path):
-    """The build identifier of a file in hexadecimal digits; none where its notes have none."""
+    """Returns the build identifier of a file in hexadecimal digits, or None if its notes have none."""
     with open(path, "rb") as file:
         for kind, offset, _, length, _ in list(segments(file)):
             if kind == PT_NOTE:
