@@ -159,12 +159,17 @@ def exported_contracts(lines, exported):
             open_braces += bare.count("{") - bare.count("}")
 
 
-def unreached(found):
+def cited(found):
+    """The definitions that contracts of public functions name."""
     roots = set()
     for crate in sorted({it[0] for it in found.lines}):
         for imports, text in contracts(crate):
             roots |= found.named(text, *found.names(imports))
-    reached = found.below(roots)
+    return roots
+
+
+def unreached(found):
+    reached = found.below(cited(found))
     return [it for it in found.lines if it not in reached]
 
 

@@ -6,8 +6,8 @@
 
 Crates have the order of crates.txt, files that of specs/Lib.antt, definitions that of their file. A comment before a
 definition says what it is, also what the definitions after it are that have no comment of their own. A comment
-`-- ---- text` is a heading. What the clauses of a run rest on (./x closure) has the first sentence of its comment; others
-are named alone, and apart from them those that no contract of a public function reaches (./x closure --unreached).
+`-- ---- text` is a heading. What a contract of a public function names has the first sentence of its comment. What is only
+below such a definition is named alone, and apart from both what no such contract reaches (./x closure --unreached).
 """
 
 import os
@@ -88,24 +88,24 @@ class File:
             self.groups.append(([], comment))
         self.groups[-1][0].append(name)
 
-    def shown(self, trusted, unreached):
+    def shown(self, cited, unreached):
         crate, name = self.module
         yield f"### [{crate}/{name}.antt](../crates/{crate}/specs/{name}.antt)"
         yield ""
-        yield plain(self.head)
+        yield plain([first_sentence(" ".join(self.head))])
         yield ""
-        others, inside = [], []
+        below, inside = [], []
         for names, comment in self.groups:
-            of_run = [it for it in names or () if (*self.module, it) in trusted]
-            others += [it for it in names or () if (*self.module, it) not in trusted | unreached]
+            named = [it for it in names or () if (*self.module, it) in cited]
+            below += [it for it in names or () if (*self.module, it) not in cited | unreached]
             inside += [it for it in names or () if (*self.module, it) in unreached]
-            if of_run:
-                yield f"- {listed(of_run)}" + (f": {said(comment)}" if comment else "")
-        if others:
-            yield f"- also {listed(others)}"
+            if named:
+                yield f"- {listed(named)}" + (f": {said(comment)}" if comment else "")
+        if below:
+            yield f"- below: {listed(below)}"
         if inside:
-            yield f"- in no public contract {listed(inside)}"
-        if others or inside or self.groups:
+            yield f"- in no public contract: {listed(inside)}"
+        if below or inside or self.groups:
             yield ""
 
 
@@ -121,16 +121,17 @@ def listed(names):
 def made():
     found = closure.Definitions()
     unreached = set(closure.unreached(found))
-    trusted = found.below(closure.rows(found)["a run of any command"]) - unreached
+    trusted = found.below(closure.rows(found)["a run of any command"])
+    cited = closure.cited(found)
     lines = []
     shown = [(crate, files(crate)) for crate in crates()]
     shown = [(crate, names) for crate, names in shown if names]
-    lines += [f"{len(found.lines):,} definitions: the clauses of a run rest on {len(trusted):,}, and {len(unreached):,} are in no public contract. The crates, from below upward:"]
+    lines += [f"{len(found.lines):,} definitions: contracts of public functions name {len(cited):,}, the clauses of a run rest on {len(trusted):,}, and {len(unreached):,} are in no public contract. The crates, from below upward:"]
     lines += [", ".join(f"[`{crate}`](#{crate})" for crate, _ in shown) + ".", ""]
     for crate, names in shown:
         lines += [f"## `{crate}`", "", first_sentence(front_page(crate)), ""]
         for name in names:
-            lines += File(crate, name).shown(trusted, unreached)
+            lines += File(crate, name).shown(cited, unreached)
     return "\n".join(lines).rstrip("\n")
 
 
