@@ -43,7 +43,7 @@ entry_passes bytes at i e lt =
     let same : 0 + i ≡ i = omega arith in
     ap (entry_check bytes at) (sym same) ∙ each_passes 0 (function_count_in bytes) i (entry_check bytes at) (passed bytes at e).entries lt
 
--- the parts of its check
+-- the parts of an entry's check
 pub record EntryPassed (bytes : List ℕ) (at i : ℕ) : Type 0 where
   pub fields : entry_fields_check bytes at (entry_place bytes i) ≡ Ok tt
   pub follows : follows_check bytes at i ≡ Ok tt
@@ -75,7 +75,7 @@ rows_of_function : (bytes : List ℕ) (at i : ℕ) → length (function_in bytes
 unfolding function_in rows_of_entry
 rows_of_function bytes at i = rows_length _ _ _ _ _
 
--- the functions have as many rows as their entries say
+-- the functions have as many rows as their entries' numbers
 pub rows_added : (bytes : List ℕ) (at first n : ℕ) → row_count (functions_in bytes at first n) ≡ sum_from first n (rows_of_entry bytes)
 unfolding functions_in
 rows_added bytes at first zero = sym (sum_from-none first (rows_of_entry bytes))

@@ -24,7 +24,7 @@ use Rattle.sf_decode.proofs.Loops.{each_from-none, each_from-suc, sum_from-none,
 use Rattle.sf_decode.proofs.RowsFound.{BeginsFrom, rows_pass}
 use Rattle.sf_decode.proofs.Starts.{raised_of_signed}
 
--- the entry of a number
+-- the entry with a number
 stands_at : (arch : Arch) (bytes : List ℕ) (flags at place : ℕ) (fs : List Func) (k : ℕ) (d : Func) → FunctionsStand arch bytes flags at place fs → k < length fs
     → EntryStands arch bytes (start_origin flags at (place + 20 * k)) (place + 20 * k) (get_or fs k d) × FunctionRowsStand arch bytes (place + 20 * k) (get_or fs k d)
 stands_at arch bytes flags at place [] k d s lt = absurd (omega (lt, arith))
@@ -108,7 +108,7 @@ order_passes bytes at before place f g all x y apart =
     let ends : raised_start bytes at before + size_at bytes before ≤ raised_start bytes at place = omega (first, second, size, apart, arith) in
     behind _ _ (holds _ _ (if_le _ _ starts)) (holds _ _ (if_le _ _ ends))
 
--- the same check of each of so many items
+-- the same check of each of `n` items
 each_of : (first n : ℕ) (check : ℕ → Check) → ((k : ℕ) → k < n → check (first + k) ≡ Ok tt) → each_from first n check ≡ Ok tt
 each_of first zero check f = each_from-none first check
 each_of first (suc n) check f =
@@ -184,7 +184,7 @@ entry_passes bytes at t all s stand i lt =
     (where_passes _ _ (λ follows. order_of bytes at t all s stand i lt (first_of _ _ follows) (second_of _ _ follows))))
     (entry_rows_pass bytes (start_origin (flags_in bytes) at (entry_place bytes i)) (entry_place bytes i) (get_or t.functions i nothing) here.0 here.1)
 
--- what no check refuses: every section
+-- every section passes every check
 pub section_passes : (bytes : List ℕ) (at : ℕ) (t : Table) → AreBytes bytes → Section bytes at t → section_check bytes at ≡ Ok tt
 unfolding section_check count_check
 section_passes bytes at t all s =

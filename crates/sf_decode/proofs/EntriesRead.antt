@@ -20,7 +20,7 @@ use Rattle.sf_decode.proofs.RowsRead.{rows_stand, rows_rise}
 use Rattle.sf_decode.proofs.Standing.{part_are_bytes}
 use Rattle.sf_decode.proofs.Starts.{signed_start}
 
--- what the checks of an entry's own fields say
+-- what the checks of an entry's own fields give
 pub record FieldsPassed (bytes : List ℕ) (at place : ℕ) : Type 0 where
   pub width : start_width_at bytes place ≤ 2
   pub info : IsTrue (is_known_info (arch_in bytes) (info_at bytes place))
@@ -98,7 +98,7 @@ function_rows_stand bytes at place all e r =
     rows_stand (arch_in bytes) (row_bytes_of bytes) (rows_place bytes) (start_width_at bytes place) (row_offset_at bytes place) 0 (row_count_at bytes place)
     (part_are_bytes bytes (rows_place bytes) (rows_len bytes) all) (fields_passed bytes at place e).width r
 
--- so many entries
+-- `n` entries
 functions_stand : (bytes : List ℕ) (at first n : ℕ) → AreBytes bytes → each_from first n (entry_check bytes at) ≡ Ok tt
     → FunctionsStand (arch_in bytes) bytes (flags_in bytes) at (entry_place bytes first) (functions_in bytes at first n)
 unfolding functions_in
@@ -112,7 +112,7 @@ functions_stand bytes at first (suc n) all e =
       subst (λ p. FunctionsStand (arch_in bytes) bytes (flags_in bytes) at p (functions_in bytes at (first + 1) n)) next (functions_stand bytes at (first + 1) n all both.1),
     )
 
--- the function of a number
+-- the function with a number
 pub function_at : (bytes : List ℕ) (at first n k : ℕ) (d : Func) → k < n → get_or (functions_in bytes at first n) k d ≡ function_in bytes at (entry_place bytes (first + k))
 unfolding functions_in
 function_at bytes at first zero k d lt = absurd (omega (lt, arith))
@@ -216,7 +216,7 @@ header_stands bytes at e =
       rows_within = le_if _ _ (unless_holds _ _ lay3.1);
     }
 
--- bytes in which no check fails are a section of what they say
+-- bytes in which no check fails are a section of what they describe
 pub section_stands : (bytes : List ℕ) (at : ℕ) → AreBytes bytes → section_check bytes at ≡ Ok tt → Section bytes at (table_in bytes at)
 section_stands bytes at all e =
     let first : entry_place bytes 0 ≡ functions_place bytes = omega arith in

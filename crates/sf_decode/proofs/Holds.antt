@@ -20,7 +20,7 @@ both_pass (Err f) b e = absurd (let no : Err f ≡ Ok tt = e in cc)
 pub behind : (a b : Check) → a ≡ Ok tt → b ≡ Ok tt → (a >> b) ≡ Ok tt
 behind a b p q = ap (λ (c : Check). c >> b) p ∙ q
 
--- a test that held
+-- a test that holds
 pub unless_holds : (t : Bool) (e : DecodeFault) → unless t e ≡ Ok tt → IsTrue t
 unless_holds true e p = refl
 unless_holds false e p = absurd (let no : Err e ≡ Ok tt = p in cc)

@@ -1,4 +1,4 @@
--- What the checks say is what the standard says.
+-- What is checked is what the standard says.
 use Rattle.std.proofs.Common.{◌≡◌, ◌<◌, ◌≤◌, ℕ, ◌+◌, ◌^◌, IsTrue, length, get_or, arith, List, Ok, Err, ap, sym, ◌∙◌}
 use Rattle.std.specs.Prelude.{is_ok}
 use Rattle.sf_model.specs.declared.function.Func.{Func}
@@ -14,7 +14,7 @@ use Rattle.sf_decode.proofs.EntriesRead.{section_stands, header_stands, function
 use Rattle.sf_decode.proofs.Checked.{functions_length}
 use Rattle.sf_decode.proofs.Holds.{nothing_wrong}
 
--- a section is what its bytes say
+-- a section is the table that its bytes describe
 pub section_found : (bytes : List ℕ) (at : ℕ) (t : Table) → AreBytes bytes → Section bytes at t → table_in bytes at ≡ t
 section_found bytes at t all s = table_same bytes at (table_in bytes at) t (section_stands bytes at all (section_passes bytes at t all s)) s
 
@@ -26,7 +26,7 @@ no_section bytes at t e all fault s = let both : Err e ≡ Ok tt = sym fault ∙
 pub view_stands : (bytes : List ℕ) (at : ℕ) → AreBytes bytes → IsTrue (is_ok (section_check bytes at)) → Section bytes at (table_in bytes at)
 view_stands bytes at all e = section_stands bytes at all (nothing_wrong (section_check bytes at) e)
 
--- the function of a number
+-- a view's bytes are a section of its table
 pub function_of_number : (bytes : List ℕ) (at i : ℕ) (d : Func) → i < length (table_in bytes at).functions
     → get_or (table_in bytes at).functions i d ≡ function_in bytes at (entry_place bytes i)
 function_of_number bytes at i d lt =

@@ -1,4 +1,4 @@
--- Rows that stand at a place pass their checks.
+-- Rows at a place, by the standard, pass their checks.
 use Rattle.std.proofs.Common.{◌≡◌, ◌<◌, ◌≤◌, ℕ, zero, suc, ◌+◌, ◌*◌, ℤ, Bool, true, false, IsTrue, List, [], ◌∷◌, ◌++◌, length, Ok, refl, ap, sym, subst, ◌∙◌, arith, nat_le}
 use Rattle.std.specs.Prelude.{⊤, is_none, Option, Some, None, drop, slice_index, get_or, option_to_list}
 use Rattle.std.specs.List.{flat_map}
@@ -25,7 +25,7 @@ use Rattle.sf_decode.proofs.Holds.{not_true, behind, holds, if_le, lt_if, not_le
 use Rattle.sf_decode.proofs.Loops.{rows_check-suc, rows_check-none}
 use Rattle.sf_decode.proofs.Standing.{len_of_width, length-unsigned, length-signed}
 
--- a number at a place is the first of what stands from there on
+-- a number at a place is the first of the bytes from there on
 number_in_front : (n p i : ℕ) (bytes : List ℕ) → little_from (p + i) n bytes ≡ little_from i n (drop p bytes)
 number_in_front zero p i bytes = refl
 number_in_front (suc n) p i bytes =
@@ -37,7 +37,7 @@ number_in_front (suc n) p i bytes =
 number_at_front : (n p : ℕ) (bytes : List ℕ) → little_from p n bytes ≡ little_from 0 n (drop p bytes)
 number_at_front n p bytes = let same : p ≡ p + 0 = omega arith in ap (λ k. little_from k n bytes) same ∙ number_in_front n p 0 bytes
 
--- what stands at a place is in front there, and within the bytes
+-- a run at a place is in front of the bytes from there on, and within the bytes
 in_front : (bytes : List ℕ) (p : ℕ) (run : List ℕ) → StandsAt bytes p run → drop p bytes ≡ run ++ drop (length run) (drop p bytes)
 in_front bytes p run s = sym (take-append-drop (length run) (drop p bytes)) ∙ ap (λ l. l ++ drop (length run) (drop p bytes)) s
 
@@ -48,7 +48,7 @@ within_bytes bytes p run s some =
     let left = length-drop p bytes in
     omega (cut, short, left, some, arith)
 
--- an unsigned number that stands at the front is read
+-- an unsigned number at the front is read
 unsigned_read : (bytes : List ℕ) (w p n : ℕ) (rest : List ℕ) → w ≤ 2 → IsTrue (holds_unsigned n w) → drop p bytes ≡ unsigned_bytes w n ++ rest → unsigned_in w p bytes ≡ n
 unfolding unsigned_in
 unsigned_read bytes zero p n rest k held e = number_at_front 1 p bytes ∙ (ap (little_from 0 1) e ∙ little_number-reads_back 1 n rest (lt_if n 256 held))
@@ -119,7 +119,7 @@ offsets_length w (z ∷ zs) =
     let later = offsets_length w zs in
     ap length (flat_map-cons (signed_bytes w) z zs) ∙ (length-append (signed_bytes w z) (flat_map (signed_bytes w) zs) ∙ omega (first, later, arith))
 
--- a row that stands at a place
+-- a row at a place
 record RowFound (arch : Arch) (rows : List ℕ) (w z p : ℕ) (row : Row) : Type 0 where
   start : unsigned_in w p rows ≡ row.start
   parts : InfoParts (row_info rows w p) (length (row_offsets row.content)) z row.content.signed
@@ -157,7 +157,7 @@ row_found arch rows w z p row s =
       within = omega (end, bounds, arith);
     }
 
--- it passes its checks
+-- such a row passes its checks
 row_passes : (arch : Arch) (rows : List ℕ) (o w z p least : ℕ) (row : Row) → RowStands arch rows w z p row → least ≤ row.start → row_check arch rows o w p least ≡ Ok tt
 unfolding row_check
 row_passes arch rows o w z p least row s rising =
@@ -172,7 +172,7 @@ row_passes arch rows o w z p least row s rising =
     behind _ _ (behind _ _ (behind _ _ (behind _ _ (behind _ _ (holds _ _ (if_le _ _ found.head)) (holds _ _ (if_le _ _ width))) (holds _ _ count)) (holds _ _ (if_le _ _ found.within))) (holds _ _ sign))
     (holds _ _ (if_le _ _ above))
 
--- the first row's start, where there is one
+-- the first row's start, if there is a row
 abbrev pub BeginsFrom : (least : ℕ) → List Row → Type 0
 BeginsFrom least [] = ⊤
 BeginsFrom least (row ∷ rows) = least ≤ row.start
@@ -186,7 +186,7 @@ begins_later : (row : Row) (rows : List Row) → RowsRise (row ∷ rows) → Beg
 begins_later row [] rise = tt
 begins_later row (next ∷ rows) rise = let above = rise 0 row (omega arith) in omega (above, arith)
 
--- rows that stand and rise pass theirs
+-- rows that rise pass their checks
 pub rows_pass : (arch : Arch) (rows : List ℕ) (o w p least end : ℕ) (rs : List Row) → RowsStand AnyWidth arch rows w p end rs → RowsRise rs → BeginsFrom least rs
     → rows_check arch rows o w p least (length rs) ≡ Ok tt
 rows_pass arch rows o w p least end [] s rise from = rows_check-none arch rows o w p least

@@ -18,7 +18,7 @@ use Rattle.sf_decode.proofs.Holds.{not_true, both_pass, unless_holds, both_of, s
 use Rattle.sf_decode.proofs.Loops.{rows_check-suc}
 use Rattle.sf_decode.proofs.Standing.{len_of_width, stands_cons, stands_append, unsigned_stands, unsigned_held, signed_stands, signed_held, length-unsigned, length-signed}
 
--- what the checks of a row say
+-- what the checks of a row give
 pub record RowPassed (arch : Arch) (rows : List ℕ) (w p least info : ℕ) : Type 0 where
   pub head : offsets_place w p ≤ length rows
   pub width : offset_width_in info ≤ 2
@@ -44,7 +44,7 @@ row_passed arch rows o w p least e =
       rising = le_if _ _ (unless_holds _ _ five.1);
     }
 
--- so many signed numbers of a width, one after the other
+-- `count` consecutive signed numbers of a width
 abbrev offsets_from : (w len p count : ℕ) → List ℕ → List ℤ
 offsets_from w len p zero rows = []
 offsets_from w len p (suc count) rows = signed_in w p rows ∷ offsets_from w len (p + len) count rows
@@ -69,7 +69,7 @@ offsets_are Aarch64 w len p (suc (suc zero)) rows e = refl
 offsets_are Aarch64 w len p (suc (suc (suc zero))) rows e = refl
 offsets_are Aarch64 w len p (suc (suc (suc (suc n)))) rows e = absurd (let most = few Aarch64 (suc (suc (suc (suc n)))) e in omega (most, arith))
 
--- such a content is one of the machine
+-- a content with such offsets is one of the machine
 fits : (arch : Arch) (count : ℕ) (y z : ℤ) (signed : Bool) → IsTrue (has_offset_count arch count) → IsTrue (may_be_signed arch signed)
     → IsTrue (return_fits arch (ra_in arch count y) (is_none (fp_in arch count y z)) signed)
 fits Amd64 count y z signed e s = s
@@ -79,7 +79,7 @@ fits Aarch64 (suc (suc zero)) y z signed e s = refl
 fits Aarch64 (suc (suc (suc zero))) y z signed e s = refl
 fits Aarch64 (suc (suc (suc (suc n)))) y z signed e s = absurd (let most = few Aarch64 (suc (suc (suc (suc n)))) e in omega (most, arith))
 
--- the bytes of so many numbers
+-- the bytes of `count` numbers
 offsets_length : (w len p count : ℕ) (rows : List ℕ) → len ≡ width_len w → length (flat_map (signed_bytes w) (offsets_from w len p count rows)) ≡ count * len
 offsets_length w len p zero rows same = omega arith
 offsets_length w len p (suc count) rows same =

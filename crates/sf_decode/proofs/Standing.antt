@@ -1,4 +1,4 @@
--- Runs of bytes that stand at a place: of numbers that are read there.
+-- Runs of bytes at a place: those of numbers that are read there.
 use Rattle.std.proofs.Common.{◌≡◌, ◌<◌, ◌≤◌, ℕ, zero, suc, ◌+◌, ◌-◌, ◌%◌, ℤ, pos, Bool, true, false, IsTrue, List, [], ◌∷◌, ◌++◌, length, refl, ap, sym, subst, ◌∙◌, arith, nat_lt, w32, of_z}
 use Rattle.std.specs.Prelude.{negsuc, ◌-ℤ◌, if◌then◌else◌, take, drop, slice_index}
 use Rattle.std.proofs.Math.IntN.{sub_ℕ}
@@ -40,7 +40,7 @@ stands_append bytes p a b x y =
     ∙ (ap (λ l. l ++ take (length b) (drop (length a) (drop p bytes))) x
     ∙ ap (λ l. a ++ l) (ap (take (length b)) (drop-drop (length a) p bytes) ∙ y)))
 
--- the bytes of a number whose low part stands there
+-- the bytes of a number whose low part is read there
 one_byte : (bytes : List ℕ) (p x : ℕ) → AreBytes bytes → p + 1 ≤ length bytes → x % 256 ≡ little_from p 1 bytes → StandsAt bytes p (little_bytes 1 x)
 one_byte bytes p x all within e =
     let first : slice_index bytes p ≡ byte_at 0 x = omega (e, all p, arith) in

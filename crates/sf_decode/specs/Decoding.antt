@@ -1,4 +1,5 @@
--- GNU SFrame specification, Version 2: what is checked of a section, in order, and what its bytes say.
+-- GNU SFrame specification, Version 2: what is checked of a section, in order, and the table that its
+-- bytes describe.
 use Rattle.std.specs.Prelude.{ℕ, ◌==◌, List}
 use Rattle.sf_model.specs.Table.{Table}
 use Rattle.sf_decode.specs.declared.fault.DecodeFault.TheVariants.{Count}
@@ -18,6 +19,6 @@ count_check bytes = unless (sum_from 0 (function_count_in bytes) (rows_of_entry 
 unfoldable pub section_check : List ℕ → (at : ℕ) → Check
 section_check bytes at = header_check bytes >> count_check bytes >> each_from 0 (function_count_in bytes) (entry_check bytes at)
 
--- what the bytes say, where they are a section
+-- the table that the bytes describe, where they are a section
 abbrev pub table_in : List ℕ → (at : ℕ) → Table
 table_in bytes at = record { arch = arch_in bytes; flags = flags_in bytes; functions = functions_in bytes at 0 (function_count_in bytes) }

@@ -1,4 +1,4 @@
--- The number and the place that the line of a refused section shows.
+-- The number and the place that the line of a refused section prints.
 use Rattle.std.specs.Prelude.{ℕ, Bool, nat_le}
 use Rattle.sf_decode.specs.declared.fault.DecodeFault.{DecodeFault}
 use Rattle.sf_decode.specs.declared.fault.DecodeFault.TheVariants.{Short, Magic, Version, Flags, Abi, FixedOffset, Layout, Count, RowType, Reserved, RepeatZero, OffsetCount, OffsetSize, RowOrder, Unsorted, Overlap, AddressRange, TooManyFunctions, TooManyRows}

@@ -5,18 +5,19 @@ use Rattle.sf_decode.specs.declared.fault.DecodeFault.TheVariants.{Short, Magic,
 use Rattle.sf_decode.specs.Checking.{Check, unless, ◌>>◌}
 use Rattle.sf_decode.specs.Entry.{arch_in}
 
--- the numbers of functions and of rows that the header says
+-- the header's number of functions
 abbrev pub function_count_in : List ℕ → ℕ
 function_count_in bytes = number_in 4 8 bytes
 
+-- the header's number of rows
 abbrev pub row_count_in : List ℕ → ℕ
 row_count_in bytes = number_in 4 12 bytes
 
--- AArch64 little-endian 2, AMD64 3
+-- the abi and architecture is AArch64 little-endian, 2, or AMD64, 3
 abbrev pub is_known_abi : ℕ → Bool
 is_known_abi abi = (abi == 2) || (abi == 3)
 
--- the preamble: magic, version, flags
+-- the check of the preamble: magic, version, flags
 unfoldable pub preamble_check : List ℕ → Check
 preamble_check bytes =
     unless (nat_le 28 (length bytes)) (Short (length bytes))
@@ -24,7 +25,7 @@ preamble_check bytes =
     >> unless (slice_index bytes 2 == 2) (Version 2)
     >> unless (nat_lt (slice_index bytes 3) 8) (Flags 3)
 
--- the machine, its fixed offsets, and the auxiliary header
+-- the check of the machine, its fixed offsets, and the auxiliary header
 unfoldable pub machine_check : List ℕ → Check
 machine_check bytes =
     unless (is_known_abi (slice_index bytes 4)) (Abi 4)
@@ -32,7 +33,7 @@ machine_check bytes =
     >> unless (slice_index bytes 6 == fixed_return_byte (arch_in bytes)) (FixedOffset 6)
     >> unless (nat_le (header_end bytes) (length bytes)) (Short (length bytes))
 
--- the counts are within the limits, and both sub-sections lie in the bytes
+-- the check that the counts are within the limits, and that both sub-sections lie in the bytes
 unfoldable pub layout_check : List ℕ → Check
 layout_check bytes =
     unless (nat_le (function_count_in bytes) (2 ^ 21)) (TooManyFunctions 8)
@@ -40,6 +41,6 @@ layout_check bytes =
     >> unless (nat_le (functions_place bytes + 20 * function_count_in bytes) (length bytes)) (Layout 20)
     >> unless (nat_le (rows_place bytes + rows_len bytes) (length bytes)) (Layout 24)
 
--- the header
+-- all checks of the header
 unfoldable pub header_check : List ℕ → Check
 header_check bytes = preamble_check bytes >> machine_check bytes >> layout_check bytes

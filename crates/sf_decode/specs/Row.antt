@@ -29,7 +29,7 @@ signed_in width place bytes = twos_complement (number_len width) (little_from pl
 abbrev pub info_place : (start_width place : ℕ) → ℕ
 info_place start_width place = place + number_len start_width
 
--- the place of its first offset
+-- the place of a row's first offset
 abbrev pub offsets_place : (start_width place : ℕ) → ℕ
 offsets_place start_width place = info_place start_width place + 1
 
@@ -37,15 +37,15 @@ offsets_place start_width place = info_place start_width place + 1
 abbrev pub base_in : (info : ℕ) → Base
 base_in info = if info % 2 == 0 then Fp else Sp
 
--- bits 1 to 4: the number of offsets
+-- the info byte's bits 1 to 4: the number of offsets
 abbrev pub offset_count_in : (info : ℕ) → ℕ
 offset_count_in info = info / 2 % 16
 
--- bits 5 and 6: the width of the offsets
+-- the info byte's bits 5 and 6: the width of the offsets
 abbrev pub offset_width_in : (info : ℕ) → ℕ
 offset_width_in info = info / 32 % 4
 
--- bit 7: the return address is signed
+-- the info byte's bit 7: the return address is signed
 abbrev pub is_signed_in : (info : ℕ) → Bool
 is_signed_in info = nat_le 128 info
 
@@ -57,12 +57,12 @@ row_info rows start_width place = slice_index rows (info_place start_width place
 abbrev pub row_end : (start_width place info : ℕ) → ℕ
 row_end start_width place info = offsets_place start_width place + offset_count_in info * number_len (offset_width_in info)
 
--- the offsets that rows of a machine have: one or two on AMD64, one to three on AArch64
+-- rows of the machine can have `count` offsets: one or two on AMD64, one to three on AArch64
 abbrev pub has_offset_count : Arch → (count : ℕ) → Bool
 has_offset_count Amd64 count = nat_le 1 count && nat_le count 2
 has_offset_count Aarch64 count = nat_le 1 count && nat_le count 3
 
--- only AArch64 signs return addresses
+-- the return address is not signed, or the machine is AArch64: only AArch64 signs return addresses
 abbrev pub may_be_signed : Arch → (signed : Bool) → Bool
 may_be_signed Amd64 signed = not signed
 may_be_signed Aarch64 signed = true
@@ -78,18 +78,19 @@ row_check arch rows origin start_width place least =
     >> unless (may_be_signed arch (is_signed_in info)) (Reserved (origin + place))
     >> unless (nat_le least (unsigned_in start_width place rows)) (RowOrder (origin + place))
 
--- the same of so many rows one after the other: each start is above the one before
+-- the checks of `count` consecutive rows: each start is above the one before
 unfoldable pub rows_check : Arch → List ℕ → (origin start_width place least count : ℕ) → Check
 rows_check arch rows origin start_width place least zero = Ok tt
 rows_check arch rows origin start_width place least (suc count) =
     row_check arch rows origin start_width place least
     >> rows_check arch rows origin start_width (row_end start_width place (row_info rows start_width place)) (unsigned_in start_width place rows + 1) count
 
--- the return address and the frame pointer, by the machine, the number of offsets, and the second and third offset
+-- the return address, by the machine, the number of offsets, and the second offset
 abbrev pub ra_in : Arch → (count : ℕ) → (second : ℤ) → Ra
 ra_in Amd64 count second = Fixed
 ra_in Aarch64 count second = if nat_le 2 count then At second else Link
 
+-- the frame pointer, by the machine, the number of offsets, and the second and third offset
 abbrev pub fp_in : Arch → (count : ℕ) → (second third : ℤ) → Option ℤ
 fp_in Amd64 count second third = if nat_le 2 count then Some second else None
 fp_in Aarch64 count second third = if nat_le 3 count then Some third else None
@@ -114,7 +115,7 @@ row_in arch rows start_width place = record {
   content = content_in arch rows (row_info rows start_width place) (offsets_place start_width place);
 }
 
--- so many rows one after the other
+-- `count` consecutive rows
 unfoldable pub rows_in : Arch → List ℕ → (start_width place count : ℕ) → List Row
 rows_in arch rows start_width place zero = []
 rows_in arch rows start_width place (suc count) =

@@ -1,4 +1,4 @@
--- What a section that was checked shows.
+-- What a view shows of the section that was checked.
 use Rattle.std.specs.Prelude.{ℕ, List, length}
 use Rattle.sf_model.specs.declared.function.Func.{Func}
 use Rattle.sf_model.specs.declared.function.FuncHead.{FuncHead}
@@ -10,18 +10,19 @@ use Rattle.sf_decode.specs.Row.{rows_in}
 use Rattle.sf_decode.specs.Entry.{entry_place, function_in}
 use Rattle.sf_decode.specs.Decoding.{table_in}
 
--- the bytes of the whole section, and its address
+-- the bytes of the whole section
 abbrev pub section_bytes : View → List ℕ
 section_bytes view = view.bytes.now
 
+-- the section's address
 abbrev pub section_address : View → ℕ
 section_address view = view.at
 
--- what the section says
+-- the table that the section describes
 abbrev pub table_of : View → Table
 table_of view = table_in view.bytes.now view.at
 
--- the function of the entry of a number
+-- the function of the entry with a number
 abbrev pub function_of : View → (i : ℕ) → Func
 function_of view i = function_in view.bytes.now view.at (entry_place view.bytes.now i)
 

@@ -5,7 +5,7 @@ ghost use Rattle.sf_decode.specs.Checking.{unless};
 
 use crate::fault::DecodeFault;
 
-/// Answers the fault unless the test holds.
+/// Returns the fault unless the test holds.
 #[inline(always)]
 pub fn require(test: bool, fault: DecodeFault) -> Result<(), DecodeFault>
     ensures answer { result ≡ unless test fault }

@@ -24,7 +24,7 @@ pub struct Bounds {
     pub end: u128,
 }
 
-/// The place of an entry.
+/// Returns the place of an entry.
 #[inline(always)]
 pub fn entry_place(bytes: &[u8], i: u32) -> u64
     ensures value { result ≡ spec.entry_place bytes.now i }
@@ -33,7 +33,7 @@ pub fn entry_place(bytes: &[u8], i: u32) -> u64
     functions_place(bytes) + FUNCTION_ENTRY_LEN * u64::from(i)
 }
 
-/// The size of the function in bytes.
+/// Returns the size of the function in bytes.
 #[inline(always)]
 pub fn size_at(bytes: &[u8], place: u64) -> u32
     requires { place < 2 ^ 62 }
@@ -42,7 +42,7 @@ pub fn size_at(bytes: &[u8], place: u64) -> u32
     u32_at(bytes, place + SIZE_PLACE)
 }
 
-/// The place of its first row in the sub-section of rows.
+/// Returns the place of the function's first row in the sub-section of rows.
 #[inline(always)]
 pub fn row_offset_at(bytes: &[u8], place: u64) -> u32
     requires { place < 2 ^ 62 }
@@ -51,7 +51,7 @@ pub fn row_offset_at(bytes: &[u8], place: u64) -> u32
     u32_at(bytes, place + ROW_OFFSET_PLACE)
 }
 
-/// The number of its rows.
+/// Returns the number of the function's rows.
 #[inline(always)]
 pub fn row_count_at(bytes: &[u8], place: u64) -> u32
     requires { place < 2 ^ 62 }
@@ -60,7 +60,7 @@ pub fn row_count_at(bytes: &[u8], place: u64) -> u32
     u32_at(bytes, place + ENTRY_ROW_COUNT_PLACE)
 }
 
-// The info byte.
+// Returns the info byte.
 #[inline(always)]
 fn info_at(bytes: &[u8], place: u64) -> u8
     requires { place < 2 ^ 62 }
@@ -69,7 +69,7 @@ fn info_at(bytes: &[u8], place: u64) -> u8
     byte_at(bytes, place + INFO_PLACE)
 }
 
-// The repeat size.
+// Returns the repeat size.
 #[inline(always)]
 fn repeat_size_at(bytes: &[u8], place: u64) -> u8
     requires { place < 2 ^ 62 }
@@ -78,7 +78,7 @@ fn repeat_size_at(bytes: &[u8], place: u64) -> u8
     byte_at(bytes, place + REPEAT_SIZE_PLACE)
 }
 
-/// The width of its rows' starts.
+/// Returns the width of the function's row starts.
 #[inline(always)]
 pub fn start_width_at(bytes: &[u8], place: u64) -> u8
     requires { place < 2 ^ 62 }
@@ -87,7 +87,7 @@ pub fn start_width_at(bytes: &[u8], place: u64) -> u8
     info_at(bytes, place) % ROW_TYPES
 }
 
-// Whether functions are sorted by start.
+// Returns whether functions are sorted by start.
 #[inline(always)]
 fn is_sorted(flags: u8) -> bool
     ensures { result ≡ section.is_sorted flags }
@@ -95,7 +95,7 @@ fn is_sorted(flags: u8) -> bool
     flags % 2 == SORTED
 }
 
-// The address that a start counts from.
+// Returns the address that a start counts from.
 #[inline(always)]
 fn start_origin(flags: u8, at: u64, place: u64) -> u128
     ensures value { result ≡ section.start_origin flags at place }
@@ -108,7 +108,7 @@ fn start_origin(flags: u8, at: u64, place: u64) -> u128
     }
 }
 
-// The start moved up by 2^31, so that it is never below 0.
+// Returns the start moved up by 2^31, so that it is never below 0.
 #[tactic(auto, unfolding(crate::specs::Entry::raised_start))]
 #[inline(always)]
 fn raised_start(bytes: &[u8], at: u64, place: u64) -> u128
@@ -120,7 +120,7 @@ fn raised_start(bytes: &[u8], at: u64, place: u64) -> u128
     start_origin(flags_of(bytes), at, place) + u128::from(field)
 }
 
-// Whether the rows repeat.
+// Returns whether the rows repeat.
 #[inline(always)]
 fn is_repeated(info: u8) -> bool
     ensures { result ≡ spec.is_repeated info }
@@ -128,7 +128,7 @@ fn is_repeated(info: u8) -> bool
     info / FUNCTION_TYPE % 2 == 1
 }
 
-// The key.
+// Returns the key.
 #[inline(always)]
 fn key_of(info: u8) -> Key
     ensures { result ≡ spec.key_in info }
@@ -136,7 +136,7 @@ fn key_of(info: u8) -> Key
     if info / KEY % 2 == 0 { Key::A } else { Key::B }
 }
 
-// Whether only bits that have a meaning are set, and the machine has the key.
+// Returns whether only bits that have a meaning are set, and the machine has the key.
 #[inline(always)]
 fn is_known_info(arch: Arch, info: u8) -> bool
     ensures { result ≡ spec.is_known_info arch info }
@@ -147,7 +147,7 @@ fn is_known_info(arch: Arch, info: u8) -> bool
     }
 }
 
-// Whether a function whose rows repeat has a repeat size.
+// Returns whether a function whose rows repeat has a repeat size.
 #[inline(always)]
 fn has_repeat_size(info: u8, size: u8) -> bool
     ensures { result ≡ spec.has_repeat_size info size }
@@ -155,7 +155,7 @@ fn has_repeat_size(info: u8, size: u8) -> bool
     !is_repeated(info) || size != 0
 }
 
-// Whether a function's start is an address, and it ends at 2^64 or before.
+// Returns whether a function's start is an address, and its end is at most 2^64.
 #[inline(always)]
 fn lies_in_memory(bounds: Bounds) -> bool
     ensures { result ≡ spec.lies_in_memory bounds.start bounds.end }
@@ -164,7 +164,7 @@ fn lies_in_memory(bounds: Bounds) -> bool
     1 << 31 <= bounds.start && bounds.start < end && bounds.end <= end
 }
 
-// Where the function of an entry starts and ends.
+// Returns where the function of an entry starts and ends.
 #[inline(always)]
 fn bounds_at(bytes: &[u8], at: u64, place: u64) -> Bounds
     requires { place < 2 ^ 62 }
@@ -177,7 +177,7 @@ fn bounds_at(bytes: &[u8], at: u64, place: u64) -> Bounds
     }
 }
 
-// The checks of an entry's own fields. Answers where its function starts and ends.
+// Checks an entry's own fields. Returns where its function starts and ends.
 #[tactic(auto, unfolding(crate::specs::Entry::entry_fields_check, crate::specs::Entry::is_in_memory))]
 #[inline(always)]
 fn check_fields(bytes: &[u8], at: u64, place: u64) -> Result<Bounds, DecodeFault>
@@ -203,7 +203,7 @@ fn check_fields(bytes: &[u8], at: u64, place: u64) -> Result<Bounds, DecodeFault
     Ok(bounds)
 }
 
-// That a function of a sorted section starts where the one before ends, or after.
+// Checks that a function of a sorted section starts where the one before ends, or after.
 #[inline(always)]
 fn check_order(before: Bounds, here: Bounds, place: u64) -> Result<(), DecodeFault>
     ensures { result ≡ spec.behind_check before.start before.end here.start place }
@@ -212,7 +212,7 @@ fn check_order(before: Bounds, here: Bounds, place: u64) -> Result<(), DecodeFau
     require(before.end <= here.start, DecodeFault::Overlap(place))
 }
 
-// The order, where functions are sorted and there is an entry before.
+// Checks the order, where functions are sorted and there is an entry before.
 #[inline(always)]
 fn check_follows(bytes: &[u8], i: u32, before: Bounds, here: Bounds) -> Result<(), DecodeFault>
     ensures { result ≡ where_so (section.is_sorted (spec.flags_in bytes.now) && not (i == 0)) (spec.behind_check before.start before.end here.start (spec.entry_place bytes.now i)) }
@@ -223,7 +223,7 @@ fn check_follows(bytes: &[u8], i: u32, before: Bounds, here: Bounds) -> Result<(
     check_order(before, here, entry_place(bytes, i))
 }
 
-// The rows of an entry.
+// Checks the rows of an entry.
 #[tactic(auto, unfolding(crate::specs::Entry::entry_rows_check))]
 fn check_entry_rows(bytes: &[u8], place: u64) -> Result<(), DecodeFault>
     requires { place < 2 ^ 62 }
@@ -239,8 +239,8 @@ fn check_entry_rows(bytes: &[u8], place: u64) -> Result<(), DecodeFault>
     )
 }
 
-/// The checks of an entry: its fields, its order, its rows. `before` is where the function of the entry before starts and
-/// ends, or anything for the first entry. Answers where this one does.
+/// Checks an entry: its fields, its order, its rows. `before` is where the function of the entry before starts and
+/// ends, or anything for the first entry. Returns where the function of this entry starts and ends.
 pub fn check_entry(bytes: &[u8], at: u64, i: u32, before: Bounds) -> Result<Bounds, DecodeFault>
     requires before { 0 < i → before ≡ bounds_of bytes.now at (spec.entry_place bytes.now (i - 1)) }
     ensures checked { verdict result ≡ spec.entry_check bytes.now at i }
@@ -253,7 +253,7 @@ pub fn check_entry(bytes: &[u8], at: u64, i: u32, before: Bounds) -> Result<Boun
     Ok(here)
 }
 
-/// The function's start.
+/// Returns the function's start.
 #[tactic(auto, unfolding(crate::specs::Entry::is_in_memory))]
 #[inline(always)]
 pub fn start_at(bytes: &[u8], at: u64, place: u64) -> u64
@@ -264,7 +264,7 @@ pub fn start_at(bytes: &[u8], at: u64, place: u64) -> u64
     (raised_start(bytes, at, place) - (1 << 31)) as u64
 }
 
-/// How the rows are looked up.
+/// Returns how the rows are looked up.
 #[inline(always)]
 pub fn shape_at(bytes: &[u8], place: u64) -> Shape
     requires { place < 2 ^ 62 }
@@ -277,7 +277,7 @@ pub fn shape_at(bytes: &[u8], place: u64) -> Shape
     }
 }
 
-/// The key of its signed return addresses.
+/// Returns the key of the function's signed return addresses.
 #[inline(always)]
 pub fn key_at(bytes: &[u8], place: u64) -> Key
     requires { place < 2 ^ 62 }

@@ -9,7 +9,7 @@ pub enum DecodeFault {
     Magic(u64),
     /// The version isn't 2.
     Version(u64),
-    /// A flag is set that isn't known.
+    /// An unknown flag is set.
     Flags(u64),
     /// The abi and architecture is neither AMD64 nor AArch64 little-endian.
     Abi(u64),
@@ -19,15 +19,15 @@ pub enum DecodeFault {
     Layout(u64),
     /// The entries' numbers of rows don't add up to the header's.
     Count(u64),
-    /// Row starts have no width that there is.
+    /// The width of row starts is invalid.
     RowType(u64),
-    /// A bit is set that has no meaning.
+    /// A bit without a meaning is set.
     Reserved(u64),
     /// A function's rows repeat after 0 bytes.
     RepeatZero(u64),
     /// A row has more or fewer offsets than the machine's rows.
     OffsetCount(u64),
-    /// Offsets have no width that there is.
+    /// The width of offsets is invalid.
     OffsetSize(u64),
     /// A row doesn't start above the one before.
     RowOrder(u64),

@@ -16,7 +16,7 @@ use crate::layout::{
 use crate::number::{byte_at, bytes_at, u16_at, u32_at};
 use sf_model::Arch;
 
-/// The preamble's flags.
+/// Returns the preamble's flags.
 #[inline(always)]
 pub fn flags_of(bytes: &[u8]) -> u8
     ensures { result ≡ entry.flags_in bytes.now }
@@ -24,7 +24,7 @@ pub fn flags_of(bytes: &[u8]) -> u8
     byte_at(bytes, FLAGS_PLACE)
 }
 
-/// The machine.
+/// Returns the machine.
 #[inline(always)]
 pub fn arch_of(bytes: &[u8]) -> Arch
     ensures { result ≡ entry.arch_in bytes.now }
@@ -36,7 +36,7 @@ pub fn arch_of(bytes: &[u8]) -> Arch
     }
 }
 
-/// The number of functions.
+/// Returns the number of functions.
 #[inline(always)]
 pub fn function_count(bytes: &[u8]) -> u32
     ensures { result ≡ spec.function_count_in bytes.now }
@@ -44,7 +44,7 @@ pub fn function_count(bytes: &[u8]) -> u32
     u32_at(bytes, FUNCTION_COUNT_PLACE)
 }
 
-/// The number of rows of all functions.
+/// Returns the number of rows of all functions.
 #[inline(always)]
 pub fn row_count(bytes: &[u8]) -> u32
     ensures { result ≡ spec.row_count_in bytes.now }
@@ -52,7 +52,7 @@ pub fn row_count(bytes: &[u8]) -> u32
     u32_at(bytes, ROW_COUNT_PLACE)
 }
 
-// Where the header and the auxiliary header end.
+// Returns where the header and the auxiliary header end.
 #[inline(always)]
 fn header_end(bytes: &[u8]) -> u64
     ensures value { result ≡ section.header_end bytes.now }
@@ -61,7 +61,7 @@ fn header_end(bytes: &[u8]) -> u64
     HEADER_LEN + u64::from(byte_at(bytes, AUXILIARY_LEN_PLACE))
 }
 
-/// The place of the first function descriptor entry.
+/// Returns the place of the first function descriptor entry.
 #[inline(always)]
 pub fn functions_place(bytes: &[u8]) -> u64
     ensures value { result ≡ section.functions_place bytes.now }
@@ -70,7 +70,7 @@ pub fn functions_place(bytes: &[u8]) -> u64
     header_end(bytes) + u64::from(u32_at(bytes, FUNCTIONS_OFFSET_PLACE))
 }
 
-/// The place of the sub-section of rows.
+/// Returns the place of the sub-section of rows.
 #[inline(always)]
 pub fn rows_place(bytes: &[u8]) -> u64
     ensures value { result ≡ section.rows_place bytes.now }
@@ -79,7 +79,7 @@ pub fn rows_place(bytes: &[u8]) -> u64
     header_end(bytes) + u64::from(u32_at(bytes, ROWS_OFFSET_PLACE))
 }
 
-// The length of the sub-section of rows.
+// Returns the length of the sub-section of rows.
 #[inline(always)]
 fn rows_len(bytes: &[u8]) -> u64
     ensures value { result ≡ section.rows_len bytes.now }
@@ -88,7 +88,7 @@ fn rows_len(bytes: &[u8]) -> u64
     u64::from(u32_at(bytes, ROWS_LEN_PLACE))
 }
 
-/// The bytes of the sub-section of rows.
+/// Returns the bytes of the sub-section of rows.
 pub fn row_bytes(bytes: &[u8]) -> &[u8]
     ensures value { result.now ≡ section.row_bytes_of bytes.now }
     ensures small { length result.now < 2 ^ 32 }
@@ -96,14 +96,14 @@ pub fn row_bytes(bytes: &[u8]) -> &[u8]
     bytes_at(bytes, rows_place(bytes), rows_len(bytes))
 }
 
-// Whether the abi and architecture is one of the two.
+// Returns whether the abi and architecture is one of the two.
 fn is_known_abi(abi: u8) -> bool
     ensures { result ≡ spec.is_known_abi abi }
 {
     abi == ABI_AARCH64 || abi == ABI_AMD64
 }
 
-// The fixed offset of the machine's return address, as a byte.
+// Returns the fixed offset of the machine's return address, as a byte.
 fn fixed_return(arch: Arch) -> u8
     ensures { result ≡ section.fixed_return_byte arch }
 {
@@ -113,7 +113,7 @@ fn fixed_return(arch: Arch) -> u8
     }
 }
 
-// The magic number, the version and the flags.
+// Checks the magic number, the version and the flags.
 #[tactic(auto, unfolding(crate::specs::Header::preamble_check))]
 fn check_preamble(bytes: &[u8]) -> Result<(), DecodeFault>
     ensures { result ≡ spec.preamble_check bytes.now }
@@ -131,7 +131,7 @@ fn check_preamble(bytes: &[u8]) -> Result<(), DecodeFault>
     require(flags_of(bytes) < FLAGS_END, DecodeFault::Flags(FLAGS_PLACE))
 }
 
-// The machine, its fixed offsets, and the auxiliary header.
+// Checks the machine, its fixed offsets, and the auxiliary header.
 #[tactic(auto, unfolding(crate::specs::Header::machine_check))]
 fn check_machine(bytes: &[u8]) -> Result<(), DecodeFault>
     ensures { result ≡ spec.machine_check bytes.now }
@@ -152,7 +152,7 @@ fn check_machine(bytes: &[u8]) -> Result<(), DecodeFault>
     require(header_end(bytes) <= len, DecodeFault::Short(len))
 }
 
-// The limits, and where the sub-sections lie.
+// Checks the limits, and where the sub-sections lie.
 #[tactic(auto, unfolding(crate::specs::Header::layout_check))]
 fn check_layout(bytes: &[u8]) -> Result<(), DecodeFault>
     ensures { result ≡ spec.layout_check bytes.now }
@@ -177,7 +177,7 @@ fn check_layout(bytes: &[u8]) -> Result<(), DecodeFault>
     )
 }
 
-/// All checks of the header.
+/// Checks the whole header.
 #[tactic(auto, unfolding(crate::specs::Header::header_check))]
 pub fn check_header(bytes: &[u8]) -> Result<(), DecodeFault>
     ensures { result ≡ spec.header_check bytes.now }

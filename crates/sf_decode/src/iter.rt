@@ -1,4 +1,4 @@
-//! The rows of a function, one after the other.
+//! The rows of a function, in order.
 
 ghost use Rattle.std.specs.Prelude.{◌<◌, ◌+◌, ◌*◌, ◌^◌, ◌≡◌};
 
@@ -20,8 +20,8 @@ impl<'a> RowIter<'a> {
     ghost use Rattle.sf_decode.specs.Row.{rows_in};
     ghost use Rattle.sf_decode.specs.View.{rows_left};
 
-    /// The iterator over so many rows from a place of the sub-section of rows on, by the width of their
-    /// starts. It reads any bytes: what lies past their end reads as 0.
+    /// Returns the iterator over `count` rows from a place of the sub-section of rows on. `start_width`
+    /// is the width of their starts. The iterator reads any bytes: what lies past their end reads as 0.
     #[inline(always)]
     pub fn new(arch: Arch, rows: &'a [u8], start_width: u8, first: u32, count: u32) -> RowIter<'a>
         ensures { rows_left result ≡ rows_in arch rows.now start_width first count }

@@ -33,7 +33,7 @@ impl OwnedSection {
         Ok(OwnedSection { bytes, at })
     }
 
-    /// Its view, which is not checked again.
+    /// Returns the section's view. It is not checked again.
     pub fn view(&self) -> View<'_>
         ensures table { table_of result ≡ table_owned self.now }
         ensures bytes { section_bytes result ≡ bytes_owned self.now }
@@ -42,7 +42,7 @@ impl OwnedSection {
         View::of_checked(self.bytes.as_slice(), self.at)
     }
 
-    /// Its bytes.
+    /// Returns the section's bytes.
     pub fn into_bytes(self) -> Vec<u8>
         ensures { result.items ≡ bytes_owned self }
     {
@@ -50,8 +50,8 @@ impl OwnedSection {
     }
 }
 
-/// An SFrame section whose bytes the caller keeps, at its address: open, and then it was checked, or closed.
-/// The fields lie as in C.
+/// An SFrame section whose bytes the caller keeps, at its address. An open one was checked; the other state is
+/// closed. The fields lie as in C.
 #[repr(C)]
 #[derive(Clone, Copy)]
 pub struct LentSection<'a> {
@@ -69,7 +69,7 @@ impl<'a> LentSection<'a> {
     ghost use Rattle.sf_decode.specs.View.{section_address, section_bytes, table_of};
     ghost use Rattle.sf_decode.specs.Kept.{address_lent, bytes_lent, functions_lent, functions_shown, table_lent};
 
-    /// A section that is closed: it lends no view, and no bytes are lent to it.
+    /// Returns a closed section: it lends no view, and no bytes are lent to it.
     pub fn closed() -> LentSection<'a>
         ensures table { table_lent result ≡ None }
         ensures bytes { bytes_lent result ≡ [] }
@@ -81,7 +81,7 @@ impl<'a> LentSection<'a> {
         }
     }
 
-    /// Checks bytes at an address as [`View::parse`] does. What is answered is open.
+    /// Checks bytes at an address as [`View::parse`] does. The section returned is open.
     pub fn open(bytes: &'a [u8], at: u64) -> Result<LentSection<'a>, DecodeFault>
         ensures exact { verdict result ≡ section_check bytes.now at }
         ensures table { IfOk result (λ section. table_lent section ≡ Some (table_in bytes.now at)) }
@@ -96,7 +96,7 @@ impl<'a> LentSection<'a> {
         })
     }
 
-    /// Its view, which is not checked again. None while it is closed.
+    /// Returns the section's view, or None while it is closed. The view is not checked again.
     #[inline(always)]
     pub fn view(&self) -> Option<View<'a>>
         ensures table { option_map table_of result ≡ table_lent self.now }

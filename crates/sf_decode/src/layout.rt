@@ -68,10 +68,10 @@ pub const FUNCTION_ENTRY_LEN: u64 = 20;
 /// The place of `sfde_func_size` in an entry.
 pub const SIZE_PLACE: u64 = 4;
 
-/// The place of `sfde_func_start_fre_off`, the offset of its first row.
+/// The place of `sfde_func_start_fre_off`, the offset of the function's first row.
 pub const ROW_OFFSET_PLACE: u64 = 8;
 
-/// The place of `sfde_func_num_fres`, the number of its rows.
+/// The place of `sfde_func_num_fres`, the number of the function's rows.
 pub const ENTRY_ROW_COUNT_PLACE: u64 = 12;
 
 /// The place of `sfde_func_info`.
@@ -83,26 +83,27 @@ pub const REPEAT_SIZE_PLACE: u64 = 17;
 /// The greatest width of a number of a row: 4 bytes.
 pub const MOST_WIDTH: u8 = 2;
 
-/// How many row types the info byte of a function descriptor entry has room for: they are its low four bits.
+/// How many row types the low four bits of a function descriptor entry's info byte have room for.
 pub const ROW_TYPES: u8 = 16;
 
-/// What the type of the function (PCINC 0, PCMASK 1) counts in that byte.
+/// What the type of the function (PCINC 0, PCMASK 1) counts in a function descriptor entry's info byte.
 pub const FUNCTION_TYPE: u8 = 16;
 
-/// What `pauth_key`, the key of signed return addresses, counts in that byte.
+/// What `pauth_key`, the key of signed return addresses, counts in a function descriptor entry's info byte.
 pub const KEY: u8 = 32;
 
-/// What `fre_offset_count` counts in the info byte of a row, whose lowest bit is the base register (`fre_cfa_base_reg_id`).
+/// What `fre_offset_count` counts in the info byte of a row. Its lowest bit is the base register
+/// (`fre_cfa_base_reg_id`).
 pub const OFFSET_COUNT: u8 = 2;
 
-/// How many numbers of offsets it has room for.
+/// How many numbers of offsets a row's info byte has room for.
 pub const OFFSET_COUNTS: u8 = 16;
 
-/// What `fre_offset_size`, the width of the offsets, counts in it.
+/// What `fre_offset_size`, the width of the offsets, counts in a row's info byte.
 pub const OFFSET_WIDTH: u8 = 32;
 
-/// How many widths it has room for.
+/// How many widths of offsets a row's info byte has room for.
 pub const OFFSET_WIDTHS: u8 = 4;
 
-/// What `fre_mangled_ra_p`, a signed return address, counts in it.
+/// What `fre_mangled_ra_p`, a signed return address, counts in a row's info byte.
 pub const SIGNED: u8 = 128;

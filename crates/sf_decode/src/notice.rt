@@ -7,7 +7,7 @@ ghost use Rattle.sf_decode.specs.Fault.{number_and_place, is_refusal};
 use crate::fault::DecodeFault;
 use sf_model::{Group, Notice};
 
-// The fault's number, and the place that it carries.
+// Returns the fault's number, and the place that it carries.
 fn number_and_place_of(fault: DecodeFault) -> (u8, u64)
     ensures number { result.0 ≡ (number_and_place fault).0 }
     ensures place { result.1 ≡ (number_and_place fault).1 }
@@ -36,21 +36,22 @@ fn number_and_place_of(fault: DecodeFault) -> (u8, u64)
 }
 
 impl DecodeFault {
-    /// Its number, from 1 on.
+    /// Returns the fault's number, from 1 on.
     pub fn number(&self) -> u8
         ensures { result ≡ (number_and_place self.now).0 }
     {
         number_and_place_of(*self).0
     }
 
-    /// The place of what is wrong, in bytes from the section's start.
+    /// Returns the place of what is wrong, in bytes from the section's start.
     pub fn place(&self) -> u64
         ensures { result ≡ (number_and_place self.now).1 }
     {
         number_and_place_of(*self).1
     }
 
-    /// The fault of this item's section, as its line shows it. The caller owes that it is no limit.
+    /// Returns the notice of this fault for this item's section, as its line prints it. The caller
+    /// owes that the fault is no limit.
     pub fn notice(&self, item: Option<u32>) -> Notice
         requires { IsTrue (is_refusal self.now) }
         ensures item { result.item ≡ item }

@@ -4,7 +4,7 @@ ghost use Rattle.std.specs.Prelude.{◌≡◌, ◌<◌, ◌≤◌, ◌^◌, slic
 ghost use Rattle.sf_model.specs.Section.{number_in};
 ghost use Rattle.sf_decode.specs.Row as row;
 
-/// The byte at a place.
+/// Returns the byte at a place.
 #[inline(always)]
 pub fn byte_at(bytes: &[u8], place: u64) -> u8
     ensures { result ≡ slice_index bytes.now place }
@@ -15,7 +15,7 @@ pub fn byte_at(bytes: &[u8], place: u64) -> u8
     }
 }
 
-/// The number in two bytes at a place.
+/// Returns the number in two bytes at a place.
 #[inline(always)]
 pub fn u16_at(bytes: &[u8], place: u64) -> u16
     requires { place < 2 ^ 63 }
@@ -28,7 +28,7 @@ pub fn u16_at(bytes: &[u8], place: u64) -> u16
     u16::from_le_bytes([bytes[i], bytes[i + 1]])
 }
 
-// The same where the bytes may end before.
+// Returns the number in two bytes at a place, where the bytes may end before.
 #[inline(never)]
 fn u16_at_end(bytes: &[u8], place: u64) -> u16
     requires { place < 2 ^ 63 }
@@ -37,7 +37,7 @@ fn u16_at_end(bytes: &[u8], place: u64) -> u16
     u16::from_le_bytes([byte_at(bytes, place), byte_at(bytes, place + 1)])
 }
 
-/// The number in four bytes at a place: one test of the length, and one read.
+/// Returns the number in four bytes at a place: one test of the length, and one read.
 #[inline(always)]
 pub fn u32_at(bytes: &[u8], place: u64) -> u32
     requires { place < 2 ^ 63 }
@@ -50,7 +50,7 @@ pub fn u32_at(bytes: &[u8], place: u64) -> u32
     u32::from_le_bytes([bytes[i], bytes[i + 1], bytes[i + 2], bytes[i + 3]])
 }
 
-// The same where the bytes may end before.
+// Returns the number in four bytes at a place, where the bytes may end before.
 #[inline(never)]
 fn u32_at_end(bytes: &[u8], place: u64) -> u32
     requires { place < 2 ^ 63 }
@@ -64,7 +64,7 @@ fn u32_at_end(bytes: &[u8], place: u64) -> u32
     ])
 }
 
-/// The unsigned number of a width at a place.
+/// Returns the unsigned number of a width at a place.
 #[tactic(auto, unfolding(crate::specs::Row::unsigned_in))]
 #[inline(always)]
 pub fn unsigned_at(bytes: &[u8], width: u8, place: u64) -> u32
@@ -78,7 +78,7 @@ pub fn unsigned_at(bytes: &[u8], width: u8, place: u64) -> u32
     }
 }
 
-/// The signed number of a width at a place.
+/// Returns the signed number of a width at a place.
 #[tactic(auto, unfolding(crate::specs::Row::signed_in))]
 #[inline(always)]
 pub fn signed_at(bytes: &[u8], width: u8, place: u64) -> i32
@@ -92,7 +92,7 @@ pub fn signed_at(bytes: &[u8], width: u8, place: u64) -> i32
     }
 }
 
-/// How many bytes a number of a width has.
+/// Returns how many bytes a number of a width has.
 #[inline(always)]
 pub fn number_len(width: u8) -> u64
     ensures value { result ≡ row.number_len width }
@@ -106,7 +106,7 @@ pub fn number_len(width: u8) -> u64
     }
 }
 
-/// So many bytes from a place on.
+/// Returns `size` bytes from a place on.
 pub fn bytes_at(bytes: &[u8], place: u64, size: u64) -> &[u8]
     ensures { result.now ≡ take size (drop place bytes.now) }
 {

@@ -11,7 +11,7 @@ use crate::fault::DecodeFault;
 use crate::header::{check_header, function_count, row_count};
 use crate::layout::ROW_COUNT_PLACE;
 
-// The numbers of rows of the first entries together.
+// Adds up the numbers of rows of the first `count` entries.
 fn rows_of_entries(bytes: &[u8], count: u32) -> u64
     ensures { result ≡ sum_from 0 count (spec.rows_of_entry bytes.now) }
 {
@@ -22,7 +22,7 @@ fn rows_of_entries(bytes: &[u8], count: u32) -> u64
     sum
 }
 
-// The first entries with their rows, in order.
+// Checks the first `count` entries with their rows, in order.
 fn check_entries(bytes: &[u8], at: u64, count: u32) -> Result<(), DecodeFault>
     ensures { result ≡ each_from 0 count (entry_check bytes.now at) }
 {
@@ -33,7 +33,7 @@ fn check_entries(bytes: &[u8], at: u64, count: u32) -> Result<(), DecodeFault>
     Ok(())
 }
 
-// The entries' numbers of rows add up to the header's.
+// Checks that the entries' numbers of rows add up to the header's.
 #[tactic(auto, unfolding(crate::specs::Decoding::count_check))]
 fn check_count(bytes: &[u8]) -> Result<(), DecodeFault>
     ensures { result ≡ spec.count_check bytes.now }
@@ -45,7 +45,7 @@ fn check_count(bytes: &[u8]) -> Result<(), DecodeFault>
     )
 }
 
-/// All checks of a section at an address: the first that fails is its fault.
+/// Checks a section at an address: the first check that fails is its fault.
 #[tactic(auto, unfolding(crate::specs::Decoding::section_check))]
 pub fn check_section(bytes: &[u8], at: u64) -> Result<(), DecodeFault>
     ensures { result ≡ spec.section_check bytes.now at }

@@ -9,7 +9,7 @@ use crate::layout::{MOST_WIDTH, OFFSET_COUNT, OFFSET_COUNTS, OFFSET_WIDTH, OFFSE
 use crate::number::{byte_at, number_len, signed_at, unsigned_at};
 use sf_model::{Arch, Base, Content, Ra, Row};
 
-// The place of a row's info byte, after its start.
+// Returns the place of a row's info byte, after its start.
 #[inline(always)]
 fn info_place(start_width: u8, place: u64) -> u64
     requires { place < 2 ^ 62 }
@@ -19,7 +19,7 @@ fn info_place(start_width: u8, place: u64) -> u64
     place + number_len(start_width)
 }
 
-// The place of its first offset.
+// Returns the place of a row's first offset.
 #[inline(always)]
 fn offsets_place(start_width: u8, place: u64) -> u64
     requires { place < 2 ^ 62 }
@@ -29,7 +29,7 @@ fn offsets_place(start_width: u8, place: u64) -> u64
     info_place(start_width, place) + 1
 }
 
-// The base of the canonical frame address by the info byte.
+// Returns the base of the canonical frame address by the info byte.
 #[inline(always)]
 fn base_of(info: u8) -> Base
     ensures { result ≡ spec.base_in info }
@@ -37,7 +37,7 @@ fn base_of(info: u8) -> Base
     if info % 2 == 0 { Base::Fp } else { Base::Sp }
 }
 
-// The number of offsets.
+// Returns the number of offsets.
 #[inline(always)]
 fn offset_count(info: u8) -> u8
     ensures value { result ≡ spec.offset_count_in info }
@@ -46,7 +46,7 @@ fn offset_count(info: u8) -> u8
     info / OFFSET_COUNT % OFFSET_COUNTS
 }
 
-// The width of the offsets.
+// Returns the width of the offsets.
 #[inline(always)]
 fn offset_width(info: u8) -> u8
     ensures value { result ≡ spec.offset_width_in info }
@@ -55,7 +55,7 @@ fn offset_width(info: u8) -> u8
     info / OFFSET_WIDTH % OFFSET_WIDTHS
 }
 
-// Whether the return address is signed.
+// Returns whether the return address is signed.
 #[inline(always)]
 fn is_signed(info: u8) -> bool
     ensures { result ≡ spec.is_signed_in info }
@@ -63,7 +63,7 @@ fn is_signed(info: u8) -> bool
     SIGNED <= info
 }
 
-// A row's info byte.
+// Returns a row's info byte.
 #[inline(always)]
 fn info_at(rows: &[u8], start_width: u8, place: u64) -> u8
     requires { place < 2 ^ 62 }
@@ -72,7 +72,7 @@ fn info_at(rows: &[u8], start_width: u8, place: u64) -> u8
     byte_at(rows, info_place(start_width, place))
 }
 
-// How many bytes so many numbers of a width have.
+// Returns how many bytes `count` numbers of a width have.
 #[inline(always)]
 fn numbers_len(width: u8, count: u8) -> u64
     requires { count < 16 }
@@ -87,7 +87,7 @@ fn numbers_len(width: u8, count: u8) -> u64
     }
 }
 
-/// Where a row ends.
+/// Returns where a row ends.
 #[inline(always)]
 pub fn row_end(rows: &[u8], start_width: u8, place: u64) -> u64
     requires { place < 2 ^ 62 }
@@ -98,7 +98,7 @@ pub fn row_end(rows: &[u8], start_width: u8, place: u64) -> u64
     offsets_place(start_width, place) + numbers_len(offset_width(info), offset_count(info))
 }
 
-// Whether the machine's rows have so many offsets.
+// Returns whether the machine's rows can have `count` offsets.
 #[inline(always)]
 fn has_offset_count(arch: Arch, count: u8) -> bool
     ensures { result ≡ spec.has_offset_count arch count }
@@ -109,7 +109,7 @@ fn has_offset_count(arch: Arch, count: u8) -> bool
     }
 }
 
-// Whether the machine's return addresses can be signed, where one is.
+// Returns whether the machine's return addresses can be signed, where one is.
 #[inline(always)]
 fn may_be_signed(arch: Arch, signed: bool) -> bool
     ensures { result ≡ spec.may_be_signed arch signed }
@@ -120,7 +120,7 @@ fn may_be_signed(arch: Arch, signed: bool) -> bool
     }
 }
 
-// The checks of a row: `origin` is the place of the sub-section of rows, `least` the least start.
+// Checks a row: `origin` is the place of the sub-section of rows, `least` the least start.
 #[tactic(auto, unfolding(crate::specs::Row::row_check))]
 #[inline(always)]
 fn check_row(
@@ -163,7 +163,7 @@ fn check_row(
     require(least <= u64::from(start), DecodeFault::RowOrder(at))
 }
 
-/// The checks of so many rows from a place on. Rows of the usual kinds have a loop of their own each.
+/// Checks `count` rows from a place on. Rows of the usual kinds have a loop of their own each.
 pub fn check_rows(
     arch: Arch,
     rows: &[u8],
@@ -185,7 +185,7 @@ pub fn check_rows(
     }
 }
 
-// The same in one loop.
+// Checks `count` rows from a place on, in one loop.
 #[inline(always)]
 fn check_each_row(
     arch: Arch,
@@ -209,7 +209,7 @@ fn check_each_row(
     Ok(())
 }
 
-// Where the return address is, by the number of offsets and the second one.
+// Returns where the return address is, by the number of offsets and the second one.
 #[inline(always)]
 fn return_address(arch: Arch, count: u8, second: i32) -> Ra
     ensures { result ≡ spec.ra_in arch count second }
@@ -221,7 +221,7 @@ fn return_address(arch: Arch, count: u8, second: i32) -> Ra
     }
 }
 
-// Where the frame pointer is saved, by the number of offsets, the second and the third one.
+// Returns where the frame pointer is saved, by the number of offsets, the second and the third one.
 #[inline(always)]
 fn frame_pointer(arch: Arch, count: u8, second: i32, third: i32) -> Option<i32>
     ensures { result ≡ spec.fp_in arch count second third }
@@ -233,7 +233,7 @@ fn frame_pointer(arch: Arch, count: u8, second: i32, third: i32) -> Option<i32>
     }
 }
 
-// A row's content, by its info byte and the place of its first offset.
+// Returns a row's content, by its info byte and the place of its first offset.
 #[tactic(auto, unfolding(crate::specs::Row::content_in))]
 #[inline(always)]
 fn content_at(arch: Arch, rows: &[u8], info: u8, first: u64) -> Content
@@ -254,7 +254,7 @@ fn content_at(arch: Arch, rows: &[u8], info: u8, first: u64) -> Content
     }
 }
 
-/// The row at a place.
+/// Returns the row at a place.
 #[tactic(auto, unfolding(crate::specs::Row::row_in))]
 #[inline(always)]
 pub fn row_at(arch: Arch, rows: &[u8], start_width: u8, place: u64) -> Row

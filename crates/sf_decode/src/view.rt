@@ -33,9 +33,9 @@ impl<'a> View<'a> {
     /// Checks the bytes of a section at an address: the header, the number of rows, and then each function
     /// descriptor entry with its rows. The fault is that of the first check that fails.
     pub fn parse(bytes: &'a [u8], at: u64) -> Result<View<'a>, DecodeFault>
-        // What was read is a section that says what the view shows.
+        // What was read is a section of the table that the view shows.
         ensures sound { IfOk result (λ view. Section bytes.now at (table_of view)) }
-        // Each section is read, as what it says.
+        // Each section is read, as its table.
         ensures complete { (t : Table) → Section bytes.now at t → IsOkAnd result (λ view. table_of view ≡ t) }
         // It is read exactly where no check fails; else the fault is that of the first that does.
         ensures exact { verdict result ≡ section_check bytes.now at }
@@ -47,8 +47,8 @@ impl<'a> View<'a> {
         Ok(View { bytes, at })
     }
 
-    /// The view of bytes that were checked at this address before: what [`View::parse`] gives of them, in
-    /// constant time. The caller owes that no check fails.
+    /// Returns the view of bytes that were checked at this address before: the one that [`View::parse`]
+    /// returns for them, in constant time. The caller owes that no check fails.
     #[inline(always)]
     pub fn of_checked(bytes: &'a [u8], at: u64) -> View<'a>
         requires { IsTrue (is_ok (section_check bytes.now at)) }
@@ -59,7 +59,7 @@ impl<'a> View<'a> {
         View { bytes, at }
     }
 
-    /// The section's bytes.
+    /// Returns the section's bytes.
     #[inline(always)]
     pub(crate) fn bytes(&self) -> &'a [u8]
         ensures { result.now ≡ section_bytes self.now }
@@ -67,7 +67,7 @@ impl<'a> View<'a> {
         self.bytes
     }
 
-    /// Its address.
+    /// Returns the section's address.
     #[inline(always)]
     pub(crate) fn address(&self) -> u64
         ensures { result ≡ section_address self.now }
@@ -75,7 +75,7 @@ impl<'a> View<'a> {
         self.at
     }
 
-    /// For which machine it is.
+    /// Returns the machine that the section is for.
     #[inline(always)]
     pub fn arch(&self) -> Arch
         ensures { result ≡ (table_of self.now).arch }
@@ -83,14 +83,14 @@ impl<'a> View<'a> {
         header::arch_of(self.bytes)
     }
 
-    /// Its flags.
+    /// Returns the section's flags.
     pub fn flags(&self) -> u8
         ensures { result ≡ (table_of self.now).flags }
     {
         header::flags_of(self.bytes)
     }
 
-    /// How many functions it has.
+    /// Returns how many functions the section has.
     #[tactic(auto, using(crate::proofs::Checked::functions_length, crate::proofs::Joined::function_limit_checked))]
     #[inline(always)]
     pub fn len(&self) -> u32
@@ -100,7 +100,7 @@ impl<'a> View<'a> {
         header::function_count(self.bytes)
     }
 
-    /// How many rows all functions have together.
+    /// Returns how many rows all functions have together.
     #[tactic(auto, using(crate::proofs::Checked::row_count_checked, crate::proofs::Joined::row_limit_checked))]
     pub fn row_count(&self) -> u32
         ensures value { result ≡ table.row_count (table_of self.now).functions }
@@ -109,7 +109,7 @@ impl<'a> View<'a> {
         header::row_count(self.bytes)
     }
 
-    /// The place of a function descriptor entry in the section.
+    /// Returns the place of a function descriptor entry in the section.
     #[inline(always)]
     pub fn entry_place(&self, i: u32) -> u64
         ensures { result ≡ entry.entry_place (section_bytes self.now) i }
@@ -117,7 +117,7 @@ impl<'a> View<'a> {
         entry_place(self.bytes, i)
     }
 
-    /// Where a function starts.
+    /// Returns where a function starts.
     #[tactic(auto, using(crate::proofs::Checked::in_memory_checked), unfolding(crate::specs::Entry::function_in))]
     #[inline(always)]
     pub fn start(&self, i: u32) -> u64
@@ -127,7 +127,7 @@ impl<'a> View<'a> {
         start_at(self.bytes, self.at, entry_place(self.bytes, i))
     }
 
-    /// A function without its rows.
+    /// Returns a function without its rows.
     #[tactic(auto, using(crate::proofs::Checked::rows_length), unfolding(crate::specs::Entry::function_in))]
     pub fn func(&self, i: u32) -> FuncHead
         requires { i < length (table_of self.now).functions }
@@ -143,7 +143,7 @@ impl<'a> View<'a> {
         }
     }
 
-    /// The rows of a function, in order.
+    /// Returns the rows of a function, in order.
     #[tactic(auto, unfolding(crate::specs::Entry::function_in))]
     pub fn rows(&self, i: u32) -> RowIter<'a>
         requires { i < length (table_of self.now).functions }
