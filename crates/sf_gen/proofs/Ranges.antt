@@ -16,12 +16,12 @@ range_more f n =
     let last : 0 + n ≡ n = omega arith in
     rw more (subst (λ (i : ℕ). flat_map f (range_with_len 0 (suc n)) ≡ flat_map f (range_with_len 0 n) ++ f i) last (more_from f 0 n))
 
--- a list that was appended to, and again
+-- a list that was appended to twice
 pub appended : (old before one now new all : List ℕ) → now ≡ old ++ before → new ≡ now ++ one → all ≡ before ++ one → new ≡ old ++ all
 appended old before one now new all p q r =
     q ∙ (ap (λ bytes. bytes ++ one) p ∙ (append_assoc old before one ∙ ap (λ bytes. old ++ bytes) (sym r)))
 
--- each list has so many elements
+-- each list has `len` elements
 pub length-range : (f : ℕ → List ℕ) (len a n : ℕ) → ((i : ℕ) → length (f i) ≡ len) → length (flat_map f (range_with_len a n)) ≡ len * n
 length-range f len a zero each = omega arith
 length-range f len a (suc n) each =

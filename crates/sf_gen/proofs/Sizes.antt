@@ -1,4 +1,4 @@
--- How long the parts of the file are, and where they come to be.
+-- How long the parts of the file are, and at which places they are.
 use Rattle.std.proofs.Common.{◌≡◌, ℕ, ◌+◌, ◌*◌, ◌%◌, List, [], ◌∷◌, ◌++◌, length, replicate, refl, ap, ◌∙◌, arith, append-nil, length-append}
 use Rattle.std.proofs.lemmas.List.{length-replicate}
 use Rattle.std.specs.List.{flat_map, range_with_len}
@@ -117,7 +117,7 @@ length-contents n =
     sums a b c d e f n p q r s t u = simp (length-append, p, q, r, s, t, u) (omega arith)
 
 -- ---- the section headers
--- with what follows a part, the next one's place
+-- the next part's place, by what follows a part
 place_after : (part : List ℕ) (place len next : ℕ) → padded part ≡ part → length part ≡ len → place + len ≡ next → place + length (padded part) ≡ next
 place_after part place len next e f g = rw (e, f) g
 

@@ -17,8 +17,8 @@ cie_fields =
 unfoldable pub cie : List ℕ
 cie = word 20 ++ word 0 ++ cie_fields
 
--- The frame description entry of a function, of 32 bytes, which follows those before it: length 28, the distance back to the
--- CIE, PC begin, which a relocation fills, the size, no augmentation data, and 15 bytes of instructions.
+-- The frame description entry of a function, of 32 bytes, which follows those before it: length 28, the distance back
+-- to the CIE, PC begin, which a relocation fills, the size, no augmentation data, and 15 bytes of instructions.
 unfoldable pub fde : (i kind : ℕ) → List ℕ
 fde i kind = word 28 ++ word (28 + 32 * i) ++ word 0 ++ word 32 ++ (0 ∷ []) ++ filled 15 (instructions kind)
 

@@ -1,16 +1,19 @@
 -- Call frame instructions of the made functions (DWARF 5, section 6.4.2), by their bytes.
 use Rattle.std.specs.Prelude.{◌+◌, ◌-◌, ◌++◌, ◌==◌, ℕ, List, [], ◌∷◌, length, replicate, if◌then◌else◌}
 
--- registers of AMD64 (System V psABI, "DWARF Register Number Mapping"): rbp, rsp, r10 and the return address
+-- rbp, by its number on AMD64 (System V psABI, "DWARF Register Number Mapping")
 abbrev pub rbp : ℕ
 rbp = 6
 
+-- rsp
 abbrev pub rsp : ℕ
 rsp = 7
 
+-- r10
 abbrev pub r10 : ℕ
 r10 = 10
 
+-- the return address's column
 abbrev pub return_address : ℕ
 return_address = 16
 
@@ -18,7 +21,7 @@ return_address = 16
 abbrev pub advance_loc : (delta : ℕ) → List ℕ
 advance_loc delta = (0x40 + delta) ∷ []
 
--- DW_CFA_offset, with an offset that is still to be multiplied by the data alignment
+-- DW_CFA_offset, with an offset that the data alignment still multiplies
 abbrev pub offset : (register factored : ℕ) → List ℕ
 offset register factored = (0x80 + register) ∷ factored ∷ []
 
@@ -34,7 +37,7 @@ def_cfa_register register = 0x0d ∷ register ∷ []
 abbrev pub def_cfa_offset : (distance : ℕ) → List ℕ
 def_cfa_offset distance = 0x0e ∷ distance ∷ []
 
--- so many DW_CFA_nop
+-- `count` DW_CFA_nop
 abbrev pub nops : (count : ℕ) → List ℕ
 nops count = replicate count 0
 
@@ -47,7 +50,7 @@ frame_pointer =
 abbrev pub locals : List ℕ
 locals = advance_loc 4 ++ def_cfa_offset 48 ++ advance_loc 27 ++ def_cfa_offset 8
 
--- the frame's base is r10, by which SFrame has no row
+-- the frame's base is r10; SFrame has no row by that base
 abbrev pub other_register : List ℕ
 other_register = advance_loc 5 ++ def_cfa r10 0
 
@@ -56,6 +59,6 @@ abbrev pub instructions : (kind : ℕ) → List ℕ
 instructions kind =
     if kind == 0 then [] else (if kind == 1 then frame_pointer else (if kind == 2 then locals else other_register))
 
--- with nops up to this length
+-- instructions with nops after them, up to this length
 abbrev pub filled : (len : ℕ) → List ℕ → List ℕ
 filled len bytes = bytes ++ nops (len - length bytes)

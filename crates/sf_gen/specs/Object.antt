@@ -13,10 +13,11 @@ text n = replicate (32 * n) 0x90
 unfoldable pub rela : (r_offset symbol type r_addend : ℕ) → List ℕ
 rela r_offset symbol type r_addend = xword r_offset ++ xword (symbol * 2 ^ 32 + type) ++ xword r_addend
 
--- for each entry of .eh_frame its PC begin, by R_X86_64_PC32: the function's place in .text, which symbol 1 stands for
+-- PC begin of entry i of .eh_frame, by R_X86_64_PC32: the function's place in .text, whose symbol is 1
 abbrev pub start_rela : (i : ℕ) → List ℕ
 start_rela i = rela (32 + 32 * i) 1 2 (32 * i)
 
+-- the relocations of the section .eh_frame: one for each function's entry
 abbrev pub relas : (n : ℕ) → List ℕ
 relas n = flat_map start_rela (range_with_len 0 n)
 
@@ -25,7 +26,7 @@ unfoldable pub symbol : (st_name st_info st_other st_shndx st_value st_size : �
 symbol st_name st_info st_other st_shndx st_value st_size =
     word st_name ++ (st_info ∷ st_other ∷ []) ++ half st_shndx ++ xword st_value ++ xword st_size
 
--- the symbol that no symbol has, and section 1's: STB_LOCAL, STT_SECTION
+-- symbol 0, which is no symbol, and the symbol of section 1: STB_LOCAL, STT_SECTION
 abbrev pub symbols : List ℕ
 symbols = symbol 0 0 0 0 0 0 ++ symbol 0 3 0 1 0 0
 
@@ -34,7 +35,7 @@ abbrev pub string_table : List (List ℕ) → List ℕ
 string_table strings = 0 ∷ flat_map (λ string. string ++ 0 ∷ []) strings
 
 -- ---- the sections
--- what a section header says of a section besides the places of its name and its bytes, and the bytes
+-- the fields of a section header other than the places of the section's name and bytes, and the bytes
 pub record Section : Type 0 where
   pub sh_type : ℕ
   pub sh_flags : ℕ
@@ -127,14 +128,15 @@ sections n =
     text_section n ∷ eh_frame_section n ∷ rela_section n ∷ symtab_section ∷ strtab_section ∷ shstrtab_section ∷ []
 
 -- ---- the file
--- a part of the file, with zero bytes up to the next multiple of 8
+-- the number of zero bytes up to the next multiple of 8
 abbrev pub padding : (len : ℕ) → ℕ
 padding len = (8 - len % 8) % 8
 
+-- a part of the file, with zero bytes up to the next multiple of 8
 unfoldable pub padded : List ℕ → List ℕ
 padded part = part ++ replicate (padding (length part)) 0
 
--- the contents of sections, one part after the other
+-- the contents of sections, consecutive
 unfoldable pub all_contents : List Section → List ℕ
 all_contents parts = flat_map (λ (s : Section). padded s.contents) parts
 
@@ -145,7 +147,7 @@ section_header sh_name sh_type sh_flags sh_offset sh_size sh_link sh_info sh_add
     word sh_name ++ word sh_type ++ xword sh_flags ++ xword 0 ++ xword sh_offset ++ xword sh_size ++ word sh_link ++ word sh_info
     ++ xword sh_addralign ++ xword sh_entsize
 
--- the headers of consecutive sections with these names, of which the first has its name and its bytes at these places
+-- the headers of consecutive sections with these names; the name and the bytes of the first section are at these places
 abbrev pub section_headers : (sh_name sh_offset : ℕ) → List (List ℕ) → List Section → List ℕ
 section_headers sh_name sh_offset [] parts = []
 section_headers sh_name sh_offset names [] = []

@@ -1,12 +1,12 @@
--- Which kind each made function has: the generator of the C standard's example of rand (ISO C, "The rand function"), with a
--- state below 2^31, begun with the number of functions.
+-- Which kind each made function has: the generator of the C standard's example of rand (ISO C, "The rand function"),
+-- with a state below 2^31 that begins as the number of functions.
 use Rattle.std.specs.Prelude.{◌+◌, ◌*◌, ◌/◌, ◌%◌, ◌^◌, ℕ, zero, suc}
 
 -- the next state
 unfoldable pub next : ℕ → ℕ
 next state = (state * 1103515245 + 12345) % 2 ^ 31
 
--- the state after so many steps
+-- the state after `steps` steps
 abbrev pub state_after : (seed steps : ℕ) → ℕ
 state_after seed zero = seed
 state_after seed (suc steps) = next (state_after seed steps)

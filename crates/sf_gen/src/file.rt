@@ -11,9 +11,9 @@ use crate::sections::{push_relas, push_string_tables, push_symbols, push_text};
 use sf_base::NoMemory;
 use std::alloc::Global;
 
-/// The bytes of an object file with `n` functions, `n` being at most 100,000: an ELF64 relocatable file
-/// for AMD64 (ELF64 gABI) with a section `.eh_frame` and its relocations. Memory is taken once, 656
-/// bytes and 88 for each function.
+/// Returns the bytes of an object file with `n` functions, where `n` is at most 100,000: an ELF64
+/// relocatable file for AMD64 (ELF64 gABI) with a section `.eh_frame` and its relocations. Memory is
+/// allocated once, 656 bytes and 88 for each function.
 ///
 /// # Errors
 ///

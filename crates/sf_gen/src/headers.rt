@@ -41,7 +41,8 @@ fn push_file_kind(bytes: &mut Vec<u8>) -> Result<(), AllocError>
     push_xword(bytes, 0)
 }
 
-/// What a section header says besides where the section's name and bytes are. Each address is 0.
+/// The fields of a section header other than the places of the section's name and bytes. Each
+/// address is 0.
 struct Header {
     kind: u32,
     flags: u64,

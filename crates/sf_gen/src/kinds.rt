@@ -9,7 +9,7 @@ use crate::layout::{
     DW_CFA_OFFSET, INSTRUCTIONS_LEN, REGISTER_R10, REGISTER_RBP, REGISTER_RSP,
 };
 
-/// The generator's next state (ISO C, the example of `rand`).
+/// Returns the generator's next state (ISO C, the example of `rand`).
 #[tactic(auto, unfolding(crate::specs::Pattern::next))]
 pub(crate) fn next(state: u32) -> u32
     requires { state < 2 ^ 31 }
@@ -19,7 +19,7 @@ pub(crate) fn next(state: u32) -> u32
     ((u64::from(state) * 1_103_515_245 + 12_345) % (1 << 31)) as u32
 }
 
-/// The kind that a state stands for.
+/// Returns the kind that a state of the generator picks.
 #[tactic(auto, unfolding(crate::specs::Pattern::kind_of))]
 pub(crate) fn kind_of(state: u32) -> u32
     ensures value { result ≡ spec.kind_of state }
@@ -66,7 +66,7 @@ const LOCALS: [u8; INSTRUCTIONS_LEN] = [
     0,
 ];
 
-/// The frame's base is `r10`, by which SFrame has no row.
+/// The frame's base is `r10`. SFrame has no row by that base.
 const OTHER_REGISTER: [u8; INSTRUCTIONS_LEN] = [
     DW_CFA_ADVANCE_LOC + 5,
     DW_CFA_DEF_CFA,
@@ -85,7 +85,7 @@ const OTHER_REGISTER: [u8; INSTRUCTIONS_LEN] = [
     0,
 ];
 
-/// The instructions of a function of this kind, with DW_CFA_nop after them.
+/// Returns the instructions of a function of this kind, with DW_CFA_nop after them.
 pub(crate) fn instructions_of(kind: u32) -> [u8; INSTRUCTIONS_LEN]
     ensures { result ≡ filled 15 (instructions kind) }
 {

@@ -32,7 +32,7 @@ pub(crate) const SECTION_HEADER_LEN: u32 = 64;
 pub(crate) const SECTION_COUNT: u16 = 7;
 
 // "Symbol Table" and "Relocation".
-/// A symbol's length in bytes, and that of a relocation with an addend.
+/// The length in bytes of a symbol, and of a relocation with an addend.
 pub(crate) const ENTRY_LEN: u32 = 24;
 /// The number of symbols.
 pub(crate) const SYMBOL_COUNT: u32 = 2;

@@ -1,9 +1,9 @@
-//! A made object file, to try a linker on without any file of one's own.
+//! A made object file, to try a linker without a file of one's own.
 //!
-//! [`object`] gives an ELF64 relocatable file for AMD64 with call frame information of as many functions
+//! [`object`] returns an ELF64 relocatable file for AMD64 with call frame information of as many functions
 //! as are asked for, each of 32 bytes, of four kinds that a fixed generator picks. `object_bytes` of
-//! `specs/Object.antt` says the file by its parts: the header, six sections and their headers. Memory is
-//! taken once, and each byte is written once.
+//! `specs/Object.antt` gives the file by its parts: the header, six sections and their headers. Memory is
+//! allocated once, and each byte is written once.
 #![tactic(auto)]
 
 mod file;

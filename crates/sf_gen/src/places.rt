@@ -18,7 +18,7 @@ pub(crate) struct Places {
     pub(crate) headers: u32,
 }
 
-/// The places in a file with `n` functions.
+/// Returns the places in a file with `n` functions.
 pub(crate) fn places_of(n: u32) -> Places
     requires { n ≤ 100000 }
     ensures eh_frame { result.eh_frame ≡ 64 + 32 * n }

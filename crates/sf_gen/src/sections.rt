@@ -1,4 +1,4 @@
-//! The contents of the sections besides `.eh_frame` (ELF64 gABI).
+//! The contents of the sections other than `.eh_frame` (ELF64 gABI).
 
 ghost use Rattle.std.specs.Prelude.{◌≡◌, ◌≤◌, ◌^◌, ◌<◌, ◌++◌, [], OnOk};
 ghost use Rattle.sf_gen.specs.Object as spec;
@@ -49,7 +49,7 @@ fn push_rela(bytes: &mut Vec<u8>, offset: u32, kind: u64, addend: u32) -> Result
     push_xword(bytes, u64::from(addend))
 }
 
-/// Appends the symbols: the first, which is none, and that of section 1.
+/// Appends the symbols: the first, which is no symbol, and that of section 1.
 pub(crate) fn push_symbols(bytes: &mut Vec<u8>) -> Result<(), AllocError>
     ensures { OnOk result (bytes.new.items ≡ bytes.old.items ++ spec.symbols) }
 {

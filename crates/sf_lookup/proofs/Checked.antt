@@ -1,4 +1,4 @@
--- What the standard's definition of a section says of a function by its number.
+-- What the standard's definition of a section says about a function by its number.
 use Rattle.std.proofs.Common.{◌≡◌, ℕ, zero, suc, ◌+◌, ◌<◌, IsTrue, List, [], ◌∷◌, length, get_or, All, refl, subst, arith}
 use Rattle.std.proofs.lemmas.List.Elements.{All-cons}
 use Rattle.sf_model.specs.declared.machine.Arch.{Arch}

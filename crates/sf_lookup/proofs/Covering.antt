@@ -66,7 +66,7 @@ same_from points pc i rise h x c =
       | inr low ↦ le-leb x (get_or points i 0) low ∙ sym (le-leb x pc (omega (low, last, arith)))
     ]
 
--- the same of an end, which comes after the address
+-- an end comes after the last point that was reached exactly where it comes after the address
 same_to : (points : List ℕ) (pc i : ℕ) → IsNonDecreasing points → IsReached points pc (suc i) → (x : ℕ) → Contains points x → nat_lt (get_or points i 0) x ≡ nat_lt pc x
 same_to points pc i rise h x c =
     let last : get_or points i 0 ≤ pc = h.reached i (omega arith) in

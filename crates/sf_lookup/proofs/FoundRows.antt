@@ -37,7 +37,7 @@ shown_as : (f : Func) (o : Option Row) → option_map (with_head f) o ≡ option
 shown_as f None = refl
 shown_as f (Some row) = refl
 
--- a function does, and this is its row, or none
+-- a function contains the address, and this is its row, or none
 pub found_in : (functions : List Func) (pc : ℕ) (f : Func) (o : Option Row) → Some f ≡ find (contains pc) functions → o ≡ row_at (offset_in_block f.shape (pc - f.start)) f.rows
     → option_map (with_head f) o ≡ option_map shown (found_at functions pc)
 unfolding found_at
@@ -53,7 +53,7 @@ row_asked pc f head offset o h at e = e ∙ ap (λ (n : ℕ). row_at n f.rows) a
 pub starts_by : (functions : List Func) (pc : ℕ) (f : Func) → Some f ≡ find (contains pc) functions → f.start ≤ pc
 starts_by functions pc f e = le_if f.start pc (first_of (nat_le f.start pc) (nat_lt pc (f.start + f.size)) (found_passes (contains pc) functions f (sym e)))
 
--- and its bytes have not ended there
+-- the function that is found has not ended there
 pub ends_after : (functions : List Func) (pc : ℕ) (f : Func) → Some f ≡ find (contains pc) functions → pc < f.start + f.size
 ends_after functions pc f e = ltb-true pc (f.start + f.size) (and_parts (nat_le f.start pc) (nat_lt pc (f.start + f.size)) (found_passes (contains pc) functions f (sym e))).1
 

@@ -11,7 +11,7 @@ use Rattle.sf_lookup.specs.declared.span.Span.{Span}
 use Rattle.sf_lookup.specs.Span.{answer_of, covers}
 use Rattle.sf_lookup.specs.Numbered.{numbered}
 
--- ---- one function more
+-- ---- one more function
 abbrev pub spans_as : (number : ℕ) → Func → Span ℕ
 spans_as number f = record { start = f.start; size = f.size; leads_to = number }
 

@@ -70,7 +70,7 @@ is_there f k m e = let two = and_parts (m.function == f) (m.number == k) e in re
 there : (f k : ℕ) (m : Mark) → m.function ≡ f → m.number ≡ k → is_at f k m ≡ true
 there f k m at number = rw (eq-eqb m.function f at, eq-eqb m.number k number) refl
 
--- a mark more
+-- one more mark
 any_more : (p : Mark → Bool) (marks : List Mark) (mark : Mark) → list_any p marks ≡ true → list_any p (marks ++ mark ∷ []) ≡ true
 any_more p marks mark e = list_any-from_Any p (marks ++ mark ∷ []) (among (Any-from_list_any p marks e))
   where
@@ -82,7 +82,7 @@ any_more p marks mark e = list_any-from_Any p (marks ++ mark ∷ []) (among (Any
 any_last : (p : Mark → Bool) (marks : List Mark) (mark : Mark) → p mark ≡ true → list_any p (marks ++ mark ∷ []) ≡ true
 any_last p marks mark e = list_any-from_Any p (marks ++ mark ∷ []) (Any-push (λ (m : Mark). p m ≡ true) marks mark e)
 
--- ---- marks of some rows more
+-- ---- marks of some more rows
 pub no_marks : (view : View) → (marks : List Mark) → marks ≡ [] → AreMarksUpto view 0 0 marks
 no_marks view marks e = subst (AreMarksUpto view 0 0) (sym e) (record {
   each = λ k d lt. absurd (omega (lt, arith));
@@ -112,7 +112,7 @@ one_passed view marks i k not h = record {
     still f n some multiple (inl lt) = earlier_function f n i k lt
     still f n some multiple (inr (at, lt)) = earlier_row f n i k at (in_function n some multiple lt (cases_lt n k))
 
--- a row that has one
+-- a row that has a mark
 pub one_marked : (view : View) (marks new : List Mark) (mark : Mark) → IsMark view mark → new ≡ marks ++ mark ∷ [] → AreMarksUpto view mark.function mark.number marks
     → AreMarksUpto view mark.function (mark.number + 1) new
 one_marked view marks new mark is grown h = subst (AreMarksUpto view i (k + 1)) (sym grown) (record {
@@ -147,7 +147,7 @@ one_marked view marks new mark is grown h = subst (AreMarksUpto view i (k + 1)) 
     by_place f n within numbered some multiple (inl lt) = any_more (is_at f n) marks mark (h.all f n within numbered (earlier_function f n i k lt) some multiple)
     by_place f n within numbered some multiple (inr (at, lt)) = in_function f n within numbered some multiple at lt (cases_lt n k)
 
--- ---- a function more
+-- ---- one more function
 abbrev pub AreNumbered : View → Type 0
 AreNumbered view = (k : ℕ) (d : Func) → k < length (table_of view).functions → get_or (table_of view).functions k d ≡ function_of view k
 
@@ -158,7 +158,7 @@ rows_more view i numbered within =
     let f = function_of view i in
     ap row_count (take_more functions i f within ∙ ap (λ (x : Func). take i functions ++ x ∷ []) (numbered i f within)) ∙ sum_by_push (λ (g : Func). length g.rows) (take i functions) f
 
--- all of its rows were passed
+-- all rows of the function were passed
 pub function_marked : (view : View) (marks : List Mark) (i k : ℕ) → AreNumbered view → i < length (table_of view).functions → length (function_of view i).rows ≤ k → k ≤ length (function_of view i).rows → AreMarksUpto view i k marks
     → AreMarksUpto view (i + 1) 0 marks
 function_marked view marks i k numbered within all most h = record {
@@ -183,7 +183,7 @@ function_marked view marks i k numbered within all most h = record {
     by_function f n lt upto (inl before) = earlier_function f n i k before
     by_function f n lt upto (inr from) = let at : f ≡ i = omega (upto, from, arith) in earlier_row f n i k at (in_rows f n at lt)
 
--- it has 64 rows at most
+-- the function has at most 64 rows
 pub function_without : (view : View) (marks : List Mark) (i : ℕ) → AreNumbered view → i < length (table_of view).functions → length (function_of view i).rows ≤ 64 → AreMarksUpto view i 0 marks → AreMarksUpto view (i + 1) 0 marks
 function_without view marks i numbered within short h = record {
   each = h.each;

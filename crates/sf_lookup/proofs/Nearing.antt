@@ -119,7 +119,7 @@ never_fall_seen view i marks h rise k d lt =
     let up = seen_rises view i (get_or marks k e) (get_or marks (k + 1) e) (h.each k e (omega (within, arith))) (h.each (k + 1) e within) rise (h.in_order k (k + 1) e (omega arith) within) in
     omega (here, next, up, arith)
 
--- the mark of a number, as a function sees it
+-- the mark with a number, as a function sees it
 pub seen_at : (i : ℕ) (marks : List Mark) (k : ℕ) (m : Mark) → k < length marks → get_or marks k m ≡ m → slice_index (map (start_seen i) marks) k ≡ start_seen i m
 seen_at i marks k m lt is = get_or-map (start_seen i) marks k m 0 lt ∙ ap (start_seen i) is
 
@@ -167,12 +167,12 @@ after_last view i offset n marks (Some j) h small reached from q x lt is at numb
     earlier : q < j → (x.function < m.function) ⊎ ((x.function ≡ m.function) × (x.number < m.number))
     earlier before = place_in x.function x.number m.function m.number (subst (λ (a : Mark). IsEarlier a.function a.number m.function m.number) is (h.in_order q j x before within))
 
-    -- the last one is of this function, and its row is number n
+    -- the last mark is of this function, and its row is number n
     of_it : m.function ≡ i → m.number ≡ n → (x.function < m.function) ⊎ ((x.function ≡ m.function) × (x.number < m.number)) → ⊥
     of_it here first (inl lower) = omega (here, at, lower, arith)
     of_it here first (inr (alike, lower)) = omega (first, number, lower, arith)
 
-    -- it is of another function
+    -- the last mark is of another function
     of_other : (m.function ≡ i → ⊥) → (x.function < m.function) ⊎ ((x.function ≡ m.function) × (x.number < m.number)) → ⊥
     of_other not (inl lower) =
         let far = seen_after i m (omega (at, lower, arith)) in
@@ -195,7 +195,7 @@ after_last view i offset n marks (Some j) h small reached from q x lt is at numb
         omega (above, seen, start, arith)
     by_number (inr le) = absurd (not_there le (from m is_last) (cases_lt q j))
 
--- a power more, for the row after the 64 where there are marks
+-- one more power, for the row after the 64 where there are marks
 one_more : (steps count rows : ℕ) → 2 ^ steps ≤ 2 * count + 1 → 64 * count ≤ rows → 0 < count → 2 ^ (steps + 1) ≤ 2 * rows + 1
 one_more steps count rows few all some =
     let doubled : 2 ^ (steps + 1) ≡ 2 ^ steps * 2 = ap (λ (k : ℕ). 2 ^ k) (let next : steps + 1 ≡ suc steps = omega arith in next) ∙ pow-suc 2 steps in

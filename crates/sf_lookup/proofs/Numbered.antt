@@ -12,21 +12,21 @@ tested : {X : Type 0} (p : X → Bool) (xs : List X) (i : ℕ) (x : X) (b : Bool
 tested p xs i x b lt at t =
     ap (find p) (drop_more xs i x lt) ∙ ap (λ y. cond (p y) (Some y) (find p (drop (i + 1) xs))) at ∙ ap (λ c. cond c (Some x) (find p (drop (i + 1) xs))) t
 
--- the member of a number passes, or fails
+-- the member with a number passes, or fails
 pub takes : {X : Type 0} (p : X → Bool) (xs : List X) (i : ℕ) (x : X) → i < length xs → get_or xs i x ≡ x → p x ≡ true → find p (drop i xs) ≡ Some x
 takes p xs i x = tested p xs i x true
 
 pub skips : {X : Type 0} (p : X → Bool) (xs : List X) (i : ℕ) (x : X) → i < length xs → get_or xs i x ≡ x → p x ≡ false → find p (drop i xs) ≡ find p (drop (i + 1) xs)
 skips p xs i x = tested p xs i x false
 
--- all fail
+-- all members fail
 pub none_passes : {X : Type 0} (p : X → Bool) (xs : List X) → ((k : ℕ) (d : X) → k < length xs → p (get_or xs k d) ≡ false) → find p xs ≡ None
 none_passes p [] h = refl
 none_passes p (x ∷ xs) h =
     let here : p x ≡ false = h 0 x (omega arith) in
     rw here (none_passes p xs (λ k d lt. h (suc k) d (omega (lt, arith))))
 
--- all before one fail
+-- all members before one fail
 pub first_passes : {X : Type 0} (p : X → Bool) (xs : List X) (i : ℕ) (e : X) → i < length xs → ((k : ℕ) (d : X) → k < i → p (get_or xs k d) ≡ false) → p (get_or xs i e) ≡ true
     → find p xs ≡ Some (get_or xs i e)
 first_passes p [] i e lt h t = absurd (omega (lt, arith))
@@ -35,7 +35,7 @@ first_passes p (x ∷ xs) (suc i) e lt h t =
     let here : p x ≡ false = h 0 x (omega arith) in
     rw here (first_passes p xs i e (omega (lt, arith)) (λ k d before. h (suc k) d (omega (before, arith))) t)
 
--- what is found passes, and is one of them
+-- what is found passes, and is a member
 pub found_passes : {X : Type 0} (p : X → Bool) (xs : List X) (x : X) → find p xs ≡ Some x → IsTrue (p x)
 found_passes p [] x e = absurd (let no : None ≡ Some x = e in cc)
 found_passes p (y ∷ ys) x e = by_test (p y) refl e (found_passes p ys x)

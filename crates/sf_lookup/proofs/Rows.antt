@@ -14,7 +14,7 @@ abbrev pub Rise : (least : ℕ) → List Row → Type 0
 Rise least [] = Unit {0}
 Rise least (r ∷ rows) = (least ≤ r.start) × Rise (r.start + 1) rows
 
--- so do all but the first
+-- where rows rise, all but the first rise
 later_rise : (r : Row) (rows : List Row) → RowsRise (r ∷ rows) → RowsRise rows
 later_rise r rows h k d lt =
     let same : suc k + 1 ≡ suc (k + 1) = omega arith in
@@ -34,13 +34,13 @@ pub rise_lower : (least more : ℕ) (rows : List Row) → least ≤ more → Ris
 rise_lower least more [] le h = tt
 rise_lower least more (r ∷ rows) le h = (omega (le, h.0, arith), h.1)
 
--- all of them start there or after
+-- all rows start at `least` or after
 pub starts_from : (least : ℕ) (rows : List Row) (i : ℕ) (d : Row) → Rise least rows → i < length rows → least ≤ (get_or rows i d).start
 starts_from least [] i d h lt = absurd (omega (arith, lt))
 starts_from least (r ∷ rows) zero d h lt = h.0
 starts_from least (r ∷ rows) (suc i) d h lt = let later = starts_from (r.start + 1) rows i d h.1 (omega (arith, lt)) in omega (arith, later, h.0)
 
--- the converse
+-- rows that rise from a least start on rise
 pub all_rise : (least : ℕ) (rows : List Row) → Rise least rows → RowsRise rows
 all_rise least [] h k d lt = absurd (omega (lt, arith))
 all_rise least (r ∷ rows) h zero d lt =
@@ -155,7 +155,7 @@ latest_from offset least found (r ∷ rows) (suc k) d h lt by =
     let later = starts_from (r.start + 1) rows k d h.1 (omega (lt, arith)) in
     latest_begun offset found r rows (omega (later, by, arith)) ∙ latest_from offset (r.start + 1) (Some r) rows k d h.1 (omega (lt, arith)) by
 
--- where one has begun, the row that holds is among it and those after it
+-- where a row has begun, the row that holds is that row or one after it
 pub row_from : (offset : ℕ) (rows : List Row) (k : ℕ) (d : Row) → RowsRise rows → k < length rows → (get_or rows k d).start ≤ offset → row_at offset (drop k rows) ≡ row_at offset rows
 row_from offset rows k d h lt by =
     sym (latest_holds offset (drop k rows) (rise_from_one rows k h)) ∙ sym (latest_from offset 0 None rows k d (rises rows h) lt by) ∙ latest_holds offset rows h

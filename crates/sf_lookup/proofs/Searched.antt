@@ -1,4 +1,4 @@
--- What the last start at or below an address says of functions that stand apart.
+-- What the last start at or below an address means for functions that stand apart.
 use Rattle.std.specs.Prelude.{nat_le, ◌&&◌, slice_index}
 use Rattle.std.specs.List.{find}
 use Rattle.std.specs.Bool.{then_some}
@@ -41,7 +41,7 @@ never_fall functions apart k d lt =
     let one = apart k none_such (omega (lt, starts_length functions, arith)) in
     omega (here, next, one, arith)
 
--- a function that starts after the address, and one that ends at it or before
+-- a function that starts after the address, or ends at or before it, does not contain it
 starts_behind : (pc : ℕ) (f : Func) → pc < f.start → contains pc f ≡ false
 starts_behind pc f lt = rw (lt-leb f.start pc lt) refl
 

@@ -1,4 +1,4 @@
--- Spans gone through from the least address up: the first that waits and has the point is the first of all.
+-- A scan of spans from the least address up: the first that waits and has the point is the first of all.
 use Rattle.std.specs.Prelude.{nat_le, nat_lt, ◌&&◌, ◌==◌}
 use Rattle.std.specs.BinaryHeap.{IsHeap, IsUpperBound, PopsGreatest}
 use Rattle.std.specs.List.{Contains}
@@ -33,7 +33,7 @@ start_past [] k le = refl
 start_past (x ∷ spans) zero le = absurd (omega (le, arith))
 start_past (x ∷ spans) (suc k) le = start_past spans k (omega (le, arith))
 
--- the numbers up to one
+-- the numbers below n
 pub record AreNumbers (n : ℕ) (numbers : List ℕ) : Type 0 where
   pub each : All (λ (k : ℕ). k < n) numbers
   pub all : (k : ℕ) → k < n → Contains numbers k
@@ -58,7 +58,7 @@ put_in_order spans n numbers new all h moved rise = record {
   all = λ k lt. Contains-permutation numbers new k moved (h.all k (omega (lt, all, arith)));
 }
 
--- ---- a span more waits
+-- ---- one more span waits
 in_rest : {X : Type 0} (x y : X) (xs : List X) → Contains (y ∷ xs) x → (y ≡ x) ⊎ Contains xs x
 in_rest x y xs (zero, lt, is) = inl is
 in_rest x y xs (suc k, lt, is) = inr (k, omega (lt, arith), is)
@@ -93,7 +93,7 @@ one_waits {A} spans point begun new n later le moved heap h = record {
     still k d (inr (inl c)) = comes k d (in_rest k n later c)
     still k d (inr (inr ended)) = inr (inr ended)
 
--- the same of the first of a list
+-- one more span waits: the first of a list
 pub first_waits : {A : Type 0} (spans : List (Span A)) (point : ℕ) (begun new : List (Reverse ℕ)) (later : List ℕ) (d : ℕ) → 1 ≤ length later → start_of spans (get_or later 0 d) ≤ point
     → IsPermutation (record { 0 = get_or later 0 d } ∷ begun) new → (IsHeap last_first begun → IsHeap last_first new) → IsAtPoint spans point begun later → IsAtPoint spans point new (take (length later - 1) (drop 1 later))
 first_waits spans point begun new [] d some le moved heap h = absurd (omega (some, arith))

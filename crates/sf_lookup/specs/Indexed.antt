@@ -8,6 +8,6 @@ use Rattle.sf_lookup.specs.declared.indexed.Indexed.{Indexed}
 abbrev pub view_in : Indexed → View
 view_in indexed = indexed.view
 
--- what it says
+-- the section's table
 abbrev pub table_in : Indexed → Table
 table_in indexed = table_of indexed.view

@@ -7,7 +7,7 @@ use Rattle.sf_decode.specs.declared.view.View.{View}
 use Rattle.sf_decode.specs.View.{function_of, rows_left, table_of}
 use Rattle.sf_lookup.specs.declared.marks.Mark.{Mark}
 
--- a row of a function of the section whose number is a positive multiple of 64, and those after it
+-- a mark: a row of a function of the section whose number is a positive multiple of 64, and those after it
 pub record IsMark (view : View) (m : Mark) : Type 0 where
   pub within : m.function < length (table_of view).functions
   pub numbered : m.number < length (function_of view m.function).rows
@@ -32,13 +32,14 @@ pub record AreMarksUpto (view : View) (g n : ℕ) (marks : List Mark) : Type 0 w
   pub in_order : AllPairs (λ (a : Mark) (b : Mark). IsEarlier a.function a.number b.function b.number) marks
   pub all : (f k : ℕ) → f < length (table_of view).functions → k < length (function_of view f).rows → IsEarlier f k g n → 0 < k → k % 64 ≡ 0
       → IsTrue (list_any (is_at f k) marks)
-  -- there are at least 64 rows for each
+  -- there are at least 64 rows for each mark
   pub count : 64 * length marks ≤ row_count (take g (table_of view).functions) + (n - 1) / 64 * 64
 
 -- all marks of the section, in order
 abbrev pub AreMarks : View → List Mark → Type 0
 AreMarks view marks = AreMarksUpto view (length (table_of view).functions) 0 marks
 
--- where a mark's row starts, as the rows of one function see it: before all of them in an earlier function, after them in a later one
+-- where a mark's row starts, as the rows of one function see it: before all rows for an earlier function, after them
+-- for a later one
 abbrev pub start_seen : (function : ℕ) → Mark → ℕ
 start_seen function m = if nat_lt m.function function then 0 else if nat_lt function m.function then 2 ^ 64 - 1 else m.start

@@ -5,11 +5,11 @@ use Rattle.sf_lookup.specs.declared.span.Span.{Span}
 use Rattle.sf_lookup.specs.declared.spans.Spans.{Spans}
 use Rattle.sf_lookup.specs.Spans.{InOrder}
 
--- functions, which are numbered from `first` on: each at its addresses
+-- functions that are numbered from `first` on: each at its addresses
 abbrev pub numbered : (first : ℕ) → List Func → List (Span ℕ)
 numbered first [] = []
 numbered first (f ∷ functions) = record { start = f.start; size = f.size; leads_to = first } ∷ numbered (first + 1) functions
 
--- spans that were put in order are those of these functions, if there are any
+-- spans that were put in order are those of these functions, if there are any such spans
 abbrev pub AreInOrder : Option (Spans ℕ) → List Func → Type 0
 AreInOrder ordered functions = (s : Spans ℕ) → ordered ≡ Some s → InOrder s (numbered 0 functions)

@@ -1,5 +1,5 @@
--- Spans of addresses of which the first that has an address decides, put in order: points of addresses, from each of which on the
--- same span comes first up to the next point.
+-- Spans of addresses put in order, where the first that has an address decides: points of addresses, from each of which
+-- on the same span comes first up to the next point.
 use Rattle.std.specs.Prelude.{ℕ, zero, suc, ◌+◌, ◌^◌, ◌<◌, ◌≤◌, Bool, ◌&&◌, nat_le, nat_lt, List, length, slice_index, slice_index_or, Option, None}
 use Rattle.std.specs.List.{Contains, find}
 use Rattle.std.specs.Option.{option_map}
@@ -13,12 +13,12 @@ covers pc s = nat_le s.start pc && nat_lt pc (s.start + s.size)
 abbrev pub answer_of : {A : Type 0} → List (Span A) → (pc : ℕ) → Option A
 answer_of spans pc = option_map (λ (s : Span _). s.leads_to) (find (covers pc) spans)
 
--- a span's ends are points, those that are addresses
+-- those ends of a span that are addresses are points
 pub record HasEnds {A : Type 0} (points : List ℕ) (s : Span A) : Type 0 where
   pub start : Contains points s.start
   pub end : s.start + s.size < 2 ^ 64 → Contains points (s.start + s.size)
 
--- n points are at an address or before it: those before the others
+-- n points are at an address or before it: the first n of them
 pub record IsReached (points : List ℕ) (pc n : ℕ) : Type 0 where
   pub within : n ≤ length points
   pub reached : (k : ℕ) → k < n → slice_index points k ≤ pc

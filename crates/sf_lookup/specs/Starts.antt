@@ -1,5 +1,5 @@
--- GNU SFrame specification, Version 2, function descriptor entries: their starts in order, and the last one that an address has
--- reached.
+-- GNU SFrame specification, Version 2, function descriptor entries: their starts in order, and the last one that an
+-- address has reached.
 use Rattle.std.specs.Prelude.{◌+◌, ◌<◌, ◌≤◌, ℕ, List, length, map, slice_index, Option, Some, None}
 use Rattle.std.specs.List.{AllAdjacentBelow}
 use Rattle.sf_model.specs.declared.function.Func.{Func}
@@ -16,7 +16,7 @@ Apart functions = AllAdjacentBelow (λ (f : Func) (g : Func). f.start + f.size �
 abbrev pub NeverFall : List ℕ → Type 0
 NeverFall starts = AllAdjacentBelow (λ a b. a ≤ b) starts (length starts)
 
--- the greatest number whose address is not above this one, if there is one
+-- the greatest number whose address is not above this one, or none
 abbrev pub IsLastStart : List ℕ → (pc : ℕ) → Option ℕ → Type 0
 IsLastStart starts pc None = (i : ℕ) → i < length starts → pc < slice_index starts i
 IsLastStart starts pc (Some i) =

@@ -1,4 +1,4 @@
--- Spans gone through from the least address up.
+-- A scan of spans from the least address up.
 use Rattle.std.specs.Prelude.{ℕ, ◌+◌, ◌<◌, ◌≤◌, ◌⊎◌, List, All, length, slice_index_or}
 use Rattle.std.specs.BinaryHeap.{IsHeap, heap_items}
 use Rattle.std.specs.List.{Contains}
@@ -15,7 +15,7 @@ pub record HasBegun {A : Type 0} (spans : List (Span A)) (point : ℕ) (r : Reve
   pub within : r.0 < length spans
   pub by : start_of spans r.0 ≤ point
 
--- the span of a number waits, begins later, or has ended by the point
+-- the span with a number waits, begins later, or has ended by the point
 abbrev pub IsKept : {A : Type 0} → List (Span A) → (point : ℕ) → List (Reverse ℕ) → List ℕ → (k : ℕ) → (d : Span A) → Type 0
 IsKept spans point begun later k d =
     let s = slice_index_or spans k d in
@@ -25,7 +25,8 @@ IsKept spans point begun later k d =
 abbrev pub last_first : Reverse ℕ → Reverse ℕ → Ordering
 last_first x y = nat_cmp y.0 x.0
 
--- what has begun by a point, and what begins later: no span that has the point or a later address is missing
+-- the spans that have begun by a point, and those that begin later: no span that has the point or a later
+-- address is missing
 pub record IsAtPoint {A : Type 0} (spans : List (Span A)) (point : ℕ) (begun : List (Reverse ℕ)) (later : List ℕ) : Type 0 where
   pub order : IsHeap last_first begun
   pub by : All (HasBegun spans point) begun
@@ -33,9 +34,10 @@ pub record IsAtPoint {A : Type 0} (spans : List (Span A)) (point : ℕ) (begun :
   pub each : All (λ (k : ℕ). k < length spans) later
   pub kept : (k : ℕ) (d : Span A) → k < length spans → IsKept spans point begun later k d
 
+-- what a sweep has at a point: the spans that have begun, and those that begin later
 abbrev pub IsAt : {A : Type 0} → (point : ℕ) → Sweep A → Type 0
 IsAt point sweep = IsAtPoint sweep.spans.now point (heap_items sweep.begun) sweep.later.now
 
--- all others begin after the point
+-- all spans that have not begun begin after the point
 abbrev pub AllLater : {A : Type 0} → (point : ℕ) → Sweep A → Type 0
 AllLater point sweep = All (λ (k : ℕ). point < start_of sweep.spans.now k) sweep.later.now

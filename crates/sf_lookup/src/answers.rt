@@ -1,4 +1,4 @@
-//! Where the points of spans lead to.
+//! Where points lead to, by the spans.
 
 ghost use Rattle.std.specs.Prelude.{◌≡◌, ◌++◌, OnOk, map};
 ghost use Rattle.std.specs.List.Sorted.{IsNonDecreasing};
@@ -8,7 +8,7 @@ use crate::span::Span;
 use crate::sweep::{Sweep, numbers_of};
 use std::alloc::{AllocError, Global};
 
-/// Appends the answer at each point.
+/// Appends where each point leads to, by the first span that has it.
 pub fn push_answers<A: Copy>(
     alloc: Global,
     points: &[u64],

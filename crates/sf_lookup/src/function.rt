@@ -16,7 +16,7 @@ use sf_decode::{View, functions_are_numbered};
 use sf_model::FuncHead;
 use std::sync::ledger::Ledger;
 
-/// Whether the function's bytes hold the address.
+/// Returns whether the function's bytes hold the address.
 #[inline(always)]
 fn contains(func: &FuncHead, pc: u64) -> bool
     ensures { result ≡ (nat_le func.now.start pc && nat_lt pc (func.now.start + func.now.size)) }
@@ -24,7 +24,7 @@ fn contains(func: &FuncHead, pc: u64) -> bool
     func.start <= pc && pc - func.start < u64::from(func.size)
 }
 
-/// Whether the functions are sorted by start.
+/// Returns whether the functions are sorted by start.
 #[inline(always)]
 pub fn is_sorted(flags: u8) -> bool
     ensures { result ≡ is_sorted flags }

@@ -17,8 +17,8 @@ use std::alloc::{AllocError, Global};
 use std::marker::Brand;
 use std::sync::ledger::{Blank, Ledger};
 
-/// A section whose functions are found by halves, whether they are sorted or not, and so are the rows of a function: the
-/// spans of functions that are not sorted are put in order, and each 64th row of a function is marked.
+/// A section whose functions are found by halves, whether they are sorted or not, and so are the rows of a function.
+/// The spans of functions that are not sorted are put in order, and each 64th row of a function is marked.
 #[derive(Drop)]
 pub struct Indexed<'a> {
     view: View<'a>,
@@ -100,8 +100,9 @@ impl<'a> Indexed<'a> {
         }
     }
 
-    /// Finds the function and the row that hold at an address: what [`find`](crate::find) finds in the section. Each start or
-    /// end of a function that is looked at is a step, each marked row that is looked at, and each row that is read.
+    /// Finds the function and the row that hold at an address: those that [`find`](crate::find) finds in the section.
+    /// Each start or end of a function that is looked at is a step, each marked row that is looked at, and each row
+    /// that is read.
     pub fn find_counted<L: Ledger>(&self, pc: u64, steps: &mut Steps<L>) -> Option<Found>
         ensures found { result ≡ option_map shown (found_at (table_in self.now).functions pc) }
         ensures fits { IfSome result (λ found. IsTrue (content_fits (table_in self.now).arch found.row.content)) }
@@ -116,7 +117,7 @@ impl<'a> Indexed<'a> {
         found_of(&self.view, i, pc, func, row)
     }
 
-    // Finds what `find` does. It counts its steps and forgets the count.
+    // Finds what `find` does. It counts its steps and drops the count.
     fn find_uncounted<L: Ledger>(&self, pc: u64, blank: Blank) -> Option<Found>
         requires name { blank.name ≡ L.name }
         requires parts { blank.parts ≡ L.parts }
@@ -127,8 +128,8 @@ impl<'a> Indexed<'a> {
         self.find_counted(pc, &mut Steps::<L>::new(blank))
     }
 
-    /// Finds the function and the row that hold at an address: what [`find`](crate::find) finds in the section, in the steps
-    /// of [`Indexed::find_counted`].
+    /// Finds the function and the row that hold at an address: those that [`find`](crate::find) finds in the section,
+    /// in the steps of [`Indexed::find_counted`].
     pub fn find(&self, pc: u64) -> Option<Found>
         ensures found { result ≡ option_map shown (found_at (table_in self.now).functions pc) }
         ensures fits { IfSome result (λ found. IsTrue (content_fits (table_in self.now).arch found.row.content)) }

@@ -28,7 +28,8 @@ pub struct Found {
     pub row: Row,
 }
 
-/// The offset that a function's rows speak of: in a function of repeated blocks, the offset in its block.
+/// Returns the offset that a function's rows refer to: in a function of repeated blocks, the offset in its
+/// block.
 #[inline(always)]
 fn offset_in_block(shape: Shape, offset: u64) -> u64
     requires { IsTrue (shape_fits shape) }
@@ -68,7 +69,7 @@ pub fn found_of(view: &View<'_>, i: u32, pc: u64, func: FuncHead, row: Option<Ro
     Some(Found { func, row: row? })
 }
 
-// Finds what `find` does. It counts its steps and forgets the count.
+// Finds what `find` does. It counts its steps and drops the count.
 fn find_uncounted<L: Ledger>(view: &View<'_>, pc: u64, blank: Blank) -> Option<Found>
     requires name { blank.name ≡ L.name }
     requires parts { blank.parts ≡ L.parts }
@@ -86,10 +87,10 @@ fn find_uncounted<L: Ledger>(view: &View<'_>, pc: u64, blank: Blank) -> Option<F
 }
 
 /// Finds the function and the row that hold at an address: the first function that contains the address, and of
-/// its rows the one with the greatest start that is not above the offset. None where no function contains
-/// the address, or none of its rows begins by the offset.
+/// its rows the one with the greatest start that is not above the offset. None where no function contains the
+/// address, or no row of the function begins by the offset.
 pub fn find(view: &View<'_>, pc: u64) -> Option<Found>
-    // The answer is the look-up's, and None exactly where that has none.
+    // The result is the look-up's, and None exactly where the look-up has none.
     ensures found { result ≡ option_map shown (found_at (table_of view.now).functions pc) }
     // The row is one that the machine can have.
     ensures fits { IfSome result (λ found. IsTrue (content_fits (table_of view.now).arch found.row.content)) }

@@ -21,7 +21,7 @@ use std::sync::ledger::Ledger;
 /// The number of rows of a function from one mark to the next.
 const STRIDE: u32 = 64;
 
-/// A row of a function, and where it is read on from it.
+/// A row of a function, and the rows from it on.
 #[derive(Clone, Copy)]
 pub struct Mark<'a> {
     /// The number of the function.
@@ -104,8 +104,8 @@ impl<'m, 'a, L: Ledger> Starts<L> for Seen<'m, 'a> {
     }
 }
 
-// Finds the rows of a function from its last mark on that an offset has reached, or else from the first on. Each mark that
-// is looked at is a step.
+// Finds the rows of a function from its last mark on that an offset has reached, or else from the first on. Each mark
+// that is looked at is a step.
 fn rows_near<'a, L: Ledger>(
     view: &View<'a>,
     marks: &[Mark<'a>],
@@ -133,8 +133,8 @@ fn rows_near<'a, L: Ledger>(
     view.rows(i)
 }
 
-/// Finds the row of a function that holds at an offset, from the last mark on that the offset has reached. Each mark that is
-/// looked at and each row that is read is a step.
+/// Finds the row of a function that holds at an offset, from the last mark on that the offset has reached. Each mark
+/// that is looked at and each row that is read is a step.
 pub fn row_near<L: Ledger>(
     view: &View<'_>,
     marks: &[Mark<'_>],

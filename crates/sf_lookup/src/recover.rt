@@ -10,8 +10,8 @@ use crate::lookup::find;
 use sf_decode::View;
 use sf_model::{Memory, Recovered, Regs, recover};
 
-/// What the row that holds at an address recovers, by the present registers and the memory. None where no
-/// row holds.
+/// Recovers the caller's frame by the row that holds at an address, the present registers and the memory.
+/// None where no row holds.
 pub fn recover_at<M: Memory>(view: &View<'_>, pc: u64, regs: &Regs, mem: &M) -> Option<Recovered>
     ensures { result ≡ option_map recovered (recover_by_rows (table_of view.now).functions (M.regions mem.now) pc regs.now) }
 {

@@ -1,4 +1,4 @@
-//! Spans of addresses, of which the first that has an address decides.
+//! Spans of addresses. Where they overlap, the first one decides.
 
 ghost use Rattle.std.specs.Prelude.{◌≡◌};
 ghost use Rattle.sf_lookup.specs.Span as spec;
@@ -14,7 +14,7 @@ pub struct Span<A> {
     pub leads_to: A,
 }
 
-/// Whether a span has an address.
+/// Returns whether a span has an address.
 #[inline(always)]
 pub fn covers<A>(span: &Span<A>, pc: u64) -> bool
     ensures { result ≡ spec.covers pc span.now }

@@ -1,7 +1,7 @@
 //! Spans put in order: the first that has an address, found by halves.
 //!
 //! Spans may overlap, and then the first of them decides. So the ends of all spans are put in order, as points, and
-//! each point gets the answer of the first span that has it; up to the next point the answer is the same.
+//! each point gets where the first span that has it leads to. Up to the next point every address leads there.
 
 ghost use Rattle.std.specs.Prelude.{◌≡◌, ◌^◌, ◌<◌, length};
 ghost use Rattle.std.specs.List.Sorted.{IsNonDecreasing};
@@ -27,7 +27,7 @@ pub struct Spans<A> {
     ghost few: { length points.items < 2 ^ 32 },
 }
 
-/// The addresses from which on the answers hold, in order.
+/// The addresses from which on an answer holds, in order.
 impl<A, L: Ledger> Starts<L> for Spans<A> {
     ghost starts = { λ spans. spans.points.items };
 
@@ -75,7 +75,7 @@ impl<A: Copy> Spans<A> {
         self.answers[last as usize]
     }
 
-    // Finds what `first_at` does. It counts its steps and forgets the count.
+    // Finds what `first_at` does. It counts its steps and drops the count.
     fn first_uncounted<L: Ledger>(&self, pc: u64, blank: Blank) -> Option<A>
         requires name { blank.name ≡ L.name }
         requires parts { blank.parts ≡ L.parts }
@@ -85,7 +85,8 @@ impl<A: Copy> Spans<A> {
         self.first_counted(pc, &mut Steps::<L>::new(blank))
     }
 
-    /// Finds where the first span that has an address leads to, by halves: [`Spans::first_counted`] tells its steps.
+    /// Finds where the first span that has an address leads to, by halves: [`Spans::first_counted`] counts its
+    /// steps.
     pub fn first_at(&self, pc: u64) -> Option<A>
         ensures { (spans : List (span.Span A)) → InOrder self.now spans → result ≡ answer_of spans pc }
     {

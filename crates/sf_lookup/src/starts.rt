@@ -13,11 +13,11 @@ pub trait Starts<L: Ledger> {
     /// The addresses.
     ghost starts: { Self → List ℕ };
 
-    /// How many there are.
+    /// Returns how many addresses there are.
     fn count(&self) -> u32
         ensures { result ≡ length (starts self.now) };
 
-    /// The address of a number, which is one step.
+    /// Reads the address with a number. That is one step.
     fn start_at(&self, i: u32, steps: &mut Steps<L>) -> u64
         requires { i < length (starts self.now) }
         ensures value { result ≡ slice_index (starts self.now) i }

@@ -1,4 +1,4 @@
-//! Spans gone through from the least address up.
+//! A scan of spans from the least address up.
 
 ghost use Rattle.std.specs.Prelude.{◌≡◌, IfOk};
 ghost use Rattle.sf_lookup.specs.Begins.{AreInOrder, start_of};
@@ -8,7 +8,7 @@ use std::alloc::{AllocError, Global};
 use std::cmp::Reverse;
 use std::collections::BinaryHeap;
 
-/// Returns where the span of a number begins, 0 for a number past the last.
+/// Returns where the span with a number begins, 0 for a number past the last.
 fn start_of<A>(spans: &[Span<A>], number: u32) -> u64
     ensures { result ≡ start_of spans.now number }
 {
@@ -18,7 +18,7 @@ fn start_of<A>(spans: &[Span<A>], number: u32) -> u64
     }
 }
 
-/// The numbers of spans in the order in which they begin.
+/// Sorts the numbers of spans by where the spans begin.
 ///
 /// `AllocError` where memory ran out, and for 2^32 spans or more.
 pub fn numbers_of<A>(alloc: Global, spans: &[Span<A>]) -> Result<Vec<u32>, AllocError>
@@ -35,8 +35,8 @@ pub fn numbers_of<A>(alloc: Global, spans: &[Span<A>]) -> Result<Vec<u32>, Alloc
     Ok(numbers)
 }
 
-/// The spans by an address: those that begin later, and those that have begun, the first of the list on top. One that has
-/// ended may stay until it comes to the top.
+/// The spans by an address: those that begin later, and those that have begun, with the first of the list on top. A
+/// span that has ended may stay until it comes to the top.
 #[derive(Drop)]
 pub struct Sweep<'a, A> {
     spans: &'a [Span<A>],
@@ -49,7 +49,7 @@ impl<'a, A: Copy> Sweep<'a, A> {
     ghost use Rattle.sf_lookup.specs.Span.{answer_of};
     ghost use Rattle.sf_lookup.specs.Sweep.{AllLater, IsAt};
 
-    /// Before all addresses.
+    /// Starts before all addresses.
     pub fn new(
         alloc: Global,
         spans: &'a [Span<A>],
@@ -66,7 +66,7 @@ impl<'a, A: Copy> Sweep<'a, A> {
         })
     }
 
-    // Takes what begins by a point.
+    // Takes the spans that begin by a point.
     fn take_begun(&mut self, point: u64) -> Result<(), AllocError>
         requires { IsAt point self.old }
         ensures at { OnOk result (IsAt point self.new) }
@@ -83,7 +83,7 @@ impl<'a, A: Copy> Sweep<'a, A> {
         Ok(())
     }
 
-    // Where the first span that has a point leads to. Those before it that have ended are dropped.
+    // Returns where the first span that has a point leads to. The spans before it that have ended are dropped.
     fn first_begun(&mut self, point: u64) -> Option<A>
         requires at { IsAt point self.old }
         requires later { AllLater point self.old }
@@ -101,7 +101,7 @@ impl<'a, A: Copy> Sweep<'a, A> {
         None
     }
 
-    /// Where the first span that has a point leads to. No point is below the one before it.
+    /// Returns where the first span that has a point leads to. No point is below the one before it.
     pub fn answer_at(&mut self, point: u64) -> Result<Option<A>, AllocError>
         requires { IsAt point self.old }
         ensures at { OnOk result (IsAt point self.new) }

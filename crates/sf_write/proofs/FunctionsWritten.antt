@@ -40,7 +40,7 @@ reach_by : (near : Bool) (later : Option ℕ) (start : ℕ) → (if near then la
 reach_by true later start e = (refl, e)
 reach_by false later start e = absurd (cc)
 
--- what the entries from a place on and the rows from an offset on say
+-- what the entries from a place on and the rows from an offset on hold
 pub record FunctionsWritten (arch : Arch) (bytes : List ℕ) (at place offset : ℕ) (functions : List Func) : Type 0 where
   pub stand : FunctionsStand arch bytes 5 at place functions
   pub without_gaps : WithoutGaps arch bytes place offset functions

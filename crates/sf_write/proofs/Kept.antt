@@ -1,4 +1,4 @@
--- What is stored stays as it is where bytes are added after it.
+-- What is stored stays as it is where bytes are appended.
 use Rattle.std.proofs.Common.{◌≡◌, ◌≤◌, ◌<◌, ◌+◌, ℕ, Bool, true, false, zero, suc, List, [], ◌∷◌, ◌++◌, length, take, drop, get_or, refl, sym, ap, subst, ◌∙◌, arith}
 use Rattle.std.proofs.Math.Seq.{take-append_seam, take-length, take-suc}
 use Rattle.std.proofs.lemmas.List.{drop-take, length-take, map-append}
@@ -23,7 +23,8 @@ front_short a b p =
     let cut = ap length p in
     let short = length-take (length a) b in omega (cut, short, arith)
 
--- bytes begin with themselves, with what more was added to, and with the front of their front
+-- bytes begin with themselves, and after an append with the bytes before it; a front's front is a
+-- front of the whole
 pub begin_same : (a : List ℕ) → BeginWith a a
 unfolding BeginWith
 begin_same a = take-length a
@@ -70,7 +71,7 @@ All-one : {X : Type 0} (P : X → Type 0) (x : X) → P x → All P (x ∷ [])
 All-one P x p zero d lt = p
 All-one P x p (suc k) d lt = absurd (omega (lt, arith))
 
--- one function more is stored, after the first of a list
+-- one more function is stored, after the first of a list
 pub one_more : (old new : StoredRows) (fs more : List StoredFunction) (f : StoredFunction) (functions : List Func) (i : ℕ) (d : Func) → Keeps old new → All (IsStored old) fs → map (stored_in old) fs ≡ take i functions
     → i < length functions → IsStored new f × (stored_in new f ≡ get_or functions i d) → more ≡ fs ++ f ∷ [] → All (IsStored new) more × (map (stored_in new) more ≡ take (i + 1) functions)
 one_more old new fs more f functions i d keeps stored same within one e =

@@ -96,7 +96,7 @@ all_by test each [] h = refl
 all_by test each (f ∷ functions) h =
     both (test f) (list_all test functions) (each f (All-head NumbersFit f functions h)) (all_by test each functions (All-tail NumbersFit f functions h))
 
--- ---- a row has 17 bytes at most
+-- ---- a row has at most 17 bytes
 few_bytes : (width : ℕ) → width ≤ 2 → width_len width ≤ 4
 few_bytes zero le = omega arith
 few_bytes (suc zero) le = omega arith

@@ -1,4 +1,4 @@
--- The rows of a function are read back from the bytes that they are spelled in.
+-- The rows of a function are read back from the bytes in which they are spelled.
 use Rattle.std.proofs.Common.{◌≡◌, ◌+◌, ℕ, IsTrue, List, [], ◌∷◌, length, refl, sym, arith, append-nil}
 use Rattle.std.specs.Prelude.{All, Ok}
 use Rattle.std.specs.List.{list_all}

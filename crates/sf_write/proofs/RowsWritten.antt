@@ -32,7 +32,7 @@ pub second_of : (a b : Bool) → IsTrue (a && b) → IsTrue b
 second_of true b e = e
 second_of false b e = absurd (cc)
 
--- the least width is one that there is, and none below it holds
+-- the least width is valid, and none below it holds
 there_by : (zero_holds one_holds : Bool) → (if zero_holds then 0 else (if one_holds then 1 else 2)) ≤ 2
 there_by true one_holds = omega arith
 there_by false true = omega arith
@@ -84,7 +84,7 @@ row_is_held : (row : Row) → IsTrue (offsets_fit row) → IsWidth (holds_row_of
 unfolding offsets_fit
 row_is_held row h = record { there_is = least_is_there (holds_row_offsets row.content); held = h }
 
--- rows stand one after the other, by any condition on the widths that the least meet
+-- consecutive rows stand, by any condition on the widths that the least meet
 pub rows_stand : (MayHave : Content → ℕ → Type 0) → ((content : Content) → MayHave content (offset_width content)) → (arch : Arch) (bytes : List ℕ) (width place : ℕ) (rows : List Row) (tail : List ℕ)
     → width ≤ 2 → IsTrue (holds_unsigned (last_start rows) width) → RowsRise rows → All (λ (row : Row). IsTrue (content_fits arch row.content)) rows → IsTrue (list_all offsets_fit rows)
     → drop place bytes ≡ flat_map (narrow_row width) rows ++ tail

@@ -1,4 +1,4 @@
--- A section that is written says its table, without gaps and with the least widths.
+-- A section that is written is one of its table, without gaps and with the least widths.
 use Rattle.std.proofs.Common.{◌≡◌, ◌≤◌, ◌<◌, ℕ, ◌+◌, ◌*◌, IsTrue, None, List, ◌++◌, length, take, drop, slice_index, refl, ap, sym, subst, ◌∙◌, arith}
 use Rattle.std.specs.List.{flat_map, list_all}
 use Rattle.std.proofs.lemmas.List.{append_assoc}

@@ -43,7 +43,7 @@ len_is rows f h =
     let whole : f.len ≡ length (range_of rows f) = omega (cut, left, within, arith) in
     whole ∙ range_length rows f h
 
--- the number of its rows is the function's
+-- the number of rows in the head is that of the function's rows
 count_is : (rows : StoredRows) (f : StoredFunction) → IsStored rows f → f.head.rows ≡ length (stored_in rows f).rows
 count_is rows f h = ap (λ (x : FuncHead). x.rows) (stored_says rows f h).head
 

@@ -1,4 +1,4 @@
--- A function whose rows are spelled is read back, and what is stored says what its entry and its rows are.
+-- A function whose rows are spelled is read back, and what is stored gives its entry and its rows.
 use Rattle.std.proofs.Common.{◌≡◌, ◌≤◌, ◌+◌, ◌&&◌, ℕ, Bool, true, false, IsTrue, List, [], ◌∷◌, ◌++◌, length, take, drop, refl, sym, ap, subst, ◌∙◌, arith, length-append}
 use Rattle.std.proofs.Math.Seq.{drop-append_seam, take-length}
 use Rattle.std.proofs.lemmas.List.Elements.{All-head, All-tail}
@@ -46,7 +46,7 @@ is_spelled func f same room held width = record {
   offsets_fit = subst (λ (g : Func). IsTrue (rows_fit g)) (sym same) room;
 }
 
--- rows that were spelled after what was there, for this function
+-- rows that were appended for this function
 pub record RowsPushed (rows : List Row) (old : List ℕ) (new : StoredRows) (f : StoredFunction) : Type 0 where
   pub bytes : new.bytes.items ≡ old ++ rows_bytes rows
   pub width : f.width ≡ start_width rows
@@ -56,7 +56,7 @@ pub record RowsPushed (rows : List Row) (old : List ℕ) (new : StoredRows) (f :
   pub place : f.place ≡ length old
   pub end : f.place + f.len ≡ length new.bytes.items
 
--- that function is stored
+-- the function of those rows is stored
 pub stored_new : (arch : Arch) (func : Func) (old : List ℕ) (new : StoredRows) (f : StoredFunction) → IsWritable arch func → RowsPushed func.rows old new f
     → f.head ≡ record { start = func.start; size = func.size; shape = func.shape; key = func.key; rows = f.head.rows } → f.arch ≡ arch → IsStored new f × (stored_in new f ≡ func)
 unfolding stored_in rows_fit
@@ -92,7 +92,7 @@ stored_says rows f h =
       held = subst (λ (w : ℕ). IsTrue (holds_unsigned (last_start (function_by f (range_of rows f)).rows) w)) width h.spelled.starts_fit;
     }
 
--- the bytes of its range
+-- the bytes of the function's range
 pub range_spelled : (rows : StoredRows) (f : StoredFunction) → IsStored rows f → range_of rows f ≡ rows_bytes (stored_in rows f).rows
 unfolding stored_in
 range_spelled rows f h = h.spelled.rows

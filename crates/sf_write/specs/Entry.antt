@@ -25,7 +25,7 @@ entry_bytes at number place start_width head =
     signed_word_bytes (start_distance at number head.start) ++ word_bytes head.size ++ word_bytes place
     ++ word_bytes head.rows ++ (entry_info start_width head ∷ repeat_size head.shape ∷ 0 ∷ 0 ∷ [])
 
--- the entries of functions that are numbered from here on, with their rows one after the other from the place on
+-- the entries of consecutively numbered functions from `number` on, with consecutive rows from the place on
 abbrev pub entries_bytes : (at number place : ℕ) → List Func → List ℕ
 entries_bytes at number place [] = []
 entries_bytes at number place (f ∷ functions) =

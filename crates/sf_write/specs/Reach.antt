@@ -11,21 +11,21 @@ use Rattle.sf_write.specs.declared.fault.WriteFault.TheVariants.{OutOfReach, NoM
 abbrev pub field_address : (at number : ℕ) → ℕ
 field_address at number = at + (28 + 20 * number)
 
--- a start, counted from there
+-- a start, counted from the address of its field
 unfoldable pub start_distance : (at number start : ℕ) → ℤ
 start_distance at number start = pos start -ℤ pos (field_address at number)
 
--- it lies in four signed bytes
+-- the distance of a start from its field fits in four signed bytes
 unfoldable pub is_in_reach : (at number start : ℕ) → Bool
 is_in_reach at number start = holds_signed (start_distance at number start) 2
 
--- the first start that is out of reach, of functions that are numbered from here on
+-- the first start that is out of reach, of consecutively numbered functions from `number` on
 abbrev pub first_out_of_reach : (at number : ℕ) → List Func → Option ℕ
 first_out_of_reach at number [] = None
 first_out_of_reach at number (f ∷ functions) =
     if is_in_reach at number f.start then first_out_of_reach at (number + 1) functions else Some f.start
 
--- a refusal names the start that is out of reach; out of memory says nothing
+-- a refusal names the start that is out of reach; out of memory names none
 abbrev pub Refuses : WriteFault → Option ℕ → Type 0
 Refuses (OutOfReach start) out_of_reach = out_of_reach ≡ Some start
 Refuses NoMemory out_of_reach = ⊤

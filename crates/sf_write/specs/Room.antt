@@ -16,14 +16,14 @@ use Rattle.sf_write.specs.Entry.{repeat_size}
 unfoldable pub offsets_fit : Row → Bool
 offsets_fit row = holds_row_offsets row.content (offset_width row.content)
 
--- those of all rows of a function do
+-- the offsets of all rows of a function have room
 unfoldable pub rows_fit : Func → Bool
 rows_fit f = list_all offsets_fit f.rows
 
--- its size and its repeat size do
+-- a function's size and its repeat size have room
 unfoldable pub head_fits : FuncHead → Bool
 head_fits head = nat_lt head.size (2 ^ 32) && nat_lt (repeat_size head.shape) 256
 
--- those and its row starts do
+-- a function's size, its repeat size and its row starts have room
 unfoldable pub entry_fits : Func → Bool
 entry_fits f = head_fits (head_of f) && holds_unsigned (last_start f.rows) (start_width f.rows)

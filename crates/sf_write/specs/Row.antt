@@ -16,14 +16,14 @@ narrow_row start_width row = spelled_row start_width (offset_width row.content) 
 abbrev pub start_width : List Row → ℕ
 start_width rows = least_width (holds_unsigned (last_start rows))
 
--- a function's rows, one after the other
+-- a function's rows, consecutive
 unfoldable pub rows_bytes : List Row → List ℕ
 rows_bytes rows = flat_map (narrow_row (start_width rows)) rows
 
--- how many bytes they are
+-- how many bytes a function's rows are
 unfoldable pub rows_len : List Row → ℕ
 rows_len rows = sum_by (λ (row : Row). row_len (start_width rows) row.content) rows
 
--- the bytes begin with these: what was there stays in front
+-- the bytes begin with `front`: what was there stays in front
 unfoldable pub BeginWith : (bytes front : List ℕ) → Type 0
 BeginWith bytes front = StandsAt bytes 0 front

@@ -18,7 +18,7 @@ table_of arch functions = record { arch = arch; flags = 5; functions = functions
 unfoldable pub preamble : Arch → List ℕ
 preamble arch = 0xe2 ∷ 0xde ∷ 2 ∷ 5 ∷ abi_number arch ∷ 0 ∷ fixed_return_byte arch ∷ 0 ∷ []
 
--- the bytes of the rows of all functions
+-- the length of the rows of all functions in bytes
 abbrev pub row_section_len : List Func → ℕ
 row_section_len functions = sum_by (λ (f : Func). rows_len f.rows) functions
 
@@ -29,12 +29,12 @@ header_bytes arch functions rows rows_len =
     preamble arch ++ word_bytes functions ++ word_bytes rows ++ word_bytes rows_len ++ word_bytes 0
     ++ word_bytes (20 * functions)
 
--- the header, the entries and the rows of all functions in one order, and nothing besides
+-- the header, the entries and the rows of all functions in one order, and nothing else
 unfoldable pub section_bytes : Arch → (at : ℕ) → List Func → List ℕ
 section_bytes arch at functions =
     header_bytes arch (length functions) (row_count functions) (row_section_len functions)
     ++ entries_bytes at 0 0 functions ++ flat_map (λ (f : Func). rows_bytes f.rows) functions
 
--- its length
+-- the length of the section
 abbrev pub section_len : List Func → ℕ
 section_len functions = 28 + 20 * length functions + row_section_len functions

@@ -1,5 +1,5 @@
--- GNU SFrame specification, Version 2, frame row entries: functions whose rows are kept as the bytes that a section will hold, in one
--- list of bytes for many functions, of which each has a range.
+-- GNU SFrame specification, Version 2, frame row entries: functions whose rows are kept as the bytes that a section
+-- will hold, in one list of bytes for many functions. Each function has a range of the list.
 use Rattle.std.specs.Prelude.{◌≡◌, ◌+◌, ◌≤◌, ◌++◌, ℕ, Bool, IsTrue, Option, Some, None, List, [], ◌∷◌, length, take, drop, sum_by, if◌then◌else◌}
 use Rattle.sf_model.specs.declared.function.Func.{Func}
 use Rattle.sf_model.specs.Width.{holds_unsigned}
@@ -16,7 +16,8 @@ use Rattle.sf_write.specs.Row.{rows_bytes, start_width}
 abbrev pub range_of : StoredRows → StoredFunction → List ℕ
 range_of rows f = take f.len (drop f.place rows.bytes.items)
 
--- the function: its head, and as many rows as that says, read from these bytes by the function's width of row starts
+-- the function: its head, and as many rows as the head's count, read from these bytes by the function's width of row
+-- starts
 unfoldable pub function_by : StoredFunction → List ℕ → Func
 function_by f bytes = record {
   start = f.head.start;
@@ -30,8 +31,8 @@ function_by f bytes = record {
 unfoldable pub stored_in : StoredRows → StoredFunction → Func
 stored_in rows f = function_by f (range_of rows f)
 
--- These bytes are those of the function's rows in a section, and the width of its row starts is the one there. The widths have room
--- for all its numbers.
+-- These bytes are those of the function's rows in a section, and the width of its row starts is the one there. The
+-- widths have room for all its numbers.
 pub record IsSpelled (f : StoredFunction) (bytes : List ℕ) : Type 0 where
   pub rows : bytes ≡ rows_bytes (function_by f bytes).rows
   pub width : f.width ≡ start_width (function_by f bytes).rows
@@ -45,14 +46,15 @@ pub record IsStored (rows : StoredRows) (f : StoredFunction) : Type 0 where
 
 -- What the writer goes by: the heads of stored functions, the widths of their row starts and the lengths of their ranges.
 
--- how many rows they have, and how many bytes those are
+-- how many rows the functions have
 abbrev pub stored_count : List StoredFunction → ℕ
 stored_count functions = sum_by (λ (f : StoredFunction). f.head.rows) functions
 
+-- how many bytes the rows of the functions are
 abbrev pub stored_len : List StoredFunction → ℕ
 stored_len functions = sum_by (λ (f : StoredFunction). f.len) functions
 
--- the entries of those that are numbered from here on, with consecutive rows from the place on
+-- the entries of consecutively numbered functions from `number` on, with consecutive rows from the place on
 abbrev pub stored_entries : (at number place : ℕ) → List StoredFunction → List ℕ
 stored_entries at number place [] = []
 stored_entries at number place (f ∷ functions) =
@@ -68,6 +70,6 @@ first_stored_out_of_reach at number (f ∷ functions) =
 abbrev pub stored_fits : StoredFunction → Bool
 stored_fits f = head_fits f.head
 
--- the width of the row starts is one that there is
+-- the width of the row starts is valid
 abbrev pub HasWidth : StoredFunction → Type 0
 HasWidth f = f.width ≤ 2

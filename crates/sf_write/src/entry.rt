@@ -38,7 +38,7 @@ pub(crate) fn push_entries<L: StoredList>(
     Ok(())
 }
 
-/// Appends the entry with this number, whose rows begin at this place among all rows.
+/// Appends the entry with this number. Its rows begin at this place among all rows.
 #[tactic(auto, unfolding(crate::specs::Entry::entry_bytes, crate::specs::Room::head_fits))]
 #[inline(always)]
 fn push_entry(
@@ -70,7 +70,7 @@ fn push_entry(
     Ok(())
 }
 
-/// The info byte of an entry, by the width of its row starts.
+/// Returns the info byte of an entry, by the width of its row starts.
 #[tactic(auto, unfolding(crate::specs::Entry::entry_info))]
 #[inline(always)]
 fn info_of(head: &FuncHead, width: u8) -> u8
@@ -88,7 +88,7 @@ fn info_of(head: &FuncHead, width: u8) -> u8
     width + FUNCTION_TYPE * shape + KEY * key
 }
 
-/// The repeat size, 0 for a plain function.
+/// Returns the repeat size, 0 for a plain function.
 #[inline(always)]
 fn repeat_size_of(shape: Shape) -> u8
     ensures { result ≡ repeat_size shape }

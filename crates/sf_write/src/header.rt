@@ -10,7 +10,7 @@ use sf_decode::layout::{ABI_AARCH64, ABI_AMD64, FIXED_RETURN_AMD64, MAGIC, VERSI
 use sf_model::Arch;
 use std::alloc::AllocError;
 
-/// Appends the header of a section with so many functions.
+/// Appends the header of a section with this number of functions.
 #[tactic(auto, unfolding(crate::specs::Section::header_bytes))]
 pub(crate) fn push_header(
     bytes: &mut Vec<u8>,

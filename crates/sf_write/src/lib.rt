@@ -7,16 +7,16 @@
 //! (`table_of`); `section_bytes` of `specs/Section.antt` spells it.
 //!
 //! Where functions come one by one, [`StoredRows`] keeps the rows of all in one list, as the bytes that the
-//! section will hold, and a [`StoredFunction`] is one of them by its head and its range. [`write_stored`]
-//! makes the same section of them: by `stored_in` of `specs/Stored.antt` each is its function, as long as it
-//! `IsStored`, which no later `push` changes.
+//! section will hold. A [`StoredFunction`] is one of the functions, by its head and its range. [`write_stored`]
+//! makes the same section from stored functions: by `stored_in` of `specs/Stored.antt` each is its function, as
+//! long as it `IsStored`, which no later `push` changes.
 //!
 //! A law: functions that one section can hold, whose numbers fit and whose starts are in reach, have such a
 //! section ([`functions_that_fit_have_a_section`]).
 //!
 //! The caller owes functions that one section can hold, by rising start, with rows that the machine has
 //! (`AreWritable` of `sf_model`). A start that lies too far from its field is refused. Rows are spelled in one
-//! pass; `write_stored` allocates once, for the section, and `write` besides for the bytes of the rows and a
+//! pass; `write_stored` allocates once, for the section, and `write` also for the bytes of the rows and a
 //! list of the functions.
 #![tactic(auto)]
 

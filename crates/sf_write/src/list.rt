@@ -10,11 +10,11 @@ pub trait StoredList {
     /// The functions in this order.
     ghost listed: { Self → List stored_fact };
 
-    /// How many functions there are.
+    /// Returns how many functions there are.
     fn len(&self) -> usize
         ensures { result ≡ length (listed self.now) };
 
-    /// The function with this number, from 0 on.
+    /// Returns the function with this number, from 0 on.
     fn function(&self, number: usize) -> &StoredFunction
         requires { number < length (listed self.now) }
         ensures { (d : stored_fact) → result.now ≡ get_or (listed self.now) number d };

@@ -5,8 +5,8 @@ ghost use Rattle.sf_write.specs.Reach.{start_distance, is_in_reach};
 
 use crate::layout::{FUNCTION_ENTRY_LEN, HEADER_LEN};
 
-/// A start as it is written in the entry with this number, of a section at `at`: counted from the
-/// field's own address. None where four signed bytes don't hold it.
+/// Returns a start as it is written in the entry with this number, of a section at `at`: counted
+/// from the field's own address. None where four signed bytes don't hold it.
 #[tactic(auto, unfolding(crate::specs::Reach::start_distance, crate::specs::Reach::is_in_reach))]
 #[inline(always)]
 pub(crate) fn start_field(at: u64, number: u32, start: u64) -> Option<i32>

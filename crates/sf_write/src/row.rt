@@ -15,7 +15,7 @@ use sf_model::{Base, Content, Row};
 use sf_sizes::{offset_count, offset_size, row_type, saved_offset};
 use std::alloc::AllocError;
 
-/// The width of a function's row starts: the least that holds the last one.
+/// Returns the width of a function's row starts: the least that holds the last one.
 #[inline(always)]
 pub(crate) fn start_width_of(rows: &[Row]) -> u8
     ensures value { result ≡ start_width rows.now }
@@ -25,7 +25,7 @@ pub(crate) fn start_width_of(rows: &[Row]) -> u8
     row_type(last_start_of(rows))
 }
 
-/// The start of the last row.
+/// Returns the start of the last row.
 #[tactic(auto, using(crate::proofs::LastStart::last_start_by))]
 #[inline(always)]
 fn last_start_of(rows: &[Row]) -> u32
@@ -34,8 +34,8 @@ fn last_start_of(rows: &[Row]) -> u32
     rows.last().map_or(0, |row| row.start)
 }
 
-/// Appends a function's rows, and returns the width of their starts. Out of memory, what was there stays in
-/// front.
+/// Appends a function's rows, and returns the width of their starts. Where memory runs out, what was there stays
+/// in front.
 #[tactic(auto, unfolding(crate::specs::Row::rows_bytes))]
 pub(crate) fn push_rows(bytes: &mut Vec<u8>, rows: &[Row]) -> Result<u8, AllocError>
     ensures ok { OnOk result (bytes.new.items ≡ bytes.old.items ++ rows_bytes rows.now) }
@@ -52,7 +52,7 @@ pub(crate) fn push_rows(bytes: &mut Vec<u8>, rows: &[Row]) -> Result<u8, AllocEr
 }
 
 /// Appends a row: its start in bytes of the width `kind`, its info byte and its offsets. Most rows have a start of
-/// one or two bytes and a byte for each offset, and none of the return address: they are appended at once.
+/// one or two bytes and a byte for each offset, and none for the return address: they are appended at once.
 #[tactic(auto, using(crate::proofs::Kept::begin_front), unfolding(sf_model::specs::RowBytes::spelled_row, crate::specs::Room::offsets_fit))]
 #[inline(always)]
 fn push_row(bytes: &mut Vec<u8>, kind: u8, row: &Row) -> Result<(), AllocError>
@@ -71,8 +71,8 @@ fn push_row(bytes: &mut Vec<u8>, kind: u8, row: &Row) -> Result<(), AllocError>
     }
 }
 
-/// The info byte of a content, the canonical frame address's offset and the frame pointer's, where each offset
-/// has room in a byte and none is the return address's.
+/// Returns the info byte of a content, the canonical frame address's offset and the frame pointer's. None unless
+/// each offset has room in a byte and none is the return address's.
 #[inline(always)]
 fn short_content(content: &Content) -> Option<(u8, u8, Option<u8>)>
     ensures bytes { IfSome result (λ parts. parts.0 ∷ parts.1 ∷ option_to_list parts.2 ≡ row_info_byte (offset_width content.now) content.now ∷ flat_map (signed_bytes (offset_width content.now)) (row_offsets content.now)) }
@@ -89,7 +89,7 @@ fn short_content(content: &Content) -> Option<(u8, u8, Option<u8>)>
     }
 }
 
-/// An offset in a signed byte, where it has room there.
+/// Returns an offset in a signed byte, or None where it has no room there.
 #[inline(always)]
 fn byte_of(offset: i32) -> Option<u8>
     ensures value { IfSome result (λ byte. byte ∷ [] ≡ signed_bytes 0 offset) }
@@ -118,7 +118,7 @@ fn push_any_row(bytes: &mut Vec<u8>, kind: u8, row: &Row) -> Result<(), AllocErr
     push_offsets(bytes, content)
 }
 
-/// The info byte of a row.
+/// Returns the info byte of a row.
 #[inline(always)]
 fn info_of(content: &Content) -> u8
     ensures value { result ≡ row_info_byte (offset_width content.now) content.now }
@@ -127,7 +127,7 @@ fn info_of(content: &Content) -> u8
     flags_of(content) + OFFSET_COUNT * offset_count(content) + OFFSET_WIDTH * offset_size(content)
 }
 
-/// The bits of the info byte for the base and for a signed return address.
+/// Returns the bits of the info byte for the base and for a signed return address.
 #[inline(always)]
 fn flags_of(content: &Content) -> u8
     ensures { result ≡ base_number content.now.base + 128 * signed_number content.now.signed }

@@ -21,9 +21,9 @@ use crate::totals::totals_of;
 use sf_model::{Arch, Func};
 use std::alloc::{AllocError, Global};
 
-/// The section of these functions, in their order, for the address `at`: the one list of bytes that says
-/// their table with flags 0x5, without gaps and with the least widths. It stores the rows, and then writes
-/// the section by [`write_stored`].
+/// Makes the section of these functions, in their order, for the address `at`: the one list of bytes that
+/// is a section of their table with flags 0x5, without gaps and with the least widths. It stores the rows,
+/// and then writes the section by [`write_stored`].
 ///
 /// # Errors
 ///
@@ -44,7 +44,7 @@ pub fn write(alloc: Global, arch: Arch, at: u64, funcs: &[Func]) -> Result<Vec<u
     write_stored(alloc, arch, at, &rows, &functions)
 }
 
-// The functions, stored in their order.
+// Stores the functions in their order.
 fn stored(
     alloc: Global,
     arch: Arch,
@@ -62,8 +62,9 @@ fn stored(
     Ok((rows, functions))
 }
 
-/// The section of stored functions, in their order, for the address `at`: that which [`write`] makes of
-/// the functions. Their rows are copied range by range, and memory is allocated once, for the section.
+/// Makes the section of stored functions, in their order, for the address `at`: the one that [`write`]
+/// makes of the functions. Their rows are copied range by range, and memory is allocated once, for the
+/// section.
 ///
 /// # Errors
 ///

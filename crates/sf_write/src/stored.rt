@@ -21,7 +21,7 @@ pub struct StoredFunction {
     pub head: FuncHead,
     /// The place of its rows in the bytes.
     place: usize,
-    /// How many bytes they are.
+    /// How many bytes its rows are.
     pub(crate) len: u32,
     arch: Arch,
     /// The width of its row starts.
@@ -35,7 +35,7 @@ impl StoredRows {
     ghost use Rattle.sf_write.specs.Row.{rows_bytes};
     ghost use Rattle.sf_write.specs.Stored.{IsStored, range_of, stored_in};
 
-    /// No rows. It allocates nothing until a function is stored.
+    /// Returns empty storage. It allocates nothing until a function is stored.
     pub fn new(alloc: Global) -> StoredRows {
         StoredRows {
             bytes: Vec::new(alloc),
@@ -73,7 +73,7 @@ impl StoredRows {
         })
     }
 
-    /// A stored function with its rows, read from their bytes.
+    /// Reads a stored function with its rows from their bytes.
     #[tactic(auto, unfolding(crate::specs::Stored::stored_in, crate::specs::Stored::function_by))]
     pub fn function(&self, alloc: Global, stored: &StoredFunction) -> Result<Func, AllocError>
         requires { IsStored self.now stored.now }
@@ -93,7 +93,7 @@ impl StoredRows {
         })
     }
 
-    /// The bytes of a function's rows.
+    /// Returns the bytes of a function's rows.
     #[tactic(auto, using(crate::proofs::StoredFunctions::range_spelled))]
     #[inline(always)]
     pub(crate) fn range(&self, stored: &StoredFunction) -> &[u8]
@@ -107,7 +107,7 @@ impl StoredRows {
     }
 }
 
-/// A number as a `u32`. One that has more bits counts as out of memory.
+/// Converts a number to a `u32`. One that has more bits counts as out of memory.
 #[inline(always)]
 fn counted(number: usize) -> Result<u32, AllocError>
     ensures { IfOk result (λ n. n ≡ number) }

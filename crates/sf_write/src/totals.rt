@@ -10,11 +10,11 @@ use crate::list::StoredList;
 pub(crate) struct Totals {
     /// The number of rows of all functions.
     pub(crate) rows: u32,
-    /// Their length in bytes.
+    /// The length of all rows in bytes.
     pub(crate) row_bytes: u32,
 }
 
-/// Adds the rows of all functions up.
+/// Adds up the rows of all functions.
 pub(crate) fn totals_of<L: StoredList>(functions: &L) -> Totals
     requires rows { stored_count (L.listed functions.now) ≤ 2 ^ 24 }
     requires len { stored_len (L.listed functions.now) ≤ 17 * 2 ^ 24 }
