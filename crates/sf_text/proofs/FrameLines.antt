@@ -1,4 +1,4 @@
--- The lines of frames, one after the other.
+-- The lines of frames, in order.
 use Rattle.std.specs.Prelude.{◌++◌}
 use Rattle.std.proofs.Common.{◌≡◌, ℕ, ◌+◌, ◌<◌, ◌≤◌, List, [], ◌∷◌, length, drop, get_or, refl, sym, ap, ◌∙◌, append_assoc, append-nil}
 use Rattle.std.proofs.lemmas.List.{drop_all, drop_more}

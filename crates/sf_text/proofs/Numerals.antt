@@ -5,7 +5,7 @@ use Rattle.std.proofs.Math.Nat.{div-lt_iff_lt-mul, div-eq_of_lt, pow-suc, pow-ze
 use Rattle.std.proofs.lemmas.Bool.{ne_eqb}
 use Rattle.std.proofs.lemmas.List.{drop-set}
 
--- the digits of what is left, with so many places free, in front of those that are there
+-- the digits of what is left, with `places` places free, in front of those that are there
 unfoldable pub digits_before : (places base left : ℕ) → List ℕ → List ℕ
 digits_before places base left after = digits_onto (44 + places) base false left after
 

@@ -6,7 +6,7 @@ use Rattle.std.proofs.lemmas.List.Concat.{flat_map-append}
 use Rattle.std.proofs.Math.Seq.{drop-cons}
 use Rattle.sf_text.proofs.Appended.{append_nil}
 
--- an item's text comes behind those of the items so far
+-- an item's text comes after those of the items so far
 pub texts_with : {X : Type 0} (text : X → List ℕ) (xs : List X) (x : X) → flat_map text xs ++ text x ≡ flat_map text (xs ++ x ∷ [])
 texts_with text xs x = flat_map_more text [] xs x
 
@@ -15,7 +15,7 @@ pub next_text : {X : Type 0} (text : X → List ℕ) (xs left rest : List X) (x 
     → flat_map text xs ++ (text x ++ flat_map text left) ≡ all
 next_text {X = X} text xs left rest x all are so_far = ap (λ (ys : List X). flat_map text xs ++ flat_map text ys) (sym are) ∙ so_far
 
--- and so the items so far have one more
+-- the items so far have one more, after the next item's text
 pub one_more_text : {X : Type 0} (text : X → List ℕ) (xs left rest : List X) (x : X) (all : List ℕ) → rest ≡ x ∷ left → flat_map text xs ++ flat_map text rest ≡ all
     → flat_map text (xs ++ x ∷ []) ++ flat_map text left ≡ all
 one_more_text text xs left rest x all are so_far =

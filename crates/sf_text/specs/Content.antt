@@ -1,4 +1,4 @@
--- What one row says, as text.
+-- The content of one row, as text.
 use Rattle.std.specs.Prelude.{◌++◌, ℕ, ℤ, Bool, true, false, List, [], codes, Option, Some, None, unsigned_abs, if◌then◌else◌}
 use Rattle.std.specs.Int.{is_negative}
 use Rattle.std.specs.Fmt.{decimal}

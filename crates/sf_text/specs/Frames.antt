@@ -19,7 +19,7 @@ cfa_text None = []
 unfoldable pub frame_line : (number : ℕ) → Frame → List ℕ
 frame_line number frame = codes "  #" ++ decimal number ++ codes " pc " ++ hexadecimal frame.pc ++ cfa_text frame.cfa ++ codes "\n"
 
--- the lines of frames that are counted from a number on
+-- the lines of frames that are numbered from `first` on
 unfoldable pub frame_lines : (first : ℕ) → List Frame → List ℕ
 frame_lines first [] = []
 frame_lines first (frame ∷ frames) = frame_line first frame ++ frame_lines (first + 1) frames

@@ -8,5 +8,6 @@ pub record IsGathered (held holds bytes old new : List ℕ) : Type 0 where
   pub written : new ≡ old ++ piece
   pub all : piece ++ holds ≡ held ++ bytes
 
+-- such a piece went to a sink whose bytes are known before and after
 abbrev pub Gathers : (before after : Option (List ℕ)) → (held holds bytes : List ℕ) → Type 0
 Gathers before after held holds bytes = OnTold before after (λ old new. IsGathered held holds bytes old new)

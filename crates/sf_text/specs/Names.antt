@@ -1,10 +1,12 @@
--- The names that lines show: of the reasons for leaving a function out, of the groups of faults and of each group's faults.
+-- The names that lines print: of the reasons for omitting a function, of the groups of faults and of each group's
+-- faults.
 use Rattle.std.specs.Prelude.{◌==◌, ℕ, List, codes, if◌then◌else◌}
 use Rattle.sf_model.specs.declared.notice.Group.{Group}
 use Rattle.sf_model.specs.declared.notice.Group.TheVariants.{Elf, Place, Reloc, Record, Insn, Machine, Section, Core, Module, Link}
 use Rattle.sf_model.specs.declared.omission.Reason.{Reason}
 use Rattle.sf_model.specs.declared.omission.Reason.TheVariants.{EmptyRange, SizeTooLarge, ReturnColumn, SignalFrame, NoCfa, CfaExpression, CfaRegister, CfaOffset, SpRule, RaRule, RaOffset, FpRule, FpOffset, FpWithoutRa, SignState}
 
+-- a reason for omitting a function
 abbrev pub reason_name : Reason → List ℕ
 reason_name EmptyRange = codes "EmptyRange"
 reason_name SizeTooLarge = codes "SizeTooLarge"
@@ -22,6 +24,7 @@ reason_name FpOffset = codes "FpOffset"
 reason_name FpWithoutRa = codes "FpWithoutRa"
 reason_name SignState = codes "SignState"
 
+-- a group of faults
 abbrev pub group_name : Group → List ℕ
 group_name Elf = codes "elf"
 group_name Place = codes "place"
@@ -42,34 +45,34 @@ elf_name n =
     if n == 7 then codes "Kind" else (if n == 8 then codes "EntrySize" else (if n == 9 then codes "Strings" else (
     if n == 10 then codes "OutOfFile" else (if n == 11 then codes "Compressed" else codes "SymbolIndex"))))))))))
 
--- of placing its sections, 1 to 3
+-- the faults of placing an ELF file's sections, 1 to 3
 abbrev pub place_name : ℕ → List ℕ
 place_name n = if n == 1 then codes "Align" else (if n == 2 then codes "AddressOverflow" else codes "NoBits")
 
--- of relocating a call frame section, 1 to 6
+-- the faults of relocating a call frame section, 1 to 6
 abbrev pub reloc_name : ℕ → List ℕ
 reloc_name n =
     if n == 1 then codes "UnknownType" else (if n == 2 then codes "Range" else (if n == 3 then codes "Place" else (
     if n == 4 then codes "Twice" else (if n == 5 then codes "RelSection" else codes "OutOfSection"))))
 
--- of reading its records, 1 to 9
+-- the faults of reading a call frame section's records, 1 to 9
 abbrev pub record_name : ℕ → List ℕ
 record_name n =
     if n == 1 then codes "Short" else (if n == 2 then codes "Extended" else (if n == 3 then codes "CieVersion" else (
     if n == 4 then codes "Augmentation" else (if n == 5 then codes "CiePointer" else (if n == 6 then codes "Encoding" else (
     if n == 7 then codes "Leb" else (if n == 8 then codes "Unresolved" else codes "FunctionEnd")))))))
 
--- of reading its instructions, 1 to 3
+-- the faults of reading call frame instructions, 1 to 3
 abbrev pub insn_name : ℕ → List ℕ
 insn_name n = if n == 1 then codes "Opcode" else (if n == 2 then codes "Short" else codes "Leb")
 
--- of running them, 1 to 4
+-- the faults of running call frame instructions, 1 to 4
 abbrev pub machine_name : ℕ → List ℕ
 machine_name n =
     if n == 1 then codes "CieInstruction" else (if n == 2 then codes "StateEmpty" else (
     if n == 3 then codes "StateDepth" else codes "NoCfaRegister"))
 
--- of reading an SFrame section, 1 to 17
+-- the faults of reading an SFrame section, 1 to 17
 abbrev pub section_name : ℕ → List ℕ
 section_name n =
     if n == 1 then codes "Short" else (if n == 2 then codes "Magic" else (if n == 3 then codes "Version" else (
@@ -79,22 +82,23 @@ section_name n =
     if n == 13 then codes "OffsetSize" else (if n == 14 then codes "RowOrder" else (if n == 15 then codes "Unsorted" else (
     if n == 16 then codes "Overlap" else codes "AddressRange")))))))))))))))
 
--- of reading a core file, 2 to 5
+-- the faults of reading a core file, 2 to 5
 abbrev pub core_name : ℕ → List ℕ
 core_name n =
     if n == 2 then codes "NotCore" else (if n == 3 then codes "Note" else (if n == 4 then codes "StatusSize" else codes "NoThread"))
 
--- of finding the modules of a process, 1, 2 and 4 to 9
+-- the faults of finding the modules of a process, 1, 2 and 4 to 9
 abbrev pub module_name : ℕ → List ℕ
 module_name n =
     if n == 1 then codes "NoFileNote" else (if n == 2 then codes "FileNote" else (if n == 4 then codes "NoSection" else (
     if n == 5 then codes "Segments" else (if n == 6 then codes "NotMapped" else (if n == 7 then codes "Mapping" else (
     if n == 8 then codes "Ambiguous" else codes "Build"))))))
 
--- of putting functions together, 1 to 3
+-- the faults of putting functions together, 1 to 3
 abbrev pub link_name : ℕ → List ℕ
 link_name n = if n == 1 then codes "MixedArch" else (if n == 2 then codes "Overlap" else codes "OutOfReach")
 
+-- the faults of each group
 abbrev pub fault_name : Group → ℕ → List ℕ
 fault_name Elf n = elf_name n
 fault_name Place n = place_name n

@@ -5,7 +5,7 @@ use Rattle.sf_text.specs.declared.output.Output.{Output}
 use Rattle.sf_text.specs.declared.output.Output.TheVariants.{Text, Section}
 use Rattle.sf_text.specs.Dump.{dump_text}
 
--- a text, or all that a section says
+-- a text, or the whole content of a section
 abbrev pub output_text : Output → List ℕ
 output_text (Text text) = text.items
 output_text (Section view) = dump_text (table_of view)

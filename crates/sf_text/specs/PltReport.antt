@@ -17,7 +17,7 @@ table_text start size = codes "plt " ++ hexadecimal start ++ codes " size " ++ d
 unfoldable pub table_line : Span → List ℕ
 table_line table = table_text table.start table.size ++ origin_text table.origin ++ codes "\n"
 
--- an earlier input, or else an earlier section, or else an earlier record
+-- the first record is of an earlier input, or else of an earlier section, or else is earlier in its section
 abbrev pub is_earlier : Origin → Origin → Bool
 is_earlier a b = nat_lt a.item b.item || ((a.item == b.item) && (nat_lt a.section b.section || ((a.section == b.section) && nat_lt a.place b.place)))
 
@@ -25,16 +25,17 @@ is_earlier a b = nat_lt a.item b.item || ((a.item == b.item) && (nat_lt a.sectio
 abbrev pub comes_before : Omitted → Span → Bool
 comes_before f table = nat_lt table.start f.start || ((table.start == f.start) && is_earlier table.origin f.origin)
 
--- the tables at the front that come before an omitted function, and the others
+-- the tables at the front that come before an omitted function
 abbrev pub tables_before : Omitted → List Span → List Span
 tables_before f [] = []
 tables_before f (table ∷ tables) = if comes_before f table then table ∷ tables_before f tables else []
 
+-- the tables after those that come before an omitted function
 abbrev pub tables_after : Omitted → List Span → List Span
 tables_after f [] = []
 tables_after f (table ∷ tables) = if comes_before f table then tables_after f tables else table ∷ tables
 
--- the lines of both: before each omitted function those of the tables that come before it
+-- the lines of the omitted functions and the tables: before each function those of the tables that come before it
 abbrev pub omitted_and_tables : List Omitted → List Span → List ℕ
 omitted_and_tables [] tables = flat_map table_line tables
 omitted_and_tables (f ∷ omitted) tables =
@@ -44,5 +45,6 @@ omitted_and_tables (f ∷ omitted) tables =
 unfoldable pub three_counts_line : (kept omitted tables : ℕ) → List ℕ
 three_counts_line kept omitted tables = codes "kept " ++ decimal kept ++ codes " omitted " ++ decimal omitted ++ codes " plt " ++ decimal tables ++ codes "\n"
 
+-- the whole report
 unfoldable pub plt_report_text : (kept : ℕ) → List Omitted → List Span → List ℕ
 plt_report_text kept omitted tables = omitted_and_tables omitted tables ++ three_counts_line kept (length omitted) (length tables)

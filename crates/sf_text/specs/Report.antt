@@ -1,4 +1,4 @@
--- The report of a link: a line for each function that is left out, and a line with the counts.
+-- The report of a link: a line for each function that is omitted, and a line with the counts.
 use Rattle.std.specs.Prelude.{◌++◌, ℕ, List, [], length, codes, Option, Some, None}
 use Rattle.std.specs.List.{flat_map}
 use Rattle.std.specs.Fmt.{decimal}
@@ -34,5 +34,6 @@ omitted_line f = span_text f.start f.size ++ origin_text f.origin ++ omission_te
 unfoldable pub counts_line : (kept omitted : ℕ) → List ℕ
 counts_line kept omitted = codes "kept " ++ decimal kept ++ codes " omitted " ++ decimal omitted ++ codes "\n"
 
+-- the whole report
 unfoldable pub report_text : (kept : ℕ) → List Omitted → List ℕ
 report_text kept omitted = flat_map omitted_line omitted ++ counts_line kept (length omitted)

@@ -1,4 +1,4 @@
--- A name as a line shows it: the bytes of control characters in digits, every other character as it is.
+-- A name as a line prints it: the bytes of control characters in digits, every other character as it is.
 use Rattle.std.specs.Prelude.{◌++◌, ◌/◌, ◌%◌, ℕ, false, List, [], ◌∷◌, codes, if◌then◌else◌}
 use Rattle.std.specs.Char.{encode_utf8, is_control}
 use Rattle.std.specs.Fmt.{digit_glyph}

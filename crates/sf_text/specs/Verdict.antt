@@ -25,6 +25,7 @@ dwarf_text None = codes "none"
 unfoldable pub differs_text : (pc : ℕ) → (section : Content) → (dwarf : Option Content) → List ℕ
 differs_text pc section dwarf = codes "differs " ++ hexadecimal pc ++ codes " section " ++ content_text section ++ codes " dwarf " ++ dwarf_text dwarf ++ codes "\n"
 
+-- the line of a verdict
 abbrev pub verdict_text : Verdict → List ℕ
 verdict_text (Agrees checked missing repeats) = agrees_text checked missing repeats
 verdict_text (Differs pc section dwarf) = differs_text pc section dwarf

@@ -1,4 +1,4 @@
-//! Text in a buffer of its own, without memory, and in pieces to a sink.
+//! Text in a buffer of its own, without allocation, and in pieces to a sink.
 
 ghost use Rattle.std.specs.Prelude.{◌≡◌, ◌≤◌, ◌+◌, ◌++◌, ◌∷◌, [], length, OnOk, OnErr};
 ghost use Rattle.std.specs.Fmt.{decimal};
@@ -105,7 +105,7 @@ pub(crate) fn push_signed(buffer: &mut Buffer, number: i32)
     push_decimal(buffer, u64::from(number.unsigned_abs()));
 }
 
-/// The sign of a number, a plus for 0.
+/// Returns the sign of a number, a plus for 0.
 #[inline(always)]
 fn sign_of(number: i32) -> u8
     ensures { sign_text number ≡ result ∷ [] }

@@ -1,4 +1,4 @@
-//! What one row says.
+//! The content of one row.
 
 ghost use Rattle.std.specs.Prelude.{◌≡◌, ◌≤◌, ◌+◌, ◌++◌, length, OnOk};
 ghost use Rattle.arrayvec.specs.ArrayVec.{array_vec_len};
@@ -8,7 +8,7 @@ use crate::buffer::{Buffer, push_decimal, push_signed, push_text};
 use sf_model::{Base, Content, Ra, Row};
 use std::alloc::AllocError;
 
-/// Appends a row to a growing text: its start, and what it says.
+/// Appends a row to a growing text: its start and its content.
 pub(crate) fn append_row(text: &mut Vec<u8>, row: &Row) -> Result<(), AllocError>
     ensures { OnOk result (text.new.items ≡ text.old.items ++ row_text row.now) }
 {
@@ -17,7 +17,7 @@ pub(crate) fn append_row(text: &mut Vec<u8>, row: &Row) -> Result<(), AllocError
     text.extend_from_slice(buffer.as_slice())
 }
 
-/// Appends what a row says to a growing text.
+/// Appends a row's content to a growing text.
 pub(crate) fn append_content(text: &mut Vec<u8>, content: &Content) -> Result<(), AllocError>
     ensures { OnOk result (text.new.items ≡ text.old.items ++ content_text content.now) }
 {
@@ -26,7 +26,7 @@ pub(crate) fn append_content(text: &mut Vec<u8>, content: &Content) -> Result<()
     text.extend_from_slice(buffer.as_slice())
 }
 
-/// Appends a row: its start, and what it says.
+/// Appends a row: its start and its content.
 #[tactic(auto, unfolding(crate::specs::Content::row_text))]
 pub(crate) fn push_row(buffer: &mut Buffer, row: &Row)
     requires { array_vec_len buffer.old + 120 ≤ 8192 }
@@ -39,7 +39,7 @@ pub(crate) fn push_row(buffer: &mut Buffer, row: &Row)
     push_content(buffer, &row.content);
 }
 
-/// Appends what a row says.
+/// Appends a row's content.
 #[tactic(auto, unfolding(crate::specs::Content::content_text))]
 fn push_content(buffer: &mut Buffer, content: &Content)
     requires { array_vec_len buffer.old + 90 ≤ 8192 }
@@ -99,7 +99,7 @@ fn push_signing(buffer: &mut Buffer, signed: bool)
     }
 }
 
-/// The name of the register that a canonical frame address counts from.
+/// Returns the name of the register that a canonical frame address counts from.
 fn name_of_base(base: Base) -> &'static [u8]
     ensures value { result.now ≡ base_text base }
     ensures len { length result.now ≡ 2 }

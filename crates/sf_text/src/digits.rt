@@ -1,4 +1,4 @@
-//! The digits of a number, without memory.
+//! The digits of a number, without allocation.
 
 ghost use Rattle.std.specs.Prelude.{◌≡◌, ◌≤◌, ◌<◌, ◌^◌, false, length, drop};
 ghost use Rattle.std.specs.Fmt.{digits, digit_glyph};
@@ -15,7 +15,7 @@ pub(crate) struct Digits {
 }
 
 impl Digits {
-    /// The digits, the highest first.
+    /// Returns the digits, the highest first.
     #[inline(always)]
     pub(crate) fn as_bytes(&self) -> &[u8]
         ensures value { result.now ≡ drop self.now.start self.now.bytes }
@@ -25,8 +25,8 @@ impl Digits {
     }
 }
 
-/// The digits of a number in a base, without leading zeros. It is inlined, so that a base that is known
-/// divides by a multiplication.
+/// Returns the digits of a number in a base, without leading zeros. It is inlined, so that a base that
+/// is known divides by a multiplication.
 #[inline(always)]
 pub(crate) fn digits_in(base: u64, number: u64) -> Digits
     requires base { (2 ≤ base) × (base ≤ 16) }
@@ -46,7 +46,7 @@ pub(crate) fn digits_in(base: u64, number: u64) -> Digits
     Digits { bytes, start }
 }
 
-/// The character of a digit below 16.
+/// Returns the character of a digit below 16.
 #[inline(always)]
 pub(crate) fn glyph(digit: u64) -> u8
     requires { digit < 16 }

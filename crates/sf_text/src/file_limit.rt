@@ -21,7 +21,7 @@ pub fn file_limit_line<S: Sink>(sink: &mut S, item: u32) -> Result<(), Failed>
     put_all(sink, line_of(item).as_slice())
 }
 
-/// The line.
+/// Returns the line.
 #[tactic(auto, unfolding(crate::specs::Merged::file_limit_text))]
 fn line_of(item: u32) -> Buffer
     ensures { result.items ≡ file_limit_text item }

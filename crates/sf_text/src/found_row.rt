@@ -9,7 +9,8 @@ use sf_base::NoMemory;
 use sf_model::{FuncHead, Row};
 use std::alloc::{AllocError, Global};
 
-/// What was found at an address: the function and its row that holds there, or none.
+/// Returns the text of what was found at an address: the function and its row that holds there, or
+/// none.
 pub fn found(alloc: Global, pc: u64, found: Option<(FuncHead, Row)>) -> Result<Vec<u8>, NoMemory>
     ensures { IfOk result (λ text. text.items ≡ found_text pc found) }
 {

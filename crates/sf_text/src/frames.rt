@@ -9,8 +9,8 @@ use sf_model::{Frame, Stop, Walk};
 use std::alloc::{AllocError, Global};
 use std::fmt::Write;
 
-/// The text of a thread's walk: a line for the thread with its number and the system's, a line for each frame, and a
-/// line on why the walk stopped.
+/// Returns the text of a thread's walk: a line for the thread with its number and the system's, a line for each
+/// frame, and a line on why the walk stopped.
 #[tactic(auto, unfolding(crate::specs::Frames::walk_text))]
 pub fn thread_text(alloc: Global, number: u32, pid: u32, walk: &Walk) -> Result<Vec<u8>, NoMemory>
     ensures { IfOk result (λ text. text.items ≡ walk_text number pid walk.now.frames.items walk.now.stop) }

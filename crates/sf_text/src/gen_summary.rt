@@ -7,8 +7,8 @@ use sf_base::NoMemory;
 use std::alloc::{AllocError, Global};
 use std::fmt::Write;
 
-/// The line of a link of a made object of `n` functions: how many were kept and left out, and the length of the
-/// section and the sum of its bytes.
+/// Returns the line of a link of a made object of `n` functions: how many were kept and omitted, and the length
+/// of the section and the sum of its bytes.
 #[tactic(auto, unfolding(crate::specs::Summary::summary_text))]
 pub fn summary(
     alloc: Global,
@@ -33,7 +33,7 @@ fn push_section(text: &mut String, section: &[u8]) -> Result<(), AllocError>
     write!(text, " length {} sum {}\n", section.len(), sum_of(section))
 }
 
-/// The sum of bytes. It is as wide as the sum of any number of them needs.
+/// Returns the sum of bytes. It is as wide as the sum of any number of them needs.
 fn sum_of(bytes: &[u8]) -> u128
     ensures { result ≡ sum bytes.now }
 {

@@ -1,17 +1,17 @@
 //! The texts that a program of this repository prints: the reports of links, the counts of a merge, what
-//! slimming saves, what a section says, what a look-up finds, a verdict, what a walk lists, the summary of a
-//! made object's link, the line of a fault, the line of an item that is too long, and the names of files.
+//! slimming saves, the content of a section, what a look-up finds, a verdict, what a walk lists, the summary
+//! of a made object's link, the line of a fault, the line of an item that is too long, and the names of files.
 //!
-//! Each text is a definition in `specs/`, and the calls give it byte for byte: [`report`] is `report_text`,
+//! Each text is a definition in `specs/`, and the calls return it byte for byte: [`report`] is `report_text`,
 //! [`report_plt`] is `plt_report_text`, [`merged`] is `merged_text`, [`slim_line`] is `slim_text`, [`found`] is
 //! `found_text`, [`verdict`] is `verdict_text`, [`thread_text`] is `walk_text`, [`summary`] is `summary_text`.
 //! [`put_output`] appends such a text, or `dump_text` of the table that a view shows, to a sink, and
 //! [`fault_line`], [`file_limit_line`] and [`put_name`] append `fault_text`, `file_limit_text` and `shown_name`.
 //! The caller owes a notice that has a line to `fault_line`, and nothing to the others.
 //!
-//! What appends to a sink allocates nothing: what a section says goes there in pieces, and is never held whole. [`dump`]
-//! gives it as one text.
-//! The others build their text in one growing buffer, in the time of its length; they fail for memory alone.
+//! What appends to a sink allocates nothing: the content of a section goes there in pieces, and is never held
+//! whole. [`dump`] returns it as one text.
+//! The others build their text in one growing buffer, in the time of its length; they fail only out of memory.
 #![tactic(auto)]
 
 mod buffer;

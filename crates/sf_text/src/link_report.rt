@@ -11,8 +11,8 @@ use sf_model::{Omission, Omitted, Origin};
 use std::alloc::{AllocError, Global};
 use std::fmt::Write;
 
-/// The report of a link that kept so many functions: a line for each omitted function, in the order
-/// that is given, and a line with both counts.
+/// Returns the report of a link that kept `kept` functions: a line for each omitted function, in
+/// the order that is given, and a line with both counts.
 #[tactic(auto, unfolding(crate::specs::Report::report_text))]
 pub fn report(alloc: Global, kept: u32, omitted: &[Omitted]) -> Result<Vec<u8>, NoMemory>
     ensures { IfOk result (λ text. text.items ≡ report_text kept omitted.now) }
@@ -44,7 +44,7 @@ pub fn push_line(text: &mut String, function: &Omitted) -> Result<(), AllocError
     text.push_str("\n")
 }
 
-/// Appends its addresses.
+/// Appends the function's addresses.
 #[tactic(auto, unfolding(crate::specs::Report::span_text))]
 fn push_span(text: &mut String, start: u64, size: u64) -> Result<(), AllocError>
     ensures { OnOk result (string_bytes text.new ≡ string_bytes text.old ++ span_text start size) }
@@ -52,7 +52,7 @@ fn push_span(text: &mut String, start: u64, size: u64) -> Result<(), AllocError>
     write!(text, "omit {} size {}", Hexadecimal(start), size)
 }
 
-/// Appends where it came from.
+/// Appends where the function came from.
 #[tactic(auto, unfolding(crate::specs::Report::origin_text))]
 pub fn push_origin(text: &mut String, origin: Origin) -> Result<(), AllocError>
     ensures { OnOk result (string_bytes text.new ≡ string_bytes text.old ++ origin_text origin) }
@@ -65,7 +65,7 @@ pub fn push_origin(text: &mut String, origin: Origin) -> Result<(), AllocError>
     )
 }
 
-/// Appends why it is left out, and at which offset.
+/// Appends why the function is omitted, and at which offset.
 #[tactic(auto, unfolding(crate::specs::Report::omission_text))]
 fn push_omission(text: &mut String, omission: Omission) -> Result<(), AllocError>
     ensures { OnOk result (string_bytes text.new ≡ string_bytes text.old ++ omission_text omission) }

@@ -1,4 +1,4 @@
-//! What a section says, as one text.
+//! The content of a section, as one text.
 
 ghost use Rattle.std.specs.Prelude.{◌≡◌, IfOk};
 ghost use Rattle.sf_decode.specs.View.{table_of};
@@ -30,7 +30,8 @@ impl Sink for Text {
     }
 }
 
-/// What a section says, as one text: what [`put_output`](crate::put_output) writes of it in pieces.
+/// Returns the content of a section as one text: the one that [`put_output`](crate::put_output)
+/// writes in pieces.
 ///
 /// `NoMemory` where memory ran out.
 pub fn dump(alloc: Global, view: &View<'_>) -> Result<Vec<u8>, NoMemory>

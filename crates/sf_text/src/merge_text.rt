@@ -7,7 +7,7 @@ use sf_base::NoMemory;
 use std::alloc::Global;
 use std::fmt::Write;
 
-/// The line of a merge into a section of so many functions and rows.
+/// Returns the line of a merge into a section of this many functions and rows.
 #[tactic(auto, unfolding(crate::specs::Merged::merged_text))]
 pub fn merged(alloc: Global, functions: u32, rows: u32) -> Result<Vec<u8>, NoMemory>
     ensures { IfOk result (λ text. text.items ≡ merged_text functions rows) }

@@ -6,7 +6,7 @@ ghost use Rattle.sf_text.specs.Names.{reason_name, group_name, elf_name, place_n
 
 use sf_model::{Group, Reason};
 
-/// The name of a reason for leaving a function out.
+/// Returns the name of a reason for omitting a function.
 pub(crate) fn name_of_reason(reason: Reason) -> &'static str
     ensures { result.now ≡ reason_name reason }
 {
@@ -29,7 +29,7 @@ pub(crate) fn name_of_reason(reason: Reason) -> &'static str
     }
 }
 
-/// The name of a group of faults.
+/// Returns the name of a group of faults.
 pub(crate) fn name_of_group(group: Group) -> &'static str
     ensures value { result.now ≡ group_name group }
     ensures short { length result.now ≤ 7 }
@@ -48,7 +48,7 @@ pub(crate) fn name_of_group(group: Group) -> &'static str
     }
 }
 
-/// The name of the fault with this number in its group.
+/// Returns the name of the fault with this number in its group.
 pub(crate) fn name_of_fault(group: Group, number: u8) -> &'static str
     requires { IsSome (values_shown group number) }
     ensures value { result.now ≡ name_of_fault group number }
@@ -68,7 +68,7 @@ pub(crate) fn name_of_fault(group: Group, number: u8) -> &'static str
     }
 }
 
-/// The faults of reading an ELF file.
+/// Returns the name of a fault of reading an ELF file.
 fn name_of_elf(number: u8) -> &'static str
     requires { IsTrue (up_to 12 number) }
     ensures value { result.now ≡ elf_name number }
@@ -90,7 +90,7 @@ fn name_of_elf(number: u8) -> &'static str
     }
 }
 
-/// The faults of placing its sections.
+/// Returns the name of a fault of placing an ELF file's sections.
 fn name_of_place(number: u8) -> &'static str
     requires { IsTrue (up_to 3 number) }
     ensures value { result.now ≡ place_name number }
@@ -103,7 +103,7 @@ fn name_of_place(number: u8) -> &'static str
     }
 }
 
-/// The faults of relocating a call frame section.
+/// Returns the name of a fault of relocating a call frame section.
 fn name_of_reloc(number: u8) -> &'static str
     requires { IsTrue (up_to 6 number) }
     ensures value { result.now ≡ reloc_name number }
@@ -119,7 +119,7 @@ fn name_of_reloc(number: u8) -> &'static str
     }
 }
 
-/// The faults of reading its records.
+/// Returns the name of a fault of reading a call frame section's records.
 fn name_of_record(number: u8) -> &'static str
     requires { IsTrue (up_to 9 number) }
     ensures value { result.now ≡ record_name number }
@@ -138,7 +138,7 @@ fn name_of_record(number: u8) -> &'static str
     }
 }
 
-/// The faults of reading its instructions.
+/// Returns the name of a fault of reading call frame instructions.
 fn name_of_insn(number: u8) -> &'static str
     requires { IsTrue (up_to 3 number) }
     ensures value { result.now ≡ insn_name number }
@@ -151,7 +151,7 @@ fn name_of_insn(number: u8) -> &'static str
     }
 }
 
-/// The faults of running them.
+/// Returns the name of a fault of running call frame instructions.
 fn name_of_machine(number: u8) -> &'static str
     requires { IsTrue (up_to 4 number) }
     ensures value { result.now ≡ machine_name number }
@@ -165,7 +165,7 @@ fn name_of_machine(number: u8) -> &'static str
     }
 }
 
-/// The faults of reading an SFrame section.
+/// Returns the name of a fault of reading an SFrame section.
 fn name_of_section(number: u8) -> &'static str
     requires { IsTrue (up_to 17 number) }
     ensures value { result.now ≡ section_name number }
@@ -192,7 +192,7 @@ fn name_of_section(number: u8) -> &'static str
     }
 }
 
-/// The faults of reading a core file.
+/// Returns the name of a fault of reading a core file.
 fn name_of_core(number: u8) -> &'static str
     requires { (2 ≤ number) × (number ≤ 5) }
     ensures value { result.now ≡ core_name number }
@@ -206,7 +206,7 @@ fn name_of_core(number: u8) -> &'static str
     }
 }
 
-/// The faults of finding the modules of a process.
+/// Returns the name of a fault of finding the modules of a process.
 fn name_of_module(number: u8) -> &'static str
     requires { (1 ≤ number) × (number ≤ 9) }
     ensures value { result.now ≡ module_name number }
@@ -224,7 +224,7 @@ fn name_of_module(number: u8) -> &'static str
     }
 }
 
-/// The faults of putting functions together.
+/// Returns the name of a fault of putting functions together.
 fn name_of_link(number: u8) -> &'static str
     requires { IsTrue (up_to 3 number) }
     ensures value { result.now ≡ link_name number }

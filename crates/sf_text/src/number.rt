@@ -1,4 +1,4 @@
-//! Numbers as they are shown in a growing text.
+//! Numbers as they are printed in a growing text.
 
 ghost use Rattle.std.specs.Prelude.{◌≡◌, ◌++◌, OnOk};
 ghost use Rattle.std.specs.Fmt.{decimal};

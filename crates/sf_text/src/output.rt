@@ -14,7 +14,7 @@ use sf_decode::View;
 pub enum Output<'a> {
     /// A text that was made.
     Text(Vec<u8>),
-    /// All that a section says. Its text is written in pieces, and never held.
+    /// The whole content of a section. Its text is written in pieces, and never held whole.
     Section(View<'a>),
 }
 

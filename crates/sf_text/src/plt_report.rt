@@ -11,9 +11,9 @@ use sf_model::{Omitted, Origin, Span};
 use std::alloc::{AllocError, Global};
 use std::fmt::Write;
 
-/// The report of a link that kept so many functions and wrote these procedure linkage tables: a line for each
-/// omitted function and each table, in the order of both by start and then origin, and a line with the three
-/// counts. Both lists are in that order.
+/// Returns the report of a link that kept `kept` functions and wrote these procedure linkage tables: a line
+/// for each omitted function and each table, in the order of both by start and then origin, and a line with
+/// the three counts. Both lists are in that order.
 #[tactic(auto, unfolding(crate::specs::PltReport::plt_report_text))]
 pub fn report_plt(
     alloc: Global,
@@ -70,7 +70,7 @@ fn push_tables(text: &mut String, plts: &[Span]) -> Result<(), AllocError>
     Ok(())
 }
 
-/// Whether a table comes before an omitted function, by start and then origin.
+/// Returns whether a table comes before an omitted function, by start and then origin.
 fn comes_before(function: &Omitted, table: &Span) -> bool
     ensures { result ≡ is_before function.now table.now }
 {
@@ -78,7 +78,7 @@ fn comes_before(function: &Omitted, table: &Span) -> bool
         || table.start == function.start && is_earlier(table.origin, function.origin)
 }
 
-/// Whether a record comes before another one, by input, section and place.
+/// Returns whether a record comes before another one, by input, section and place.
 fn is_earlier(a: Origin, b: Origin) -> bool
     ensures { result ≡ is_earlier_origin a b }
 {
@@ -97,7 +97,7 @@ fn push_table(text: &mut String, table: &Span) -> Result<(), AllocError>
     text.push_str("\n")
 }
 
-/// Appends its addresses.
+/// Appends the table's addresses.
 #[tactic(auto, unfolding(crate::specs::PltReport::table_text))]
 fn push_addresses(text: &mut String, start: u64, size: u64) -> Result<(), AllocError>
     ensures { OnOk result (string_bytes text.new ≡ string_bytes text.old ++ table_text start size) }

@@ -27,7 +27,7 @@ pub fn fault_line<S: Sink>(sink: &mut S, notice: &Notice) -> Result<(), Failed>
     put_all(sink, line_of(notice).as_slice())
 }
 
-/// The fault's line.
+/// Returns the fault's line.
 #[tactic(auto, unfolding(crate::specs::FaultLine::fault_text))]
 fn line_of(notice: &Notice) -> Buffer
     requires { HasLine notice.now }
@@ -47,7 +47,7 @@ fn line_of(notice: &Notice) -> Buffer
     line
 }
 
-/// Appends the item and a blank, where a line of the group shows one.
+/// Appends the item and a blank, where a line of the group prints an item.
 fn push_item(line: &mut Buffer, group: Group, item: Option<u32>)
     requires { array_vec_len line.old + 21 ≤ 8192 }
     ensures items { line.new.items ≡ line.old.items ++ (if shows_item group then item_text item else []) }
@@ -59,7 +59,7 @@ fn push_item(line: &mut Buffer, group: Group, item: Option<u32>)
     }
 }
 
-/// Appends the values, each behind a blank.
+/// Appends the values, each after a blank.
 #[tactic(auto, unfolding(crate::specs::FaultLine::value_text))]
 fn push_values(line: &mut Buffer, values: &[u64])
     requires { array_vec_len line.old + 23 * length values.now ≤ 8192 }

@@ -17,8 +17,8 @@ use sf_base::{Failed, Sink, put_all};
 use sf_decode::{RowIter, View, functions_are_numbered};
 use sf_model::{Arch, FuncHead, Key, Row, Shape};
 
-/// Appends what a section says to the sink, in pieces: a line for the section, and for each function, in the
-/// section's order, a line and the lines of its rows. Allocates nothing.
+/// Appends the content of a section to the sink, in pieces: a line for the section, and for each function,
+/// in the section's order, a line and the lines of its rows. Allocates nothing.
 ///
 /// # Errors
 ///
@@ -172,7 +172,7 @@ fn push_line(buffer: &mut Buffer, row: &Row)
     push_text(buffer, b"\n");
 }
 
-/// The name of a machine.
+/// Returns the name of a machine.
 fn name_of_arch(arch: Arch) -> &'static [u8]
     ensures value { result.now ≡ arch_text arch }
     ensures len { length result.now ≤ 7 }
@@ -183,7 +183,7 @@ fn name_of_arch(arch: Arch) -> &'static [u8]
     }
 }
 
-/// The name of a key of signed return addresses.
+/// Returns the name of a key of signed return addresses.
 fn name_of_key(key: Key) -> &'static [u8]
     ensures value { result.now ≡ key_text key }
     ensures len { length result.now ≡ 1 }

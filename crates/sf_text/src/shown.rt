@@ -1,11 +1,11 @@
-//! Numbers as they are shown where memory may be allocated.
+//! Numbers as they are printed where memory may be allocated.
 
 ghost use Rattle.std.specs.Prelude.{Some};
 ghost use Rattle.sf_text.specs.Number.{hexadecimal};
 
 use std::fmt;
 
-/// A number that is shown as `0x` and lower-case digits of base 16.
+/// A number that is printed as `0x` and lower-case digits of base 16.
 #[derive(Clone, Copy)]
 pub(crate) struct Hexadecimal(pub(crate) u64);
 

@@ -1,4 +1,4 @@
-//! A name as a line shows it.
+//! A name as a line prints it.
 
 ghost use Rattle.std.specs.Prelude.{◌≡◌, ◌≤◌, ◌+◌, ◌*◌, ◌++◌, length, OnOk, OnErr};
 ghost use Rattle.std.specs.List.{flat_map};
@@ -11,11 +11,11 @@ use crate::buffer::{Buffer, make_room, push_text};
 use crate::digits::glyph;
 use sf_base::{Failed, Sink, put_all};
 
-/// Appends a name to the sink as a line shows it. Allocates nothing.
+/// Appends a name to the sink as a line prints it. Allocates nothing.
 ///
 /// # Errors
 ///
-/// `Failed` where a write of the sink failed. A prefix of the shown name was appended then.
+/// `Failed` where a write of the sink failed. A prefix of the printed name was appended then.
 pub fn put_name<S: Sink>(sink: &mut S, name: &str) -> Result<(), Failed>
     ensures all { OnOk result (Appends ((S.seen sink.old).written) ((S.seen sink.new).written) (shown_name name.now)) }
     ensures prefix { OnErr result (AppendsPrefix ((S.seen sink.old).written) ((S.seen sink.new).written) (shown_name name.now)) }
@@ -29,7 +29,7 @@ pub fn put_name<S: Sink>(sink: &mut S, name: &str) -> Result<(), Failed>
     put_all(sink, buffer.as_slice())
 }
 
-/// Appends a character as a line shows it.
+/// Appends a character as a line prints it.
 #[tactic(auto, unfolding(crate::specs::ShownName::shown_character))]
 fn push_character(buffer: &mut Buffer, character: char)
     requires { array_vec_len buffer.old + 160 ≤ 8192 }

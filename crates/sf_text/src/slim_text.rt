@@ -7,7 +7,8 @@ use sf_base::NoMemory;
 use std::alloc::{AllocError, Global};
 use std::fmt::Write;
 
-/// The line of a section of `before` bytes that was slimmed to `after` bytes, of so many functions and rows.
+/// Returns the line of a section of `before` bytes that was slimmed to `after` bytes, with this many
+/// functions and rows.
 #[tactic(auto, unfolding(crate::specs::Slim::slim_text))]
 pub fn slim_line(
     alloc: Global,

@@ -9,8 +9,8 @@ use sf_base::NoMemory;
 use sf_model::{Content, Verdict};
 use std::alloc::{AllocError, Global};
 
-/// The line of a verdict: the counts where a section agrees, or the least address at which it differs, with
-/// both contents there.
+/// Returns the line of a verdict: the counts where a section agrees, or the least address at which it
+/// differs, with both contents there.
 pub fn verdict(alloc: Global, verdict: &Verdict) -> Result<Vec<u8>, NoMemory>
     ensures { IfOk result (λ text. text.items ≡ verdict_text verdict.now) }
 {
@@ -51,7 +51,7 @@ fn push_count(text: &mut Vec<u8>, name: &[u8], count: u32) -> Result<(), AllocEr
     push_decimal(text, u64::from(count))
 }
 
-/// Appends what call frame information says at an address.
+/// Appends the content of call frame information at an address, or `none`.
 fn push_dwarf(text: &mut Vec<u8>, dwarf: Option<Content>) -> Result<(), AllocError>
     ensures { OnOk result (text.new.items ≡ text.old.items ++ dwarf_text dwarf) }
 {
