@@ -1,4 +1,4 @@
--- Functions in order of which no two share an address.
+-- Functions in order, no two of which share an address.
 use Rattle.std.specs.Prelude.{nat_lt}
 use Rattle.std.specs.List.{find, AllAdjacentBelow, AllPairs}
 use Rattle.std.specs.Option.{option_map}

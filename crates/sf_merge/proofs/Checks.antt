@@ -1,4 +1,4 @@
--- The checks of sections, one after the other.
+-- The checks of sections, in order.
 use Rattle.std.specs.Prelude.{nat_lt}
 use Rattle.std.specs.List.{enumerate_from, find}
 use Rattle.std.specs.Option.{option_map}
@@ -16,11 +16,11 @@ use Rattle.sf_merge.specs.declared.fault.MergeFault.TheVariants as merge
 use Rattle.sf_merge.specs.declared.located.Located.{Located}
 use Rattle.sf_merge.specs.Merging.{same_arch, is_other, mixed_with_first, mixed_fault, functions_in_all, rows_in_all, limits_fault, overlap, overlap_fault}
 
--- what a part of the sections shows, from a number on
+-- the tables of the sections from a number on
 pub tables_more : (views : List View) (i : ℕ) (v : View) → i < length views → v ≡ get_or views i v → map table_of (drop i views) ≡ table_of v ∷ map table_of (drop (i + 1) views)
 tables_more views i v lt is = ap (map table_of) (drop_more views i v lt) ∙ ap (λ w. table_of w ∷ map table_of (drop (i + 1) views)) (sym is)
 
--- and up to it
+-- the tables of the sections up to a number
 pub tables_so_far : (views : List View) (i : ℕ) (v : View) → i < length views → v ≡ get_or views i v → map table_of (take (i + 1) views) ≡ map table_of (take i views) ++ table_of v ∷ []
 tables_so_far views i v lt is =
     ap (map table_of) (take_more views i v lt) ∙ map-append table_of (take i views) (get_or views i v ∷ []) ∙ ap (λ w. map table_of (take i views) ++ table_of w ∷ []) (sym is)

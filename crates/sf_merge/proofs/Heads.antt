@@ -155,7 +155,7 @@ one_with_rows : (item number : ℕ) (f : FunctionHead) (heads : List LocatedHead
 one_with_rows item number (WithRows f) heads others = ap (λ (fs : List StoredFunction). f ∷ fs) others
 one_with_rows item number (WithoutRows head) heads others = others
 
--- the others are not stored
+-- functions without rows are not stored
 pub stored_with_rows : (heads : List LocatedHead) → stored_of (filter is_with_rows heads) ≡ stored_of heads
 stored_with_rows [] = refl
 stored_with_rows (x ∷ xs) = one_with_rows x.item x.number x.head xs (stored_with_rows xs)
@@ -178,11 +178,11 @@ each_stored (x ∷ xs) are = one_stored x.item x.number x.head xs are.0 (each_st
 each_is_stored : (heads : List LocatedHead) → AreWithRows heads → map stored_or_none heads ≡ map Some (stored_of heads)
 each_is_stored heads are = each_stored heads (recursion_from_All IsWithRows heads are)
 
--- how many there are
+-- how many functions with rows there are
 pub with_rows_len : (heads : List LocatedHead) → AreWithRows heads → length (stored_of heads) ≡ length heads
 with_rows_len heads are = sym (length-map (stored_of heads) Some) ∙ ap length (sym (each_is_stored heads are)) ∙ length-map heads stored_or_none
 
--- the one with a number
+-- the function with a number
 pub with_rows_at : (heads : List LocatedHead) (i : ℕ) (h : LocatedHead) (d : StoredFunction) → AreWithRows heads → i < length heads → stored_at (get_or heads i h).head ≡ Some (get_or (stored_of heads) i d)
 with_rows_at heads i h d are low =
     sym (get_or-map stored_or_none heads i h None low) ∙ ap (λ (fs : List (Option StoredFunction)). get_or fs i None) (each_is_stored heads are)

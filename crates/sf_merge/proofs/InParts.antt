@@ -1,4 +1,4 @@
--- Sections merged in parts come to the bytes of all merged at once.
+-- Sections merged in parts give the bytes of all merged at once.
 use Rattle.std.specs.List.{filter}
 use Rattle.std.specs.List.Sorted.{IsPermutation}
 use Rattle.std.proofs.Common.{◌≡◌, ℕ, ◌<◌, Bool, true, cond, List, [], ◌∷◌, ◌++◌, All, length, refl, sym, ap, subst, ◌∙◌, arith}
@@ -38,7 +38,7 @@ all_pass (f ∷ fs) h =
     ap (λ (b : Bool). cond b (f ∷ filter is_of_use fs) (filter is_of_use fs)) (All-head (λ (g : Func). is_of_use g ≡ true) f fs h)
     ∙ ap (λ gs. f ∷ gs) (all_pass fs (All-tail (λ (g : Func). is_of_use g ≡ true) f fs h))
 
--- those of a table whose functions are the ones of others, and of the tables beside it
+-- the functions of use of a merged table and the tables beside it
 used_of_whole : (fs : List Func) (some others : List Table) (whole : Table) → IsPermutation (used some) fs → whole.functions ≡ fs → used (whole ∷ others) ≡ fs ++ used others
 used_of_whole fs some others whole taken is =
     let pass = All-permutation (λ (f : Func). is_of_use f ≡ true) (used some) fs taken (filter_passes is_of_use (all_functions some)) in
@@ -102,7 +102,7 @@ module _ (sections next : List Part) (step : SomeAreMerged sections next) where
       ap used next_tables ∙ used_of_whole merged.functions some others step.whole.table merged.union.taken (ap (λ (t : Table). t.functions) said) in
       subst (IsPermutation (used (tables_of sections))) (sym whole) (IsPermutation-trans (used (tables_of sections)) (used some ++ used others) (merged.functions ++ used others) before over)
 
-  -- and so is the machine, where all that are there after the step have one
+  -- the machine is the same, where all that are there after the step have one
   machines_before : (arch : Arch) → All (λ (table : Table). table.arch ≡ arch) (tables_of next) → All (λ (table : Table). table.arch ≡ arch) (tables_of sections)
   machines_before arch machines =
       let Has : Table → Type 0 = λ (table : Table). table.arch ≡ arch in
@@ -124,7 +124,7 @@ module _ (sections next : List Part) (step : SomeAreMerged sections next) where
     are_bytes = later.are_bytes;
   }
 
--- ---- the last step leaves what it merged
+-- ---- the last step merged all the sections
 no_others : (whole last : Part) (others : List Part) → last ∷ [] ≡ whole ∷ others → others ≡ []
 no_others whole last others e = cc
 

@@ -1,4 +1,4 @@
--- The functions of one section, whose rows stay in the section.
+-- The functions of one section. Their rows stay in the section.
 use Rattle.std.specs.List.{AllByRecursion, find, zip}
 use Rattle.std.specs.List.Sorted.{IsPermutation, IsSorted, IsSortedByKey}
 use Rattle.std.specs.Option.{option_map}

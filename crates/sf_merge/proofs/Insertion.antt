@@ -1,4 +1,4 @@
--- A list can be put in order: by a test that ranks its elements, with those that tie as they stood.
+-- A list can be sorted by a test that ranks its elements; elements that tie keep their order.
 use Rattle.std.specs.Cmp.{IsStrictWeakOrder}
 use Rattle.std.specs.List.{filter}
 use Rattle.std.specs.List.Sorted.{IsPermutation, IsSortedBy, IsStableBy, ties}
@@ -8,7 +8,7 @@ use Rattle.std.proofs.lemmas.List.Sorted.{IsPermutation-refl, IsPermutation-tran
 use Rattle.std.proofs.lemmas.List.Elements.{All-nil, All-cons}
 
 module _ {X : Type 0} (lt : X → X → Bool) (order : IsStrictWeakOrder lt) where
-  -- before the first element that is not less
+  -- insertion before the first element that is not less
   abbrev insert : X → List X → List X
   insert x [] = x ∷ []
   insert x (y ∷ ys) = cond (lt y x) (y ∷ insert x ys) (x ∷ y ∷ ys)
@@ -66,13 +66,13 @@ module _ {X : Type 0} (lt : X → X → Bool) (order : IsStrictWeakOrder lt) whe
   sorted [] = λ k d le within. let none : ⊥ = omega (arith, within) in absurd none
   sorted (x ∷ xs) = insert_sorted x (ordered xs) (sorted xs)
 
-  -- ---- elements that tie as they stood
+  -- ---- elements that tie keep their order
   both_none : (a b : Bool) → (not a && not b) ≡ true → (a ≡ false) × (b ≡ false)
   both_none false false e = (refl, refl)
   both_none false true e = cc
   both_none true b e = cc
 
-  -- of two elements of which one is less, not both tie with a third
+  -- of two elements, one less than the other, not both tie with a third
   apart : (z x y : X) → lt y x ≡ true → ties lt z x ≡ true → ties lt z y ≡ true → ⊥
   apart z x y less p q =
       let with_x = both_none (lt z x) (lt x z) p in

@@ -1,4 +1,4 @@
--- What is written is what merging comes to.
+-- What is written is the result of merging.
 use Rattle.std.specs.Prelude.{not}
 use Rattle.std.specs.List.{filter}
 use Rattle.std.specs.Option.{option_map}

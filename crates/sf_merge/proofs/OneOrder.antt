@@ -1,4 +1,4 @@
--- There is one order of the functions of sections by start, section and entry, and so merging comes to one result.
+-- There is one order of the functions of sections by start, section and entry, and so merging has one result.
 use Rattle.std.specs.Prelude.{nat_lt, not}
 use Rattle.std.specs.Cmp.{nat_cmp_is}
 use Rattle.std.specs.List.{enumerate_from, flat_map}

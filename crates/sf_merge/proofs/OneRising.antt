@@ -11,7 +11,7 @@ rest_rises f fs up = λ k d within.
     let place : suc k + 1 ≡ suc (k + 1) = omega arith in
     subst (λ (m : ℕ). (get_or fs k d).start < (get_or (f ∷ fs) m d).start) place (up (suc k) d (omega (within, arith)))
 
--- all later functions start behind the first
+-- all later functions start after the first
 behind_first : (f : Func) (fs : List Func) → RisesStrictly (f ∷ fs) → All (λ (g : Func). f.start < g.start) fs
 behind_first f [] up = All-nil (λ (g : Func). f.start < g.start)
 behind_first f (g ∷ gs) up =

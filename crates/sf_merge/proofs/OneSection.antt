@@ -26,7 +26,7 @@ pub located_functions : (table : Table) → map function_of (located 0 table) �
 located_functions table =
     ap (map function_of) (sym (append-nil (located 0 table))) ∙ functions_are (table ∷ []) ∙ append-nil table.functions
 
--- ---- they are sound
+-- ---- the functions are sound
 pub located_sound : (view : View) → IsRead view → All (λ (l : Located). IsSound (table_of view).arch l.func) (located 0 (table_of view))
 located_sound view read =
     let table = table_of view in
@@ -38,7 +38,7 @@ ordered_sound view ordered read order =
     let sound = All-filter has_bytes (λ (l : Located). IsSound table.arch l.func) (located 0 table) (located_sound view read) in
     All-permutation (λ (l : Located). IsSound table.arch l.func) (sized table) ordered order.moved sound
 
--- ---- they share no address where no entry is named
+-- ---- the functions share no address where no entry is named
 none_found : {F : Type 0} (fault : ℕ → F) (bytes : List ℕ) (o : Option (Located × Located)) → option_map fault (option_map (later_entry bytes) o) ≡ None → option_map shared_by o ≡ None
 none_found fault bytes None e = refl
 none_found fault bytes (Some pair) e = cc

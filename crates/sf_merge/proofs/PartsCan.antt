@@ -1,4 +1,5 @@
--- Where sections can be merged at once, those that are left after merging some can be merged as well, unless a function is too far.
+-- Where sections can be merged at once, those that remain after merging some can be merged as well, unless a function
+-- is too far.
 use Rattle.std.specs.Cmp.{nat_cmp_is}
 use Rattle.std.specs.List.{AllPairs, enumerate_from, filter, find}
 use Rattle.std.specs.List.Sorted.{IsPermutation, IsSorted}
@@ -165,7 +166,7 @@ used_left [] sections left is = subst (λ (ps : List Part). IsPermutation (used 
 used_left (next ∷ later) sections left (step, steps) =
     IsPermutation-trans (used (tables_of sections)) (used (tables_of next)) (used (tables_of left)) (used_stay sections next step) (used_left later next left steps)
 
--- ---- what merging them comes to
+-- ---- the result of merging them
 one_arch : (a b : Arch) → b ≡ a → same_arch a b ≡ true
 one_arch Amd64 Amd64 e = refl
 one_arch Amd64 Aarch64 e = cc
@@ -212,7 +213,7 @@ none_overlap arch tables ordered h order =
     no_overlap ordered order.rising (All-permutation Holds (sized tables) ordered order.moved (filter_passes has_bytes (all_located tables)))
     (pairs_permuted AreApart (λ l m apart. turned l.func m.func apart) (sized tables) ordered order.moved of_sized)
 
--- a fault of them is a function that is too far
+-- their fault is a function that is too far
 record IsReach (tables : List Table) (at : ℕ) (fault : MergeFault) : Type 0 where
   ordered : List Located
   order : InOrder (sized tables) ordered

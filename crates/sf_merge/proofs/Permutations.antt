@@ -7,8 +7,8 @@ use Rattle.std.proofs.lemmas.List.Kept.{AllPairs-cons}
 use Rattle.std.proofs.lemmas.List.Sorted.{IsPermutation-refl, IsPermutation-trans, IsPermutation-cons, IsPermutation-keeps, IsPermutation-append_left, IsPermutation-append_right, IsPermutation-append_comm, All-permutation}
 use Rattle.sf_model.proofs.Unions.{pairs_head, pairs_tail}
 
--- A relation that is reflexive and transitive, and goes under a head and over an exchange of two heads, holds of lists with the
--- same elements.
+-- A relation that is reflexive and transitive, and holds under a head and over an exchange of two heads, holds of lists
+-- with the same elements.
 module _ {X : Type 0} (R : List X → List X → Type 0)
     (same : (xs : List X) → R xs xs)
     (under : (x : X) (xs ys : List X) → R xs ys → R (x ∷ xs) (x ∷ ys))

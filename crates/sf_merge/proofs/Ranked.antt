@@ -21,7 +21,7 @@ order = ranks_by compared_total (λ (l : Located). l)
 pub first_least : (x : Located) (xs : List Located) → IsSorted compared (x ∷ xs) → All (λ y. before y x ≡ false) (x ∷ xs)
 first_least x xs up = All-from_get_or (λ y. before y x ≡ false) (x ∷ xs) x (λ i lt. sorted_far before order (x ∷ xs) up 0 i x (omega arith) lt)
 
--- the rest of it is in order
+-- the rest of the list is in order
 pub rest_sorted : (x : Located) (xs : List Located) → IsSorted compared (x ∷ xs) → IsSorted compared xs
 rest_sorted x xs up = λ k d le lt.
     let place : suc k + 1 ≡ suc (k + 1) = omega arith in

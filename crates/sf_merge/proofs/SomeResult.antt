@@ -1,4 +1,4 @@
--- Merging comes to a result: functions can be put in order by start, section and entry.
+-- Merging has a result: functions can be sorted by start, section and entry.
 use Rattle.std.proofs.Common.{ℕ, List, Option, Some, None, Result, Err, refl}
 use Rattle.sf_model.specs.declared.function.Func.{Func}
 use Rattle.sf_model.specs.Table.{Table}

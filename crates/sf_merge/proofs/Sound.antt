@@ -1,4 +1,4 @@
--- What the standard's definition of a section says of its functions.
+-- What the standard's definition of a section says about its functions.
 use Rattle.std.proofs.Common.{◌≡◌, ℕ, ◌+◌, ◌^◌, ◌<◌, ◌≤◌, IsTrue, List, [], ◌∷◌, All, length, map, get_or, refl, sym, subst, arith}
 use Rattle.std.proofs.lemmas.List.Elements.{All-nil, All-cons, All-head, All-tail, All-append}
 use Rattle.sf_model.specs.declared.machine.Arch.{Arch}
@@ -56,7 +56,7 @@ functions_sound arch bytes flags at place (f ∷ functions) (entry, rows, later)
 pub view_sound : (view : View) → IsRead view → All (IsSound (table_of view).arch) (table_of view).functions
 view_sound view h = functions_sound (table_of view).arch _ (table_of view).flags _ _ (table_of view).functions h.functions
 
--- those of all sections of one machine
+-- the functions of all sections of one machine
 pub all_sound : (arch : Arch) (views : List View) → All IsRead views → All (λ (table : Table). table.arch ≡ arch) (map table_of views) → All (IsSound arch) (all_functions (map table_of views))
 all_sound arch [] read machines = All-nil (IsSound arch)
 all_sound arch (v ∷ views) read machines =

@@ -1,4 +1,4 @@
--- What merging answers, by the definition of what it comes to.
+-- The result of merging, by its definition.
 use Rattle.std.specs.Prelude.{◌≡◌, ◌⊎◌, ℕ, List, All, length, Some, None, Ok, Err}
 use Rattle.std.specs.List.{Contains}
 use Rattle.sf_model.specs.declared.machine.Arch.{Arch}
@@ -18,9 +18,9 @@ pub record FindAlike (tables : List Table) (functions : List Func) : Type 0 wher
   pub found : (pc : ℕ) (table : Table) (row : FoundRow) → Contains tables table → found_at table.functions pc ≡ Some row → found_at functions pc ≡ Some row
   pub none : (pc : ℕ) → All (λ (table : Table). found_at table.functions pc ≡ None) tables → found_at functions pc ≡ None
 
--- These bytes are the sections merged into one at this address: none of the faults is there, and they are the section of the
--- union of the tables, without gaps and with the least widths, in which a look-up finds what it finds in them. It has this many
--- functions and rows.
+-- These bytes are the sections merged into one at this address: there is no fault, and they are the section of the
+-- union of the tables, without gaps and with the least widths. A look-up finds in it what it finds in them. It has this
+-- many functions and rows.
 pub record IsMerged (tables : List Table) (at : ℕ) (section : List ℕ) (count rows : ℕ) : Type 0 where
   pub arch : Arch
   pub functions : List Func

@@ -5,7 +5,7 @@ use Rattle.sf_write.specs.declared.fault.WriteFault.TheVariants as write
 use Rattle.sf_merge.specs.declared.fault.MergeFault.{MergeFault}
 use Rattle.sf_merge.specs.declared.fault.MergeFault.TheVariants as merge
 
--- all but the limits and out of memory
+-- all faults but the limits and out of memory
 abbrev pub is_refusal : MergeFault → Bool
 is_refusal (merge.MixedArch item other) = true
 is_refusal (merge.Overlap start item other other_item) = true

@@ -1,5 +1,5 @@
--- GNU SFrame specification, Version 2, function descriptor entries: functions of several sections whose rows are stored in one list, with
--- a head for each.
+-- GNU SFrame specification, Version 2, function descriptor entries: functions of several sections, with a head for each
+-- and their rows stored in one list.
 use Rattle.std.specs.Prelude.{◌≡◌, ◌<◌, Bool, true, List, [], All, map, length, Option, Some, None}
 use Rattle.std.specs.List.{filter_map}
 use Rattle.std.specs.Option.{is_some}
@@ -25,6 +25,7 @@ abbrev pub plain_head : FunctionHead → FuncHead
 plain_head (WithRows f) = f.head
 plain_head (WithoutRows head) = head
 
+-- the function's place in the order of all functions
 abbrev pub head_rank : LocatedHead → Rank
 head_rank h = record { start = (plain_head h.head).start; item = h.item; number = h.number }
 
@@ -33,9 +34,11 @@ abbrev pub function_in : StoredRows → FunctionHead → Func
 function_in rows (WithRows f) = stored_in rows f
 function_in rows (WithoutRows head) = record { start = head.start; size = head.size; shape = head.shape; key = head.key; rows = [] }
 
+-- the function with its rows, its section and its entry
 abbrev pub located_in : StoredRows → LocatedHead → Located
 located_in rows h = record { func = function_in rows h.head; item = h.item; number = h.number }
 
+-- all functions with their rows
 abbrev pub all_in : StoredRows → List LocatedHead → List Located
 all_in rows heads = map (located_in rows) heads
 
@@ -44,10 +47,11 @@ abbrev pub HasRows : StoredRows → FunctionHead → Type 0
 HasRows rows (WithRows f) = IsStored rows f × (is_of_use (stored_in rows f) ≡ true)
 HasRows rows (WithoutRows head) = Unit {0}
 
+-- each of the functions has its rows stored, or has none
 abbrev pub HaveRows : StoredRows → List LocatedHead → Type 0
 HaveRows rows heads = All (λ (h : LocatedHead). HasRows rows h.head) heads
 
--- where it has rows, a section of this machine can hold it
+-- where the function has rows, a section of this machine can hold it
 abbrev pub IsStorable : Arch → Func → Type 0
 IsStorable arch f = 0 < length f.rows → IsWritable arch f
 
@@ -56,24 +60,27 @@ pub record AreHeads (heads : List LocatedHead) (ordered : List Located) : Type 0
   pub rows : StoredRows
   pub are : ordered ≡ all_in rows heads
 
--- those with rows, in order
+-- the stored function of a head, if it has rows
 abbrev pub stored_at : FunctionHead → Option StoredFunction
 stored_at (WithRows f) = Some f
 stored_at (WithoutRows head) = None
 
+-- the stored functions of those heads that have rows, in order
 abbrev pub stored_of : List LocatedHead → List StoredFunction
 stored_of heads = filter_map (λ (h : LocatedHead). stored_at h.head) heads
 
--- whether it has rows
+-- the function has rows
 abbrev pub is_with_rows : LocatedHead → Bool
 is_with_rows h = is_some (stored_at h.head)
 
+-- each of the functions has rows
 abbrev pub AreWithRows : List LocatedHead → Type 0
 AreWithRows heads = All (λ (h : LocatedHead). is_with_rows h ≡ true) heads
 
--- the second begins before the end of the first
+-- the second function begins before the end of the first
 abbrev pub heads_overlap : LocatedHead × LocatedHead → Bool
 heads_overlap = overlap_by (λ (h : LocatedHead). (plain_head h.head).start) (λ (h : LocatedHead). (plain_head h.head).size)
 
+-- the fault of two functions that share an address
 abbrev pub shared_by_heads : LocatedHead × LocatedHead → MergeFault
 shared_by_heads pair = Overlap (plain_head pair.0.head).start pair.0.item (plain_head pair.1.head).start pair.1.item

@@ -1,4 +1,5 @@
--- GNU SFrame specification, Version 2, function descriptor entries: the functions of one section, whose rows stay in the section.
+-- GNU SFrame specification, Version 2, function descriptor entries: the functions of one section. Their rows stay in
+-- the section.
 use Rattle.std.specs.Prelude.{◌≡◌, ◌<◌, Bool, All, List, map, length}
 use Rattle.sf_decode.specs.declared.view.View.{View}
 use Rattle.sf_decode.specs.View.{function_of, table_of}
@@ -11,6 +12,7 @@ use Rattle.sf_merge.specs.Merging.{overlap_by}
 abbrev pub located_at : View → SectionEntry → Located
 located_at view e = record { func = function_of view e.number; item = 0; number = e.number }
 
+-- the functions of entries of the section
 abbrev pub all_at : View → List SectionEntry → List Located
 all_at view entries = map (located_at view) entries
 
@@ -26,9 +28,10 @@ pub record AreEntries (entries : List SectionEntry) (functions : List Located) :
   pub are : functions ≡ all_at view entries
   pub each : All (IsEntry view) entries
 
+-- the entry's place in the order of the section's functions
 abbrev pub entry_rank : SectionEntry → Rank
 entry_rank e = record { start = e.start; item = 0; number = e.number }
 
--- the second begins before the end of the first
+-- the second function begins before the end of the first
 abbrev pub entries_overlap : SectionEntry × SectionEntry → Bool
 entries_overlap = overlap_by (λ (e : SectionEntry). e.start) (λ (e : SectionEntry). e.size)

@@ -18,7 +18,7 @@ at_entry item entry = record { func = entry.1; item = item; number = entry.0 }
 abbrev pub located : (item : ℕ) → Table → List Located
 located item table = map (at_entry item) (enumerate_from 0 table.functions)
 
--- those of all sections
+-- the functions of all sections
 abbrev pub all_located : List Table → List Located
 all_located tables = flat_map (λ (section : ℕ × Table). located section.0 section.1) (enumerate_from 0 tables)
 
@@ -30,21 +30,23 @@ has_bytes l = nat_lt 0 l.func.size
 abbrev pub sized : List Table → List Located
 sized tables = filter has_bytes (all_located tables)
 
--- by start, then by section, then by entry
+-- the order of functions: by start, then by section, then by entry
 abbrev pub compared_ranks : Rank → Rank → Ordering
 compared_ranks a b = ordering_then (nat_cmp a.start b.start) (ordering_then (nat_cmp a.item b.item) (nat_cmp a.number b.number))
 
+-- a function's place in that order
 abbrev pub rank_of : Located → Rank
 rank_of l = record { start = l.func.start; item = l.item; number = l.number }
 
+-- two functions compared by that order
 abbrev pub compared : Located → Located → Ordering
 compared a b = compared_ranks (rank_of a) (rank_of b)
 
--- the one comes before the other
+-- the first function comes before the second
 abbrev pub before : Located → Located → Bool
 before a b = is_lt (compared a b)
 
--- the same functions in this order
+-- the same functions, sorted by that order
 pub record InOrder (all ordered : List Located) : Type 0 where
   pub moved : IsPermutation all ordered
   pub rising : IsSorted compared ordered

@@ -1,5 +1,5 @@
--- Sections merged as a linker does it (GNU SFrame specification, Version 2): the functions that are written, and why there may be
--- none. The faults are tried in the order in which they stand here.
+-- Sections merged as a linker does it (GNU SFrame specification, Version 2): the functions that are written, and why
+-- there may be none. The faults are checked in the order in which they are here.
 use Rattle.std.specs.Prelude.{◌≡◌, ◌+◌, ◌^◌, ℕ, Bool, true, false, not, nat_lt, List, [], ◌∷◌, map, length, drop, sum_by, Option, Some, None, Result, Err, if◌then◌else◌}
 use Rattle.std.specs.Option.{option_map}
 use Rattle.std.specs.List.{enumerate_from, filter, find, zip}
@@ -16,6 +16,7 @@ use Rattle.sf_merge.specs.Located.{sized, InOrder}
 pub use Rattle.sf_model.specs.Firsts.{or_later, unless_fault, unless}
 
 -- ---- machines
+-- two machines are one
 abbrev pub same_arch : Arch → Arch → Bool
 same_arch Amd64 Amd64 = true
 same_arch Aarch64 Aarch64 = true
@@ -25,6 +26,7 @@ same_arch a b = false
 abbrev pub is_other : Arch → ℕ × Table → Bool
 is_other arch section = not (same_arch arch section.1.arch)
 
+-- the fault of a section whose machine isn't that of section 0
 abbrev pub mixed_with_first : ℕ × Table → MergeFault
 mixed_with_first section = MixedArch 0 section.0
 
@@ -34,9 +36,11 @@ mixed_fault [] = None
 mixed_fault (first ∷ later) = option_map mixed_with_first (find (is_other first.arch) (enumerate_from 0 (first ∷ later)))
 
 -- ---- limits
+-- the functions of all sections together
 abbrev pub functions_in_all : List Table → ℕ
 functions_in_all tables = sum_by (λ (table : Table). length table.functions) tables
 
+-- the rows of all sections together
 abbrev pub rows_in_all : List Table → ℕ
 rows_in_all tables = sum_by (λ (table : Table). row_count table.functions) tables
 
@@ -47,7 +51,7 @@ limits_fault tables =
     if nat_lt (2 ^ 24) (rows_in_all tables) then Some TooManyRows else None
 
 -- ---- overlaps
--- each but the last, with the one behind it
+-- each function but the last, with the one after it
 abbrev pub neighbours : {X : Type 0} → List X → List (X × X)
 neighbours ordered = zip ordered (drop 1 ordered)
 
@@ -55,13 +59,15 @@ neighbours ordered = zip ordered (drop 1 ordered)
 abbrev pub overlap_by : {X : Type 0} (start size : X → ℕ) → X × X → Bool
 overlap_by start size pair = nat_lt (start pair.1) (start pair.0 + size pair.0)
 
+-- the second function begins before the end of the first
 abbrev pub overlap : Located × Located → Bool
 overlap = overlap_by (λ (l : Located). l.func.start) (λ (l : Located). l.func.size)
 
+-- the fault of two functions that share an address
 abbrev pub shared_by : Located × Located → MergeFault
 shared_by pair = Overlap pair.0.func.start pair.0.item pair.1.func.start pair.1.item
 
--- the first two neighbours that share an address
+-- the fault of the first two neighbours that share an address
 unfoldable pub overlap_fault : List Located → Option MergeFault
 overlap_fault ordered = option_map shared_by (find overlap (neighbours ordered))
 
@@ -70,25 +76,26 @@ overlap_fault ordered = option_map shared_by (find overlap (neighbours ordered))
 abbrev pub written : List Located → List Func
 written ordered = filter is_of_use (map (λ (l : Located). l.func) ordered)
 
--- the first of them that lies too far from its start field, in a section at this address
+-- the first function that lies too far from its start field, in a section at this address
 abbrev pub reach_fault : (at : ℕ) → List Func → Option MergeFault
 reach_fault at functions = option_map OutOfReach (first_out_of_reach at 0 functions)
 
 -- ---- the first fault
--- of sections: their machines, and then the limits
+-- the first fault of sections: their machines, and then the limits
 abbrev pub sections_fault : List Table → Option MergeFault
 sections_fault tables = or_later (mixed_fault tables) (limits_fault tables)
 
--- of their functions that hold an address, in order: overlaps, and then the reach
+-- the first fault of the functions that hold an address, in order: overlaps, and then the reach
 abbrev pub functions_fault : (at : ℕ) → List Located → Option MergeFault
 functions_fault at ordered = or_later (overlap_fault ordered) (reach_fault at (written ordered))
 
--- ---- what merging comes to: the functions that are written, or the first fault
+-- ---- the result of merging: the functions that are written, or the first fault
+-- the result, by the fault of the sections if there is one
 abbrev pub MergesUnless : Option MergeFault → List Table → (at : ℕ) → Result (List Func) MergeFault → Type 0
 MergesUnless (Some fault) tables at result = result ≡ Err fault
 MergesUnless None tables at result =
     (ordered : List Located) × InOrder (sized tables) ordered × (result ≡ unless_fault (functions_fault at ordered) (written ordered))
 
--- merging these sections into one at this address comes to this
+-- merging these sections into one at this address has this result
 abbrev pub Merges : List Table → (at : ℕ) → Result (List Func) MergeFault → Type 0
 Merges tables at result = MergesUnless (sections_fault tables) tables at result

@@ -13,10 +13,10 @@ use Rattle.sf_merge.specs.Merging.{neighbours, overlap}
 abbrev pub sized : Table → List Located
 sized table = filter has_bytes (located 0 table)
 
--- the place of the entry of the second
+-- the place of the second function's entry
 abbrev pub later_entry : (bytes : List ℕ) → Located × Located → ℕ
 later_entry bytes pair = entry_place bytes pair.1.number
 
--- that of the first two neighbours that share an address
+-- the place of the later entry of the first two neighbours that share an address
 unfoldable pub shared_entry : (bytes : List ℕ) → List Located → Option ℕ
 shared_entry bytes ordered = option_map (later_entry bytes) (find overlap (neighbours ordered))

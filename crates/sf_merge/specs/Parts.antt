@@ -8,23 +8,25 @@ use Rattle.sf_merge.specs.declared.fault.MergeFault.{MergeFault}
 use Rattle.sf_merge.specs.declared.fault.MergeFault.TheVariants.{OutOfReach}
 use Rattle.sf_merge.specs.Answers.{IsMerged}
 
--- a section: its bytes, the address that it is for, and the table that it says there
+-- a section: its bytes, the address that it is for, and its table there
 pub record Part : Type 0 where
   pub bytes : List ℕ
   pub at : ℕ
   pub table : Table
   pub says : Section bytes at table
 
+-- the tables of sections
 abbrev pub tables_of : List Part → List Table
 tables_of parts = map (λ (part : Part). part.table) parts
 
--- this section is those ones, merged for its address
+-- this section is those sections merged, for its address
 pub record AreMerged (parts : List Part) (whole : Part) : Type 0 where
   pub count : ℕ
   pub rows : ℕ
   pub is : IsMerged (tables_of parts) whole.at whole.bytes count rows
 
--- some of the sections, one at least and in any order, are merged into one, which takes their place beside the others
+-- some of the sections, one at least and in any order, are merged into one; the result takes their place beside the
+-- others
 pub record SomeAreMerged (sections next : List Part) : Type 0 where
   pub some : List Part
   pub others : List Part
@@ -34,7 +36,7 @@ pub record SomeAreMerged (sections next : List Part) : Type 0 where
   pub merged : AreMerged some whole
   pub left : next ≡ whole ∷ others
 
--- step by step, each step with the sections that there are after it; these are left after the last one
+-- step by step, each step with the sections that there are after it; these remain after the last one
 abbrev pub AreMergedInParts : (steps : List (List Part)) → (sections left : List Part) → Type 0
 AreMergedInParts [] sections left = sections ≡ left
 AreMergedInParts (next ∷ later) sections left = SomeAreMerged sections next × AreMergedInParts later next left

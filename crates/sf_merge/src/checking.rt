@@ -21,14 +21,14 @@ const FUNCTION_LIMIT: u64 = 1 << 21;
 /// The most rows of all sections together.
 const ROW_LIMIT: u64 = 1 << 24;
 
-/// Whether two machines are one.
+/// Returns whether two machines are one.
 fn same_arch(one: Arch, other: Arch) -> bool
     ensures { result ≡ same_arch one other }
 {
     one == other
 }
 
-/// The machine of all sections.
+/// Checks that all sections are for one machine, and returns it.
 pub fn check_machines(views: &[View<'_>]) -> Result<Arch, MergeFault>
     requires some { 0 < length views.now }
     requires few { length views.now ≤ 512 }
@@ -47,7 +47,7 @@ pub fn check_machines(views: &[View<'_>]) -> Result<Arch, MergeFault>
     Ok(arch)
 }
 
-/// Tries the limits: functions first, then rows.
+/// Checks the limits: functions first, then rows.
 pub fn check_limits(views: &[View<'_>]) -> Result<(), MergeFault>
     requires { length views.now ≤ 512 }
     ensures { result ≡ unless (limits_fault (map table_of views.now)) }
@@ -67,7 +67,7 @@ pub fn check_limits(views: &[View<'_>]) -> Result<(), MergeFault>
     Ok(())
 }
 
-/// Tries the head of each function against the one before it.
+/// Checks the head of each function against the one before it.
 fn check_heads(heads: &[LocatedHead]) -> Result<(), MergeFault>
     ensures { result ≡ unless (option_map shared_by_heads (find heads_overlap (neighbours heads.now))) }
 {
@@ -82,7 +82,7 @@ fn check_heads(heads: &[LocatedHead]) -> Result<(), MergeFault>
     }
 }
 
-/// Tries each function against the one before it.
+/// Checks that no function shares an address with the one before it.
 pub fn check_overlap(ordered: &LocatedFunctions) -> Result<(), MergeFault>
     ensures { result ≡ unless (overlap_fault ordered.now) }
 {

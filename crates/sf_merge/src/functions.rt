@@ -1,4 +1,4 @@
-//! Functions of several sections, whose rows are stored in one list.
+//! Functions of several sections. Their rows are stored in one list.
 
 ghost use Rattle.std.specs.Prelude.{◌≡◌, ◌++◌, [], ◌∷◌, IfOk, OnOk};
 ghost use Rattle.sf_merge.specs.Heads.{AreHeads, HasRows, HaveRows, IsStorable, all_in, function_in};
@@ -13,8 +13,8 @@ use sf_write::StoredRows;
 use std::alloc::{AllocError, Global};
 use std::marker::Model;
 
-/// Functions of several sections, which a contract sees as the list of them. Nothing is allocated for each
-/// function: a head is kept of it, and its rows are stored after those of the others.
+/// Functions of several sections. A contract sees them as a list. Nothing is allocated for each function:
+/// its head is kept, and its rows are stored after those of the others.
 #[derive(Drop)]
 pub struct LocatedFunctions {
     heads: Vec<LocatedHead>,
@@ -33,7 +33,7 @@ impl Model for LocatedFunctions {
     ghost invariant = { λ f. HaveRows f.rows f.heads.items };
 }
 
-/// Stores the rows of a function that has bytes, where it has any.
+/// Stores the rows of a function that has bytes, if it has any rows.
 #[inline(always)]
 fn store(rows: &mut StoredRows, arch: Arch, func: &Func) -> Result<FunctionHead, AllocError>
     requires { IsStorable arch func.now }
@@ -53,7 +53,7 @@ fn store(rows: &mut StoredRows, arch: Arch, func: &Func) -> Result<FunctionHead,
 }
 
 impl LocatedFunctions {
-    /// No functions, with memory for the heads of `count`.
+    /// Returns an empty list, with memory for the heads of `count` functions.
     pub fn with_capacity(alloc: Global, count: usize) -> Result<LocatedFunctions, NoMemory>
         ensures { IfOk result (λ functions. functions ≡ []) }
     {
@@ -74,7 +74,7 @@ impl LocatedFunctions {
         Ok(())
     }
 
-    /// Brings the functions into order. Where they are in order it costs one pass.
+    /// Sorts the functions. Where they are in order already, it costs one pass.
     pub fn order(&mut self) -> Result<(), NoMemory>
         ensures { OnOk result (InOrder self.old self.new) }
     {
@@ -82,14 +82,14 @@ impl LocatedFunctions {
         Ok(())
     }
 
-    /// The functions without their rows.
+    /// Returns the functions without their rows.
     pub fn heads(&self) -> &[LocatedHead]
         ensures { AreHeads result.now self.now }
     {
         self.heads.as_slice()
     }
 
-    /// The functions without their rows, and the rows of all.
+    /// Returns the functions without their rows, and the rows of all.
     pub fn into_parts(self) -> (Vec<LocatedHead>, StoredRows)
         ensures are { self ≡ all_in result.1 result.0.items }
         ensures stored { HaveRows result.1 result.0.items }

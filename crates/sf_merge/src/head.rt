@@ -8,17 +8,17 @@ use crate::overlap::HasAddresses;
 use sf_model::FuncHead;
 use sf_write::StoredFunction;
 
-/// A function whose rows, where it has any, are stored.
+/// A function. Its rows, if it has any, are stored.
 #[derive(Clone, Copy)]
 pub enum FunctionHead {
-    /// It has rows.
+    /// The function has rows.
     WithRows(StoredFunction),
-    /// It has none.
+    /// The function has no rows.
     WithoutRows(FuncHead),
 }
 
 impl FunctionHead {
-    /// The function without its rows.
+    /// Returns the function without its rows.
     #[inline(always)]
     pub fn plain(&self) -> &FuncHead
         ensures { result.now ≡ plain_head self.now }
@@ -30,19 +30,19 @@ impl FunctionHead {
     }
 }
 
-/// A function of one of several sections, whose rows are stored.
+/// A function of one of several sections. Its rows are stored.
 #[derive(Clone, Copy)]
 pub struct LocatedHead {
     /// The function.
     pub head: FunctionHead,
-    /// The number of its section, from 0.
+    /// The number of the function's section, from 0.
     pub item: u32,
-    /// The number of its entry in the section, from 0.
+    /// The number of the function's entry in the section, from 0.
     pub number: u32,
 }
 
 impl LocatedHead {
-    /// Its place in the order of all functions.
+    /// Returns the function's place in the order of all functions.
     #[inline(always)]
     pub fn rank(&self) -> Rank
         ensures { result ≡ head_rank self.now }

@@ -1,4 +1,4 @@
-//! The functions of one section in order, whose rows stay in the section.
+//! The functions of one section in order. Their rows stay in the section.
 
 ghost use Rattle.std.specs.Prelude.{◌≡◌, ◌<◌, length, get_or};
 ghost use Rattle.sf_decode.specs.View.{head_of, rows_left};
@@ -21,7 +21,7 @@ pub struct SectionEntry {
 }
 
 impl SectionEntry {
-    /// Its place in the order of the section's functions.
+    /// Returns the entry's place in the order of the section's functions.
     #[inline(always)]
     pub fn rank(&self) -> Rank
         ensures { result ≡ entry_rank self.now }
@@ -50,8 +50,8 @@ impl HasAddresses for SectionEntry {
     }
 }
 
-/// Functions of a section, which a contract sees as the list of them. Their rows are read from the section
-/// when they are asked for: 16 bytes are kept of a function.
+/// Functions of a section. A contract sees them as a list. Their rows are read from the section when they
+/// are asked for: 16 bytes are kept for each function.
 #[derive(Drop)]
 pub struct SectionFunctions<'a> {
     pub(crate) view: View<'a>,
@@ -71,7 +71,7 @@ impl<'a> Model for SectionFunctions<'a> {
 }
 
 impl<'a> SectionFunctions<'a> {
-    /// How many functions there are.
+    /// Returns how many functions there are.
     #[inline(always)]
     pub fn len(&self) -> usize
         ensures { result ≡ length self.now }
@@ -79,7 +79,7 @@ impl<'a> SectionFunctions<'a> {
         self.entries.len()
     }
 
-    /// Where the function at a place of the order starts.
+    /// Returns where the function at a place of the order starts.
     #[inline(always)]
     pub fn start(&self, place: usize) -> u64
         requires { place < length self.now }
@@ -88,7 +88,7 @@ impl<'a> SectionFunctions<'a> {
         self.entries[place].start
     }
 
-    /// The function at a place of the order, without its rows.
+    /// Returns the function at a place of the order, without its rows.
     #[inline(always)]
     pub fn head(&self, place: usize) -> FuncHead
         requires { place < length self.now }
@@ -97,7 +97,7 @@ impl<'a> SectionFunctions<'a> {
         self.view.func(self.entries[place].number)
     }
 
-    /// The rows of the function at a place of the order.
+    /// Returns the rows of the function at a place of the order.
     #[inline(always)]
     pub fn rows(&self, place: usize) -> RowIter<'a>
         requires { place < length self.now }
@@ -106,7 +106,7 @@ impl<'a> SectionFunctions<'a> {
         self.view.rows(self.entries[place].number)
     }
 
-    /// The entries of the functions.
+    /// Returns the entries of the functions.
     pub fn entries(&self) -> &[SectionEntry]
         ensures { AreEntries result.now self.now }
     {

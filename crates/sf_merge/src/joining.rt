@@ -17,7 +17,7 @@ pub fn join(alloc: Global, parts: Vec<Vec<Func>>) -> Result<Vec<Func>, NoMemory>
     requires rising { All (λ part. RisesStrictly part.items) parts.items }
     requires sized { All (λ (f : func_fact). 0 < f.size) (flat_map (λ part. part.items) parts.items) }
     requires apart { AllPairs IsApart (flat_map (λ part. part.items) parts.items) }
-    // They are the same functions.
+    // The joined functions are those of the lists.
     ensures joined { IfOk result (λ joined. IsPermutation (flat_map (λ part. part.items) parts.items) joined.items) }
     // Their starts rise, and each ends where the next one starts, or before.
     ensures rising { IfOk result (λ joined. RisesStrictly joined.items) }

@@ -2,15 +2,16 @@
 //!
 //! [`merge`] takes sections that were checked, at their addresses, and writes one section for another
 //! address: each function that holds an address and has a row is taken over row for row, by rising start.
-//! What merging comes to is one definition (`Merges` of `specs/Merging.antt`): these functions, or the first
-//! fault. The answer is the `Tight` and `Narrow` section, by the definitions of `sf_model`, of the tables'
-//! union (`IsUnion`), in which a look-up finds what the one section had (`FindAlike`). [`join`] makes lists of functions into one list by rising start. [`in_order`] gives the
-//! functions of one section by start, whose rows it leaves in the section, and [`shared_entry`] finds the entry of
-//! the first one that shares an address with the one before it, with rows or without.
+//! The result of merging is one definition (`Merges` of `specs/Merging.antt`): these functions, or the first
+//! fault. The section returned is the `Tight` and `Narrow` one, by the definitions of `sf_model`, of the tables'
+//! union (`IsUnion`). A look-up finds in it what the one section had (`FindAlike`). [`join`] makes lists of
+//! functions into one list by rising start. [`in_order`] returns the functions of one section by start, and leaves
+//! their rows in the section. [`shared_entry`] finds the entry of the first one that shares an address with the one
+//! before it, with rows or without.
 //!
-//! Laws: merging comes to one result ([`merging_comes_to_one_result`], [`merging_comes_to_a_result`]), so the
-//! answer is Ok exactly where the definition has no fault; sections that are merged in parts, on several machines,
-//! come to the bytes of all merged at once ([`merging_in_parts`]).
+//! Laws: merging has one result ([`merging_comes_to_one_result`], [`merging_comes_to_a_result`]), so `merge`
+//! returns Ok exactly where the definition has no fault; sections that are merged in parts, on several machines,
+//! give the bytes of all merged at once ([`merging_in_parts`]).
 //!
 //! The caller owes `merge` from 1 to 512 sections, and `join` lists that rise, of functions with bytes that
 //! share no address. Both allocate. `merge` allocates nothing for each function: it keeps a head of each in

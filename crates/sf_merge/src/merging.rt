@@ -15,7 +15,7 @@ use sf_decode::View;
 use sf_write::{StoredList, StoredRows, write_stored};
 use std::alloc::Global;
 
-/// The functions that hold an address and have a row, and their rows.
+/// Returns the functions that hold an address and have a row, and their rows.
 fn written(ordered: LocatedFunctions) -> (FunctionsWithRows, StoredRows)
     ensures stored { All (IsStored result.1) result.0 }
     ensures written { map (stored_in result.1) result.0 ≡ written ordered }
@@ -32,7 +32,7 @@ pub struct MergedSection {
     pub rows: u32,
 }
 
-/// How many rows functions have.
+/// Counts the rows of the functions.
 fn count_rows(functions: &FunctionsWithRows) -> u32
     requires { stored_count functions.now ≤ 2 ^ 24 }
     ensures { result ≡ stored_count functions.now }
@@ -44,14 +44,14 @@ fn count_rows(functions: &FunctionsWithRows) -> u32
     rows
 }
 
-/// Merges sections into one, for the address `at`, as a linker does. Each function that holds an address
-/// and has a row is taken over row for row, by rising start.
+/// Merges sections into one, for the address `at`, as a linker does. Each function that holds an address and
+/// has a row is taken over row for row, by rising start.
 ///
 /// # Errors
 ///
-/// A section of another machine than the first one; then more than 2^21 functions or 2^24 rows in all
-/// sections together, two functions that share an address, and a function too far from the section, in this
-/// order; memory may run out at any time. Functions without rows count for the limits and for shared addresses.
+/// A section of another machine than the first one; then more than 2^21 functions or 2^24 rows in all sections
+/// together, two functions that share an address, and a function too far from the section, in this order;
+/// memory may run out at any time. Functions without rows count for the limits and for shared addresses.
 pub fn merge(alloc: Global, views: &[View<'_>], at: u64) -> Result<MergedSection, MergeFault>
     requires some { 0 < length views.now }
     requires few { length views.now ≤ 512 }

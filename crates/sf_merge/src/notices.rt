@@ -1,4 +1,4 @@
-//! Faults as numbers, for the line that tells them.
+//! Faults as numbers, for the line that prints them.
 
 ghost use Rattle.std.specs.Prelude.{◌≡◌, ◌∷◌, [], IsTrue};
 ghost use Rattle.sf_model.specs.Notice.{HasLine};
@@ -10,7 +10,7 @@ use crate::fault::MergeFault;
 use arrayvec::ArrayVec;
 use sf_model::{Group, Notice};
 
-/// The values of two sections of different machines.
+/// Returns the values of two sections of different machines.
 fn two(first: u32, second: u32) -> ArrayVec<u64, 4>
     ensures { result.items ≡ first ∷ second ∷ [] }
 {
@@ -20,7 +20,7 @@ fn two(first: u32, second: u32) -> ArrayVec<u64, 4>
     values
 }
 
-/// The values of two functions that share an address.
+/// Returns the values of two functions that share an address.
 fn four(start: u64, first: u32, other: u64, second: u32) -> ArrayVec<u64, 4>
     ensures { result.items ≡ start ∷ first ∷ other ∷ second ∷ [] }
 {
@@ -32,7 +32,7 @@ fn four(start: u64, first: u32, other: u64, second: u32) -> ArrayVec<u64, 4>
     values
 }
 
-/// The value of a function that is out of reach.
+/// Returns the value of a function that is out of reach.
 fn one(start: u64) -> ArrayVec<u64, 4>
     ensures { result.items ≡ start ∷ [] }
 {
@@ -42,7 +42,8 @@ fn one(start: u64) -> ArrayVec<u64, 4>
 }
 
 impl MergeFault {
-    /// The fault as its line shows it. The caller owes that it is no limit and not `NoMemory`.
+    /// Returns the notice of this fault, as its line prints it. The caller owes that the fault is
+    /// no limit and not `NoMemory`.
     pub fn notice(&self, item: Option<u32>) -> Notice
         requires { IsTrue (is_refusal self.now) }
         ensures shown { shown_by result ≡ shown_of_merging item self.now }

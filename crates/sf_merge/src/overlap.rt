@@ -1,4 +1,4 @@
-//! Whether functions share an address.
+//! Functions that share an address.
 
 ghost use Rattle.std.specs.Prelude.{◌≡◌};
 ghost use Rattle.std.specs.Option.{option_map};
@@ -18,16 +18,16 @@ pub trait HasAddresses {
 
     ghost size_of: { Self → ℕ };
 
-    /// Its first address.
+    /// Returns its first address.
     fn start(&self) -> u64
         ensures { result ≡ first_address self.now };
 
-    /// Its size in bytes.
+    /// Returns its size in bytes.
     fn size(&self) -> u32
         ensures { result ≡ size_of self.now };
 }
 
-/// Whether the second function begins before the end of the first.
+/// Returns whether the second function begins before the end of the first.
 #[inline(always)]
 fn shares_address<F: HasAddresses>(before: &F, function: &F) -> bool
     ensures { result ≡ overlap_by F.first_address F.size_of (before.now, function.now) }
@@ -35,7 +35,7 @@ fn shares_address<F: HasAddresses>(before: &F, function: &F) -> bool
     u128::from(function.start()) < u128::from(before.start()) + u128::from(before.size())
 }
 
-/// The first two neighbours that share an address.
+/// Finds the first two neighbours that share an address.
 pub fn first_overlap<F: HasAddresses>(ordered: &[F]) -> Option<(&F, &F)>
     ensures { option_map (λ pair. (pair.0.now, pair.1.now)) result ≡ find (overlap_by F.first_address F.size_of) (neighbours ordered.now) }
 {
@@ -50,8 +50,8 @@ pub fn first_overlap<F: HasAddresses>(ordered: &[F]) -> Option<(&F, &F)>
     None
 }
 
-/// The place of the function descriptor entry of the later one of the first two neighbours that share an
-/// address, of the functions of a section in order.
+/// Finds the first two neighbours that share an address, of the functions of a section in order. Returns
+/// the place of the function descriptor entry of the later one.
 pub fn shared_entry(view: &View<'_>, ordered: &SectionFunctions<'_>) -> Option<u64>
     ensures { result ≡ spec.shared_entry (section_bytes view.now) ordered.now }
 {

@@ -15,7 +15,7 @@ use sf_decode::{View, functions_are_numbered, view_is_a_section};
 use sf_model::{Func, Key, Rows, Shape};
 use std::alloc::Global;
 
-/// A function to read into, with memory for rows.
+/// Makes a function to read into, with memory for rows.
 fn empty_function(alloc: Global, rows: u32) -> Result<Func, NoMemory> {
     Ok(Func {
         start: 0,
@@ -26,7 +26,7 @@ fn empty_function(alloc: Global, rows: u32) -> Result<Func, NoMemory> {
     })
 }
 
-/// Reads the rows of an entry. Those that were in the list are taken out.
+/// Reads the rows of an entry. The rows that were in the list are dropped.
 #[inline(always)]
 fn read_rows(view: &View<'_>, number: u32, rows: &mut Rows) -> Result<(), NoMemory>
     requires { number < length (table_of view.now).functions }
@@ -53,7 +53,7 @@ fn read_function(view: &View<'_>, number: u32, func: &mut Func) -> Result<(), No
     read_rows(view, number, &mut func.rows)
 }
 
-/// The entries of a section whose functions have bytes, by number.
+/// Lists the entries of a section whose functions have bytes, by number.
 fn entries_of(alloc: Global, view: &View<'_>) -> Result<Vec<SectionEntry>, NoMemory>
     ensures all { IfOk result (λ entries. all_at view.now entries.items ≡ sized_in (table_of view.now)) }
     ensures each { IfOk result (λ entries. All (IsEntry view.now) entries.items) }
@@ -73,8 +73,8 @@ fn entries_of(alloc: Global, view: &View<'_>) -> Result<Vec<SectionEntry>, NoMem
     Ok(entries)
 }
 
-/// The functions of a section that hold an address, by start and then by entry. Where the section has them in
-/// order, sorting costs one pass.
+/// Lists the functions of a section that hold an address, by start and then by entry. Where the section has
+/// them in order, sorting costs one pass.
 ///
 /// # Errors
 ///
@@ -113,7 +113,7 @@ fn store_functions(
     Ok(())
 }
 
-/// How many functions sections have in all.
+/// Counts the functions of all sections.
 fn count_functions(views: &[View<'_>]) -> usize
     requires { length views.now ≤ 512 }
 {
@@ -124,8 +124,8 @@ fn count_functions(views: &[View<'_>]) -> usize
     functions
 }
 
-/// The functions of all sections that have bytes, in order. They are sorted once, which costs one pass where
-/// they are in order.
+/// Reads the functions of all sections that have bytes, and sorts them once. Where they are in order already,
+/// that costs one pass.
 pub fn all_in_order(alloc: Global, views: &[View<'_>]) -> Result<LocatedFunctions, NoMemory>
     requires { length views.now ≤ 512 }
     ensures order { IfOk result (λ all. InOrder (sized (map table_of views.now)) all) }

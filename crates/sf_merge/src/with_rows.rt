@@ -7,7 +7,7 @@ use crate::head::{FunctionHead, LocatedHead};
 use sf_write::{StoredFunction, StoredList};
 use std::marker::Model;
 
-/// Functions that have rows, which a contract sees as the list of them.
+/// Functions that have rows. A contract sees them as a list.
 #[derive(Drop)]
 pub struct FunctionsWithRows {
     heads: Vec<LocatedHead>,
@@ -26,7 +26,7 @@ impl Model for FunctionsWithRows {
 }
 
 impl FunctionsWithRows {
-    /// Those of these functions that have rows. They stay in the memory of the list.
+    /// Keeps those of these functions that have rows. They stay in the memory of the list.
     pub fn of(mut heads: Vec<LocatedHead>) -> FunctionsWithRows
         ensures { result ≡ stored_of heads.items }
     {
