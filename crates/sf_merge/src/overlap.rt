@@ -18,11 +18,11 @@ pub trait HasAddresses {
 
     ghost size_of: { Self → ℕ };
 
-    /// Returns its first address.
+    /// Returns the first address.
     fn start(&self) -> u64
         ensures { result ≡ first_address self.now };
 
-    /// Returns its size in bytes.
+    /// Returns the size in bytes.
     fn size(&self) -> u32
         ensures { result ≡ size_of self.now };
 }

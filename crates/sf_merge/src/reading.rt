@@ -124,8 +124,8 @@ fn count_functions(views: &[View<'_>]) -> usize
     functions
 }
 
-/// Reads the functions of all sections that have bytes, and sorts them once. Where they are in order already,
-/// that costs one pass.
+/// Reads those functions of all sections that have bytes, and sorts them once. Where they are in order
+/// already, that costs one pass.
 pub fn all_in_order(alloc: Global, views: &[View<'_>]) -> Result<LocatedFunctions, NoMemory>
     requires { length views.now ≤ 512 }
     ensures order { IfOk result (λ all. InOrder (sized (map table_of views.now)) all) }

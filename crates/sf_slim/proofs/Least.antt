@@ -1,4 +1,4 @@
--- Each of the shortest rows stands in every list of rows that says the same.
+-- Each of the shortest rows is in every list of rows with the same contents.
 use Rattle.std.specs.Prelude.{nat_le, ◌&&◌, IsTrue, sum_by}
 use Rattle.std.specs.Option.{option_map}
 use Rattle.std.specs.List.{filter, filter_map, find, list_all, range_with_len}

@@ -17,7 +17,7 @@ use Rattle.sf_lookup.proofs.Rows.{latest, latest_holds}
 use Rattle.sf_slim.specs.Slim.{answers_at, is_live}
 use Rattle.sf_slim.specs.Pass.{answers, first_holds, is_in_block}
 
--- ---- whether there is a row at an offset
+-- ---- rows at an offset
 some_stays : (o : ℕ) (r : Row) (rows : List Row) → is_some (latest o (Some r) rows) ≡ true
 some_stays o r [] = refl
 some_stays o r (s ∷ rows) = at_test (nat_le s.start o) (some_stays o s rows)

@@ -213,7 +213,7 @@ are_writable view ordered read order e =
       row_count = omega (rows, few_of_rows, read.header.row_limit, arith);
     }
 
--- each that answers can be written
+-- each function that has a row at some address can be written
 pub answering_writable : (view : View) (ordered : List Located) → IsRead view → InOrder (sized (table_of view)) ordered → All (λ (l : Located). answers l.func ≡ true → IsWritable (table_of view).arch (kept_function l.func)) ordered
 answering_writable view ordered read order = λ k d lt e. writable (table_of view).arch (get_or ordered k d).func (section.ordered_sound view ordered read order k d lt) e
 

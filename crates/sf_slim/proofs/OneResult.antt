@@ -1,4 +1,4 @@
--- Slimming a section comes to one result, as its functions have one order.
+-- Slimming a section has one result, as its functions have one order.
 use Rattle.std.proofs.Common.{◌≡◌, ℕ, List, [], ◌∷◌, Result, sym, ap, ◌∙◌}
 use Rattle.sf_model.specs.declared.function.Func.{Func}
 use Rattle.sf_model.specs.Table.{Table}

@@ -1,4 +1,4 @@
--- The offsets of rows that stand in a section are numbers of 32 signed bits.
+-- The offsets of a section's rows are numbers of 32 signed bits.
 use Rattle.std.specs.Prelude.{negsuc, option_to_list}
 use Rattle.std.specs.List.{list_all}
 use Rattle.std.proofs.Common.{ℕ, zero, suc, ◌+◌, ◌<◌, ◌≤◌, ◌^◌, w32, ℤ, pos, true, IsTrue, FitsSigned, List, [], ◌∷◌, ◌++◌, All, length, Option, Some, None, arith}

@@ -1,4 +1,4 @@
--- No section that says the same is shorter.
+-- No section that recovers the same is shorter.
 use Rattle.std.specs.List.{filter, AllAdjacentBelow, AllPairs}
 use Rattle.std.specs.Option.{option_map}
 use Rattle.std.proofs.Common.{◌≡◌, ℕ, suc, ◌+◌, ◌-◌, ◌<◌, ◌≤◌, true, IsTrue, List, [], ◌∷◌, All, get_or, length, map, Option, Some, None, refl, sym, ap, subst, ◌∙◌, arith, inl, inr}
@@ -89,7 +89,7 @@ room arch bytes flags at place offset (f ∷ fs) (g ∷ gs) (fit, each) (entry, 
     let sum = sum_by-cons (λ (h : Func). rows_len h.rows) f fs in
     omega (fewer, same, here, rest, sum, arith)
 
--- ---- what is said at an offset
+-- ---- the content at an offset
 good_at : (arch : Arch) (rows : List Row) (o : ℕ) (r : Row) → All (IsGood arch) rows → row_at o rows ≡ Some r → IsGood arch r
 unfolding row_at
 good_at arch rows o r good e =
@@ -122,7 +122,7 @@ same_said arch o rows others key other_key good other_good e = by_rows (row_at o
         let same : r.content ≡ s.content = (same_contents arch r.content s.content key other_key one.range other.range one.fits other.fits (let is : recovery r.content key deciding_registers [] ≡ recovery s.content other_key deciding_registers [] = cc in is)).0 in
         rw (p, q) (ap (λ (c : Content). Some c) same)
 
--- ---- functions that stand one after the other
+-- ---- consecutive functions
 next_ones : (f : Func) (fs : List Func) → AllAdjacentBelow EndsBy (f ∷ fs) (length (f ∷ fs)) → AllAdjacentBelow EndsBy fs (length fs)
 next_ones f fs h k d lt =
     let same : suc k + 1 ≡ suc (k + 1) = omega arith in
@@ -154,7 +154,7 @@ pub table_rises : (bytes : List ℕ) (at : ℕ) (given : Table) → Section byte
 table_rises bytes at given is_section =
     All-weaker (IsSound given.arch) (λ (f : Func). RowsRise f.rows) (λ f s. s.rise) given.functions (functions_sound given.arch bytes given.flags at _ given.functions is_section.functions)
 
--- of a function that is needed, its own rows are those that are needed
+-- the own rows of a function that is needed are those that are needed
 own_needed : (given : Table) (functions : List Func) → All (λ (f : Func). RowsRise f.rows) given.functions → IsSlim given functions → (f : Func) → Member functions f → IsPlain f → slim_rows f.size f.rows ≡ f.rows
 own_needed given functions rise slim f m plain =
     let back = from_table given functions rise slim 0 f m in

@@ -1,4 +1,4 @@
--- What slimming comes to, by the results of its steps.
+-- The result of slimming, by the results of its steps.
 use Rattle.std.specs.Option.{option_map}
 use Rattle.std.specs.List.Sorted.{IsPermutation, IsSorted}
 use Rattle.std.proofs.Common.{◌≡◌, ℕ, List, length, map, Option, Some, None, Ok, Err, sym, ap, ◌∙◌, arith}
@@ -34,7 +34,7 @@ is_far given at start ordered read order apart far =
     ap (λ o. or_later o (reach_fault at (slimmed ordered))) apart ∙ ap (λ (fs : List Func). reach_fault at fs) written ∙ ap (option_map OutOfReach) far in
     (ordered, order, sym (ap (λ (o : Option SlimFault). unless_fault o (slimmed ordered)) fault))
 
--- nothing is wrong
+-- there is no fault
 pub is_slimmed : (given : View) (at : ℕ) (section : List ℕ) (functions rows : ℕ) (ordered : List Located) → IsRead given → InOrder (sized (view.table_of given)) ordered
     → overlap_fault (view.section_bytes given) ordered ≡ None → first_out_of_reach at 0 (needed (map function_of ordered)) ≡ None
     → Tight section at (table_of (view.table_of given).arch (needed (map function_of ordered))) → Narrow section (table_of (view.table_of given).arch (needed (map function_of ordered)))

@@ -1,4 +1,4 @@
--- The functions that are needed, stored one after the other.
+-- The functions that are needed, stored in order.
 use Rattle.std.specs.List.{filter}
 use Rattle.std.proofs.Common.{◌≡◌, ℕ, suc, ◌+◌, ◌<◌, Bool, true, false, cond, All, List, [], ◌∷◌, ◌++◌, get_or, length, map, take, refl, sym, ap, subst, ◌∙◌, arith}
 use Rattle.std.proofs.Math.Seq.{take-suc}
@@ -21,7 +21,7 @@ use Rattle.sf_slim.proofs.Needed.{needed}
 pub function_is : (f : Func) (head : FuncHead) (rows : List Row) → head ≡ head_of f → rows ≡ f.rows → with_rows head rows ≡ f
 function_is f head rows h r = ap (λ (x : FuncHead). with_rows x rows) h ∙ ap (λ (rs : List Row). with_rows (head_of f) rs) r
 
--- those that are needed of one function more
+-- the needed functions, with one more function
 more_needed : (ordered : List Located) (i : ℕ) (d : Located) → i < length ordered → needed (map function_of (take (i + 1) ordered)) ≡ needed (map function_of (take i ordered)) ++ needed ((get_or ordered i d).func ∷ [])
 more_needed ordered i d lt =
     let next : i + 1 ≡ suc i = omega arith in
@@ -37,7 +37,7 @@ one_needed : (f : Func) (b : Bool) → answers f ≡ b → needed (f ∷ []) ≡
 one_needed f true e = rw e refl
 one_needed f false e = rw e refl
 
--- one that answers is stored
+-- a function with a row at some address is stored
 pub stored_more : (old new : StoredRows) (fs more : List StoredFunction) (s : StoredFunction) (ordered : List Located) (i : ℕ) (d : Located) → Keeps old new → All (IsStored old) fs
     → map (stored_in old) fs ≡ needed (map function_of (take i ordered)) → i < length ordered → answers (get_or ordered i d).func ≡ true → IsStored new s × (stored_in new s ≡ kept_function (get_or ordered i d).func)
     → more ≡ fs ++ s ∷ [] → All (IsStored new) more × (map (stored_in new) more ≡ needed (map function_of (take (i + 1) ordered)))
@@ -50,7 +50,7 @@ stored_more old new fs more s ordered i d keeps stored are lt answering one e =
           ∙ sym (more_needed ordered i d lt),
     )
 
--- one that doesn't answer isn't needed
+-- a function without one isn't needed
 pub passed_over : (ordered : List Located) (i : ℕ) (d : Located) → i < length ordered → answers (get_or ordered i d).func ≡ false → needed (map function_of (take i ordered)) ≡ needed (map function_of (take (i + 1) ordered))
 passed_over ordered i d lt none =
     sym (more_needed ordered i d lt ∙ ap (λ (gs : List Func). needed (map function_of (take i ordered)) ++ gs) (one_needed (get_or ordered i d).func false none) ∙ append-nil (needed (map function_of (take i ordered))))

@@ -36,7 +36,7 @@ kept_again last size r rows lt e =
     skipped ∙ ap (λ (x : Option Content). kept x size rows) (repeated_is last r.content e)
 
 -- ---- offset by offset
--- what is said just before an offset
+-- the answer just before an offset
 abbrev Before : Answers → (offset : ℕ) → Option Content → Type 0
 Before says zero found = found ≡ None
 Before says (suc offset) found = says offset ≡ found
@@ -98,7 +98,7 @@ pub slim_is_kept : (size : ℕ) (rows : List Row) → RowsRise rows → slim_row
 unfolding slim_rows
 slim_is_kept size rows h = swept (content_at rows) size size 0 None rows (omega arith) (rises rows h) refl (λ o le. ap contents (sym (latest_holds o rows h)))
 
--- ---- what the kept rows say
+-- ---- the answers of the kept rows
 kept_rise : (last : Option Content) (size least : ℕ) (rows : List Row) → Rise least rows → Rise least (kept last size rows)
 kept_rise last size least [] h = tt
 kept_rise last size least (r ∷ rows) h = at_test (is_kept last size r) (kept_rise (Some r.content) size (r.start + 1) rows h.1) (kept_rise last size (r.start + 1) rows h.1)
@@ -137,7 +137,7 @@ kept_says o size least found last (r ∷ rows) lt h e = elim (cases_lt o r.start
         ∙ later (Some r) refl
         ∙ sym (ap contents (latest_begun o found r rows by))
 
--- below the size the rows that are needed say what all rows say
+-- below the size the rows that are needed have the content that all rows have
 pub slim_says : (size : ℕ) (rows : List Row) → RowsRise rows → (o : ℕ) → o < size → content_at (slim_rows size rows) o ≡ content_at rows o
 slim_says size rows h o lt =
     ap (λ (rs : List Row). content_at rs o) (slim_is_kept size rows h)

@@ -1,4 +1,4 @@
--- What slimming answers, by the definition of what it comes to.
+-- The result of slimming, by its definition.
 use Rattle.std.specs.Prelude.{◌≡◌, ◌⊎◌, ℕ, List, All, length, Ok, Err}
 use Rattle.sf_model.specs.declared.function.Func.{Func}
 use Rattle.sf_model.specs.Section.{AreBytes}
@@ -11,9 +11,10 @@ use Rattle.sf_slim.specs.Shortest.{HasLeastRows, IsLeast, IsPlain, RecoverAlike}
 use Rattle.sf_slim.specs.Slim.{IsSlim}
 use Rattle.sf_slim.specs.Slimming.{Slims}
 
--- This section is that of what is needed of the section of these bytes, which says this table, without gaps and with the least
--- widths, and these are the numbers of its functions and rows. It recovers what the given section recovers. No rows that say the same
--- of one of its plain functions take fewer bytes, and where all are plain, no section that says the same is shorter.
+-- This section is that of what is needed of the section of these bytes and this table, without gaps and with the least
+-- widths, and these are the numbers of its functions and rows. It recovers what the given section recovers. No rows
+-- that stand for one of its plain functions take fewer bytes, and where all are plain, no section that recovers the
+-- same is shorter.
 pub record IsSlimmed (bytes : List ℕ) (table : Table) (at : ℕ) (section : List ℕ) (functions rows : ℕ) : Type 0 where
   pub needed : List Func
   pub are : Slims bytes table at (Ok needed)

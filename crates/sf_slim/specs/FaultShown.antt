@@ -1,5 +1,5 @@
--- What the line of a fault shows: two functions that share an address are a fault of the section, as where one that says to be
--- sorted has them, and a start out of reach is one of linking.
+-- What the line of a fault prints: two functions that share an address are a fault of the section, as in a section
+-- whose flag says that it is sorted, and a start out of reach is a fault of linking.
 use Rattle.std.specs.Prelude.{ℕ, Bool, true, false, [], ◌∷◌, Option, None}
 use Rattle.sf_model.specs.declared.notice.Group.TheVariants as group
 use Rattle.sf_model.specs.FaultShown.{FaultShown}
@@ -16,7 +16,7 @@ shown_of_slimming item (Overlap place) = record { item = item; group = group.Sec
 shown_of_slimming item (OutOfReach start) = shown_of_merging None (merge.OutOfReach start)
 shown_of_slimming item NoMemory = shown_of_merging None merge.NoMemory
 
--- all but out of memory
+-- all faults but out of memory
 abbrev pub is_refusal : SlimFault → Bool
 is_refusal (Overlap place) = true
 is_refusal (OutOfReach start) = true

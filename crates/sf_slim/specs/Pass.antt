@@ -1,4 +1,4 @@
--- The same by one pass over the rows.
+-- The needed rows and functions, by one pass over the rows.
 use Rattle.std.specs.Prelude.{ℕ, Bool, false, true, not, ◌&&◌, nat_lt, List, [], ◌∷◌, Option, Some, None, if◌then◌else◌}
 use Rattle.sf_model.specs.declared.content.Content.{Content}
 use Rattle.sf_model.specs.declared.function.Func.{Func}
@@ -8,7 +8,7 @@ use Rattle.sf_model.specs.declared.function.Shape.TheVariants.{Plain, Repeat}
 use Rattle.sf_model.specs.declared.rows.Row.{Row}
 use Rattle.sf_express.specs.Expressed.{repeats}
 
--- the row begins within the function, and says something new
+-- the row begins within the function, and has other content than the last row that was kept
 abbrev pub is_kept : (last : Option Content) → (size : ℕ) → Row → Bool
 is_kept last size row = nat_lt row.start size && not (repeats last row.content)
 
@@ -17,6 +17,7 @@ abbrev pub kept : (last : Option Content) → (size : ℕ) → List Row → List
 kept last size [] = []
 kept last size (row ∷ rows) = if is_kept last size row then row ∷ kept (Some row.content) size rows else kept last size rows
 
+-- the rows of a function that are kept; a function of repeated blocks keeps all
 abbrev pub kept_of : Shape → (size : ℕ) → List Row → List Row
 kept_of Plain size rows = kept None size rows
 kept_of (Repeat block) size rows = rows
@@ -39,5 +40,6 @@ abbrev pub first_holds : Shape → (size : ℕ) → List Row → Bool
 first_holds shape size [] = false
 first_holds shape size (row ∷ rows) = nat_lt row.start size && is_in_block shape row.start
 
+-- the first row of the function begins within it, and within a block of it
 abbrev pub answers : Func → Bool
 answers f = first_holds f.shape f.size f.rows

@@ -1,4 +1,5 @@
--- GNU SFrame specification, Version 2, frame row entries: the bytes of rows, and which lists of rows say the same.
+-- GNU SFrame specification, Version 2, frame row entries: the bytes of rows, and which lists of rows have the same
+-- contents.
 use Rattle.std.specs.Prelude.{◌≡◌, ◌<◌, ◌≤◌, ℕ, List, length, map, IsTrue, All, sum_by}
 use Rattle.sf_model.specs.declared.machine.Arch.{Arch}
 use Rattle.sf_model.specs.declared.function.Func.{Func}
@@ -31,18 +32,20 @@ pub record StandsFor (arch : Arch) (f : Func) (rows : List Row) : Type 0 where
   pub fit : All (λ (r : Row). IsTrue (content_fits arch r.content)) rows
   pub same : (offset : ℕ) → offset < f.size → content_at rows offset ≡ content_at f.rows offset
 
--- no rows that say the same take fewer bytes than the function's own
+-- no rows that stand for the function take fewer bytes than its own
 abbrev pub HasLeastRows : Arch → Func → Type 0
 HasLeastRows arch f = (rows : List Row) (width : ℕ) → StandsFor arch f rows → width ≤ 2 → HoldsStarts width rows → rows_len f.rows ≤ row_bytes width rows
 
 -- ---- whole sections
--- at every address both recover the same, for all registers and any memory, or both nothing
+-- at every address both recover the same, for all registers and any memory, or neither recovers anything
 abbrev pub RecoverAlike : (functions others : List Func) → Type 0
 RecoverAlike functions others = (pc : ℕ) (regs : Regs) (memory : List Region) → recover_by_rows functions memory pc regs ≡ recover_by_rows others memory pc regs
 
+-- a function's start and size
 abbrev pub span : Func → ℕ × ℕ
 span f = (f.start, f.size)
 
+-- the function's rows are looked up by the offset
 abbrev pub IsPlain : Func → Type 0
 IsPlain f = f.shape ≡ Plain
 
@@ -55,6 +58,6 @@ pub record SaysTheSame (given : Table) (functions : List Func) (at : ℕ) (bytes
   pub spans : map span table.functions ≡ map span functions
   pub alike : RecoverAlike table.functions given.functions
 
--- no section of plain functions that says the same is shorter
+-- no section of plain functions that recovers the same is shorter
 abbrev pub IsLeast : (given : Table) → (functions : List Func) → (len : ℕ) → Type 0
 IsLeast given functions len = (at : ℕ) (bytes : List ℕ) (table : Table) → SaysTheSame given functions at bytes table → len ≤ length bytes

@@ -1,5 +1,5 @@
--- GNU SFrame specification, Version 2, function descriptor entries and frame row entries: what of a section's functions is
--- needed to say at each address what the section says.
+-- GNU SFrame specification, Version 2, function descriptor entries and frame row entries: what of a section's functions
+-- is needed to recover at each address what the section recovers.
 use Rattle.std.specs.Prelude.{◌<◌, ℕ, zero, suc, Bool, true, false, not, is_some, List, length, map, Option, Some, None}
 use Rattle.std.specs.Option.{option_map}
 use Rattle.std.specs.List.{AllAdjacentBelow, AllPairs, filter, filter_map, list_any, range_with_len}
@@ -14,7 +14,7 @@ use Rattle.sf_model.specs.Table.{Table}
 use Rattle.sf_model.specs.Union.{IsApart}
 use Rattle.sf_express.specs.Expressed.{same_content}
 
--- what is said at each offset: a content, or nothing
+-- the answer at each offset: a content, or none
 abbrev pub Answers : Type 0
 Answers = (offset : ℕ) → Option Content
 
@@ -23,12 +23,13 @@ abbrev pub content_at : List Row → Answers
 content_at rows offset = option_map (λ (r : Row). r.content) (row_at offset rows)
 
 -- ---- the rows that are needed
+-- two answers are the same
 abbrev pub same_answer : Option Content → Option Content → Bool
 same_answer (Some content) (Some other) = same_content content other
 same_answer (Some content) None = false
 same_answer None answer = false
 
--- a row begins at 0, and where the answer is not that of the offset before
+-- an answer begins at 0, and where it is not that of the offset before
 abbrev pub begins : Answers → (offset : ℕ) → Bool
 begins says zero = true
 begins says (suc offset) = not (same_answer (says offset) (says (suc offset)))
@@ -46,7 +47,7 @@ rows_among says offsets = filter_map (λ (offset : ℕ). row_there offset (says 
 unfoldable pub slim_rows : (size : ℕ) → List Row → List Row
 slim_rows size rows = rows_among (content_at rows) (range_with_len 0 size)
 
--- those of a function of repeated blocks stay
+-- the rows of a function that are needed; a function of repeated blocks keeps all
 abbrev pub slim_rows_of : Shape → (size : ℕ) → List Row → List Row
 slim_rows_of Plain size rows = slim_rows size rows
 slim_rows_of (Repeat block) size rows = rows
@@ -60,7 +61,7 @@ slim_function f = record { start = f.start; size = f.size; shape = f.shape; key 
 abbrev pub answers_at : Func → (offset : ℕ) → Bool
 answers_at f offset = is_some (row_at (offset_in_block f.shape offset) f.rows)
 
--- it has one at some offset below its size
+-- the function has a row at some offset below its size
 unfoldable pub is_live : Func → Bool
 is_live f = list_any (answers_at f) (range_with_len 0 f.size)
 

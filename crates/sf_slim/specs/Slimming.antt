@@ -1,4 +1,5 @@
--- What slimming a section comes to (GNU SFrame specification, Version 2): the functions that are written, or the first fault.
+-- The result of slimming a section (GNU SFrame specification, Version 2): the functions that are written, or the first
+-- fault.
 use Rattle.std.specs.Prelude.{◌≡◌, ℕ, List, map, Option, Result}
 use Rattle.std.specs.Option.{option_map}
 use Rattle.std.specs.List.{filter}
@@ -14,7 +15,7 @@ use Rattle.sf_slim.specs.Slim.{is_live, slim_function}
 pub use Rattle.sf_model.specs.Firsts.{or_later, unless_fault}
 pub use Rattle.sf_merge.specs.OneSection.{sized}
 
--- the first two neighbours that share an address: the place of the entry of the second
+-- the fault of the first two neighbours that share an address: the place of the second one's entry
 unfoldable pub overlap_fault : (bytes : List ℕ) → List Located → Option SlimFault
 overlap_fault bytes ordered = option_map Overlap (shared_entry bytes ordered)
 
@@ -22,12 +23,12 @@ overlap_fault bytes ordered = option_map Overlap (shared_entry bytes ordered)
 unfoldable pub slimmed : List Located → List Func
 slimmed ordered = map slim_function (filter is_live (map (λ (l : Located). l.func) ordered))
 
--- the first of them that lies too far from its start field, in a section at this address
+-- the first function that lies too far from its start field, in a section at this address
 abbrev pub reach_fault : (at : ℕ) → List Func → Option SlimFault
 reach_fault at functions = option_map OutOfReach (first_out_of_reach at 0 functions)
 
--- slimming the section of these bytes, which says this table, for this address comes to this: its functions that hold an address
--- are taken by start and then by entry
+-- slimming the section of these bytes and this table, for this address, has this result: its functions that hold an
+-- address are taken by start and then by entry
 abbrev pub Slims : (bytes : List ℕ) → Table → (at : ℕ) → Result (List Func) SlimFault → Type 0
 Slims bytes table at result =
     (ordered : List Located) × InOrder (sized table) ordered

@@ -1,4 +1,4 @@
-//! Whether functions of a section share an address.
+//! The check for functions of a section that share an address.
 
 ghost use Rattle.std.specs.Prelude.{◌≡◌};
 ghost use Rattle.sf_decode.specs.View.{section_bytes};
@@ -8,7 +8,7 @@ use crate::fault::SlimFault;
 use sf_decode::View;
 use sf_merge::{SectionFunctions, shared_entry};
 
-/// Tries each function against the one before it.
+/// Checks that no function shares an address with the one before it.
 #[tactic(auto, unfolding(crate::specs::Slimming::overlap_fault))]
 pub(crate) fn check_overlap(
     view: &View<'_>,

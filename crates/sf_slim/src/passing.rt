@@ -10,7 +10,7 @@ use sf_express::is_repeated;
 use sf_model::{Content, Func, FuncHead, Key, Row, Rows, Shape};
 use std::alloc::Global;
 
-/// Whether a row begins within the function and says something new.
+/// Returns whether a row begins within the function and has other content than the last one that was kept.
 #[inline(always)]
 fn is_kept(last: Option<Content>, size: u32, row: &Row) -> bool
     ensures { result ≡ spec.is_kept last size row.now }
@@ -18,7 +18,7 @@ fn is_kept(last: Option<Content>, size: u32, row: &Row) -> bool
     row.start < size && !is_repeated(last, row.content)
 }
 
-/// Reads the rows that begin within the function and say something new, over those that are there.
+/// Reads the rows that begin within the function and change the content, over the rows that are there.
 fn keep_rows(size: u32, rows: RowIter<'_>, kept: &mut Rows) -> Result<(), NoMemory>
     ensures { OnOk result (kept.new ≡ spec.kept None size (rows_left rows.entry)) }
 {
@@ -33,7 +33,7 @@ fn keep_rows(size: u32, rows: RowIter<'_>, kept: &mut Rows) -> Result<(), NoMemo
     Ok(())
 }
 
-/// Reads all rows, over those that are there.
+/// Reads all rows, over the rows that are there.
 fn all_rows(rows: RowIter<'_>, all: &mut Rows) -> Result<(), NoMemory>
     ensures { OnOk result (all.new ≡ rows_left rows.entry) }
 {
@@ -44,7 +44,8 @@ fn all_rows(rows: RowIter<'_>, all: &mut Rows) -> Result<(), NoMemory>
     Ok(())
 }
 
-/// Reads the rows of a function that are needed, over those that are there. Those of repeated blocks stay.
+/// Reads the rows of a function that are needed, over the rows that are there. A function of repeated
+/// blocks keeps its rows.
 #[inline(always)]
 fn needed_rows(head: &FuncHead, rows: RowIter<'_>, kept: &mut Rows) -> Result<(), NoMemory>
     ensures { OnOk result (kept.new ≡ spec.kept_of head.now.shape head.now.size (rows_left rows.entry)) }
@@ -71,7 +72,7 @@ pub(crate) fn keep_function(
     needed_rows(head, rows, &mut kept.rows)
 }
 
-/// A function to read into.
+/// Makes a function to read into.
 pub(crate) fn empty_function(alloc: Global) -> Func {
     Func {
         start: 0,
@@ -82,7 +83,7 @@ pub(crate) fn empty_function(alloc: Global) -> Func {
     }
 }
 
-/// Whether an offset lies within a block of repeated rows.
+/// Returns whether an offset lies within a block of repeated rows.
 #[inline(always)]
 fn is_in_block(shape: Shape, offset: u32) -> bool
     ensures { result ≡ spec.is_in_block shape offset }
@@ -93,7 +94,7 @@ fn is_in_block(shape: Shape, offset: u32) -> bool
     }
 }
 
-/// Whether a function has a row at some address: its first one begins within it.
+/// Returns whether a function has a row at some address: its first row begins within it.
 #[inline(always)]
 pub(crate) fn answers(head: &FuncHead, rows: RowIter<'_>) -> bool
     ensures { result ≡ spec.answers (spec.with_rows head.now (rows_left rows.entry)) }

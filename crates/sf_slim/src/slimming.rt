@@ -24,9 +24,9 @@ use std::alloc::Global;
 pub struct Slimmed {
     /// The section's bytes.
     pub section: Vec<u8>,
-    /// The number of its functions.
+    /// The number of the section's functions.
     pub functions: u32,
-    /// The number of all their rows.
+    /// The number of the section's rows.
     pub rows: u32,
 }
 
@@ -57,7 +57,7 @@ fn needed(alloc: Global, arch: Arch, ordered: &SectionFunctions<'_>) -> Result<W
     Ok(Written { functions, rows })
 }
 
-/// The number of all rows.
+/// Counts all rows.
 fn count_rows(functions: &[StoredFunction]) -> u32
     requires { stored_count functions.now ≤ 2 ^ 24 }
     ensures { result ≡ stored_count functions.now }
@@ -69,13 +69,13 @@ fn count_rows(functions: &[StoredFunction]) -> u32
     rows
 }
 
-/// The shortest section for the address `at` that says at every address what a section says: without gaps
-/// and with the least widths, of the functions that have a row at some address, each with a row where the
-/// answer begins or changes. Functions of repeated blocks are taken over row for row.
+/// Makes the shortest section for the address `at` that recovers at every address what a section recovers:
+/// without gaps and with the least widths, of the functions that have a row at some address, each with a row
+/// where the content begins or changes. Functions of repeated blocks are taken over row for row.
 ///
 /// # Errors
 ///
-/// `Overlap` where two functions of the section share an address, those without rows among them; then
+/// `Overlap` where two functions of the section share an address, also where one of them has no rows; then
 /// `OutOfReach` where a function that is needed lies too far from the section; memory may run out at any time.
 pub fn slim(alloc: Global, view: &View<'_>, at: u64) -> Result<Slimmed, SlimFault>
     // The section is that of what is needed.
