@@ -1,4 +1,4 @@
--- The frames of a walk, one after the other.
+-- The frames of a walk, in order.
 use Rattle.std.specs.Prelude.{◌++◌}
 use Rattle.std.proofs.Common.{◌≡◌, ℕ, suc, ◌+◌, ◌-◌, ◌<◌, List, [], ◌∷◌, Option, Result, Ok, Err, refl, sym, ap, ◌∙◌, arith, append_assoc, append-nil}
 use Rattle.sf_model.specs.declared.recovery.Regs.{Regs}
@@ -22,7 +22,7 @@ frames-zero : (recovering : Recovering) (mask : Option ℕ) (asked pc : ℕ) (re
 unfolding frames_from
 frames-zero recovering mask asked pc regs = refl
 
--- how the walk goes on with so many frames left
+-- how the walk goes on with at most `left` further frames
 abbrev onward : Recovering → Option ℕ → ℕ → Going
 onward recovering mask left = λ next. frames_from recovering mask left (address_before next) next
 
@@ -37,7 +37,7 @@ one_more recovering mask depth i asked at frame next lt h =
     let left : depth - i ≡ suc (depth - (i + 1)) = omega (lt, arith) in
     ap (λ (n : ℕ). frames_from recovering mask n asked at.pc at.regs) left ∙ frames-suc recovering mask (depth - (i + 1)) asked at.pc at.regs ∙ h (onward recovering mask (depth - (i + 1)))
 
--- a frame more
+-- one more frame
 joined : (frames : List Frame) (frame : Frame) (listing : Listing) → after_frames (frames ++ frame ∷ []) listing ≡ after_frames frames (behind frame listing)
 joined frames frame listing = ap (λ (fs : List Frame). record { frames = fs; stop = listing.stop }) (append_assoc frames (frame ∷ []) listing.frames)
 

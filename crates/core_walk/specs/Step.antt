@@ -16,11 +16,12 @@ abbrev pub on_with : Going → Result Caller Stop → Listing
 on_with go (Ok caller) = go caller.pc caller.regs
 on_with go (Err stop) = stopped stop
 
--- every walk goes on with this caller, or stops, where this was recovered
+-- where this was recovered, every walk goes on with this caller, or stops
 abbrev pub GoesOnFrom : (mask : Option ℕ) → Recovery → Result Caller Stop → Type 0
 GoesOnFrom mask r next = (go : Going) → on_by go mask r r.return_address ≡ on_with go next
 
--- the same of what a row's content recovers, whatever the key, the registers and the memory were
+-- where a row's content recovered this, every walk goes on with this caller, or stops, whatever the key, the registers
+-- and the memory were
 abbrev pub GoesOnBy : Content → (mask : Option ℕ) → Recovered → Result Caller Stop → Type 0
 GoesOnBy content mask r next =
     (key : Key) (regs : Regs) (memory : List Region) → r ≡ recovered (recovery content key regs memory) → GoesOnFrom mask (recovery content key regs memory) next

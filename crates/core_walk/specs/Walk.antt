@@ -3,8 +3,10 @@ use Rattle.sf_model.specs.declared.walk.Walk.{Walk}
 use Rattle.sf_model.specs.Walk.{Listing, ThreadState}
 use Rattle.core_notes.specs.declared.status.Thread.{Thread}
 
+-- what a walk lists: its frames, and why it stops
 abbrev pub listing : Walk → Listing
 listing walk = record { frames = walk.frames.items; stop = walk.stop }
 
+-- the state of a thread of a core file
 abbrev pub thread_state : Thread → ThreadState
 thread_state thread = record { pc = thread.pc; regs = thread.regs; mask = thread.mask }

@@ -1,11 +1,11 @@
 //! Walks of a thread's stack by the rows of SFrame sections.
 //!
 //! [`walk`] lists the frames of a thread of a core file, from the innermost on, and why it stops: `section_walk` of
-//! `sf_model`, over the functions of the view's table and any [`sf_model::Memory`]. [`walk_by`] is the same over any
-//! [`LookUp`], `look_up_walk` of `sf_model`: a view, or for many walks by one section an [`sf_lookup::Indexed`]. They serve
-//! each section, thread, memory and depth, and owe nothing to their caller.
+//! `sf_model`, over the functions of the view's table and any [`sf_model::Memory`]. [`walk_by`] does so over any
+//! [`LookUp`], by `look_up_walk` of `sf_model`: a view, or for many walks by one section an [`sf_lookup::Indexed`].
+//! Both take any section, thread, memory and depth, and their caller owes nothing.
 //!
-//! [`step`] has one step of a walk, for walks whose frames lie elsewhere.
+//! [`step`] takes one step of a walk, for walks whose frames are kept elsewhere.
 //!
 //! A step looks the row up and recovers the caller's frame, and allocates nothing; the list of frames is what grows.
 #![tactic(auto)]

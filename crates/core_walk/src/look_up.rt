@@ -1,4 +1,4 @@
-//! What a walk looks rows up in.
+//! Where a walk looks rows up.
 
 ghost use Rattle.std.specs.Prelude.{◌≡◌, IfSome, IsTrue, Option, ℕ};
 ghost use Rattle.std.specs.Option.{option_map};
@@ -17,7 +17,7 @@ pub trait LookUp {
     /// The function and the row that hold at an address.
     ghost found_at: { Self → ℕ → Option FoundRow };
 
-    /// The row that holds at an address, and for which machine it is.
+    /// Finds the row that holds at an address, and the machine that it is for.
     fn look_up(&self, pc: u64) -> Option<(Arch, Found)>
         ensures found { option_map (λ f. f.1) result ≡ option_map shown (found_at self.now pc) }
         ensures fits { IfSome result (λ f. IsTrue (content_fits f.0 f.1.row.content)) };
@@ -33,7 +33,7 @@ impl<'a> LookUp for View<'a> {
     }
 }
 
-/// The same of a section that was put in order.
+/// The rows of a section that was put in order.
 impl<'a> LookUp for Indexed<'a> {
     ghost found_at = { λ indexed. found_at (table_in indexed).functions };
 

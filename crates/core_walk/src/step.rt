@@ -11,20 +11,20 @@ use sf_model::{Content, Frame, Key, Memory, Ra, Recovered, Regs, Stop, moved, re
 /// Where the walk goes on.
 #[derive(Clone, Copy)]
 pub struct Caller {
-    /// The address that it returns to.
+    /// The address that the frame returns to.
     pub pc: u64,
-    /// Its registers.
+    /// The caller's registers.
     pub regs: Regs,
 }
 
-/// The address before this one, modulo 2^64: a call ends there, and may be the last of its function.
+/// Returns the address before this one, modulo 2^64: a call ends there, and may be the last of its function.
 pub fn address_before(pc: u64) -> u64
     ensures { result ≡ address_before pc }
 {
     moved(pc, -1)
 }
 
-// A return address without its signature, none where it is signed and the thread has no mask.
+// Returns a return address without its signature. None where it is signed and the thread has no mask.
 fn unsigned_address(signed: Option<Key>, mask: Option<u64>, address: u64) -> Option<u64>
     ensures { result ≡ unsigned_address signed mask address }
 {
@@ -35,7 +35,7 @@ fn unsigned_address(signed: Option<Key>, mask: Option<u64>, address: u64) -> Opt
     }
 }
 
-// Where a return address is saved that can't be read; one in the link register is known.
+// Returns where a return address is saved that can't be read; one in the link register is known.
 fn return_place(ra: Ra, frame_address: u64) -> u64
     ensures { (place : ℕ) → recovering.return_place ra frame_address ≡ Some place → place ≡ result }
 {
@@ -45,7 +45,7 @@ fn return_place(ra: Ra, frame_address: u64) -> u64
     }
 }
 
-// Where a frame pointer is saved that can't be read; one that isn't saved is known.
+// Returns where a frame pointer is saved that can't be read; one that isn't saved is known.
 fn pointer_place(offset: Option<i32>, frame_address: u64) -> u64
     ensures { (place : ℕ) → recovering.pointer_place offset frame_address ≡ Some place → place ≡ result }
 {
@@ -55,8 +55,8 @@ fn pointer_place(offset: Option<i32>, frame_address: u64) -> u64
     }
 }
 
-// The caller of a frame, by the row's content and what it recovers, or why the walk stops: the return address is tried
-// before the frame pointer. The caller's link register is the return address with its signature.
+// Returns the caller of a frame, by the row's content and what it recovers, or why the walk stops. The return address
+// is checked before the frame pointer. The caller's link register is the return address with its signature.
 fn caller_of(content: &Content, mask: Option<u64>, recovered: &Recovered) -> Result<Caller, Stop>
     ensures { GoesOnBy content.now mask recovered.now result }
 {
@@ -80,7 +80,8 @@ fn caller_of(content: &Content, mask: Option<u64>, recovered: &Recovered) -> Res
     })
 }
 
-/// The frame at a program counter, and its caller or why the walk stops. The row is looked up at the asked address.
+/// Returns the frame at a program counter, and its caller or why the walk stops. The row is looked up at the asked
+/// address.
 pub fn step<L: LookUp, M: Memory>(
     rows: &L,
     mask: Option<u64>,

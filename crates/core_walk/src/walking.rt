@@ -13,8 +13,8 @@ use sf_decode::View;
 use sf_model::{Memory, Stop};
 use std::alloc::Global;
 
-/// The frames of a thread, at most `depth`, from the innermost on, and why no more are listed. The thread's own frame is
-/// looked up at its program counter, and each caller at the address before the one that it returns to.
+/// Lists the frames of a thread, at most `depth`, from the innermost on, and why no more are listed. The thread's own
+/// frame is looked up at its program counter, and each caller at the address before the one that it returns to.
 ///
 /// `NoMemory` where memory ran out.
 pub fn walk_by<L: LookUp, M: Memory>(
@@ -45,7 +45,7 @@ pub fn walk_by<L: LookUp, M: Memory>(
     Ok(sf_model::Walk { frames, stop })
 }
 
-/// The same by the rows of a section.
+/// Lists the frames of a thread as [`walk_by`] does, by the rows of a section.
 ///
 /// `NoMemory` where memory ran out.
 #[tactic(auto, unfolding(sf_model::specs::Walk::section_walk))]

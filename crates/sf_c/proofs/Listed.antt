@@ -1,4 +1,4 @@
--- The frames of a walk in a room, one after the other.
+-- The frames of a walk in a room, in order.
 use Rattle.std.specs.Prelude.{◌++◌, map, drop, take}
 use Rattle.std.proofs.Common.{◌≡◌, ℕ, ◌+◌, ◌-◌, ◌<◌, ◌≤◌, List, [], ◌∷◌, length, set, Option, Result, Ok, Err, refl, sym, ap, subst, ◌∙◌, arith}
 use Rattle.std.proofs.lemmas.List.{drop-drop, drop-set-lt, length-append, length-set, map-append, take-append-drop, take_more_set}
@@ -16,7 +16,7 @@ use Rattle.sf_c.specs.declared.sample.KiblawenSample.{KiblawenSample}
 use Rattle.sf_c.specs.Sample.{mask_of, memory_of}
 use Rattle.sf_c.specs.Walk.{frame_shown, listed}
 
--- the frames so far are in the room from its first place on, and what lies after them is as it was
+-- the frames so far are in the room from its first place on, and what comes after them is as it was
 pub record Shown (frames : List Frame) (count : ℕ) (now before : List KiblawenFrame) : Type 0 where
   pub as_many : length frames ≡ count
   pub within : count ≤ length before
@@ -33,7 +33,7 @@ pub record Listed (recovering : Recovering) (mask : Option ℕ) (count asked : �
 later_kept : (n : ℕ) (now before : List KiblawenFrame) → drop n now ≡ drop n before → drop (n + 1) now ≡ drop (n + 1) before
 later_kept n now before e = sym (drop-drop 1 n now) ∙ ap (drop 1) e ∙ drop-drop 1 n before
 
--- a frame more is shown
+-- one more frame is shown
 pub one_more : (frames : List Frame) (frame : Frame) (count : ℕ) (now before : List KiblawenFrame) (x : KiblawenFrame) → count < length before → x ≡ frame_shown frame
     → Shown frames count now before → Shown (frames ++ frame ∷ []) (count + 1) (set now count x) before
 one_more frames frame count now before x lt e h = record {

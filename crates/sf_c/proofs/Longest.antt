@@ -1,4 +1,4 @@
--- The function with most rows, one function after the other.
+-- The function with most rows, found function by function.
 use Rattle.std.specs.Prelude.{max, ◌==◌}
 use Rattle.std.specs.Ordering.{is_lt, nat_cmp, ord_max}
 use Rattle.std.specs.declared.cmp.Ordering.TheVariants.{Less, Equal, Greater}

@@ -71,13 +71,13 @@ last_has_not modules address reached m order point some within at t = none_passe
     by_place k d lt (inl before) = at_last k d before (cases_lt k (reached - 1))
     by_place k d lt (inr le) = starts_after address (get_or modules k d) (point.1 k d le lt)
 
--- what answers at an address, by the last module that starts by then
+-- the functions at an address, by the last module that starts by then
 pub answers_none : (modules : List KiblawenModule) (address reached : ℕ) → Reaches modules address reached → reached ≡ 0
     → functions_shown None ≡ functions_if_found (find (holds address) modules)
 answers_none modules address reached point none =
     ap functions_if_found (sym (none_starts modules address (subst (λ (n : ℕ). Reaches modules address n) none point)))
 
--- the module of a number in the list
+-- the module with a number in the list
 at_itself : (modules : List KiblawenModule) (i : ℕ) (d : KiblawenModule) → i < length modules → get_or modules i (get_or modules i d) ≡ get_or modules i d
 at_itself modules i d lt = get_or_default modules i (get_or modules i d) d lt
 

@@ -4,7 +4,7 @@ use Rattle.sf_model.specs.declared.recovery.Recovered.{Recovered}
 use Rattle.sf_c.specs.declared.recovering.KiblawenCaller.{KiblawenCaller}
 use Rattle.sf_c.specs.Row.{flag, key_number}
 
--- a value that can't be read is 0, and says that it isn't known
+-- what was recovered; a value that can't be read is 0, and is not known
 abbrev pub caller_shown : Recovered → KiblawenCaller
 caller_shown r = record {
   cfa = r.cfa;
@@ -15,7 +15,7 @@ caller_shown r = record {
   key = key_number r.signed;
 }
 
--- what was recovered, and what stood there before where nothing was
+-- what was recovered, or what `caller` was before where nothing was recovered
 abbrev pub caller_or : (before : KiblawenCaller) → Option Recovered → KiblawenCaller
 caller_or before (Some r) = caller_shown r
 caller_or before None = before

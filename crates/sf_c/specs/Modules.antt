@@ -19,10 +19,10 @@ abbrev pub functions_if_found : Option KiblawenModule → List Func
 functions_if_found (Some m) = functions_lent m.section
 functions_if_found None = []
 
--- the functions that answer at an address: those of the section of the module that has the address in its range
+-- the functions in which an address is looked up: those of the section of the module that has the address in its range
 abbrev pub functions_at : List KiblawenModule → (address : ℕ) → List Func
 functions_at modules address = functions_if_found (find (holds address) modules)
 
--- the row that holds at an address by them
+-- the row that holds at an address by those functions
 abbrev pub module_row : List KiblawenModule → (address : ℕ) → Option FoundRow
 module_row modules address = found_at (functions_at modules address) address

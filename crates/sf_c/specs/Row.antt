@@ -12,15 +12,17 @@ use Rattle.sf_model.specs.declared.function.Shape.TheVariants.{Plain, Repeat}
 use Rattle.sf_lookup.specs.declared.lookup.Found.{Found}
 use Rattle.sf_c.specs.declared.finding.KiblawenRow.{KiblawenRow}
 
--- the numbers of the header's constants: a test, the base of the canonical frame address, the key of a signed return address
+-- the header's number of a test
 abbrev pub flag : Bool → ℕ
 flag false = 0
 flag true = 1
 
+-- the header's number of the base of the canonical frame address
 abbrev pub base_number : Base → ℕ
 base_number Fp = 0
 base_number Sp = 1
 
+-- the header's number of the key of a signed return address, 0 where it is unsigned
 abbrev pub key_number : Option Key → ℕ
 key_number None = 0
 key_number (Some A) = 1
@@ -31,7 +33,8 @@ abbrev pub block_size : Shape → ℕ
 block_size Plain = 0
 block_size (Repeat size) = size
 
--- the offset from the canonical frame address at which the return address is saved, none where it is in the link register
+-- the offset from the canonical frame address at which the return address is saved, or none where it is in the link
+-- register
 abbrev pub return_offset : Ra → Option ℤ
 return_offset Fixed = Some (negsuc 7)
 return_offset Link = None
@@ -53,7 +56,7 @@ row_shown found = let content = found.row.content in record {
   key = key_number (then_some content.signed found.func.key);
 }
 
--- what was found, and what stood there before where nothing was
+-- the row that was found, or what `row` was before where none was found
 abbrev pub row_or : (before : KiblawenRow) → Option Found → KiblawenRow
 row_or before (Some found) = row_shown found
 row_or before None = before

@@ -19,36 +19,36 @@ use sf_model::{Base, Key, Ra, Shape};
 pub struct KiblawenRow {
     /// The function's first address.
     pub function_start: u64,
-    /// Its size in bytes.
+    /// The function's size in bytes.
     pub function_size: u32,
-    /// The bytes after which its rows repeat, 0 where they don't.
+    /// The bytes after which the function's rows repeat, 0 where they don't.
     pub block_size: u32,
-    /// The first offset that the row covers, from the function's start or from that of a block.
+    /// The first offset that the row covers, from the start of the function or of a block.
     pub row_start: u32,
     /// The register that the canonical frame address counts from: 0 the frame pointer, 1 the stack pointer.
     pub base: u32,
-    /// The canonical frame address's offset from it, in bytes.
+    /// The canonical frame address's offset from that register, in bytes.
     pub cfa_offset: i32,
     /// 1 where the return address is saved, 0 where it is in the link register.
     pub ra_saved: u32,
-    /// Its offset from the canonical frame address where it is saved, else 0.
+    /// The return address's offset from the canonical frame address where it is saved, else 0.
     pub ra_offset: i32,
-    /// 1 where the frame pointer is saved, 0 where it has its value still.
+    /// 1 where the frame pointer is saved, 0 where it still has its value.
     pub fp_saved: u32,
-    /// Its offset from the canonical frame address where it is saved, else 0.
+    /// The frame pointer's offset from the canonical frame address where it is saved, else 0.
     pub fp_offset: i32,
     /// 0 where the return address is unsigned, 1 where it is signed by key A, 2 by key B.
     pub key: u32,
 }
 
-/// A test as a number.
+/// Returns a test as a number.
 pub fn flag(is: bool) -> u32
     ensures { result ≡ spec.flag is }
 {
     if is { 1 } else { 0 }
 }
 
-/// The number of the key of a signed return address.
+/// Returns the number of the key of a signed return address.
 pub fn key_number(key: Option<Key>) -> u32
     ensures { result ≡ spec.key_number key }
 {
@@ -87,7 +87,7 @@ fn return_offset(ra: Ra) -> Option<i32>
     }
 }
 
-// A function and its row, as C has them.
+// Returns a function and its row, as C has them.
 fn row_shown(found: &Found) -> KiblawenRow
     ensures { result ≡ spec.row_shown found.now }
 {
@@ -108,8 +108,8 @@ fn row_shown(found: &Found) -> KiblawenRow
     }
 }
 
-/// Looks an address up: whether a row holds there, and then the function and the row. Where none does, as in a closed
-/// section, `row` stays as it was.
+/// Looks an address up. Returns whether a row holds there, and writes the function and the row to `row` then. Where
+/// none holds, as in a closed section, `row` stays as it was.
 #[unsafe(no_mangle)]
 pub extern "C" fn kiblawen_find(section: &LentSection<'_>, pc: u64, row: &mut KiblawenRow) -> bool
     ensures found { result ≡ is_some (found_at (functions_lent section.now) pc) }

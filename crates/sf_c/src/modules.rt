@@ -13,15 +13,15 @@ use sf_model::Arch;
 #[repr(C)]
 #[derive(Clone, Copy)]
 pub struct KiblawenModule<'a> {
-    /// Its first address.
+    /// The module's first address.
     pub start: u64,
-    /// How many addresses it has.
+    /// How many addresses the module has.
     pub size: u64,
-    /// Its section, open or closed.
+    /// The module's section, open or closed.
     pub section: LentSection<'a>,
 }
 
-// Whether a module's range has the address.
+// Returns whether a module's range has the address.
 fn holds(range: &KiblawenModule<'_>, address: u64) -> bool
     ensures { result ≡ spec.holds address range.now }
 {
@@ -40,7 +40,8 @@ impl<'m, 'a> Modules<'m, 'a> {
     ghost use Rattle.sf_decode.specs.Kept.{functions_shown};
     ghost use Rattle.sf_c.specs.Modules.{functions_at};
 
-    // The view of the section of the module that has the address in its range, if there is one and its section is open.
+    // Returns the view of the section of the module that has the address in its range. None where there is no such
+    // module, or its section is closed.
     fn view_at(&self, address: u64) -> Option<View<'a>>
         ensures { functions_shown result ≡ functions_at self.now.modules.now address }
     {
@@ -59,7 +60,7 @@ impl<'m, 'a> Modules<'m, 'a> {
     }
 }
 
-/// Modules, by which a walk looks rows up: the section of the module that has the address in its range answers.
+/// Modules, by which a walk looks rows up: in the section of the module that has the address in its range.
 impl<'m, 'a> LookUp for Modules<'m, 'a> {
     ghost use Rattle.sf_c.specs.Modules.{module_row};
 
@@ -74,7 +75,8 @@ impl<'m, 'a> LookUp for Modules<'m, 'a> {
     }
 }
 
-/// Whether modules are in order: each ends where the next one starts, or before. The walk by modules asks for that.
+/// Returns whether modules are in order: each ends where the next one starts, or before. The walk by modules requires
+/// that.
 #[unsafe(no_mangle)]
 pub extern "C" fn kiblawen_in_order(modules: &[KiblawenModule<'_>]) -> bool
     ensures { IsTrue result ↔ spec.AreInOrder modules.now }

@@ -7,8 +7,9 @@ ghost use Rattle.sf_c.specs.Opening.{bytes_if_sound, fault_number, fault_place, 
 
 use sf_decode::LentSection;
 
-/// Checks bytes at an address, and opens the section where nothing is wrong: 0. Else the number of the first fault, its
-/// place in bytes from the section's start, and a closed section.
+/// Checks bytes at an address, and opens the section where nothing is wrong. Returns 0 then. Otherwise it returns the
+/// number of the first fault, writes the fault's place, in bytes from the section's start, to `place`, and closes the
+/// section.
 #[unsafe(no_mangle)]
 pub extern "C" fn kiblawen_open<'a>(
     section: &mut LentSection<'a>,
@@ -36,7 +37,7 @@ pub extern "C" fn kiblawen_open<'a>(
     }
 }
 
-/// Closes a section. It lends nothing any more, and its bytes are the caller's again.
+/// Closes a section. It lends nothing from then on, and its bytes are the caller's again.
 #[unsafe(no_mangle)]
 pub extern "C" fn kiblawen_close(section: &mut LentSection<'_>)
     ensures table { table_lent section.new ≡ None }

@@ -32,7 +32,7 @@ pub struct KiblawenCaller {
     pub key: u32,
 }
 
-// What is recovered, as C has it.
+// Returns what is recovered, as C has it.
 fn caller_shown(recovered: &Recovered) -> KiblawenCaller
     ensures { result ≡ spec.caller_shown recovered.now }
 {
@@ -46,7 +46,7 @@ fn caller_shown(recovered: &Recovered) -> KiblawenCaller
     }
 }
 
-// What the functions of a section recover of a sample.
+// Returns what the functions of a section recover of a sample.
 fn recovered_in(section: &LentSection<'_>, sample: &KiblawenSample<'_>) -> Option<Recovered>
     ensures { result ≡ option_map recovered (recover_by_rows (functions_lent section.now) (memory_of sample.now) sample.now.pc (registers_of sample.now)) }
 {
@@ -56,8 +56,8 @@ fn recovered_in(section: &LentSection<'_>, sample: &KiblawenSample<'_>) -> Optio
     }
 }
 
-/// What the row that holds at a sample's program counter recovers of the caller's frame, and whether a row holds there.
-/// Where none does, as in a closed section, `caller` stays as it was.
+/// Recovers the caller's frame by the row that holds at a sample's program counter, and returns whether a row holds
+/// there. Where none holds, as in a closed section, `caller` stays as it was.
 #[unsafe(no_mangle)]
 pub extern "C" fn kiblawen_recover(
     section: &LentSection<'_>,

@@ -7,7 +7,7 @@ ghost use Rattle.sf_c.specs.MostRows.{most_rows};
 
 use sf_decode::{LentSection, View, functions_are_numbered};
 
-// How many rows the function with most rows has.
+// Returns how many rows the function with most rows has.
 fn most_rows(view: &View<'_>) -> u32
     ensures { result ≡ most_rows (table_of view.now).functions }
 {
@@ -19,7 +19,8 @@ fn most_rows(view: &View<'_>) -> u32
     most
 }
 
-/// How many rows the function with most rows has, 0 where there is no function, as in a closed section.
+/// Returns how many rows the function with most rows has. 0 where there is no function, as in a closed
+/// section.
 #[unsafe(no_mangle)]
 pub extern "C" fn kiblawen_most_rows(section: &LentSection<'_>) -> u32
     ensures { result ≡ most_rows (functions_lent section.now) }

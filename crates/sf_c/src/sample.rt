@@ -21,14 +21,14 @@ pub struct KiblawenSample<'a> {
     pub mask: u64,
     /// 0 where the mask isn't known, as on AMD64.
     pub has_mask: u32,
-    /// The bytes that were copied of the stack.
+    /// The bytes that were copied from the stack.
     pub stack: &'a [u8],
-    /// The address of the first of them.
+    /// The address of the first of those bytes.
     pub stack_start: u64,
 }
 
 impl<'a> KiblawenSample<'a> {
-    /// The registers that a row reads.
+    /// Returns the registers that a row reads.
     pub fn registers(&self) -> Regs
         ensures { result ≡ spec.registers_of self.now }
     {
@@ -39,7 +39,7 @@ impl<'a> KiblawenSample<'a> {
         }
     }
 
-    /// The mask of return addresses, where it is known.
+    /// Returns the mask of return addresses, where it is known.
     pub fn known_mask(&self) -> Option<u64>
         ensures { result ≡ spec.mask_of self.now }
     {
@@ -50,7 +50,7 @@ impl<'a> KiblawenSample<'a> {
         }
     }
 
-    /// The memory that a walk reads.
+    /// Returns the memory that a walk reads.
     pub fn memory(&self) -> Stack<'a>
         ensures { spec.one_region result ≡ spec.memory_of self.now }
     {
@@ -61,7 +61,7 @@ impl<'a> KiblawenSample<'a> {
     }
 }
 
-/// A run of bytes that was copied of a stack, at its address.
+/// A run of bytes that was copied from a stack, at its address.
 #[derive(Clone, Copy)]
 pub struct Stack<'a> {
     bytes: &'a [u8],

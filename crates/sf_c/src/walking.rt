@@ -19,9 +19,10 @@ use sf_model::{Frame, Stop};
 #[repr(C)]
 #[derive(Clone, Copy, PartialEq, Eq)]
 pub struct KiblawenFrame {
-    /// Its program counter.
+    /// The frame's program counter.
     pub pc: u64,
-    /// Its canonical frame address, 0 where no row holds: then it is the last, and the walk stopped outside.
+    /// The frame's canonical frame address, 0 where no row holds: then it is the last frame, and the walk stopped
+    /// outside.
     pub cfa: u64,
 }
 
@@ -32,11 +33,11 @@ pub struct KiblawenStop {
     /// 0: the room is full. 1: no row holds at an address. 2: a value can't be read. 3: a return address is signed, and
     /// the sample has no mask.
     pub kind: u32,
-    /// The address at which no row holds, that of the value, or the return address; 0 where the room is full.
+    /// The address at which no row holds, the address of the value, or the return address; 0 where the room is full.
     pub value: u64,
 }
 
-// A frame, as C has it.
+// Returns a frame, as C has it.
 fn frame_shown(frame: &Frame) -> KiblawenFrame
     ensures { result ≡ spec.frame_shown frame.now }
 {
@@ -46,7 +47,7 @@ fn frame_shown(frame: &Frame) -> KiblawenFrame
     }
 }
 
-// Why a walk stopped, as C has it.
+// Returns why a walk stopped, as C has it.
 fn stop_shown(stop: Stop) -> KiblawenStop
     ensures { result ≡ spec.stop_shown stop }
 {
@@ -109,8 +110,8 @@ pub extern "C" fn kiblawen_walk(
     walk_into(&OneSection { section }, sample, frames, stop)
 }
 
-/// The same by the sections of modules: each frame is looked up in the section of the module that has its address in its
-/// range. The caller owes that the modules are in order.
+/// Walks a sample as [`kiblawen_walk`] does, by the sections of modules: each frame is looked up in the section of the
+/// module that has its address in its range. The caller owes that the modules are in order.
 #[unsafe(no_mangle)]
 pub extern "C" fn kiblawen_walk_modules(
     modules: &[KiblawenModule<'_>],

@@ -4,7 +4,7 @@
 //! and writes the section (`sf_write::write_stored`). By its contract a section is the faithful one of all inputs,
 //! and a refusal names the first fault.
 //!
-//! The caller owes that there are 1 to 512 inputs, each of fewer than 2^32 bytes. Memory is taken for the
+//! The caller owes that there are 1 to 512 inputs, each of fewer than 2^32 bytes. Memory is allocated for the
 //! functions and the section; no input is copied.
 #![tactic(auto)]
 

@@ -11,9 +11,9 @@ use sf_model::Arch;
 use sf_write::{StoredList, WriteFault, write_stored};
 use std::alloc::Global;
 
-/// Makes the SFrame section of 1 to 512 inputs, for the address `at`. `before` is the machine of an item
-/// that stands before them; the inputs are numbered from 1 on then, and else from 0 on. Of several COMDAT
-/// groups with one signature, over all inputs, the first stays (ELF64 gABI, "Section Groups").
+/// Makes the SFrame section of 1 to 512 inputs, for the address `at`. `before` is the machine of an item that
+/// comes before the inputs, if there is one: the inputs are then numbered from 1, otherwise from 0. Of several
+/// COMDAT groups with one signature, over all inputs, the first stays (ELF64 gABI, "Section Groups").
 ///
 /// # Errors
 ///
@@ -28,7 +28,7 @@ pub fn link(
 ) -> Result<Linked, LinkFault>
     requires some { (0 < length inputs.now) × (length inputs.now ≤ 512) }
     requires small { All (λ input. length input.bytes.now < 2 ^ 32) inputs.now }
-    // The section is that of the inputs' kept functions, and these were left out.
+    // The section is that of the inputs' kept functions, and these were omitted.
     ensures linked { IfOk result (λ linked. IsLinked before (map object_of inputs.now) at linked.section.items linked.kept linked.omitted.items) }
     ensures are_bytes { IfOk result (λ linked. AreBytes linked.section.items) }
     // A fault is the first one.
