@@ -36,7 +36,7 @@ stands_at arch bytes flags at place (f ∷ fs) (suc k) d s lt =
     subst (λ p. EntryStands arch bytes (start_origin flags at p) p (get_or fs k d) × FunctionRowsStand arch bytes p (get_or fs k d)) same
     (stands_at arch bytes flags at (place + 20) fs k d s.2 (omega (lt, arith)))
 
--- the start of an entry that stands
+-- the start of an entry by the standard
 raised : (arch : Arch) (bytes : List ℕ) (at place : ℕ) (f : Func) → AreBytes bytes → EntryStands arch bytes (start_origin (flags_in bytes) at place) place f
     → raised_start bytes at place ≡ f.start + 2147483648
 unfolding raised_start
@@ -64,7 +64,7 @@ repeat_told (Repeat size) info k byte e r =
     let some : (byte == 0) ≡ false = not_eq byte 0 (omega (r.0, r.1, arith)) in
     or_right (not (is_repeated info)) (not (byte == 0)) (ap not some)
 
--- an entry that stands passes its checks
+-- an entry by the standard passes its checks
 fields_pass : (bytes : List ℕ) (at place : ℕ) (f : Func) → AreBytes bytes → EntryStands (arch_in bytes) bytes (start_origin (flags_in bytes) at place) place f
     → entry_fields_check bytes at place ≡ Ok tt
 unfolding entry_fields_check is_in_memory

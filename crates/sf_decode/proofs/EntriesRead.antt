@@ -1,4 +1,5 @@
--- Entries that pass their checks stand where they are read, and so does the whole section.
+-- Entries that pass their checks are entries by the standard where they are read, and so is the
+-- whole section.
 use Rattle.std.proofs.Common.{◌≡◌, ◌≢◌, ◌<◌, ◌≤◌, ℕ, zero, suc, ◌+◌, ◌-◌, ◌*◌, ◌/◌, ◌%◌, ◌^◌, Bool, true, false, IsTrue, List, length, Ok, refl, ap, sym, subst, ◌∙◌, arith}
 use Rattle.std.specs.Prelude.{◌||◌, not, if◌then◌else◌, ◌==◌, slice_index, get_or}
 use Rattle.std.specs.List.{AllAdjacentBelow}

@@ -1,4 +1,4 @@
--- Rows that pass their checks stand where they are read.
+-- Rows that pass their checks are rows by the standard where they are read.
 use Rattle.std.proofs.Common.{◌≡◌, ◌≢◌, ◌<◌, ◌≤◌, ℕ, zero, suc, ◌+◌, ◌*◌, ◌/◌, ◌%◌, ℤ, Bool, true, false, IsTrue, List, [], ◌∷◌, ◌++◌, length, Ok, refl, ap, sym, subst, ◌∙◌, arith, nat_le}
 use Rattle.std.specs.Prelude.{is_none, if◌then◌else◌, ◌==◌, get_or, option_to_list}
 use Rattle.std.specs.List.{flat_map, list_all}

@@ -64,7 +64,7 @@ four_bytes bytes p x all within e =
     (stands_cons bytes (suc (suc p)) (byte_at 2 x) (byte_at 3 x ∷ []) (omega (within, arith)) third
     (stands_cons bytes (suc (suc (suc p))) (byte_at 3 x) [] (omega (within, arith)) fourth refl)))
 
--- an unsigned number that is read at a place stands there, in its width
+-- an unsigned number that is read at a place is there, in its width
 pub unsigned_stands : (bytes : List ℕ) (w p : ℕ) → AreBytes bytes → w ≤ 2 → p + width_len w ≤ length bytes → StandsAt bytes p (unsigned_bytes w (unsigned_in w p bytes))
 unfolding unsigned_in
 unsigned_stands bytes zero p all k within = one_byte bytes p (little_from p 1 bytes) all within (let small = little_from-lt p 1 bytes all in omega (small, arith))
@@ -108,7 +108,7 @@ bits_of_four x false e lt =
     let there : HasBits 2 4294967296 (negsuc (4294967296 - suc x)) x = record { held = if_lt (4294967296 - suc x) 2147483648 (omega (high, arith)); bits = omega (lt, arith) } in
     subst (λ z. HasBits 2 4294967296 z x) (sym (sub_below x 4294967296 lt)) there
 
--- a signed number that is read at a place stands there, in its width
+-- a signed number that is read at a place is there, in its width
 pub signed_stands : (bytes : List ℕ) (w p : ℕ) → AreBytes bytes → w ≤ 2 → p + width_len w ≤ length bytes → StandsAt bytes p (signed_bytes w (signed_in w p bytes))
 unfolding signed_in
 signed_stands bytes zero p all k within =

@@ -8,13 +8,13 @@ ghost use Rattle.sf_decode.specs.View.{section_address, section_bytes, table_of,
 
 use crate::view::View;
 
-// Bytes in which no check fails are a section of what they say.
+// Bytes in which no check fails are a section of the table that they describe.
 fn bytes_are_a_section(bytes: &[u8], at: u64)
     requires { IsTrue (is_ok (section_check bytes.now at)) }
     ensures { Section bytes.now at (table_in bytes.now at) }
 {}
 
-/// What a view shows is what its bytes say as a section.
+/// The bytes of a view are a section of the table that the view shows.
 pub fn view_is_a_section(view: &View<'_>)
     ensures { Section (section_bytes view.now) (section_address view.now) (table_of view.now) }
 {

@@ -1,4 +1,4 @@
--- Spans and points: which span answers at an address.
+-- Spans and points: which span decides at an address.
 use Rattle.std.specs.Prelude.{nat_le, nat_lt, ◌⊎◌}
 use Rattle.std.specs.List.{Contains, find}
 use Rattle.std.specs.List.Sorted.{IsNonDecreasing, IsPermutation}

@@ -41,7 +41,7 @@ use Rattle.sf_slim.proofs.Least.{IsOne, found_one, least_is_least, none_is_short
 use Rattle.sf_slim.proofs.Ranges.{IsGood, functions_good}
 use Rattle.sf_slim.proofs.Sweep.{slim_says}
 
--- ---- rows that stand in a section take at least their least bytes
+-- ---- rows in a section take at least their least bytes
 one_more : (width own : ℕ) (r : Row) → own ≤ 2 → IsTrue (holds_row_offsets r.content own) → row_len width r.content ≤ length (spelled_row width own r)
 one_more width own r le held =
     let least : offset_width r.content ≤ own = least_is_least (holds_row_offsets r.content) own le held in

@@ -99,7 +99,7 @@ pub last_start_fits : (f : Func) → IsTrue (entry_fits f) → IsTrue (holds_uns
 unfolding entry_fits
 last_start_fits f h = second_of (head_fits (head_of f)) (holds_unsigned (last_start f.rows) (start_width f.rows)) h
 
--- what an entry holds, besides its function
+-- what an entry holds, apart from its function
 pub record EntryWritten (arch : Arch) (bytes : List ℕ) (at place offset : ℕ) (f : Func) : Type 0 where
   pub stands : EntryStands arch bytes (at + place) place f
   pub row_offset : row_offset_at bytes place ≡ offset

@@ -1,4 +1,5 @@
--- The functions that are written stand, without gaps and with the least widths.
+-- The functions that are written are functions by the standard, without gaps and with the least
+-- widths.
 use Rattle.std.proofs.Common.{◌≡◌, ◌≤◌, ◌<◌, ℕ, ◌+◌, ◌*◌, Bool, true, false, IsTrue, Option, Some, None, List, [], ◌∷◌, ◌++◌, length, drop, refl, ap, sym, subst, ◌∙◌, arith}
 use Rattle.std.specs.Prelude.{All, if◌then◌else◌}
 use Rattle.std.specs.List.{flat_map, list_all}

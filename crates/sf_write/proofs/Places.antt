@@ -1,4 +1,4 @@
--- What numbers stand at a place, where the bytes from there on are known.
+-- Which numbers are at a place, where the bytes from there on are known.
 use Rattle.std.proofs.Common.{◌≡◌, ◌≤◌, ◌<◌, ℕ, ℤ, zero, suc, pos, negsuc, ◌+◌, ◌*◌, ◌-ℤ◌, ◌+ℤ◌, Bool, true, false, IsTrue, List, ◌++◌, length, drop, slice_index, refl, ap, sym, ◌∙◌, arith, nat_lt, of_z, w32}
 use Rattle.std.specs.Prelude.{if◌then◌else◌}
 use Rattle.std.proofs.lemmas.List.{drop-drop, get_or-drop}

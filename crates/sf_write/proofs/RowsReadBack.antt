@@ -23,7 +23,7 @@ from_zero : (rows : List Row) → BeginsFrom 0 rows
 from_zero [] = tt
 from_zero (row ∷ rows) = omega arith
 
--- they stand there
+-- the rows are where they are spelled
 spelled_stand : (arch : Arch) (rows : List Row) → RowsRise rows → All (λ (row : Row). IsTrue (content_fits arch row.content)) rows
     → IsTrue (holds_unsigned (last_start rows) (start_width rows)) → IsTrue (list_all offsets_fit rows)
     → RowsStand AnyWidth arch (rows_bytes rows) (start_width rows) 0 (0 + length (rows_bytes rows)) rows

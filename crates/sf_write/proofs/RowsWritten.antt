@@ -1,4 +1,4 @@
--- The rows of a function that are written stand, with the least widths.
+-- The rows of a function, as they are written, are rows by the standard, with the least widths.
 use Rattle.std.proofs.Common.{◌≡◌, ◌≤◌, ◌<◌, ℕ, zero, suc, ◌+◌, ◌*◌, ◌^◌, Bool, true, false, ◌&&◌, IsTrue, List, [], ◌∷◌, ◌++◌, length, take, drop, get_or, refl, ap, subst, ◌∙◌, arith, add-one, nat_lt, length-append}
 use Rattle.std.specs.Prelude.{All, if◌then◌else◌}
 use Rattle.std.specs.List.{flat_map, list_all}
@@ -75,7 +75,7 @@ last_held_tail : (width : ℕ) (row : Row) (rows : List Row) → width ≤ 2 →
 last_held_tail width row [] le h = zero_held width le
 last_held_tail width row (next ∷ rows) le h = h
 
--- a run in front of what is left at a place stands there
+-- a run in front of what is left at a place is at that place
 pub stands : (bytes : List ℕ) (place : ℕ) (run tail : List ℕ) → drop place bytes ≡ run ++ tail → StandsAt bytes place run
 stands bytes place run tail h = ap (take (length run)) h ∙ take-append_seam run tail
 
@@ -84,7 +84,7 @@ row_is_held : (row : Row) → IsTrue (offsets_fit row) → IsWidth (holds_row_of
 unfolding offsets_fit
 row_is_held row h = record { there_is = least_is_there (holds_row_offsets row.content); held = h }
 
--- consecutive rows stand, by any condition on the widths that the least meet
+-- consecutive rows are rows by the standard, by any condition on the widths that the least meet
 pub rows_stand : (MayHave : Content → ℕ → Type 0) → ((content : Content) → MayHave content (offset_width content)) → (arch : Arch) (bytes : List ℕ) (width place : ℕ) (rows : List Row) (tail : List ℕ)
     → width ≤ 2 → IsTrue (holds_unsigned (last_start rows) width) → RowsRise rows → All (λ (row : Row). IsTrue (content_fits arch row.content)) rows → IsTrue (list_all offsets_fit rows)
     → drop place bytes ≡ flat_map (narrow_row width) rows ++ tail
