@@ -108,8 +108,8 @@ fn row_shown(found: &Found) -> KiblawenRow
     }
 }
 
-/// Looks an address up. Returns whether a row holds there, and writes the function and the row to `row` then. Where
-/// none holds, as in a closed section, `row` stays as it was.
+/// Looks an address up, and returns whether a row holds there: then the function and the row are written to `row`.
+/// Where none holds, as in a closed section, `row` stays as it was.
 #[unsafe(no_mangle)]
 pub extern "C" fn kiblawen_find(section: &LentSection<'_>, pc: u64, row: &mut KiblawenRow) -> bool
     ensures found { result ≡ is_some (found_at (functions_lent section.now) pc) }

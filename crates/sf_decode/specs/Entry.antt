@@ -18,7 +18,7 @@ use Rattle.sf_decode.specs.Row.{rows_check, rows_in}
 abbrev pub flags_in : List ℕ → ℕ
 flags_in bytes = slice_index bytes 3
 
--- the machine by the preamble's abi and architecture: 3 is AMD64
+-- the machine by the preamble's abi and architecture: 3 is AMD64, any other is AArch64
 abbrev pub arch_in : List ℕ → Arch
 arch_in bytes = if slice_index bytes 4 == 3 then Amd64 else Aarch64
 

@@ -34,11 +34,11 @@ sized tables = filter has_bytes (all_located tables)
 abbrev pub compared_ranks : Rank → Rank → Ordering
 compared_ranks a b = ordering_then (nat_cmp a.start b.start) (ordering_then (nat_cmp a.item b.item) (nat_cmp a.number b.number))
 
--- a function's place in that order
+-- a function's place in the order of functions
 abbrev pub rank_of : Located → Rank
 rank_of l = record { start = l.func.start; item = l.item; number = l.number }
 
--- two functions compared by that order
+-- two functions compared by the order of functions
 abbrev pub compared : Located → Located → Ordering
 compared a b = compared_ranks (rank_of a) (rank_of b)
 
@@ -46,7 +46,7 @@ compared a b = compared_ranks (rank_of a) (rank_of b)
 abbrev pub before : Located → Located → Bool
 before a b = is_lt (compared a b)
 
--- the same functions, sorted by that order
+-- the same functions, sorted by the order of functions
 pub record InOrder (all ordered : List Located) : Type 0 where
   pub moved : IsPermutation all ordered
   pub rising : IsSorted compared ordered

@@ -36,11 +36,11 @@ mixed_fault [] = None
 mixed_fault (first ∷ later) = option_map mixed_with_first (find (is_other first.arch) (enumerate_from 0 (first ∷ later)))
 
 -- ---- limits
--- the functions of all sections together
+-- the number of functions of all sections together
 abbrev pub functions_in_all : List Table → ℕ
 functions_in_all tables = sum_by (λ (table : Table). length table.functions) tables
 
--- the rows of all sections together
+-- the number of rows of all sections together
 abbrev pub rows_in_all : List Table → ℕ
 rows_in_all tables = sum_by (λ (table : Table). row_count table.functions) tables
 
@@ -51,7 +51,7 @@ limits_fault tables =
     if nat_lt (2 ^ 24) (rows_in_all tables) then Some TooManyRows else None
 
 -- ---- overlaps
--- each function but the last, with the one after it
+-- each element but the last, with the one after it
 abbrev pub neighbours : {X : Type 0} → List X → List (X × X)
 neighbours ordered = zip ordered (drop 1 ordered)
 
@@ -76,7 +76,7 @@ overlap_fault ordered = option_map shared_by (find overlap (neighbours ordered))
 abbrev pub written : List Located → List Func
 written ordered = filter is_of_use (map (λ (l : Located). l.func) ordered)
 
--- the first function that lies too far from its start field, in a section at this address
+-- the fault of the first function that lies too far from its start field, in a section at this address
 abbrev pub reach_fault : (at : ℕ) → List Func → Option MergeFault
 reach_fault at functions = option_map OutOfReach (first_out_of_reach at 0 functions)
 

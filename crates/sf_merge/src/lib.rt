@@ -4,10 +4,10 @@
 //! address: each function that holds an address and has a row is taken over row for row, by rising start.
 //! The result of merging is one definition (`Merges` of `specs/Merging.antt`): these functions, or the first
 //! fault. The section returned is the `Tight` and `Narrow` one, by the definitions of `sf_model`, of the tables'
-//! union (`IsUnion`). A look-up finds in it what the one section had (`FindAlike`). [`join`] makes lists of
-//! functions into one list by rising start. [`in_order`] returns the functions of one section by start, and leaves
-//! their rows in the section. [`shared_entry`] finds the entry of the first one that shares an address with the one
-//! before it, with rows or without.
+//! union (`IsUnion`). At each address a look-up finds in it the row of the table that has one there (`FindAlike`).
+//! [`join`] makes lists of functions into one list by rising start. [`in_order`] returns the functions of one
+//! section by start, and leaves their rows in the section. [`shared_entry`] finds the entry of the first function
+//! that shares an address with the one before it, with rows or without.
 //!
 //! Laws: merging has one result ([`merging_comes_to_one_result`], [`merging_comes_to_a_result`]), so `merge`
 //! returns Ok exactly where the definition has no fault; sections that are merged in parts, on several machines,

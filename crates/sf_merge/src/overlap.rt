@@ -50,8 +50,8 @@ pub fn first_overlap<F: HasAddresses>(ordered: &[F]) -> Option<(&F, &F)>
     None
 }
 
-/// Finds the first two neighbours that share an address, of the functions of a section in order. Returns
-/// the place of the function descriptor entry of the later one.
+/// Returns the place of the function descriptor entry of the later of the first two neighbours that
+/// share an address, of a section's functions in order.
 pub fn shared_entry(view: &View<'_>, ordered: &SectionFunctions<'_>) -> Option<u64>
     ensures { result ≡ spec.shared_entry (section_bytes view.now) ordered.now }
 {

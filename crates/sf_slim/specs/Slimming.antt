@@ -23,7 +23,7 @@ overlap_fault bytes ordered = option_map Overlap (shared_entry bytes ordered)
 unfoldable pub slimmed : List Located → List Func
 slimmed ordered = map slim_function (filter is_live (map (λ (l : Located). l.func) ordered))
 
--- the first function that lies too far from its start field, in a section at this address
+-- the fault of the first function that lies too far from its start field, in a section at this address
 abbrev pub reach_fault : (at : ℕ) → List Func → Option SlimFault
 reach_fault at functions = option_map OutOfReach (first_out_of_reach at 0 functions)
 

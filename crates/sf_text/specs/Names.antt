@@ -98,7 +98,7 @@ module_name n =
 abbrev pub link_name : ℕ → List ℕ
 link_name n = if n == 1 then codes "MixedArch" else (if n == 2 then codes "Overlap" else codes "OutOfReach")
 
--- the faults of each group
+-- the fault with this number in its group
 abbrev pub fault_name : Group → ℕ → List ℕ
 fault_name Elf n = elf_name n
 fault_name Place n = place_name n
