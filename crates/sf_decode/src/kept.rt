@@ -50,8 +50,8 @@ impl OwnedSection {
     }
 }
 
-/// An SFrame section whose bytes the caller keeps, at its address. An open one was checked; the other state is
-/// closed. The fields lie as in C.
+/// An SFrame section whose bytes the caller keeps, at its address. It is either open, and then it was checked,
+/// or closed. The fields lie as in C.
 #[repr(C)]
 #[derive(Clone, Copy)]
 pub struct LentSection<'a> {

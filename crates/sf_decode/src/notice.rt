@@ -1,4 +1,4 @@
-//! Faults as numbers, for the line that shows them.
+//! Faults as numbers, for the line that prints them.
 
 ghost use Rattle.std.specs.Prelude.{◌≡◌, ◌∷◌, [], IsSome, IsTrue};
 ghost use Rattle.sf_model.specs.Notice.{HasLine};

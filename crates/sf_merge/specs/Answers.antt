@@ -19,8 +19,8 @@ pub record FindAlike (tables : List Table) (functions : List Func) : Type 0 wher
   pub none : (pc : ℕ) → All (λ (table : Table). found_at table.functions pc ≡ None) tables → found_at functions pc ≡ None
 
 -- These bytes are the sections merged into one at this address: there is no fault, and they are the section of the
--- union of the tables, without gaps and with the least widths. A look-up finds in it what it finds in them. It has this
--- many functions and rows.
+-- union of the tables, without gaps and with the least widths. A look-up finds in this section what it finds in the
+-- tables. It has this many functions and rows.
 pub record IsMerged (tables : List Table) (at : ℕ) (section : List ℕ) (count rows : ℕ) : Type 0 where
   pub arch : Arch
   pub functions : List Func

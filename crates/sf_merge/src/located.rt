@@ -15,8 +15,8 @@ pub struct Rank {
 pub struct Located {
     /// The function.
     pub func: Func,
-    /// The number of its section, from 0.
+    /// The number of the function's section, from 0.
     pub item: u32,
-    /// The number of its entry in the section, from 0.
+    /// The number of the function's entry in the section, from 0.
     pub number: u32,
 }

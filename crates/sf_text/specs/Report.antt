@@ -8,7 +8,7 @@ use Rattle.sf_model.specs.declared.omission.Omitted.{Omitted}
 use Rattle.sf_text.specs.Number.{hexadecimal}
 use Rattle.sf_text.specs.Names.{reason_name}
 
--- the offset at which the reason holds, where it is a row's
+-- the offset at which the reason holds, if it is a row's reason
 abbrev pub offset_text : Option ℕ → List ℕ
 offset_text None = []
 offset_text (Some offset) = codes " at " ++ decimal offset

@@ -19,12 +19,12 @@ pub struct StoredRows {
 pub struct StoredFunction {
     /// The function without its rows.
     pub head: FuncHead,
-    /// The place of its rows in the bytes.
+    /// The place of the function's rows in the bytes.
     place: usize,
-    /// How many bytes its rows are.
+    /// How many bytes the function's rows are.
     pub(crate) len: u32,
     arch: Arch,
-    /// The width of its row starts.
+    /// The width of the function's row starts.
     pub(crate) width: u8,
 }
 
