@@ -1,4 +1,4 @@
--- What a read puts behind the bytes that are there.
+-- What a read puts after the bytes that are there.
 use Rattle.std.proofs.Common.{◌≡◌, ◌≤◌, ◌+◌, ◌∙◌, ◌++◌, ◌∷◌, [], List, ℕ, take, length, refl, sym, ap, append_assoc, arith, length-append}
 use Rattle.std.proofs.lemmas.List.{take-append-le, take-take}
 use Rattle.std.proofs.Math.Seq.{take-append-add}
@@ -7,7 +7,7 @@ use Rattle.sf_base.specs.Contents.{Moves}
 front_kept : (m l : ℕ) (xs ys : List ℕ) → m ≤ length xs → m ≤ l → take m (take l (xs ++ ys)) ≡ take m xs
 front_kept m l xs ys short shorter = take-take m l (xs ++ ys) shorter ∙ take-append-le m xs ys short
 
--- the bytes that are there, and then the first n of what was read
+-- the bytes that are there, and then the first n of those that were read
 behind : (f n : ℕ) (front tail post : List ℕ) → length front ≡ f → n ≤ length tail → take (f + n) (front ++ (tail ++ post)) ≡ front ++ take n tail
 behind f n front tail post long short =
     ap (λ m. take (m + n) (front ++ (tail ++ post))) (sym long) ∙ (take-append-add front (tail ++ post) n ∙ ap (λ xs. front ++ xs) (take-append-le n tail post short))

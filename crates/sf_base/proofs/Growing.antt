@@ -1,4 +1,4 @@
--- One call after the other: what the outside held before the first is related to what it holds after the last.
+-- Consecutive calls: what the outside held before the first is related to what it holds after the last.
 use Rattle.std.proofs.Common.{◌≡◌, ◌++◌, ◌∷◌, ◌+◌, ◌-◌, ◌∙◌, ℕ, List, [], Option, Some, None, take, drop, length, refl, sym, ap, subst, append_assoc}
 use Rattle.std.proofs.lemmas.List.{take_rest}
 use Rattle.std.proofs.Math.Seq.{take-add}
@@ -11,7 +11,7 @@ pub told_same : {A : Type 0} (told : Option A) (P : A → A → Type 0) → ((a 
 told_same None P same = tt
 told_same (Some a) P same = same a
 
--- one call after the other
+-- two consecutive calls
 pub told_then : {A : Type 0} (before mid after : Option A) (P Q R : A → A → Type 0) → OnTold before mid P → OnTold mid after Q
     → ((a b c : A) → P a b → Q b c → R a c) → OnTold before after R
 told_then before mid None P Q R first second step = tt

@@ -8,7 +8,7 @@ use Rattle.std.proofs.lemmas.Bool.Decides.{nat_tests}
 use Rattle.std.proofs.lemmas.Bool.{cases_lt}
 use Rattle.sf_base.specs.Word.{spelled, digit_character, character_digit, text_digits}
 
--- the number that digits spell behind those of a number
+-- the number that digits spell after those of a number
 abbrev pub continued : ℕ → ℕ → List ℕ → ℕ
 continued base number digits = number * base ^ length digits + spelled base digits
 
@@ -44,7 +44,7 @@ less_test m n h = grind (arith, nat_tests)
 pub less_holds : (m n : ℕ) → nat_lt m n ≡ true → m < n
 less_holds m n h = grind (arith, nat_tests)
 
--- one character more
+-- one more character
 pub digits_step : (base number digit c : ℕ) (text : List ℕ) → character_digit c ≡ Some digit → digit < base
     → option_map (continued base number) (text_digits base (c ∷ text)) ≡ option_map (continued base (number * base + digit)) (text_digits base text)
 digits_step base number digit c text is below =

@@ -128,7 +128,7 @@ capped (Some n) number h =
     let less : n < 2 ^ 32 = less_holds n (2 ^ 32) c.0 in
     (c.1, omega arith)
 
--- a first digit 0 stands alone
+-- a first digit 0 is the only one
 alone : (c first : ℕ) (rest digits : List ℕ) → ((c == 48) && nat_lt 1 (suc (length rest))) ≡ false → c ≡ digit_character first → length digits ≡ length rest → (first ≢ 0) ⊎ (digits ≡ [])
 alone c (suc first) rest digits test is long = inl (λ e. absurd (omega arith))
 alone c zero rest digits test is long =
@@ -157,7 +157,7 @@ decimal_found (c ∷ rest) number h =
     let digits = mapped (spelled 10) (text_digits 10 (c ∷ rest)) number cap.0 in
     decimal_parts c rest digits.0 number two.0 (text_spelled 10 (c ∷ rest) digits.0 digits.1.0) digits.1.1 cap.1
 
--- a number below 2^32 has at most ten digits, where the first is not 0
+-- a number below 2^32 has at most ten digits, if the first is not 0
 few_digits : (first : ℕ) (digits : List ℕ) (number : ℕ) → number ≡ spelled 10 (first ∷ digits) → number < 2 ^ 32 → first ≢ 0 → length digits ≤ 9
 few_digits zero digits number value fits some = absurd (some refl)
 few_digits (suc first) digits number value fits some = ⊎_elim (λ less. omega arith)

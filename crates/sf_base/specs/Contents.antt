@@ -34,7 +34,7 @@ abbrev pub GrowsByPrefix : Option (List (List ℕ × List ℕ)) → Option (List
 GrowsByPrefix before after name bytes =
     OnTold before after (λ old new. (n : ℕ) × Changes name (contents_of old name ++ take n bytes) old new)
 
--- a read moved the first n bytes of the rest to the front of the buffer, and n is 0 at the end of the file alone
+-- a read moved the first n bytes of the rest to the front of the buffer, and n is 0 only at the end of the file
 pub record Moves (n : ℕ) (rest left buffer : List ℕ) : Type 0 where
   pub moved : rest ≡ take n buffer ++ left
   pub end : n ≡ 0 → rest ≡ []

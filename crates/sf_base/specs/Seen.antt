@@ -1,19 +1,19 @@
--- What is seen of the outside, and what calls that only read leave of it.
+-- What is observable of the outside, and what calls that only read leave of it.
 use Rattle.std.specs.Prelude.{◌≡◌, ◌≤◌, ℕ, Bool, List, Option}
 
--- What is seen of files.
+-- What is observable of files.
 pub record FilesSeen : Type 0 where
-  -- what all names hold, where it is known: pairs of a name's bytes and a file's bytes. The first pair of a name counts, and a name that is
+  -- what all names hold, if it is known: pairs of a name's bytes and a file's bytes. The first pair of a name counts, and a name that is
   -- not in the list counts as an empty file
   pub contents : Option (List (List ℕ × List ℕ))
-  -- whether a file is created, and its name, which counts only where contents are known and a file is created
+  -- whether a file is created, and its name, which counts only if contents are known and a file is created
   pub created : Bool
   pub created_name : List ℕ
   -- how many opens and reads have failed, and how many creates and writes
   pub read_faults : ℕ
   pub write_faults : ℕ
 
--- What is seen of a sink: all the bytes that were written, where they are known, and how many writes have failed.
+-- What is observable of a sink: all the bytes that were written, if they are known, and how many writes have failed.
 pub record SinkSeen : Type 0 where
   pub written : Option (List ℕ)
   pub faults : ℕ

@@ -2,7 +2,7 @@
 use Rattle.std.specs.Prelude.{◌≡◌, ◌≢◌, ◌⊎◌, ◌<◌, ◌≤◌, ◌+◌, ◌-◌, ◌*◌, ◌^◌, ◌&&◌, ℕ, List, [], ◌∷◌, map, length, ⊤, Option, not, ◌==◌, ◌||◌, slice_index, drop, Some, None, nat_lt, nat_le, if◌then◌else◌}
 use Rattle.std.specs.Option.{option_and_then, option_map}
 
--- the number that these digits spell in a base, from the greatest: each counts the base to the power of the number of those behind it
+-- the number that these digits spell in a base, from the greatest: each counts the base to the power of the number of digits after it
 abbrev pub spelled : ℕ → List ℕ → ℕ
 spelled base [] = 0
 spelled base (digit ∷ digits) = digit * base ^ length digits + spelled base digits
@@ -40,25 +40,25 @@ SpellsHexadecimal text number = (digits : List ℕ) × IsHexadecimal text number
 abbrev pub SpellsDecimal : List ℕ → ℕ → Type 0
 SpellsDecimal text number = (first : ℕ) × ((digits : List ℕ) × IsDecimal text number first digits)
 
--- the digit below 16 that a character stands for
+-- the digit below 16 that a character is
 abbrev pub character_digit : ℕ → Option ℕ
 character_digit c =
     if nat_le 48 c && nat_le c 57 then Some (c - 48) else (if nat_le 97 c && nat_le c 102 then Some (c - 87) else None)
 
--- the digits below the base that a text stands for, where each of its characters is one
+-- the digits below the base that a text consists of, if each of its characters is one
 abbrev pub text_digits : ℕ → List ℕ → Option (List ℕ)
 text_digits base [] = Some []
 text_digits base (c ∷ text) =
     option_and_then (λ digit. if nat_lt digit base then option_map (λ digits. digit ∷ digits) (text_digits base text) else None) (character_digit c)
 
--- what the word of a number in base 16 gives
+-- the number that a word in base 16 spells, or none for any other text
 unfoldable pub hexadecimal : List ℕ → Option ℕ
 hexadecimal text =
     if nat_lt (length text) 3 || nat_lt 18 (length text) then None
     else (if not (slice_index text 0 == 48) || not (slice_index text 1 == 120) then None
     else option_map (spelled 16) (text_digits 16 (drop 2 text)))
 
--- what the word of a number in decimal digits gives
+-- the number that a word in decimal digits spells, or none for any other text
 unfoldable pub decimal_number : List ℕ → Option ℕ
 decimal_number text =
     if nat_lt (length text) 1 || nat_lt 10 (length text) then None

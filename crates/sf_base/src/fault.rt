@@ -1,14 +1,14 @@
-// What every crate may run into: no memory is left, or a call of the outside failed.
+// The faults that every crate may meet: out of memory, or a failed call of the outside.
 ghost use Rattle.std.specs.Prelude.{◌≡◌, ◌≤◌};
 ghost use Rattle.sf_base.specs.Faults.{Rose, one_more};
 
 use std::alloc::{AllocError, AllocFailed};
 
-/// No memory was left for what was asked.
+/// Out of memory.
 #[derive(Clone, Copy, Debug, PartialEq, Eq)]
 pub struct NoMemory;
 
-/// A call of the outside failed. The object that was called has counted it.
+/// A call of the outside failed. The object that was called has counted the fault.
 #[derive(Clone, Copy, Debug, PartialEq, Eq)]
 pub struct Failed;
 
@@ -24,7 +24,7 @@ impl<T: Drop> From<AllocFailed<T>> for NoMemory {
     }
 }
 
-/// Counts a fault, for an object of the outside. The count stays at its last number.
+/// Counts a fault, for an object of the outside. The count stops at its greatest number.
 pub fn count_fault(faults: &mut u64)
     ensures count { faults.new ≡ one_more faults.old }
     ensures later { faults.old ≤ faults.new }

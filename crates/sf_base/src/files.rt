@@ -8,15 +8,15 @@ use crate::Failed;
 
 /// Files by name: one may be opened and read, and one created and written, at a time.
 ///
-/// An implementation may tell what its files hold, or nothing. What it says holds whether it tells or not.
+/// What the files of an implementation hold may be known, or not. Its contracts hold in either case.
 pub trait Files {
     /// What the files hold, which one is created, and how many calls have failed.
     ghost seen: { Self → FilesSeen };
 
-    /// Whether a file is opened.
+    /// Whether a file is open.
     ghost opened: { Self → Bool };
 
-    /// What is left to read of the opened file. It is read only where contents are told and a file is opened.
+    /// What is left to read of the open file. It counts only if contents are known and a file is open.
     ghost rest: { Self → List ℕ };
 
     /// Whether a name may be opened. No call changes it.
@@ -25,11 +25,11 @@ pub trait Files {
     /// Whether a name may be created. No call changes it.
     ghost may_create: { Self → List ℕ → Bool };
 
-    /// Opens a file for reading, from its start. The file that was opened before is closed.
+    /// Opens a file for reading, from its start, and closes the file that was open before.
     ///
     /// # Errors
     ///
-    /// `Failed` where the file cannot be opened, one that is missing among them. No file is opened then.
+    /// `Failed` if the file can't be opened, for example if it is missing. No file is open then.
     fn open_file(&mut self, name: &str) -> Result<(), Failed>
         requires { IsTrue (may_open self.old name.now) }
         ensures opened { opened self.new ≡ is_ok result }
@@ -40,12 +40,12 @@ pub trait Files {
         ensures cause { Cause ((seen self.old).read_faults) ((seen self.new).read_faults) result }
         ensures reads { OnlyReads (seen self.old) (seen self.new) };
 
-    /// Moves the next bytes of the opened file to the front of `buf`, and answers how many.
-    /// 0 says that the file is at its end.
+    /// Moves the next bytes of the open file to the front of `buf`, and returns how many. 0 means that the
+    /// file is at its end.
     ///
     /// # Errors
     ///
-    /// `Failed` where the read failed. No file is opened then.
+    /// `Failed` if the read failed. No file is open then.
     fn read(&mut self, buf: &mut [u8]) -> Result<usize, Failed>
         requires opened { IsTrue (opened self.old) }
         requires room { 0 < length buf.old }
@@ -58,11 +58,11 @@ pub trait Files {
         ensures cause { Cause ((seen self.old).read_faults) ((seen self.new).read_faults) result }
         ensures reads { OnlyReads (seen self.old) (seen self.new) };
 
-    /// Makes the file of this name empty, and takes it for writing. No file is opened after it.
+    /// Creates the file of this name, empty, for writing. No file is open after it.
     ///
     /// # Errors
     ///
-    /// `Failed` where the file cannot be made. No file is created then.
+    /// `Failed` if the file can't be created. No file is created then.
     fn create_file(&mut self, name: &str) -> Result<(), Failed>
         requires { IsTrue (may_create self.old name.now) }
         ensures created { (seen self.new).created ≡ is_ok result }
@@ -76,12 +76,12 @@ pub trait Files {
         ensures cause { Cause ((seen self.old).write_faults) ((seen self.new).write_faults) result }
         ensures read_faults { (seen self.new).read_faults ≡ (seen self.old).read_faults };
 
-    /// Appends the first bytes of `piece` to the created file, one or more, and answers how many.
-    /// No file is opened after it.
+    /// Appends the first bytes of `piece` to the created file, one or more, and returns how many. No file is
+    /// open after it.
     ///
     /// # Errors
     ///
-    /// `Failed` where the write failed. Nothing was appended then.
+    /// `Failed` if the write failed. Nothing was appended then.
     fn write(&mut self, piece: &[u8]) -> Result<usize, Failed>
         requires created { IsTrue ((seen self.old).created) }
         requires some { 0 < length piece.now }

@@ -11,15 +11,15 @@ use std::{fs, rt};
 /// The machine's names of what its standard output and its standard error go to.
 const STREAMS: [&str; 2] = ["/proc/self/fd/1", "/proc/self/fd/2"];
 
-/// The files of the machine, through its runtime. It tells nothing of what they hold: what the machine
-/// reads and keeps is outside what is proved.
+/// The files of the machine, through its runtime. Their contents are not known: what the machine reads and stores
+/// is outside what is proved.
 ///
-/// A regular file that standard output or standard error goes to is not created, so that no text is written
-/// over what the file is to hold. Where the machine has no `/proc`, this is not seen.
+/// A regular file that standard output or standard error goes to is not created, so that no text is written over
+/// what the file is to hold. On a machine without `/proc` this is not noticed.
 ///
-/// A write that takes a whole piece has failed where the machine can't store the file's bytes, which some file
-/// systems tell only then; the file may hold the piece. [`put_file`](crate::put_file) hands over all that is left
-/// at each write, so its last one alone waits for the machine.
+/// A write of a whole piece has failed if the machine can't store the file's bytes, which some file systems
+/// report only then; the file may hold the piece. [`put_file`](crate::put_file) passes all that is left at each
+/// write, so only its last write waits for the machine.
 #[derive(Drop)]
 pub struct HostFiles<'a, R: rt::Files> {
     runtime: &'a R,
@@ -30,7 +30,7 @@ pub struct HostFiles<'a, R: rt::Files> {
 }
 
 impl<'a, R: rt::Files> HostFiles<'a, R> {
-    /// The files of this runtime, of which none is opened or created and no fault is counted.
+    /// Wraps this runtime: no file is open or created, and no fault is counted.
     pub fn new(runtime: &'a R) -> HostFiles<'a, R>
         ensures opened { ⟦<HostFiles<'a, R> as Files>⟧.opened result ≡ false }
         ensures created { (⟦<HostFiles<'a, R> as Files>⟧.seen result).created ≡ false }
@@ -47,7 +47,7 @@ impl<'a, R: rt::Files> HostFiles<'a, R> {
     }
 }
 
-/// Whether two names are of one regular file, by its device and its number there.
+/// Returns whether two names are of one regular file, by its device and its number there.
 fn is_one_file<R: rt::Files>(runtime: &R, one: &str, other: &str) -> bool {
     match (fs::metadata(runtime, one), fs::metadata(runtime, other)) {
         (Ok(one), Ok(other)) => {
@@ -68,8 +68,8 @@ fn create<R: rt::Files>(runtime: &R, name: &str) -> Option<R::File> {
     fs::create(runtime, name).ok()
 }
 
-/// Whether the machine has stored what was written to this file. What can't be stored, as in a pipe, a terminal
-/// or a device, is not asked for.
+/// Returns whether the machine has stored what was written to this file. Bytes that can't be stored, as in a
+/// pipe, a terminal or a device, need not be.
 fn is_stored<F: OpenFile>(file: &F) -> bool {
     match file.sync_data() {
         Ok(()) => true,
@@ -130,7 +130,7 @@ impl<'a, R: rt::Files> Files for HostFiles<'a, R> {
         self.opened = None;
         if let Some(file) = &mut self.created {
             if let Ok(n) = file.write(piece) {
-                // A file that takes nothing would be asked for ever.
+                // A file that accepts no bytes would be retried for ever.
                 if n > 0 && (n < piece.len() || is_stored(file)) {
                     return Ok(n);
                 }

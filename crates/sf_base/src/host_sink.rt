@@ -5,7 +5,7 @@ use crate::fault::count_fault;
 use crate::{Failed, Sink};
 use std::io::Write;
 
-/// A stream of the machine. It tells nothing of what it was given. What the machine does with the bytes is
+/// A stream of the machine. What was written to it is not known: what the machine does with the bytes is
 /// outside what is proved.
 #[derive(Drop)]
 pub struct HostSink<W: Write + Drop> {
@@ -14,7 +14,7 @@ pub struct HostSink<W: Write + Drop> {
 }
 
 impl<W: Write + Drop> HostSink<W> {
-    /// The stream of this writer, with no fault counted.
+    /// Wraps this writer, with no fault counted.
     pub fn new(writer: W) -> HostSink<W>
         ensures writer { result.writer ≡ writer }
         ensures faults { (⟦<HostSink<W> as Sink>⟧.seen result).faults ≡ 0 }
@@ -28,7 +28,7 @@ impl<W: Write + Drop> Sink for HostSink<W> {
 
     fn write(&mut self, piece: &[u8]) -> Result<usize, Failed> {
         match self.writer.write(piece) {
-            // A stream that takes nothing would be asked for ever.
+            // A stream that accepts no bytes would be retried for ever.
             Ok(n) if n > 0 => Ok(n),
             _ => {
                 count_fault(&mut self.faults);

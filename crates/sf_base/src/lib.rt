@@ -1,18 +1,18 @@
-//! What a program of this repository has of the outside: files, sinks, and the words of its command line.
+//! The outside world as a program here sees it: files, sinks, and the words of its command line.
 //!
-//! - [`Files`] and [`Sink`] are the outside as traits. Their clauses say what each call does to what files
-//!   hold, where that is told, and that a call fails only where the object's own count of faults rose.
+//! - [`Files`] and [`Sink`] are the outside as traits. Their clauses say what each call does to the contents
+//!   of files, if those are known, and that a call fails only if the object's own count of faults rose.
 //! - [`load`] reads a whole file up to a limit; [`put_all`] and [`put_file`] write all of a text, or a prefix
-//!   of it where a write failed.
+//!   of it if a write failed.
 //! - [`hex_word`] and [`dec_word`] read the numbers of a command line.
 //! - [`HostFiles`] and [`HostSink`] are the machine's; [`count_fault`] counts a fault of an object like them.
 //!
 //! The caller owes that a name may be opened or created before it is, that a file is opened before it is read
-//! and created before it is written, and that no buffer or piece is empty. [`load`] alone allocates. It costs
+//! and created before it is written, and that no buffer or piece is empty. Only [`load`] allocates. It costs
 //! one pass over the bytes, in reads of at most 64 KiB.
 //!
-//! What the machine does with a file or a stream is outside what is proved: `HostFiles` and `HostSink` tell
-//! nothing of it.
+//! What the machine does with a file or a stream is outside what is proved: the contents of `HostFiles` and
+//! `HostSink` are not known.
 #![tactic(auto)]
 
 mod fault;

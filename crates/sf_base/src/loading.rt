@@ -1,4 +1,4 @@
-// A whole file, read into memory.
+// Reading a whole file into memory.
 ghost use Rattle.std.specs.Prelude.{◌≡◌, ◌<◌, ◌≤◌, ◌++◌, ◌+◌, ℕ, length, take, [], vec_len, IsTrue, IsErrOf, IfOk, IfSome, OnOk};
 ghost use Rattle.sf_base.specs.Contents.{contents_of};
 ghost use Rattle.sf_base.specs.declared.loading.LoadFault.TheVariants.{Read, NoMemory};
@@ -15,7 +15,7 @@ pub enum LoadFault {
     Read,
     /// The file has more bytes than this limit.
     TooLong(u64),
-    /// No memory was left for the bytes.
+    /// Memory ran out.
     NoMemory,
 }
 
@@ -50,13 +50,12 @@ const CHUNK: u64 = 1 << 16;
 // touched for the first time would interrupt.
 const FILL: usize = 1 << 10;
 
-/// The whole file of this name, where it has at most `limit` bytes. Nothing is read past the first
-/// bytes that pass the limit. Which file is opened afterwards is left open.
+/// Reads the whole file of this name, if it has at most `limit` bytes. Nothing is read past the first bytes that pass
+/// the limit. Which file is open afterwards is not specified.
 ///
 /// # Errors
 ///
-/// `Read` where a call of `files` failed, `TooLong(limit)` where the file has more than `limit` bytes, and
-/// `NoMemory`.
+/// `Read` if a call of `files` failed, `TooLong(limit)` if the file has more than `limit` bytes, and `NoMemory`.
 pub fn load<F: Files>(
     alloc: Global,
     files: &mut F,
@@ -92,7 +91,7 @@ pub fn load<F: Files>(
     }
 }
 
-// Puts zero bytes behind the bytes, up to `end` of them all.
+// Appends zero bytes, up to a length of `end`.
 fn fill_up(bytes: &mut Vec<u8>, end: usize) -> Result<(), AllocError>
     requires { vec_len bytes.old ≤ end }
     ensures len { OnOk result (vec_len bytes.new ≡ end) }
@@ -105,7 +104,7 @@ fn fill_up(bytes: &mut Vec<u8>, end: usize) -> Result<(), AllocError>
     Ok(())
 }
 
-// Reads once, for at most `room` bytes, and puts what was read behind the bytes. Answers how many.
+// Reads once, for at most `room` bytes, appends what was read, and returns how many bytes that was.
 fn read_more<F: Files>(files: &mut F, bytes: &mut Vec<u8>, room: usize) -> Result<usize, LoadFault>
     requires opened { IsTrue (F.opened files.old) }
     requires room { 0 < room }

@@ -1,4 +1,4 @@
-// Whole texts and files, written out.
+// Writing whole texts and files.
 ghost use Rattle.std.specs.Prelude.{◌≡◌, ◌==◌, false, length, OnOk, OnErr, IsTrue, if◌then◌else◌};
 ghost use Rattle.sf_base.specs.Contents.{Grows, GrowsByPrefix};
 ghost use Rattle.sf_base.specs.Written.{Appends, AppendsPrefix};
@@ -10,7 +10,7 @@ use crate::{Failed, Files, Sink};
 ///
 /// # Errors
 ///
-/// `Failed` where a write of the sink failed. A prefix of the bytes was appended then.
+/// `Failed` if a write of the sink failed. A prefix of the bytes was appended then.
 pub fn put_all<S: Sink>(sink: &mut S, bytes: &[u8]) -> Result<(), Failed>
     ensures all { OnOk result (Appends ((S.seen sink.old).written) ((S.seen sink.new).written) bytes.now) }
     ensures prefix { OnErr result (AppendsPrefix ((S.seen sink.old).written) ((S.seen sink.new).written) bytes.now) }
@@ -27,7 +27,7 @@ pub fn put_all<S: Sink>(sink: &mut S, bytes: &[u8]) -> Result<(), Failed>
 ///
 /// # Errors
 ///
-/// `Failed` where a write failed. A prefix of the bytes was appended then.
+/// `Failed` if a write failed. A prefix of the bytes was appended then.
 pub fn put_file<F: Files>(files: &mut F, bytes: &[u8]) -> Result<(), Failed>
     requires { IsTrue ((F.seen files.old).created) }
     ensures all { OnOk result (
@@ -37,7 +37,7 @@ pub fn put_file<F: Files>(files: &mut F, bytes: &[u8]) -> Result<(), Failed>
     ensures cause { Cause ((F.seen files.old).write_faults) ((F.seen files.new).write_faults) result }
     ensures created { (F.seen files.new).created ≡ (F.seen files.old).created }
     ensures created_name { (F.seen files.new).created_name ≡ (F.seen files.old).created_name }
-    // With no bytes nothing is called.
+    // With no bytes there is no call.
     ensures opened { F.opened files.new ≡ (if length bytes.now == 0 then F.opened files.old else false) }
     ensures may_open { F.may_open files.new ≡ F.may_open files.old }
     ensures may_create { F.may_create files.new ≡ F.may_create files.old }

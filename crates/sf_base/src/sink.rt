@@ -11,11 +11,11 @@ pub trait Sink {
     /// What was written, and how many writes have failed.
     ghost seen: { Self → SinkSeen };
 
-    /// Appends the first bytes of `piece`, one or more, and answers how many.
+    /// Appends the first bytes of `piece`, one or more, and returns how many.
     ///
     /// # Errors
     ///
-    /// `Failed` where the write failed. Nothing was appended then.
+    /// `Failed` if the write failed. Nothing was appended then.
     fn write(&mut self, piece: &[u8]) -> Result<usize, Failed>
         requires { 0 < length piece.now }
         ensures within { IfOk result (λ n. (1 ≤ n) × (n ≤ length piece.now)) }

@@ -3,7 +3,7 @@ ghost use Rattle.std.specs.Prelude.{◌≡◌, ◌≤◌, ℕ, IfSome, Some, len
 ghost use Rattle.std.specs.Option.{option_map};
 ghost use Rattle.sf_base.specs.Word.{SpellsHexadecimal, SpellsDecimal, character_digit, text_digits, spelled, hexadecimal, decimal_number};
 
-/// The number of a word such as `0x3000`: `0x` and 1 to 16 lower-case hexadecimal digits.
+/// Reads a hexadecimal word such as `0x3000`: `0x` and 1 to 16 lower-case hexadecimal digits. Returns
 /// `None` for every other text.
 pub fn hex_word(text: &str) -> Option<u64>
     ensures found { IfSome result (λ number. SpellsHexadecimal text.now number) }
@@ -12,7 +12,7 @@ pub fn hex_word(text: &str) -> Option<u64>
     read_hexadecimal(text.as_bytes())
 }
 
-/// The number below 2^32 of a decimal word without sign and without leading zeros, such as `0` or `64`.
+/// Reads a decimal word below 2^32, without sign and without leading zeros, such as `0` or `64`. Returns
 /// `None` for every other text.
 pub fn dec_word(text: &str) -> Option<u32>
     ensures found { IfSome result (λ number. SpellsDecimal text.now number) }
@@ -38,7 +38,7 @@ fn read_hexadecimal(text: &[u8]) -> Option<u64>
 fn read_decimal(text: &[u8]) -> Option<u32>
     ensures { result ≡ decimal_number text.now }
 {
-    // The greatest has ten digits.
+    // The greatest number has ten digits.
     if text.is_empty() || text.len() > 10 {
         return None;
     }
@@ -52,7 +52,7 @@ fn read_decimal(text: &[u8]) -> Option<u32>
     Some(number as u32)
 }
 
-// The number that the text spells in digits below the base, where each of its characters is one.
+// Returns the number that the text spells in digits below the base, if each of its characters is one.
 fn read_number(text: &[u8], base: u64) -> Option<u64>
     requires base { base ≤ 16 }
     requires short { length text.now ≤ 16 }

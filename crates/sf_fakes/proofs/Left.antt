@@ -1,4 +1,4 @@
--- What is left of an opened file, before and after a read.
+-- What is left of an open file, before and after a read.
 use Rattle.std.proofs.Common.{◌≡◌, ◌≤◌, ◌<◌, ◌+◌, ◌-◌, ◌∙◌, ◌++◌, List, ℕ, min, take, drop, ⊎_elim, length, sym, ap, arith}
 use Rattle.std.proofs.lemmas.Bool.{cases_lt}
 use Rattle.std.proofs.lemmas.List.{take_rest, take-append-drop, drop-drop}
@@ -14,7 +14,7 @@ drop_capped d xs = ⊎_elim
     ap (λ n. drop n xs) e ∙ (drop_of_length-le xs all ∙ sym (drop_of_length-le xs past)))
     (cases_lt d (length xs))
 
--- what is left, where more may have been read than there is
+-- what is left after d bytes, also where d is more than the length
 pub left_from : (d : ℕ) (xs : List ℕ) → take (length xs - min d (length xs)) (drop (min d (length xs)) xs) ≡ drop d xs
 left_from d xs = take_rest xs (min d (length xs)) ∙ drop_capped d xs
 

@@ -35,7 +35,7 @@ whole (Some k) = let e : 0 + k ≡ k = omega arith in ap (λ n. Some n) e
 pub position_is_place : (files : List Stored) (name : List ℕ) → position (λ (file : Stored). bytes_eq (string_bytes file.0) name) files ≡ place_of (pairs_of files) name
 position_is_place files name = position_from-zero (λ (file : Stored). bytes_eq (string_bytes file.0) name) files ∙ from_place files name 0 ∙ whole (place_of (pairs_of files) name)
 
--- it is the first pair, or one behind it
+-- it is the first pair, or one after it
 place_cases : (b : Bool) (found : Option ℕ) (k : ℕ) → cond b (Some 0) (option_map (λ j. suc j) found) ≡ Some k
     → ((b ≡ true) × (k ≡ 0)) ⊎ ((b ≡ false) × ((j : ℕ) × ((found ≡ Some j) × (k ≡ suc j))))
 place_cases true found k h = inl (refl, cc)
@@ -96,7 +96,7 @@ found_name (file ∷ files) name k d h =
     (λ later. rw later.1.1.1 (found_name files name later.1.0 d later.1.1.0))
     (place_cases (bytes_eq (string_bytes file.0) name) (place_of (pairs_of files) name) k h)
 
--- a name is that of the file at its place
+-- the name of the file at a place
 pub name_is : (files : List Stored) (k : ℕ) (d : Stored) → k < length files → string_bytes (get_or files k d).0 ≡ name_at (pairs_of files) k
 name_is [] k d below = absurd (omega arith)
 name_is (file ∷ files) zero d below = refl
@@ -124,7 +124,7 @@ set_there (file ∷ files) name k new h same =
     (λ later. let e : string_bytes new.0 ≡ name_at (pairs_of files) later.1.0 = rw later.1.1.1 at same in rw (later.1.1.1, later.0) (ap (λ rest. (string_bytes file.0, file.1.items) ∷ rest) (set_there files name later.1.0 new later.1.1.0 e)))
     (place_cases (bytes_eq (string_bytes file.0) name) (place_of (pairs_of files) name) k h)
 
--- a file more at the end
+-- one more file at the end
 pub pushed_there : (files : List Stored) (name : List ℕ) (new : Stored) → place_of (pairs_of files) name ≡ None → string_bytes new.0 ≡ name
     → pairs_of (files ++ new ∷ []) ≡ with_file (pairs_of files) name new.1.items
 pushed_there [] name new h same = ap (λ n. (n, new.1.items) ∷ []) same
@@ -169,7 +169,7 @@ set_same (file ∷ files) zero d new below name bytes = ap (λ pair. pair ∷ pa
 set_same (file ∷ files) (suc k) d new below name bytes =
     let smaller : k < length files = omega arith in ap (λ rest. (string_bytes file.0, file.1.items) ∷ rest) (set_same files k d new smaller name bytes)
 
--- a name that stands at a place is found
+-- a name that is at a place is found
 pub first_there : (files : List Stored) (place : ℕ) (found : Option ℕ) (name : List ℕ) → place < length files → name ≡ name_at (pairs_of files) place
     → found ≡ place_of (pairs_of files) name → place_of (pairs_of files) (name_at (pairs_of files) place) ≡ Some (unwrap_or found place)
 first_there files place None name below is found =
@@ -177,7 +177,7 @@ first_there files place None name below is found =
     absurd (name_held files place below nowhere)
 first_there files place (Some k) name below is found = rw (← is) (sym found)
 
--- bytes more at the end of the file that was found
+-- more bytes at the end of the file that was found
 pub append_there : (files : List Stored) (name : List ℕ) (first : ℕ) (piece : List ℕ) (d new : Stored) → place_of (pairs_of files) name ≡ Some first
     → string_bytes new.0 ≡ string_bytes (get_or files first d).0 → new.1.items ≡ (get_or files first d).1.items ++ piece
     → pairs_of (slice_set files first new) ≡ with_file (pairs_of files) name (contents_of (pairs_of files) name ++ piece)

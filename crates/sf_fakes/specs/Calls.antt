@@ -1,4 +1,4 @@
--- The calls of an object in memory, of which some are to fail.
+-- The calls of an object in memory, some of which are to fail.
 use Rattle.std.specs.Prelude.{◌+◌, ◌-◌, ◌^◌, ℕ, List, min, Contains}
 
 -- the number of the call that comes after these: the first is number 1

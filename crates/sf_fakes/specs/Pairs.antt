@@ -1,4 +1,4 @@
--- Files as a program has them in memory: a list of names with bytes.
+-- Files that a program has in memory: a list of names with bytes.
 use Rattle.std.specs.Prelude.{ℕ, List, [], ◌∷◌, Option, Some, None, String, Vec, Bool, false, true, ◌||◌, ◌++◌, ◌≡◌, ◌≢◌, string_bytes, if◌then◌else◌}
 use Prim.Native.Nat.{zero, suc}
 use Rattle.std.specs.Str.{bytes_eq}
@@ -16,33 +16,33 @@ abbrev pub has_name : List (List ℕ × List ℕ) → List ℕ → Bool
 has_name [] name = false
 has_name (file ∷ files) name = bytes_eq file.0 name || has_name files name
 
--- where the first pair with this name stands
+-- the place of the first pair with this name
 abbrev pub place_of : List (List ℕ × List ℕ) → List ℕ → Option ℕ
 place_of [] name = None
 place_of (file ∷ files) name = if bytes_eq file.0 name then Some 0 else option_map (λ place. suc place) (place_of files name)
 
--- the pairs where the first pair with this name has these bytes. Where there was none, it stands at the end.
+-- the pairs with these bytes in the first pair with this name, or in a new pair at the end if there was none
 abbrev pub with_file : List (List ℕ × List ℕ) → List ℕ → List ℕ → List (List ℕ × List ℕ)
 with_file [] name bytes = (name, bytes) ∷ []
 with_file (file ∷ files) name bytes = if bytes_eq file.0 name then (file.0, bytes) ∷ files else file ∷ with_file files name bytes
 
--- the name that stands at a place
+-- the name at a place
 abbrev pub name_at : List (List ℕ × List ℕ) → ℕ → List ℕ
 name_at [] place = []
 name_at (file ∷ files) zero = file.0
 name_at (file ∷ files) (suc place) = name_at files place
 
--- the bytes that stand at a place
+-- the bytes at a place
 abbrev pub bytes_at : List (List ℕ × List ℕ) → ℕ → List ℕ
 bytes_at [] place = []
 bytes_at (file ∷ files) zero = file.1
 bytes_at (file ∷ files) (suc place) = bytes_at files place
 
--- the pairs where the first file with the name at a place has these bytes more
+-- the pairs with these bytes appended to the first file with the name at a place
 abbrev pub with_more : List (List ℕ × List ℕ) → ℕ → List ℕ → List (List ℕ × List ℕ)
 with_more files place piece = with_file files (name_at files place) (contents_of files (name_at files place) ++ piece)
 
--- there is a file of this name after it, and one of each other name where there was one
+-- afterwards there is a file of this name, and one of each other name exactly if there was one before
 pub record AddsName (name : List ℕ) (old new : List (List ℕ × List ℕ)) : Type 0 where
   pub held : has_name new name ≡ true
   pub others : (other : List ℕ) → other ≢ name → has_name new other ≡ has_name old other

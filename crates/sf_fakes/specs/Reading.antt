@@ -1,9 +1,9 @@
--- What is opened and created of files in memory.
+-- The open file and the created file of files in memory.
 use Rattle.std.specs.Prelude.{ℕ, List, [], Option, Some, None, drop}
 use Rattle.sf_fakes.specs.declared.reading.Reading.{Reading}
 use Rattle.sf_fakes.specs.Pairs.{bytes_at, name_at}
 
--- what is left of the opened file
+-- what is left of the open file
 abbrev pub rest_at : List (List ℕ × List ℕ) → Option Reading → List ℕ
 rest_at files None = []
 rest_at files (Some reading) = drop reading.done (bytes_at files reading.place)

@@ -1,4 +1,4 @@
-// The calls of an object in memory, of which some are to fail.
+// The calls of an object in memory, some of which are to fail.
 ghost use Rattle.std.specs.Prelude.{◌≡◌, ◌↔◌, IsTrue};
 ghost use Rattle.sf_fakes.specs.Calls.{IsListed, next_call};
 
@@ -10,7 +10,7 @@ pub(crate) struct Calls {
 }
 
 impl Calls {
-    // No call was made yet.
+    // Creates a count of no calls.
     pub(crate) fn new(fails: Vec<u64>) -> Calls
         ensures made { result.made ≡ 0 }
         ensures fails { result.fails.items ≡ fails.items }
@@ -18,7 +18,7 @@ impl Calls {
         Calls { made: 0, fails }
     }
 
-    // Counts one call more, and says whether it is to fail.
+    // Counts one more call, and returns whether it is to fail.
     pub(crate) fn fails_next(&mut self) -> bool
         ensures made { self.new.made ≡ next_call self.old.made }
         ensures fails { self.new.fails.items ≡ self.old.fails.items }

@@ -1,7 +1,7 @@
-// The front of a file into a buffer.
+// Copying the front of a file into a buffer.
 ghost use Rattle.std.specs.Prelude.{◌≡◌, length, min, take};
 
-// Copies as many bytes as it can, up to `most`, and answers how many.
+// Copies as many bytes as it can, up to `most`, and returns how many.
 pub(crate) fn copy_front(bytes: &[u8], buf: &mut [u8], most: usize) -> usize
     ensures count { result ≡ min (min (length bytes.now) (length buf.old)) most }
     ensures copied { take result buf.new ≡ take result bytes.now }

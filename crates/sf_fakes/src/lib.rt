@@ -1,12 +1,12 @@
 //! Files and sinks in place of the machine's, for tests and for proofs about callers.
 //!
-//! - [`MemFiles`] and [`MemSink`] are in memory, known, move few bytes at a call and fail at the calls that are
-//!   listed.
-//! - [`SureFiles`] and [`SureSink`] never fail and allocate nothing; of what is written they keep the number of
-//!   bytes alone.
+//! - [`MemFiles`] and [`MemSink`] are in memory. Their contents are known; a call moves few bytes, and the
+//!   calls that are listed fail.
+//! - [`SureFiles`] and [`SureSink`] never fail and allocate nothing; they keep only the number of bytes
+//!   written.
 //!
-//! The caller owes what the traits `Files` and `Sink` of `sf_base` say, and that a call may move a byte at
-//! least. `MemFiles` and `MemSink` alone allocate. A name is found by one pass over the names.
+//! The caller owes what the traits `Files` and `Sink` of `sf_base` require, and that a call may move at least
+//! one byte. Only `MemFiles` and `MemSink` allocate. A name is found by one pass over the names.
 #![tactic(auto)]
 
 mod calls;

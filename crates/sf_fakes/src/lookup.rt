@@ -1,4 +1,4 @@
-// A file by its name, in a list of names with bytes.
+// Finding a file by its name, in a list of names with bytes.
 ghost use Rattle.std.specs.Prelude.{◌≡◌, ◌<◌, ◌≤◌, length, IfOk, IfSome, OnOk, OnErr, Some, is_some, position, string_bytes, vec_len};
 ghost use Rattle.std.specs.Str.{bytes_eq};
 ghost use Rattle.sf_base.specs.Contents.{contents_of};
@@ -13,7 +13,7 @@ fn first_named(files: &[(String, Vec<u8>)], name: &str) -> Option<usize>
     files.iter().position(|file| file.0.as_str() == name)
 }
 
-// The place of the first file with this name.
+// Returns the place of the first file with this name.
 pub(crate) fn find_file(files: &[(String, Vec<u8>)], name: &str) -> Option<usize>
     ensures place { result ≡ place_of (pairs_of files.now) name.now }
     ensures below { IfSome result (λ place. place < length files.now) }
@@ -24,7 +24,7 @@ pub(crate) fn find_file(files: &[(String, Vec<u8>)], name: &str) -> Option<usize
     first_named(files, name)
 }
 
-// The bytes of the first file with this name.
+// Returns the bytes of the first file with this name.
 pub(crate) fn find_bytes<'a>(files: &'a [(String, Vec<u8>)], name: &str) -> Option<&'a [u8]>
     ensures found { is_some result ≡ has_name (pairs_of files.now) name.now }
     ensures bytes { IfSome result (λ bytes. bytes.now ≡ contents_of (pairs_of files.now) name.now) }
@@ -33,7 +33,7 @@ pub(crate) fn find_bytes<'a>(files: &'a [(String, Vec<u8>)], name: &str) -> Opti
     Some(files[place].1.as_slice())
 }
 
-// The bytes of the first file with this name, of which there are none where there is no such file.
+// Returns the bytes of the first file with this name, or no bytes if there is no such file.
 pub(crate) fn bytes_of<'a>(files: &'a [(String, Vec<u8>)], name: &str) -> &'a [u8]
     ensures { result.now ≡ contents_of (pairs_of files.now) name.now }
 {
@@ -43,7 +43,7 @@ pub(crate) fn bytes_of<'a>(files: &'a [(String, Vec<u8>)], name: &str) -> &'a [u
     }
 }
 
-// Gives the first file with this name these bytes. Where there is none it comes at the end. Answers its place.
+// Gives the first file with this name these bytes, or adds it at the end if there is none. Returns its place.
 pub(crate) fn set_file(
     alloc: Global,
     files: &mut Vec<(String, Vec<u8>)>,
@@ -66,7 +66,7 @@ pub(crate) fn set_file(
     Ok(files.len() - 1)
 }
 
-// The place of the first file with the name that stands at this place.
+// Returns the place of the first file with the name of the file at this place.
 fn first_like(files: &[(String, Vec<u8>)], place: usize) -> usize
     requires { place < length files.now }
     ensures first { place_of (pairs_of files.now) (name_at (pairs_of files.now) place) ≡ Some result }
@@ -76,7 +76,7 @@ fn first_like(files: &[(String, Vec<u8>)], place: usize) -> usize
     find_file(files, name).unwrap_or(place)
 }
 
-// Appends the bytes to the first file with the name that stands at this place.
+// Appends the bytes to the first file with the name of the file at this place.
 fn append_to(files: &mut [(String, Vec<u8>)], place: usize, piece: &[u8]) -> Result<(), NoMemory>
     requires { place < length files.old }
     ensures ok { OnOk result (pairs_of files.new ≡ with_more (pairs_of files.old) place piece.now) }
@@ -87,7 +87,8 @@ fn append_to(files: &mut [(String, Vec<u8>)], place: usize, piece: &[u8]) -> Res
     Ok(())
 }
 
-// The same in a list that is kept. Each name stays at its place.
+// Appends the bytes to the first file of a vector with the name of the file at this place. Each name stays at
+// its place.
 pub(crate) fn append_file(
     files: &mut Vec<(String, Vec<u8>)>,
     place: usize,

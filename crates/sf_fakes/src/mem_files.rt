@@ -13,8 +13,8 @@ use crate::reading::{Reading, read_at};
 use sf_base::{Failed, Files, NoMemory, count_fault};
 use std::alloc::Global;
 
-/// Files that are kept in memory, and told. One read or write moves as many bytes as it can, up to a number
-/// that is set, and calls fail at the numbers that are listed.
+/// Files in memory, with known contents. One read or write moves as many bytes as it can, up to a set
+/// number, and the calls whose numbers are listed fail.
 #[derive(Drop)]
 pub struct MemFiles {
     alloc: Global,
@@ -31,8 +31,8 @@ pub struct MemFiles {
 }
 
 impl MemFiles {
-    /// No files, of which a read or a write moves at most `most` bytes. The calls of all four methods are
-    /// counted together from 1, and those with a number in `fails` are to fail.
+    /// Creates an empty list of files. A read or a write moves at most `most` bytes. The calls of all four
+    /// methods are counted together from 1, and those with a number in `fails` are to fail.
     pub fn new(alloc: Global, most: usize, fails: Vec<u64>) -> MemFiles
         requires { 0 < most }
         ensures contents { (⟦<MemFiles as Files>⟧.seen result).contents ≡ Some [] }
@@ -56,7 +56,7 @@ impl MemFiles {
         }
     }
 
-    /// Gives the file of this name these bytes. A file that was opened is closed.
+    /// Gives the file of this name these bytes, and closes the file that was open.
     ///
     /// # Errors
     ///
@@ -82,7 +82,7 @@ impl MemFiles {
         Ok(())
     }
 
-    /// The bytes of the file of this name. `None` exactly where there is no such file.
+    /// Returns the bytes of the file of this name, or `None` if and only if there is no such file.
     pub fn get(&self, name: &str) -> Option<&[u8]>
         ensures found { is_some result ≡ has_name (pairs_of self.now.files.items) name.now }
         ensures bytes { IfSome result (λ bytes.
@@ -104,7 +104,7 @@ impl Files for MemFiles {
     ghost may_create = { λ _ _. true };
 
     fn open_file(&mut self, name: &str) -> Result<(), Failed>
-        // It fails at a listed call and for a name that isn't there, and at no other.
+        // The call fails if it is listed or if the name isn't there, and in no other case.
         ensures failed { IsErr result ↔ (IsListed self.old.calls.fails.items self.old.calls.made
             ⊎ (has_name (pairs_of self.old.files.items) name.now ≡ false)) }
         ensures opened { is_some self.new.opened ≡ is_ok result }
@@ -133,7 +133,7 @@ impl Files for MemFiles {
     fn read(&mut self, buf: &mut [u8]) -> Result<usize, Failed>
         requires opened { IsTrue (is_some self.old.opened) }
         requires room { 0 < length buf.old }
-        // It fails at a listed call, and at no other.
+        // The call fails if it is listed, and in no other case.
         ensures failed { IsErr result ↔ IsListed self.old.calls.fails.items self.old.calls.made }
         ensures count { IfOk result (λ n. n ≡ min (min
             (length (rest_at (pairs_of self.old.files.items) self.old.opened)) (length buf.old)) self.old.most) }
@@ -167,7 +167,7 @@ impl Files for MemFiles {
     }
 
     fn create_file(&mut self, name: &str) -> Result<(), Failed>
-        // It fails at a listed call, and where memory is refused.
+        // The call fails if it is listed, and if memory runs out.
         ensures failed { IsListed self.old.calls.fails.items self.old.calls.made → IsErr result }
         ensures created { is_some self.new.created ≡ is_ok result }
         ensures created_name { OnOk result (
@@ -202,7 +202,7 @@ impl Files for MemFiles {
     fn write(&mut self, piece: &[u8]) -> Result<usize, Failed>
         requires created { IsTrue (is_some self.old.created) }
         requires some { 0 < length piece.now }
-        // It fails at a listed call, and where memory is refused.
+        // The call fails if it is listed, and if memory runs out.
         ensures failed { IsListed self.old.calls.fails.items self.old.calls.made → IsErr result }
         ensures count { IfOk result (λ n. n ≡ min (length piece.now) self.old.most) }
         ensures within { IfOk result (λ n. (1 ≤ n) × (n ≤ length piece.now)) }

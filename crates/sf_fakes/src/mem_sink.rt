@@ -7,8 +7,8 @@ use crate::calls::Calls;
 use sf_base::{Failed, Sink, count_fault};
 use std::alloc::Global;
 
-/// A sink that keeps its bytes in memory, and tells them. One write takes no more than a number of bytes
-/// that is set, and writes fail at the calls that are listed.
+/// A sink that keeps its bytes in memory, where they are known. One write accepts at most a set number of
+/// bytes, and the writes that are listed fail.
 #[derive(Drop)]
 pub struct MemSink {
     bytes: Vec<u8>,
@@ -19,8 +19,8 @@ pub struct MemSink {
 }
 
 impl MemSink {
-    /// A sink with nothing written, of which a write takes at most `most` bytes. The writes with a number in
-    /// `fails` are to fail; the first write is number 1.
+    /// Creates an empty sink. A write accepts at most `most` bytes. The writes with a number in `fails` are
+    /// to fail; the first write is number 1.
     pub fn new(alloc: Global, most: usize, fails: Vec<u64>) -> MemSink
         requires { 0 < most }
         ensures written { (⟦<MemSink as Sink>⟧.seen result).written ≡ Some [] }
@@ -37,7 +37,7 @@ impl MemSink {
         }
     }
 
-    /// All the bytes that were written.
+    /// Returns all the bytes that were written.
     pub fn bytes(&self) -> &[u8]
         ensures { (⟦<MemSink as Sink>⟧.seen self.now).written ≡ Some result.now }
     {

@@ -1,17 +1,17 @@
-// An opened file in memory.
+// An open file in memory.
 ghost use Rattle.std.specs.Prelude.{◌≡◌, ◌+◌, ◌<◌, ◌^◌, length, drop, min, take};
 ghost use Rattle.sf_fakes.specs.Pairs.{pairs_of, bytes_at};
 
 use crate::copying::copy_front;
 
-// Where the file stands in the list, and how many of its bytes were read.
+// The file's place in the list, and how many of its bytes were read.
 #[derive(Clone, Copy)]
 pub(crate) struct Reading {
     pub place: usize,
     pub done: usize,
 }
 
-// Copies as many bytes of what is left as it can, up to `most`, and answers how many.
+// Copies as many bytes of what is left as it can, up to `most`, and returns how many.
 pub(crate) fn read_at(
     files: &[(String, Vec<u8>)],
     place: usize,

@@ -9,8 +9,8 @@ use crate::copying::copy_front;
 use crate::lookup::bytes_of;
 use sf_base::{Failed, Files};
 
-/// Files that are read from a lent list, and of whose written bytes the number alone is kept. They never fail,
-/// and allocate nothing. A name that is not in the list is that of an empty file. What they hold is told until
+/// Files that are read from a lent list; of what is written only the number of bytes is kept. They never fail,
+/// and allocate nothing. A name that is not in the list is that of an empty file. The contents are known until
 /// a file is created, and not after.
 #[derive(Drop)]
 pub struct SureFiles<'a> {
@@ -21,7 +21,7 @@ pub struct SureFiles<'a> {
 }
 
 impl<'a> SureFiles<'a> {
-    /// The files of this list, of which the first pair with a name counts. None is opened or created.
+    /// Wraps this list of files, in which the first pair with a name counts. None is open or created.
     pub fn new(names: &'a [(String, Vec<u8>)]) -> SureFiles<'a>
         ensures contents { (⟦<SureFiles<'a> as Files>⟧.seen result).contents ≡ Some (pairs_of names.now) }
         ensures created { (⟦<SureFiles<'a> as Files>⟧.seen result).created ≡ false }
@@ -36,7 +36,7 @@ impl<'a> SureFiles<'a> {
         }
     }
 
-    /// How many bytes were written. It stands still at `u64::MAX`.
+    /// Returns how many bytes were written. The count stops at `u64::MAX`.
     pub fn count(&self) -> u64
         ensures { result ≡ self.now.count }
     {

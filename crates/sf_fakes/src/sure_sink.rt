@@ -3,21 +3,22 @@ ghost use Rattle.std.specs.Prelude.{◌≡◌, ◌+◌, ◌-◌, ◌^◌, min, l
 
 use sf_base::{Failed, Sink};
 
-/// A sink that keeps the number of its bytes alone. It tells none of them, allocates nothing and never fails.
+/// A sink that keeps only the number of its bytes. The bytes are not known; it allocates nothing and never
+/// fails.
 #[derive(Clone, Copy, PartialEq, Eq)]
 pub struct SureSink {
     count: u64,
 }
 
 impl SureSink {
-    /// A sink with nothing written.
+    /// Creates an empty sink.
     pub fn new() -> SureSink
         ensures { result.count ≡ 0 }
     {
         SureSink { count: 0 }
     }
 
-    /// How many bytes were written. It stands still at `u64::MAX`.
+    /// Returns how many bytes were written. The count stops at `u64::MAX`.
     pub fn count(&self) -> u64
         ensures { result ≡ self.now.count }
     {

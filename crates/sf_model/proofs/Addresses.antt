@@ -1,10 +1,10 @@
--- How the address that a signed number of bytes leads to is computed.
+-- The address that a signed number of bytes leads to.
 use Rattle.std.proofs.Common.{◌≡◌, ℕ, ◌+◌, ◌-◌, ◌<◌, ◌%◌, ◌^◌, w32, w64, ℤ, pos, FitsSigned, of_z, refl, ap, arith}
 use Rattle.std.proofs.Math.Nat.{mod-eq_of_lt}
 use Rattle.std.specs.Prelude.{suc, negsuc}
 use Rattle.sf_model.specs.Recovery.{moved}
 
--- a number of 32 bits is one of 64
+-- a number below 2^31 is one below 2^64
 below : (n : ℕ) → n < 2 ^ 31 → n < 2 ^ 64
 below n low = omega arith
 

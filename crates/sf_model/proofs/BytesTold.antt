@@ -1,4 +1,4 @@
--- What numbers at places, and runs that stand, tell of the bytes there.
+-- What numbers at places and runs at places determine of the bytes there.
 use Rattle.std.proofs.Common.{◌≡◌, ℕ, ◌+◌, ◌-◌, ◌*◌, ◌<◌, ◌≤◌, ℤ, pos, ◌+ℤ◌, ◌-ℤ◌, Bool, true, false, List, [], ◌∷◌, length, refl, ap, sym, ◌∙◌, arith, nat_lt, slice_index}
 use Rattle.std.specs.Prelude.{zero, suc, take, drop, if◌then◌else◌}
 use Rattle.std.proofs.lemmas.List.{get_or-take, get_or-drop}
@@ -28,7 +28,7 @@ at_one a b i x k le lt = let e : i ≡ k = omega (le, lt, arith) in ap (slice_in
 digits : (x y u v : ℕ) → x < 256 → y < 256 → x + 256 * u ≡ y + 256 * v → (x ≡ y) × (u ≡ v)
 digits x y u v p q e = (omega arith, omega arith)
 
--- a number at a place tells its bytes
+-- a number at a place determines its bytes
 pub number_told : (n i : ℕ) (a b : List ℕ) → AreBytes a → AreBytes b → little_from i n a ≡ little_from i n b → SameWithin a b i (i + n)
 number_told zero i a b p q e = λ k le lt. absurd (omega (le, lt, arith))
 number_told (suc n) i a b p q e =
@@ -42,11 +42,11 @@ standing bytes place run s k le lt =
     ap (slice_index bytes) there ∙ (sym (get_or-drop place bytes (k - place) 0) ∙ (sym (get_or-take (length run) (drop place bytes) (k - place) 0 within)
     ∙ ap (λ l. slice_index l (k - place)) s))
 
--- a run that stands at a place tells the bytes there
+-- a run at a place determines the bytes there
 pub run_told : (a b : List ℕ) (place : ℕ) (run : List ℕ) → StandsAt a place run → StandsAt b place run → SameWithin a b place (place + length run)
 run_told a b place run s t k le lt = standing a place run s k le lt ∙ sym (standing b place run t k le lt)
 
--- all bytes tell the list
+-- all bytes determine the list
 pub list_told : (a b : List ℕ) → length a ≡ length b → SameWithin a b 0 (length a) → a ≡ b
 list_told [] [] n s = refl
 list_told [] (y ∷ ys) n s = absurd (omega (n, arith))
@@ -56,7 +56,7 @@ list_told (x ∷ xs) (y ∷ ys) n s =
     let n' : length xs ≡ length ys = omega (n, arith) in
     ap (λ v. v ∷ xs) here ∙ ap (λ l. y ∷ l) (list_told xs ys n' (λ k le lt. s (suc k) (omega arith) (omega (lt, arith))))
 
--- a part that was cut out tells the bytes of the whole
+-- a part that was taken out determines those bytes of the whole
 pub part_told : (a b : List ℕ) (place len m : ℕ) → len ≡ m → SameWithin (take len (drop place a)) (take m (drop place b)) 0 len → SameWithin a b place (place + len)
 part_told a b place len m e s k le lt =
     let within : k - place < len = omega (le, lt, arith) in
@@ -75,7 +75,7 @@ lifted x y e = ap (λ z. z +ℤ pos 4294967296) e ∙ -ℤ-+ℤ_cancel y (pos 42
 too_great : (x y : ℕ) → y < 4294967296 → pos x +ℤ pos 4294967296 ≡ pos y → ⊥
 too_great x y v e = let f : x + 4294967296 ≡ y = same_number (x + 4294967296) y e in absurd (omega (f, v, arith))
 
--- a signed number of four bytes tells its number
+-- a signed number of four bytes determines its number
 signed_by : (x y : ℕ) (s t : Bool) → nat_lt x 2147483648 ≡ s → nat_lt y 2147483648 ≡ t → x < 4294967296 → y < 4294967296
     → (if s then pos x else pos x -ℤ pos 4294967296) ≡ (if t then pos y else pos y -ℤ pos 4294967296) → x ≡ y
 signed_by x y true true p q u v e = same_number x y e

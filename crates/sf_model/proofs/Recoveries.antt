@@ -69,7 +69,7 @@ bits_apart (negsuc m) (negsuc n) p q e = far_apart_both m n p.sfits q.sfits e
 bases_apart : (y z : ℤ) → FitsSigned w32 y → FitsSigned w32 z → moved 0 y ≡ moved (2 ^ 40) z → ⊥
 bases_apart y z p q e = bits_apart y z p q (moved_by 0 y p ∙ (e ∙ sym (moved_by (2 ^ 40) z q)))
 
--- the canonical frame address decides the base and its offset
+-- the canonical frame address determines the base and its offset
 frames_same : (b c : Base) (y z : ℤ) → FitsSigned w32 y → FitsSigned w32 z
     → moved (base_value b deciding_registers) y ≡ moved (base_value c deciding_registers) z → (b ≡ c) × (y ≡ z)
 frames_same Fp Fp y z p q e = (refl, moved_same (2 ^ 40) y z p q e)

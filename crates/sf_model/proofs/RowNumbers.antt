@@ -1,4 +1,4 @@
--- What the bytes of a row tell: its start, its info byte and its offsets.
+-- What the bytes of a row determine: its start, its info byte and its offsets.
 use Rattle.std.proofs.Common.{◌≡◌, ℕ, ◌+◌, ◌*◌, ◌<◌, ◌≤◌, ◌/◌, ◌%◌, ◌^◌, w32, ℤ, pos, true, IsTrue, List, ◌++◌, of_z, ap, sym, ◌∙◌, arith, nat_lt}
 use Rattle.std.specs.Prelude.{zero, suc, negsuc}
 use Rattle.byteorder.specs.Numbers.{little_from-bytes, little_number-reads_back}
@@ -9,7 +9,7 @@ use Rattle.sf_model.specs.Width.{holds_unsigned, holds_signed, unsigned_bytes, s
 pub below_if : (m n : ℕ) → nat_lt m n ≡ true → m < n
 below_if m n e = search arith
 
--- two numbers from 0 that stand in front of the same bytes
+-- two numbers from 0 that are in front of the same bytes
 pub unsigned_same : (w m n : ℕ) (t u : List ℕ) → w ≤ 2 → IsTrue (holds_unsigned m w) → IsTrue (holds_unsigned n w)
     → unsigned_bytes w m ++ t ≡ unsigned_bytes w n ++ u → m ≡ n
 unsigned_same zero m n t u k p q e =
@@ -49,7 +49,7 @@ whole x m = ap (λ y. y % m) (by_one x)
 reads_as : (len : ℕ) (z : ℤ) (t : List ℕ) → little_from 0 len (little_bytes len (of_z w32 z) ++ t) ≡ of_z w32 z % 256 ^ len
 reads_as len z t = little_from-bytes len 0 (of_z w32 z) t ∙ whole (of_z w32 z) (256 ^ len)
 
--- two signed numbers that stand in front of the same bytes
+-- two signed numbers that are in front of the same bytes
 pub signed_same : (w : ℕ) (y z : ℤ) (t u : List ℕ) → w ≤ 2 → IsTrue (holds_signed y w) → IsTrue (holds_signed z w)
     → signed_bytes w y ++ t ≡ signed_bytes w z ++ u → y ≡ z
 signed_same zero y z t u k p q e = in_one y z p q (sym (reads_as 1 y t) ∙ (ap (little_from 0 1) e ∙ reads_as 1 z u))

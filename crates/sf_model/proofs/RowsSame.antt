@@ -1,4 +1,4 @@
--- The bytes of a function's rows tell the rows, where the start width and the number of rows are known.
+-- The bytes of a function's rows determine the rows, if the start width and the number of rows are known.
 use Rattle.std.proofs.Common.{◌≡◌, ℕ, ◌+◌, ◌≤◌, ℤ, Bool, true, false, IsTrue, List, [], ◌∷◌, ◌++◌, length, refl, ap, sym, ◌∙◌, arith}
 use Rattle.std.specs.Prelude.{◌&&◌, Option, Some, None, drop, option_to_list, is_none}
 use Rattle.std.specs.List.{flat_map, list_all}
@@ -38,7 +38,7 @@ second_of : (a b : Bool) → IsTrue (a && b) → IsTrue b
 second_of true b e = e
 second_of false b e = absurd (not_true e)
 
--- as many offsets of one width in front of the same bytes
+-- equally many offsets of one width in front of the same bytes
 offsets_same : (w : ℕ) (xs ys : List ℤ) (t u : List ℕ) → w ≤ 2 → IsTrue (list_all (λ z. holds_signed z w) xs) → IsTrue (list_all (λ z. holds_signed z w) ys)
     → length xs ≡ length ys → flat_map (signed_bytes w) xs ++ t ≡ flat_map (signed_bytes w) ys ++ u → xs ≡ ys
 offsets_same w [] [] t u k p q n e = refl
@@ -58,7 +58,7 @@ offsets_same w (x ∷ xs) (y ∷ ys) t u k p q n e =
     ap (λ v. v ∷ xs) same ∙ ap (λ l. y ∷ l) (offsets_same w xs ys t u k
     (second_of (holds_signed x w) (list_all (λ z. holds_signed z w) xs) p) (second_of (holds_signed y w) (list_all (λ z. holds_signed z w) ys) q) n' later)
 
--- the offsets of a machine's row tell where its return address and its frame pointer are
+-- the offsets of a machine's row determine where its return address and its frame pointer are
 pointer_told : (x y : Option ℤ) → option_to_list x ≡ option_to_list y → x ≡ y
 pointer_told None None e = refl
 pointer_told None (Some n) e = absurd (no_cons n [] e)
@@ -125,7 +125,7 @@ row_of start content = record { start = start; content = content }
 row_by_fields : (x y : Row) → x.start ≡ y.start → x.content ≡ y.content → x ≡ y
 row_by_fields x y p q = ap (λ s. row_of s x.content) p ∙ ap (λ c. row_of y.start c) q
 
--- what stands at a place is in front there
+-- a run at a place is in front of what follows the place
 in_front : (bytes : List ℕ) (place : ℕ) (run : List ℕ) → StandsAt bytes place run → drop place bytes ≡ run ++ drop (length run) (drop place bytes)
 in_front bytes place run s = sym (take-append-drop (length run) (drop place bytes)) ∙ ap (λ l. l ++ drop (length run) (drop place bytes)) s
 
@@ -164,7 +164,7 @@ row_same arch rows w z v p q x y place a b =
     a.fits b.fits a.start_width_fits b.start_width_fits a.offset_width_fits b.offset_width_fits
     (sym (in_front rows p (spelled_row w z x) a.spelled) ∙ (ap (λ n. drop n rows) place ∙ in_front rows q (spelled_row w v y) b.spelled))
 
--- as many rows from one place on
+-- equally many rows from one place on
 pub rows_same : (arch : Arch) (rows : List ℕ) (w p q k l : ℕ) (xs ys : List Row) → p ≡ q → length xs ≡ length ys
     → RowsStand AnyWidth arch rows w p k xs → RowsStand AnyWidth arch rows w q l ys → xs ≡ ys
 rows_same arch rows w p q k l [] [] place n a b = refl

@@ -1,4 +1,4 @@
--- The bytes of a section tell its table.
+-- The bytes of a section determine its table.
 use Rattle.std.proofs.Common.{◌≡◌, ℕ, ◌+◌, ◌*◌, pos, List, [], ◌∷◌, length, refl, ap, sym, subst, ◌∙◌, arith}
 use Rattle.std.specs.Prelude.{slice_index}
 use Rattle.sf_model.specs.declared.machine.Arch.{Arch}
@@ -53,7 +53,7 @@ function_same arch bytes origin place f g a b p q =
     (sym a.row_count ∙ b.row_count) p.1 q.1 in
     func_by_fields f g (same_number f.start g.start (a.start ∙ sym b.start)) (sym a.size ∙ b.size) info.0 (key_told f.key g.key info.1) rows
 
--- as many entries from one place on
+-- equally many entries from one place on
 functions_same : (arch : Arch) (bytes : List ℕ) (flags at place : ℕ) (fs gs : List Func) → length fs ≡ length gs
     → FunctionsStand arch bytes flags at place fs → FunctionsStand arch bytes flags at place gs → fs ≡ gs
 functions_same arch bytes flags at place [] [] n a b = refl

@@ -30,7 +30,7 @@ least_by holds z v false false e f p q l m = let a : v ≤ z = not_below z v e i
 least_same : (holds : ℕ → Bool) (z v : ℕ) → IsTrue (holds z) → IsTrue (holds v) → NoneLess holds z → NoneLess holds v → z ≡ v
 least_same holds z v p q l m = least_by holds z v (nat_lt z v) (nat_lt v z) refl refl p q l m
 
--- a width that there is holds 0
+-- each of the three widths holds 0
 pub zero_held : (w : ℕ) → w ≤ 2 → IsTrue (holds_unsigned 0 w)
 zero_held zero k = refl
 zero_held (suc zero) k = refl
@@ -43,7 +43,7 @@ last_held MayHave arch rows w place end [] k a = zero_held w k
 last_held MayHave arch rows w place end (x ∷ []) k a = a.2.start_width_fits.held
 last_held MayHave arch rows w place end (x ∷ y ∷ ys) k a = last_held MayHave arch rows w (place + length (spelled_row w a.0 x)) end (y ∷ ys) k a.3
 
--- rows that stand in one place end in one place
+-- the same rows at one place end at one place
 ends_same : (P Q : Content → ℕ → Type 0) (arch : Arch) (rows : List ℕ) (w p q k l : ℕ) (xs : List Row) → p ≡ q
     → RowsStand P arch rows w p k xs → RowsStand Q arch rows w q l xs → k ≡ l
 ends_same P Q arch rows w p q k l [] place a b = sym a ∙ (place ∙ b)
@@ -53,7 +53,7 @@ ends_same P Q arch rows w p q k l (x ∷ xs) place a b =
     ap (λ m. m + length (spelled_row w a.0 x)) place ∙ ap (λ z. q + length (spelled_row w z x)) same in
     ends_same P Q arch rows w (p + length (spelled_row w a.0 x)) (q + length (spelled_row w b.0 x)) k l xs next a.3 b.3
 
--- rows with the least widths tell their bytes
+-- rows with the least widths determine their bytes
 pub record RowsTold (a b : List ℕ) (low high high' : ℕ) : Type 0 where
   pub ends : high ≡ high'
   pub upward : low ≤ high
@@ -76,7 +76,7 @@ rows_told arch a b w v p q k l (x ∷ xs) width place s t =
       same = join a b p (p + length (spelled_row w s.0 x)) k (run_told a b p (spelled_row w s.0 x) s.2.spelled there) later.same;
     }
 
--- the two parts of a byte tell it
+-- the two parts of a byte determine it
 byte_told : (x y : ℕ) → x % 16 ≡ y % 16 → x / 16 ≡ y / 16 → x ≡ y
 byte_told x y p q = omega arith
 
@@ -100,7 +100,7 @@ entry_joined a b place s t u v w x y =
     let six = onward a b place (suc (place + 17)) (place + 18) (place + 18 + 2) (omega arith) five y in
     λ k le lt. six k le (omega (lt, arith))
 
--- an entry tells its bytes
+-- an entry determines its bytes
 entry_told : (arch : Arch) (a b : List ℕ) (origin place : ℕ) (f : Func) → AreBytes a → AreBytes b → EntryStands arch a origin place f → EntryStands arch b origin place f
     → row_offset_at a place ≡ row_offset_at b place → start_width_at a place ≡ start_width_at b place
     → IsZeroIfPlain f.shape (slice_index a (place + 17)) → IsZeroIfPlain f.shape (slice_index b (place + 17))
@@ -117,7 +117,7 @@ entry_told arch a b origin place f p q s t offset width r u padding =
     let last : SameWithin a b (place + 18) (place + 18 + 2) = number_told 2 (place + 18) a b p q padding in
     entry_joined a b place start size rows count info repeat last
 
--- entries and rows without gaps, with the least widths, tell their bytes
+-- entries and rows without gaps, with the least widths, determine their bytes
 record FunctionsTold (a b : List ℕ) (place count offset : ℕ) : Type 0 where
   entries : SameWithin a b place (place + 20 * count)
   lens : rows_len a ≡ rows_len b
@@ -158,7 +158,7 @@ functions_told arch a b flags at place o u (f ∷ fs) p q e s t g h m n =
       rows = λ k le lt. all k (omega (first, le, arith)) lt;
     }
 
--- headers of one table that tell the same of their layout
+-- headers of one table that agree on their layout
 header_told : (a b : List ℕ) (at : ℕ) (t : Table) → AreBytes a → AreBytes b → Tight a at t → Tight b at t → rows_len a ≡ rows_len b → SameWithin a b 0 28
 header_told a b at t p q x y lens =
     let one = number_told 2 0 a b p q (x.section.header.magic ∙ sym y.section.header.magic) in

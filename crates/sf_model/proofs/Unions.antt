@@ -1,4 +1,4 @@
--- What a union of tables has at an address is what the one table has that has something there.
+-- What a union of tables has at an address is what the one table has that has a row there.
 use Rattle.std.specs.Prelude.{nat_le, nat_lt, ◌⊎◌}
 use Rattle.std.specs.List.{filter, find, Contains, AllPairs}
 use Rattle.std.specs.List.Sorted.{IsPermutation}

@@ -90,7 +90,7 @@ amd64_registers sp fp = record { sp = sp; fp = fp; lr = 0 }
 abbrev frame : ℕ → Option ℕ → Frame
 frame pc cfa = record { pc = pc; cfa = cfa }
 
--- a caller is asked for at the address before the one that it returns to
+-- a caller is looked up at the address before its return address
 walked_outside : section_walk (pushing ∷ []) (record { pc = 0x1004; regs = amd64_registers 0x6ff0 0x7000; mask = None }) stack 64
     ≡ record { frames = frame 0x1004 (Some 0x7010) ∷ frame 0x1005 (Some 0x7020) ∷ frame 0 None ∷ []; stop = Outside 0xffffffffffffffff }
 unfolding section_walk walk_by frames_from recover_by_rows recovery moved read_eight found_at row_at

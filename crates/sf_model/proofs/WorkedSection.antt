@@ -1,4 +1,4 @@
--- A worked section: the bytes at 0x3000 that say what one function of four rows is, without gaps and with the least widths.
+-- A worked section: the bytes at 0x3000 that describe one function of four rows, without gaps and with the least widths.
 use Rattle.std.proofs.Common.{refl, ◌≡◌, ◌≤◌, ◌+◌, ℕ, Bool, true, List, [], ◌∷◌, arith}
 use Rattle.std.specs.Prelude.{zero, suc}
 use Rattle.std.specs.List.{AllAdjacentBelow}
@@ -46,7 +46,7 @@ least_zero holds smaller lt = absurd (omega arith)
 zero_is_width : (holds : ℕ → Bool) → holds 0 ≡ true → IsWidth holds 0
 zero_is_width holds held = record { there_is = omega arith; held = held }
 
--- the four rows stand, by any condition on the widths that 0 meets
+-- the four rows are in place, under any condition on the widths that 0 meets
 rows_stand : (MayHave : Content → ℕ → Type 0) → ((content : Content) → MayHave content 0)
     → RowsStand MayHave Amd64 (row_bytes_of bytes) 0 0 15 pushing_rows
 unfolding spelled_row

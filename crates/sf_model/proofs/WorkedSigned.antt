@@ -1,4 +1,4 @@
--- A worked section of AArch64: the bytes at 0x3000 that say what one function of five rows is, without gaps and with the least
+-- A worked section of AArch64: the bytes at 0x3000 that describe one function of five rows, without gaps and with the least
 -- widths. It signs its return address with key B.
 use Rattle.std.proofs.Common.{refl, ◌≡◌, ◌≤◌, ◌+◌, ℕ, Bool, true, List, [], ◌∷◌, arith}
 use Rattle.std.specs.Prelude.{zero, suc}
@@ -47,7 +47,7 @@ least_zero holds smaller lt = absurd (omega arith)
 zero_is_width : (holds : ℕ → Bool) → holds 0 ≡ true → IsWidth holds 0
 zero_is_width holds held = record { there_is = omega arith; held = held }
 
--- the five rows stand, by any condition on the widths that 0 meets
+-- the five rows are in place, under any condition on the widths that 0 meets
 rows_stand : (MayHave : Content → ℕ → Type 0) → ((content : Content) → MayHave content 0)
     → RowsStand MayHave Aarch64 (row_bytes_of bytes) 0 0 17 signing_rows
 unfolding spelled_row

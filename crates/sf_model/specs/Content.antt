@@ -7,7 +7,7 @@ use Rattle.sf_model.specs.declared.content.Ra.{Ra}
 use Rattle.sf_model.specs.declared.content.Ra.TheVariants.{Fixed, Link, At}
 use Rattle.sf_model.specs.declared.content.Content.{Content}
 
--- the return address of this machine's rows, with a frame pointer saved beside it or not, signed or not
+-- whether this is a return address of this machine's rows, with a frame pointer saved beside it or not, signed or not
 abbrev pub return_fits : Arch → Ra → (fp_is_free signed : Bool) → Bool
 return_fits Amd64 Fixed fp_is_free signed = not signed
 return_fits Amd64 Link fp_is_free signed = false
@@ -27,12 +27,12 @@ ReturnInRange Fixed = ⊤
 ReturnInRange Link = ⊤
 ReturnInRange (At offset) = FitsSigned w32 offset
 
--- the frame pointer's offset is one
+-- the frame pointer's offset is a number of 32 signed bits
 abbrev pub PointerInRange : Option ℤ → Type 0
 PointerInRange None = ⊤
 PointerInRange (Some offset) = FitsSigned w32 offset
 
--- all offsets are
+-- all offsets are numbers of 32 signed bits
 pub record OffsetsInRange (content : Content) : Type 0 where
   pub frame_address : FitsSigned w32 content.cfa
   pub return_address : ReturnInRange content.ra

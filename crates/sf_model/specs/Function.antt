@@ -1,4 +1,4 @@
--- GNU SFrame specification, Version 2: what the functions of one section are, as a writer takes them.
+-- GNU SFrame specification, Version 2: the functions of one section, as a writer takes them.
 use Rattle.std.specs.Prelude.{◌+◌, ◌^◌, ◌<◌, ◌≤◌, Bool, true, false, not, ◌==◌, List, length, IsTrue, All, sum_by}
 use Rattle.std.specs.List.{AllAdjacentBelow}
 use Rattle.sf_model.specs.declared.machine.Arch.{Arch}
@@ -17,7 +17,7 @@ key_fits Amd64 A = true
 key_fits Amd64 B = false
 key_fits Aarch64 key = true
 
--- a repeat size is not 0
+-- the repeat size of a function of repeated blocks is not 0
 abbrev pub shape_fits : Shape → Bool
 shape_fits Plain = true
 shape_fits (Repeat n) = not (n == 0)
@@ -36,8 +36,8 @@ pub record IsWritable (arch : Arch) (f : Func) : Type 0 where
   pub key : IsTrue (key_fits arch f.key)
   pub shape : IsTrue (shape_fits f.shape)
 
--- functions that one section can hold in this order: each ends where the next starts, or before, and there are at most
--- 2^21 of them with at most 2^24 rows together
+-- functions that one section can hold in this order: each ends at the start of the next or before it, and there are at
+-- most 2^21 of them with at most 2^24 rows together
 pub record AreWritable (arch : Arch) (functions : List Func) : Type 0 where
   pub each : All (IsWritable arch) functions
   pub apart : AllAdjacentBelow (λ (f : Func) (g : Func). f.start + f.size ≤ g.start) functions (length functions)

@@ -16,12 +16,13 @@ pub record FoundRow : Type 0 where
 abbrev pub contains : (pc : ℕ) → Func → Bool
 contains pc f = nat_le f.start pc && nat_lt pc (f.start + f.size)
 
--- the offset that a function's rows speak of: itself, or in a function of repeated blocks the offset in its block
+-- the offset by which a function's rows are looked up: the offset itself, or in a function of repeated blocks the offset
+-- in its block
 abbrev pub offset_in_block : Shape → (offset : ℕ) → ℕ
 offset_in_block Plain offset = offset
 offset_in_block (Repeat size) offset = offset % size
 
--- the row begins at the offset or before
+-- the row begins at or before the offset
 abbrev pub begins_by : (offset : ℕ) → Row → Bool
 begins_by offset row = nat_le row.start offset
 
@@ -29,7 +30,7 @@ begins_by offset row = nat_le row.start offset
 abbrev pub begins_last : List Row → Row → Bool
 begins_last rows row = list_all (λ (other : Row). nat_le other.start row.start) rows
 
--- of the rows that begin at the offset or before, the one with the greatest start
+-- of the rows that begin at or before the offset, the one with the greatest start
 unfoldable pub row_at : (offset : ℕ) → List Row → Option Row
 row_at offset rows = let begun = filter (begins_by offset) rows in find (begins_last begun) begun
 
@@ -42,6 +43,6 @@ abbrev pub row_in_first : (pc : ℕ) → Option Func → Option FoundRow
 row_in_first pc (Some f) = row_in pc f
 row_in_first pc None = None
 
--- what a section's functions have at an address: the first function that contains it decides
+-- the row that a section's functions have at an address: the first function that contains it decides
 unfoldable pub found_at : List Func → (pc : ℕ) → Option FoundRow
 found_at functions pc = row_in_first pc (find (contains pc) functions)

@@ -18,8 +18,8 @@ holds_eight address region = nat_le region.start address && nat_le (address + 8)
 abbrev pub eight_bytes : (address : ℕ) → Region → ℕ
 eight_bytes address region = little_number 8 (drop (address - region.start) region.bytes)
 
--- the number in the eight bytes from an address on, by the first region that holds them all; none where no region does, or
--- where they would pass the end of the addresses
+-- the number in the eight bytes from an address on, by the first region that holds them all; none if no region does or if
+-- they would pass the end of the addresses
 unfoldable pub read_eight : List Region → (address : ℕ) → Option ℕ
 read_eight memory address =
     if nat_le (address + 8) (2 ^ 64) then option_map (eight_bytes address) (find (holds_eight address) memory) else None

@@ -9,7 +9,7 @@ use Rattle.sf_model.specs.declared.notice.Notice.{Notice}
 abbrev pub up_to : ℕ → ℕ → Bool
 up_to last number = nat_le 1 number && nat_le number last
 
--- how many values the line of a group's fault of this number shows, none where it has no line
+-- how many values the line of a group's fault of this number shows, or none if it has no line
 abbrev pub values_shown : Group → ℕ → Option ℕ
 values_shown Elf number = if up_to 12 number then Some 1 else None
 values_shown Place number = if up_to 3 number then Some 1 else None
@@ -39,7 +39,7 @@ shows_item Core = true
 shows_item Module = true
 shows_item Link = false
 
--- the notice has a line: its group has the number, with as many values, and it has an item where the line shows one
+-- the notice has a line: its group has the number, with this many values, and it has an item if the line shows one
 pub record HasLine (notice : Notice) : Type 0 where
   pub values : values_shown notice.group notice.number ≡ Some (array_vec_len notice.values)
   pub item : IsTrue (shows_item notice.group) → IsTrue (is_some notice.item)

@@ -1,6 +1,6 @@
 -- GNU SFrame specification, Version 2, frame row entries: the caller's frame that a row recovers. The canonical frame address
--- is a register's value and an offset; a value that is saved lies in eight bytes at an offset from that address. All addresses
--- are taken modulo 2^64.
+-- is a register's value plus an offset; a saved value is in the eight bytes at an offset from that address. All addresses are
+-- taken modulo 2^64.
 use Rattle.std.specs.Prelude.{◌+◌, ◌-◌, ◌%◌, ◌^◌, ℕ, ℤ, pos, negsuc, Bool, true, false, List, Option, Some, None}
 use Rattle.sf_model.specs.declared.machine.Base.{Base}
 use Rattle.sf_model.specs.declared.machine.Base.TheVariants.{Fp, Sp}
@@ -29,10 +29,10 @@ pub record Recovery : Type 0 where
   pub return_address : Value
   pub frame_pointer : Value
   pub stack_pointer : ℕ
-  -- the key that signed the return address, none where it is unsigned
+  -- the key that signed the return address, or none if it is unsigned
   pub signed : Option Key
 
--- the value that is saved at an address, by what is read there
+-- the value that is saved at an address, given what is read there
 abbrev pub saved_value : (address : ℕ) → Option ℕ → Value
 saved_value address (Some value) = Known value
 saved_value address None = Unreadable address
@@ -41,7 +41,7 @@ saved_value address None = Unreadable address
 abbrev pub saved_at : List Region → (address : ℕ) → Value
 saved_at memory address = saved_value address (read_eight memory address)
 
--- the present value of the register that the canonical frame address counts from
+-- the present value of the register that is the base of the canonical frame address
 abbrev pub base_value : Base → Regs → ℕ
 base_value Fp regs = regs.fp
 base_value Sp regs = regs.sp
@@ -50,7 +50,7 @@ base_value Sp regs = regs.sp
 abbrev pub frame_address_of : Content → Regs → ℕ
 frame_address_of content regs = moved (base_value content.base regs) content.cfa
 
--- where the return address is saved: at the fixed offset -8 or at the row's own; none where it is in the link register
+-- where the return address is saved: at the fixed offset -8 or at the row's own; none if it is in the link register
 abbrev pub return_place : Ra → (frame_address : ℕ) → Option ℕ
 return_place Fixed frame_address = Some (moved frame_address (negsuc 7))
 return_place Link frame_address = None
@@ -66,7 +66,7 @@ abbrev pub saved_or_kept : List Region → (present : ℕ) → (place : Option �
 saved_or_kept memory present (Some place) = saved_at memory place
 saved_or_kept memory present None = Known present
 
--- the key of a return address that is signed
+-- the key, if the return address is signed
 abbrev pub key_if_signed : (signed : Bool) → Key → Option Key
 key_if_signed true key = Some key
 key_if_signed false key = None
@@ -82,15 +82,15 @@ recovery content key regs memory = let frame_address = frame_address_of content 
   signed = key_if_signed content.signed key;
 }
 
--- a value, where it is known
+-- a value, if it is known
 abbrev pub known : Value → Option ℕ
 known (Known value) = Some value
 known (Unreadable address) = None
 
--- the same without the addresses of what can't be read
+-- what is recovered, without the addresses of what can't be read
 abbrev pub recovered : Recovery → Recovered
 recovered r = record { cfa = r.frame_address; ra = known r.return_address; fp = known r.frame_pointer; signed = r.signed }
 
--- the registers of the one case that tells all contents apart, with a memory that holds nothing
+-- the registers of the one case that distinguishes all contents, with an empty memory
 abbrev pub deciding_registers : Regs
 deciding_registers = record { sp = 0; fp = 2 ^ 40; lr = 0 }

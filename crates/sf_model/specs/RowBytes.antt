@@ -9,7 +9,7 @@ use Rattle.sf_model.specs.declared.content.Content.{Content}
 use Rattle.sf_model.specs.declared.rows.Row.{Row}
 use Rattle.sf_model.specs.Width.{holds_signed, signed_bytes, unsigned_bytes}
 
--- the return address's offset, where the row has one
+-- the return address's offset, if the row has one
 abbrev pub return_offset : Ra → List ℤ
 return_offset Fixed = []
 return_offset Link = []
@@ -45,6 +45,6 @@ spelled_row start_width offset_width row =
     unsigned_bytes start_width row.start
     ++ (row_info_byte offset_width row.content ∷ flat_map (signed_bytes offset_width) (row_offsets row.content))
 
--- a run of bytes stands at a place
+-- a run of bytes is at a place
 abbrev pub StandsAt : List ℕ → (place : ℕ) → (run : List ℕ) → Type 0
 StandsAt bytes place run = take (length run) (drop place bytes) ≡ run

@@ -1,6 +1,5 @@
--- GNU SFrame specification, Version 2, with Errata 1 (the flag 0x4): when bytes at an address are a section that says what a
--- table does. The numbers of the header and of the function descriptor entries are those at their places; the frame row
--- entries are spelled.
+-- GNU SFrame specification, Version 2, with Errata 1 (the flag 0x4): when bytes at an address are a section with the content of a table.
+-- The numbers of the header and of the function descriptor entries are those at their places; the frame row entries are spelled.
 use Rattle.std.specs.Prelude.{◌≡◌, ◌+◌, ◌*◌, ◌/◌, ◌%◌, ◌^◌, ◌<◌, ◌≤◌, ◌+ℤ◌, ℕ, pos, Bool, IsTrue, ◌==◌, List, [], ◌∷◌, length, take, drop, slice_index, if◌then◌else◌, ⊤}
 use Rattle.std.specs.List.{AllAdjacentBelow}
 use Rattle.byteorder.specs.Endian.{little_from, twos_complement}
@@ -23,12 +22,11 @@ use Rattle.sf_model.specs.Table.{Table, row_count}
 abbrev pub AreBytes : List ℕ → Type 0
 AreBytes bytes = (k : ℕ) → slice_index bytes k < 256
 
--- the little-endian number in so many bytes at a place
+-- the little-endian number in `len` bytes at a place
 abbrev pub number_in : (len place : ℕ) → List ℕ → ℕ
 number_in len place bytes = little_from place len bytes
 
--- The header's numbers (struct sframe_header).
--- sfh_auxhdr_len
+-- sfh_auxhdr_len, a number of the header (struct sframe_header), as are the next three
 abbrev pub auxiliary_len : List ℕ → ℕ
 auxiliary_len bytes = slice_index bytes 7
 
@@ -44,7 +42,7 @@ functions_offset bytes = number_in 4 20 bytes
 abbrev pub rows_offset : List ℕ → ℕ
 rows_offset bytes = number_in 4 24 bytes
 
--- where the header and the auxiliary header end, from where both sub-sections are counted
+-- where the header and the auxiliary header end, from which the offsets of both sub-sections count
 abbrev pub header_end : List ℕ → ℕ
 header_end bytes = 28 + auxiliary_len bytes
 
@@ -88,7 +86,7 @@ pub record IsHeader (bytes : List ℕ) (table : Table) : Type 0 where
   pub functions_within : functions_place bytes + 20 * length table.functions ≤ length bytes
   pub rows_within : rows_place bytes + rows_len bytes ≤ length bytes
 
--- the flag 0x1, SFRAME_F_FDE_SORTED: the functions stand by rising start
+-- the flag 0x1, SFRAME_F_FDE_SORTED: the functions are sorted by rising start
 abbrev pub is_sorted : (flags : ℕ) → Bool
 is_sorted flags = flags % 2 == 1
 
@@ -100,8 +98,8 @@ counts_from_field flags = flags / 4 % 2 == 1
 abbrev pub start_origin : (flags at place : ℕ) → ℕ
 start_origin flags at place = if counts_from_field flags then at + place else at
 
--- The numbers of a function descriptor entry at a place (struct sframe_func_desc_entry).
--- the FRE type, the low four bits of sfde_func_info: 0, 1 and 2 for ADDR1, ADDR2 and ADDR4
+-- the FRE type, the low four bits of sfde_func_info: 0, 1 and 2 for ADDR1, ADDR2 and ADDR4. It is a number of a function descriptor entry
+-- at a place (struct sframe_func_desc_entry), as are the next three.
 abbrev pub start_width_at : List ℕ → (place : ℕ) → ℕ
 start_width_at bytes place = slice_index bytes (place + 16) % 16
 
@@ -114,7 +112,7 @@ abbrev pub shape_number : Shape → ℕ
 shape_number Plain = 0
 shape_number (Repeat size) = 1
 
--- pauth_key, bit 5 of it: the key of signed return addresses
+-- pauth_key, bit 5 of sfde_func_info: the key of signed return addresses
 abbrev pub key_number : Key → ℕ
 key_number A = 0
 key_number B = 1
@@ -124,25 +122,25 @@ abbrev pub IsRepeatSize : Shape → (byte : ℕ) → Type 0
 IsRepeatSize Plain byte = ⊤
 IsRepeatSize (Repeat size) byte = (byte ≡ size) × (0 < size)
 
--- A row stands at a place of the sub-section of rows, by the start width of its function and a width of its own.
+-- A row is at a place of the sub-section of rows, with the start width of its function and a width of its own.
 pub record RowStands (arch : Arch) (rows : List ℕ) (start_width offset_width place : ℕ) (row : Row) : Type 0 where
   pub fits : IsTrue (content_fits arch row.content)
   pub start_width_fits : IsWidth (holds_unsigned row.start) start_width
   pub offset_width_fits : IsWidth (holds_row_offsets row.content) offset_width
   pub spelled : StandsAt rows place (spelled_row start_width offset_width row)
 
--- These rows stand one after the other from a place up to an end, each by a width of its own that may be chosen so.
+-- These rows are consecutive from a place up to an end, each with an offset width that it may have.
 abbrev pub RowsStand : (MayHave : Content → (offset_width : ℕ) → Type 0) → Arch → (rows : List ℕ) → (start_width place end : ℕ) → List Row → Type 0
 RowsStand MayHave arch rows start_width place end [] = place ≡ end
 RowsStand MayHave arch rows start_width place end (row ∷ later) =
     (offset_width : ℕ) × MayHave row.content offset_width × RowStands arch rows start_width offset_width place row
     × RowsStand MayHave arch rows start_width (place + length (spelled_row start_width offset_width row)) end later
 
--- any width of the row's own
+-- a row may have any offset width
 abbrev pub AnyWidth : Content → (offset_width : ℕ) → Type 0
 AnyWidth content offset_width = ⊤
 
--- The function descriptor entry of 20 bytes at a place says this of a function, apart from its rows: sfde_func_start_address,
+-- The function descriptor entry of 20 bytes at a place describes this function, apart from its rows: sfde_func_start_address,
 -- sfde_func_size, sfde_func_num_fres, sfde_func_info and sfde_func_rep_size.
 pub record EntryStands (arch : Arch) (bytes : List ℕ) (origin place : ℕ) (f : Func) : Type 0 where
   pub start : pos f.start ≡ pos origin +ℤ twos_complement 4 (number_in 4 place bytes)
@@ -156,19 +154,19 @@ pub record EntryStands (arch : Arch) (bytes : List ℕ) (origin place : ℕ) (f 
   pub key : IsTrue (key_fits arch f.key)
   pub rows_rise : RowsRise f.rows
 
--- the function's rows stand in the sub-section of rows, from where its entry says
+-- the function's rows are in the sub-section of rows, from the offset in its entry on
 abbrev pub FunctionRowsStand : Arch → List ℕ → (place : ℕ) → Func → Type 0
 FunctionRowsStand arch bytes place f =
     (end : ℕ) × RowsStand AnyWidth arch (row_bytes_of bytes) (start_width_at bytes place) (row_offset_at bytes place) end f.rows
 
--- the functions stand in entries one after the other from a place on
+-- the functions' entries are consecutive from a place on
 abbrev pub FunctionsStand : Arch → List ℕ → (flags at place : ℕ) → List Func → Type 0
 FunctionsStand arch bytes flags at place [] = ⊤
 FunctionsStand arch bytes flags at place (f ∷ later) =
     EntryStands arch bytes (start_origin flags at place) place f × FunctionRowsStand arch bytes place f
     × FunctionsStand arch bytes flags at (place + 20) later
 
--- the bytes at this address are a section that says what the table does
+-- the bytes at this address are a section with this table's content
 pub record Section (bytes : List ℕ) (at : ℕ) (table : Table) : Type 0 where
   pub header : IsHeader bytes table
   pub functions : FunctionsStand table.arch bytes table.flags at (functions_place bytes) table.functions

@@ -1,4 +1,4 @@
--- GNU SFrame specification, Version 2: what a section says, apart from its bytes.
+-- GNU SFrame specification, Version 2: the content of a section, apart from its bytes.
 use Rattle.std.specs.Prelude.{ℕ, List, length, sum_by}
 use Rattle.sf_model.specs.declared.machine.Arch.{Arch}
 use Rattle.sf_model.specs.declared.function.Func.{Func}

@@ -16,7 +16,7 @@ abbrev pub IsZeroIfPlain : Shape → (byte : ℕ) → Type 0
 IsZeroIfPlain Plain byte = byte ≡ 0
 IsZeroIfPlain (Repeat size) byte = ⊤
 
--- Each function's rows begin where those of the function before end, the first at this offset, and the last end with the
+-- Each function's rows begin where those of the previous function end, the first at this offset, and the last end with the
 -- sub-section of rows. Padding and the repeat size of a plain function are 0.
 abbrev pub WithoutGaps : Arch → List ℕ → (place offset : ℕ) → List Func → Type 0
 WithoutGaps arch bytes place offset [] = offset ≡ rows_len bytes
@@ -26,7 +26,7 @@ WithoutGaps arch bytes place offset (f ∷ later) =
     × WithoutGaps arch bytes (place + 20) end later)
 
 -- A section whose functions are sorted and whose starts count from their own fields, without an auxiliary header: the header,
--- the entries and the rows stand one after the other, and nothing stands besides.
+-- the entries and the rows are consecutive, and there is nothing else.
 pub record Tight (bytes : List ℕ) (at : ℕ) (table : Table) : Type 0 where
   pub section : Section bytes at table
   pub flags : table.flags ≡ 5

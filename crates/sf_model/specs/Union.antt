@@ -6,7 +6,7 @@ use Rattle.sf_model.specs.declared.machine.Arch.{Arch}
 use Rattle.sf_model.specs.declared.function.Func.{Func}
 use Rattle.sf_model.specs.Table.{Table}
 
--- the function holds an address, and a row for some of them
+-- the function's size is not 0, and it has a row
 abbrev pub is_of_use : Func → Bool
 is_of_use f = nat_lt 0 f.size && nat_lt 0 (length f.rows)
 
@@ -14,12 +14,12 @@ is_of_use f = nat_lt 0 f.size && nat_lt 0 (length f.rows)
 abbrev pub all_functions : List Table → List Func
 all_functions tables = flat_map (λ (table : Table). table.functions) tables
 
--- a function of nonzero size ends where another one begins, or before
+-- the two functions share no address: one of them has size 0, or one ends at or before the start of the other
 abbrev pub IsApart : Func → Func → Type 0
 IsApart f g = (f.size ≡ 0) ⊎ (g.size ≡ 0) ⊎ (f.start + f.size ≤ g.start) ⊎ (g.start + g.size ≤ f.start)
 
--- These are the functions of the tables that are of use, by rising start and unchanged, where the tables have this one
--- architecture and no two of their functions share an address, those that are of no use among them.
+-- These are the functions of use of the tables, by rising start and unchanged; the tables have this one architecture, and no
+-- two of their functions share an address, not even functions of no use.
 pub record IsUnion (arch : Arch) (tables : List Table) (functions : List Func) : Type 0 where
   pub one_machine : All (λ (table : Table). table.arch ≡ arch) tables
   pub apart : AllPairs IsApart (all_functions tables)

@@ -13,7 +13,7 @@ use Rattle.sf_model.specs.Memory.{Region}
 use Rattle.sf_model.specs.Recovery.{Recovery, Value, Known, moved, recovery}
 use Rattle.sf_model.specs.Lookup.{FoundRow, found_at}
 
--- a thread as it was stopped; the mask has the bits of a return address that hold its signature, where they are known
+-- a stopped thread; the mask has the bits of a return address that hold its signature, if they are known
 pub record ThreadState : Type 0 where
   pub pc : ℕ
   pub regs : Regs
@@ -24,47 +24,47 @@ pub record Listing : Type 0 where
   pub frames : List Frame
   pub stop : Stop
 
--- a listing after one frame more
+-- a listing with one more frame in front
 abbrev pub behind : Frame → Listing → Listing
 behind frame listing = record { frames = frame ∷ listing.frames; stop = listing.stop }
 
--- no frame more
+-- a listing that stops, with no more frames
 abbrev pub stopped : Stop → Listing
 stopped stop = record { frames = []; stop = stop }
 
--- a return address without its signature: as it is where it is unsigned, and with the bits of the thread's mask cleared where
--- it is signed; none where it is signed and the thread has no mask
+-- a return address without its signature: unchanged if it is unsigned, and with the bits of the thread's mask cleared if it
+-- is signed; none if it is signed and the thread has no mask
 abbrev pub unsigned_address : (signed : Option Key) → (mask : Option ℕ) → ℕ → Option ℕ
 unsigned_address None mask address = Some address
 unsigned_address (Some key) None address = None
 unsigned_address (Some key) (Some mask) address = Some (bit_and address (bit_not w64 mask))
 
--- how a walk goes on from a program counter and registers
+-- how a walk continues from a program counter and registers
 abbrev pub Going : Type 0
 Going = (pc : ℕ) → Regs → Listing
 
--- on to the caller, whose return address is known with its signature and without it
+-- continues at the caller, whose return address is known with its signature and without it
 abbrev pub on_by_address : Going → (stack_pointer frame_pointer return_address : ℕ) → (unsigned : Option ℕ) → Listing
 on_by_address go stack_pointer frame_pointer return_address (Some pc) = go pc (record { sp = stack_pointer; fp = frame_pointer; lr = return_address })
 on_by_address go stack_pointer frame_pointer return_address None = stopped (Signed return_address)
 
--- on to the caller, whose return address is known; the frame pointer is the next to be read
+-- continues at the caller, whose return address is known; the frame pointer is read next
 abbrev pub on_by_pointer : Going → (mask : Option ℕ) → Recovery → (return_address : ℕ) → (frame_pointer : Value) → Listing
 on_by_pointer go mask r return_address (Known frame_pointer) =
     on_by_address go r.stack_pointer frame_pointer return_address (unsigned_address r.signed mask return_address)
 on_by_pointer go mask r return_address (Value.Unreadable address) = stopped (Unreadable address)
 
--- on to the caller; the return address is the first to be read
+-- continues at the caller; the return address is read first
 abbrev pub on_by : Going → (mask : Option ℕ) → Recovery → (return_address : Value) → Listing
 on_by go mask r (Known return_address) = on_by_pointer go mask r return_address r.frame_pointer
 on_by go mask r (Value.Unreadable address) = stopped (Unreadable address)
 
--- a frame, by what is recovered at the asked address, and the walk after it
+-- a frame, by what is recovered at the address that is looked up, and the walk after it
 abbrev pub frame_by : Going → (mask : Option ℕ) → (asked pc : ℕ) → Option Recovery → Listing
 frame_by go mask asked pc (Some r) = behind (record { pc = pc; cfa = Some r.frame_address }) (on_by go mask r r.return_address)
 frame_by go mask asked pc None = behind (record { pc = pc; cfa = None }) (stopped (Outside asked))
 
--- What is recovered at an asked address, with the registers of the frame.
+-- What is recovered at an address that is looked up, with the registers of the frame.
 abbrev pub Recovering : Type 0
 Recovering = (asked : ℕ) → Regs → Option Recovery
 
@@ -72,14 +72,14 @@ Recovering = (asked : ℕ) → Regs → Option Recovery
 abbrev pub address_before : ℕ → ℕ
 address_before pc = moved pc (negsuc 0)
 
--- a frame of the walk and all after it, at most as many as the depth says: a caller is asked for at the address before the
--- one that it returns to
+-- a frame of the walk and all after it, at most as many as the depth: a caller is looked up at the address before its return
+-- address
 unfoldable pub frames_from : Recovering → (mask : Option ℕ) → (depth asked pc : ℕ) → Regs → Listing
 frames_from recover_at mask zero asked pc regs = stopped Depth
 frames_from recover_at mask (suc depth) asked pc regs =
     frame_by (λ next. frames_from recover_at mask depth (address_before next) next) mask asked pc (recover_at asked regs)
 
--- the walk of a thread, whose own frame is asked for at its program counter
+-- the walk of a thread, whose own frame is looked up at its program counter
 unfoldable pub walk_by : Recovering → ThreadState → (depth : ℕ) → Listing
 walk_by recover_at thread depth = frames_from recover_at thread.mask depth thread.pc thread.pc thread.regs
 

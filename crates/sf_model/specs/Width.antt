@@ -8,11 +8,11 @@ use Rattle.byteorder.specs.Endian.{little_bytes}
 abbrev pub width_len : (width : ℕ) → ℕ
 width_len width = 2 ^ width
 
--- a number from 0 lies in the unsigned bytes of a width
+-- a number from 0 fits the unsigned bytes of a width
 abbrev pub holds_unsigned : ℕ → (width : ℕ) → Bool
 holds_unsigned n width = nat_lt n (2 ^ (8 * width_len width))
 
--- a number lies in the signed bytes of a width: n or -(n + 1), with n below half of what they tell apart
+-- a number fits the signed bytes of a width: n or -(n + 1), with n below half the number of values of those bytes
 abbrev pub holds_signed : ℤ → (width : ℕ) → Bool
 holds_signed (pos n) width = nat_lt n (2 ^ (8 * width_len width - 1))
 holds_signed (negsuc n) width = nat_lt n (2 ^ (8 * width_len width - 1))
@@ -25,11 +25,11 @@ unsigned_bytes width n = little_bytes (width_len width) n
 abbrev pub signed_bytes : (width : ℕ) → ℤ → List ℕ
 signed_bytes width z = little_bytes (width_len width) (cast_unsigned w32 z)
 
--- a width that there is, and that holds what is asked of it
+-- a width from 0 to 2 that holds what it is asked to hold
 pub record IsWidth (holds : ℕ → Bool) (width : ℕ) : Type 0 where
   pub there_is : width ≤ 2
   pub held : IsTrue (holds width)
 
--- no smaller width holds what is asked of it
+-- no smaller width holds what it is asked to hold
 abbrev pub NoneLess : (holds : ℕ → Bool) → (width : ℕ) → Type 0
 NoneLess holds width = (smaller : ℕ) → smaller < width → holds smaller ≡ false

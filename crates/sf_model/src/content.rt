@@ -1,4 +1,4 @@
-//! What one row says of the caller's frame (SFrame Version 2, frame row entries).
+//! The content of one row: how the caller's frame is recovered (SFrame Version 2, frame row entries).
 
 ghost use Rattle.std.specs.Prelude.{◌≡◌};
 ghost use Rattle.sf_model.specs.Content.{content_fits};
@@ -21,19 +21,19 @@ pub enum Ra {
 pub struct Content {
     /// The register that the canonical frame address counts from.
     pub base: Base,
-    /// The canonical frame address's offset from it, in bytes.
+    /// The canonical frame address's offset from the base register, in bytes.
     pub cfa: i32,
     /// Where the return address is.
     pub ra: Ra,
-    /// The saved frame pointer's offset from the canonical frame address, or none where it isn't saved.
+    /// The saved frame pointer's offset from the canonical frame address, or none if it isn't saved.
     pub fp: Option<i32>,
     /// Whether the return address is signed, on AArch64.
     pub signed: bool,
 }
 
-/// Whether a row of this machine can have this content: on AMD64 the return address is fixed and
-/// unsigned; on AArch64 it is in the link register or saved, and a saved frame pointer needs a saved
-/// return address.
+/// Returns whether a row of this machine can have this content. On AMD64 the return address is fixed and
+/// unsigned; on AArch64 it is in the link register or saved, and a saved frame pointer needs a saved return
+/// address.
 pub fn fits(arch: Arch, content: &Content) -> bool
     ensures { result ≡ content_fits arch content.now }
 {

@@ -11,7 +11,7 @@ pub struct FdeFacts {
     pub size: u64,
     /// The return column of its common information entry.
     pub column: u64,
-    /// Whether its augmentation has the letter `S`: a signal frame.
+    /// Whether its augmentation has the letter `S`: the frame is a signal frame.
     pub signal: bool,
     /// The key of its signed return addresses.
     pub key: Key,

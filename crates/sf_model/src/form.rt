@@ -1,4 +1,4 @@
-//! What is linked.
+//! The inputs to link.
 
 use crate::machine::Arch;
 
@@ -7,6 +7,6 @@ use crate::machine::Arch;
 pub enum Form {
     /// An ELF file (ELF64 gABI): an object, a program or a shared object.
     Elf,
-    /// A bare `.eh_frame` section of this machine (LSB Core), as it lies in a linked program.
+    /// A bare `.eh_frame` section of this machine (LSB Core), as in a linked program.
     Bare(Arch),
 }

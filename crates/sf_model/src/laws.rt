@@ -1,4 +1,4 @@
-//! Laws over the definitions: functions that do nothing, for their contracts.
+//! Laws over the definitions: functions that do nothing, and are there for their contracts.
 
 ghost use Rattle.std.specs.Prelude.{◌≡◌, ℕ, IsTrue, List, [], FitsSigned};
 ghost use Rattle.std.specs.Int.{w32};
@@ -11,8 +11,8 @@ ghost use Rattle.sf_model.specs.Tight.{Narrow, Tight};
 use crate::content::{Content, Ra};
 use crate::machine::{Arch, Key};
 
-/// Two contents of one machine that recover alike are equal, and so are their keys where the return
-/// address is signed. One case decides it: no memory, and registers that are far apart.
+/// States that two contents of one machine that recover alike are equal, and so are their keys if the
+/// return address is signed. One case decides it: no memory, and registers that are far apart.
 pub fn equal_recoveries_mean_equal_contents(
     arch: Arch,
     first: Content,
@@ -34,33 +34,33 @@ pub fn equal_recoveries_mean_equal_contents(
     frame_offset_in_range(second);
 }
 
-/// Bytes at an address are a section of at most one table.
+/// States that bytes at an address are a section of at most one table.
 #[tactic(auto, using(crate::proofs::TableSame::table_same))]
 pub fn section_has_one_table(bytes: &[u8], at: u64)
     ensures { (one other : Table) → Section bytes.now at one → Section bytes.now at other → one ≡ other }
 {}
 
-/// At most one list of bytes is a section of a table at an address without gaps and with the least
-/// widths.
+/// States that at most one list of bytes is a section of a table at an address without gaps and with the
+/// least widths.
 #[tactic(auto, using(crate::proofs::TightOne::tight_one, crate::proofs::TightOne::tight_section))]
 pub fn tight_section_is_the_only_one(at: u64)
     ensures only { (table : Table) (one other : List ℕ) → AreBytes one → AreBytes other → Tight one at table → Tight other at table → Narrow one table → Narrow other table → one ≡ other }
     ensures section { (table : Table) (bytes : List ℕ) → Tight bytes at table → Section bytes at table }
 {}
 
-/// An offset is a number of 32 signed bits.
+/// States that an offset is a number of 32 signed bits.
 fn offset_in_range(offset: i32)
     ensures { FitsSigned w32 offset }
 {}
 
-/// The canonical frame address's offset is one.
+/// States that the canonical frame address's offset is a number of 32 signed bits.
 fn frame_offset_in_range(content: Content)
     ensures { FitsSigned w32 content.cfa }
 {
     offset_in_range(content.cfa)
 }
 
-/// The return address's offset is one.
+/// States that the return address's offset is a number of 32 signed bits.
 fn return_in_range(ra: Ra)
     ensures { ReturnInRange ra }
 {
@@ -71,7 +71,7 @@ fn return_in_range(ra: Ra)
     }
 }
 
-/// The frame pointer's offset is one.
+/// States that the frame pointer's offset is a number of 32 signed bits.
 fn pointer_in_range(fp: Option<i32>)
     ensures { PointerInRange fp }
 {

@@ -1,12 +1,12 @@
-//! The public types that the crates share: machines, what an input is, rows and functions of an SFrame
-//! section, what is read of a call frame description, why a function is left out, what a walk lists, and how
-//! a fault is told; and what a row recovers of the caller's frame.
+//! The public types that the crates share: machines, kinds of input, rows and functions of an SFrame
+//! section, facts of a frame description entry, why a function is omitted, what a walk lists, and how a
+//! fault is shown; and what a row recovers of the caller's frame.
 //!
-//! `specs/` says what sections, look-up, recovery and walks are: `Section` when bytes at an address say
-//! what a `Table` does, `Tight` and `Narrow` the one layout without gaps and with the least widths,
-//! `found_at` which row holds at an address, `recovery` what it recovers, `section_walk` a walk by it.
-//! `recover` is `recovery` for any `Memory`, and its caller owes that the content fits the machine. The
-//! laws over the definitions are functions that do nothing: `equal_recoveries_mean_equal_contents`,
+//! `specs/` defines sections, look-up, recovery and walks: `Section` says when bytes at an address have the
+//! content of a `Table`, `Tight` and `Narrow` which one layout has no gaps and the least widths, `found_at`
+//! which row holds at an address, `recovery` what it recovers, `section_walk` a walk by it. `recover` is
+//! `recovery` for any `Memory`; its caller owes that the content fits the machine. The laws over the
+//! definitions are functions that do nothing: `equal_recoveries_mean_equal_contents`,
 //! `section_has_one_table` and `tight_section_is_the_only_one`.
 //!
 //! `Rows` is the one type with a private field: contracts see it as the list of its rows. Only

@@ -1,4 +1,4 @@
-//! What differs by machine, as one name each.
+//! What differs by machine, each under one name.
 
 /// The machine whose call frames are described. Both are little-endian.
 #[derive(Clone, Copy, Debug, PartialEq, Eq)]

@@ -8,8 +8,8 @@ pub trait Memory {
     /// The regions in their order.
     ghost regions: { Self → List Region };
 
-    /// The little-endian number in the eight bytes from `address` on, by the first region that holds all
-    /// eight. None where no region does, or where they would pass the end of the addresses.
+    /// Returns the little-endian number in the eight bytes from `address` on, by the first region that
+    /// holds all eight, or `None` if no region does or if they would pass the end of the addresses.
     fn read8(&self, address: u64) -> Option<u64>
         ensures { result ≡ read_eight (regions self.now) address };
 }

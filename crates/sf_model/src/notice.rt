@@ -1,4 +1,4 @@
-//! How a fault is handed to what prints it.
+//! How a fault is passed to the code that prints it.
 
 ghost use Rattle.std.specs.Prelude.{◌≡◌, ◌∷◌, []};
 
@@ -32,18 +32,18 @@ pub enum Group {
 /// A fault as numbers: which one of its group, and the values that its line shows.
 #[derive(Drop)]
 pub struct Notice {
-    /// The item in which it was found, none in the group `Link`.
+    /// The item in which the fault was found, or none in the group `Link`.
     pub item: Option<u32>,
-    /// The part of the work that found it.
+    /// The part of the work that found the fault.
     pub group: Group,
     /// The fault's number in its group, from 1.
     pub number: u8,
-    /// The values in the order in which they are shown.
+    /// The values, in the order in which they are shown.
     pub values: ArrayVec<u64, 4>,
 }
 
 impl Notice {
-    /// The fault of this number, with no value.
+    /// Returns the fault of this number, with no value.
     pub fn new(item: Option<u32>, group: Group, number: u8) -> Notice
         ensures item { result.item ≡ item }
         ensures group { result.group ≡ group }
@@ -58,7 +58,7 @@ impl Notice {
         }
     }
 
-    /// The fault of this number, with one value.
+    /// Returns the fault of this number, with one value.
     pub fn with_value(item: Option<u32>, group: Group, number: u8, value: u64) -> Notice
         ensures item { result.item ≡ item }
         ensures group { result.group ≡ group }

@@ -1,6 +1,6 @@
-//! Why a function is left out of a section, and where a function came from.
+//! Why a function is omitted from a section, and where a function came from.
 
-/// Why SFrame Version 2 can't express a function, in the order in which the reasons are tried.
+/// Why SFrame Version 2 can't express a function, in the order in which the reasons are checked.
 #[derive(Clone, Copy, Debug, PartialEq, Eq)]
 pub enum Reason {
     /// Its size is 0.
@@ -36,13 +36,13 @@ pub enum Reason {
     SignState,
 }
 
-/// A reason, and the first offset at which it holds where it is a row's.
+/// A reason, and for a row's reason the first offset at which it holds.
 #[derive(Clone, Copy, Debug, PartialEq, Eq)]
 pub struct Omission {
-    /// Why the function is left out.
+    /// Why the function is omitted.
     pub reason: Reason,
-    /// The least offset, in bytes from the function's start, at which a row has a reason. None for the
-    /// four reasons of the whole function.
+    /// The least offset, in bytes from the function's start, at which a row has a reason. None for the four
+    /// reasons of the whole function.
     pub offset: Option<u32>,
 }
 
@@ -57,7 +57,7 @@ pub struct Origin {
     pub place: u32,
 }
 
-/// A function that is left out.
+/// An omitted function.
 #[derive(Clone, Copy, PartialEq, Eq)]
 pub struct Omitted {
     /// Its first address.
@@ -66,7 +66,7 @@ pub struct Omitted {
     pub size: u64,
     /// The record that it came from.
     pub origin: Origin,
-    /// Why, and where.
+    /// Why and where.
     pub omission: Omission,
 }
 

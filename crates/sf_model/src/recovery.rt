@@ -24,15 +24,15 @@ pub struct Regs {
 pub struct Recovered {
     /// The canonical frame address, which is the caller's stack pointer.
     pub cfa: u64,
-    /// The return address with its signature, none where its eight bytes can't be read.
+    /// The return address with its signature, or none if its eight bytes can't be read.
     pub ra: Option<u64>,
-    /// The caller's frame pointer, none where its eight bytes can't be read.
+    /// The caller's frame pointer, or none if its eight bytes can't be read.
     pub fp: Option<u64>,
-    /// The key that signed the return address, none where it is unsigned.
+    /// The key that signed the return address, or none if it is unsigned.
     pub signed: Option<Key>,
 }
 
-/// The address `by` bytes further on, modulo 2^64.
+/// Returns the address `by` bytes further on, modulo 2^64.
 #[tactic(auto, using(crate::proofs::Addresses::moved_by))]
 pub fn moved(address: u64, by: i32) -> u64
     ensures { result ≡ moved address by }
@@ -40,7 +40,7 @@ pub fn moved(address: u64, by: i32) -> u64
     address.wrapping_add_signed(i64::from(by))
 }
 
-/// The value that is saved at a place, or the present one where it isn't saved.
+/// Returns the value that is saved at a place, or the present one if it isn't saved.
 fn saved_or_kept<M: Memory>(place: Option<u64>, present: u64, memory: &M) -> Option<u64>
     ensures { result ≡ known (saved_or_kept (M.regions memory.now) present place) }
 {
@@ -50,7 +50,7 @@ fn saved_or_kept<M: Memory>(place: Option<u64>, present: u64, memory: &M) -> Opt
     }
 }
 
-/// Where the return address is saved, none where it is in the link register.
+/// Returns where the return address is saved, or none if it is in the link register.
 fn return_place(ra: Ra, frame_address: u64) -> Option<u64>
     ensures { result ≡ return_place ra frame_address }
 {
@@ -61,7 +61,7 @@ fn return_place(ra: Ra, frame_address: u64) -> Option<u64>
     }
 }
 
-/// Where the frame pointer is saved, none where it isn't.
+/// Returns where the frame pointer is saved, or none if it isn't.
 fn pointer_place(offset: Option<i32>, frame_address: u64) -> Option<u64>
     ensures { result ≡ pointer_place offset frame_address }
 {
@@ -71,7 +71,7 @@ fn pointer_place(offset: Option<i32>, frame_address: u64) -> Option<u64>
     }
 }
 
-/// The present value of the register that the canonical frame address counts from.
+/// Returns the present value of the register that the canonical frame address counts from.
 fn base_value(base: Base, regs: &Regs) -> u64
     ensures { result ≡ base_value base regs.now }
 {
@@ -81,15 +81,15 @@ fn base_value(base: Base, regs: &Regs) -> u64
     }
 }
 
-/// The key of a return address that is signed.
+/// Returns the key, if the return address is signed.
 fn key_if_signed(signed: bool, key: Key) -> Option<Key>
     ensures { result ≡ key_if_signed signed key }
 {
     if signed { Some(key) } else { None }
 }
 
-/// What a row's content recovers: the canonical frame address, the return address and the frame pointer
-/// of the caller, by the function's key, the present registers and the memory. The content fits the
+/// Returns what a row's content recovers: the canonical frame address, the return address and the frame
+/// pointer of the caller, by the function's key, the present registers and the memory. The content fits the
 /// machine.
 #[tactic(auto, unfolding(crate::specs::Recovery::recovery))]
 pub fn recover<M: Memory>(

@@ -6,12 +6,12 @@ use crate::content::Content;
 use std::alloc::{AllocError, Global};
 use std::marker::Model;
 
-/// A row: from `start` on, counted in bytes from the function's start, the frame is as `content` says.
+/// A row: from `start` on, in bytes from the function's start, the frame has this `content`.
 #[derive(Clone, Copy, Debug, PartialEq, Eq)]
 pub struct Row {
-    /// The first offset that it covers, in bytes from the function's start.
+    /// The first offset that the row covers, in bytes from the function's start.
     pub start: u32,
-    /// What it says of the caller's frame.
+    /// How the caller's frame is recovered.
     pub content: Content,
 }
 
@@ -31,7 +31,7 @@ impl Model for Rows {
 }
 
 impl Rows {
-    /// The empty list. It allocates nothing until a row is pushed.
+    /// Creates an empty list, which allocates nothing until a row is pushed.
     pub fn new(alloc: Global) -> Rows
         ensures { result ≡ [] }
     {
@@ -40,7 +40,7 @@ impl Rows {
         }
     }
 
-    /// The empty list, with memory for `count` rows.
+    /// Creates an empty list with memory for `count` rows.
     pub fn with_capacity(alloc: Global, count: usize) -> Result<Rows, AllocError>
         ensures { IfOk result (λ rows. rows ≡ []) }
     {
@@ -49,7 +49,7 @@ impl Rows {
         })
     }
 
-    /// Appends a row. Where memory runs out the list stays as it was.
+    /// Appends a row. If memory runs out, the list stays as it was.
     pub fn push(&mut self, row: Row) -> Result<(), AllocError>
         ensures { self.new ≡ (if is_ok result then self.old ++ row ∷ [] else self.old) }
     {
@@ -57,14 +57,14 @@ impl Rows {
         Ok(())
     }
 
-    /// Takes all rows out, and keeps the memory.
+    /// Removes all rows and keeps the memory.
     pub fn clear(&mut self)
         ensures { self.new ≡ [] }
     {
         self.items.clear();
     }
 
-    /// The rows in order.
+    /// Returns the rows in order.
     pub fn as_slice(&self) -> &[Row]
         ensures { result.now ≡ self.now }
     {

@@ -1,4 +1,4 @@
-//! What comes of comparing a section with the call frame descriptions that it was made from.
+//! The result of comparing a section with the call frame descriptions that it was made from.
 
 use crate::content::Content;
 
@@ -18,9 +18,9 @@ pub enum Verdict {
     Differs {
         /// The address.
         pc: u64,
-        /// What the section has there.
+        /// The section's content there.
         section: Content,
-        /// What the call frame description has there, if it can be expressed.
+        /// The content of the call frame description there, if it can be expressed.
         dwarf: Option<Content>,
     },
 }

@@ -5,7 +5,7 @@
 pub struct Frame {
     /// Its program counter.
     pub pc: u64,
-    /// Its canonical frame address, none where no row holds at the program counter.
+    /// Its canonical frame address, or none if no row holds at the program counter.
     pub cfa: Option<u64>,
 }
 
@@ -18,7 +18,7 @@ pub enum Stop {
     Outside(u64),
     /// The eight bytes from this address on, where a value is saved, can't be read.
     Unreadable(u64),
-    /// This return address is signed, and the thread doesn't say which bits are its signature.
+    /// This return address is signed, and the signature bits of the thread are not known.
     Signed(u64),
 }
 

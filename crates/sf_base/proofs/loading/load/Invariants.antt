@@ -3,7 +3,7 @@ use Rattle.std.specs.Option.{IfSome}
 use Rattle.sf_base.specs.Contents.{contents_of}
 use Rattle.sf_base.proofs.loading.load.Given as goal
 
--- the bytes so far and what is left are the file
+-- the bytes so far and what is left to read are the file
 abbrev pub invariant-loop-bytes : goal.invariant-loop-bytes
 invariant-loop-bytes g l =
     let files = g.F.Files in
