@@ -1,4 +1,4 @@
--- The fault of an instruction that can't be read is the one that its bytes have, and they have one at most.
+-- The fault of an instruction that can't be read is the one that its bytes have, and they have at most one.
 use Rattle.std.proofs.Common.{◌≡◌, ℕ, ℤ, ◌%◌, ◌<◌, Bool, true, false, cond, List, [], length, Option, Some, None, Result, Ok, Err, refl, sym, ap, subst, ◌∙◌, arith}
 use Rattle.std.specs.Prelude.{◌==◌, nat_lt}
 use Rattle.sf_bytes.specs.declared.fault.ByteFault.{ByteFault}
@@ -125,7 +125,7 @@ same_byte at one other from to e f =
 one_opcode : (at : Cursor) (one other : ℕ) → HasOpcode at one → HasOpcode at other → one ≡ other
 one_opcode at one other (from, p) (to, q) = (same_byte at one other from to (read_there one at from p) (read_there other at to q)).opcode
 
--- what can go on has an opcode of the table
+-- bytes that more bytes can complete have an opcode of the table
 has_row : (at : Cursor) (opcode : ℕ) → HasOpcode at opcode → CanGoOn at → IsOpcode opcode
 has_row at opcode (after, byte) (more, i, to, (other, between, front, operands)) =
     let same = same_byte (with_more at more) other opcode between (with_more after more) (read_there other (with_more at more) between front) (read_more opcode at after more byte) in

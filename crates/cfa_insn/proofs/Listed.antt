@@ -1,4 +1,4 @@
--- What is listed of bytes are the instructions that spell them, up to the first place at which none is.
+-- What is listed of bytes are the instructions that spell them, up to the first place at which there is none.
 use Rattle.std.specs.Prelude.{◌≢◌}
 use Rattle.std.proofs.Common.{◌≡◌, ◌⊎◌, ℕ, ◌<◌, ◌≤◌, List, [], ◌∷◌, length, Result, Ok, Err, refl, sym, ap, subst, ◌∙◌, arith, inl, inr}
 use Rattle.sf_bytes.specs.Cursor.{Cursor}
@@ -40,7 +40,7 @@ positive : (bytes : List ℕ) → bytes ≢ [] → 0 < length bytes
 positive [] h = absurd (h refl)
 positive (b ∷ bs) h = omega arith
 
--- where no instruction is at the front, the fault is the one that is read
+-- if no instruction is at the front, the fault is the one that is read
 refused_by : (at : Cursor) (e : InsnFault) (r : Result (Instruction × Cursor) InsnFault) → instruction_at at ≡ r → NoInstruction at e → r ≡ Err e
 refused_by at e (Ok x) read none = absurd (none.none x.0 x.1 (instruction_stands x.0 at x.1 read))
 refused_by at e (Err f) read none = ap (λ (d : InsnFault). refused d) (one_fault at f e (fault_stands at f (positive at.left none.more) read) none.fault)
@@ -54,7 +54,7 @@ listed (Ok x ∷ items) at (place, (to, stands, rest)) =
 listed (Err e ∷ items) at (end, none) =
     starts_with_fault at.place at.left e (positive at.left none.more) (refused_by at e (instruction_at at) refl none) ∙ ap (λ (xs : List Item). fault_item e ∷ xs) (sym end)
 
--- ---- what is listed stands
+-- ---- what is listed is there
 abbrev no_items : List Item
 no_items = []
 

@@ -1,5 +1,5 @@
 -- What a reader gives of bytes, and of the same bytes with more after them: what is read stays read, a number that is refused stays
--- refused, and bytes that end inside a value can be ended.
+-- refused, and bytes that end inside a value can be completed.
 use Rattle.std.specs.Prelude.{nat_lt, int_lt, replicate}
 use Rattle.std.proofs.Common.{◌≡◌, ℕ, ℤ, pos, zero, suc, ◌+◌, ◌-◌, ◌*◌, ◌%◌, ◌^◌, ◌<◌, ◌≤◌, ◌-ℤ◌, Bool, true, false, cond, List, [], ◌∷◌, ◌++◌, length, take, drop, Result, Ok, Err, refl, sym, ap, ◌∙◌, arith, inl, inr, if◌then◌else◌}
 use Rattle.std.proofs.Math.Nat.{pow-suc}
@@ -22,7 +22,7 @@ got x to = Ok (x, to)
 abbrev pub stopped : {X : Type 0} → ByteFault → Read X
 stopped e = Err e
 
--- with some bytes more a value is there, and nothing is left
+-- with some more bytes a value is there, and nothing is left
 pub record Ended {X : Type 0} (read : Cursor → Read X) (at : Cursor) : Type 0 where
   pub more : List ℕ
   pub value : X
@@ -157,7 +157,7 @@ run_lasts place (suc most) (b ∷ bs) more p e = elim (cases_lt b 128) [
       run_length-goes_on place most b (bs ++ more) high ∙ ap longer (run_lasts place most bs more p rest)
 ]
 
--- bytes that all go on, and a zero byte
+-- bytes that all continue, and a zero byte
 abbrev with_zero : List ℕ → List ℕ
 with_zero bytes = bytes ++ 0 ∷ []
 
@@ -309,7 +309,7 @@ pub sleb_reads : Reader sleb_at
 unfolding sleb_at
 sleb_reads = leb_reads (λ run. fits_i64 (leb_signed run)) leb_signed (λ bytes lt. ap fits_i64 (signed_with_zero bytes) ∙ small_fits (leb_sum (with_zero bytes)) (small_sum bytes lt))
 
--- ---- one reader after another
+-- ---- two consecutive readers
 abbrev pub in_turn : {X Y : Type 0} → (Cursor → Read X) → (X → Cursor → Read Y) → Cursor → Read Y
 in_turn first second at = first at >>= λ x. second x.0 x.1
 
@@ -325,7 +325,7 @@ module _ {X Y : Type 0} (first : Cursor → Read X) (second : X → Cursor → R
   turn_lasts at more (Ok (x, between)) p h e = ap on (f.stays at more x between h) ∙ (s x).lasts between more p e
   turn_lasts at more (Err d) p h e = let same : d ≡ Leb p = fault_is {X = Y} _ _ e in ap on (f.lasts at more p (h ∙ ap (λ (c : ByteFault). stopped {X = X} c) same))
 
-  -- the first value is there, and the second can be ended
+  -- the first value is there, and the second can be completed
   second_ends : (at : Cursor) (x : X) (between : Cursor) → first at ≡ got x between → Ended (second x) between → Ended (in_turn first second) at
   second_ends at x between h t = record {
     more = t.more;
@@ -335,7 +335,7 @@ module _ {X Y : Type 0} (first : Cursor → Read X) (second : X → Cursor → R
     empty = t.empty;
   }
 
-  -- the first value is ended by these bytes, and the second is there or can be ended
+  -- the first value is completed by these bytes, and the second is there or can be completed
   both_end : (at : Cursor) (t : Ended first at) → OfNone (second t.value) t.to → Ended (in_turn first second) at
   both_end at t (there y to is empty) = record { more = t.more; value = y; to = to; is = ap on t.is ∙ is; empty = empty }
   both_end at t (ended p is) =

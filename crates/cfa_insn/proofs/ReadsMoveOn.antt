@@ -11,7 +11,7 @@ use Rattle.cfa_insn.specs.declared.fault.InsnFault.{InsnFault}
 use Rattle.cfa_insn.specs.Instruction.{Instruction, advance_loc, offset, restore, nop, advance_loc_n, offset_extended, restore_extended, undefined, same_value, in_register, remember_state, restore_state, def_cfa, def_cfa_register, def_cfa_offset, def_cfa_expression, expression, offset_extended_sf, def_cfa_sf, def_cfa_offset_sf, val_offset, val_offset_sf, val_expression, negate_ra_state, args_size}
 use Rattle.cfa_insn.specs.Table.{Found, block_at, plain, of_number, of_uleb, of_sleb, of_block, of_two_ulebs, of_uleb_and_sleb, of_uleb_and_block, extended_at, operands_at, or_fault, after_opcode, instruction_at}
 
--- to is some bytes after from
+-- `to` is some bytes after `from`
 pub record IsBehind (from to : Cursor) : Type 0 where
   pub count : ℕ
   pub is : to ≡ past count from

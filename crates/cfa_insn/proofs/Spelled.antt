@@ -1,4 +1,4 @@
--- An instruction is read exactly where it stands.
+-- An instruction is read exactly where it is.
 use Rattle.std.specs.Prelude.{◌==◌, nat_lt}
 use Rattle.std.proofs.Common.{◌≡◌, ℕ, ℤ, ◌%◌, ◌<◌, ◌≤◌, Bool, true, false, cond, List, length, Option, Some, None, Result, Ok, Err, refl, sym, ap, subst, ◌∙◌, arith, inl, inr}
 use Rattle.std.proofs.lemmas.Bool.{eqb-true, lt-ltb, le-ltb, ltb-true, ltb-false}
@@ -12,7 +12,7 @@ use Rattle.cfa_insn.specs.Instruction.{Instruction, advance_loc, offset, restore
 use Rattle.cfa_insn.specs.Spelling.{Block, WithUleb, WithSleb, WithBlock, OperandsStand, InstructionStands}
 use Rattle.cfa_insn.specs.Table.{Found, block_at, plain, of_number, of_uleb, of_sleb, of_block, of_two_ulebs, of_uleb_and_sleb, of_uleb_and_block, extended_at, operands_at, or_fault, after_opcode, instruction_at}
 
--- ---- what stands is read
+-- ---- what is there is read
 block_read : (block : List ℕ) (at after : Cursor) → Block block at after → block_at at ≡ Ok (block, after)
 unfolding block_at
 block_read block at after (between, len, bytes) =
@@ -94,7 +94,7 @@ instruction_read i at after (op, between, byte, operands) =
     ap (after_opcode at.place) (number_again 1 at op between byte)
     ∙ ap (or_fault at.place op) (operands_read op i between after operands)
 
--- ---- what is read stands
+-- ---- what is read is there
 abbrev given : Instruction → Cursor → Found
 given i after = Ok (Some i, after)
 
@@ -108,7 +108,7 @@ given_same i j a b e =
     let one : Some i ≡ Some j = ap (λ (t : Option Instruction × Cursor). t.0) pair in
     record { instruction = cc; after = ap (λ (t : Option Instruction × Cursor). t.1) pair }
 
--- what a reader of operands gives stands as the operands of this opcode
+-- what a reader of operands gives is there as the operands of this opcode
 pub record Decodes (op : ℕ) (read : Cursor → Found) : Type 0 where
   pub stands : (at : Cursor) (i : Instruction) (after : Cursor) → read at ≡ given i after → OperandsStand op i at after
 

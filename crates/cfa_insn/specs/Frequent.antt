@@ -1,5 +1,5 @@
--- The frequent instructions by the bytes at the front (DWARF 5, section 7.24): an opcode byte, and an operand that is none or
--- an unsigned LEB128 number of one byte (section 7.6).
+-- The frequent instructions by the bytes at the front (DWARF 5, section 7.24): an opcode byte with no operand, or with an
+-- unsigned LEB128 number of one byte (section 7.6).
 use Rattle.std.specs.Prelude.{◌≡◌, ◌<◌, ℕ, ◌%◌, ◌==◌, Bool, false, List, [], ◌∷◌, Option, Some, None, nat_lt, if◌then◌else◌}
 use Rattle.std.specs.Option.{option_map}
 use Rattle.sf_bytes.specs.Cursor.{Cursor, cursor}
@@ -27,17 +27,17 @@ abbrev pub offset_front : List ℕ → Option (ℕ × ℕ)
 offset_front [] = None
 offset_front (op ∷ bytes) = if nat_lt op DW_CFA_offset then None else if nat_lt op DW_CFA_restore then option_map (λ n. (op % 64, n)) (short_front bytes) else None
 
--- whether a DW_CFA_nop is there
+-- whether a DW_CFA_nop is at the front
 abbrev pub nop_front : List ℕ → Bool
 nop_front [] = false
 nop_front (op ∷ bytes) = op == DW_CFA_nop
 
--- no byte where none is left; else the first one, and a part that has the others
+-- none if no byte is left; else the first byte, and a part with the others
 abbrev pub GivesByte : Option (ℕ × Part) → Cursor → Type 0
 GivesByte None at = at.left ≡ []
 GivesByte (Some (b, rest)) at = Passes (b ∷ []) at (cursor rest)
 
--- the same for a number of one byte
+-- none if no number of one byte is at the front; else that number, and a part with the bytes after it
 abbrev pub GivesShort : Option (ℕ × Part) → Cursor → Type 0
 GivesShort None at = short_front at.left ≡ None
 GivesShort (Some (b, rest)) at = (b < 128) × Passes (b ∷ []) at (cursor rest)

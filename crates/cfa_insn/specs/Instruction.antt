@@ -4,6 +4,7 @@ use Rattle.std.specs.Prelude.{ℕ, ℤ, List}
 use Rattle.cfa_insn.specs.declared.insn.Insn.{Insn}
 use Rattle.cfa_insn.specs.declared.insn.Insn.TheVariants as insn
 
+-- a call frame instruction
 pub data Instruction : Type 0 where
   advance_loc : (delta : ℕ) → Instruction
   offset : (register factored : ℕ) → Instruction
@@ -31,7 +32,7 @@ pub data Instruction : Type 0 where
   negate_ra_state : Instruction
   args_size : (size : ℕ) → Instruction
 
--- what an instruction as it is lent stands for
+-- a lent instruction, apart from where its bytes are in memory
 abbrev pub instruction : Insn → Instruction
 instruction (insn.AdvanceLoc n) = advance_loc n
 instruction (insn.Offset r n) = offset r n

@@ -10,17 +10,19 @@ use Rattle.cfa_insn.specs.Instruction.{Instruction, advance_loc, offset, restore
 use Rattle.cfa_insn.specs.Listing.{Item}
 use Rattle.cfa_insn.specs.Opcodes.{DW_CFA_nop, DW_CFA_advance_loc1, DW_CFA_advance_loc2, DW_CFA_advance_loc4, DW_CFA_offset_extended, DW_CFA_restore_extended, DW_CFA_undefined, DW_CFA_same_value, DW_CFA_register, DW_CFA_remember_state, DW_CFA_restore_state, DW_CFA_def_cfa, DW_CFA_def_cfa_register, DW_CFA_def_cfa_offset, DW_CFA_def_cfa_expression, DW_CFA_expression, DW_CFA_offset_extended_sf, DW_CFA_def_cfa_sf, DW_CFA_def_cfa_offset_sf, DW_CFA_val_offset, DW_CFA_val_offset_sf, DW_CFA_val_expression, DW_CFA_AARCH64_negate_ra_state, DW_CFA_GNU_args_size, DW_CFA_advance_loc, DW_CFA_offset, DW_CFA_restore}
 
--- a block: its length, and as many bytes
+-- a block: its length, and that many bytes
 abbrev pub Block : (block : List ℕ) → (from to : Cursor) → Type 0
 Block block from to = (between : Cursor) × Stands Uleb (length block) from between × Stands (Bytes (length block)) block between to
 
--- a register, and another unsigned number, a signed number or a block after it
+-- a register, and then an unsigned number
 abbrev pub WithUleb : (register n : ℕ) → (from to : Cursor) → Type 0
 WithUleb register n from to = (between : Cursor) × Stands Uleb register from between × Stands Uleb n between to
 
+-- a register, and then a signed number
 abbrev pub WithSleb : (register : ℕ) → ℤ → (from to : Cursor) → Type 0
 WithSleb register z from to = (between : Cursor) × Stands Uleb register from between × Stands Sleb z between to
 
+-- a register, and then a block
 abbrev pub WithBlock : (register : ℕ) → (block : List ℕ) → (from to : Cursor) → Type 0
 WithBlock register block from to = (between : Cursor) × Stands Uleb register from between × Block block between to
 
@@ -67,22 +69,22 @@ HasOpcode at opcode = (after : Cursor) × Stands (Number 1) opcode at after
 abbrev pub IsOpcode : (opcode : ℕ) → Type 0
 IsOpcode opcode = (i : Instruction) × (from : Cursor) × (to : Cursor) × OperandsStand opcode i from to
 
--- the same bytes, and more after them
+-- these bytes, and more after them
 abbrev pub with_more : Cursor → (more : List ℕ) → Cursor
 with_more at more = record { place = at.place; left = at.left ++ more }
 
--- with some bytes more an instruction is at the front
+-- with some more bytes an instruction is at the front
 abbrev pub CanGoOn : Cursor → Type 0
 CanGoOn at = (more : List ℕ) × (i : Instruction) × (to : Cursor) × InstructionStands i (with_more at more) to
 
--- the fault, with the place of the opcode: the table doesn't have the opcode; or the bytes end inside the instruction, which more bytes could
--- end; or one of its operands is no LEB128 number, whatever follows
+-- the fault, with the place of the opcode: the table doesn't have the opcode; or the bytes end inside the instruction, and more bytes could
+-- complete it; or one of its operands is no LEB128 number, whatever follows
 abbrev pub IsFault : Cursor → InsnFault → Type 0
 IsFault at (Opcode place opcode) = (place ≡ at.place) × HasOpcode at opcode × (IsOpcode opcode → ⊥)
 IsFault at (Short place) = (place ≡ at.place) × CanGoOn at
 IsFault at (Leb place) = (place ≡ at.place) × ((opcode : ℕ) × HasOpcode at opcode × IsOpcode opcode) × (CanGoOn at → ⊥)
 
--- bytes at whose front no instruction is, and why
+-- no instruction is at the front of these bytes, and why
 pub record NoInstruction (at : Cursor) (e : InsnFault) : Type 0 where
   pub more : at.left ≢ []
   pub none : (i : Instruction) (to : Cursor) → InstructionStands i at to → ⊥

@@ -108,17 +108,18 @@ operands_at op =
     if nat_lt op DW_CFA_restore then of_uleb (offset (op % 64)) else
     plain (restore (op % 64))
 
--- every fault of an instruction carries the instruction's own place
+-- the fault of a field, at the instruction's own place
 abbrev pub placed : ℕ → ByteFault → InsnFault
 placed place (bytes.Short p) = Short place
 placed place (bytes.Leb p) = Leb place
 
+-- the instruction, or `Opcode` if the table doesn't have the opcode, or the fault of an operand
 abbrev pub or_fault : ℕ → ℕ → Found → Result (Instruction × Cursor) InsnFault
 or_fault place op (Ok (Some i, after)) = Ok (i, after)
 or_fault place op (Ok (None, after)) = Err (Opcode place op)
 or_fault place op (Err e) = Err (placed place e)
 
--- after the opcode byte
+-- the instruction after its opcode byte is read
 abbrev pub after_opcode : ℕ → Read ℕ → Result (Instruction × Cursor) InsnFault
 after_opcode place (Ok (op, after)) = or_fault place op (operands_at op after)
 after_opcode place (Err e) = Err (placed place e)

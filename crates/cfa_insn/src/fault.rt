@@ -3,7 +3,7 @@
 /// An instruction that can't be read, with the place of its opcode byte.
 #[derive(Clone, Copy, Debug, PartialEq, Eq)]
 pub enum InsnFault {
-    /// An opcode that isn't in the table, which stands second.
+    /// An opcode that isn't in the table: its place, then the opcode.
     Opcode(u64, u8),
     /// The bytes end inside the instruction.
     Short(u64),

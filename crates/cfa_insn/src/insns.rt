@@ -8,7 +8,7 @@ use crate::opcodes::{
 use crate::read::{first_byte, first_of, short_uleb};
 use sf_bytes::Part;
 
-/// The instructions of a part with their places. After a fault it ends.
+/// The instructions of a part with their places. The iterator ends after a fault.
 #[derive(Clone, Copy)]
 pub struct Insns<'a> {
     part: Part<'a>,
@@ -23,7 +23,7 @@ impl<'a> Insns<'a> {
     ghost use Rattle.cfa_insn.specs.Listing.{listing};
     ghost use Rattle.cfa_insn.specs.Remaining.{Takes, TakesIf, bytes_left, items_left, place_left};
 
-    /// The instructions of the part's bytes.
+    /// Creates the iterator over the instructions in the part's bytes.
     #[inline(always)]
     pub fn new(part: Part<'a>) -> Insns<'a>
         ensures { items_left result ≡ listing (cursor part.entry) }
@@ -31,7 +31,8 @@ impl<'a> Insns<'a> {
         Insns { part }
     }
 
-    /// Takes a `DW_CFA_advance_loc`, and gives its advance. None, and nothing is taken, where another instruction is next.
+    /// Takes a `DW_CFA_advance_loc`, and returns its advance. Returns `None` and takes nothing if another instruction
+    /// is next.
     #[inline(always)]
     pub fn next_advance_loc(&mut self) -> Option<u8>
         ensures is { result ≡ advance_loc_front (bytes_left self.old) }
@@ -45,8 +46,8 @@ impl<'a> Insns<'a> {
         Some(opcode % 64)
     }
 
-    /// Takes a `DW_CFA_def_cfa_offset` with an operand of one byte, and gives its place and the offset in bytes. None, and
-    /// nothing is taken, where another instruction or a longer operand is next.
+    /// Takes a `DW_CFA_def_cfa_offset` with an operand of one byte, and returns its place and the offset in bytes.
+    /// Returns `None` and takes nothing if another instruction or a longer operand is next.
     #[inline(always)]
     pub fn next_def_cfa_offset(&mut self) -> Option<(u64, u8)>
         ensures is { result ≡ option_map (λ n. (place_left self.old, n)) (def_cfa_offset_front (bytes_left self.old)) }
@@ -62,8 +63,8 @@ impl<'a> Insns<'a> {
         Some((place, offset))
     }
 
-    /// Takes a `DW_CFA_offset` with an operand of one byte, and gives the register and the factored offset. None, and nothing is
-    /// taken, where another instruction or a longer operand is next.
+    /// Takes a `DW_CFA_offset` with an operand of one byte, and returns the register and the factored offset. Returns
+    /// `None` and takes nothing if another instruction or a longer operand is next.
     #[inline(always)]
     pub fn next_offset(&mut self) -> Option<(u8, u8)>
         ensures is { result ≡ offset_front (bytes_left self.old) }
@@ -78,7 +79,7 @@ impl<'a> Insns<'a> {
         Some((opcode % 64, factored))
     }
 
-    /// Takes a `DW_CFA_nop`, and says whether it did. Nothing is taken where another instruction is next.
+    /// Takes a `DW_CFA_nop`, and returns whether it did. Takes nothing if another instruction is next.
     #[inline(always)]
     pub fn next_nop(&mut self) -> bool
         ensures is { result ≡ nop_front (bytes_left self.old) }

@@ -5,8 +5,8 @@ ghost use Rattle.sf_bytes.specs.Cursor.{Cursor};
 ghost use Rattle.cfa_insn.specs.Listing.{Item, listing};
 ghost use Rattle.cfa_insn.specs.Spelling.{AreInstructions};
 
-/// Says, by its contract alone, that what is listed of bytes are the instructions that spell them, one after the
-/// other, up to the end or to the first place at which none is, with the fault that the bytes have there, and that
+/// States, by its contract alone, that what is listed of bytes are the consecutive instructions that spell them,
+/// up to the end or to the first place at which there is none, with the fault that the bytes have there, and that
 /// there is one such list. It does nothing.
 pub fn listing_law()
     ensures found { (items : List Item) (at : Cursor) → AreInstructions items at → listing at ≡ items }

@@ -21,7 +21,7 @@ use crate::opcodes::{
 };
 use sf_bytes::{ByteFault, Part};
 
-// A block: its length and that many bytes.
+// Reads a block: its length and that many bytes.
 #[tactic(auto, unfolding(crate::specs::Table::block_at))]
 #[inline(never)]
 fn block<'a>(part: &mut Part<'a>) -> Result<&'a [u8], ByteFault>
@@ -32,7 +32,8 @@ fn block<'a>(part: &mut Part<'a>) -> Result<&'a [u8], ByteFault>
     Ok(run.bytes)
 }
 
-// The instruction of an opcode below `DW_CFA_ADVANCE_LOC`, or none for one that the table doesn't have.
+// Reads the instruction of an opcode below `DW_CFA_ADVANCE_LOC`, or none for an opcode that the table doesn't
+// have.
 #[tactic(auto, unfolding(crate::specs::Table::extended_at))]
 #[inline(always)]
 fn extended<'a>(opcode: u8, part: &mut Part<'a>) -> Result<Option<Insn<'a>>, ByteFault>
@@ -67,7 +68,7 @@ fn extended<'a>(opcode: u8, part: &mut Part<'a>) -> Result<Option<Insn<'a>>, Byt
     }
 }
 
-// The instruction of any opcode, or none for one that the table doesn't have.
+// Reads the instruction of any opcode, or none for an opcode that the table doesn't have.
 #[tactic(auto, unfolding(crate::specs::Table::operands_at))]
 #[inline(always)]
 fn operands<'a>(opcode: u8, part: &mut Part<'a>) -> Result<Option<Insn<'a>>, ByteFault>
@@ -85,7 +86,7 @@ fn operands<'a>(opcode: u8, part: &mut Part<'a>) -> Result<Option<Insn<'a>>, Byt
     Ok(Some(Insn::Restore(opcode % 64)))
 }
 
-// A fault of a field, at the instruction's place.
+// Returns a fault of a field, at the instruction's place.
 #[inline(always)]
 fn placed_at(place: u64, fault: ByteFault) -> InsnFault
     ensures { result ≡ placed place fault }
@@ -96,7 +97,7 @@ fn placed_at(place: u64, fault: ByteFault) -> InsnFault
     }
 }
 
-/// The instruction at the front. On a fault what is left of the part isn't said.
+/// Reads the instruction at the front. On a fault nothing is claimed of what is left of the part.
 #[tactic(auto, unfolding(crate::specs::Table::instruction_at))]
 #[inline(always)]
 pub fn instruction_of<'a>(part: &mut Part<'a>) -> Result<Insn<'a>, InsnFault>
@@ -114,7 +115,7 @@ pub fn instruction_of<'a>(part: &mut Part<'a>) -> Result<Insn<'a>, InsnFault>
     }
 }
 
-// The first item of bytes that aren't empty, and the part after it, which is empty after a fault.
+// Returns the first item of bytes that aren't empty, and the part after it, which is empty after a fault.
 #[inline(always)]
 fn item_of<'a>(part: Part<'a>) -> (Result<(u64, Insn<'a>), InsnFault>, Part<'a>)
     requires { 0 < length part.bytes.now }
@@ -131,7 +132,7 @@ fn item_of<'a>(part: Part<'a>) -> (Result<(u64, Insn<'a>), InsnFault>, Part<'a>)
     }
 }
 
-/// The first item of a part and the part after it, which is empty after a fault. None at the end.
+/// Returns the first item of a part and the part after it, which is empty after a fault. `None` at the end.
 #[inline(always)]
 pub fn first_of<'a>(part: Part<'a>) -> Option<(Result<(u64, Insn<'a>), InsnFault>, Part<'a>)>
     ensures { GivesFirst result (listing (cursor part.entry)) }
@@ -142,7 +143,7 @@ pub fn first_of<'a>(part: Part<'a>) -> Option<(Result<(u64, Insn<'a>), InsnFault
     Some(item_of(part))
 }
 
-/// The byte at the front, and the part after it. None at the end.
+/// Returns the byte at the front, and the part after it. `None` at the end.
 #[inline(always)]
 pub fn first_byte<'a>(part: Part<'a>) -> Option<(u8, Part<'a>)>
     ensures { GivesByte result (cursor part.entry) }
@@ -151,8 +152,8 @@ pub fn first_byte<'a>(part: Part<'a>) -> Option<(u8, Part<'a>)>
     Some((*byte, Part::new(rest, part.place + 1)))
 }
 
-/// The unsigned LEB128 number of one byte at the front, and the part after it. None where a longer one or none
-/// is there.
+/// Returns the unsigned LEB128 number of one byte at the front, and the part after it, or `None` if a longer
+/// number or none is there.
 #[inline(always)]
 pub fn short_uleb<'a>(part: Part<'a>) -> Option<(u8, Part<'a>)>
     ensures { GivesShort result (cursor part.entry) }

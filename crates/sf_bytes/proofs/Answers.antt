@@ -1,4 +1,4 @@
--- From what a read gives to what a call answers.
+-- From what a read gives to what a call returns.
 use Rattle.std.proofs.Common.{◌≡◌, ℕ, ap, sym, ◌∙◌, Result, Ok, Err}
 use Rattle.std.specs.Prelude.{IfOk, IsOkAnd, List}
 use Rattle.sf_bytes.specs.declared.fault.ByteFault.{ByteFault}
@@ -7,7 +7,7 @@ use Rattle.sf_bytes.specs.Cursor.{Cursor, Read, cursor, Gives}
 use Rattle.sf_bytes.specs.Standing.{Stands}
 use Rattle.sf_bytes.proofs.Fields.{ok_is}
 
--- what is answered stands there, where what the read gives does
+-- what is returned is there, if what the read gives is
 pub answer_stands : {X Y : Type 0} (Kind : List ℕ → Y → Type 0) (view : X → Y) (old new : Part) (r : Result X ByteFault) (read : Read Y)
     → Gives view old new r read → ((y : Y) (after : Cursor) → read ≡ Ok (y, after) → Stands Kind y (cursor old) after)
     → IfOk r (λ x. Stands Kind (view x) (cursor old) (cursor new))
@@ -20,7 +20,7 @@ refused f = Err f
 two_answers : {A B : Type 0} (f : ByteFault) (a : A) → refused {A = A} f ≡ Ok a → B
 two_answers f a e = absurd cc
 
--- what the read gives is answered, seen by view
+-- what the read gives is returned, seen through `view`
 pub answer_given : {X Y : Type 0} (view : X → Y) (old new : Part) (r : Result X ByteFault) (read : Read Y) (y : Y) (after : Cursor)
     → Gives view old new r read → read ≡ Ok (y, after) → IsOkAnd r (λ x. view x ≡ y) × (cursor new ≡ after)
 answer_given {Y = Y} view old new (Ok x) read y after gives e =

@@ -1,4 +1,4 @@
--- LEB128 numbers: what a read gives stands there, and what stands there is read.
+-- LEB128 numbers: what a read gives is there, and what is there is read.
 use Rattle.std.proofs.Common.{◌≡◌, ℕ, ℤ, pos, ◌-ℤ◌, ◌&&◌, zero, suc, ◌+◌, ◌<◌, ◌≤◌, ◌^◌, Bool, true, false, cond, ltb, List, [], ◌∷◌, ◌++◌, length, take, Result, Ok, Err, refl, sym, ap, subst, ◌∙◌, arith, inl, inr}
 use Rattle.std.specs.Prelude.{int_lt, FitsSigned}
 use Rattle.std.specs.Int.{w64}
@@ -60,7 +60,7 @@ run_again place (suc most) (b ∷ c ∷ bs) rest r h =
 
 -- ---- unsigned
 
--- a value, where its run is a number
+-- a value, if its run is a number
 abbrev number_upto : Bool → {X : Type 0} → X → ℕ → Cursor → Read X
 number_upto fits x n at = cond fits (Ok (x, past n at)) (Err (Leb at.place))
 

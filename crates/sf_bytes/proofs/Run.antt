@@ -8,7 +8,7 @@ use Rattle.sf_bytes.specs.declared.fault.ByteFault.{ByteFault}
 use Rattle.sf_bytes.specs.declared.fault.ByteFault.TheVariants.{Short, Leb}
 use Rattle.sf_bytes.specs.Leb.{leb_sum, leb_signed, longer, run_length, is_negative}
 
--- n bytes more
+-- n more bytes
 abbrev pub plus : ℕ → Result ℕ ByteFault → Result ℕ ByteFault
 plus n (Ok m) = Ok (n + m)
 plus n (Err e) = Err e
@@ -84,7 +84,7 @@ leb_sum-below (suc n) (b ∷ bs) h =
 pub leb_sum-fits : (bs : List ℕ) → length bs ≤ 10 → leb_sum bs < 2 ^ 70
 leb_sum-fits bs h = leb_sum-below 10 bs h
 
--- one byte more at the front
+-- one more byte at the front
 pub leb_sum-drop : (i : ℕ) (bs : List ℕ) → 0 < i → i ≤ length bs → leb_sum (drop i bs) * 128 + get_or bs (i - 1) 0 % 128 ≡ leb_sum (drop (i - 1) bs)
 leb_sum-drop i bs some within =
     let next : suc (i - 1) ≡ i = omega arith in

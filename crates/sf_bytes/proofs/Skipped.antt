@@ -1,11 +1,11 @@
--- A list that goes over bytes one by one, and passes those that an item of it has read: the items after an item
--- are those from its end on.
+-- A list that goes over bytes one by one, and skips those that an item of the list has read: the items after an item
+-- are those from the end of that item on.
 use Rattle.std.proofs.Common.{◌≡◌, ℕ, zero, suc, ◌+◌, ◌-◌, List, [], ◌∷◌, length, drop, refl, sym, ap, ◌∙◌, arith, length-drop}
 use Rattle.sf_bytes.specs.Cursor.{Cursor}
 
 module _ {X : Type 0} (after : (skipped place : ℕ) → List ℕ → List X) (none : (skipped place : ℕ) → after skipped place [] ≡ [])
     (more : (n place b : ℕ) (bs : List ℕ) → after (suc n) place (b ∷ bs) ≡ after n (place + 1) bs) where
-  -- m bytes that are passed one by one are m bytes fewer
+  -- m bytes that are skipped one by one are m bytes fewer
   pub skip : (m place : ℕ) (bytes : List ℕ) → after (length bytes - (length bytes - m)) place bytes ≡ after 0 (place + m) (drop m bytes)
   skip zero place [] = none 0 place ∙ sym (none 0 (place + 0))
   skip (suc m) place [] = none (0 - (0 - suc m)) place ∙ sym (none 0 (place + suc m))

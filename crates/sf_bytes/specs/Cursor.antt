@@ -8,7 +8,7 @@ use Rattle.sf_bytes.specs.declared.part.Part.{Part}
 use Rattle.sf_bytes.specs.Answers.{Is}
 pub use Rattle.sf_bytes.specs.Steps.{◌>>=◌}
 
--- a place, and the bytes that stand from it on
+-- a place, and the bytes from it on
 pub record Cursor : Type 0 where
   pub place : ℕ
   pub left : List ℕ
@@ -25,13 +25,14 @@ past n at = record { place = at.place + n; left = drop n at.left }
 abbrev pub Read : Type 0 → Type 0
 Read X = Result (X × Cursor) ByteFault
 
--- what a call on a part answered, seen by view, is what the read gives, and the part is what the read
--- leaves; on a fault the part is unchanged
+-- what a call on a part returned, seen through `view`, is what the read gives, and the part is what the read leaves; on
+-- a fault the part is unchanged
 abbrev pub Gives : {X Y : Type 0} → (X → Y) → Part → Part → Result X ByteFault → Read Y → Type 0
 Gives view old new (Ok x) read = read ≡ Ok (view x, cursor new)
 Gives view old new (Err e) read = (read ≡ Err e) × (cursor new ≡ cursor old)
 
--- the same where a fault says nothing of the part
+-- what a call returned, seen through `view`, is what the read gives, and the part is what the read leaves; on a fault
+-- nothing is claimed of the part
 abbrev pub Reads : {X Y F : Type 0} → (X → Y) → (new : Part) → Result X F → Result (Y × Cursor) F → Type 0
 Reads view new result read = Is (λ x. (view x, cursor new)) result read
 

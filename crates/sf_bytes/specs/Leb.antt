@@ -29,27 +29,27 @@ IsRun [] = ⊥
 IsRun (b ∷ []) = b < 128
 IsRun (b ∷ c ∷ bs) = (128 ≤ b) × IsRun (c ∷ bs)
 
--- a run stands for an unsigned number
+-- a run is an unsigned number
 pub record Uleb (run : List ℕ) (v : ℕ) : Type 0 where
   pub ends : IsRun run
   pub within : length run ≤ 10
   pub value : v ≡ leb_sum run
   pub fits : v < 2 ^ 64
 
--- a run stands for a signed number
+-- a run is a signed number
 pub record Sleb (run : List ℕ) (z : ℤ) : Type 0 where
   pub ends : IsRun run
   pub within : length run ≤ 10
   pub value : z ≡ leb_signed run
   pub fits : FitsSigned w64 z
 
--- one byte more
+-- one more byte
 abbrev pub longer : Result ℕ ByteFault → Result ℕ ByteFault
 longer (Ok n) = Ok (suc n)
 longer (Err e) = Err e
 
--- how many bytes the number at the front has, where it may have at most `most`: Leb where as many all go
--- on, Short where fewer are left and all go on
+-- how many bytes the number at the front has, if it may have at most `most`: Leb if `most` bytes all continue, Short if
+-- fewer are left and all continue
 unfoldable pub run_length : ℕ → ℕ → List ℕ → Result ℕ ByteFault
 run_length place zero bytes = Err (Leb place)
 run_length place (suc most) [] = Err (Short place)

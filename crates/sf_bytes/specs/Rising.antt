@@ -3,10 +3,11 @@ use Rattle.std.specs.Prelude.{ℕ, ◌+◌, ◌<◌, ◌≤◌, List, length, sl
 use Rattle.std.specs.List.Sorted.{IsNonDecreasingBy}
 use Rattle.sf_bytes.specs.declared.field.Field.{Field}
 
+-- the place of a field
 abbrev pub field_place : Field → ℕ
 field_place f = f.place
 
--- no field stands before one that is listed earlier
+-- no field is before one that is listed earlier
 abbrev pub AreRising : List Field → Type 0
 AreRising fields = IsNonDecreasingBy field_place fields
 

@@ -1,15 +1,15 @@
--- Which bytes a field of a value is, and that it stands at a place: the grammar of fields, apart from how
--- they are read. The words that records, instructions and sections use of their fields.
+-- Which bytes a field of a value is, and that the field is at a place: the grammar of fields, apart from how they are
+-- read. The grammars of records, instructions and sections use these words for their fields.
 use Rattle.std.specs.Prelude.{◌≡◌, ◌≢◌, ◌<◌, ℕ, ℤ, ◌+◌, List, [], ◌∷◌, ◌++◌, length, slice_index}
 use Rattle.byteorder.specs.Endian.{little_number, twos_complement}
 use Rattle.sf_bytes.specs.Cursor.{Cursor}
 
--- these bytes stand between two cursors
+-- these bytes are between two cursors
 pub record Passes (run : List ℕ) (from to : Cursor) : Type 0 where
   pub bytes : from.left ≡ run ++ to.left
   pub moved : to.place ≡ from.place + length run
 
--- a field of this kind with this value stands between two cursors
+-- a field of this kind with this value is between two cursors
 pub record Stands {X : Type 0} (Kind : List ℕ → X → Type 0) (x : X) (from to : Cursor) : Type 0 where
   pub run : List ℕ
   pub kind : Kind run x

@@ -1,7 +1,7 @@
--- Steps one after the other, of which the first fault counts.
+-- Consecutive steps: the first fault counts.
 use Rattle.std.specs.Prelude.{Result, Ok, Err}
 
--- a step that goes on after another one, whose fault comes first
+-- a step that follows another one, whose fault comes first
 infixl 10 ◌>>=◌
 abbrev pub ◌>>=◌ : {A B F : Type 0} → Result A F → (A → Result B F) → Result B F
 (Ok x) >>= f = f x

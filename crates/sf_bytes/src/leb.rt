@@ -11,7 +11,7 @@ use crate::part::Part;
 /// The most bytes that a number of 64 bits has.
 const MOST_BYTES: usize = 10;
 
-// How many bytes the number at the front has, which stands at `place`.
+// Returns how many bytes the number at the front has, which is at `place`.
 #[inline(always)]
 fn number_length(bytes: &[u8], place: u64) -> Result<usize, ByteFault>
     ensures exact { result ≡ run_length place 10 bytes.now }
@@ -35,7 +35,7 @@ fn number_length(bytes: &[u8], place: u64) -> Result<usize, ByteFault>
     Err(ByteFault::Short(place))
 }
 
-// The sum of the low seven bits times the powers of 128.
+// Returns the sum of the low seven bits times the powers of 128.
 #[inline(always)]
 fn sum_of(run: &[u8]) -> u128
     requires { length run.now ≤ 10 }
@@ -51,7 +51,7 @@ fn sum_of(run: &[u8]) -> u128
     sum
 }
 
-// The sum in two's complement of seven bits a byte.
+// Returns the sum in two's complement of seven bits a byte.
 #[inline(always)]
 fn signed_sum_of(run: &[u8]) -> i128
     requires some { 0 < length run.now }
@@ -67,7 +67,7 @@ fn signed_sum_of(run: &[u8]) -> i128
 }
 
 impl Part<'_> {
-    // A number of one byte, as most are, or else of any length.
+    // Reads a number of one byte, as most are, or else of any length.
     #[tactic(auto, using(crate::proofs::ShortLeb::one_byte), unfolding(crate::specs::Leb::uleb_at))]
     #[inline(always)]
     fn read_uleb(&mut self) -> Result<u64, ByteFault>
@@ -127,15 +127,15 @@ impl Part<'_> {
         Ok(number as i64)
     }
 
-    /// The unsigned LEB128 number at the front, of at most ten bytes and below 2^64.
+    /// Reads the unsigned LEB128 number at the front, of at most ten bytes and below 2^64.
     ///
-    /// `Leb` where ten bytes all go on or the value doesn't fit, `Short` where fewer than ten are left and
-    /// all go on.
+    /// `Leb` if ten bytes all continue or the value doesn't fit, `Short` if fewer than ten are left and all
+    /// continue.
     #[inline(always)]
     pub fn uleb(&mut self) -> Result<u64, ByteFault>
-        // What is answered stands there.
+        // What is returned is there.
         ensures found { IfOk result (λ v. Stands Uleb v (cursor self.old) (cursor self.new)) }
-        // What stands there is answered.
+        // What is there is returned.
         ensures only { (v : ℕ) (after : Cursor) → Stands Uleb v (cursor self.old) after → (result ≡ Ok v) × (cursor self.new ≡ after) }
         // Which fault it is, and that the part is unchanged then.
         ensures exact { Gives (λ x. x) self.old self.new result (uleb_at (cursor self.old)) }
@@ -145,15 +145,15 @@ impl Part<'_> {
         self.read_uleb()
     }
 
-    /// The signed LEB128 number at the front, of at most ten bytes and within 64 bits.
+    /// Reads the signed LEB128 number at the front, of at most ten bytes and within 64 bits.
     ///
-    /// `Leb` where ten bytes all go on or the value doesn't fit, `Short` where fewer than ten are left and
-    /// all go on.
+    /// `Leb` if ten bytes all continue or the value doesn't fit, `Short` if fewer than ten are left and all
+    /// continue.
     #[inline(always)]
     pub fn sleb(&mut self) -> Result<i64, ByteFault>
-        // What is answered stands there.
+        // What is returned is there.
         ensures found { IfOk result (λ z. Stands Sleb z (cursor self.old) (cursor self.new)) }
-        // What stands there is answered.
+        // What is there is returned.
         ensures only { (z : ℤ) (after : Cursor) → Stands Sleb z (cursor self.old) after → (result ≡ Ok z) × (cursor self.new ≡ after) }
         // Which fault it is, and that the part is unchanged then.
         ensures exact { Gives (λ x. x) self.old self.new result (sleb_at (cursor self.old)) }

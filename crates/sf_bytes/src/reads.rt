@@ -8,7 +8,7 @@ use crate::part::Part;
 use byteorder::{ByteOrder, LittleEndian};
 
 impl<'a> Part<'a> {
-    /// The part whose first byte stands at `place`.
+    /// Creates the part whose first byte is at `place`.
     #[inline(always)]
     pub fn new(bytes: &'a [u8], place: u64) -> Part<'a>
         requires { place + length bytes.now < 2 ^ 64 }
@@ -18,7 +18,7 @@ impl<'a> Part<'a> {
         Part { bytes, place }
     }
 
-    /// How many bytes are left.
+    /// Returns how many bytes are left.
     #[inline(always)]
     pub fn len(&self) -> u64
         ensures { result ≡ length self.now.bytes.now }
@@ -26,7 +26,7 @@ impl<'a> Part<'a> {
         self.bytes.len() as u64
     }
 
-    /// Whether no byte is left.
+    /// Returns whether no byte is left.
     #[inline(always)]
     pub fn is_empty(&self) -> bool
         ensures { result ≡ (length self.now.bytes.now == 0) }
@@ -36,7 +36,7 @@ impl<'a> Part<'a> {
 
     /// Lends the next `n` bytes.
     ///
-    /// `Short` where fewer are left.
+    /// `Short` if fewer are left.
     #[tactic(auto, unfolding(crate::specs::Cursor::part_at))]
     #[inline(always)]
     pub fn take(&mut self, n: u64) -> Result<Part<'a>, ByteFault>
@@ -62,9 +62,9 @@ impl<'a> Part<'a> {
         Ok(taken)
     }
 
-    /// The next byte.
+    /// Reads the next byte.
     ///
-    /// `Short` where none is left.
+    /// `Short` if none is left.
     #[tactic(auto, unfolding(crate::specs::Cursor::part_at, crate::specs::Cursor::number_at))]
     #[inline(always)]
     pub fn get_u8(&mut self) -> Result<u8, ByteFault>
@@ -76,9 +76,9 @@ impl<'a> Part<'a> {
         Ok(field.bytes[0])
     }
 
-    /// The little-endian number in the next two bytes.
+    /// Reads the little-endian number in the next two bytes.
     ///
-    /// `Short` where fewer are left.
+    /// `Short` if fewer are left.
     #[tactic(auto, unfolding(crate::specs::Cursor::part_at, crate::specs::Cursor::number_at))]
     #[inline(always)]
     pub fn get_u16(&mut self) -> Result<u16, ByteFault>
@@ -90,9 +90,9 @@ impl<'a> Part<'a> {
         Ok(LittleEndian::read_u16(field.bytes))
     }
 
-    /// The little-endian number in the next four bytes.
+    /// Reads the little-endian number in the next four bytes.
     ///
-    /// `Short` where fewer are left.
+    /// `Short` if fewer are left.
     #[tactic(auto, unfolding(crate::specs::Cursor::part_at, crate::specs::Cursor::number_at))]
     #[inline(always)]
     pub fn get_u32(&mut self) -> Result<u32, ByteFault>
@@ -104,9 +104,9 @@ impl<'a> Part<'a> {
         Ok(LittleEndian::read_u32(field.bytes))
     }
 
-    /// The little-endian number in the next eight bytes.
+    /// Reads the little-endian number in the next eight bytes.
     ///
-    /// `Short` where fewer are left.
+    /// `Short` if fewer are left.
     #[tactic(auto, unfolding(crate::specs::Cursor::part_at, crate::specs::Cursor::number_at))]
     #[inline(always)]
     pub fn get_u64(&mut self) -> Result<u64, ByteFault>
@@ -118,9 +118,9 @@ impl<'a> Part<'a> {
         Ok(LittleEndian::read_u64(field.bytes))
     }
 
-    /// The next byte, signed.
+    /// Reads the next byte as a signed number.
     ///
-    /// `Short` where none is left.
+    /// `Short` if none is left.
     #[tactic(auto, unfolding(crate::specs::Cursor::number_at, crate::specs::Cursor::signed_at))]
     #[inline(always)]
     pub fn get_i8(&mut self) -> Result<i8, ByteFault>
@@ -132,9 +132,9 @@ impl<'a> Part<'a> {
         Ok(bits.cast_signed())
     }
 
-    /// The signed little-endian number in the next two bytes.
+    /// Reads the signed little-endian number in the next two bytes.
     ///
-    /// `Short` where fewer are left.
+    /// `Short` if fewer are left.
     #[tactic(auto, unfolding(crate::specs::Cursor::number_at, crate::specs::Cursor::signed_at))]
     #[inline(always)]
     pub fn get_i16(&mut self) -> Result<i16, ByteFault>
@@ -146,9 +146,9 @@ impl<'a> Part<'a> {
         Ok(bits.cast_signed())
     }
 
-    /// The signed little-endian number in the next four bytes.
+    /// Reads the signed little-endian number in the next four bytes.
     ///
-    /// `Short` where fewer are left.
+    /// `Short` if fewer are left.
     #[tactic(auto, unfolding(crate::specs::Cursor::number_at, crate::specs::Cursor::signed_at))]
     #[inline(always)]
     pub fn get_i32(&mut self) -> Result<i32, ByteFault>
@@ -160,9 +160,9 @@ impl<'a> Part<'a> {
         Ok(bits.cast_signed())
     }
 
-    /// The signed little-endian number in the next eight bytes.
+    /// Reads the signed little-endian number in the next eight bytes.
     ///
-    /// `Short` where fewer are left.
+    /// `Short` if fewer are left.
     #[tactic(auto, unfolding(crate::specs::Cursor::number_at, crate::specs::Cursor::signed_at))]
     #[inline(always)]
     pub fn get_i64(&mut self) -> Result<i64, ByteFault>

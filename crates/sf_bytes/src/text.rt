@@ -9,7 +9,7 @@ ghost use Rattle.sf_bytes.specs.Text.{text_at};
 use crate::fault::ByteFault;
 use crate::part::Part;
 
-// How many bytes stand before the first zero byte.
+// Returns how many bytes are before the first zero byte.
 fn text_length(bytes: &[u8]) -> Option<usize>
     ensures { result ≡ position (λ b. b == 0) bytes.now }
 {
@@ -36,13 +36,13 @@ impl<'a> Part<'a> {
 
     /// Lends the bytes before the next zero byte, and passes the zero.
     ///
-    /// `Short` where no zero byte is left.
+    /// `Short` if no zero byte is left.
     pub fn text0(&mut self) -> Result<&'a [u8], ByteFault>
-        // What is answered stands there.
+        // What is returned is there.
         ensures found { IfOk result (λ text. Stands Text text.now (cursor self.old) (cursor self.new)) }
-        // What stands there is answered.
+        // What is there is returned.
         ensures only { (text : List ℕ) (after : Cursor) → Stands Text text (cursor self.old) after → IsOkAnd result (λ lent. lent.now ≡ text) × (cursor self.new ≡ after) }
-        // `Short` where no zero byte is left, and the part is unchanged then.
+        // `Short` if no zero byte is left, and the part is unchanged then.
         ensures exact { Gives (λ text. text.now) self.old self.new result (text_at (cursor self.old)) }
         // The part ends where it did.
         ensures end { EndStays self.old self.new }
