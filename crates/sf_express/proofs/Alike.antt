@@ -52,7 +52,7 @@ minus_8_is : (n : ℤ) → is_minus_8 n ≡ true → n ≡ negsuc 7
 minus_8_is (pos n) e = cc
 minus_8_is (negsuc n) e = let z : n ≡ 7 = grind (arith, nat_tests) in ap (λ (k : ℕ). negsuc k) z
 
--- an address that was moved to stays, moved by nothing
+-- an address that was moved to is unchanged if moved by 0
 remainder_stays : (n : ℕ) → (n % 2 ^ 64 + 0) % 2 ^ 64 ≡ n % 2 ^ 64
 remainder_stays n = ap (λ (k : ℕ). k % 2 ^ 64) (plus_zero (n % 2 ^ 64)) ∙ mod-mod n (2 ^ 64)
   where
@@ -172,7 +172,7 @@ recovery_of_parts f ra fp sp signed = record { frame_address = f; return_address
 parts_are : (f : Option ℕ) (ra ra' fp fp' sp sp' : Option Value) (signed : Option Key) → ra ≡ ra' → fp ≡ fp' → sp ≡ sp' → recovery_of_parts f ra fp sp signed ≡ recovery_of_parts f ra' fp' sp' signed
 parts_are f ra ra' fp fp' sp sp' signed p q r = rw (p, q, r) refl
 
--- what the parts of a row say of it
+-- what the parts of a row determine of it
 record AreParts (arch : Arch) (columns : Columns) (x : Base × ℤ) (u : Unit {0}) (ra : Ra) (fp : Option ℤ) : Type 0 where
   said_cfa : cfa_content arch columns.cfa ≡ Ok x
   said_sp : stack_pointer_check columns.sp ≡ Ok u

@@ -1,4 +1,4 @@
--- The rows of a kept function as pieces: they say what is said at each offset, and no piece says what the one before it says.
+-- The rows of a kept function as pieces: they have the content that holds at each offset, and no two neighbours are alike.
 use Rattle.std.specs.List.{All, cons_option, filter, filter_map, range_with_len}
 use Rattle.std.specs.Option.{option_map}
 use Rattle.std.proofs.Common.{◌≡◌, ◌≢◌, ℕ, zero, suc, ◌+◌, ◌<◌, ◌≤◌, Bool, true, false, cond, List, [], ◌∷◌, map, Option, Some, None, Result, Ok, Err, refl, sym, ap, subst, ◌∙◌, arith, inl, inr}
@@ -19,7 +19,7 @@ use Rattle.sf_express.proofs.Writable.{StartsRise}
 abbrev as_pieces : List Row → List Piece
 as_pieces rows = map piece_of_row rows
 
--- ---- what they say
+-- ---- their contents
 abbrev as_content : Option Content → Option (Option Content)
 as_content found = option_map (λ (c : Content). Some c) found
 

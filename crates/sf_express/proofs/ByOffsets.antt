@@ -1,4 +1,4 @@
--- What `express` answers is the definition's function by offsets, or its first reason.
+-- What `express` returns is the definition's function by offsets, or its first reason.
 use Rattle.std.specs.List.{range_with_len, All}
 use Rattle.std.proofs.Common.{◌≡◌, ℕ, zero, suc, ◌+◌, ◌<◌, ◌≤◌, Bool, true, false, cond, List, [], ◌∷◌, Option, Some, None, Result, Ok, Err, refl, sym, ap, subst, ◌∙◌, arith, inl, inr}
 use Rattle.std.proofs.lemmas.Bool.{cases_lt, le-leb}
@@ -55,7 +55,7 @@ kept_is arch size rows kept says h e are =
     let same = kept_say_the_same arch size rows kept h e in
     rows_are says 0 size size None kept (omega arith) rise.rise below (λ o le lt. sym (same o) ∙ are o (omega (arith, lt))) refl (kept_differ arch rows kept e)
 
--- where each row can be expressed there is no reason
+-- if each row can be expressed there is no reason
 fine_first : (a : ℕ) (x : Result Content Reason) (later : Option Omission) → IsSayable (Some x) → or_later (against a x) later ≡ later
 fine_first a (Ok c) later fine = refl
 fine_first a (Err reason) later fine = absurd fine
@@ -94,7 +94,7 @@ as_before a b found (r ∷ rows) below le =
 no_sayable : (arch : Arch) (found : Option DwRow) (reason : Reason) → said arch found ≡ Some (Err reason) → IsSayable (said arch found) → ⊥
 no_sayable arch found reason e h = subst IsSayable e h
 
--- the first reason stands at an offset below the size
+-- the first reason is at an offset below the size
 is_below : (arch : Arch) (size : ℕ) (rows : List DwRow) (reason : Reason) (o : ℕ) → 0 < size → All (λ (r : DwRow). r.start < size) rows → IsFirstReason arch rows reason o → o < size
 is_below arch zero rows reason o some below h = absurd (omega (arith, some))
 is_below arch (suc last) rows reason o some below h =

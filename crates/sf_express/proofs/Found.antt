@@ -1,4 +1,4 @@
--- The row that holds at an offset, among the rows of a function, has the content that is said there.
+-- The row that holds at an offset, among the rows of a function, has the content at that offset.
 use Rattle.std.specs.Prelude.{nat_le, ◌&&◌, not}
 use Rattle.std.specs.Option.{option_map}
 use Rattle.std.specs.List.{filter, filter_map, find, cons_option, range_with_len}
@@ -86,7 +86,7 @@ rise_among says a (suc n) = at_test (begins says a) (rise_among says (a + 1) n)
     at_test true h = rise_one a (says a) (rows_among says (range_with_len (a + 1) n)) h
     at_test false h = rise_lower a (a + 1) (rows_among says (range_with_len (a + 1) n)) (omega arith) h
 
--- a content is said at each offset
+-- there is a content at each offset
 abbrev pub SaysContent : Result Content Reason → Type 0
 SaysContent (Ok c) = Unit {0}
 SaysContent (Err reason) = ⊥
@@ -140,7 +140,7 @@ latest_said says a (suc n) found before all o le lt =
           | inr not_above ↦ at_here found (found_before says a found before e) (omega (arith, not_above, le))
         ]
 
--- where a content is said at each offset below the size, the rows have it there
+-- if there is a content at each offset below the size, the rows have it there
 pub row_said : (says : Saying) (size : ℕ) → ((o : ℕ) → o < size → SaysContent (says o)) → (o : ℕ) → o < size → as_said (option_map (λ (r : Row). r.content) (row_at o (rows_of says size))) ≡ Some (says o)
 unfolding rows_of
 row_said says size all o lt =

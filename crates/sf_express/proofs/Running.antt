@@ -1,4 +1,4 @@
--- The loops over rows that are made one by one.
+-- The loops over rows that a runner yields one by one.
 use Rattle.std.proofs.Common.{◌≡◌, ℕ, List, [], ◌++◌, true, is_ok, Option, Some, Result, Ok, Err, refl, subst, sym, ap, ◌∙◌}
 use Rattle.std.proofs.lemmas.List.{append-nil}
 use Rattle.sf_model.specs.declared.machine.Arch.{Arch}
@@ -16,7 +16,7 @@ use Rattle.sf_express.specs.Rules.{content_of}
 use Rattle.sf_express.specs.Run.{on_rows}
 use Rattle.sf_express.proofs.Kept.{after_kept, regroup}
 
--- the same end: both are over without a fault, or have the same one
+-- the same end: both ended without a fault, or have the same one
 pub record Continues (before after : Result (List DwRow) MachineFault) : Type 0 where
   pub ok : is_ok before ≡ is_ok after
   pub fault : (e : MachineFault) → after ≡ Err e → before ≡ Err e
@@ -75,6 +75,6 @@ continues_behind whole left after start c next h = record {
   fault = λ e here. h.fault e (next ∙ ap (behind_row start c) here);
 }
 
--- the same columns say the same
+-- the same columns have the same content
 pub says_same : (arch : Arch) (start : ℕ) (d c : Columns) (answer : Result Content Reason) → d ≡ c → answer ≡ content_of arch (row_from start d) → answer ≡ content_of arch (row_from start c)
 says_same arch start d c answer same h = subst (λ (x : Columns). answer ≡ content_of arch (row_from start x)) same h

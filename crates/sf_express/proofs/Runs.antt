@@ -18,7 +18,7 @@ abbrev pub RowsBelow : ℕ → List Row → Type 0
 RowsBelow end [] = Unit {0}
 RowsBelow end (r ∷ rows) = (r.start < end) × RowsBelow end rows
 
--- what the offset before says was found
+-- the content at the offset before was found
 abbrev pub FoundBefore : Saying → ℕ → Option Content → Type 0
 FoundBefore says zero found = found ≡ None
 FoundBefore says (suc offset) found = as_said found ≡ Some (says offset)
@@ -63,7 +63,7 @@ takes says a n c e h =
     ∙ rw h refl
 
 -- ---- all rows
--- what the rows from an offset on say, when rows before have found this
+-- what the rows from an offset on give, if earlier rows gave this
 abbrev Say : Saying → (a n : ℕ) → Option Content → List Row → Type 0
 Say says a n found rows = (o : ℕ) → a ≤ o → o < a + n → as_said (latest_content o found rows) ≡ Some (says o)
 

@@ -1,4 +1,4 @@
--- Pieces say at each offset what the rows say.
+-- Pieces have at each offset the content of the rows.
 use Rattle.std.specs.List.{All}
 use Rattle.std.specs.Option.{option_map}
 use Rattle.std.proofs.Common.{◌≡◌, ℕ, zero, suc, ◌+◌, ◌<◌, ◌≤◌, Bool, true, false, cond, List, [], ◌∷◌, ◌++◌, get_or, length, Option, Some, None, Result, Ok, Err, refl, sym, ap, subst, ◌∙◌, arith, inl, inr}
@@ -24,7 +24,7 @@ use Rattle.sf_express.specs.Runs.{AreSaid, Saying}
 use Rattle.sf_express.proofs.Changes.{content_itself}
 use Rattle.sf_express.proofs.Same.{content_same}
 
--- ---- made one after the other
+-- ---- consecutive pieces
 abbrev pub pieces_and_left : Arch → List Piece → Option (Option Content) → Result (List DwRow) MachineFault → Result (List Piece) MachineFault
 pieces_and_left arch before last left = on_rows (λ rows. before ++ pieces_of arch last rows) left
 
@@ -63,7 +63,7 @@ is_done arch before last left whole none so_far =
     let here : pieces_and_left arch before last left ≡ Ok before = rw none (ap (λ (ps : List Piece). Ok ps) (append-nil before)) in
     sym so_far ∙ here
 
--- ---- what they say
+-- ---- their contents
 rise_lower : (low high : ℕ) (pieces : List Piece) → low ≤ high → PiecesRise high pieces → PiecesRise low pieces
 rise_lower low high [] le h = tt
 rise_lower low high (p ∷ pieces) le h = (omega (arith, le, h.0), h.1)
@@ -79,7 +79,7 @@ pieces_rise arch least last (r ∷ rows) h =
     unless_rises (says_again last (content_in (content_of arch r))) least (piece_of arch r) (pieces_of arch (Some (content_in (content_of arch r))) rows) h.0
     (pieces_rise arch (r.start + 1) (Some (content_in (content_of arch r))) rows h.1)
 
--- pieces that begin after an offset say nothing there
+-- pieces that begin after an offset have nothing there
 said_past : (o least : ℕ) (found : Option (Option Content)) (pieces : List Piece) → o < least → PiecesRise least pieces → said_by o found pieces ≡ found
 said_past o least found [] lt h = refl
 said_past o least found (p ∷ pieces) lt h = rw (lt-leb p.start o (omega (arith, lt, h.0))) refl

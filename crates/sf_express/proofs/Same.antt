@@ -1,4 +1,4 @@
--- At every offset the kept rows say what all rows say.
+-- At every offset the kept rows have the content of all rows.
 use Rattle.std.specs.Prelude.{nat_le, IsTrue}
 use Rattle.std.specs.List.{All}
 use Rattle.std.proofs.lemmas.Bool.Decides.{Decides-int_eq}

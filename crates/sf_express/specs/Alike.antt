@@ -1,4 +1,4 @@
--- A row of call frame instructions and what a frame row entry says of it recover the same of the caller's frame (DWARF 5,
+-- A row of call frame instructions and the content of a frame row entry recover the same of the caller's frame (DWARF 5,
 -- section 6.4.1; GNU SFrame specification, Version 2, "SFrame Frame Row Entries").
 use Rattle.std.specs.Prelude.{◌≡◌, List, Option, Some}
 use Rattle.std.specs.Option.{option_map}
@@ -26,7 +26,7 @@ defined r = record {
 
 -- In a function whose return address column is the machine's own, with every key, all registers and all memory, the rules of a
 -- row and a content recover the same: the canonical frame address, the return address, the frame pointer, the stack pointer and
--- the key of the signature, where what can't be read has the same address.
+-- the key of the signature; what can't be read has the same address.
 pub record RecoverAlike (arch : Arch) (row : FullRow) (content : Content) : Type 0 where
   pub alike : (key : Key) (regs : Regs) (memory : List Region)
       → recovery_by_rules arch (return_address arch) row key regs memory ≡ defined (recovery content key regs memory)
@@ -35,7 +35,7 @@ pub record RecoverAlike (arch : Arch) (row : FullRow) (content : Content) : Type
       → (recovery_by_rules arch (return_address arch) row key regs memory).stack_pointer
       ≡ option_map Known (recovery_by_rules arch (return_address arch) row key regs memory).frame_address
 
--- the same of the columns of a row
+-- the columns of a row recover the same as a content, in the same sense
 pub record ColumnsRecoverAlike (arch : Arch) (columns : Columns) (content : Content) : Type 0 where
   pub alike : (key : Key) (regs : Regs) (memory : List Region) → columns_recover arch columns key regs memory ≡ defined (recovery content key regs memory)
   pub stack_pointer : (key : Key) (regs : Regs) (memory : List Region)

@@ -23,12 +23,14 @@ pub use Rattle.sf_bytes.specs.Steps.{◌>>=◌}
 use Rattle.cfa_machine.specs.Registers.{return_address}
 
 -- ---- whether two contents are the same
+-- whether two base registers are the same
 abbrev pub same_base : Base → Base → Bool
 same_base Fp Fp = true
 same_base Fp Sp = false
 same_base Sp Fp = false
 same_base Sp Sp = true
 
+-- whether two return addresses are at the same place
 abbrev pub same_ra : Ra → Ra → Bool
 same_ra Fixed Fixed = true
 same_ra Fixed Link = false
@@ -40,19 +42,23 @@ same_ra (At m) Fixed = false
 same_ra (At m) Link = false
 same_ra (At m) (At n) = int_eq m n
 
+-- whether two frame pointers are saved at the same offset, or both aren't
 abbrev pub same_fp : Option ℤ → Option ℤ → Bool
 same_fp None None = true
 same_fp None (Some n) = false
 same_fp (Some m) None = false
 same_fp (Some m) (Some n) = int_eq m n
 
+-- whether both return addresses are signed, or both aren't
 abbrev pub same_sign : Bool → Bool → Bool
 same_sign true signed = signed
 same_sign false signed = not signed
 
+-- whether two contents are the same
 abbrev pub same_content : Content → Content → Bool
 same_content a b = same_base a.base b.base && int_eq a.cfa b.cfa && same_ra a.ra b.ra && same_fp a.fp b.fp && same_sign a.signed b.signed
 
+-- whether a content is that of the row before
 abbrev pub repeats : Option Content → Content → Bool
 repeats None c = false
 repeats (Some last) c = same_content last c
@@ -72,6 +78,7 @@ abbrev pub row_from : ℕ → Result Content Reason → Result Row Omission
 row_from start (Ok c) = Ok (record { start = start; content = c })
 row_from start (Err reason) = Err (record { reason = reason; offset = Some start })
 
+-- the row in SFrame's form, or its omission
 abbrev pub row_by : Arch → DwRow → Result Row Omission
 row_by arch r = row_from r.start (content_of arch r)
 
@@ -93,17 +100,18 @@ with_rows facts (Some reason) rows = Err (record { reason = reason; offset = Non
 with_rows facts None (Ok rows) = Ok (record { start = facts.start; size = facts.size; shape = Plain; key = facts.key; rows = rows })
 with_rows facts None (Err omission) = Err omission
 
+-- the function in SFrame's form, or its first omission
 abbrev pub function_by : Arch → FdeFacts → List DwRow → Result Func Omission
 function_by arch facts rows = with_rows facts (reason_of arch facts) (expressed_rows arch None rows)
 
--- ---- what a call answered is what the definition gives
+-- ---- what a call returned is what the definition gives
 -- the row was returned, or the omission, and memory didn't run out
 abbrev pub Makes : Result Row ExpressFault → Result Row Omission → Type 0
 Makes (Ok row) given = given ≡ Ok row
 Makes (Err (Omit omission)) given = given ≡ Err omission
 Makes (Err NoMemory) given = ⊥
 
--- the omission of a fault, which out of memory is not
+-- the omission of a fault, or none for out of memory
 abbrev pub omission_of : ExpressFault → Option Omission
 omission_of (Omit omission) = Some omission
 omission_of NoMemory = None
@@ -112,6 +120,6 @@ omission_of NoMemory = None
 abbrev pub Fails : {Y : Type 0} → ExpressFault → Result Y Omission → Type 0
 Fails fault given = answers.Fails omission_of fault given
 
--- the result, seen by view, is what the definition gives, unless memory ran out
+-- the result, seen through `view`, is what the definition gives, unless memory ran out
 abbrev pub Gives : {X Y : Type 0} → (X → Y) → Result X ExpressFault → Result Y Omission → Type 0
 Gives view result given = answers.Gives omission_of view result given

@@ -1,4 +1,4 @@
--- What rows say at an offset of their function: the row with the greatest start not above it (GNU SFrame
+-- The content at an offset of a function: that of the row with the greatest start not above the offset (GNU SFrame
 -- specification, "SFrame Frame Row Entries").
 use Rattle.std.specs.Prelude.{◌≡◌, ◌≢◌, ◌<◌, ℕ, nat_le, List, [], ◌∷◌, Option, Some, None, Result, Ok, Err, if◌then◌else◌}
 use Rattle.sf_model.specs.declared.machine.Arch.{Arch}
@@ -14,24 +14,26 @@ use Rattle.cfa_machine.specs.declared.row.DwRow.{DwRow}
 use Rattle.cfa_machine.specs.RowAtOffset.{latest_at}
 use Rattle.sf_express.specs.Rules.{content_of}
 
--- the content, or the reason against it, of the call frame instructions' row at an offset
+-- the content of a row of the call frame instructions, or the reason against it, if there is a row
 abbrev pub said : Arch → Option DwRow → Option (Result Content Reason)
 said arch None = None
 said arch (Some r) = Some (content_of arch r)
 
+-- the content at an offset, or the reason against it, by the call frame instructions' rows
 abbrev pub said_at : Arch → ℕ → List DwRow → Option (Result Content Reason)
 said_at arch o rows = said arch (latest_at o None rows)
 
--- the content of the SFrame row at an offset
+-- the content at an offset, by SFrame's rows
 abbrev pub latest_content : ℕ → Option Content → List Row → Option Content
 latest_content o found [] = found
 latest_content o found (r ∷ rows) = latest_content o (if nat_le r.start o then Some r.content else found) rows
 
+-- a content, as one without a reason against it
 abbrev pub as_said : Option Content → Option (Result Content Reason)
 as_said None = None
 as_said (Some c) = Some (Ok c)
 
--- at every offset SFrame's rows say what the call frame instructions' rows say
+-- at every offset SFrame's rows have the content of the call frame instructions' rows
 abbrev pub SayTheSame : Arch → List DwRow → List Row → Type 0
 SayTheSame arch rows kept = (o : ℕ) → said_at arch o rows ≡ as_said (latest_content o None kept)
 
@@ -41,7 +43,7 @@ IsSayable None = Unit {0}
 IsSayable (Some (Ok c)) = Unit {0}
 IsSayable (Some (Err reason)) = ⊥
 
--- the reason of the row at this offset, the least one where there is one
+-- the reason of the row at this offset, which is the least offset with a reason
 pub record IsFirstReason (arch : Arch) (rows : List DwRow) (reason : Reason) (o : ℕ) : Type 0 where
   pub there : said_at arch o rows ≡ Some (Err reason)
   pub before : (p : ℕ) → p < o → IsSayable (said_at arch p rows)
@@ -51,7 +53,7 @@ abbrev pub IsOmission : Arch → FdeFacts → List DwRow → Reason → Option �
 IsOmission arch facts rows reason None = reason_of arch facts ≡ Some reason
 IsOmission arch facts rows reason (Some o) = (reason_of arch facts ≡ None) × IsFirstReason arch rows reason o
 
--- a function is kept where it has no reason as a whole, and is omitted with its first reason
+-- a function is kept if it has no reason as a whole, and is omitted with its first reason
 abbrev pub Omits : Arch → FdeFacts → List DwRow → Result Func ExpressFault → Type 0
 Omits arch facts rows (Ok f) = reason_of arch facts ≡ None
 Omits arch facts rows (Err (Omit omission)) = IsOmission arch facts rows omission.reason omission.offset
@@ -67,7 +69,7 @@ abbrev pub StartAtZero : List Row → Type 0
 StartAtZero [] = ⊥
 StartAtZero (r ∷ rows) = r.start ≡ 0
 
--- rows stand at 0 and where the content changes, and nowhere else
+-- rows begin at 0 and where the content changes, and nowhere else
 pub record StandAtChanges (rows : List Row) : Type 0 where
   pub first : StartAtZero rows
   pub differ : DifferFrom None rows

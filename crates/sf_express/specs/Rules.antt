@@ -1,5 +1,5 @@
 -- What SFrame Version 2 can express of a row (GNU SFrame specification, "SFrame Frame Row Entries"), in the order in
--- which the reasons against it are tried.
+-- which the reasons against it are checked.
 use Rattle.std.specs.Prelude.{ℕ, ℤ, pos, negsuc, ◌^◌, ◌==◌, Bool, false, nat_lt, Option, Some, None, Result, Ok, Err, if◌then◌else◌}
 use Rattle.sf_model.specs.declared.machine.Arch.{Arch}
 use Rattle.sf_model.specs.declared.machine.Arch.TheVariants.{Amd64, Aarch64}
@@ -23,6 +23,7 @@ abbrev pub fits_i32 : ℤ → Bool
 fits_i32 (pos n) = nat_lt n (2 ^ 31)
 fits_i32 (negsuc n) = nat_lt n (2 ^ 31)
 
+-- the number, if it fits 32 bits as two's complement
 abbrev pub narrowed : ℤ → Option ℤ
 narrowed z = if fits_i32 z then Some z else None
 
@@ -31,28 +32,32 @@ abbrev pub or_reason : {A : Type 0} → Reason → Option A → Result A Reason
 or_reason reason (Some x) = Ok x
 or_reason reason None = Err reason
 
--- the canonical frame address counts from the stack pointer or the frame pointer
+-- SFrame's base register for a DWARF register, if that is the stack pointer or the frame pointer
 abbrev pub base_of : Arch → ℕ → Option Base
 base_of arch r = if r == stack_pointer arch then Some Sp else (if r == frame_pointer arch then Some Fp else None)
 
+-- the canonical frame address: its base and an offset of 32 bits
 abbrev pub cfa_at : Base → Option ℤ → Result (Base × ℤ) Reason
 cfa_at base (Some n) = Ok (base, n)
 cfa_at base None = Err CfaOffset
 
+-- the canonical frame address, counted from the stack pointer or the frame pointer
 abbrev pub cfa_from : Option Base → ℤ → Result (Base × ℤ) Reason
 cfa_from (Some base) n = cfa_at base (narrowed n)
 cfa_from None n = Err CfaRegister
 
+-- the canonical frame address in SFrame's form: a base and an offset
 abbrev pub cfa_content : Arch → CfaRule → Result (Base × ℤ) Reason
 cfa_content arch cfa.Missing = Err NoCfa
 cfa_content arch cfa.Expression = Err CfaExpression
 cfa_content arch (cfa.Reg r n) = cfa_from (base_of arch r) n
 
--- the stack pointer is the canonical frame address
+-- whether a number is 0
 abbrev pub is_zero : ℤ → Bool
 is_zero (pos n) = n == 0
 is_zero (negsuc n) = false
 
+-- the stack pointer is the canonical frame address: it has no rule, or its value is that address plus 0
 abbrev pub stack_pointer_check : Rule → Result (Unit {0}) Reason
 stack_pointer_check rule.Missing = Ok tt
 stack_pointer_check (rule.ValOffset n) = if is_zero n then Ok tt else Err SpRule
@@ -63,15 +68,17 @@ stack_pointer_check (rule.Register r) = Err SpRule
 stack_pointer_check rule.Expression = Err SpRule
 stack_pointer_check rule.ValExpression = Err SpRule
 
--- on AMD64 the return address is saved at -8, on AArch64 it is anywhere or in the link register
+-- whether a number is -8
 abbrev pub is_minus_8 : ℤ → Bool
 is_minus_8 (pos n) = false
 is_minus_8 (negsuc n) = n == 7
 
+-- a return address that is saved at an offset of 32 bits
 abbrev pub return_address_at : Option ℤ → Result Ra Reason
 return_address_at (Some n) = Ok (At n)
 return_address_at None = Err RaOffset
 
+-- on AMD64 the return address is saved at -8, on AArch64 at any offset or it is in the link register
 abbrev pub return_address_content : Arch → Rule → Result Ra Reason
 return_address_content Amd64 (rule.Offset n) = if is_minus_8 n then Ok Fixed else Err RaOffset
 return_address_content Amd64 rule.Missing = Err RaRule
@@ -90,11 +97,12 @@ return_address_content Aarch64 (rule.Register r) = Err RaRule
 return_address_content Aarch64 rule.Expression = Err RaRule
 return_address_content Aarch64 rule.ValExpression = Err RaRule
 
--- the frame pointer is saved or keeps its value
+-- a frame pointer that is saved at an offset of 32 bits
 abbrev pub frame_pointer_at : Option ℤ → Result (Option ℤ) Reason
 frame_pointer_at (Some n) = Ok (Some n)
 frame_pointer_at None = Err FpOffset
 
+-- the frame pointer is saved or keeps its value
 abbrev pub frame_pointer_content : Rule → Result (Option ℤ) Reason
 frame_pointer_content rule.Missing = Ok None
 frame_pointer_content rule.Same = Ok None
@@ -124,7 +132,7 @@ sign_state_check Aarch64 (rule.Register r) = Err SignState
 sign_state_check Aarch64 rule.Expression = Err SignState
 sign_state_check Aarch64 rule.ValExpression = Err SignState
 
--- what a row says, or the first reason against it
+-- the content of a row, or the first reason against it
 unfoldable pub content_of : Arch → DwRow → Result Content Reason
 content_of arch row = do
   cfa ← cfa_content arch row.cfa

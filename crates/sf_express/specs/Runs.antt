@@ -1,5 +1,5 @@
--- A function as SFrame Version 2 expresses it, by what its call frame instructions say at each offset (GNU SFrame specification,
--- function descriptor entries and frame row entries): a row at 0 and at each offset where the content changes.
+-- A function as SFrame Version 2 expresses it, by the content of its call frame instructions' rows at each offset (GNU SFrame
+-- specification, function descriptor entries and frame row entries): a row at 0 and at each offset where the content changes.
 use Rattle.std.specs.Prelude.{◌≡◌, ◌<◌, ℕ, zero, suc, Bool, true, false, not, List, [], ◌∷◌, Option, Some, None, Result, Ok, Err}
 use Rattle.std.specs.List.{filter, filter_map, range_with_len}
 use Rattle.sf_model.specs.declared.machine.Arch.{Arch}
@@ -15,7 +15,7 @@ use Rattle.sf_express.specs.Expressed.{same_content, reason_of}
 use Rattle.sf_express.specs.Offsets.{said_at}
 pub use Rattle.sf_model.specs.Firsts.{or_later}
 
--- what is said at each offset: a content, or the first reason against the row there
+-- at each offset a content, or the first reason against the row there
 abbrev pub Saying : Type 0
 Saying = (offset : ℕ) → Result Content Reason
 
@@ -30,11 +30,12 @@ abbrev pub first_against : Saying → List ℕ → Option Omission
 first_against says [] = None
 first_against says (offset ∷ offsets) = or_later (against offset (says offset)) (first_against says offsets)
 
--- the first reason against the function: against it as a whole, or else against the row at the least offset below its size
+-- the reason against the function as a whole, or else the first one against a row
 abbrev pub whole_or_row : Option Reason → Option Omission → Option Omission
 whole_or_row (Some reason) row = Some (record { reason = reason; offset = None })
 whole_or_row None row = row
 
+-- the first reason against the function: against it as a whole, or else against the row at the least offset below its size
 unfoldable pub omission_of : Arch → FdeFacts → Saying → Option Omission
 omission_of arch facts says = whole_or_row (reason_of arch facts) (first_against says (range_with_len 0 facts.size))
 
@@ -50,7 +51,7 @@ abbrev pub begins : Saying → (offset : ℕ) → Bool
 begins says zero = true
 begins says (suc offset) = not (say_the_same (says offset) (says (suc offset)))
 
--- the row from an offset on
+-- the row that begins at an offset, if it has a content
 abbrev pub row_there : (offset : ℕ) → Result Content Reason → Option Row
 row_there offset (Ok content) = Some (record { start = offset; content = content })
 row_there offset (Err reason) = None
@@ -64,9 +65,11 @@ unfoldable pub rows_of : Saying → (size : ℕ) → List Row
 rows_of says size = rows_among says (range_with_len 0 size)
 
 -- ---- the function
+-- the function with the rows that begin where the content changes
 abbrev pub expressed : FdeFacts → Saying → Func
 expressed facts says = record { start = facts.start; size = facts.size; shape = Plain; key = facts.key; rows = rows_of says facts.size }
 
+-- the function, or the omission if there is one
 abbrev pub unless_omitted : Option Omission → Func → Result Func Omission
 unless_omitted None function = Ok function
 unless_omitted (Some omission) function = Err omission
@@ -75,6 +78,6 @@ unless_omitted (Some omission) function = Err omission
 unfoldable pub function_of : Arch → FdeFacts → Saying → Result Func Omission
 function_of arch facts says = unless_omitted (omission_of arch facts says) (expressed facts says)
 
--- at each offset below the size the rows of the call frame instructions say this
+-- at each offset below the size this is the content of the call frame instructions' rows, or the reason against it
 abbrev pub AreSaid : Arch → (size : ℕ) → List DwRow → Saying → Type 0
 AreSaid arch size rows says = (offset : ℕ) → offset < size → said_at arch offset rows ≡ Some (says offset)

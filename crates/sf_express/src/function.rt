@@ -17,7 +17,7 @@ use std::alloc::{AllocError, Global};
 /// The first size that doesn't fit a function descriptor entry, in bytes.
 const SIZE_LIMIT: u64 = 0x1_0000_0000;
 
-/// Whether two contents are the same.
+/// Returns whether two contents are the same.
 #[inline(always)]
 pub fn is_same(last: Content, content: Content) -> bool
     ensures { result ≡ same_content last content }
@@ -29,7 +29,7 @@ pub fn is_same(last: Content, content: Content) -> bool
         && last.signed == content.signed
 }
 
-/// Whether a content is that of the row before, if there is one.
+/// Returns whether a content is that of the row before, if there is one.
 #[inline(always)]
 pub fn is_repeated(last: Option<Content>, content: Content) -> bool
     ensures { result ≡ repeats last content }
@@ -40,7 +40,7 @@ pub fn is_repeated(last: Option<Content>, content: Content) -> bool
     }
 }
 
-/// The first reason of the function as a whole.
+/// Returns the first reason of the function as a whole.
 pub fn function_reason(arch: Arch, facts: &FdeFacts) -> Option<Reason>
     ensures { result ≡ reason_of arch facts.now }
 {
@@ -59,7 +59,7 @@ pub fn function_reason(arch: Arch, facts: &FdeFacts) -> Option<Reason>
     None
 }
 
-// The row in SFrame's form, or the omission at its start.
+// Returns the row in SFrame's form, or the omission at its start.
 #[inline(always)]
 fn row_of(arch: Arch, row: &DwRow) -> Result<Row, ExpressFault>
     requires { row.now.start < 2 ^ 32 }
@@ -86,7 +86,7 @@ pub fn append(kept: &mut Rows, last: Option<Content>, row: Row) -> Result<(), Al
     Ok(())
 }
 
-// The rows in SFrame's form.
+// Returns the rows in SFrame's form.
 fn express_rows(alloc: Global, arch: Arch, rows: &[DwRow]) -> Result<Rows, ExpressFault>
     requires { All (λ r. r.start < 2 ^ 32) rows.now }
     ensures { Gives (λ kept. kept) result (expressed_rows arch None rows.now) }
@@ -101,7 +101,7 @@ fn express_rows(alloc: Global, arch: Arch, rows: &[DwRow]) -> Result<Rows, Expre
     Ok(kept)
 }
 
-/// The function with these facts and rows.
+/// Creates the function with these facts and rows.
 pub fn function_with(facts: &FdeFacts, rows: Rows) -> Func
     requires { facts.now.size < 2 ^ 32 }
     ensures { result ≡ record { start = facts.now.start; size = facts.now.size; shape = Plain; key = facts.now.key; rows = rows } }
@@ -115,7 +115,7 @@ pub fn function_with(facts: &FdeFacts, rows: Rows) -> Func
     }
 }
 
-// The function, or its first omission.
+// Returns the function, or its first omission.
 fn whole(alloc: Global, arch: Arch, facts: &FdeFacts, rows: &[DwRow]) -> Result<Func, ExpressFault>
     requires { AreRows arch facts.now.size rows.now }
     ensures writable { IfOk result (λ f. facts.now.start + facts.now.size ≤ 2 ^ 64 → IsTrue (key_fits arch facts.now.key) → IsWritable arch f) }
@@ -133,7 +133,8 @@ fn whole(alloc: Global, arch: Arch, facts: &FdeFacts, rows: &[DwRow]) -> Result<
     Ok(function_with(facts, kept))
 }
 
-/// The function as SFrame Version 2 expresses it: a row where the content changes, from offset 0 on.
+/// Returns the function as SFrame Version 2 expresses it: a row where the content changes, from offset 0
+/// on.
 ///
 /// `Omit` has the first reason of the function as a whole, or else the first reason of a row at the least
 /// offset where one holds.
@@ -146,13 +147,13 @@ pub fn express(
     requires { AreRows arch facts.now.size rows.now }
     // A section can hold what is kept.
     ensures writable { IfOk result (λ f. facts.now.start + facts.now.size ≤ 2 ^ 64 → IsTrue (key_fits arch facts.now.key) → IsWritable arch f) }
-    // It says at every offset what the rows say.
+    // The function has at every offset the content of the rows.
     ensures same { IfOk result (λ f. SayTheSame arch rows.now f.rows) }
-    // It has a row at 0 and where the content changes, and no other.
+    // The function has a row at 0 and where the content changes, and no other.
     ensures changes { IfOk result (λ f. StandAtChanges f.rows) }
     // An omission is the first reason.
     ensures omits { Omits arch facts.now rows.now result }
-    // It is the definition's function by what is said at each offset, or its first omission.
+    // The result is the definition's function by the content at each offset, or its first omission.
     ensures means { (says : Saying) → AreSaid arch facts.now.size rows.now says → Gives (λ f. f) result (function_of arch facts.now says) }
     // Start, size, key and rows, as one pass gives them.
     ensures exact { Gives (λ f. f) result (function_by arch facts.now rows.now) }

@@ -1,12 +1,13 @@
 //! What SFrame Version 2 can express of a function's rows, and why it can't.
 //!
-//! [`content`] gives what a row of the call frame instructions says in the form of a frame row entry, or
-//! the first reason why none does, and [`content_at`] the same of its columns. [`express`] gives the whole function as a section holds it, or the
-//! first reason of the function or else of the row with the least offset. Neighbouring rows that say the
-//! same are one row: [`is_same`] compares two contents, and [`is_repeated`] a content with that of the row before.
+//! [`content`] gives the content of a row of the call frame instructions in the form of a frame row entry, or the first
+//! reason why there is none, and [`content_at`] the same for the row's columns. [`express`] gives the whole function as
+//! a section holds it, or the first reason of the function or else of the row with the least offset. Neighbouring rows
+//! with the same content are one row: [`is_same`] compares two contents, and [`is_repeated`] a content with that of the
+//! row before.
 //!
-//! [`rows_recover_alike`] and [`functions_recover_alike`] are laws: what SFrame expresses recovers the same of
-//! the caller's frame as the call frame instructions.
+//! [`rows_recover_alike`] and [`functions_recover_alike`] are laws: what SFrame expresses recovers the same of the
+//! caller's frame as the call frame instructions.
 //!
 //! The caller of [`express`] owes rows as `cfa_machine` gives them. Only `express` allocates.
 #![tactic(auto)]

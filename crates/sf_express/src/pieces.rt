@@ -1,4 +1,4 @@
-//! What a function's rows say from offset to offset, kept or omitted.
+//! The content of a function's rows from offset to offset, kept or omitted.
 
 ghost use Rattle.std.specs.Prelude.{◌≡◌, ◌≢◌, ◌≤◌, ◌<◌, ◌+◌, ◌++◌, [], ℕ, get_or, length, map, None, Some, OnOk, IfOk};
 ghost use Rattle.cfa_machine.specs.Columns.{row_from};
@@ -16,16 +16,17 @@ use cfa_machine::{MachineFault, Runner};
 use sf_model::{Arch, Content, Row};
 use std::alloc::{AllocError, Global};
 
-/// From an offset up to the next piece, what a function's rows say, where SFrame has a form for it.
+/// A piece: from an offset up to the next piece, the content of a function's rows, if SFrame has a form for
+/// it.
 #[derive(Clone, Copy, PartialEq, Eq)]
 pub struct Piece {
     /// The first offset, in bytes from the function's start.
     pub start: u64,
-    /// The content, or none where there is a reason against the row.
+    /// The content, or none if there is a reason against the row.
     pub content: Option<Content>,
 }
 
-// Whether two rows say the same.
+// Returns whether two rows have the same content.
 #[inline(always)]
 fn same_saying(last: Option<Content>, content: Option<Content>) -> bool
     ensures { result ≡ spec.same_saying last content }
@@ -39,7 +40,7 @@ fn same_saying(last: Option<Content>, content: Option<Content>) -> bool
     }
 }
 
-// Whether a row says what the row before says.
+// Returns whether a row has the content of the row before.
 #[inline(always)]
 fn says_again(last: Option<Option<Content>>, content: Option<Content>) -> bool
     ensures { result ≡ spec.says_again last content }
@@ -50,7 +51,7 @@ fn says_again(last: Option<Option<Content>>, content: Option<Content>) -> bool
     }
 }
 
-// Appends the piece, unless it says what the row before says.
+// Appends the piece, unless it has the content of the row before.
 #[inline(always)]
 fn append(
     pieces: &mut Vec<Piece>,
@@ -65,7 +66,7 @@ fn append(
     Ok(())
 }
 
-// The content of the row that a runner gave last.
+// Returns the content of the row that a runner gave last.
 #[inline(always)]
 fn present_content(arch: Arch, run: &Runner<'_>) -> Option<Content>
     ensures { (start : ℕ) → result ≡ spec.content_in (content_of arch (row_from start (present run.now))) }
@@ -73,12 +74,12 @@ fn present_content(arch: Arch, run: &Runner<'_>) -> Option<Content>
     content_at(arch, run.columns()).ok()
 }
 
-/// What the rows say that a runner was started on: a piece where a row says something else than the row
-/// before.
+/// Returns the pieces of the rows that a runner was started on: a piece where a row's content is not that
+/// of the row before.
 ///
 /// # Errors
 ///
-/// The first fault of the instructions. `NoMemory` where memory runs out.
+/// The first fault of the instructions. `NoMemory` if memory runs out.
 pub fn pieces_run(
     alloc: Global,
     arch: Arch,
@@ -96,7 +97,7 @@ pub fn pieces_run(
     Ok(pieces)
 }
 
-/// The rows of a section's function as pieces.
+/// Returns the rows of a section's function as pieces.
 pub fn pieces_of_rows(alloc: Global, rows: &[Row]) -> Result<Vec<Piece>, AllocError>
     ensures { IfOk result (λ pieces. pieces.items ≡ map spec.piece_of_row rows.now) }
 {
@@ -110,7 +111,7 @@ pub fn pieces_of_rows(alloc: Global, rows: &[Row]) -> Result<Vec<Piece>, AllocEr
     Ok(pieces)
 }
 
-// The place of the last piece that begins by an offset. The first one does.
+// Returns the place of the last piece that begins by an offset. The first one does.
 fn last_begun(pieces: &[Piece], offset: u64) -> usize
     requires some { 0 < length pieces.now }
     requires first { (d : piece) → (get_or pieces.now 0 d).start ≤ offset }
@@ -132,7 +133,8 @@ fn last_begun(pieces: &[Piece], offset: u64) -> usize
     low
 }
 
-/// What is said at an offset below the size, and the last offset below it up to which the same piece goes.
+/// Returns the content at an offset below the size, and the last offset below the size up to which the same
+/// piece goes.
 pub fn piece_at(pieces: &[Piece], size: u64, offset: u64) -> (Option<Content>, u64)
     requires pieces { ArePieces size pieces.now }
     requires below { offset < size }

@@ -1,4 +1,4 @@
-//! Laws: a row of the call frame instructions and what SFrame Version 2 says of it recover the same of the
+//! Laws: a row of the call frame instructions and its content in SFrame Version 2 recover the same of the
 //! caller's frame.
 
 ghost use Rattle.std.specs.Prelude.{◌≡◌, ◌<◌, ℕ, ℤ, List, None, Ok};
@@ -15,8 +15,8 @@ ghost use Rattle.sf_express.specs.Rules.{content_of};
 ghost use Rattle.sf_express.specs.Offsets.{latest_content, SayTheSame};
 ghost use Rattle.sf_express.specs.Alike.{RecoverAlike, ColumnsRecoverAlike, FoundAlike};
 
-/// A row that SFrame Version 2 can express recovers by its rules (DWARF 5, section 6.4.1) what its content
-/// recovers, with every key, all registers and all memory.
+/// States that a row that SFrame Version 2 can express recovers by its rules (DWARF 5, section 6.4.1) what
+/// its content recovers, with every key, all registers and all memory.
 pub fn rows_recover_alike()
     // By the rules of all registers, in a function whose return address column is the machine's own.
     ensures rows { (arch : Arch) (start : ℕ) (row : FullRow) (content : Content) → content_of arch (row_from start (columns_of arch row)) ≡ Ok content → RecoverAlike arch row content }
@@ -24,7 +24,7 @@ pub fn rows_recover_alike()
     ensures columns { (arch : Arch) (start : ℕ) (columns : Columns) (content : Content) → content_of arch (row_from start columns) ≡ Ok content → ColumnsRecoverAlike arch columns content }
 {}
 
-/// At each offset of a function the rows that are kept of it have a content, which recovers what the full row
+/// States that at each offset of a function the kept rows have a content, which recovers what the full row
 /// there recovers.
 pub fn functions_recover_alike()
     ensures { (arch : Arch) (code : ℕ) (factor : ℤ) (size : ℕ) (cie fde : List Item) (rows : List DwRow) (kept : List Row) → SayAll arch code factor size cie fde rows → SayTheSame arch rows kept → (o : ℕ) → o < size → FoundAlike arch (row_at_offset code factor cie fde o) (latest_content o None kept) }

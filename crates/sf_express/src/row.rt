@@ -1,4 +1,4 @@
-//! What a row says in SFrame's form.
+//! The content of a row in SFrame's form.
 
 ghost use Rattle.std.specs.Prelude.{◌≡◌, ℕ};
 ghost use Rattle.cfa_machine.specs.Columns.{row_from};
@@ -8,7 +8,7 @@ use crate::rules;
 use cfa_machine::{Columns, DwRow};
 use sf_model::{Arch, Content, Reason};
 
-/// The content of a row with these columns, whatever its start.
+/// Returns the content of a row with these columns, whatever its start.
 #[tactic(auto, unfolding(crate::specs::Rules::content_of))]
 #[inline(always)]
 pub fn content_at(arch: Arch, columns: &Columns) -> Result<Content, Reason>
@@ -29,7 +29,7 @@ pub fn content_at(arch: Arch, columns: &Columns) -> Result<Content, Reason>
     })
 }
 
-/// What the row says of the caller's frame, or the first reason why SFrame Version 2 can't say it: of the
+/// Returns the content of the row, or the first reason why SFrame Version 2 can't express it: of the
 /// canonical frame address, the stack pointer, the return address, the frame pointer, a frame pointer that is
 /// saved alone, and the sign state.
 #[tactic(auto, unfolding(crate::specs::Rules::content_of))]

@@ -1,4 +1,4 @@
-//! What each rule of a row says in SFrame's form, or why SFrame has no form for it.
+//! The form of each rule of a row in SFrame, or why SFrame has no form for it.
 
 ghost use Rattle.std.specs.Prelude.{◌≡◌};
 ghost use Rattle.sf_express.specs.Rules.{narrowed, base_of, cfa_content, stack_pointer_check, return_address_content, frame_pointer_content, frame_pointer_needs_return_address, sign_state_check};
@@ -9,7 +9,7 @@ use sf_model::{Arch, Base, Ra, Reason};
 /// The offset of a return address on AMD64, from the canonical frame address.
 const FIXED_RA: i128 = -8;
 
-// A number that fits 32 signed bits.
+// Returns the number, if it fits 32 signed bits.
 #[inline(always)]
 fn as_i32(number: i128) -> Option<i32>
     ensures { result ≡ narrowed number }
@@ -21,7 +21,7 @@ fn as_i32(number: i128) -> Option<i32>
     }
 }
 
-// The base register of SFrame that a DWARF register is.
+// Returns SFrame's base register for a DWARF register.
 #[inline(always)]
 fn base(arch: Arch, register: u64) -> Option<Base>
     ensures { result ≡ base_of arch register }
@@ -35,7 +35,7 @@ fn base(arch: Arch, register: u64) -> Option<Base>
     }
 }
 
-/// The canonical frame address: its base and its offset in bytes.
+/// Returns the canonical frame address: its base and its offset in bytes.
 #[inline(always)]
 pub fn cfa(arch: Arch, rule: CfaRule) -> Result<(Base, i32), Reason>
     ensures { result ≡ cfa_content arch rule }
@@ -53,7 +53,7 @@ pub fn cfa(arch: Arch, rule: CfaRule) -> Result<(Base, i32), Reason>
     }
 }
 
-/// The stack pointer, which SFrame takes to be the canonical frame address.
+/// Checks the stack pointer, which SFrame takes to be the canonical frame address.
 #[inline(always)]
 pub fn check_stack_pointer(rule: Rule) -> Result<(), Reason>
     ensures { result ≡ stack_pointer_check rule }
@@ -71,7 +71,7 @@ pub fn check_stack_pointer(rule: Rule) -> Result<(), Reason>
     }
 }
 
-// The return address of AMD64.
+// Returns the return address of AMD64.
 #[inline(always)]
 fn return_address_amd64(rule: Rule) -> Result<Ra, Reason>
     ensures { result ≡ return_address_content Arch.Amd64 rule }
@@ -88,7 +88,7 @@ fn return_address_amd64(rule: Rule) -> Result<Ra, Reason>
     }
 }
 
-// The return address of AArch64.
+// Returns the return address of AArch64.
 #[inline(always)]
 fn return_address_aarch64(rule: Rule) -> Result<Ra, Reason>
     ensures { result ≡ return_address_content Arch.Aarch64 rule }
@@ -104,7 +104,7 @@ fn return_address_aarch64(rule: Rule) -> Result<Ra, Reason>
     }
 }
 
-/// The return address.
+/// Returns the return address.
 #[inline(always)]
 pub fn return_address(arch: Arch, rule: Rule) -> Result<Ra, Reason>
     ensures { result ≡ return_address_content arch rule }
@@ -115,7 +115,7 @@ pub fn return_address(arch: Arch, rule: Rule) -> Result<Ra, Reason>
     }
 }
 
-/// The frame pointer: the offset that it is saved at, or none where it keeps its value.
+/// Returns the frame pointer: the offset that it is saved at, or none if it keeps its value.
 #[inline(always)]
 pub fn frame_pointer(rule: Rule) -> Result<Option<i32>, Reason>
     ensures { result ≡ frame_pointer_content rule }
@@ -131,7 +131,7 @@ pub fn frame_pointer(rule: Rule) -> Result<Option<i32>, Reason>
     }
 }
 
-/// A saved frame pointer needs a saved return address.
+/// Checks that a saved frame pointer has a saved return address.
 #[inline(always)]
 pub fn check_return_address_saved(ra: Ra, fp: Option<i32>) -> Result<(), Reason>
     ensures { result ≡ frame_pointer_needs_return_address ra fp }
@@ -144,7 +144,7 @@ pub fn check_return_address_saved(ra: Ra, fp: Option<i32>) -> Result<(), Reason>
     }
 }
 
-/// The register of the sign state, which may have no rule.
+/// Checks that on AArch64 the register of the sign state has no rule of its own.
 #[inline(always)]
 pub fn check_sign_state(arch: Arch, rule: Rule) -> Result<(), Reason>
     ensures { result ≡ sign_state_check arch rule }

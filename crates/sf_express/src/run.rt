@@ -22,8 +22,8 @@ fn run_all(run: &mut Runner<'_>) -> Result<(), MachineFault>
     Ok(())
 }
 
-// Makes `kept` the rows in SFrame's form, or gives the omission of the first that has none. It is not inlined, so that its loop has
-// the machine's registers to itself.
+// Makes `kept` the rows in SFrame's form, or returns the omission of the first row that has none. The function is not
+// inlined, so that its loop has the machine's registers to itself.
 #[inline(never)]
 fn run_rows(
     arch: Arch,
@@ -54,13 +54,12 @@ fn run_rows(
     Ok(Ok(()))
 }
 
-/// The function that a runner was started on, as [`express`](crate::express) gives it, or its first omission.
-/// Its rows are made in the memory of `spare`, whatever rows it has.
+/// Returns the function that a runner was started on, as [`express`](crate::express) gives it, or its first omission.
+/// The rows are made in the memory of `spare`, whatever rows `spare` has.
 ///
 /// # Errors
 ///
-/// The first fault of the instructions: they are all run, after an omission too. `NoMemory` where memory
-/// runs out.
+/// The first fault of the instructions: they are all run, after an omission too. `NoMemory` if memory runs out.
 #[inline(always)]
 pub fn express_run(
     alloc: Global,
