@@ -1,4 +1,4 @@
--- What is left after a pointer that was passed stands after a run of bytes.
+-- What is left after a pointer that was passed comes after a run of bytes.
 use Rattle.std.proofs.Common.{◌≡◌, ℕ, ◌%◌, Bool, true, false, cond, List, Option, Some, None, Result, Ok, Err, refl, subst}
 use Rattle.std.specs.Prelude.{◌==◌}
 use Rattle.sf_bytes.specs.Cursor.{Cursor, Read, part_at}
@@ -17,7 +17,7 @@ behind c = Ok c
 same : (a b : Cursor) → behind a ≡ behind b → a ≡ b
 same a b e = cc
 
--- a run of bytes stands between two cursors
+-- a run of bytes is between two cursors
 abbrev pub IsBehind : Cursor → Cursor → Type 0
 IsBehind from to = (run : List ℕ) × Passes run from to
 

@@ -1,5 +1,5 @@
--- Passing a pointer whose value isn't used, as a personality routine's (LSB Core, "DWARF Exception Header
--- Encoding"): every format that is known, and every application but aligned (0x50).
+-- Passing a pointer whose value isn't used, such as a personality routine's (LSB Core, "DWARF Exception Header
+-- Encoding"): every known format, and every application but aligned (0x50).
 use Rattle.std.specs.Prelude.{◌≡◌, ℕ, ◌%◌, ◌==◌, if◌then◌else◌, Option, Some, None, Result, Ok, Err}
 use Rattle.sf_bytes.specs.declared.part.Part.{Part}
 use Rattle.sf_bytes.specs.declared.fault.ByteFault.{ByteFault}
@@ -32,7 +32,7 @@ passed_width None encoding at =
 unfoldable pub pointer_passed : ℕ → Cursor → Result Cursor PointerFault
 pointer_passed encoding at = if above_format encoding % 8 == 5 then Err Encoding else passed_width (pointer_width encoding) encoding at
 
--- what a call answered is that, and the part is what is left; on a fault it is unchanged
+-- what a call returned is this, and the part is what is left; on a fault the part is unchanged
 abbrev pub Skips : Part → Part → Result (Unit {0}) PointerFault → Result Cursor PointerFault → Type 0
 Skips old new (Ok x) read = read ≡ Ok (cursor new)
 Skips old new (Err e) read = (read ≡ Err e) × (cursor new ≡ cursor old)

@@ -7,7 +7,7 @@ ghost use Rattle.eh_pointer.specs.Pointer.{pointer_width, usable_width, pointer_
 
 use crate::layout::{ABSPTR, FORMATS, PCREL, SDATA2, SDATA4, SDATA8, UDATA2, UDATA4, UDATA8};
 
-/// How many bytes a pointer of this encoding has, where its format fixes it: 2, 4 or 8.
+/// Returns how many bytes a pointer of this encoding has, if its format fixes it: 2, 4 or 8.
 #[tactic(auto, unfolding(crate::specs::Pointer::pointer_width))]
 pub fn width(encoding: u8) -> Option<u8>
     ensures exact { result ≡ pointer_width encoding }
@@ -22,8 +22,8 @@ pub fn width(encoding: u8) -> Option<u8>
     }
 }
 
-/// The width in bytes of an encoding that a function's pointer may have: a format of fixed width, absolute
-/// or from the field's own address, and not indirect.
+/// Returns the width in bytes of an encoding that a function's pointer may have: a format of fixed width,
+/// absolute or from the field's own address, and not indirect.
 #[tactic(auto, unfolding(crate::specs::Pointer::usable_width))]
 pub fn usable(encoding: u8) -> Option<u8>
     ensures exact { result ≡ usable_width encoding }
@@ -36,7 +36,7 @@ pub fn usable(encoding: u8) -> Option<u8>
     }
 }
 
-// The lowest 16 bits of a number, extended with their sign.
+// Returns the lowest 16 bits of a number, extended with their sign.
 fn extended_16(bits: u64) -> u64
     requires { bits < 2 ^ 16 }
     ensures { result ≡ sign_extended 2 bits }
@@ -44,7 +44,7 @@ fn extended_16(bits: u64) -> u64
     i64::from((bits as u16).cast_signed()).cast_unsigned()
 }
 
-// The lowest 32 bits of a number, extended with their sign.
+// Returns the lowest 32 bits of a number, extended with their sign.
 fn extended_32(bits: u64) -> u64
     requires { bits < 2 ^ 32 }
     ensures { result ≡ sign_extended 4 bits }
@@ -52,7 +52,7 @@ fn extended_32(bits: u64) -> u64
     i64::from((bits as u32).cast_signed()).cast_unsigned()
 }
 
-// The bits with their sign extended where the format is signed.
+// Returns the bits, with their sign extended if the format is signed.
 #[tactic(auto, unfolding(crate::specs::Pointer::pointer_bits, crate::specs::Pointer::pointer_width))]
 fn extended(encoding: u8, bits: u64) -> u64
     requires fits { ForSome (pointer_width encoding) (λ width. bits < 256 ^ width) }
@@ -65,8 +65,8 @@ fn extended(encoding: u8, bits: u64) -> u64
     }
 }
 
-/// The size that stands in a pointer's format, with its sign extended where the format is signed, modulo
-/// 2^64. The application of the encoding doesn't matter.
+/// Returns the size in a pointer's format, with its sign extended if the format is signed, modulo 2^64. The
+/// application of the encoding doesn't matter.
 pub fn size(encoding: u8, bits: u64) -> u64
     requires fits { ForSome (pointer_width encoding) (λ width. bits < 256 ^ width) }
     ensures { result ≡ pointer_bits encoding bits }
@@ -74,7 +74,7 @@ pub fn size(encoding: u8, bits: u64) -> u64
     extended(encoding, bits)
 }
 
-/// What a pointer of this encoding points to, modulo 2^64, where its field stands at `address` and holds
+/// Returns what a pointer of this encoding points to, modulo 2^64, if its field is at `address` and holds
 /// `bits`.
 #[tactic(auto, unfolding(crate::specs::Pointer::pointer_value, crate::specs::Pointer::usable_width))]
 pub fn value(encoding: u8, bits: u64, address: u64) -> u64

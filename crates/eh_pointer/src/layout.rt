@@ -3,19 +3,19 @@
 /// How many values a format has: it is the low four bits.
 pub const FORMATS: u8 = 16;
 
-/// A pointer of eight bytes, applied to nothing.
+/// An absolute pointer of eight bytes.
 pub const ABSPTR: u8 = 0x00;
 
 /// An unsigned LEB128 number.
 pub const ULEB128: u8 = 0x01;
 
-/// Two bytes without sign.
+/// Two unsigned bytes.
 pub const UDATA2: u8 = 0x02;
 
-/// Four bytes without sign.
+/// Four unsigned bytes.
 pub const UDATA4: u8 = 0x03;
 
-/// Eight bytes without sign.
+/// Eight unsigned bytes.
 pub const UDATA8: u8 = 0x04;
 
 /// A signed LEB128 number.
@@ -30,11 +30,11 @@ pub const SDATA4: u8 = 0x0b;
 /// Eight signed bytes.
 pub const SDATA8: u8 = 0x0c;
 
-/// The application from the field's own address, shifted down by the format's four bits.
+/// The application relative to the field's own address, shifted down by the format's four bits.
 pub const PCREL: u8 = 1;
 
-/// The application aligned, shifted down by the format's four bits.
+/// The aligned application, shifted down by the format's four bits.
 pub const ALIGNED: u8 = 5;
 
-/// How many values an application has: the indirect bit stands above its three bits.
+/// How many values an application has: the indirect bit is above its three bits.
 pub const APPLICATIONS: u8 = 8;

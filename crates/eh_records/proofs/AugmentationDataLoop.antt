@@ -1,4 +1,4 @@
--- Reading what the letters say, one after the other.
+-- Reading what the letters give, in their order.
 use Rattle.std.proofs.Common.{◌≡◌, ℕ, suc, ◌+◌, ◌<◌, ◌≤◌, List, [], ◌∷◌, length, get_or, drop, Ok, Err, refl, ap, ◌∙◌, arith, drop-cons}
 use Rattle.std.proofs.lemmas.List.{drop_all}
 use Rattle.sf_bytes.specs.Cursor.{Cursor}

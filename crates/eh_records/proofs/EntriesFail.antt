@@ -263,7 +263,7 @@ entry_fails : (arch : Arch) (section : List ℕ) (before : List SharedView) (p :
 unfolding entry_at entry_here shared_place
 entry_fails arch section before p e known h = entry_by (p.id == 0) arch section before p e known refl h
 
--- ---- cutting
+-- ---- records
 abbrev Front : Type 0
 Front = Result (Option (RawRecordView × Cursor)) RecordFault
 

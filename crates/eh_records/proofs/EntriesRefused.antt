@@ -217,7 +217,7 @@ entry_refused arch section before p e known (inr (other, inr (shared, has, named
     ∙ ap (λ (b : Bool). of_record false arch section p (if b then Ok shared.cie.place else failed (faults.CiePointer p.id_place))) is
     ∙ ap (λ (r : Result FdeView RecordFault). r >>= λ f. Ok (Frame f)) (fde_named arch section shared p e place (All-contains (IsAgain arch section) before shared known has) (fde_refused shared p e fails))
 
--- ---- cutting
+-- ---- records
 abbrev Front : Type 0
 Front = Result (Option (RawRecordView × Cursor)) RecordFault
 

@@ -1,4 +1,4 @@
--- Pointer fields that stand one after the other between two places.
+-- Consecutive pointer fields between two places.
 use Rattle.std.proofs.Common.{◌≡◌, ℕ, zero, suc, ◌+◌, ◌<◌, ◌≤◌, List, [], ◌∷◌, ◌++◌, length, map, None, get_or, sym, subst, ◌∙◌, arith}
 use Rattle.std.proofs.lemmas.List.{map-id}
 use Rattle.sf_bytes.specs.declared.field.Field.{Field}
@@ -32,7 +32,7 @@ not_above low high (f ∷ fs) h =
     let rest : f.place + f.width ≤ high = not_above (f.place + f.width) high fs h.1 in
     omega (arith, h.0, rest)
 
--- the raw number of each field is the one that stands at its place
+-- the raw number of each field is the one at its place
 abbrev pub AreRawIn : Cursor → List PointerField → Type 0
 AreRawIn at [] = Unit {0}
 AreRawIn at (f ∷ fs) = (f.raw ≡ number_there at f.place f.width) × AreRawIn at fs
@@ -62,7 +62,7 @@ lie_wider inner outer fs p h = record {
 pub none_lies : (at : Cursor) → LieIn at (optional None)
 none_lies at = record { between = omega arith; raw = tt }
 
--- ---- apart, as they are defined and as they are answered
+-- ---- apart, as they are defined and as they are returned
 not_before : {X : Type 0} (view : X → PointerField) (low high : ℕ) (fs : List X) (i : ℕ) (d : X) → Between low high (map view fs) → i < length fs → low ≤ (view (get_or fs i d)).place
 not_before view low high [] i d h within = absurd (omega arith)
 not_before view low high (f ∷ fs) zero d h within = h.0

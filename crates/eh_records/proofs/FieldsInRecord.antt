@@ -1,4 +1,4 @@
--- The pointer fields of a record lie in it, one after the other, with their numbers.
+-- The pointer fields of a record lie in it, consecutive, with their numbers.
 use Rattle.std.proofs.Common.{◌≡◌, ℕ, ◌+◌, ◌-◌, ◌≤◌, Bool, true, false, cond, List, [], ◌∷◌, Option, Some, None, Result, Ok, Err, refl, subst, arith}
 use Rattle.std.specs.Prelude.{◌==◌, ◌||◌}
 use Rattle.sf_bytes.specs.Cursor.{Cursor}
@@ -21,7 +21,7 @@ use Rattle.eh_records.proofs.RawRecords.{through, ok_same}
 use Rattle.eh_records.proofs.StepsLeaveParts.{Pointed, number_on, uleb_on, sleb_on, text_on, data_on, pointer_on}
 use Rattle.eh_records.proofs.Parts.{IsPart, number_there, part-part, pointer_part}
 
--- a pointer field that was read lies there, and so do those that lie after it
+-- a pointer field that was read lies there, and so do those after it
 pointer_raw : (at : Cursor) (x : PointerField × Cursor) → Pointed at x → x.0.raw ≡ number_there at x.0.place x.0.width
 pointer_raw at x p =
     let none : x.0.place - at.place ≡ 0 = omega (arith, p.place) in

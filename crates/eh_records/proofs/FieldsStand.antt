@@ -1,4 +1,4 @@
--- Each field that stands is read, and each that is read stands.
+-- Each field that is there is read, and each that is read is there.
 use Rattle.std.specs.Prelude.{◌≢◌, ◌==◌, ◌||◌, ◌&&◌, nat_lt, is_some}
 use Rattle.std.proofs.Common.{◌≡◌, ◌⊎◌, ℕ, ℤ, ◌%◌, ◌<◌, ◌≤◌, Bool, true, false, cond, List, [], ◌∷◌, ◌++◌, length, take, Option, Some, None, Result, Ok, Err, refl, sym, ap, subst, ◌∙◌, arith, inl, inr, eq-eqb, ne_eqb, if◌then◌else◌}
 use Rattle.std.proofs.lemmas.Bool.{eqb-true, eqb-false, ltb-true, ltb-false}
@@ -315,7 +315,7 @@ saying_stands arch letter augmentation at x known e =
     (λ ep el es er. eqb-true _ _ (last_letter (letter == 82) (letter == 80) (letter == 83) (letter == 76) (letter == 66) (has_key_letter arch) known ep el es er))
     e
 
--- each letter is one that may stand
+-- each letter is known
 abbrev pub AreKnown : Arch → List ℕ → Type 0
 AreKnown arch [] = Unit {0}
 AreKnown arch (b ∷ bs) = (is_letter arch b ≡ true) × AreKnown arch bs
@@ -390,7 +390,7 @@ string_stands arch at x e =
 pub string_known : (arch : Arch) (letters : List ℕ) (from to : Cursor) → StringStands arch (Some letters) from to → AreKnown arch letters
 string_known arch letters from to s = are_known arch [] letters s.1
 
--- ---- what the augmentation says
+-- ---- what the augmentation gives
 data_augmentation : (after : Cursor) (r : Result AugmentationView RecordFault) (x : AugmentationView × Cursor) → passed_data after r ≡ Ok x → (r ≡ Ok x.0) × (x.1 ≡ after)
 data_augmentation after (Ok augmentation) x e =
     let same : (augmentation, after) ≡ x = ok_same _ x e in

@@ -44,7 +44,7 @@ reads_here arch section at p after r h e =
     ap (are_read arch section) (starts_with_record at p after h) ∙ reads_cons arch section p (cuts after)
     ∙ ap (λ (x : Result EntryView RecordFault). is_ok x && are_read arch section (cuts after)) e
 
--- where each record is read, the next one is cut off and read, and so are those after it
+-- if each record is read, the next one is split off and read, and so are those after it
 pub is_cut : (arch : Arch) (section : List ℕ) (at : Cursor) (e : RecordFault) → are_read arch section (cuts at) ≡ true → raw_record_at at ≡ Err e → ⊥
 is_cut arch section at e read h =
     let none : are_read arch section (cuts at) ≡ false = ap (are_read arch section) (faults at e h) ∙ reads_fault arch section e [] in
@@ -73,7 +73,7 @@ common_passed : (arch : Arch) (section : List ℕ) (at : Cursor) (p : RawRecordV
 common_passed arch section at p after (Ok c) read h e = (ap frames (begins arch section at p after (Ok (Common c)) h e), read_behind arch section at p after (Common c) read h e)
 common_passed arch section at p after (Err x) read h e = absurd (is_read arch section at p after x read h e)
 
--- where each record is read, a common information entry is passed
+-- if each record is read, a common information entry is passed
 pub passes_common : (arch : Arch) (section : List ℕ) (at : Cursor) (p : RawRecordView) (after : Cursor) → are_read arch section (cuts at) ≡ true → raw_record_at at ≡ Ok (Some (p, after)) → (p.id == 0) ≡ true
     → (frames (entries_before arch section (cuts at)) ≡ frames (entries_before arch section (cuts after))) × (are_read arch section (cuts after) ≡ true)
 passes_common arch section at p after read h common = common_passed arch section at p after (cie_of arch p) read h (here_common arch section p common)
@@ -108,11 +108,11 @@ cut_given : (arch : Arch) (section : List ℕ) (at : Cursor) (r : Result (Option
 cut_given arch section at (Ok x) read h = refl
 cut_given arch section at (Err e) read h = absurd (is_cut arch section at e read h)
 
--- and each record is cut off
+-- and each record is split off
 pub next_is_cut : (arch : Arch) (section : List ℕ) (at : Cursor) → are_read arch section (cuts at) ≡ true → is_ok (raw_record_at at) ≡ true
 next_is_cut arch section at read = cut_given arch section at (raw_record_at at) read refl
 
--- the entry of the record that was cut off is the first one
+-- the entry of the record that was split off is the first one
 pub yields_frame : (read : Result FdeView RecordFault) (before after : List FdeView) (result : Option Fde) → GivesRead result read
     → ((f : FdeView) → read ≡ Ok f → before ≡ f ∷ after) → MatchOption result ((before ≡ []) × (after ≡ [])) (λ (f : Fde). before ≡ fde_view f ∷ after)
 yields_frame read before after None is gives = absurd is

@@ -4,7 +4,7 @@ use Rattle.sf_model.specs.declared.machine.Arch.{Arch}
 use Rattle.eh_records.specs.RawRecord.{RawRecordView}
 use Rattle.eh_records.specs.Section.{EntryView, entry_at, with_place}
 
--- the entries of the records as the reader gives them, where common information entries stand before them at these places
+-- the entries of the records as the reader gives them, if common information entries come before them at these places
 abbrev pub AreGiven : Arch → List ℕ → List ℕ → List RawRecordView → List EntryView → Type 0
 AreGiven arch section cies [] [] = Unit {0}
 AreGiven arch section cies [] (e ∷ es) = ⊥

@@ -1,4 +1,4 @@
--- What a record that was cut off is, and where the next one stands.
+-- What a record that was split off is, and where the next one is.
 use Rattle.std.specs.Prelude.{◌==◌, nat_lt}
 use Rattle.std.proofs.lemmas.Bool.{eqb-true}
 use Rattle.std.proofs.Common.{List, ◌∷◌, ◌⊎◌, inl, inr, ◌≡◌, ℕ, ◌+◌, ◌≤◌, Bool, true, false, cond, [], length, take, drop, subst, length-drop, Option, Some, None, Result, Ok, Err, refl, sym, ap, ◌∙◌, arith}
@@ -13,7 +13,7 @@ use Rattle.eh_records.specs.Cutting.{Stands, EndsWithZero}
 use Rattle.eh_records.specs.RawRecord.{RawRecordView, raw_record_at, record_of_length, whole, sized}
 use Rattle.eh_records.specs.Step.{Step, ◌>>=◌, placed, number_field, part_field}
 
--- a step that went on went through
+-- a step that continued succeeded
 pub record Through {A B : Type 0} (r : Result A RecordFault) (f : A → Result B RecordFault) (b : B) : Type 0 where
   pub first : A
   pub read : r ≡ Ok first

@@ -1,4 +1,4 @@
--- The pointer fields of a section's entries stand one after the other, with the numbers that stand there.
+-- The pointer fields of a section's entries are in rising order, with the numbers that are there.
 use Rattle.std.specs.Prelude.{is_ok}
 use Rattle.std.proofs.Common.{◌≡◌, ℕ, ◌+◌, ◌-◌, ◌≤◌, true, List, [], ◌∷◌, ◌++◌, append-nil, length, take, drop, Ok, refl, sym, ap, subst, ◌∙◌, arith, length-drop}
 use Rattle.std.proofs.lemmas.List.{length-take-le}
@@ -37,7 +37,7 @@ after_part : (at : Cursor) (p : RawRecordView) (after : Cursor) → Stands at p 
 after_part at p after s =
     subst (λ (c : Cursor). IsPart c at) (sym s.behind) (rest-part (take (4 + s.len) at.left) at (past (4 + s.len) at) (past-passes (4 + s.len) at s.within))
 
--- the bytes after the length, and those after the word after that
+-- the bytes after the length, and those after the word after the length
 abbrev behind_length : ℕ → Cursor → Cursor
 behind_length len at = record { place = at.place + 4; left = take len (drop 4 at.left) }
 

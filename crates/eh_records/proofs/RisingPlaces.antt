@@ -82,7 +82,7 @@ pub before_with : (b : Bool) (xs : List ℕ) (place end : ℕ) → IsBefore plac
 before_with true xs place end before less = before_push xs place end before less
 before_with false xs place end before less = before_later xs place end before less
 
--- what a search answered says whether the place is among these
+-- what a search returned determines whether the place is among these
 pub found : (xs : List ℕ) (x : ℕ) (r : Result ℕ ℕ) → MatchResult r (λ i. (i < length xs) × (get_or xs i 0 ≡ x)) (λ i. (i ≤ length xs) × ((k : ℕ) → k < i → get_or xs k 0 < x) × ((k : ℕ) → i ≤ k → k < length xs → x < get_or xs k 0))
     → is_ok r ≡ among x xs
 found xs x (Ok i) h = sym (is_among i x xs h.0 h.1)

@@ -1,4 +1,4 @@
--- A record is cut off exactly where one stands.
+-- A record is split off exactly where there is one.
 use Rattle.std.specs.Prelude.{◌==◌, nat_lt}
 use Rattle.std.proofs.Common.{◌≡◌, inl, inr, ℕ, ◌+◌, ◌-◌, ◌≤◌, Bool, true, false, cond, List, [], ◌∷◌, length, take, drop, subst, length-drop, Option, Some, None, Result, Ok, Err, refl, sym, ap, ◌∙◌, arith}
 use Rattle.std.proofs.lemmas.List.{length-take-le}
@@ -96,14 +96,14 @@ end_nothing at e =
     let none : (length at.left == 0) ≡ true = ap (λ (xs : List ℕ). length xs == 0) e in
     ap (λ (b : Bool). cond {A = Found} b (Ok None) (number_field 4 at >>= λ len. sized at.place len.0 len.1)) none
 
--- the records of a cut are those that are cut off
+-- the records of a section are those that are split off
 pub cut_read : (ps : List RawRecordView) (at : Cursor) → AreCut ps at → cuts at ≡ all_cut ps
 cut_read [] at (inl e) = stops at (end_nothing at e)
 cut_read [] at (inr z) = stops at (end_zero at z)
 cut_read (p ∷ ps) at (after, stands, rest) =
     starts_with_record at p after (stands_is at p after stands) ∙ ap (λ (xs : List Cutting). Ok p ∷ xs) (cut_read ps after rest)
 
--- what is cut off is a cut
+-- records that are all split off without a fault are the section's records
 abbrev faulted : RecordFault → List Cutting
 faulted f = Err f ∷ []
 
@@ -155,7 +155,7 @@ read_cut (p ∷ ps) at e =
     let n = next_of at p (all_cut ps) e (raw_record_at at) refl in
     (n.after, n.stands, read_cut ps n.after n.rest)
 
--- there is at most one cut
+-- there is at most one list of records
 both_same : (p q : RawRecordView) (ps qs : List RawRecordView) → p ≡ q → ps ≡ qs → p ∷ ps ≡ q ∷ qs
 both_same p q ps qs e h = cc
 

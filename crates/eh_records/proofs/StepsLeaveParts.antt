@@ -47,7 +47,7 @@ data_on at x e =
     let p = part_on t.first.0 t.first.1 x t.rest in
     (part-part x.0 t.first.1 at p.0 len, part-part x.1 t.first.1 at p.1 len)
 
--- a pointer field stands at the front with its number, and ends where what is left begins
+-- a pointer field is at the front with its number, and ends where what is left begins
 pub record Pointed (at : Cursor) (x : PointerField × Cursor) : Type 0 where
   pub place : x.0.place ≡ at.place
   pub next : x.0.place + x.0.width ≡ x.1.place

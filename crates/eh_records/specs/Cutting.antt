@@ -1,5 +1,5 @@
--- The cut of a section in the standard's words (LSB Core, "The .eh_frame section"): records that stand one after
--- the other from the first byte on, each a length word and as many bytes, and then nothing or a length word of 0.
+-- The records of a section in the standard's words (LSB Core, "The .eh_frame section"): they are consecutive from the
+-- first byte on, each a length word and that many bytes, and then comes nothing or a length word of 0.
 use Rattle.std.specs.Prelude.{◌≡◌, ◌≢◌, ◌⊎◌, ℕ, ◌+◌, ◌≤◌, List, [], ◌∷◌, ◌++◌, length, take, drop, Ok}
 use Rattle.sf_model.specs.declared.machine.Arch.{Arch}
 use Rattle.byteorder.specs.Endian.{little_number}
@@ -9,7 +9,7 @@ use Rattle.eh_records.specs.Cie.{SharedView}
 use Rattle.eh_records.specs.Fields.{EntryStands}
 use Rattle.eh_records.specs.Section.{Cutting, EntryView, Common, Frame}
 
--- a record stands at the front: its length, the word after that, and the bytes to its end
+-- a record is at the front: its length, the word after that, and the bytes to its end
 pub record Stands (at : Cursor) (p : RawRecordView) (after : Cursor) : Type 0 where
   pub len : ℕ
   pub word : little_number 4 (take 4 at.left) ≡ len
@@ -29,11 +29,12 @@ pub record EndsWithZero (at : Cursor) : Type 0 where
   pub within : 4 ≤ length at.left
   pub word : little_number 4 (take 4 at.left) ≡ 0
 
--- these records are the cut from a cursor on
+-- these are the records from a cursor on
 abbrev pub AreCut : List RawRecordView → Cursor → Type 0
 AreCut [] at = (at.left ≡ []) ⊎ EndsWithZero at
 AreCut (p ∷ ps) at = (after : Cursor) × Stands at p after × AreCut ps after
 
+-- these records, as the reader splits them off
 abbrev pub all_cut : List RawRecordView → List Cutting
 all_cut [] = []
 all_cut (p ∷ ps) = Ok p ∷ all_cut ps
@@ -42,18 +43,18 @@ all_cut (p ∷ ps) = Ok p ∷ all_cut ps
 abbrev pub start : List ℕ → Cursor
 start section = record { place = 0; left = section }
 
--- the common information entries before a record, with this entry where it is one
+-- the common information entries before a record, with this entry if it is one
 abbrev pub with_common : List SharedView → EntryView → List SharedView
 with_common before (Common c) = before ++ c ∷ []
 with_common before (Frame f) = before
 
--- these are the entries of the records, field by field, where these common information entries stand before them
+-- these are the entries of the records, field by field, if these common information entries come before them
 abbrev pub AreRead : Arch → (before : List SharedView) → List RawRecordView → List EntryView → Type 0
 AreRead arch before [] [] = Unit {0}
 AreRead arch before [] (e ∷ es) = ⊥
 AreRead arch before (p ∷ ps) [] = ⊥
 AreRead arch before (p ∷ ps) (e ∷ es) = EntryStands arch before p e × AreRead arch (with_common before e) ps es
 
--- these are the entries of a section: those of the records of its cut
+-- these are the entries of a section: those of its records
 abbrev pub AreEntries : Arch → List ℕ → List EntryView → Type 0
 AreEntries arch section es = (ps : List RawRecordView) × AreCut ps (start section) × AreRead arch [] ps es

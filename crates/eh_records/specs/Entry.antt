@@ -6,11 +6,12 @@ use Rattle.eh_records.specs.Cie.{shared_view}
 use Rattle.eh_records.specs.Fde.{fde_view}
 use Rattle.eh_records.specs.Section.{EntryView, Common, Frame}
 
+-- the view of an entry
 abbrev pub entry_view : Entry → EntryView
 entry_view (entries.Common shared) = Common (shared_view shared)
 entry_view (entries.Frame fde) = Frame (fde_view fde)
 
--- no entry where none is left, before and after; else the first one, and the others are left
+-- none if no entry is left, before and after; else the first entry, and the others are left
 abbrev pub GivesFirst : Option Entry → List EntryView → List EntryView → Type 0
 GivesFirst None before after = (before ≡ []) × (after ≡ [])
 GivesFirst (Some e) before after = before ≡ entry_view e ∷ after

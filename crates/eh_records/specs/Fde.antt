@@ -12,7 +12,7 @@ use Rattle.eh_records.specs.Cie.{CieView, cie_view, SharedView, cie_of}
 use Rattle.eh_records.specs.RawRecord.{RawRecordView, raw_record_at, named_place}
 use Rattle.eh_records.specs.Step.{Step, ◌>>=◌, PointerField, pointer_view, pointer_field}
 
--- an entry, seen without where its bytes lie in memory
+-- an entry, apart from where its bytes are in memory
 pub record FdeView : Type 0 where
   pub place : ℕ
   pub cie : CieView
@@ -21,18 +21,21 @@ pub record FdeView : Type 0 where
   pub lsda : Option PointerField
   pub insns : Cursor
 
+-- the view of an entry
 abbrev pub fde_view : Fde → FdeView
 fde_view f = record { place = f.place; cie = cie_view f.cie; begin = pointer_view f.begin; range = pointer_view f.range; lsda = option_map pointer_view f.lsda; insns = cursor f.insns }
 
--- the field at the front of the data, where the encoding has a fixed width and the data is that long
+-- a field, if it was read
 abbrev pub read_there : Step PointerField → Option PointerField
 read_there (Ok f) = Some f.0
 read_there (Err e) = None
 
+-- the field of this width at the front of the data, if there is a width and the data is that long
 abbrev pub lsda_of_width : Option ℕ → Cursor → Option PointerField
 lsda_of_width None at = None
 lsda_of_width (Some width) at = read_there (pointer_field width at)
 
+-- the field at the front of the data, if the encoding has a fixed width and the data is that long
 abbrev pub lsda_in : Option ℕ → Cursor → Option PointerField
 lsda_in None at = None
 lsda_in (Some encoding) at = lsda_of_width (pointer_width encoding) at
@@ -49,11 +52,12 @@ entry_of shared p = do
   lsda ← lsda_at shared range.1
   Ok (record { place = p.place; cie = shared.cie; begin = begin.0; range = range.0; lsda = lsda.0; insns = lsda.1 })
 
--- the common information entry at a place of the section
+-- the common information entry of the record that was read at a place, or `CiePointer` if there is none
 abbrev pub cie_in : Arch → ℕ → Option (RawRecordView × Cursor) → Result SharedView RecordFault
 cie_in arch place None = Err (CiePointer place)
 cie_in arch place (Some p) = cie_of arch p.0
 
+-- the common information entry at a place of the section
 unfoldable pub cie_at_place : Arch → List ℕ → ℕ → Result SharedView RecordFault
 cie_at_place arch section place = raw_record_at (record { place = place; left = drop place section }) >>= cie_in arch place
 

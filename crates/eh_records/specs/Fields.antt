@@ -1,5 +1,5 @@
--- The fields inside a record, in their order, each by the bytes that stand for it (LSB Core, "The .eh_frame section"; DWARF 5,
--- sections 6.4.1 and 7.6). A record's length word and the word after it are in Cutting.antt.
+-- The fields inside a record, in their order, each by its bytes (LSB Core, "The .eh_frame section"; DWARF 5, sections 6.4.1 and
+-- 7.6). A record's length word and the word after it are in Cutting.antt.
 use Rattle.std.specs.Prelude.{◌≡◌, ◌≢◌, ◌⊎◌, ℕ, ℤ, ◌+◌, ◌%◌, ◌<◌, Bool, true, false, List, [], ◌∷◌, length, Option, Some, None, is_some}
 use Rattle.std.specs.List.{Contains}
 use Rattle.sf_bytes.specs.Cursor.{Cursor}
@@ -16,13 +16,13 @@ use Rattle.eh_records.specs.Section.{EntryView, Common, Frame}
 use Rattle.eh_records.specs.Step.{PointerField}
 
 -- ---- pointers
--- a pointer field of this width: its place, its width and the number that stands there
+-- a pointer field of this width: its place, its width and the number in it
 pub record PointerStands (width : ℕ) (field : PointerField) (from to : Cursor) : Type 0 where
   pub place : field.place ≡ from.place
   pub width_is : field.width ≡ width
   pub number : Stands (Number width) field.raw from to
 
--- a pointer that is passed over: a field where the format fixes its width, or a LEB128 number
+-- a pointer that is passed: a field if the format fixes its width, or a LEB128 number
 abbrev pub PassedStands : Option ℕ → (encoding : ℕ) → Option PointerField → (from to : Cursor) → Type 0
 PassedStands (Some width) encoding None from to = ⊥
 PassedStands (Some width) encoding (Some field) from to = PointerStands width field from to
@@ -31,12 +31,12 @@ PassedStands None encoding None from to =
     ((format_of encoding ≡ 1) × ((n : ℕ) × Stands Uleb n from to)) ⊎ ((format_of encoding ≡ 9) × ((z : ℤ) × Stands Sleb z from to))
 
 -- ---- the augmentation
--- the string is empty, or a `z` (122) and letters, each of which is known and none of which stands twice
+-- the string is empty, or a `z` (122) and letters, each of them known and none of them twice
 abbrev pub StringStands : Arch → Option (List ℕ) → (from to : Cursor) → Type 0
 StringStands arch None from to = Stands Text [] from to
 StringStands arch (Some letters) from to = Stands Text (122 ∷ letters) from to × (are_letters arch [] letters ≡ true)
 
--- what a letter says: the form of function pointers, the personality pointer, the encoding of the pointer to a language-specific
+-- what a letter gives: the form of function pointers, the personality pointer, the encoding of the pointer to a language-specific
 -- data area, that the frame is a signal frame's, or that return addresses are signed with key B
 pub data Saying : Type 0 where
   pointers : Form → Saying
@@ -45,7 +45,7 @@ pub data Saying : Type 0 where
   signal : Saying
   key_b : Saying
 
--- an encoding, and the pointer in it; 0xff means that there is none. Aligned pointers (application 5) are refused
+-- an encoding, and the pointer in it; 0xff means no pointer. Aligned pointers (application 5) are refused
 pub record PersonalityStands (field : Option PointerField) (from to : Cursor) : Type 0 where
   pub encoding : ℕ
   pub after : Cursor
@@ -62,13 +62,14 @@ SayingStands letter (lsda encoding) from to = (letter ≡ 76) × Stands (Number 
 SayingStands letter signal from to = (letter ≡ 83) × (to ≡ from)
 SayingStands letter key_b from to = (letter ≡ 66) × (to ≡ from)
 
--- each letter has its part of the data, in the order of the letters; what is left over says nothing
+-- each letter has its part of the data, in the order of the letters; what is left over gives nothing
 abbrev pub SayingsStand : (letters : List ℕ) → List Saying → Cursor → Type 0
 SayingsStand [] [] from = Unit {0}
 SayingsStand [] (s ∷ sayings) from = ⊥
 SayingsStand (b ∷ letters) [] from = ⊥
 SayingsStand (b ∷ letters) (s ∷ sayings) from = (to : Cursor) × SayingStands b s from to × SayingsStand letters sayings to
 
+-- the augmentation with what one letter gives
 abbrev pub with_saying : AugmentationView → Saying → AugmentationView
 with_saying augmentation (pointers form) = record augmentation { pointers = form }
 with_saying augmentation (personality field) = record augmentation { personality = field }
@@ -76,12 +77,12 @@ with_saying augmentation (lsda encoding) = record augmentation { lsda = Some enc
 with_saying augmentation signal = record augmentation { signal = true }
 with_saying augmentation key_b = record augmentation { key = keys.B }
 
--- the augmentation with what these letters say; a letter that isn't there changes nothing
+-- the augmentation with what these letters give; a letter that isn't there changes nothing
 abbrev pub with_sayings : AugmentationView → List Saying → AugmentationView
 with_sayings augmentation [] = augmentation
 with_sayings augmentation (s ∷ sayings) = with_sayings (with_saying augmentation s) sayings
 
--- the augmentation data: its length, and as many bytes
+-- the augmentation data: its length, and that many bytes
 pub record DataStands (data_ : Cursor) (from to : Cursor) : Type 0 where
   pub len : ℕ
   pub after : Cursor
@@ -89,7 +90,7 @@ pub record DataStands (data_ : Cursor) (from to : Cursor) : Type 0 where
   pub bytes_stand : Stands (Bytes len) data_.left after to
   pub place : data_.place ≡ after.place
 
--- what the augmentation data says; without a string there is none
+-- the augmentation, from its data by the letters
 pub record LettersStand (letters : List ℕ) (augmentation : AugmentationView) (from to : Cursor) : Type 0 where
   pub data_ : Cursor
   pub sayings : List Saying
@@ -97,6 +98,7 @@ pub record LettersStand (letters : List ℕ) (augmentation : AugmentationView) (
   pub sayings_stand : SayingsStand letters sayings data_
   pub together : augmentation ≡ with_sayings plain_augmentation sayings
 
+-- the augmentation, from its data if there is a string; without one there is no data
 abbrev pub AugmentationStands : Option (List ℕ) → AugmentationView → (from to : Cursor) → Type 0
 AugmentationStands None augmentation from to = (augmentation ≡ plain_augmentation) × (to ≡ from)
 AugmentationStands (Some letters) augmentation from to = LettersStand letters augmentation from to
@@ -128,18 +130,19 @@ pub record CieStands (arch : Arch) (p : RawRecordView) (c : SharedView) : Type 0
   pub entry : c ≡ cie_with_form p.place numbers (is_some letters) augmentation insns
 
 -- ---- frame description entries
--- the pointer to the language-specific data area stands at the front of the data, where its encoding fixes a width and the data is
--- that long
+-- the pointer to the language-specific data area is at the front of the data, if its encoding fixes a width and the data is that
+-- long
 abbrev pub LsdaStands : (encoding : Option ℕ) → Option PointerField → Cursor → Type 0
 LsdaStands encoding (Some field) at = (e : ℕ) × (width : ℕ) × (rest : Cursor) × (encoding ≡ Some e) × (pointer_width e ≡ Some width) × PointerStands width field at rest
 LsdaStands encoding None at = (e width : ℕ) → encoding ≡ Some e → pointer_width e ≡ Some width → length at.left < width
 
+-- augmentation data, and the pointer to the language-specific data area in it
 pub record FrameData (encoding : Option ℕ) (field : Option PointerField) (from to : Cursor) : Type 0 where
   pub data_ : Cursor
   pub data_stands : DataStands data_ from to
   pub lsda_stands : LsdaStands encoding field data_
 
--- there is augmentation data where the common information entry has a string
+-- there is augmentation data if the common information entry has a string
 abbrev pub FrameDataStands : (augmented : Bool) → (encoding : Option ℕ) → Option PointerField → (from to : Cursor) → Type 0
 FrameDataStands true encoding field from to = FrameData encoding field from to
 FrameDataStands false encoding field from to = (field ≡ None) × (to ≡ from)
@@ -154,7 +157,8 @@ pub record FdeStands (shared : SharedView) (p : RawRecordView) (f : FdeView) : T
   pub place : f.place ≡ p.place
   pub cie : f.cie ≡ shared.cie
 
--- one of the common information entries before it is at the place that it names: so far before the word as the word says
+-- one of the common information entries before the record is at the place that it names: as far before the word as the word's
+-- number
 pub record FrameStands (before : List SharedView) (p : RawRecordView) (f : FdeView) : Type 0 where
   pub shared : SharedView
   pub among : Contains before shared
@@ -162,7 +166,7 @@ pub record FrameStands (before : List SharedView) (p : RawRecordView) (f : FdeVi
   pub fields : FdeStands shared p f
 
 -- ---- entries
--- the word after the length is 0 in a common information entry
+-- a common information entry if the word after the length is 0, else a frame description entry
 abbrev pub EntryStands : Arch → (before : List SharedView) → RawRecordView → EntryView → Type 0
 EntryStands arch before p (Common c) = (p.id ≡ 0) × CieStands arch p c
 EntryStands arch before p (Frame f) = (p.id ≢ 0) × FrameStands before p f

@@ -1,4 +1,4 @@
--- The next record, and the next one of a frame description entry (LSB Core, "The .eh_frame section").
+-- The next record, and the next record of a frame description entry (LSB Core, "The .eh_frame section").
 use Rattle.std.specs.Prelude.{◌≡◌, ℕ, true, is_ok, List, [], ◌∷◌, Option, Some, None, Result, Ok}
 use Rattle.sf_bytes.specs.Cursor.{Cursor}
 use Rattle.sf_model.specs.declared.machine.Arch.{Arch}
@@ -9,12 +9,12 @@ use Rattle.eh_records.specs.declared.fde.Fde.{Fde}
 use Rattle.eh_records.specs.Fde.{FdeView, fde_of, fde_view}
 use Rattle.eh_records.specs.Section.{EntryView, frames}
 
--- none at the section's end, where nothing is passed; else the next record, which is passed
+-- none at the section's end, and nothing is passed; else the next record, which is passed
 abbrev pub GivesCut : Option RawRecord → (before after : Cursor) → Type 0
 GivesCut None before after = (raw_record_at before ≡ Ok None) × (after ≡ before)
 GivesCut (Some cut) before after = raw_record_at before ≡ Ok (Some (raw_record_view cut, after))
 
--- none where no frame description entry is left, before and after; else the record of the first one, and the others are left
+-- none if no frame description entry is left, before and after; else the record of the first one, and the others are left
 abbrev pub GivesFrameRecord : Arch → List ℕ → Option RawRecord → List EntryView → List EntryView → Type 0
 GivesFrameRecord arch section None before after = (frames before ≡ []) × (frames after ≡ [])
 GivesFrameRecord arch section (Some cut) before after =

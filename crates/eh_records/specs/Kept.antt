@@ -11,7 +11,7 @@ use Rattle.eh_records.specs.Fde.{cie_at_place}
 abbrev pub IsKept : Arch → List ℕ → Option CommonAt → Type 0
 IsKept arch section kept = ForSome kept (λ (k : CommonAt). cie_at_place arch section k.place ≡ Ok (shared_view k.shared))
 
--- a call that keeps an entry answered what reading it gives, and the entry that was read is kept
+-- a call that keeps an entry returned what reading the entry gives, and the entry that was read is kept
 abbrev pub Keeps : {U : Type 0} → Option CommonAt → Result U RecordFault → Result SharedView RecordFault → Type 0
 Keeps (Some k) (Ok u) read = read ≡ Ok (shared_view k.shared)
 Keeps None (Ok u) read = ⊥

@@ -1,5 +1,5 @@
--- Cutting records off a section (LSB Core, "The .eh_frame section"): a length word, a word that names the
--- common information entry, and the rest of the record.
+-- Splitting records off a section (LSB Core, "The .eh_frame section"): a length word, a word that names the common
+-- information entry, and the rest of the record.
 use Rattle.std.specs.Prelude.{◌≡◌, ℕ, ◌-◌, length, Option, Some, None, Result, Ok, Err, nat_lt, ◌==◌, if◌then◌else◌}
 use Rattle.sf_bytes.specs.Cursor.{Cursor}
 use Rattle.eh_records.specs.declared.cut.RawRecord.{RawRecord}
@@ -15,6 +15,7 @@ pub record RawRecordView : Type 0 where
   pub id : ℕ
   pub body : Cursor
 
+-- the view of a record
 abbrev pub raw_record_view : RawRecord → RawRecordView
 raw_record_view cut = record { place = cut.place; id_place = cut.id_place; id = cut.id; body = reader_cursor cut.body }
 
@@ -23,14 +24,14 @@ abbrev pub whole : {X : Type 0} → ℕ → Step X → Step X
 whole place (Ok x) = Ok x
 whole place (Err e) = Err (Short place)
 
--- the record of this length whose length word is at a place, and the cursor after it
+-- the record of this length whose length word is at a place, and the cursor after the record
 unfoldable pub record_of_length : ℕ → ℕ → Cursor → Step RawRecordView
 record_of_length place len at = do
   body ← whole place (part_field len at)
   id ← number_field 4 body.0
   Ok (record { place = place; id_place = body.0.place; id = id.0; body = id.1 }, body.1)
 
--- the next record, or none at the end and at a length word of 0
+-- the record of this length, or none if the length is 0
 abbrev pub sized : ℕ → ℕ → Cursor → Result (Option (RawRecordView × Cursor)) RecordFault
 sized place len at =
     if len == 0 then Ok None
@@ -38,6 +39,7 @@ sized place len at =
     else if nat_lt len 4 then Err (Short place)
     else (record_of_length place len at >>= λ p. Ok (Some p))
 
+-- the next record, or none at the end and at a length word of 0
 unfoldable pub raw_record_at : Cursor → Result (Option (RawRecordView × Cursor)) RecordFault
 raw_record_at at =
     if length at.left == 0 then Ok None
@@ -47,7 +49,7 @@ raw_record_at at =
 unfoldable pub named_place : RawRecordView → Result ℕ RecordFault
 named_place p = if nat_lt p.id_place p.id then Err (CiePointer p.id_place) else Ok (p.id_place - p.id)
 
--- what a call answered is the record, and the reader is what is left
+-- what a call returned is the record, and the reader is what is left
 abbrev pub CutAnswers : Reader → Result (Option RawRecord) RecordFault → Result (Option (RawRecordView × Cursor)) RecordFault → Type 0
 CutAnswers new (Ok None) read = read ≡ Ok None
 CutAnswers new (Ok (Some cut)) read = read ≡ Ok (Some (raw_record_view cut, reader_cursor new))

@@ -1,5 +1,6 @@
--- The first fault of a section's records (LSB Core, "The .eh_frame section"): records with their entries are before it, and the next
--- one can't be cut, or one of its fields isn't there. All fields before that one are, and the fault is named by it.
+-- The first fault of a section's records (LSB Core, "The .eh_frame section"): records with their entries come before it, and the
+-- next record can't be split off, or one of its fields isn't there. All fields before that field are there, and it determines the
+-- fault.
 use Rattle.std.specs.Prelude.{◌≡◌, ◌≢◌, ◌⊎◌, ℕ, ℤ, ◌+◌, ◌%◌, ◌<◌, ◌≤◌, Bool, true, false, List, [], ◌∷◌, length, take, Option, Some, None, Result, Ok, Err}
 use Rattle.std.specs.List.{Contains}
 use Rattle.byteorder.specs.Endian.{little_number}
@@ -23,27 +24,30 @@ use Rattle.eh_records.specs.Step.{PointerField}
 abbrev pub Lacks : (n : ℕ) → Cursor → RecordFault → Type 0
 Lacks n at e = (length at.left < n) × (e ≡ Short at.place)
 
--- no byte is zero
+-- no text is there: no byte is zero
 abbrev pub LacksText : Cursor → RecordFault → Type 0
 LacksText at e = ((text : List ℕ) (to : Cursor) → FieldStands Text text at to → ⊥) × (e ≡ Short at.place)
 
--- each byte says that the number goes on
+-- each byte continues the number: it is 128 or more
 abbrev pub GoOn : List ℕ → Type 0
 GoOn [] = Unit {0}
 GoOn (b ∷ bs) = (128 ≤ b) × GoOn bs
 
--- no LEB128 number is there: Short where fewer than ten bytes are left and all go on, else Leb
+-- the fault of a LEB128 number that isn't there: Short if fewer than ten bytes are left and all continue, else Leb
 abbrev pub IsLebFault : Cursor → RecordFault → Type 0
 IsLebFault at e = ((length at.left < 10) × GoOn at.left × (e ≡ Short at.place)) ⊎ ((GoOn at.left → 10 ≤ length at.left) × (e ≡ Leb at.place))
 
+-- no unsigned LEB128 number is there
 abbrev pub LacksUleb : Cursor → RecordFault → Type 0
 LacksUleb at e = ((v : ℕ) (to : Cursor) → FieldStands Uleb v at to → ⊥) × IsLebFault at e
 
+-- no signed LEB128 number is there
 abbrev pub LacksSleb : Cursor → RecordFault → Type 0
 LacksSleb at e = ((z : ℤ) (to : Cursor) → FieldStands Sleb z at to → ⊥) × IsLebFault at e
 
--- ---- cutting
--- a length word that is cut itself; of the 64-bit form; less than the word after it, or more than what is left
+-- ---- records
+-- the length word isn't all there, or it is that of the 64-bit form, less than the four bytes of the word after it, or more than
+-- what is left
 abbrev pub CutFails : Cursor → RecordFault → Type 0
 CutFails at e =
     (at.left ≢ []) × (
@@ -57,22 +61,22 @@ CutFails at e =
     )
 
 -- ---- common information entries
--- a length that isn't there, or more than what is left
+-- the length isn't there, or is more than what is left
 abbrev pub DataFails : Cursor → RecordFault → Type 0
 DataFails at e = LacksUleb at e ⊎ ((len : ℕ) × (after : Cursor) × FieldStands Uleb len at after × Lacks len after e)
 
--- no text, or one that is neither empty nor a `z` (122) and known letters, none of them twice
+-- no text is there, or one that is neither empty nor a `z` (122) and known letters, none of them twice
 abbrev pub StringFails : Arch → Cursor → RecordFault → Type 0
 StringFails arch at e =
     LacksText at e
     ⊎ ((text : List ℕ) × (after : Cursor) × FieldStands Text text at after
     × (text ≢ []) × ((letters : List ℕ) → text ≡ 122 ∷ letters → are_letters arch [] letters ≡ false) × (e ≡ Augmentation at.place))
 
--- an encoding that isn't there, or that function pointers can't have
+-- the encoding isn't there, or is one that function pointers can't have
 abbrev pub FormFails : Cursor → RecordFault → Type 0
 FormFails at e = Lacks 1 at e ⊎ ((encoding : ℕ) × (after : Cursor) × FieldStands (Number 1) encoding at after × (usable_width encoding ≡ None) × (e ≡ Encoding at.place))
 
--- no pointer of this format: a field that is cut, a LEB128 number that isn't there, or a format that there isn't
+-- no pointer of this format is there: the field isn't all there, the LEB128 number isn't there, or the format is unknown
 abbrev pub PassedFails : Option ℕ → (encoding encoding_place : ℕ) → Cursor → RecordFault → Type 0
 PassedFails (Some width) encoding encoding_place at e = Lacks width at e
 PassedFails None encoding encoding_place at e =
@@ -80,6 +84,7 @@ PassedFails None encoding encoding_place at e =
     ⊎ (((format_of encoding ≡ 9) × LacksSleb at e)
     ⊎ ((format_of encoding ≢ 1) × (format_of encoding ≢ 9) × (e ≡ Encoding encoding_place)))
 
+-- the encoding of the personality pointer isn't there or is aligned, or no pointer of its format is there
 abbrev pub PersonalityFails : Cursor → RecordFault → Type 0
 PersonalityFails at e =
     Lacks 1 at e
@@ -87,6 +92,7 @@ PersonalityFails at e =
     × (((above_format encoding % 8 ≡ 5) × (e ≡ Encoding at.place))
     ⊎ ((above_format encoding % 8 ≢ 5) × PassedFails (pointer_width encoding) encoding at.place after e)))
 
+-- the part of a letter in the data isn't there
 abbrev pub SayingFails : (letter : ℕ) → Cursor → RecordFault → Type 0
 SayingFails letter at e = ((letter ≡ 82) × FormFails at e) ⊎ (((letter ≡ 80) × PersonalityFails at e) ⊎ ((letter ≡ 76) × Lacks 1 at e))
 
@@ -95,10 +101,12 @@ abbrev pub SayingsFail : (letters : List ℕ) → Cursor → RecordFault → Typ
 SayingsFail [] at e = ⊥
 SayingsFail (b ∷ letters) at e = SayingFails b at e ⊎ ((s : Saying) × (to : Cursor) × SayingStands b s at to × SayingsFail letters to e)
 
+-- the augmentation data isn't there, or a letter's part of it isn't
 abbrev pub AugmentationFails : Option (List ℕ) → Cursor → RecordFault → Type 0
 AugmentationFails None at e = ⊥
 AugmentationFails (Some letters) at e = DataFails at e ⊎ ((data_ : Cursor) × (to : Cursor) × DataStands data_ at to × SayingsFail letters data_ e)
 
+-- the return address column isn't there
 abbrev pub ColumnFails : (version : ℕ) → Cursor → RecordFault → Type 0
 ColumnFails version at e = ((version ≡ 1) × Lacks 1 at e) ⊎ ((version ≡ 3) × LacksUleb at e)
 
@@ -116,6 +124,7 @@ pub data CieFails (arch : Arch) (p : RawRecordView) (e : RecordFault) : Type 0 w
       → FieldStands Uleb code a2 a3 → FieldStands Sleb factor a3 a4 → ColumnStands version column a4 a5 → AugmentationFails letters a5 e → CieFails arch p e
 
 -- ---- frame description entries
+-- the augmentation data isn't there, in an entry that has some
 abbrev pub FrameDataFails : (augmented : Bool) → Cursor → RecordFault → Type 0
 FrameDataFails true at e = DataFails at e
 FrameDataFails false at e = ⊥
@@ -128,16 +137,19 @@ FdeFails shared p e =
     × (Lacks shared.width a1 e
     ⊎ ((range : PointerField) × (a2 : Cursor) × PointerStands shared.width range a1 a2 × FrameDataFails shared.augmented a2 e)))
 
--- no common information entry before it is where it says
+-- no common information entry before the record is at the place that it names
 abbrev pub NamesNone : (before : List SharedView) → RawRecordView → Type 0
 NamesNone before p = (shared : SharedView) → Contains before shared → shared.cie.place + p.id ≢ p.id_place
 
+-- no common information entry is named, or a field isn't there
 abbrev pub FrameFails : (before : List SharedView) → RawRecordView → RecordFault → Type 0
 FrameFails before p e =
     (NamesNone before p × (e ≡ CiePointer p.id_place))
     ⊎ ((shared : SharedView) × Contains before shared × (shared.cie.place + p.id ≡ p.id_place) × FdeFails shared p e)
 
 -- ---- sections
+-- a field of a record's entry isn't there: a common information entry if the word after the length is 0, else a frame description
+-- entry
 abbrev pub EntryFails : Arch → (before : List SharedView) → RawRecordView → RecordFault → Type 0
 EntryFails arch before p e = ((p.id ≡ 0) × CieFails arch p e) ⊎ ((p.id ≢ 0) × FrameFails before p e)
 
@@ -152,13 +164,13 @@ FailsFrom arch before (p ∷ ps) (v ∷ vs) at e = (after : Cursor) × Stands at
 abbrev pub IsRefused : Arch → List ℕ → RecordFault → Type 0
 IsRefused arch section e = (ps : List RawRecordView) × (vs : List EntryView) × FailsFrom arch [] ps vs (start section) e
 
--- a section's records are read as this: its entries, or its first fault
+-- reading a section's records gives this: its entries, or its first fault
 abbrev pub AreReadAs : Arch → (section : List ℕ) → Result (List EntryView) RecordFault → Type 0
 AreReadAs arch section (Ok es) = AreEntries arch section es
 AreReadAs arch section (Err e) = IsRefused arch section e
 
 -- ---- which faults there are
--- all but those of a function's values, and memory
+-- all faults but those of a function's values and out of memory
 abbrev pub IsOfRecords : RecordFault → Type 0
 IsOfRecords (Unresolved place) = ⊥
 IsOfRecords (FunctionEnd place) = ⊥

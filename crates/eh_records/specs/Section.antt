@@ -1,5 +1,5 @@
--- A whole section (LSB Core, "The .eh_frame section"): records one after the other, up to the section's end or
--- to a length word of 0. A frame description entry names a common information entry that stands before it.
+-- A whole section (LSB Core, "The .eh_frame section"): consecutive records, up to the section's end or to a length word
+-- of 0. A frame description entry names a common information entry that comes before it.
 use Rattle.std.specs.Prelude.{ℕ, zero, suc, ◌+◌, ◌-◌, ◌==◌, ◌&&◌, Bool, true, false, is_ok, List, [], ◌∷◌, ◌++◌, length, Option, Some, None, Result, Ok, Err, if◌then◌else◌}
 use Rattle.std.specs.List.{list_any}
 use Rattle.sf_bytes.specs.Cursor.{Cursor}
@@ -11,10 +11,11 @@ use Rattle.eh_records.specs.RawRecord.{RawRecordView, raw_record_at, named_place
 use Rattle.eh_records.specs.Fde.{FdeView, fde_of}
 use Rattle.eh_records.specs.Step.{◌>>=◌, PointerField}
 
--- a record that was cut off, or the fault at which the cut ends
+-- a record, or the fault at which the list of records ends
 abbrev pub Cutting : Type 0
 Cutting = Result RawRecordView RecordFault
 
+-- the first record and the cursor after it, none at the end, or a fault
 abbrev pub Front : Type 0
 Front = Result (Option (RawRecordView × Cursor)) RecordFault
 
@@ -30,7 +31,7 @@ front_of (Ok (Some (p, after))) others = Ok p ∷ others
 front_of (Ok None) others = []
 front_of (Err e) others = Err e ∷ []
 
--- the records after that many further bytes of a record that was cut off
+-- the records after this many further bytes
 unfoldable pub cuts_after : (skipped place : ℕ) → List ℕ → List Cutting
 cuts_after skipped place [] = []
 cuts_after (suc n) place (b ∷ bs) = cuts_after n (place + 1) bs
@@ -55,18 +56,19 @@ pub data EntryView : Type 0 where
 unfoldable pub entry_here : Arch → List ℕ → RawRecordView → Result EntryView RecordFault
 entry_here arch section p = if p.id == 0 then (cie_of arch p >>= λ c. Ok (Common c)) else (fde_of arch section p >>= λ f. Ok (Frame f))
 
--- a frame description entry names one of these places, at which common information entries stand before it
+-- a place, if it is among the places of the common information entries before the record
 abbrev pub place_among : List ℕ → RawRecordView → ℕ → Result ℕ RecordFault
 place_among cies p place = if list_any (λ q. q == place) cies then Ok place else Err (CiePointer p.id_place)
 
+-- the place of the common information entry that a record names, or of the record itself if it is one
 unfoldable pub shared_place : List ℕ → RawRecordView → Result ℕ RecordFault
 shared_place cies p = if p.id == 0 then Ok p.place else (named_place p >>= place_among cies p)
 
--- the entry of a record, where common information entries stand before it at these places
+-- the entry of a record, if these are the places of the common information entries before it
 unfoldable pub entry_at : Arch → List ℕ → List ℕ → RawRecordView → Result EntryView RecordFault
 entry_at arch section cies p = shared_place cies p >>= λ _. entry_here arch section p
 
--- the places of the common information entries, with this record's
+-- the places of the common information entries, with this record's if it is one
 abbrev pub with_place : List ℕ → RawRecordView → List ℕ
 with_place cies p = if p.id == 0 then cies ++ p.place ∷ [] else cies
 
@@ -87,24 +89,27 @@ frames [] = []
 frames (Common c ∷ es) = frames es
 frames (Frame f ∷ es) = f ∷ frames es
 
--- the pointer fields of entries, from left to right
+-- a pointer field, if there is one
 abbrev pub optional : Option PointerField → List PointerField
 optional None = []
 optional (Some f) = f ∷ []
 
+-- the pointer fields of an entry, from left to right
 abbrev pub entry_fields : EntryView → List PointerField
 entry_fields (Common c) = optional c.cie.personality
 entry_fields (Frame f) = f.begin ∷ f.range ∷ optional f.lsda
 
+-- the pointer fields of entries, from left to right
 abbrev pub pointer_fields : List EntryView → List PointerField
 pointer_fields [] = []
 pointer_fields (e ∷ es) = entry_fields e ++ pointer_fields es
 
--- the entries of records up to the first that can't be read
+-- an entry and those after it, or no entry if it can't be read
 abbrev pub entry_before : Result EntryView RecordFault → List EntryView → List EntryView
 entry_before (Ok e) es = e ∷ es
 entry_before (Err x) es = []
 
+-- the entries of records up to the first that can't be read
 unfoldable pub entries_before : Arch → List ℕ → List Cutting → List EntryView
 entries_before arch section [] = []
 entries_before arch section (Err e ∷ others) = []

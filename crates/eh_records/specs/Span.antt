@@ -9,11 +9,11 @@ use Rattle.eh_records.specs.declared.fault.RecordFault.TheVariants.{Unresolved, 
 abbrev pub start_of : ℕ → ℕ → ℕ → ℕ → ℕ → ℕ
 start_of encoding place address shift bits = (pointer_value encoding bits ((address + place) % 2 ^ 64) + shift) % 2 ^ 64
 
--- start and size, where the start plus the size is at most 2^64; the start field stands at this place
+-- start and size, if the start plus the size is at most 2^64; the start field is at this place
 abbrev pub bounded : ℕ → ℕ → ℕ → Result (ℕ × ℕ) RecordFault
 bounded place start size = if nat_lt (2 ^ 64) (start + size) then Err (FunctionEnd place) else Ok (start, size)
 
--- start and size from the values of both fields, where they have one
+-- start and size from the values of both fields, if they have one
 abbrev pub span_of : ℕ → ℕ → ℕ → ℕ → Option ℕ → Option ℕ → Result (ℕ × ℕ) RecordFault
 span_of encoding place address shift (Some begin) (Some range) = bounded place (start_of encoding place address shift begin) (pointer_bits encoding range)
 span_of encoding place address shift (Some begin) None = Err (Unresolved place)

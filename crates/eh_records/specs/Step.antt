@@ -15,46 +15,53 @@ pub use Rattle.sf_bytes.specs.Steps.{◌>>=◌}
 abbrev pub Step : Type 0 → Type 0
 Step X = Result (X × Cursor) RecordFault
 
--- the fault of a field that stands at a place
+-- the fault of a field at a place
 abbrev pub fault_of : ℕ → ByteFault → RecordFault
 fault_of place (byte_faults.Short p) = Short place
 fault_of place (byte_faults.Leb p) = Leb place
 
+-- the read of a field, with the field's place in its fault
 abbrev pub placed : {X : Type 0} → ℕ → Read X → Step X
 placed place (Ok x) = Ok x
 placed place (Err e) = Err (fault_of place e)
 
--- a number of n bytes, a LEB128 number, a text, and n bytes as they are
+-- a number of n bytes
 unfoldable pub number_field : ℕ → Cursor → Step ℕ
 number_field n at = placed at.place (number_at n at)
 
+-- an unsigned LEB128 number
 unfoldable pub uleb_field : Cursor → Step ℕ
 uleb_field at = placed at.place (uleb_at at)
 
+-- a signed LEB128 number
 unfoldable pub sleb_field : Cursor → Step ℤ
 sleb_field at = placed at.place (sleb_at at)
 
+-- a text
 unfoldable pub text_field : Cursor → Step (List ℕ)
 text_field at = placed at.place (text_at at)
 
+-- n bytes as they are
 unfoldable pub part_field : ℕ → Cursor → Step Cursor
 part_field n at = placed at.place (part_at n at)
 
--- a pointer field: its place, its width in bytes and the number that stands there
+-- a pointer field: its place, its width in bytes and the number in it
 pub record PointerField : Type 0 where
   pub place : ℕ
   pub width : ℕ
   pub raw : ℕ
 
+-- the view of a field
 abbrev pub pointer_view : Field → PointerField
 pointer_view f = record { place = f.place; width = f.width; raw = f.raw }
 
+-- the pointer field of this width at the front
 unfoldable pub pointer_field : ℕ → Cursor → Step PointerField
 pointer_field width at = do
   raw ← number_field width at
   Ok (record { place = at.place; width = width; raw = raw.0 }, raw.1)
 
--- what a call on a reader answered, seen by view, is what the step gives, and the reader is what it leaves
+-- what a call on a reader returned, seen through `view`, is what the step gives, and the reader is what the step leaves
 abbrev pub Answers : {X Y : Type 0} → (X → Y) → Reader → Result X RecordFault → Step Y → Type 0
 Answers view new result step = Reads view new.part result step
 

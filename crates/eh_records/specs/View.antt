@@ -18,12 +18,12 @@ entries r = entries_before r.arch r.bytes.now (cuts_of r.bytes.now)
 abbrev pub frames_left : FdeIter → List FdeView
 frames_left it = frames (entries_before it.arch it.section.now (cuts (reader_cursor it.rest)))
 
--- what parsing answered is what the section has: its entries or its first fault, if there was memory
+-- what parsing returned is what the section has: its entries or its first fault, unless memory ran out
 abbrev pub IsParsed : Arch → List ℕ → Result Records RecordFault → Type 0
 IsParsed arch section (Ok r) = entries_of arch section ≡ Ok (entries r)
 IsParsed arch section (Err e) = (e ≡ NoMemory) ⊎ (entries_of arch section ≡ Err e)
 
--- every frame description entry has a key of the machine, and it's the whole section's entries that were read
+-- the machine that the records were read for
 abbrev pub arch_of : Records → Arch
 arch_of r = r.arch
 
@@ -31,8 +31,10 @@ arch_of r = r.arch
 abbrev pub bytes_of : Records → List ℕ
 bytes_of r = r.bytes.now
 
+-- every frame description entry has a key of the machine
 abbrev pub KeysFit : Records → Type 0
 KeysFit r = All (λ (f : FdeView). IsTrue (key_fits r.arch f.cie.key)) (frames (entries r))
 
+-- the entries that were read are those of the whole section
 abbrev pub IsWhole : Records → Type 0
 IsWhole r = entries_of r.arch r.bytes.now ≡ Ok (entries r)

@@ -1,4 +1,4 @@
-//! What the augmentation of a common information entry says.
+//! The augmentation of a common information entry.
 
 ghost use Rattle.std.specs.Prelude.{IsTrue};
 ghost use Rattle.sf_bytes.specs.Field.{is_field_width};
@@ -17,14 +17,14 @@ pub struct PointerForm {
     ghost wide: { IsTrue (is_field_width width) },
 }
 
-/// What the letters of an augmentation string say.
+/// The augmentation, as the letters of its string give it.
 #[derive(Clone, Copy)]
 pub struct Augmentation {
     /// The form of function pointers.
     pub pointers: PointerForm,
     /// The encoding of the pointer to a language-specific data area.
     pub lsda: Option<u8>,
-    /// The personality pointer, where its width is fixed.
+    /// The personality pointer, if its width is fixed.
     pub personality: Option<Field>,
     /// Whether the frame is a signal frame's.
     pub signal: bool,

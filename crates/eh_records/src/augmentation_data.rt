@@ -15,7 +15,7 @@ use eh_pointer::{PointerFault, skip, usable, width};
 use sf_bytes::Field;
 use sf_model::Key;
 
-/// The augmentation data after its length.
+/// Reads the augmentation data after its length.
 #[tactic(auto, unfolding(crate::specs::Augmentation::data_at))]
 pub fn read_data<'a>(body: &mut Reader<'a>) -> Result<Reader<'a>, RecordFault>
     ensures { Answers reader_cursor body.new result (data_at (reader_cursor body.old)) }
@@ -24,7 +24,7 @@ pub fn read_data<'a>(body: &mut Reader<'a>) -> Result<Reader<'a>, RecordFault>
     body.sub(len)
 }
 
-// The form of function pointers, from its encoding.
+// Reads the form of function pointers from its encoding.
 #[tactic(auto, unfolding(crate::specs::Augmentation::form_at))]
 fn read_form(left: &mut Reader<'_>) -> Result<PointerForm, RecordFault>
     ensures { Answers form_view left.new result (form_at (reader_cursor left.old)) }
@@ -37,7 +37,7 @@ fn read_form(left: &mut Reader<'_>) -> Result<PointerForm, RecordFault>
     }
 }
 
-// Passes a personality pointer, and answers it where its width is fixed.
+// Passes a personality pointer, and returns it if its width is fixed.
 #[tactic(auto, unfolding(crate::specs::Augmentation::personality_at))]
 fn read_personality(left: &mut Reader<'_>) -> Result<Option<Field>, RecordFault>
     ensures { Answers (λ field. option_map pointer_view field) left.new result (personality_at (reader_cursor left.old)) }
@@ -63,7 +63,7 @@ fn read_personality(left: &mut Reader<'_>) -> Result<Option<Field>, RecordFault>
     }
 }
 
-// What one letter says, from the data that is left.
+// Reads what one letter gives from the data that is left.
 #[tactic(auto, unfolding(crate::specs::Augmentation::letter_at))]
 fn read_letter(
     letter: u8,
@@ -105,7 +105,7 @@ fn read_letter(
     }
 }
 
-/// What an entry without augmentation says.
+/// Returns the augmentation of an entry without augmentation.
 pub fn plain() -> Augmentation
     ensures { augmentation_view result ≡ plain_augmentation }
 {
@@ -121,7 +121,8 @@ pub fn plain() -> Augmentation
     }
 }
 
-/// What the letters say, in their order, from the augmentation data. Bytes that are left over aren't read.
+/// Reads what the letters give, in their order, from the augmentation data. Bytes that are left over aren't
+/// read.
 pub fn read_augmentation_data(
     letters: &[u8],
     mut left: Reader<'_>,

@@ -24,7 +24,7 @@ pub struct Cie<'a> {
     pub signal: bool,
     /// The key of signed return addresses.
     pub key: Key,
-    /// The personality pointer, where its width is fixed.
+    /// The personality pointer, if its width is fixed.
     pub personality: Option<Field>,
     /// The initial instructions.
     pub insns: Part<'a>,
@@ -47,7 +47,7 @@ pub struct CieWithForm<'a> {
     pub cie: Cie<'a>,
     /// How many bytes a function pointer has.
     pub width: u8,
-    /// Whether augmentation data stands in the entries.
+    /// Whether the entries have augmentation data.
     pub augmented: bool,
     /// The encoding of the pointer to a language-specific data area.
     pub lsda: Option<u8>,

@@ -20,7 +20,7 @@ use crate::reader::Reader;
 use sf_bytes::Part;
 use sf_model::Arch;
 
-// The return address column: a byte in version 1, a LEB128 number in version 3.
+// Reads the return address column: a byte in version 1, a LEB128 number in version 3.
 #[tactic(auto, unfolding(crate::specs::Cie::column_at))]
 fn read_column(version: u8, body: &mut Reader<'_>) -> Result<u64, RecordFault>
     ensures { Answers (λ x. x) body.new result (column_at version (reader_cursor body.old)) }
@@ -33,7 +33,7 @@ fn read_column(version: u8, body: &mut Reader<'_>) -> Result<u64, RecordFault>
     }
 }
 
-// The alignment factors and the return address column.
+// Reads the alignment factors and the return address column.
 #[tactic(auto, unfolding(crate::specs::Cie::numbers_at))]
 fn read_numbers(version: u8, body: &mut Reader<'_>) -> Result<NumberFields, RecordFault>
     ensures { Answers numbers_view body.new result (numbers_at version (reader_cursor body.old)) }
@@ -48,7 +48,7 @@ fn read_numbers(version: u8, body: &mut Reader<'_>) -> Result<NumberFields, Reco
     })
 }
 
-// What the augmentation data says, where there is one.
+// Reads the augmentation from its data, if there is one.
 #[tactic(auto, unfolding(crate::specs::Cie::augmentation_at))]
 fn read_augmentation(
     letters: Option<&[u8]>,
@@ -65,7 +65,7 @@ fn read_augmentation(
     }
 }
 
-// An entry from its fields.
+// Creates an entry from its fields.
 fn shared<'a>(
     place: u32,
     numbers: NumberFields,
@@ -94,7 +94,7 @@ fn shared<'a>(
     }
 }
 
-// The fields after the version of the entry that stands at a place.
+// Reads the fields after the version of the entry at a place.
 #[tactic(auto, using(crate::proofs::LetterViews::some_same), unfolding(crate::specs::Cie::cie_fields))]
 fn read_fields<'a>(
     place: u32,
@@ -110,7 +110,7 @@ fn read_fields<'a>(
     Ok(shared(place, numbers, letters.is_some(), augmentation, body.part))
 }
 
-/// The common information entry of a record.
+/// Reads the common information entry of a record.
 #[tactic(auto, unfolding(crate::specs::Cie::cie_of))]
 #[inline(never)]
 pub fn read_cie<'a>(cut: &RawRecord<'a>, arch: Arch) -> Result<CieWithForm<'a>, RecordFault>
@@ -125,7 +125,7 @@ pub fn read_cie<'a>(cut: &RawRecord<'a>, arch: Arch) -> Result<CieWithForm<'a>, 
     read_fields(cut.place, version, body, arch)
 }
 
-/// The common information entry that stands at a place of the section.
+/// Reads the common information entry at a place of the section.
 #[tactic(auto, unfolding(crate::specs::Fde::cie_at_place))]
 pub fn cie_at<'a>(section: &'a [u8], place: u32, arch: Arch) -> Result<CieWithForm<'a>, RecordFault>
     requires { length section.now < 2 ^ 32 }

@@ -1,4 +1,4 @@
-//! Cutting a section into records.
+//! Splitting a section into records.
 
 ghost use Rattle.std.specs.Prelude.{◌≡◌, ◌<◌, ◌==◌, length, IfOk, IfSome};
 ghost use Rattle.sf_bytes.specs.Answers.{Is};
@@ -9,22 +9,22 @@ use crate::fault::RecordFault;
 use crate::layout::{CIE_ID, EXTENDED_LENGTH, WORD_LEN};
 use crate::reader::Reader;
 
-/// A record as it was cut.
+/// A record whose fields aren't read yet.
 #[derive(Clone, Copy)]
 pub struct RawRecord<'a> {
     /// The place of its length word.
     pub place: u32,
-    /// The place of the word after that one.
+    /// The place of the word after the length word.
     pub id_place: u32,
     /// The word after the length: 0 in a common information entry, else the distance back from the word's
-    /// own place to the entry that it names.
+    /// own place to the entry that the record names.
     pub id: u32,
-    /// What stands after that word.
+    /// The bytes after that word.
     pub body: Reader<'a>,
 }
 
 impl RawRecord<'_> {
-    /// Whether the record is a common information entry.
+    /// Returns whether the record is a common information entry.
     #[inline(always)]
     pub fn is_cie(&self) -> bool
         ensures { result ≡ (self.now.id == 0) }
@@ -32,8 +32,8 @@ impl RawRecord<'_> {
         self.id == CIE_ID
     }
 
-    /// The place of the common information entry that the record names, `CiePointer` where that is before
-    /// the section.
+    /// Returns the place of the common information entry that the record names, or `CiePointer` if that is
+    /// before the section.
     #[tactic(auto, unfolding(crate::specs::RawRecord::named_place))]
     #[inline(always)]
     pub fn cie_place(&self) -> Result<u32, RecordFault>
@@ -46,7 +46,7 @@ impl RawRecord<'_> {
     }
 }
 
-/// Cuts the next record off, or answers none at the end and at a length word of 0.
+/// Splits the next record off, or returns `None` at the end and at a length word of 0.
 #[tactic(auto, unfolding(crate::specs::RawRecord::raw_record_at, crate::specs::RawRecord::record_of_length))]
 #[inline(always)]
 pub fn next_record<'a>(rest: &mut Reader<'a>) -> Result<Option<RawRecord<'a>>, RecordFault>

@@ -29,7 +29,7 @@ pub enum Entry<'a> {
     Frame(Fde<'a>),
 }
 
-/// The entry of a record.
+/// Reads the entry of a record.
 #[tactic(auto, unfolding(crate::specs::Section::entry_here))]
 #[inline(always)]
 fn read_here<'a>(
@@ -52,7 +52,8 @@ fn read_here<'a>(
     }
 }
 
-/// The entry of a record. `places` has those of the common information entries before it, and rises.
+/// Reads the entry of a record. `places` has the places of the common information entries before the
+/// record, and rises.
 #[tactic(auto, unfolding(crate::specs::Section::entry_at))]
 pub fn read_after<'a>(
     kept: &mut Option<CommonAt<'a>>,
@@ -71,7 +72,7 @@ pub fn read_after<'a>(
     read_here(kept, section, cut, arch)
 }
 
-/// The first entry of what is left of a section, each of whose records is read, or none at its end.
+/// Reads the first entry of what is left of a section, each of whose records is read, or none at its end.
 #[inline(always)]
 pub fn next_entry<'a>(
     kept: &mut Option<CommonAt<'a>>,

@@ -10,13 +10,13 @@ use std::alloc::{AllocError, AllocFailed};
 pub enum RecordFault {
     /// A record or field passes its end, or an augmentation string has no zero byte.
     Short(u32),
-    /// The length word announces a length of 64 bits.
+    /// The length word is that of a 64-bit length.
     Extended(u32),
     /// The version is neither 1 nor 3.
     CieVersion(u32),
     /// The augmentation string is neither empty nor `z` with known letters, each once.
     Augmentation(u32),
-    /// The word names no common information entry that stands before.
+    /// The word names no common information entry before the record.
     CiePointer(u32),
     /// A pointer encoding that can't be used.
     Encoding(u32),
@@ -26,7 +26,7 @@ pub enum RecordFault {
     Unresolved(u32),
     /// The function ends above 2^64.
     FunctionEnd(u32),
-    /// No memory was left.
+    /// Memory ran out.
     NoMemory,
 }
 

@@ -11,13 +11,13 @@ use sf_bytes::{Field, Part};
 pub struct Fde<'a> {
     /// The place of its length word in the section.
     pub place: u32,
-    /// The entry that it names.
+    /// The common information entry that it names.
     pub cie: Cie<'a>,
     /// The field of the function's start.
     pub begin: Field,
     /// The field of its size.
     pub range: Field,
-    /// The pointer to its language-specific data area, where that has a fixed width.
+    /// The pointer to its language-specific data area, if that has a fixed width.
     pub lsda: Option<Field>,
     /// Its instructions.
     pub insns: Part<'a>,

@@ -20,8 +20,8 @@ use eh_pointer::width;
 use sf_bytes::Field;
 use sf_model::Arch;
 
-// The pointer to a language-specific data area at the front of the augmentation data, where the encoding
-// has a fixed width and the data is that long.
+// Returns the pointer to a language-specific data area at the front of the augmentation data, if the
+// encoding has a fixed width and the data is that long.
 #[inline(always)]
 fn lsda_of(encoding: Option<u8>, mut left: Reader<'_>) -> Option<Field>
     ensures { option_map pointer_view result ≡ lsda_in encoding (reader_cursor left.entry) }
@@ -30,7 +30,7 @@ fn lsda_of(encoding: Option<u8>, mut left: Reader<'_>) -> Option<Field>
     left.pointer(bytes).ok()
 }
 
-// That pointer, and the augmentation data passed.
+// Reads the pointer to a language-specific data area, and passes the augmentation data.
 #[tactic(auto, unfolding(crate::specs::Fde::lsda_at))]
 #[inline(always)]
 fn read_lsda(shared: &CieWithForm<'_>, body: &mut Reader<'_>) -> Result<Option<Field>, RecordFault>
@@ -43,7 +43,7 @@ fn read_lsda(shared: &CieWithForm<'_>, body: &mut Reader<'_>) -> Result<Option<F
     Ok(lsda_of(shared.lsda, left))
 }
 
-/// The frame description entry of a record whose common information entry is known.
+/// Reads the frame description entry of a record whose common information entry is known.
 #[tactic(auto, unfolding(crate::specs::Fde::entry_of))]
 #[inline(always)]
 pub fn read_entry<'a>(cut: &RawRecord<'a>, shared: &CieWithForm<'a>) -> Result<Fde<'a>, RecordFault>
@@ -63,8 +63,8 @@ pub fn read_entry<'a>(cut: &RawRecord<'a>, shared: &CieWithForm<'a>) -> Result<F
     })
 }
 
-/// The frame description entry of a record, with the common information entry that it names, which is read
-/// again unless it is the one that is kept.
+/// Reads the frame description entry of a record, with the common information entry that it names, which is
+/// read again unless it is the one that is kept.
 #[tactic(auto, unfolding(crate::specs::Fde::fde_of))]
 #[inline(always)]
 pub fn read_fde<'a>(

@@ -1,4 +1,4 @@
-//! The frame description entries of a section, one after the other.
+//! The frame description entries of a section, in order.
 
 ghost use Rattle.std.specs.Prelude.{◌<◌, ◌^◌, ◌≡◌, Ok, OnSome, is_ok, length, true};
 ghost use Rattle.eh_records.specs.Fde.{fde_of};
@@ -16,7 +16,7 @@ use crate::reader::Reader;
 use sf_model::Arch;
 
 /// An iterator over the frame description entries of a section that was parsed. Each record that is left was
-/// read before, so it ends at the section's end and no earlier.
+/// read before, so the iterator ends at the section's end and no earlier.
 #[derive(Clone, Copy)]
 pub struct FdeIter<'a> {
     section: &'a [u8],
@@ -31,7 +31,7 @@ pub struct FdeIter<'a> {
 impl<'a> FdeIter<'a> {
     ghost use Rattle.eh_records.specs.View.{frames_left};
 
-    /// The iterator over the whole section.
+    /// Creates the iterator over the whole section.
     pub(crate) fn new(section: &'a [u8], arch: Arch) -> FdeIter<'a>
         requires small { length section.now < 2 ^ 32 }
         requires whole { is_ok (entries_of arch section.now) ≡ true }
@@ -46,7 +46,7 @@ impl<'a> FdeIter<'a> {
     }
 }
 
-// The next record of what is left, which is passed. None at the section's end.
+// Advances to the next record of what is left and returns it, or `None` at the section's end.
 #[inline(always)]
 fn next_cut<'a>(rest: &mut Reader<'a>) -> Option<RawRecord<'a>>
     requires { is_ok (raw_record_at (reader_cursor rest.old)) ≡ true }
@@ -64,7 +64,7 @@ fn next_cut<'a>(rest: &mut Reader<'a>) -> Option<RawRecord<'a>>
     }
 }
 
-// The next record of a frame description entry of what is left, which is passed, or none at the end.
+// Advances to the next record of a frame description entry and returns it, or `None` at the end.
 #[inline(always)]
 fn next_frame<'a>(section: &'a [u8], arch: Arch, rest: &mut Reader<'a>) -> Option<RawRecord<'a>>
     requires { are_read arch section.now (cuts (reader_cursor rest.old)) ≡ true }
@@ -79,7 +79,7 @@ fn next_frame<'a>(section: &'a [u8], arch: Arch, rest: &mut Reader<'a>) -> Optio
     None
 }
 
-// The frame description entry of a record that is read.
+// Returns the frame description entry of a record that was read before.
 #[tactic(auto, unfolding(crate::specs::Fde::fde_of))]
 #[inline(always)]
 fn frame_of<'a>(

@@ -18,8 +18,8 @@ impl<'a> CommonAt<'a> {
     ghost use Rattle.eh_records.specs.Fde.{cie_at_place};
     ghost use Rattle.eh_records.specs.Kept.{IsKept, Keeps};
 
-    /// Keeps the common information entry at a place of the section. It is read only where the entry of another
-    /// place is kept. That costs little, however long the entry is: what is read of one that isn't refused has
+    /// Keeps the common information entry at a place of the section. The entry is read unless it is kept
+    /// already. That costs little, however long the entry is: what is read of an entry that isn't refused has
     /// fewer than 100 bytes.
     #[inline(always)]
     pub fn keep(

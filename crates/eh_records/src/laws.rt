@@ -10,9 +10,10 @@ ghost use Rattle.eh_records.specs.Section.{EntryView, cuts_of, entries_of, point
 
 use sf_model::Arch;
 
-/// Says, by its contract alone, that the records that are cut off are a section's cut, that a section has one cut
-/// at most, and that what is read of it is what its records are read as: its entries, or the fault of the first
-/// field that isn't there, and never both. That fault is neither `Unresolved` nor `FunctionEnd`. It does nothing.
+/// States, by its contract alone, that the records that are split off are the section's records, that a section
+/// has at most one such list, and that what is read of a section is what its records are read as: its entries, or
+/// the fault of the first field that isn't there, and never both. That fault is neither `Unresolved` nor
+/// `FunctionEnd`. It does nothing.
 pub fn entries_law(section: &[u8], arch: Arch)
     ensures cut { (ps : List RawRecordView) → AreCut ps (start section.now) ↔ (cuts_of section.now ≡ all_cut ps) }
     ensures one { (ps : List RawRecordView) → (qs : List RawRecordView) → AreCut ps (start section.now) → AreCut qs (start section.now) → ps ≡ qs }
@@ -20,8 +21,8 @@ pub fn entries_law(section: &[u8], arch: Arch)
     ensures named { (e : refusal) → entries_of arch section.now ≡ Err e → IsOfRecords e }
 {}
 
-/// Says, by its contract alone, that each pointer field of a section's entries lies in the section and holds
-/// the number that stands there, and that no two of them overlap. It does nothing.
+/// States, by its contract alone, that each pointer field of a section's entries lies in the section and holds
+/// the number that is there, and that no two of them overlap. It does nothing.
 pub fn pointer_fields_stand(section: &[u8], arch: Arch)
     ensures raw { (es : List EntryView) → entries_of arch section.now ≡ Ok es → HoldRaw section.now (pointer_fields es) }
     ensures apart { (es : List EntryView) → entries_of arch section.now ≡ Ok es → StandApart (pointer_fields es) }

@@ -9,7 +9,7 @@ use crate::fault::RecordFault;
 use crate::reader::Reader;
 use sf_model::Arch;
 
-// Whether a letter may follow the `z` of an augmentation string.
+// Returns whether a letter may follow the `z` of an augmentation string.
 fn may_stand(letter: u8, arch: Arch) -> bool
     ensures { result ≡ is_letter arch letter }
 {
@@ -20,14 +20,14 @@ fn may_stand(letter: u8, arch: Arch) -> bool
     }
 }
 
-// Whether a letter may stand after these others.
+// Returns whether a letter may follow the `z` and those read before it.
 fn is_new_letter(letter: u8, before: &[u8], arch: Arch) -> bool
     ensures { result ≡ is_new arch before.now letter }
 {
     may_stand(letter, arch) && !before.contains(&letter)
 }
 
-// Whether these letters may follow the `z`: each is known, and none stands twice.
+// Returns whether these letters may follow the `z`: each is known, and none is there twice.
 fn letters_are_known(letters: &[u8], arch: Arch) -> bool
     ensures { result ≡ are_letters arch [] letters.now }
 {
@@ -40,7 +40,7 @@ fn letters_are_known(letters: &[u8], arch: Arch) -> bool
     true
 }
 
-/// The letters after the `z` of the augmentation string, or none where the string is empty.
+/// Reads the augmentation string, and returns the letters after its `z`, or none if the string is empty.
 #[tactic(auto, unfolding(crate::specs::Augmentation::letters_at))]
 pub fn read_letters<'a>(body: &mut Reader<'a>, arch: Arch) -> Result<Option<&'a [u8]>, RecordFault>
     ensures { Answers (λ letters. option_map (λ text. text.now) letters) body.new result (letters_at arch (reader_cursor body.old)) }

@@ -1,11 +1,11 @@
 //! Common information and frame description entries of an exception frame section (LSB Core, "The
 //! .eh_frame section"; DWARF 5, section 6.4.1), little-endian.
 //!
-//! [`Records::parse`] cuts a section into records and checks each; the first fault from the left refuses
-//! it, with the place of the field in the section. What it answers lends the section's bytes.
-//! [`Records::fdes`] goes over the frame description entries, each with its common information entry,
-//! [`Records::fields`] lists the pointer fields on which a relocation may lie, and [`Fde::span`] is the
-//! function's start and size once its fields have values.
+//! [`Records::parse`] splits a section into records and checks each; the first fault from the left refuses
+//! the section, with the place of the field in it. The records lend the section's bytes. [`Records::fdes`]
+//! goes over the frame description entries, each with its common information entry, [`Records::fields`]
+//! lists the pointer fields on which a relocation may lie, and [`Fde::span`] is the function's start and
+//! size once its fields have values.
 //!
 //! The caller owes a section of fewer than 2^32 bytes. Only `parse` and `fields` allocate.
 #![tactic(auto)]

@@ -1,4 +1,4 @@
-//! The places of the common information entries that stand before a record.
+//! The places of the common information entries before a record.
 
 ghost use Rattle.std.specs.Prelude.{◌≡◌, ◌==◌, OnOk, IfErr};
 ghost use Rattle.std.specs.List.{list_any};
@@ -11,7 +11,7 @@ ghost use Rattle.eh_records.specs.declared.fault.RecordFault.TheVariants.{NoMemo
 use crate::cut::RawRecord;
 use crate::fault::RecordFault;
 
-// Whether a place is among these.
+// Returns whether a place is among these.
 fn is_among(place: u32, places: &[u32]) -> bool
     requires { IsRising places.now }
     ensures { result ≡ list_any (λ q. q == place) places.now }
@@ -19,8 +19,8 @@ fn is_among(place: u32, places: &[u32]) -> bool
     places.binary_search(&place).is_ok()
 }
 
-/// The place of the common information entry that a frame description entry names, which has to stand before
-/// it, and a common information entry's own place. `places` has those before the record, and rises.
+/// Returns the place of the common information entry that a frame description entry names, which has to come
+/// before it, or a common information entry's own place. `places` has those before the record, and rises.
 #[tactic(auto, unfolding(crate::specs::Section::shared_place))]
 pub fn place_of_shared(cut: &RawRecord<'_>, places: &[u32]) -> Result<u32, RecordFault>
     requires { IsRising places.now }
@@ -37,7 +37,8 @@ pub fn place_of_shared(cut: &RawRecord<'_>, places: &[u32]) -> Result<u32, Recor
     }
 }
 
-/// Notes the place of a common information entry.
+/// Appends the place of a common information entry to `places`; the place of any other record is not
+/// appended.
 pub fn note_place(cut: &RawRecord<'_>, places: &mut Vec<u32>) -> Result<(), RecordFault>
     ensures noted { OnOk result (places.new.items ≡ with_place places.old.items (raw_record_view cut.now)) }
     ensures memory { IfErr result (λ fault. fault ≡ NoMemory) }

@@ -19,7 +19,7 @@ impl<'a> Reader<'a> {
     ghost use Rattle.sf_bytes.specs.Steps.{named};
     ghost use Rattle.eh_records.specs.Step.{Answers, reader_cursor, fault_of, number_field, uleb_field, sleb_field, text_field, part_field, pointer_field, pointer_view};
 
-    // The fault of a field that stands at a place.
+    // Returns the fault of a field at a place.
     #[inline(always)]
     fn fault_at(place: u32, fault: ByteFault) -> RecordFault
         ensures { result ≡ fault_of place fault }
@@ -30,7 +30,7 @@ impl<'a> Reader<'a> {
         }
     }
 
-    /// The bytes of a section from a place on.
+    /// Creates the reader of a section's bytes from a place on.
     #[inline(always)]
     pub fn from_place(section: &'a [u8], place: u32) -> Reader<'a>
         requires { length section.now < 2 ^ 32 }
@@ -46,7 +46,7 @@ impl<'a> Reader<'a> {
         }
     }
 
-    /// The place of the next byte.
+    /// Returns the place of the next byte.
     #[inline(always)]
     pub fn place(&self) -> u32
         ensures { result ≡ self.now.part.place }
@@ -71,7 +71,7 @@ impl<'a> Reader<'a> {
         }
     }
 
-    /// The next byte.
+    /// Reads the next byte.
     #[tactic(auto, unfolding(crate::specs::Step::number_field))]
     #[inline(always)]
     pub fn byte(&mut self) -> Result<u8, RecordFault>
@@ -82,7 +82,7 @@ impl<'a> Reader<'a> {
         self.pass(part, read)
     }
 
-    /// The number in the next two bytes.
+    /// Reads the number in the next two bytes.
     #[tactic(auto, unfolding(crate::specs::Step::number_field))]
     #[inline(always)]
     pub fn half(&mut self) -> Result<u16, RecordFault>
@@ -93,7 +93,7 @@ impl<'a> Reader<'a> {
         self.pass(part, read)
     }
 
-    /// The number in the next four bytes.
+    /// Reads the number in the next four bytes.
     #[tactic(auto, unfolding(crate::specs::Step::number_field, sf_bytes::specs::Cursor::number_at))]
     #[inline(always)]
     pub fn word(&mut self) -> Result<u32, RecordFault>
@@ -105,7 +105,7 @@ impl<'a> Reader<'a> {
         self.pass(part, read)
     }
 
-    /// The number in the next eight bytes.
+    /// Reads the number in the next eight bytes.
     #[tactic(auto, unfolding(crate::specs::Step::number_field))]
     #[inline(always)]
     pub fn double(&mut self) -> Result<u64, RecordFault>
@@ -116,7 +116,7 @@ impl<'a> Reader<'a> {
         self.pass(part, read)
     }
 
-    /// The next unsigned LEB128 number.
+    /// Reads the next unsigned LEB128 number.
     #[tactic(auto, unfolding(crate::specs::Step::uleb_field))]
     #[inline(always)]
     pub fn uleb(&mut self) -> Result<u64, RecordFault>
@@ -127,7 +127,7 @@ impl<'a> Reader<'a> {
         self.pass(part, read)
     }
 
-    /// The next signed LEB128 number.
+    /// Reads the next signed LEB128 number.
     #[tactic(auto, unfolding(crate::specs::Step::sleb_field))]
     #[inline(always)]
     pub fn sleb(&mut self) -> Result<i64, RecordFault>
@@ -138,7 +138,7 @@ impl<'a> Reader<'a> {
         self.pass(part, read)
     }
 
-    /// The bytes before the next zero byte, which is passed.
+    /// Reads the bytes before the next zero byte, which is passed.
     #[tactic(auto, unfolding(crate::specs::Step::text_field))]
     #[inline(always)]
     pub fn text(&mut self) -> Result<&'a [u8], RecordFault>
@@ -149,7 +149,7 @@ impl<'a> Reader<'a> {
         self.pass(part, read)
     }
 
-    /// The next `len` bytes, as a reader of their own.
+    /// Reads the next `len` bytes, as a reader of their own.
     #[tactic(auto, unfolding(crate::specs::Step::part_field, sf_bytes::specs::Cursor::part_at))]
     #[inline(always)]
     pub fn sub(&mut self, len: u64) -> Result<Reader<'a>, RecordFault>
@@ -162,7 +162,7 @@ impl<'a> Reader<'a> {
         Ok(Reader { part: taken })
     }
 
-    /// The number in the next `width` bytes.
+    /// Reads the number in the next `width` bytes.
     #[inline(always)]
     pub fn number(&mut self, width: u8) -> Result<u64, RecordFault>
         requires { IsTrue (is_field_width width) }
@@ -182,7 +182,7 @@ impl<'a> Reader<'a> {
         }
     }
 
-    /// A pointer field of `width` bytes.
+    /// Reads a pointer field of `width` bytes.
     #[tactic(auto, unfolding(crate::specs::Step::pointer_field))]
     #[inline(always)]
     pub fn pointer(&mut self, width: u8) -> Result<Field, RecordFault>

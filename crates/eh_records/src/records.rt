@@ -59,7 +59,7 @@ impl<'a> Records<'a> {
     ghost use Rattle.eh_records.specs.Step.{pointer_view};
     ghost use Rattle.eh_records.specs.View.{IsParsed, IsWhole, KeysFit, arch_of, bytes_of, entries, frames_left};
 
-    /// Cuts a section into records, and checks each. The fault is the first from the left.
+    /// Splits a section into records, and checks each. The fault is the first from the left.
     ///
     /// `Unresolved` and `FunctionEnd` are never returned (`named` of the law [`entries_law`](crate::entries_law)).
     pub fn parse(alloc: Global, bytes: &'a [u8], arch: Arch) -> Result<Records<'a>, RecordFault>
@@ -78,7 +78,7 @@ impl<'a> Records<'a> {
         Ok(Records { bytes, arch })
     }
 
-    /// Each frame description entry, in the section's order.
+    /// Returns an iterator over the frame description entries, in the section's order.
     pub fn fdes(&self) -> FdeIter<'a>
         ensures gives { frames_left result ≡ frames (entries self.now) }
         ensures keys { KeysFit self.now }
@@ -88,7 +88,7 @@ impl<'a> Records<'a> {
         FdeIter::new(self.bytes, self.arch)
     }
 
-    /// All pointer fields by rising place: personality pointers of fixed width, starts, sizes, and pointers
+    /// Lists all pointer fields by rising place: personality pointers of fixed width, starts, sizes, and pointers
     /// to language-specific data areas.
     pub fn fields(&self, alloc: Global) -> Result<Vec<Field>, NoMemory>
         ensures exact { IfOk result (λ fields. map pointer_view fields.items ≡ pointer_fields (entries self.now)) }

@@ -9,11 +9,11 @@ use eh_pointer::{size, value};
 use sf_bytes::Values;
 
 impl Fde<'_> {
-    /// The function's start and size, once its fields have values. `address` is the section's address minus
-    /// `shift`, modulo 2^64; the start has the shift added back.
+    /// Returns the function's start and size, once its fields have values. `address` is the section's
+    /// address minus `shift`, modulo 2^64; the start has the shift added back.
     ///
-    /// `Unresolved` where the start or the size field has no value, `FunctionEnd` where the start plus the
-    /// size is above 2^64, both with the place of the start field.
+    /// `Unresolved` if the start or the size field has no value, `FunctionEnd` if the start plus the size
+    /// is above 2^64, both with the place of the start field.
     #[inline(always)]
     pub fn span<V: Values>(
         &self,

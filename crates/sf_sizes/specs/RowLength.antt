@@ -10,7 +10,7 @@ use Rattle.sf_sizes.specs.Width.{least_width}
 abbrev pub offset_width : Content → ℕ
 offset_width content = least_width (holds_row_offsets content)
 
--- the row's start, its info byte and its offsets
+-- the length of the row's start, its info byte and its offsets
 abbrev pub row_len : (start_width : ℕ) → Content → ℕ
 row_len start_width content =
     width_len start_width + 1 + length (row_offsets content) * width_len (offset_width content)

@@ -8,7 +8,7 @@ ghost use Rattle.sf_sizes.specs.RowLength.{offset_width, row_at, row_len};
 use crate::width::{bytes_of, fits_byte, fits_byte_if_any, fits_half, fits_half_if_any};
 use sf_model::{Content, Ra};
 
-/// The width of a row's offsets: 0, 1 or 2 for 1, 2 or 4 signed bytes, the least that holds each of
+/// Returns the width of a row's offsets: 0, 1 or 2 for 1, 2 or 4 signed bytes, the least that holds each of
 /// them.
 #[inline(always)]
 pub fn offset_size(content: &Content) -> u8
@@ -25,8 +25,8 @@ pub fn offset_size(content: &Content) -> u8
     }
 }
 
-/// How many bytes a row has, whose start has the width `kind`: the start, the info byte and the
-/// offsets, of which AMD64 has 1 or 2 and AArch64 has 1 to 3. They are 17 at most.
+/// Returns how many bytes a row has if its start has the width `kind`: the start, the info byte and the
+/// offsets. AMD64 has 1 or 2 offsets, AArch64 has 1 to 3. A row has at most 17 bytes.
 #[tactic(auto, using(crate::proofs::Spelled::spelled_is))]
 #[inline(always)]
 pub fn row_bytes(kind: u8, content: &Content) -> u32
@@ -38,8 +38,8 @@ pub fn row_bytes(kind: u8, content: &Content) -> u32
     bytes_of(kind) + 1 + u32::from(offset_count(content)) * bytes_of(offset_size(content))
 }
 
-/// How many offsets a row has: the canonical frame address's, and those of a saved return address and
-/// of a saved frame pointer.
+/// Returns how many offsets a row has: the canonical frame address's, and those of a saved return address
+/// and of a saved frame pointer.
 #[inline(always)]
 pub fn offset_count(content: &Content) -> u8
     ensures value { result ≡ length (row_offsets content.now) }
@@ -49,7 +49,7 @@ pub fn offset_count(content: &Content) -> u8
     1 + u8::from(saved.is_some()) + u8::from(content.fp.is_some())
 }
 
-/// The return address's offset from the canonical frame address, where a row has one of its own.
+/// Returns the return address's offset from the canonical frame address, if the row has one of its own.
 #[inline(always)]
 pub fn saved_offset(ra: Ra) -> Option<i32>
     ensures { option_to_list result ≡ return_offset ra }
@@ -60,7 +60,7 @@ pub fn saved_offset(ra: Ra) -> Option<i32>
     }
 }
 
-/// Whether one byte holds each offset.
+/// Returns whether one byte holds each offset.
 #[inline(always)]
 fn fit_bytes(content: &Content) -> bool
     ensures { result ≡ holds_row_offsets content.now 0 }
@@ -71,7 +71,7 @@ fn fit_bytes(content: &Content) -> bool
     cfa && saved && fp
 }
 
-/// Whether two bytes hold each offset; four always do.
+/// Returns whether two bytes hold each offset; four always do.
 #[inline(always)]
 fn fit_halves(content: &Content) -> bool
     ensures value { result ≡ holds_row_offsets content.now 1 }

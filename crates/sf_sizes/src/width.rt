@@ -5,8 +5,8 @@ ghost use Rattle.std.specs.List.{list_all};
 ghost use Rattle.sf_model.specs.Width.{width_len, holds_unsigned, holds_signed, IsWidth, NoneLess};
 ghost use Rattle.sf_sizes.specs.Width.{least_width};
 
-/// The width of a function's row starts, of which `last` is the greatest: 0, 1 or 2 for 1, 2 or 4
-/// unsigned bytes, the least that holds it.
+/// Returns the width of a function's row starts if `last` is the greatest: 0, 1 or 2 for 1, 2 or 4 unsigned
+/// bytes, the least that holds `last`.
 #[tactic(auto, using(crate::proofs::Least::none_below_two))]
 #[inline(always)]
 pub fn row_type(last: u32) -> u8
@@ -23,7 +23,7 @@ pub fn row_type(last: u32) -> u8
     }
 }
 
-/// How many bytes a width has.
+/// Returns how many bytes a width has.
 #[inline(always)]
 pub(crate) fn bytes_of(width: u8) -> u32
     requires { width ≤ 2 }
@@ -37,7 +37,7 @@ pub(crate) fn bytes_of(width: u8) -> u32
     }
 }
 
-/// Whether one signed byte holds an offset.
+/// Returns whether one signed byte holds an offset.
 #[inline(always)]
 pub(crate) fn fits_byte(offset: i32) -> bool
     ensures { result ≡ holds_signed offset 0 }
@@ -45,7 +45,7 @@ pub(crate) fn fits_byte(offset: i32) -> bool
     -0x80 <= offset && offset <= 0x7f
 }
 
-/// Whether two signed bytes hold an offset; four always do.
+/// Returns whether two signed bytes hold an offset; four always do.
 #[inline(always)]
 pub(crate) fn fits_half(offset: i32) -> bool
     ensures value { result ≡ holds_signed offset 1 }
@@ -54,7 +54,7 @@ pub(crate) fn fits_half(offset: i32) -> bool
     -0x8000 <= offset && offset <= 0x7fff
 }
 
-/// Whether one signed byte holds an offset that may be absent.
+/// Returns whether one signed byte holds an offset that may be absent.
 #[inline(always)]
 pub(crate) fn fits_byte_if_any(offset: Option<i32>) -> bool
     ensures { result ≡ list_all (λ z. holds_signed z 0) (option_to_list offset) }
@@ -62,7 +62,7 @@ pub(crate) fn fits_byte_if_any(offset: Option<i32>) -> bool
     offset.is_none_or(fits_byte)
 }
 
-/// Whether two signed bytes hold an offset that may be absent; four always do.
+/// Returns whether two signed bytes hold an offset that may be absent; four always do.
 #[inline(always)]
 pub(crate) fn fits_half_if_any(offset: Option<i32>) -> bool
     ensures value { result ≡ list_all (λ z. holds_signed z 1) (option_to_list offset) }
