@@ -4,10 +4,10 @@
     ./x docs --check     fails where a page has others, as the gate does
 """
 
-from kiblawen import clauses, closure, common, definitions
+from kiblawen import clauses, closure, common, definitions, picture
 
 # Each has a `main` that takes these words.
-MAKERS = [closure, definitions, clauses]
+MAKERS = [closure, definitions, clauses, picture]
 
 
 def main(words):
