@@ -5,9 +5,9 @@
     ./x picture --check     fails where docs/crates.svg is another one
 
 A box names crates of one kind. An arrow leads from a box to one that it uses. It is not drawn where other arrows lead to
-that box too, nor to the lowest box, which all use. Which crates a box has, and where it is, is the table BOXES; a crate that
-it lacks, or an arrow that has no way between the boxes, is an error. The group of a crate is that of the comment above
-it in crates.txt, such as `# ELF`, or else that of the table.
+that box too, nor to the lowest box, which all use. Which crates a box has, and where it is, is the table BOXES: a crate
+without a box, names without room, and an arrow without a way between the boxes are errors. The group of a crate is that
+of the comment above it in crates.txt, such as `# ELF`, or else that of the table.
 """
 
 import os
@@ -21,8 +21,8 @@ PICTURE = common.at_top("docs", "crates.svg")
 GROUPS = {"outside": "#8c8c8c", "ELF": "#b5812f", "DWARF": "#3f86c9", "SFrame": "#3c9f60", "linking": "#a263c4", "program": "#c75d50"}
 # Each box: its title, its crates, its group, its row from above, and its left and right edge.
 BOXES = (
-    ("tests", "sf_part_tests sf_tests", "program", 0, 10, 190),
-    ("", "sf_words sf_gen sf_text sf_run sf_tool", "program", 0, 230, 930),
+    ("tests", "sf_part_tests sf_tests", "program", 0, 10, 250),
+    ("", "sf_words sf_gen sf_text sf_run sf_tool", "program", 0, 290, 930),
     ("", "sf_asm sf_link sf_plt sf_verify", "linking", 1, 10, 730),
     ("merging", "sf_merge sf_slim", "SFrame", 2, 310, 490),
     ("walks", "core_walk sf_modules sf_c", "SFrame", 2, 750, 930),
@@ -35,8 +35,8 @@ BOXES = (
     ("files, streams, bytes, shared types", "sf_base sf_fakes sf_bytes sf_model", "outside", 5, 10, 930),
 )
 WIDTH, BOX_HEIGHT, ROW, MARGIN, BAR = 940, 66, 96, 10, 4
-# What a line of names has room for: a letter of theirs is this wide.
-LETTER, PADDING = 7.3, 12
+# How wide a letter of a name is, the room at the sides of a box, and how many lines of names it has room for.
+LETTER, PADDING, LINES = 7.3, 12, 2
 # How near an arrow may come to the end of a box's edge and to another arrow, and how near to a box that it passes.
 APART, CLEAR = 10, 24
 STYLE = """
@@ -68,6 +68,8 @@ class Box:
                 found[-1] = longer
             else:
                 found.append(name)
+        if len(found) > LINES:
+            common.fail(__name__, f"{' '.join(self.crates)}: the box has no room for {len(found)} lines of names")
         return found
 
     def drawn(self):
