@@ -38,7 +38,7 @@ rm -rf "$out"
 mkdir -p "$out"
 
 say '1. Build. The prover goes through all functions of the program, the C library and the crates that they stand on, and both are'
-say '   compiled. From nothing this is 20 to 30 minutes on four idle processors, and takes 6 GB of disk; later runs begin with what is'
+say '   compiled. From nothing this took 29 minutes on four idle processors, and 7 GB of disk; later runs begin with what is'
 say '   kept. A line for each crate:'
 ./x build "$out/build.log" link "$PWD/$out/one.sframe@0x3000" "eh-amd64:$PWD/crates/sf_tool/data/e1@0x2000" ||
     fail "the build failed: see $out/build.log"
