@@ -1,7 +1,7 @@
 /*
  * kiblawen: SFrame Version 2 sections, for programs that walk stacks.
  *
- * Open the bytes of a section once. Then look addresses up, recover a caller's frame, or walk a sample: registers and
+ * Open the bytes of a section once. Then look up addresses, recover a caller's frame, or walk a sample: registers and
  * a copy of part of the stack. Link with libkiblawen.a (pkg-config --cflags --libs kiblawen). C11 and C++.
  *
  * Nothing allocates and no function calls itself. What each call returns and writes is proved, for all sections,
@@ -79,8 +79,8 @@ enum kiblawen_fault {
  * Returns 0, or the number of the first fault. Writes the fault's place in the section to `place`, or 0 without a
  * fault. After a fault the section is closed, even if it was open before.
  *
- * The time is linear in the section, and in the functions and rows that its entries count: at most 2^21 and 2^24.
- * Functions may share rows, so even a short section can reach these (that takes about 0.15 s).
+ * The time is linear in the section's length, and in the functions and rows that its entries count: at most 2^21 and
+ * 2^24. Functions may share rows, so even a short section can reach these limits (that takes about 0.15 s).
  *
  * Condition: `section` was initialized, by KIBLAWEN_CLOSED or by an earlier call.
  */
@@ -93,8 +93,8 @@ void kiblawen_close(struct kiblawen_section *section) KIBLAWEN_NONNULL;
 /*
  * Returns the largest number of rows of any function, or 0 without functions. kiblawen_find reads the rows of a
  * function from the first up to the one that holds, about 20 ns each. So do kiblawen_recover, and a walk for each
- * frame. In tables of real programs a function has some 200 rows at most. Where time counts, as in a signal handler, a
- * caller can refuse a stranger's table that has more. The time is linear in the number of functions.
+ * frame. In tables of real programs a function has some 200 rows at most. Where time matters, as in a signal handler, a
+ * caller can refuse an unknown table that has more. The time is linear in the number of functions.
  */
 uint32_t kiblawen_most_rows(const struct kiblawen_section *section) KIBLAWEN_NONNULL;
 
@@ -135,7 +135,7 @@ bool kiblawen_find(const struct kiblawen_section *section, uint64_t pc, struct k
 
 /*
  * A stopped thread, and a copy of part of its stack: `stack_len` bytes from the address `stack_start` on. A value that
- * is not whole in the copy can't be read. Bytes that would be past the last address are in no copy.
+ * is not wholly in the copy can't be read. Bytes past the last address are in no copy.
  */
 struct kiblawen_sample {
     uint64_t pc;
@@ -160,8 +160,8 @@ struct kiblawen_caller {
 };
 
 /*
- * Recovers the caller's frame by the row that holds at the sample's pc. Returns whether there is one; if not, `caller`
- * is unchanged. To go on from a caller, ask at the address before the return address. kiblawen_walk does that.
+ * Recovers the caller's frame from the row that holds at the sample's pc. Returns whether there is such a row; if not,
+ * `caller` is unchanged. For the next caller, look up the address before the return address, as kiblawen_walk does.
  */
 bool kiblawen_recover(const struct kiblawen_section *section, const struct kiblawen_sample *sample,
                       struct kiblawen_caller *caller) KIBLAWEN_NONNULL;
