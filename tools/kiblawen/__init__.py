@@ -1,1 +1,1 @@
-"""The commands of `./x`, a module for each, and what they share. Python 3.8 and its own library are enough."""
+"""The commands of `./x`, one module for each, and what they share. They need only Python 3.8 and its own library."""

@@ -3,7 +3,7 @@
     ./x at FILE              AT, as in `sf_tool link OUT@AT FILE@0x0`
     ./x at --build-id FILE   the build identifier of the file's notes, in place of AT
 
-The status is 1 where the file has none.
+The status is 1 if the file has none.
 """
 
 from kiblawen import common, elf

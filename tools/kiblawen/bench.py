@@ -1,20 +1,20 @@
-"""Takes the processor time of the program's commands, beside readelf, objdump, gdb and others.
+"""Measures the processor time of the program's commands, beside readelf, objdump, gdb and others.
 
     ./x bench             link, linkplt, merge, slim, verify, dump and lookup on the largest library for AMD64 or AArch64 on this machine,
                           beside readelf and objdump on the same file: which is faster, and by how much
     ./x bench FILE        the same on another executable or shared object
-    ./x bench made        made inputs: 2^15 to 2^21 small functions, one function of 2^14 to 2^20 rows, and a look-up in 2^20 functions
-                          beside bench/pass.c, a C program that reads the same file and goes over it once (where there is a cc)
-    ./x bench core        walks: made core files of 4096 threads, of one section and of 200 files, and a core file of a program 1000
+    ./x bench made        generated inputs: 2^15 to 2^21 small functions, one function of 2^14 to 2^20 rows, and a look-up in 2^20 functions
+                          beside bench/pass.c, a C program that reads the same file and goes over it once (if there is a cc)
+    ./x bench core        walks: generated core files of 4096 threads, with one section and with 200 files, and a core file of a program 1000
                           calls deep beside gdb and eu-stack
-    ./x bench library     look-ups and walks by the C library on a made section of 100,000 functions, beside bsearch() and libsframe
-    ./x bench hostile ..  inputs that are made to be slow, beside limits; `./x bench hostile --help` says more
+    ./x bench library     look-ups and walks with the C library on a generated section of 100,000 functions, beside bsearch() and libsframe
+    ./x bench hostile ..  deliberately slow inputs, compared with limits; `./x bench hostile --help` says more
     ./x bench --tool PROGRAM ..   with another program
 
-It needs the program and the library (`sh demo/run` builds both), binutils and, for the library, a C compiler. Where there is a rustc, link is
+It needs the program and the library (`sh demo/run` builds both), binutils and, for the library, a C compiler. If there is a rustc, link is
 also measured beside bench/plain.rs, a Rust program that makes the same section and checks nothing. Each time is the least of seven, user and
-system time together; the commands of one table are run in turn, seven times, and a quick command many times for each. What is made lies in
-bench/out. The gate runs none of these but `hostile --small`, which is a test of limits.
+system time together. The commands of one table are run in turn, seven times, a quick command many times in each round. The files made are in
+bench/out. Of these the gate runs only `hostile --small`, which is a test of limits.
 """
 
 import filecmp

@@ -2,11 +2,12 @@
 
     ./x build LOG [WORD ..]     the words are those of the program's run
 
-The crates are those of crates.txt that the two are made of; a crate of tests alone is no part of either. What `rt` says goes to the file LOG. A line of the log that begins with == names a crate and the processor seconds that it took. demo/seconds.txt has those of a build from
-nothing: what is expected of a crate, and of what is left, is reckoned by them, and by how fast the crates before were here.
+The crates are those of crates.txt from which the two are made. Crates with only tests are not among them. What `rt` prints goes to the file
+LOG. A line of the log that begins with == names a crate and the processor seconds that it took. demo/seconds.txt has those of a build from
+nothing. From these, and from the speed of the crates so far, it estimates the time for a crate and the time left.
 
-Crates that don't stand on each other are proved side by side. `rt` keeps all other runs out of the folders below the crate that it
-proves, so each library is proved in a copy of these folders, over the libraries that are ready; its own out/ is moved there and back.
+Crates that don't depend on each other are proved in parallel. `rt` keeps all other runs out of the folders below the crate that it
+proves. So each library is proved in a copy of these folders, over the libraries that are ready; its own out/ is moved there and back.
 """
 
 import collections

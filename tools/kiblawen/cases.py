@@ -1,14 +1,14 @@
 """Runs the program on the cases of cases/, the files *.cases.
 
-    ./x cases                             all, with the program that `rt ci` or `rt run` has built
-    ./x cases TOPIC ..                    those of cases/TOPIC.cases; or of a file, where TOPIC ends with .cases
+    ./x cases                             all, with the program that `rt ci` or `rt run` built
+    ./x cases TOPIC ..                    those of cases/TOPIC.cases, or of a file if TOPIC ends with .cases
     ./x cases --tool PROGRAM [TOPIC ..]   with another program, such as /usr/bin/sf_tool
 
-Each run has a folder of its own with the files of its case, and 60 seconds. The status, both streams and every file that is there afterwards are
-compared byte by byte. A run that differs is shown with what was wanted and what came. The last line is `N passed, M failed`; the status is 1
-where a run differs, where a case cannot be read, and where nothing was run. docs/testing.md describes the format.
+Each run has its own folder with the files of its case, and 60 seconds. The status, both streams and every file that exists afterwards are
+compared byte by byte. A run that differs is shown with the expected and actual results. The last line is `N passed, M failed`; the status is 1
+if a run differs, if a case cannot be read, or if nothing was run. docs/testing.md describes the format.
 
-Some twenty thousand runs are made and compared, as many side by side as there are processors.
+It makes and compares some twenty thousand runs, as many in parallel as there are processors.
 """
 
 import concurrent.futures

@@ -1,11 +1,11 @@
-"""Makes the page of clauses from the sources: what each crate says of itself, and the contract of each public function.
+"""Makes the page of clauses from the sources: each crate's front page, and the contract of each public function.
 
     ./x clauses             prints the made part
     ./x clauses --write     writes it into docs/clauses.md, between the marks
-    ./x clauses --check     fails where docs/clauses.md has another one, or where a cell has more than 200 characters
+    ./x clauses --check     fails if docs/clauses.md differs, or if a cell has more than 200 characters
 
-A crate's front page is the text at the front of its lib.rt. A function is public where the crate exports it or its type;
-what it does is the first sentence of its comment. A clause is shown by its name, one without a name by its text, if that
+A crate's front page is the text at the front of its lib.rt. A function is public if the crate exports it or its type.
+What it does is the first sentence of its comment. A clause is shown by its name, or by its text if it has no name and
 is short.
 """
 

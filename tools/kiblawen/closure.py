@@ -1,13 +1,13 @@
 """Counts the definitions that a clause rests on.
 
-    ./x closure                prints the table: the run's clauses, and what each command comes to
+    ./x closure                prints the table: the clauses of a run, and what each command comes to
     ./x closure --list TITLE   prints the definitions below a row of the table, with their files
     ./x closure --unreached    prints the definitions that no contract of a public function reaches
     ./x closure --write        writes the table into docs/proof.md, between its two marks
-    ./x closure --check        fails where docs/proof.md has another table
+    ./x closure --check        fails if docs/proof.md has another table
 
 A definition is an item of a file crates/NAME/specs/*.antt; types that the source declares don't count. It rests on each
-definition that its text names, by the imports of its file.
+definition that its text names, as its file imports them.
 """
 
 import collections

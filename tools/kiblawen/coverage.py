@@ -1,10 +1,10 @@
-"""Links every ELF file below folders, and shows what is kept, what is omitted and why, and for how many bytes of code there is a row.
+"""Links every ELF file below folders, and shows what is kept, what is omitted and why, and how many bytes of code have a row.
 
     ./x coverage DIR ..                      with the program that was built
     ./x coverage --tool PROGRAM DIR ..       with another one
 
-The files are linked side by side, each by a process of its own; nothing beside them is changed. The last lines are a table and a bar. Files
-that the program refuses are listed with its line, and files of which it keeps nothing (`kept 0`, with status 0) are counted as empty. Code is
+The files are linked in parallel, each by its own process. They and their folders are not changed. The last lines are a table and a bar. Files
+that the program refuses are listed with its line, and files from which it keeps nothing (`kept 0`, with status 0) are counted as empty. Code is
 what sections with SHF_EXECINSTR hold.
 """
 

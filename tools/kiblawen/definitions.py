@@ -2,12 +2,13 @@
 
     ./x definitions             prints the made part
     ./x definitions --write     writes it into docs/definitions.md, between the marks
-    ./x definitions --check     fails where docs/definitions.md has another one
+    ./x definitions --check     fails if docs/definitions.md differs
 
-Crates have the order of crates.txt, files that of specs/Lib.antt, definitions that of their file. A comment before a
-definition says what it is, also what the definitions after it are that have no comment of their own. A comment
-`-- ---- text` is a heading. What a contract of a public function names has the first sentence of its comment. What is only
-below such a definition is named alone, and apart from both what no such contract reaches (./x closure --unreached).
+Crates are in the order of crates.txt, files in that of specs/Lib.antt, definitions in that of their file. A comment before
+a definition says what it is. It also covers the definitions after it that have no comment of their own. A comment
+`-- ---- text` is a heading. What a contract of a public function names is shown with the first sentence of its comment.
+What is only below such a definition is only named. What no such contract reaches is listed separately
+(./x closure --unreached).
 """
 
 import os

@@ -3,8 +3,8 @@
     ./x demo          the library is the machine's C library, or else the program itself
     ./x demo FILE     another executable or shared object for AMD64 or AArch64
 
-It needs `rt`, with python3 and clang as `rt` itself does, binutils, awk and cmp. The objects are compiled where there is a C
-compiler, and core files are made by gdb where it is there. What is made lies in demo/out. demo/show.sh has the steps.
+It needs `rt`, with python3 and clang as `rt` itself does, binutils, awk and cmp. It compiles the objects if there is a C
+compiler, and makes core files if there is gdb. The files made are in demo/out. demo/show.sh has the steps.
 """
 
 from kiblawen import common

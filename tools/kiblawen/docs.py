@@ -1,7 +1,7 @@
 """Makes the parts of the pages that are made from the sources.
 
     ./x docs --write     writes them
-    ./x docs --check     fails where a page has others, as the gate does
+    ./x docs --check     fails if a page has others, as the gate does
 """
 
 from kiblawen import clauses, closure, common, definitions, picture

@@ -1,4 +1,4 @@
-"""What the commands need of ELF files for AMD64 and AArch64: AT, BASE, the build identifier, and which files there are."""
+"""What the commands need from ELF files for AMD64 and AArch64: AT, BASE, the build identifier, and which files there are."""
 
 import os
 import struct

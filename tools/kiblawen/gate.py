@@ -1,8 +1,8 @@
-"""The gate: proves, tests and runs everything, from a clean clone, and fails where a part fails.
+"""The gate: proves, tests and runs everything, from a clean clone, and fails if a part fails.
 
-    ./x gate     the parts of .ci/run, one after the other
+    ./x gate     the parts of .ci/run, in order
 
-It needs `rt`. What else a part needs it says itself, and names what it passes over where this machine lacks it.
+It needs `rt`. Each part says what else it needs, and names what it skips if this machine lacks it.
 """
 
 from kiblawen import common

@@ -1,16 +1,16 @@
-"""Refuses memory to the program: each growth in turn, and all past a bound.
+"""Refuses memory to the program: each allocation in turn, and all past a bound.
 
     ./x growth                   with the program that was built
     ./x growth --tool PROGRAM    with another one
 
-The runs are those of the cases that end with 0 or 1, the first one of each case. A run is made twice for each call by which it asks for memory
-(malloc, calloc, realloc and the aligned ones, counted by a library that is loaded before the C library): once that call alone gets none, and once
-it and all after it. Then each command is run on larger files with less address space than it needs, from what it needs to start up to what it
-needs to end.
+The runs are those of the cases that end with 0 or 1, the first run of each case. A run is made twice for each call that asks for memory
+(malloc, calloc, realloc and the aligned ones, counted by a library that is loaded before the C library). In the first only that call gets none,
+in the second it and all later ones. Then each command is run on larger files with less address space than it needs, from what it needs to start
+up to what it needs to end.
 
 Each such run has to end with status 6, the line `memory` and nothing printed, and to leave all files as they were. One that does not is shown. But
-where one call alone gets none, the memory may be asked for again: the run may end as it does with all memory, and is counted.
-The last line is `N refusals, A asked again, M bounds, K failed`; the status is 1 where one failed, or nothing was tried. It needs cc and the GNU C
+if only one call gets none, the run may ask again: it may then end as with enough memory, and is counted.
+The last line is `N refusals, A asked again, M bounds, K failed`; the status is 1 if one failed, or if nothing was tried. It needs cc and the GNU C
 library.
 """
 

@@ -1,14 +1,14 @@
-"""Runs the program on inputs that are made to be slow or to take much memory, and compares what they take with their limits.
+"""Runs the program on inputs made to be slow or to take much memory, and compares what they take with their limits.
 
     ./x bench hostile                    all inputs at 1, 2 and 16 MiB
     ./x bench hostile --small            those with limits, at 1 and 2 MiB: what `./x gate` does, as a test of the limits
     ./x bench hostile --mib 2,64 NAME .. these sizes; these inputs only
     ./x bench hostile --tool PROGRAM     another program
 
-Without a program it takes the one that `sh demo/run` builds. A line has the input's name, its command and size, the processor time in seconds, the
-peak memory in MiB, the MiB of its files and of all that it wrote, its status, and the line on standard error. A line with EXCEEDS has a limit that
-was exceeded; the status is 1 where there is one. tools/kiblawen/inputs.py makes the inputs; each is well formed, or is refused at its end. What is made lies
-in bench/out.
+By default it runs the program that `sh demo/run` builds. A line has the input's name, its command and size, the processor time in seconds, the
+peak memory in MiB, the MiB of its files and of its output, its status, and the line on standard error. A line with EXCEEDS has a limit that
+was exceeded; the status is 1 if there is one. tools/kiblawen/inputs.py makes the inputs; each is well formed, or is refused at its end. The files
+made are in bench/out.
 """
 
 import collections

@@ -1,9 +1,9 @@
-"""Inputs that are made to be slow, or to take much memory.
+"""Inputs made to be slow, or to take much memory.
 
-    python3 -m kiblawen.inputs NAME SIZE FOLDER   writes the files of an input into a folder, and prints the words of its command, one a line
+    python3 -m kiblawen.inputs NAME SIZE FOLDER   writes the files of an input into a folder, and prints the words of its command, one per line
 
-A maker gets a size in bytes, and returns the words and the contents of the files by name. The files have about that size together; what is said of
-16 MiB holds of other sizes in proportion.
+A maker gets a size in bytes, and returns the words and the contents of the files by name. Together the files have about that size; what is said about
+16 MiB holds for other sizes in proportion.
 """
 
 import array

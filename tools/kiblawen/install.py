@@ -1,11 +1,11 @@
 """Puts the program, its man page, the C library, its header and pkg-config file, and the documents under a prefix.
 
-    ./x install [PREFIX]                               /usr/local where none is given
-    LIBDIR=lib/x86_64-linux-gnu ./x install /usr       the folder of the C library; without it PREFIX/lib
-    DESTDIR=/tmp/root ./x install /usr                 the files go below /tmp/root, and are to be used below /usr
+    ./x install [PREFIX]                               by default /usr/local
+    LIBDIR=lib/x86_64-linux-gnu ./x install /usr       the folder of the C library, by default PREFIX/lib
+    DESTDIR=/tmp/root ./x install /usr                 the files go below /tmp/root, for use below /usr
 
-PREFIX and DESTDIR count from the folder where the script is started, LIBDIR from PREFIX. DESTDIR is for packages: no installed
-file names it. Build first: `sh demo/run` builds both. Nothing else is needed, and nothing outside of the prefix is changed.
+PREFIX and DESTDIR are relative to the folder where the script is started, LIBDIR to PREFIX. DESTDIR is for packages: no installed
+file names it. First build program and library with `sh demo/run`. Nothing else is needed, and nothing outside the prefix changes.
 """
 
 import os

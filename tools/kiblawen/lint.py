@@ -1,9 +1,8 @@
-"""Runs shellcheck and a Python linter over the scripts of the repository, where this machine has them.
+"""Runs shellcheck and a Python linter over the scripts of the repository, if this machine has them.
 
     ./x lint
 
-The linter is pyflakes, or else pylint for errors alone. What isn't there is passed over with a line; the status is 1 where one of them reports
-something.
+The linter is pyflakes, or else pylint for errors only. A missing one is skipped with a line. The status is 1 if one of them reports something.
 """
 
 import os

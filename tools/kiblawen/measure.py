@@ -1,8 +1,8 @@
-"""The processor time of commands, and their peak memory.
+"""The processor time and the peak memory of commands.
 
-Time is that of user and system together, the least of seven rounds. The commands are run in turn in each round, so that what else the machine
-does meets all of them alike. A command that is too quick to be measured is run again, and the time divided. Its output goes to a file. It has to
-end with 0; readelf and objdump may end with 1 where they print something, as they do on some files that they read whole.
+Time is user and system time together, the least of seven rounds. The commands are run in turn in each round, so that other work of the machine
+affects all of them alike. A command that is too quick to be measured is run repeatedly, and the time divided. Its output goes to a file. It has
+to end with 0; readelf and objdump may end with 1 if they print something, as they do on some files that they read whole.
 """
 
 import os

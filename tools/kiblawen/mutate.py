@@ -1,14 +1,14 @@
-"""Runs the program on the files of cases with bytes of them changed.
+"""Runs the program on the files of cases with some bytes changed.
 
-    ./x mutate SECONDS [SEED]                   for this many seconds, with the program that was built; seed 1 where none is given
+    ./x mutate SECONDS [SEED]                   for this many seconds, with the program that was built; the default seed is 1
     ./x mutate SECONDS [SEED] --tool PROGRAM    with another one
 
-The same seed tries the same runs in the same order, on any machine. Each run is made twice, each time in a folder of its own, and has to
+The same seed tries the same runs in the same order, on any machine. Each run is made twice, each time in its own folder, and has to
 
 - end within its time, with a status from 0 to 7 and not by a signal;
 - write nothing to standard error on 0 and 1, and one line of the program's own on 2 to 7;
-- make no OUT, and leave each other file as it was, on 2, 3, 5, 6 and 7;
-- come to the same status, streams and files both times.
+- make no OUT, and leave every other file as it was, on 2, 3, 5, 6 and 7;
+- give the same status, streams and files both times.
 
 A run that does not is shown, with the seed and its number, and its files are kept. The last line is `N runs, M failed`.
 """

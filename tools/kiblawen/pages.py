@@ -5,13 +5,13 @@
     ./x pages --tool PROGRAM [PAGE ..]   with another program, such as /usr/bin/sf_tool
 
 A session is a fenced block of the kind `console`. A line that begins with `$ ` is a command for `sh`, lines that begin with `> ` continue it,
-and the other lines are what it prints, on both streams. `cat NAME` of a source file (NAME.s or NAME.c) that is not there makes it of the lines that
+and the other lines are what it prints, on both streams. `cat NAME` of a missing source file (NAME.s or NAME.c) makes it from the lines that
 follow. The sessions of a page share a folder, which is empty at first. Further words after `console` say what a session needs, as in NEEDS;
-where the machine does not have it, the session is skipped, with a line of its own. Each session has 60 seconds.
+if the machine does not have it, the session is skipped, with a line of its own. Each session has 60 seconds.
 
-Each name of a reason and of a fault has to be explained too, in omissions.md and messages.md, and each link of a page of the repository has to
-lead to a file of it, and to a heading there. The last line is `N passed, M failed, K skipped`; the status is 1 where a session differs or cannot
-be read, where a name is not explained, where a link leads nowhere, and where nothing was run. docs/testing.md says more.
+Also, omissions.md and messages.md have to explain each name of a reason and of a fault, and each link of a page has to lead to a file of the
+repository and to a heading there. The last line is `N passed, M failed, K skipped`; the status is 1 if a session differs or cannot be read, if
+a name is not explained, if a link leads nowhere, or if nothing was run. docs/testing.md says more.
 """
 
 import collections

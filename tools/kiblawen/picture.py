@@ -2,10 +2,10 @@
 
     ./x picture             prints it
     ./x picture --write     writes it
-    ./x picture --check     fails where docs/crates.svg is another one
+    ./x picture --check     fails if docs/crates.svg differs
 
-A box names crates of one kind. An arrow leads from a box to one that it uses. It is not drawn where other arrows lead to
-that box too, nor to the lowest box, which all use. Which crates a box has, and where it is, is the table BOXES: a crate
+A box names crates of one kind. An arrow leads from a box to one that it uses. None is drawn if other arrows lead to that
+box, too, or to the lowest box, which all use. The table BOXES says which crates a box has, and where the box is. A crate
 without a box, names without room, and an arrow without a way between the boxes are errors. The group of a crate is that
 of the comment above it in crates.txt, such as `# ELF`, or else that of the table.
 """

@@ -1,7 +1,7 @@
-"""Processes that make the choice of a file's mapping hard, walked by `procwalk`, by gdb and, where it is there, by eu-stack.
+"""Processes that make the choice of a file's mapping hard, walked by `procwalk`, by gdb and, if available, by eu-stack.
 
-Each is a program that is made here, and stopped by gdb with a core file. `procwalk` gets the program and its libraries, each with its section: it lists
-the others' frames, or the files are refused as Ambiguous, Build or Mapping.
+Each is a program that is made here; gdb stops it and makes a core file. `procwalk` gets the program and its libraries, each with its section. It
+lists the same frames as the others, or the files are refused as Ambiguous, Build or Mapping.
 """
 
 import os

@@ -1,6 +1,6 @@
-"""Checks that what repeats the version of VERSION has the same, and that the pages name the toolchain that is here.
+"""Checks that files which repeat the version agree with VERSION, and that the pages name the toolchain on this machine.
 
-    ./x version     prints both; the status is 1 where a file names another one
+    ./x version     prints both; the status is 1 if a file names another one
 """
 
 import subprocess

@@ -1,4 +1,4 @@
-"""Compares the program with other tools that this machine has, on real files.
+"""Compares the program with other tools on this machine, on real files.
 
     ./x world                        programs and libraries of the machine, and freshly compiled objects
     ./x world --small                a few of them, in some seconds: what `./x gate` does
@@ -6,16 +6,16 @@
 
 What is compared:
 
-- rows: the section of each file with what `readelf --debug-dump=frames-interp` shows of its records: for each function of each record,
-  whether it is kept, the canonical frame address, the return address and the frame pointer at each offset, or the offset at which the
-  first row is that SFrame cannot say;
-- sections: functions and rows with what `objdump --sframe` shows of the same section, where the objdump at hand reads this version;
-- assembled sections: with the `.sframe` that `as --gsframe` writes, where the assembler at hand writes this version;
-- walks: the program counters of a core file's thread with those that gdb and eu-stack show, where they are there;
-- processes: the program counters by `procwalk` with those of gdb and eu-stack, where a file was mapped as data as well, two have one name, or one
-  is another build (processes.py).
+- rows: the section of each file with what `readelf --debug-dump=frames-interp` shows for its records: for each function of each record,
+  whether it is kept, the canonical frame address, the return address and the frame pointer at each offset, or the offset of the first
+  row that SFrame cannot express;
+- sections: functions and rows with what `objdump --sframe` shows for the same section, if this objdump reads this version;
+- assembled sections: with the `.sframe` that `as --gsframe` writes, if this assembler writes this version;
+- walks: the program counters of a core file's thread with those that gdb and eu-stack show, if available;
+- processes: the program counters from `procwalk` with those of gdb and eu-stack, if a file was also mapped as data, two files have one name, or
+  one is another build (processes.py).
 
-A comparison that this machine cannot make is named, with the reason. Each difference has a line; the status is 1 where there is one.
+A comparison that this machine cannot make is named, with the reason. Each difference has a line; the status is 1 if there is one.
 """
 
 import concurrent.futures
