@@ -7,7 +7,7 @@
     ./x closure --check        fails if docs/proof.md has another table
 
 A definition is an item of a file crates/NAME/specs/*.antt; types that the source declares don't count. It rests on each
-definition that its text names, as its file imports them.
+definition that its text names, as its file imports them. The fields of records are not definitions.
 """
 
 import collections
@@ -24,6 +24,8 @@ IMPORT = re.compile(r"^(?:pub )?(?:ghost )?use Rattle\.(\w+)\.specs\.([\w.]+?)(?
 # The commands of a file that isn't called by its one command.
 NAMED = {"Section": "`dump`, `lookup`"}
 WORD = re.compile(r"[^\s(){}\[\];,.]+")
+# A field of a record: where it is declared, where it is given, and where it is taken of a value.
+FIELD = re.compile(r"^  (?:pub )?[\w-]+ :(?= )|(?:(?<=\{ )|(?<=; )|(?<=^  )|(?<=^      ))[\w-]+ = |(?<=[\w)\]])\.[^\s(){}\[\];,.]+")
 
 
 class Definitions:
@@ -83,7 +85,7 @@ class Definitions:
 
     def named(self, text, known, modules):
         """The definitions that a text names. An operator is named where all its signs are there."""
-        found = {known[it] for it in WORD.findall(text) if it in known}
+        found = {known[it] for it in WORD.findall(FIELD.sub(" ", text)) if it in known}
         found |= {it for name, it in known.items() if "◌" in name and all(sign in text for sign in name.split("◌"))}
         for alias, name in re.findall(r"(\w+)\.([^\s(){}\[\];,.]+)", text):
             if name in self.exports.get(modules.get(alias), {}):

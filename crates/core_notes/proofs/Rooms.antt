@@ -7,12 +7,14 @@ use Rattle.elf_read.specs.declared.fault.ElfFault.TheVariants.{EntrySize, OutOfF
 use Rattle.elf_read.specs.declared.view.Elf.{Elf}
 use Rattle.elf_read.specs.Checking.{unless, each_below, ◌>>◌}
 use Rattle.elf_read.specs.Checks.{Check, core_check, has_program_headers, identity_check, names_check, purpose_check, sections_check, segment_check}
-use Rattle.elf_read.specs.Header.{e_phoff, is_core, program_header}
+use Rattle.elf_read.specs.Header.{header_fields, is_core, program_header}
 use Rattle.elf_read.specs.Number.{lies_in}
-use Rattle.elf_read.specs.Parsing.{content_check, file_check, table_check, used_check}
+use Rattle.elf_read.specs.InTurn.{content_check, checks_in_turn, table_check, used_check}
+use Rattle.elf_read.specs.Parsing.{file_check}
 use Rattle.elf_read.specs.Sections.{segment_count, segment_total}
 use Rattle.elf_read.specs.Views.{file}
 use Rattle.elf_read.proofs.Each.{both_fine, each_below-at}
+use Rattle.elf_read.proofs.Rules.{file_check_is}
 use Rattle.core_notes.specs.Room.{HasRoom, note_size, note_size_below, room_check}
 use Rattle.core_notes.specs.Segment.{segment_of}
 
@@ -65,27 +67,27 @@ pub room_is_checked : (file : List ℕ) → HasRoom file → each_below (segment
 room_is_checked file h = each_fine (segment_count file) (room_check file) (λ i lt. room-holds file i (note_size_below file (i + 1)) refl (h (i + 1) (omega (lt, arith))))
 
 -- ---- the program headers are in the file
-headers_by : (file : List ℕ) (i : ℕ) → core_check file ≡ Ok tt → i < segment_total file → e_phoff file + 56 * i < length file
+headers_by : (file : List ℕ) (i : ℕ) → core_check file ≡ Ok tt → i < segment_total file → (header_fields file).e_phoff + 56 * i < length file
 unfolding core_check
 headers_by file i h lt =
     let count = segment_total file in
-    let lies = unless (lies_in (length file) (e_phoff file) count 56) (OutOfFile 32) in
+    let lies = unless (lies_in (length file) (header_fields file).e_phoff count 56) (OutOfFile 32) in
     let upto = both_fine (unless (has_program_headers file) (EntrySize 54) >> lies) (each_below count (segment_check file)) h in
     let two = both_fine (unless (has_program_headers file) (EntrySize 54)) lies upto.0 in
-    let fits = leb-true (e_phoff file + 56 * count) (length file) (passes (lies_in (length file) (e_phoff file) count 56) (OutOfFile 32) two.1) in
+    let fits = leb-true ((header_fields file).e_phoff + 56 * count) (length file) (passes (lies_in (length file) (header_fields file).e_phoff count 56) (OutOfFile 32) two.1) in
     omega (fits, lt, arith)
 
-headers_if : (file : List ℕ) (i : ℕ) (core : Bool) → cond core (core_check file) (sections_check file >> names_check file >> used_check file) ≡ Ok tt → i < cond core (segment_total file) 0 → e_phoff file + 56 * i < length file
+headers_if : (file : List ℕ) (i : ℕ) (core : Bool) → cond core (core_check file) (sections_check file >> names_check file >> used_check file) ≡ Ok tt → i < cond core (segment_total file) 0 → (header_fields file).e_phoff + 56 * i < length file
 headers_if file i true h lt = headers_by file i h lt
 headers_if file i false h lt = absurd (omega (lt, arith))
 
-headers_lie : (file : List ℕ) (i : ℕ) → file_check file ≡ Ok tt → i < segment_count file → e_phoff file + 56 * i < length file
-unfolding file_check content_check segment_count
-headers_lie file i h lt = headers_if file i (is_core file) (both_fine (identity_check file >> purpose_check file >> table_check file) (content_check file) h).1 lt
+headers_lie : (file : List ℕ) (i : ℕ) → file_check file ≡ Ok tt → i < segment_count file → (header_fields file).e_phoff + 56 * i < length file
+unfolding checks_in_turn content_check segment_count
+headers_lie file i h lt = headers_if file i (is_core file) (both_fine (identity_check file >> purpose_check file >> table_check file) (content_check file) (sym (file_check_is file) ∙ h)).1 lt
 
 passed : (check : Check) → IsTrue (is_ok check) → check ≡ Ok tt
 passed (Ok u) h = refl
 passed (Err e) h = absurd (cc h)
 
-pub header_lies : (elf : Elf) (i : ℕ) → i < segment_count (file elf) → e_phoff (file elf) + 56 * i < length (file elf)
+pub header_lies : (elf : Elf) (i : ℕ) → i < segment_count (file elf) → (header_fields (file elf)).e_phoff + 56 * i < length (file elf)
 header_lies elf i lt = headers_lie elf.bytes.now i (passed (file_check elf.bytes.now) elf.checked) lt

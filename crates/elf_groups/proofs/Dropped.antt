@@ -11,6 +11,7 @@ use Rattle.std.proofs.lemmas.Slice.Eq.{bytes_eq-Decides}
 use Rattle.std.proofs.Math.Seq.{get_or-append_seam}
 use Rattle.elf_read.specs.Sections.{section_count}
 use Rattle.elf_groups.specs.Dropped.{AreDroppedGroups, HasAmong, HasBelow, IsDroppedGroup, signature_of}
+use Rattle.elf_groups.proofs.Gone.{none_seen, none_gone, seen_suc, gone_suc}
 use Rattle.elf_groups.proofs.Rising.{same_members}
 use Rattle.elf_groups.specs.Groups.{gone_below, gone_groups, is_repeated, seen_after, seen_below, seen_in, with_signature}
 
@@ -29,11 +30,16 @@ still_seen seen (Some x) s h = Contains-append_left seen (x ∷ []) s h
 now_seen : (seen : List (List ℕ)) (o : Option (List ℕ)) (s : List ℕ) → o ≡ Some s → Contains (with_signature seen o) s
 now_seen seen o s e = subst (λ (p : Option (List ℕ)). Contains (with_signature seen p) s) (sym e) (Contains-push seen s)
 
+seen_as : (seen : List (List ℕ)) (file : List ℕ) (n : ℕ) (s : List ℕ) {xs : List (List ℕ)} → seen_below seen file n ≡ xs → Contains (seen_below seen file n) s → Contains xs s
+seen_as seen file n s e h = subst (λ (l : List (List ℕ)). Contains l s) e h
+
+as_seen : (seen : List (List ℕ)) (file : List ℕ) (n : ℕ) (s : List ℕ) {xs : List (List ℕ)} → seen_below seen file n ≡ xs → Contains xs s → Contains (seen_below seen file n) s
+as_seen seen file n s e h = subst (λ (l : List (List ℕ)). Contains l s) (sym e) h
+
 -- of the groups of a file below a number, and before them
 from_below : (seen : List (List ℕ)) (file : List ℕ) (n : ℕ) (s : List ℕ) → Contains (seen_below seen file n) s → Contains seen s ⊎ HasBelow file n s
-unfolding seen_below
-from_below seen file zero s h = inl h
-from_below seen file (suc n) s h = elim (seen_cases (seen_below seen file n) (signature_of file n) s h) [
+from_below seen file zero s h = inl (seen_as seen file 0 s (none_seen seen file) h)
+from_below seen file (suc n) s h = elim (seen_cases (seen_below seen file n) (signature_of file n) s (seen_as seen file (suc n) s (seen_suc seen file n) h)) [
   | inl there ↦ elim (from_below seen file n s there) [
     | inl old ↦ inl old
     | inr has ↦ inr (has.0, omega (arith, has.1), has.2)
@@ -42,17 +48,15 @@ from_below seen file (suc n) s h = elim (seen_cases (seen_below seen file n) (si
 ]
 
 old_below : (seen : List (List ℕ)) (file : List ℕ) (n : ℕ) (s : List ℕ) → Contains seen s → Contains (seen_below seen file n) s
-unfolding seen_below
-old_below seen file zero s h = h
-old_below seen file (suc n) s h = still_seen (seen_below seen file n) (signature_of file n) s (old_below seen file n s h)
+old_below seen file zero s h = as_seen seen file 0 s (none_seen seen file) h
+old_below seen file (suc n) s h = as_seen seen file (suc n) s (seen_suc seen file n) (still_seen (seen_below seen file n) (signature_of file n) s (old_below seen file n s h))
 
 to_below : (seen : List (List ℕ)) (file : List ℕ) (n m : ℕ) (s : List ℕ) → m < n → signature_of file m ≡ Some s → Contains (seen_below seen file n) s
-unfolding seen_below
 to_below seen file zero m s low is = absurd (omega (arith, low))
-to_below seen file (suc n) m s low is = elim (cases_eq m n) [
+to_below seen file (suc n) m s low is = as_seen seen file (suc n) s (seen_suc seen file n) (elim (cases_eq m n) [
   | inl same ↦ now_seen (seen_below seen file n) (signature_of file n) s (ap (signature_of file) (sym same) ∙ is)
   | inr other ↦ still_seen (seen_below seen file n) (signature_of file n) s (to_below seen file n m s (omega (arith, low, other)) is)
-]
+])
 
 -- of all groups of files, and before them
 from_files : (seen files : List (List ℕ)) (s : List ℕ) → Contains (seen_in seen files) s → Contains seen s ⊎ HasAmong files s
@@ -104,22 +108,20 @@ abbrev Repeats : (seen : List (List ℕ)) → (file : List ℕ) → ℕ → Type
 Repeats seen file k = is_repeated (seen_below seen file k) (signature_of file k) ≡ true
 
 gone_is : (seen : List (List ℕ)) (file : List ℕ) (n k : ℕ) → Contains (gone_below seen file n) k → (k < n) × Repeats seen file k
-unfolding gone_below
-gone_is seen file zero k h = absurd (omega (arith, h.1))
-gone_is seen file (suc n) k h = elim (gone_cases (is_repeated (seen_below seen file n) (signature_of file n)) n (gone_below seen file n) k h) [
+gone_is seen file zero k h = let none = subst (λ (xs : List ℕ). Contains xs k) (none_gone seen file) h in absurd (omega (arith, none.1))
+gone_is seen file (suc n) k h = elim (gone_cases (is_repeated (seen_below seen file n) (signature_of file n)) n (gone_below seen file n) k (subst (λ (xs : List ℕ). Contains xs k) (gone_suc seen file n) h)) [
   | inl there ↦ let rest = gone_is seen file n k there in (omega (arith, rest.0), rest.1)
   | inr here ↦ (omega (arith, here.0), subst (Repeats seen file) here.0 here.1)
 ]
 
 is_gone : (seen : List (List ℕ)) (file : List ℕ) (n k : ℕ) → k < n → Repeats seen file k → Contains (gone_below seen file n) k
-unfolding gone_below
 is_gone seen file zero k low is = absurd (omega (arith, low))
-is_gone seen file (suc n) k low is = elim (cases_eq k n) [
+is_gone seen file (suc n) k low is = subst (λ (xs : List ℕ). Contains xs k) (sym (gone_suc seen file n)) (elim (cases_eq k n) [
   | inl same ↦
       subst (λ (b : Bool). Contains (cond b (gone_below seen file n ++ n ∷ []) (gone_below seen file n)) k) (sym (subst (Repeats seen file) same is))
       (subst (Contains (gone_below seen file n ++ n ∷ [])) (sym same) (Contains-push (gone_below seen file n) n))
   | inr other ↦ still_gone (is_repeated (seen_below seen file n) (signature_of file n)) n (gone_below seen file n) k (is_gone seen file n k (omega (arith, low, other)) is)
-]
+])
 
 -- they rise
 one_higher : (xs : List ℕ) (n : ℕ) → IsStrictlyIncreasing xs → ((k : ℕ) → Contains xs k → k < n) → IsStrictlyIncreasing (xs ++ n ∷ [])
@@ -149,10 +151,9 @@ or_one_higher false xs n rising all = rising
 or_one_higher true xs n rising all = one_higher xs n rising all
 
 rises : (seen : List (List ℕ)) (file : List ℕ) (n : ℕ) → IsStrictlyIncreasing (gone_below seen file n)
-unfolding gone_below
-rises seen file zero = λ k within. absurd (omega (arith, within))
-rises seen file (suc n) =
-    or_one_higher (is_repeated (seen_below seen file n) (signature_of file n)) (gone_below seen file n) n (rises seen file n) (λ k h. (gone_is seen file n k h).0)
+rises seen file zero = subst IsStrictlyIncreasing (sym (none_gone seen file)) (λ k within. absurd (omega (arith, within)))
+rises seen file (suc n) = subst IsStrictlyIncreasing (sym (gone_suc seen file n))
+    (or_one_higher (is_repeated (seen_below seen file n) (signature_of file n)) (gone_below seen file n) n (rises seen file n) (λ k h. (gone_is seen file n k h).0))
 
 -- ---- all of them
 abbrev after : List (List ℕ) → List (List ℕ)

@@ -1,26 +1,61 @@
 -- The groups that are gone, one section after the other.
-use Rattle.std.proofs.Common.{◌≡◌, ℕ, ◌+◌, Bool, true, false, cond, List, [], ◌∷◌, ◌++◌, refl, sym, ap, ◌∙◌, add-one}
+use Rattle.std.specs.Prelude.{filter, filter_map}
+use Rattle.std.specs.List.{cons_option}
+use Rattle.std.proofs.Common.{◌≡◌, ℕ, suc, ◌+◌, Bool, true, false, cond, List, [], ◌∷◌, ◌++◌, Option, Some, None, refl, sym, ap, ◌∙◌, add-one}
+use Rattle.std.proofs.lemmas.List.{append-nil}
+use Rattle.std.proofs.lemmas.List.Elements.{filter-append, filter_map-append}
+use Rattle.elf_read.specs.Checking.{numbers_below}
 use Rattle.elf_groups.specs.Dropped.{signature_of}
-use Rattle.elf_groups.specs.Groups.{gone_below, is_repeated, seen_below, with_signature}
+use Rattle.elf_groups.specs.Groups.{gone_below, is_repeated, seen_below, signatures_below, with_signature}
 
-pub none_gone : (seen : List (List ℕ)) (file : List ℕ) → gone_below seen file 0 ≡ []
-unfolding gone_below
-none_gone seen file = refl
+joined : {X : Type 0} (xs ys zs : List X) → xs ++ (ys ++ zs) ≡ (xs ++ ys) ++ zs
+joined [] ys zs = refl
+joined {X = X} (x ∷ xs) ys zs = ap (λ (l : List X). x ∷ l) (joined xs ys zs)
+
+-- ---- the signatures that were seen
+none_below : (file : List ℕ) → signatures_below file 0 ≡ []
+unfolding signatures_below numbers_below
+none_below file = refl
 
 pub none_seen : (seen : List (List ℕ)) (file : List ℕ) → seen_below seen file 0 ≡ seen
-unfolding seen_below
-none_seen seen file = refl
+none_seen seen file = ap (λ (xs : List (List ℕ)). seen ++ xs) (none_below file) ∙ append-nil seen
 
-pub one_gone : (seen : List (List ℕ)) (file : List ℕ) (n : ℕ) (gone : List ℕ) → gone ≡ gone_below seen file n → is_repeated (seen_below seen file n) (signature_of file n) ≡ true → gone ++ n ∷ [] ≡ gone_below seen file (n + 1)
-unfolding gone_below
-one_gone seen file n gone e t = rw (add-one n)
-    (ap (λ (xs : List ℕ). xs ++ n ∷ []) e
-    ∙ sym (ap (λ (b : Bool). cond b (gone_below seen file n ++ n ∷ []) (gone_below seen file n)) t))
-
-pub one_stays : (seen : List (List ℕ)) (file : List ℕ) (n : ℕ) (gone : List ℕ) → gone ≡ gone_below seen file n → is_repeated (seen_below seen file n) (signature_of file n) ≡ false → gone ≡ gone_below seen file (n + 1)
-unfolding gone_below
-one_stays seen file n gone e t = rw (add-one n) (e ∙ sym (ap (λ (b : Bool). cond b (gone_below seen file n ++ n ∷ []) (gone_below seen file n)) t))
+pub seen_suc : (seen : List (List ℕ)) (file : List ℕ) (n : ℕ) → seen_below seen file (suc n) ≡ with_signature (seen_below seen file n) (signature_of file n)
+unfolding signatures_below numbers_below
+seen_suc seen file n = ap (λ (xs : List (List ℕ)). seen ++ xs) (filter_map-append (signature_of file) (numbers_below n) (n ∷ [])) ∙ last (filter_map (signature_of file) (numbers_below n)) (signature_of file n)
+  where
+    last : (before : List (List ℕ)) (o : Option (List ℕ)) → seen ++ (before ++ cons_option o []) ≡ with_signature (seen ++ before) o
+    last before None = ap (λ (xs : List (List ℕ)). seen ++ xs) (append-nil before)
+    last before (Some s) = joined seen before (s ∷ [])
 
 pub one_seen : (seen : List (List ℕ)) (file : List ℕ) (n : ℕ) → with_signature (seen_below seen file n) (signature_of file n) ≡ seen_below seen file (n + 1)
-unfolding seen_below
-one_seen seen file n = rw (add-one n) refl
+one_seen seen file n = rw (add-one n) (sym (seen_suc seen file n))
+
+-- ---- the numbers
+pub none_gone : (seen : List (List ℕ)) (file : List ℕ) → gone_below seen file 0 ≡ []
+unfolding numbers_below
+none_gone seen file = refl
+
+pub gone_suc : (seen : List (List ℕ)) (file : List ℕ) (n : ℕ)
+    → gone_below seen file (suc n) ≡ cond (is_repeated (seen_below seen file n) (signature_of file n)) (gone_below seen file n ++ n ∷ []) (gone_below seen file n)
+unfolding numbers_below
+gone_suc seen file n = filter-append gone (numbers_below n) (n ∷ []) ∙ last (gone n) (filter gone (numbers_below n))
+  where
+    gone : ℕ → Bool
+    gone k = is_repeated (seen_below seen file k) (signature_of file k)
+
+    last : (b : Bool) (before : List ℕ) → before ++ cond b (n ∷ []) [] ≡ cond b (before ++ n ∷ []) before
+    last true before = refl
+    last false before = append-nil before
+
+pub one_gone : (seen : List (List ℕ)) (file : List ℕ) (n : ℕ) (gone : List ℕ) → gone ≡ gone_below seen file n → is_repeated (seen_below seen file n) (signature_of file n) ≡ true → gone ++ n ∷ [] ≡ gone_below seen file (n + 1)
+one_gone seen file n gone e t = rw (add-one n)
+    (ap (λ (xs : List ℕ). xs ++ n ∷ []) e
+    ∙ sym (ap (λ (b : Bool). cond b (gone_below seen file n ++ n ∷ []) (gone_below seen file n)) t)
+    ∙ sym (gone_suc seen file n))
+
+pub one_stays : (seen : List (List ℕ)) (file : List ℕ) (n : ℕ) (gone : List ℕ) → gone ≡ gone_below seen file n → is_repeated (seen_below seen file n) (signature_of file n) ≡ false → gone ≡ gone_below seen file (n + 1)
+one_stays seen file n gone e t = rw (add-one n)
+    (e
+    ∙ sym (ap (λ (b : Bool). cond b (gone_below seen file n ++ n ∷ []) (gone_below seen file n)) t)
+    ∙ sym (gone_suc seen file n))

@@ -6,12 +6,9 @@ use Rattle.std.specs.List.Sorted.{IsStrictlyIncreasing}
 use Rattle.elf_read.specs.Sections.{section_count}
 use Rattle.elf_read.specs.Views.{GroupView, group_of}
 
-abbrev pub if_comdat : GroupView → Option (List ℕ)
-if_comdat g = if g.comdat then Some g.signature else None
-
 -- the signature of a section that is a COMDAT group
 unfoldable pub signature_of : (file : List ℕ) → ℕ → Option (List ℕ)
-signature_of file i = option_and_then if_comdat (group_of file i)
+signature_of file i = option_and_then (λ (g : GroupView). if g.comdat then Some g.signature else None) (group_of file i)
 
 -- one of the groups of a file, with a number below this, has the signature
 abbrev pub HasBelow : (file : List ℕ) → (number : ℕ) → (signature : List ℕ) → Type 0
@@ -32,3 +29,7 @@ pub record IsDroppedGroup (earlier : List (List ℕ)) (file : List ℕ) (number 
 pub record AreDroppedGroups (earlier : List (List ℕ)) (file : List ℕ) (numbers : List ℕ) : Type 0 where
   pub rising : IsStrictlyIncreasing numbers
   pub are : (number : ℕ) → Contains numbers number ↔ IsDroppedGroup earlier file number
+
+-- ---- Inside the crate
+abbrev pub if_comdat : GroupView → Option (List ℕ)
+if_comdat g = if g.comdat then Some g.signature else None

@@ -1,37 +1,42 @@
--- The COMDAT groups that are dropped, file by file: the signatures that were seen so far, and the groups whose signature is one of them.
+-- The COMDAT groups that are dropped, file by file: those whose signature is one of the signatures that were seen before.
 -- The law `groups_of_earlier_signatures_are_dropped` joins them to the definition in `Dropped.antt`.
-use Rattle.std.specs.Prelude.{ℕ, zero, suc, Bool, false, List, [], ◌∷◌, ◌++◌, Option, Some, None, bytes_eq, if◌then◌else◌}
+use Rattle.std.specs.Prelude.{ℕ, Bool, false, List, [], ◌∷◌, ◌++◌, Option, Some, None, bytes_eq, filter, filter_map}
 use Rattle.std.specs.List.{list_any}
+use Rattle.elf_read.specs.Checking.{numbers_below}
 use Rattle.elf_read.specs.Sections.{section_count}
 use Rattle.elf_groups.specs.Dropped.{signature_of}
 
-abbrev pub with_signature : List (List ℕ) → Option (List ℕ) → List (List ℕ)
-with_signature seen None = seen
-with_signature seen (Some signature) = seen ++ signature ∷ []
-
--- those of the sections below n, after those that were seen before
-unfoldable pub seen_below : (seen : List (List ℕ)) → (file : List ℕ) → ℕ → List (List ℕ)
-seen_below seen file zero = seen
-seen_below seen file (suc n) = with_signature (seen_below seen file n) (signature_of file n)
+-- the signatures of the groups among the sections below n, in order
+unfoldable pub signatures_below : (file : List ℕ) → ℕ → List (List ℕ)
+signatures_below file n = filter_map (signature_of file) (numbers_below n)
 
 -- a signature that was seen before
 abbrev pub is_repeated : List (List ℕ) → Option (List ℕ) → Bool
 is_repeated seen None = false
 is_repeated seen (Some signature) = list_any (bytes_eq signature) seen
 
--- the numbers below n of the COMDAT groups that are gone
-unfoldable pub gone_below : (seen : List (List ℕ)) → (file : List ℕ) → ℕ → List ℕ
-gone_below seen file zero = []
-gone_below seen file (suc n) = if is_repeated (seen_below seen file n) (signature_of file n) then gone_below seen file n ++ n ∷ [] else gone_below seen file n
-
--- of a whole file
+-- the signatures that were seen once a file is read, after those that were seen before
 abbrev pub seen_after : (seen : List (List ℕ)) → (file : List ℕ) → List (List ℕ)
-seen_after seen file = seen_below seen file (section_count file)
+seen_after seen file = seen ++ signatures_below file (section_count file)
 
+-- the numbers of a file's COMDAT groups that are gone: their signature was seen before
 abbrev pub gone_groups : (seen : List (List ℕ)) → (file : List ℕ) → List ℕ
-gone_groups seen file = gone_below seen file (section_count file)
+gone_groups seen file = filter (λ n. is_repeated (seen ++ signatures_below file n) (signature_of file n)) (numbers_below (section_count file))
 
 -- the signatures that were seen once files are read, after those that were seen before
 abbrev pub seen_in : (seen : List (List ℕ)) → (files : List (List ℕ)) → List (List ℕ)
 seen_in seen [] = seen
 seen_in seen (file ∷ files) = seen_in (seen_after seen file) files
+
+-- ---- Inside the crate: one section after the other
+abbrev pub with_signature : List (List ℕ) → Option (List ℕ) → List (List ℕ)
+with_signature seen None = seen
+with_signature seen (Some signature) = seen ++ signature ∷ []
+
+-- the signatures of the sections below n, after those that were seen before
+abbrev pub seen_below : (seen : List (List ℕ)) → (file : List ℕ) → ℕ → List (List ℕ)
+seen_below seen file n = seen ++ signatures_below file n
+
+-- the numbers below n of the COMDAT groups that are gone
+abbrev pub gone_below : (seen : List (List ℕ)) → (file : List ℕ) → ℕ → List ℕ
+gone_below seen file n = filter (λ k. is_repeated (seen ++ signatures_below file k) (signature_of file k)) (numbers_below n)

@@ -5,7 +5,7 @@ use Rattle.std.proofs.Math.Nat.{eq-or-lt_of_le}
 use Rattle.std.proofs.lemmas.Bool.{cases_lt, leb-true}
 use Rattle.std.proofs.lemmas.List.{get_or_past}
 use Rattle.elf_read.specs.Checking.{unless, where_so, ◌>>◌, each_below}
-use Rattle.elf_read.specs.Sections.{sh_size}
+use Rattle.elf_read.specs.Sections.{section_fields}
 use Rattle.elf_place.specs.declared.fault.PlaceFault.{PlaceFault}
 use Rattle.elf_place.specs.declared.fault.PlaceFault.TheVariants.{AddressOverflow}
 use Rattle.elf_place.specs.Dropped.{values_below}
@@ -47,18 +47,18 @@ placed_by : (b : Bool) (start size i : ℕ) → where_so b (unless (is_in_memory
 placed_by true start size i h = in_memory_by (is_in_memory start size) start size i refl h
 placed_by false start size i h = tt
 
-address_lies : (file : List ℕ) (dropped : List Bool) (base i : ℕ) → overflow_check file dropped base i ≡ okay → LiesInMemory (address_of file dropped base i) (sh_size file i)
+address_lies : (file : List ℕ) (dropped : List Bool) (base i : ℕ) → overflow_check file dropped base i ≡ okay → LiesInMemory (address_of file dropped base i) (section_fields file i).sh_size
 unfolding overflow_check address_of
-address_lies file dropped base i h = placed_by (is_placed file dropped i) (start_of file dropped base i) (sh_size file i) i h
+address_lies file dropped base i h = placed_by (is_placed file dropped i) (start_of file dropped base i) (section_fields file i).sh_size i h
 
 pub addresses_lie : (file : List ℕ) (dropped : List Bool) (base count : ℕ) (addresses : List (Option ℕ)) → addresses ≡ values_below count (address_of file dropped base) → each_below count (overflow_check file dropped base) ≡ okay
-    → (i : ℕ) → LiesInMemory (get_or addresses i None) (sh_size file i)
+    → (i : ℕ) → LiesInMemory (get_or addresses i None) (section_fields file i).sh_size
 addresses_lie file dropped base count addresses is h i = elim (cases_lt i count) [
   | inl within ↦
       let at : get_or addresses i None ≡ address_of file dropped base i = ap (λ (xs : List (Option ℕ)). get_or xs i None) is ∙ get_or-values_below count (address_of file dropped base) i None within in
-      subst (λ (o : Option ℕ). LiesInMemory o (sh_size file i)) (sym at) (address_lies file dropped base i (each_ok count i (overflow_check file dropped base) within h))
+      subst (λ (o : Option ℕ). LiesInMemory o (section_fields file i).sh_size) (sym at) (address_lies file dropped base i (each_ok count i (overflow_check file dropped base) within h))
   | inr past ↦
       let len : length addresses ≡ count = ap (λ (xs : List (Option ℕ)). length xs) is ∙ length-values_below count (address_of file dropped base) in
       let none : get_or addresses i None ≡ None = get_or_past addresses i None (omega (arith, len, past)) in
-      subst (λ (o : Option ℕ). LiesInMemory o (sh_size file i)) (sym none) tt
+      subst (λ (o : Option ℕ). LiesInMemory o (section_fields file i).sh_size) (sym none) tt
 ]

@@ -4,6 +4,8 @@ use Rattle.std.proofs.Math.ListN.{set}
 use Rattle.std.proofs.lemmas.Bool.{cases_eq}
 use Rattle.std.proofs.lemmas.List.{get_or-set_same, get_or-set_other}
 use Rattle.std.proofs.lemmas.Grind.{take_at_read}
+use Rattle.std.specs.List.{list_any}
+use Rattle.elf_read.specs.Checking.{numbers_below}
 use Rattle.elf_read.specs.Sections.{group_member}
 use Rattle.elf_place.specs.Dropped.{is_member, is_named, is_dropped}
 
@@ -23,13 +25,19 @@ pub or_assoc : (a b c : Bool) → ((a || b) || c) ≡ (a || (b || c))
 or_assoc true b c = refl
 or_assoc false b c = refl
 
+any_append : {X : Type 0} (p : X → Bool) (xs ys : List X) → list_any p (xs ++ ys) ≡ (list_any p xs || list_any p ys)
+any_append p [] ys = refl
+any_append p (x ∷ xs) ys = ap (λ (b : Bool). p x || b) (any_append p xs ys) ∙ sym (or_assoc (p x) (list_any p xs) (list_any p ys))
+
 pub is_member-none : (file : List ℕ) (group i : ℕ) → is_member file group 0 i ≡ false
-unfolding is_member
+unfolding numbers_below
 is_member-none file group i = refl
 
 after_suc : (file : List ℕ) (group k i : ℕ) → is_member file group (suc k) i ≡ (is_member file group k i || (group_member file group k == i))
-unfolding is_member
-after_suc file group k i = refl
+unfolding numbers_below
+after_suc file group k i =
+    any_append (λ (m : ℕ). group_member file group m == i) (numbers_below k) (k ∷ [])
+    ∙ ap (λ (z : Bool). is_member file group k i || z) (sym (or_false (group_member file group k == i)))
 
 pub is_member-more : (file : List ℕ) (group k i : ℕ) → is_member file group (k + 1) i ≡ (is_member file group k i || (group_member file group k == i))
 is_member-more file group k i =
@@ -59,7 +67,7 @@ unfolding is_dropped
 is_dropped-nil file i = refl
 
 is_dropped-cons : (file : List ℕ) (g : ℕ) (gone : List ℕ) (i : ℕ) → is_dropped file (g ∷ gone) i ≡ (is_named file g i || is_dropped file gone i)
-unfolding is_dropped
+unfolding is_dropped is_named
 is_dropped-cons file g gone i = refl
 
 is_dropped-end : (file : List ℕ) (gone : List ℕ) (g i : ℕ) → is_dropped file (gone ++ g ∷ []) i ≡ (is_dropped file gone i || is_named file g i)

@@ -8,10 +8,10 @@ use Rattle.std.proofs.Common.{◌≡◌, ℕ, zero, suc, ◌+◌, ◌-◌, ◌<�
 use Rattle.std.proofs.lemmas.Bool.{cases_lt, lt-ltb, le-ltb, leb-true, leb-false}
 use Rattle.std.proofs.lemmas.List.{append-nil, map-append, take-append-drop, get_or-take, get_or-drop, length-drop, length-take-le}
 use Rattle.std.proofs.lemmas.List.Elements.{filter-append, filter_agree}
-use Rattle.elf_read.specs.Sections.{sh_info}
+use Rattle.elf_read.specs.Sections.{section_fields}
 use Rattle.elf_place.specs.declared.relocations.RelocationSection.{RelocationSection}
-use Rattle.elf_place.specs.Place.{with_one}
 use Rattle.elf_place.specs.Relocations.{has_relocations, is_relocation_section, relocation_sections_below, target_of, numbers_of, with_target, listed, listed_below}
+use Rattle.elf_place.proofs.Numbers.{with_one, filter_none, filter_suc}
 
 -- ---- the list
 pub listed_below-none : (file : List ℕ) → listed_below file 0 ≡ []
@@ -28,15 +28,14 @@ listed_below-more file n =
     ap (listed_below file) next ∙ listed_below-suc file n
 
 below-none : (file : List ℕ) (target : ℕ) → relocation_sections_below file target 0 ≡ []
-unfolding relocation_sections_below
-below-none file target = refl
+below-none file target = filter_none (is_relocation_section file target)
 
-below-suc : (file : List ℕ) (target n : ℕ) → relocation_sections_below file target (suc n) ≡ with_one (has_relocations file n && (sh_info file n == target)) n (relocation_sections_below file target n)
-unfolding relocation_sections_below is_relocation_section
-below-suc file target n = refl
+below-suc : (file : List ℕ) (target n : ℕ) → relocation_sections_below file target (suc n) ≡ with_one (has_relocations file n && ((section_fields file n).sh_info == target)) n (relocation_sections_below file target n)
+unfolding is_relocation_section has_relocations
+below-suc file target n = filter_suc (is_relocation_section file target) n
 
 -- one section more, by its tests
-more_by : (file : List ℕ) (target n : ℕ) (has is : Bool) (before : List RelocationSection) (numbers : List ℕ) → (sh_info file n == target) ≡ is → numbers_of (with_target target before) ≡ numbers
+more_by : (file : List ℕ) (target n : ℕ) (has is : Bool) (before : List RelocationSection) (numbers : List ℕ) → ((section_fields file n).sh_info == target) ≡ is → numbers_of (with_target target before) ≡ numbers
     → numbers_of (with_target target (if has then before ++ listed file n ∷ [] else before)) ≡ with_one (has && is) n numbers
 more_by file target n false is before numbers e h = h
 more_by file target n true is before numbers e h =
@@ -55,7 +54,7 @@ pub listed_has_all : (file : List ℕ) (target n : ℕ) → numbers_of (with_tar
 listed_has_all file target zero = ap (λ (xs : List RelocationSection). numbers_of (with_target target xs)) (listed_below-none file) ∙ sym (below-none file target)
 listed_has_all file target (suc n) =
     ap (λ (xs : List RelocationSection). numbers_of (with_target target xs)) (listed_below-suc file n)
-    ∙ more_by file target n (has_relocations file n) (sh_info file n == target) (listed_below file n) (relocation_sections_below file target n) refl (listed_has_all file target n)
+    ∙ more_by file target n (has_relocations file n) ((section_fields file n).sh_info == target) (listed_below file n) (relocation_sections_below file target n) refl (listed_has_all file target n)
     ∙ sym (below-suc file target n)
 
 -- ---- a stable order by targets keeps those of each target as they are

@@ -28,7 +28,7 @@ pub struct Placed<'a> {
 
 impl<'a> Placed<'a> {
     ghost use Rattle.std.specs.Prelude.{◌≡◌, ◌<◌, ℕ, IfOk, length};
-    ghost use Rattle.elf_read.specs.Sections.{section_count, sh_size};
+    ghost use Rattle.elf_read.specs.Sections.{section_count, section_fields};
     ghost use Rattle.elf_read.specs.Views.{file as file_of};
     ghost use Rattle.elf_place.specs.Dropped as drops;
     ghost use Rattle.elf_place.specs.Place as spec;
@@ -41,7 +41,6 @@ impl<'a> Placed<'a> {
     ///
     /// In an object the sections that are loaded follow one another from the base on, each at the least
     /// multiple of its alignment; in another file each lies at its own address, moved by the base.
-    #[tactic(auto, unfolding(crate::specs::Place::place_check))]
     pub fn new(
         alloc: Global,
         elf: &Elf<'a>,
@@ -56,7 +55,7 @@ impl<'a> Placed<'a> {
         ensures addresses { IfOk result (λ p. seen.addresses p ≡ values_below (section_count (file_of elf.now)) (spec.address_of (file_of elf.now) (drops.dropped_sections (file_of elf.now) gone.now) base)) }
         ensures eh_frames { IfOk result (λ p. seen.eh_frames p ≡ spec.eh_frames_below (file_of elf.now) (drops.dropped_sections (file_of elf.now) gone.now) (section_count (file_of elf.now))) }
         // Each address is below 2^64, and so is each section's last byte.
-        ensures memory { IfOk result (λ p. (i : ℕ) → spec.LiesInMemory (seen.address_in p i) (sh_size (file_of elf.now) i)) }
+        ensures memory { IfOk result (λ p. (i : ℕ) → spec.LiesInMemory (seen.address_in p i) (section_fields (file_of elf.now) i).sh_size) }
         // It is placed exactly where no check fails; else the fault is the first, unless memory ran out.
         ensures exact { spec.Answers result (spec.place_check (file_of elf.now) (drops.dropped_sections (file_of elf.now) gone.now) base) }
     {

@@ -48,7 +48,7 @@ fn is_type_without_relocations(kind: u32) -> bool
 }
 
 // Whether a section relocates another, as its type says or, where that is unknown, its flags.
-#[tactic(auto, unfolding(crate::specs::Relocations::may_relocate))]
+#[tactic(auto, unfolding(crate::specs::Relocations::may_relocate, elf_read::specs::Sections::has_info_link))]
 fn may_relocate(elf: &Elf<'_>, i: u32) -> bool
     ensures { result ≡ spec.may_relocate (file elf.now) i }
 {

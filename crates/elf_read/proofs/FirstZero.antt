@@ -8,7 +8,7 @@ use Rattle.std.proofs.lemmas.List.{drop-drop, length-drop}
 use Rattle.std.proofs.lemmas.List.Sums.{prefix_len-le-length}
 use Rattle.std.proofs.lemmas.Nat.{div-add-mod'}
 use Rattle.elf_read.specs.Number.{IsFree, has_text, zero_from}
-use Rattle.elf_read.specs.Sections.{section_bytes, sh_offset}
+use Rattle.elf_read.specs.Sections.{section_bytes, section_fields}
 use Rattle.elf_read.proofs.Texts.{has_by, text_place}
 
 abbrev pub is_zero : ℕ → Bool
@@ -98,7 +98,7 @@ next_piece place len some below =
     omega (arith, whole, more, below)
 
 -- a text stands in a section where a zero byte comes before the section's end
-pub zero_within : (file : List ℕ) (i place first end found : ℕ) → place < length (section_bytes file i) → first ≡ sh_offset file i + place → end ≡ sh_offset file i + length (section_bytes file i)
+pub zero_within : (file : List ℕ) (i place first end found : ℕ) → place < length (section_bytes file i) → first ≡ (section_fields file i).sh_offset + place → end ≡ (section_fields file i).sh_offset + length (section_bytes file i)
     → found ≡ zero_from file first → nat_lt found end ≡ has_text place (section_bytes file i)
 zero_within file i place first end found some at to is =
     let bytes = section_bytes file i in

@@ -3,7 +3,7 @@ use Rattle.std.specs.Prelude.{◌||◌}
 use Rattle.std.proofs.Common.{◌≡◌, ◌⊎◌, ℕ, zero, suc, ◌<◌, ◌≤◌, Bool, true, false, cond, List, Option, Some, None, min, refl, sym, ap, subst, ◌∙◌, inl, inr, arith}
 use Rattle.std.proofs.lemmas.Bool.{cases_lt}
 use Rattle.elf_read.specs.Compressed.{IsUsedBy, IsUsed, NoneIsCompressed}
-use Rattle.elf_read.specs.Sections.{section_count, sh_link, is_compressed, is_eh_frame}
+use Rattle.elf_read.specs.Sections.{section_count, section_fields, is_compressed, is_eh_frame}
 use Rattle.elf_read.specs.Used.{compressed_by, compressed_check, if_compressed, is_group, is_used_rela, least, least_compressed, refused_compressed}
 
 -- the least number of which P holds, or that it holds of none
@@ -51,14 +51,14 @@ by_one file j =
     let group = is_group file j in
     let linking = is_used_rela file j || group in
     let itself = IsOne file (is_eh_frame file j || linking) j in
-    let table = IsOne file linking (sh_link file j) in
-    let strings = IsOne file group (sh_link file (sh_link file j)) in
+    let table = IsOne file linking (section_fields file j).sh_link in
+    let strings = IsOne file group (section_fields file (section_fields file j).sh_link).sh_link in
     same_of (λ k. itself k ⊎ (table k ⊎ strings k)) (IsBy file j) (compressed_by file j)
     (λ k h. elim h [ inl x ↦ (inl x.0, x.1) | inr y ↦ elim y [ inl t ↦ (inr (inl t.0), t.1) | inr s ↦ (inr (inr s.0), s.1) ] ])
     (λ k h. elim h.0 [ inl x ↦ inl (x, h.1) | inr y ↦ elim y [ inl t ↦ inr (inl (t, h.1)) | inr s ↦ inr (inr (s, h.1)) ] ])
-    (either itself (λ k. table k ⊎ strings k) (if_compressed file (is_eh_frame file j || linking) j) (least (if_compressed file linking (sh_link file j)) (if_compressed file group (sh_link file (sh_link file j))))
+    (either itself (λ k. table k ⊎ strings k) (if_compressed file (is_eh_frame file j || linking) j) (least (if_compressed file linking (section_fields file j).sh_link) (if_compressed file group (section_fields file (section_fields file j).sh_link).sh_link))
     (one file (is_eh_frame file j || linking) j)
-    (either table strings (if_compressed file linking (sh_link file j)) (if_compressed file group (sh_link file (sh_link file j))) (one file linking (sh_link file j)) (one file group (sh_link file (sh_link file j)))))
+    (either table strings (if_compressed file linking (section_fields file j).sh_link) (if_compressed file group (section_fields file (section_fields file j).sh_link).sh_link) (one file linking (section_fields file j).sh_link) (one file group (section_fields file (section_fields file j).sh_link).sh_link)))
 
 -- because of one of the first n
 record IsBelow (file : List ℕ) (n k : ℕ) : Type 0 where

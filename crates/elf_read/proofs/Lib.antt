@@ -3,5 +3,6 @@ pub mod Least
 pub mod Texts
 pub mod FirstZero
 pub mod ReadSizes
+pub mod Rules
 mod LeastCompressed
 mod Masks

@@ -8,12 +8,14 @@ use Rattle.elf_read.specs.declared.view.Elf.{Elf}
 use Rattle.elf_read.specs.Checking.{unless, ◌>>◌, each_below}
 use Rattle.elf_read.specs.Checks.{Check, identity_check, purpose_check, core_check, sections_check, names_check}
 use Rattle.elf_read.specs.Header.{is_core}
-use Rattle.elf_read.specs.Parsing.{table_check, used_check, content_check, file_check}
+use Rattle.elf_read.specs.InTurn.{table_check, used_check, content_check, checks_in_turn}
+use Rattle.elf_read.specs.Parsing.{file_check}
 use Rattle.elf_read.specs.Room.{is_read, read_size, read_size_below, room_check, HasRoom}
 use Rattle.elf_read.specs.Sections.{section_bytes, section_count, section_header, section_total, is_eh_frame, entry_count}
 use Rattle.elf_read.specs.Used.{rela_check, group_check, compressed_check, entries_check, is_used_rela, is_group}
 use Rattle.elf_read.specs.Views.{file}
 use Rattle.elf_read.proofs.Each.{both_fine, each_below-at}
+use Rattle.elf_read.proofs.Rules.{file_check_is}
 
 -- ---- one section after the other
 pub read_size_below-none : (file : List ℕ) → read_size_below file 0 ≡ 0
@@ -66,14 +68,14 @@ of_core file true h = refl
 of_core file false h = absurd (cc h)
 
 of_content : (file : List ℕ) (core : Bool) → is_core file ≡ core → cond core (core_check file) (sections_check file >> names_check file >> used_check file) ≡ Ok tt → each_below (section_count file) (room_check file) ≡ Ok tt
-unfolding section_count each_below
+unfolding section_count section_total each_below
 of_content file true is h = ap (λ (n : ℕ). each_below n (room_check file)) (of_core file (is_core file) is)
 of_content file false is h = used_parts file (both_fine (sections_check file >> names_check file) (used_check file) h).1
 
 room_is_checked : (file : List ℕ) → file_check file ≡ Ok tt → each_below (section_count file) (room_check file) ≡ Ok tt
-unfolding file_check content_check
+unfolding checks_in_turn content_check
 room_is_checked file h =
-    of_content file (is_core file) refl (both_fine (identity_check file >> purpose_check file >> table_check file) (content_check file) h).1
+    of_content file (is_core file) refl (both_fine (identity_check file >> purpose_check file >> table_check file) (content_check file) (sym (file_check_is file) ∙ h)).1
 
 -- ---- the entries of relocations
 used_read : (frames rela group : Bool) (size : ℕ) → rela ≡ true → cond (frames || (rela || group)) size 0 ≡ size

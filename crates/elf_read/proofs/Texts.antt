@@ -7,7 +7,7 @@ use Rattle.std.proofs.Math.ListN.{drop_of_length-le}
 use Rattle.std.proofs.lemmas.List.{get_or-drop, length-drop, length-take, drop-drop, drop-take, take_all, take_min}
 use Rattle.std.proofs.lemmas.List.Sums.{prefix_len_passes, prefix_len_stops}
 use Rattle.elf_read.specs.Number.{upto, text_in, has_text, window, StandsAt}
-use Rattle.elf_read.specs.Sections.{has_bytes, name_table, section_bytes, section_name, sh_name, sh_offset, sh_size}
+use Rattle.elf_read.specs.Sections.{has_bytes, name_table, section_bytes, section_name, section_fields}
 
 abbrev is_zero : ℕ → Bool
 is_zero b = b == 0
@@ -146,10 +146,10 @@ place_by false off size file place at (x ∷ xs) is there =
     absurd (let differ : x ∷ xs ≡ [] = is ∙ drop_of_length-le [] low in cc)
 
 -- what is left of a section from a place on stands at that place of the section
-pub text_place : (file : List ℕ) (i place at : ℕ) (rest : List ℕ) → rest ≡ drop place (section_bytes file i) → (0 < length rest → at ≡ sh_offset file i + place) → StandsAt at rest file
+pub text_place : (file : List ℕ) (i place at : ℕ) (rest : List ℕ) → rest ≡ drop place (section_bytes file i) → (0 < length rest → at ≡ (section_fields file i).sh_offset + place) → StandsAt at rest file
 unfolding section_bytes
-text_place file i place at rest is there = place_by (has_bytes file i) (sh_offset file i) (sh_size file i) file place at rest is there
+text_place file i place at rest is there = place_by (has_bytes file i) (section_fields file i).sh_offset (section_fields file i).sh_size file place at rest is there
 
 pub no_name : (file : List ℕ) (i : ℕ) → name_table file ≡ 0 → text_in 0 [] ≡ section_name file i
 unfolding section_name
-no_name file i none = text_front 0 [] ∙ sym (ap (λ (b : Bool). cond b [] (text_in (sh_name file i) (section_bytes file (name_table file)))) (eq-eqb _ _ none))
+no_name file i none = text_front 0 [] ∙ sym (ap (λ (b : Bool). cond b [] (text_in (section_fields file i).sh_name (section_bytes file (name_table file)))) (eq-eqb _ _ none))

@@ -1,16 +1,27 @@
--- The checks of an ELF64 file, in their order, up to the sections' names (ELF64 gABI, "ELF Header",
--- "Sections", "Program Header"). A check answers what is wrong, with its place in the file.
+-- Checks of an ELF64 file up to the sections' names (ELF64 gABI, "ELF Header", "Sections", "Program Header"). A check gives what is
+-- wrong, with its place in the file.
 use Rattle.std.specs.Prelude.{ℕ, ◌==◌, Bool, ◌&&◌, ◌||◌, not, List, length, Result, nat_lt, nat_le}
 use Rattle.elf_read.specs.declared.fault.ElfFault.{ElfFault}
 use Rattle.elf_read.specs.declared.fault.ElfFault.TheVariants.{Short, NotElf, Class, Order, Version, Machine, Kind, EntrySize, Strings, OutOfFile}
 use Rattle.elf_read.specs.Checking.{unless, where_so, ◌>>◌, each_below}
 use Rattle.elf_read.specs.Number.{number_in, lies_in, has_text}
-use Rattle.elf_read.specs.Header.{e_type, e_machine, e_phoff, e_shoff, e_phentsize, e_phnum, e_shentsize, is_core, program_header, p_offset, p_filesz}
-use Rattle.elf_read.specs.Sections.{section_header, sh_name, sh_type, sh_offset, sh_size, section_count, segment_total, has_bytes, section_bytes, name_table}
+use Rattle.elf_read.specs.Header.{header_fields, is_core, program_header, p_offset, p_filesz}
+use Rattle.elf_read.specs.Sections.{section_header, section_fields, section_count, segment_total, has_bytes, section_bytes, name_table}
 
 abbrev pub Check : Type 0
 Check = Result (Unit {0}) ElfFault
 
+-- the program headers of a file of any kind have the format's length, and lie in the file
+unfoldable pub program_headers_check : List ℕ → Check
+program_headers_check file =
+    unless ((header_fields file).e_phentsize == 56) (EntrySize 54)
+    >> unless (lies_in (length file) (header_fields file).e_phoff (segment_total file) 56) (OutOfFile 32)
+
+-- a number of a section of type SHT_STRTAB 3
+unfoldable pub is_string_table : List ℕ → ℕ → Bool
+is_string_table file i = nat_lt i (section_count file) && ((section_fields file i).sh_type == 3)
+
+-- ---- Inside the crate: the checks in the order of the code. `Parsing.antt` has them as a table
 -- the identification, and the fields that say for which machine and of what kind the file is
 unfoldable pub identity_check : List ℕ → Check
 identity_check file =
@@ -31,19 +42,19 @@ is_known_type kind = nat_le 1 kind && nat_le kind 4
 
 unfoldable pub purpose_check : List ℕ → Check
 purpose_check file =
-    unless (is_known_machine (e_machine file)) (Machine 18)
-    >> unless (is_known_type (e_type file)) (Kind 16)
+    unless (is_known_machine (header_fields file).e_machine) (Machine 18)
+    >> unless (is_known_type (header_fields file).e_type) (Kind 16)
 
 -- whether section 0's header is needed: for sections, or for the number of segments
 unfoldable pub needs_sections : List ℕ → Bool
-needs_sections file = (not (e_shoff file == 0) && not (is_core file)) || (e_phnum file == 0xffff)
+needs_sections file = (not ((header_fields file).e_shoff == 0) && not (is_core file)) || ((header_fields file).e_phnum == 0xffff)
 
 unfoldable pub has_first_section : List ℕ → Bool
-has_first_section file = not (e_shoff file == 0) && lies_in (length file) (e_shoff file) 1 64
+has_first_section file = not ((header_fields file).e_shoff == 0) && lies_in (length file) (header_fields file).e_shoff 1 64
 
 unfoldable pub first_section_check : List ℕ → Check
 first_section_check file =
-    unless (e_shentsize file == 64) (EntrySize 58)
+    unless ((header_fields file).e_shentsize == 64) (EntrySize 58)
     >> unless (has_first_section file) (OutOfFile 40)
 
 -- a segment's bytes lie in the file
@@ -52,37 +63,27 @@ segment_check file i = unless (lies_in (length file) (p_offset file i) (p_filesz
 
 -- where there are program headers, they have the format's length
 abbrev pub has_program_headers : List ℕ → Bool
-has_program_headers file = (segment_total file == 0) || (e_phentsize file == 56)
+has_program_headers file = (segment_total file == 0) || ((header_fields file).e_phentsize == 56)
 
 unfoldable pub core_check : List ℕ → Check
 core_check file =
     unless (has_program_headers file) (EntrySize 54)
-    >> unless (lies_in (length file) (e_phoff file) (segment_total file) 56) (OutOfFile 32)
+    >> unless (lies_in (length file) (header_fields file).e_phoff (segment_total file) 56) (OutOfFile 32)
     >> each_below (segment_total file) (segment_check file)
-
--- the program headers of a file of any kind have the format's length, and lie in the file
-unfoldable pub program_headers_check : List ℕ → Check
-program_headers_check file =
-    unless (e_phentsize file == 56) (EntrySize 54)
-    >> unless (lies_in (length file) (e_phoff file) (segment_total file) 56) (OutOfFile 32)
 
 -- a section's bytes lie in the file
 unfoldable pub bytes_check : List ℕ → ℕ → Check
 bytes_check file i =
-    where_so (has_bytes file i) (unless (lies_in (length file) (sh_offset file i) (sh_size file i) 1) (OutOfFile (section_header file i)))
+    where_so (has_bytes file i) (unless (lies_in (length file) (section_fields file i).sh_offset (section_fields file i).sh_size 1) (OutOfFile (section_header file i)))
 
 unfoldable pub sections_check : List ℕ → Check
 sections_check file =
-    unless (lies_in (length file) (e_shoff file) (section_count file) 64) (OutOfFile 40)
+    unless (lies_in (length file) (header_fields file).e_shoff (section_count file) 64) (OutOfFile 40)
     >> each_below (section_count file) (bytes_check file)
 
 -- a section's name stands in the name table
 unfoldable pub name_check : List ℕ → ℕ → Check
-name_check file i = unless (has_text (sh_name file i) (section_bytes file (name_table file))) (Strings (section_header file i))
-
--- a number of a section of type SHT_STRTAB 3
-unfoldable pub is_string_table : List ℕ → ℕ → Bool
-is_string_table file i = nat_lt i (section_count file) && (sh_type file i == 3)
+name_check file i = unless (has_text (section_fields file i).sh_name (section_bytes file (name_table file))) (Strings (section_header file i))
 
 unfoldable pub has_names : List ℕ → Bool
 has_names file = not (section_count file == 0) && not (name_table file == 0)

@@ -3,7 +3,7 @@
 use Rattle.std.specs.Prelude.{◌≡◌, ◌⊎◌, ◌<◌, ◌≤◌, ◌||◌, ℕ, true, false, List, Ok, Err}
 use Rattle.elf_read.specs.declared.fault.ElfFault.TheVariants.{Compressed}
 use Rattle.elf_read.specs.Checks.{Check}
-use Rattle.elf_read.specs.Sections.{section_header, sh_link, section_count, is_compressed, is_eh_frame}
+use Rattle.elf_read.specs.Sections.{section_header, section_fields, section_count, is_compressed, is_eh_frame}
 use Rattle.elf_read.specs.Used.{is_used_rela, is_group}
 
 -- because of section j, section i is used: j itself, call frame information or what belongs to it; the symbol table that j names; and
@@ -11,8 +11,8 @@ use Rattle.elf_read.specs.Used.{is_used_rela, is_group}
 abbrev pub IsUsedBy : List ℕ → (j i : ℕ) → Type 0
 IsUsedBy file j i =
     ((i ≡ j) × ((is_eh_frame file j || (is_used_rela file j || is_group file j)) ≡ true))
-    ⊎ (((i ≡ sh_link file j) × ((is_used_rela file j || is_group file j) ≡ true))
-    ⊎ ((i ≡ sh_link file (sh_link file j)) × (is_group file j ≡ true)))
+    ⊎ (((i ≡ (section_fields file j).sh_link) × ((is_used_rela file j || is_group file j) ≡ true))
+    ⊎ ((i ≡ (section_fields file (section_fields file j).sh_link).sh_link) × (is_group file j ≡ true)))
 
 -- because of one of the file's sections
 pub record IsUsed (file : List ℕ) (i : ℕ) : Type 0 where

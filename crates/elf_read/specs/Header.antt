@@ -6,54 +6,63 @@ use Rattle.elf_read.specs.declared.kind.Kind.{Kind}
 use Rattle.elf_read.specs.declared.kind.Kind.TheVariants.{Rel, Exec, Dyn, Core}
 use Rattle.elf_read.specs.Number.{number_in}
 
-unfoldable pub e_type : List ℕ → ℕ
-e_type file = number_in 2 16 file
+-- the file header (Elf64_Ehdr): each field's width and place
+pub record FileHeader : Type 0 where
+  -- the first four bytes of e_ident, EI_MAG0 to EI_MAG3
+  pub ei_mag : ℕ
+  pub ei_class : ℕ
+  pub ei_data : ℕ
+  pub ei_version : ℕ
+  pub e_type : ℕ
+  pub e_machine : ℕ
+  pub e_version : ℕ
+  pub e_phoff : ℕ
+  pub e_shoff : ℕ
+  pub e_phentsize : ℕ
+  pub e_phnum : ℕ
+  pub e_shentsize : ℕ
+  pub e_shnum : ℕ
+  pub e_shstrndx : ℕ
 
-unfoldable pub e_machine : List ℕ → ℕ
-e_machine file = number_in 2 18 file
-
-unfoldable pub e_phoff : List ℕ → ℕ
-e_phoff file = number_in 8 32 file
-
-unfoldable pub e_shoff : List ℕ → ℕ
-e_shoff file = number_in 8 40 file
-
-unfoldable pub e_phentsize : List ℕ → ℕ
-e_phentsize file = number_in 2 54 file
-
-unfoldable pub e_phnum : List ℕ → ℕ
-e_phnum file = number_in 2 56 file
-
-unfoldable pub e_shentsize : List ℕ → ℕ
-e_shentsize file = number_in 2 58 file
-
-unfoldable pub e_shnum : List ℕ → ℕ
-e_shnum file = number_in 2 60 file
-
-unfoldable pub e_shstrndx : List ℕ → ℕ
-e_shstrndx file = number_in 2 62 file
+unfoldable pub header_fields : List ℕ → FileHeader
+header_fields file = record {
+  ei_mag = number_in 4 0 file;
+  ei_class = number_in 1 4 file;
+  ei_data = number_in 1 5 file;
+  ei_version = number_in 1 6 file;
+  e_type = number_in 2 16 file;
+  e_machine = number_in 2 18 file;
+  e_version = number_in 4 20 file;
+  e_phoff = number_in 8 32 file;
+  e_shoff = number_in 8 40 file;
+  e_phentsize = number_in 2 54 file;
+  e_phnum = number_in 2 56 file;
+  e_shentsize = number_in 2 58 file;
+  e_shnum = number_in 2 60 file;
+  e_shstrndx = number_in 2 62 file;
+}
 
 -- ET_REL 1, ET_EXEC 2, ET_DYN 3, ET_CORE 4
 unfoldable pub kind_of : List ℕ → Kind
-kind_of file = if e_type file == 1 then Rel else (if e_type file == 2 then Exec else (if e_type file == 3 then Dyn else Core))
+kind_of file = if (header_fields file).e_type == 1 then Rel else (if (header_fields file).e_type == 2 then Exec else (if (header_fields file).e_type == 3 then Dyn else Core))
 
 abbrev pub is_core : List ℕ → Bool
-is_core file = e_type file == 4
+is_core file = (header_fields file).e_type == 4
 
 abbrev pub is_rel : List ℕ → Bool
-is_rel file = e_type file == 1
+is_rel file = (header_fields file).e_type == 1
 
 -- EM_X86_64 62, EM_AARCH64 183
 unfoldable pub arch_of : List ℕ → Arch
-arch_of file = if e_machine file == 62 then Amd64 else Aarch64
+arch_of file = if (header_fields file).e_machine == 62 then Amd64 else Aarch64
 
 -- the place of a program header
 abbrev pub program_header : List ℕ → ℕ → ℕ
-program_header file i = e_phoff file + 56 * i
+program_header file i = (header_fields file).e_phoff + 56 * i
 
 -- a field of a program header
 abbrev pub p_field : ℕ → ℕ → List ℕ → ℕ → ℕ
-p_field width place file i = number_in width (56 * i + place) (drop (e_phoff file) file)
+p_field width place file i = number_in width (56 * i + place) (drop (header_fields file).e_phoff file)
 
 unfoldable pub p_type : List ℕ → ℕ → ℕ
 p_type file i = p_field 4 0 file i

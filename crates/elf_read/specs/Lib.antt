@@ -8,6 +8,7 @@ pub mod Used
 pub mod Room
 pub mod Compressed
 pub mod Parsing
+pub mod InTurn
 pub mod Views
 pub mod FaultShown
 pub mod Zeros

@@ -12,6 +12,7 @@ use Rattle.elf_read.specs.Used.{is_used_rela, is_group}
 unfoldable pub is_read : List ℕ → ℕ → Bool
 is_read file i = is_eh_frame file i || (is_used_rela file i || is_group file i)
 
+-- ---- what the law `room_law` says
 -- how many of a section's bytes are read: all or none
 unfoldable pub read_size : List ℕ → ℕ → ℕ
 read_size file i = if is_read file i then length (section_bytes file i) else 0
@@ -21,11 +22,12 @@ unfoldable pub read_size_below : List ℕ → ℕ → ℕ
 read_size_below file zero = 0
 read_size_below file (suc n) = read_size_below file n + read_size file n
 
--- no byte is in two sections, so there is room in the file for those up to this one
-unfoldable pub room_check : List ℕ → ℕ → Check
-room_check file i = unless (nat_le (read_size_below file (suc i)) (length file)) (OutOfFile (section_header file i))
-
 -- what the sections that are read whole hold together, up to any of them, and what each of them holds
 pub record HasRoom (file : List ℕ) : Type 0 where
   pub together : (n : ℕ) → n ≤ section_count file → read_size_below file n ≤ length file
   pub entries : (i : ℕ) → is_used_rela file i ≡ true → entry_count file i ≡ read_size file i / 24
+
+-- ---- Inside the crate: the check in the order of the code
+-- no byte is in two sections, so there is room in the file for those up to this one
+unfoldable pub room_check : List ℕ → ℕ → Check
+room_check file i = unless (nat_le (read_size_below file (suc i)) (length file)) (OutOfFile (section_header file i))

@@ -1,10 +1,10 @@
--- The checks of the sections that are used: call frame information, its relocations, section groups, and
--- the symbol and string tables that these name (ELF64 gABI, "Relocation", "Section Groups", "Symbol Table").
+-- The sections that are used: call frame information, its relocations, section groups, and the symbol and string tables that these
+-- name (ELF64 gABI, "Relocation", "Section Groups", "Symbol Table").
 use Rattle.std.specs.Prelude.{ℕ, zero, suc, ◌+◌, ◌*◌, ◌%◌, ◌==◌, Bool, ◌&&◌, ◌||◌, not, List, Option, Some, None, Ok, Err, min, nat_lt, nat_le, if◌then◌else◌}
 use Rattle.elf_read.specs.declared.fault.ElfFault.TheVariants.{EntrySize, Strings, Compressed, SymbolIndex}
 use Rattle.elf_read.specs.Number.{has_text}
 use Rattle.elf_read.specs.Header.{is_rel}
-use Rattle.elf_read.specs.Sections.{section_header, sh_type, sh_offset, sh_size, sh_link, sh_info, sh_entsize, section_count, section_bytes, is_compressed, is_eh_frame, st_name, st_shndx, rela_symbol, group_member, member_count, entry_count}
+use Rattle.elf_read.specs.Sections.{section_header, section_fields, section_count, section_bytes, is_compressed, is_eh_frame, symbol_fields, rela_fields, group_member, member_count, entry_count}
 use Rattle.elf_read.specs.Checking.{unless, where_so, ◌>>◌, each_below}
 use Rattle.elf_read.specs.Checks.{Check, is_string_table}
 
@@ -14,20 +14,27 @@ names_eh_frame file i = nat_lt i (section_count file) && is_eh_frame file i
 
 -- an SHT_RELA section (4) of an object whose info names call frame information
 unfoldable pub is_used_rela : List ℕ → ℕ → Bool
-is_used_rela file i = is_rel file && (sh_type file i == 4) && names_eh_frame file (sh_info file i)
+is_used_rela file i = is_rel file && ((section_fields file i).sh_type == 4) && names_eh_frame file (section_fields file i).sh_info
 
 -- an SHT_GROUP section (17) of an object
 unfoldable pub is_group : List ℕ → ℕ → Bool
-is_group file i = is_rel file && (sh_type file i == 17)
+is_group file i = is_rel file && ((section_fields file i).sh_type == 17)
 
 -- a number of a section of type SHT_SYMTAB 2
 unfoldable pub is_symbol_table : List ℕ → ℕ → Bool
-is_symbol_table file i = nat_lt i (section_count file) && (sh_type file i == 2)
+is_symbol_table file i = nat_lt i (section_count file) && ((section_fields file i).sh_type == 2)
 
 -- whether a section is a table of entries of 24 bytes
 unfoldable pub is_entry_table : List ℕ → ℕ → Bool
-is_entry_table file i = (sh_entsize file i == 24) && (sh_size file i % 24 == 0)
+is_entry_table file i = ((section_fields file i).sh_entsize == 24) && ((section_fields file i).sh_size % 24 == 0)
 
+-- the lesser of two numbers, where there are some
+abbrev pub least : Option ℕ → Option ℕ → Option ℕ
+least None b = b
+least (Some a) None = Some a
+least (Some a) (Some b) = Some (min a b)
+
+-- ---- Inside the crate: the checks in the order of the code. `Parsing.antt` has them as a table
 -- whether a table has a symbol of this number
 unfoldable pub is_symbol : List ℕ → ℕ → ℕ → Bool
 is_symbol file table k = nat_lt k (entry_count file table)
@@ -35,9 +42,9 @@ is_symbol file table k = nat_lt k (entry_count file table)
 -- a relocation section's symbol table, its own entries, and that table's
 unfoldable pub rela_tables : List ℕ → ℕ → Check
 rela_tables file i =
-    unless (is_symbol_table file (sh_link file i)) (SymbolIndex (section_header file i))
+    unless (is_symbol_table file (section_fields file i).sh_link) (SymbolIndex (section_header file i))
     >> unless (is_entry_table file i) (EntrySize (section_header file i))
-    >> unless (is_entry_table file (sh_link file i)) (EntrySize (section_header file (sh_link file i)))
+    >> unless (is_entry_table file (section_fields file i).sh_link) (EntrySize (section_header file (section_fields file i).sh_link))
 
 unfoldable pub rela_check : List ℕ → ℕ → Check
 rela_check file i = where_so (is_used_rela file i) (rela_tables file i)
@@ -45,37 +52,31 @@ rela_check file i = where_so (is_used_rela file i) (rela_tables file i)
 -- the name of a group's symbol stands in its table's string table
 unfoldable pub has_signature : List ℕ → ℕ → Bool
 has_signature file i =
-    is_string_table file (sh_link file (sh_link file i))
-    && has_text (st_name file (sh_link file i) (sh_info file i)) (section_bytes file (sh_link file (sh_link file i)))
+    is_string_table file (section_fields file (section_fields file i).sh_link).sh_link
+    && has_text (symbol_fields file (section_fields file i).sh_link (section_fields file i).sh_info).st_name (section_bytes file (section_fields file (section_fields file i).sh_link).sh_link)
 
 -- whether a section is made of at least one word of 4 bytes
 unfoldable pub is_word_table : List ℕ → ℕ → Bool
-is_word_table file i = (sh_size file i % 4 == 0) && not (sh_size file i == 0)
+is_word_table file i = ((section_fields file i).sh_size % 4 == 0) && not ((section_fields file i).sh_size == 0)
 
 -- a group's size, its symbol table, its symbol, and the name of that
 unfoldable pub group_tables : List ℕ → ℕ → Check
 group_tables file i =
     unless (is_word_table file i) (EntrySize (section_header file i))
-    >> unless (is_symbol_table file (sh_link file i)) (SymbolIndex (section_header file i))
-    >> unless (is_entry_table file (sh_link file i)) (EntrySize (section_header file (sh_link file i)))
-    >> unless (is_symbol file (sh_link file i) (sh_info file i)) (SymbolIndex (section_header file i))
+    >> unless (is_symbol_table file (section_fields file i).sh_link) (SymbolIndex (section_header file i))
+    >> unless (is_entry_table file (section_fields file i).sh_link) (EntrySize (section_header file (section_fields file i).sh_link))
+    >> unless (is_symbol file (section_fields file i).sh_link (section_fields file i).sh_info) (SymbolIndex (section_header file i))
     >> unless (has_signature file i) (Strings (section_header file i))
 
 -- a member is the number of a section
 unfoldable pub member_check : List ℕ → ℕ → ℕ → Check
-member_check file i k = unless (nat_lt (group_member file i k) (section_count file)) (SymbolIndex (sh_offset file i + (4 * k + 4)))
+member_check file i k = unless (nat_lt (group_member file i k) (section_count file)) (SymbolIndex ((section_fields file i).sh_offset + (4 * k + 4)))
 
 unfoldable pub members_check : List ℕ → ℕ → Check
 members_check file i = each_below (member_count file i) (member_check file i)
 
 unfoldable pub group_check : List ℕ → ℕ → Check
 group_check file i = where_so (is_group file i) (group_tables file i >> members_check file i)
-
--- the lesser of two numbers, where there are some
-abbrev pub least : Option ℕ → Option ℕ → Option ℕ
-least None b = b
-least (Some a) None = Some a
-least (Some a) (Some b) = Some (min a b)
 
 -- this number, where it is used and names a compressed section
 unfoldable pub if_compressed : List ℕ → Bool → ℕ → Option ℕ
@@ -86,8 +87,8 @@ if_compressed file used i = if used then (if is_compressed file i then Some i el
 unfoldable pub compressed_by : List ℕ → ℕ → Option ℕ
 compressed_by file i =
     least (if_compressed file (is_eh_frame file i || (is_used_rela file i || is_group file i)) i)
-    (least (if_compressed file (is_used_rela file i || is_group file i) (sh_link file i))
-    (if_compressed file (is_group file i) (sh_link file (sh_link file i))))
+    (least (if_compressed file (is_used_rela file i || is_group file i) (section_fields file i).sh_link)
+    (if_compressed file (is_group file i) (section_fields file (section_fields file i).sh_link).sh_link))
 
 -- the least compressed section among those that are used because of the first n sections
 unfoldable pub least_compressed : List ℕ → ℕ → Option ℕ
@@ -108,11 +109,11 @@ is_section_number file index = nat_le 0xff00 index || nat_lt index (section_coun
 
 -- whether a table has a symbol of this number that lies in a section of the file or has a reserved index
 unfoldable pub is_sound_symbol : List ℕ → ℕ → ℕ → Bool
-is_sound_symbol file table k = is_symbol file table k && is_section_number file (st_shndx file table k)
+is_sound_symbol file table k = is_symbol file table k && is_section_number file (symbol_fields file table k).st_shndx
 
 -- an entry's symbol is sound
 unfoldable pub entry_check : List ℕ → ℕ → ℕ → Check
-entry_check file i k = unless (is_sound_symbol file (sh_link file i) (rela_symbol file i k)) (SymbolIndex (sh_offset file i + 24 * k))
+entry_check file i k = unless (is_sound_symbol file (section_fields file i).sh_link (rela_fields file i k).r_sym) (SymbolIndex ((section_fields file i).sh_offset + 24 * k))
 
 unfoldable pub entries_check : List ℕ → ℕ → Check
 entries_check file i = where_so (is_used_rela file i) (each_below (entry_count file i) (entry_check file i))

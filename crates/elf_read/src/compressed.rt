@@ -1,7 +1,7 @@
 //! No section that is used may be compressed.
 
 ghost use Rattle.std.specs.Prelude.{◌≡◌, ◌<◌, ◌^◌};
-ghost use Rattle.elf_read.specs.Header.{e_shoff as shoff};
+ghost use Rattle.elf_read.specs.Header.{header_fields};
 ghost use Rattle.elf_read.specs.Sections as fields;
 ghost use Rattle.elf_read.specs.Used as spec;
 
@@ -61,7 +61,7 @@ fn least_compressed(file: &[u8], count: u32) -> Option<u32>
 /// The first compressed section that is used, in order of number.
 #[tactic(auto, unfolding(crate::specs::Used::compressed_check))]
 pub fn check_compressed(file: &[u8], count: u32) -> Result<(), ElfFault>
-    requires headers { shoff file.now < 2 ^ 32 }
+    requires headers { (header_fields file.now).e_shoff < 2 ^ 32 }
     requires count { count ≡ fields.section_count file.now }
     ensures { result ≡ spec.compressed_check file.now }
 {

@@ -11,9 +11,9 @@ use crate::number::{u16_at, u32_at, u64_at};
 use crate::sections::{section_bytes, section_count};
 
 /// The place of a symbol's name in the string table of its table.
-#[tactic(auto, unfolding(crate::specs::Sections::st_name))]
+#[tactic(auto, unfolding(crate::specs::Sections::symbol_fields))]
 pub fn st_name(file: &[u8], table: u32, k: u32) -> u32
-    ensures { result ≡ spec.st_name file.now table k }
+    ensures { result ≡ (spec.symbol_fields file.now table k).st_name }
 {
     u32_at(
         section_bytes(file, table),
@@ -22,9 +22,9 @@ pub fn st_name(file: &[u8], table: u32, k: u32) -> u32
 }
 
 /// The number of a symbol's section, or a reserved index.
-#[tactic(auto, unfolding(crate::specs::Sections::st_shndx))]
+#[tactic(auto, unfolding(crate::specs::Sections::symbol_fields))]
 pub fn st_shndx(file: &[u8], table: u32, k: u32) -> u16
-    ensures { result ≡ spec.st_shndx file.now table k }
+    ensures { result ≡ (spec.symbol_fields file.now table k).st_shndx }
 {
     u16_at(
         section_bytes(file, table),
@@ -33,9 +33,9 @@ pub fn st_shndx(file: &[u8], table: u32, k: u32) -> u16
 }
 
 /// A symbol's value.
-#[tactic(auto, unfolding(crate::specs::Sections::st_value))]
+#[tactic(auto, unfolding(crate::specs::Sections::symbol_fields))]
 pub fn st_value(file: &[u8], table: u32, k: u32) -> u64
-    ensures { result ≡ spec.st_value file.now table k }
+    ensures { result ≡ (spec.symbol_fields file.now table k).st_value }
 {
     u64_at(
         section_bytes(file, table),
@@ -44,9 +44,9 @@ pub fn st_value(file: &[u8], table: u32, k: u32) -> u64
 }
 
 /// The number of the symbol that a relocation names.
-#[tactic(auto, unfolding(crate::specs::Sections::rela_symbol))]
+#[tactic(auto, unfolding(crate::specs::Sections::rela_fields))]
 pub fn rela_symbol(file: &[u8], i: u32, k: u32) -> u32
-    ensures { result ≡ spec.rela_symbol file.now i k }
+    ensures { result ≡ (spec.rela_fields file.now i k).r_sym }
 {
     u32_at(section_bytes(file, i), ENTRY_LEN * u64::from(k) + R_SYMBOL)
 }
@@ -66,7 +66,7 @@ pub fn group_member(file: &[u8], i: u32, k: u32) -> u32
 #[tactic(auto, unfolding(crate::specs::Sections::member_count))]
 pub fn member_count(file: &[u8], i: u32) -> u64
     ensures value { result ≡ spec.member_count file.now i }
-    ensures within { 0 < result → spec.sh_offset file.now i < length file.now }
+    ensures within { 0 < result → (spec.section_fields file.now i).sh_offset < length file.now }
     ensures small { result ≤ length file.now }
 {
     (section_bytes(file, i).len() as u64 / GROUP_WORD_LEN).saturating_sub(1)
@@ -76,7 +76,7 @@ pub fn member_count(file: &[u8], i: u32) -> u64
 #[tactic(auto, unfolding(crate::specs::Sections::entry_count))]
 pub fn entry_count(file: &[u8], i: u32) -> u64
     ensures value { result ≡ spec.entry_count file.now i }
-    ensures within { 0 < result → spec.sh_offset file.now i < length file.now }
+    ensures within { 0 < result → (spec.section_fields file.now i).sh_offset < length file.now }
     ensures small { result ≤ length file.now }
 {
     section_bytes(file, i).len() as u64 / ENTRY_LEN

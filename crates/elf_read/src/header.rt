@@ -13,73 +13,73 @@ use crate::number::{u16_at, u64_at};
 use sf_model::Arch;
 
 /// The file's type.
-#[tactic(auto, unfolding(crate::specs::Header::e_type))]
+#[tactic(auto, unfolding(crate::specs::Header::header_fields))]
 pub fn e_type(file: &[u8]) -> u16
-    ensures { result ≡ spec.e_type file.now }
+    ensures { result ≡ (spec.header_fields file.now).e_type }
 {
     u16_at(file, E_TYPE)
 }
 
 /// The machine.
-#[tactic(auto, unfolding(crate::specs::Header::e_machine))]
+#[tactic(auto, unfolding(crate::specs::Header::header_fields))]
 pub fn e_machine(file: &[u8]) -> u16
-    ensures { result ≡ spec.e_machine file.now }
+    ensures { result ≡ (spec.header_fields file.now).e_machine }
 {
     u16_at(file, E_MACHINE)
 }
 
 /// The place of the program headers.
-#[tactic(auto, unfolding(crate::specs::Header::e_phoff))]
+#[tactic(auto, unfolding(crate::specs::Header::header_fields))]
 pub fn e_phoff(file: &[u8]) -> u64
-    ensures { result ≡ spec.e_phoff file.now }
+    ensures { result ≡ (spec.header_fields file.now).e_phoff }
 {
     u64_at(file, E_PHOFF)
 }
 
 /// The place of the section headers.
-#[tactic(auto, unfolding(crate::specs::Header::e_shoff))]
+#[tactic(auto, unfolding(crate::specs::Header::header_fields))]
 pub fn e_shoff(file: &[u8]) -> u64
-    ensures { result ≡ spec.e_shoff file.now }
+    ensures { result ≡ (spec.header_fields file.now).e_shoff }
 {
     u64_at(file, E_SHOFF)
 }
 
 /// How many bytes a program header has.
-#[tactic(auto, unfolding(crate::specs::Header::e_phentsize))]
+#[tactic(auto, unfolding(crate::specs::Header::header_fields))]
 pub fn e_phentsize(file: &[u8]) -> u16
-    ensures { result ≡ spec.e_phentsize file.now }
+    ensures { result ≡ (spec.header_fields file.now).e_phentsize }
 {
     u16_at(file, E_PHENTSIZE)
 }
 
 /// How many program headers there are, or PN_XNUM.
-#[tactic(auto, unfolding(crate::specs::Header::e_phnum))]
+#[tactic(auto, unfolding(crate::specs::Header::header_fields))]
 pub fn e_phnum(file: &[u8]) -> u16
-    ensures { result ≡ spec.e_phnum file.now }
+    ensures { result ≡ (spec.header_fields file.now).e_phnum }
 {
     u16_at(file, E_PHNUM)
 }
 
 /// How many bytes a section header has.
-#[tactic(auto, unfolding(crate::specs::Header::e_shentsize))]
+#[tactic(auto, unfolding(crate::specs::Header::header_fields))]
 pub fn e_shentsize(file: &[u8]) -> u16
-    ensures { result ≡ spec.e_shentsize file.now }
+    ensures { result ≡ (spec.header_fields file.now).e_shentsize }
 {
     u16_at(file, E_SHENTSIZE)
 }
 
 /// How many section headers there are, or 0.
-#[tactic(auto, unfolding(crate::specs::Header::e_shnum))]
+#[tactic(auto, unfolding(crate::specs::Header::header_fields))]
 pub fn e_shnum(file: &[u8]) -> u16
-    ensures { result ≡ spec.e_shnum file.now }
+    ensures { result ≡ (spec.header_fields file.now).e_shnum }
 {
     u16_at(file, E_SHNUM)
 }
 
 /// The number of the section with the sections' names, or SHN_XINDEX.
-#[tactic(auto, unfolding(crate::specs::Header::e_shstrndx))]
+#[tactic(auto, unfolding(crate::specs::Header::header_fields))]
 pub fn e_shstrndx(file: &[u8]) -> u16
-    ensures { result ≡ spec.e_shstrndx file.now }
+    ensures { result ≡ (spec.header_fields file.now).e_shstrndx }
 {
     u16_at(file, E_SHSTRNDX)
 }

@@ -1,16 +1,17 @@
 //! Laws: which compressed section is refused, and how much the sections that are read hold together.
 
+ghost use Rattle.elf_read.specs.Checking.{first_broken};
 ghost use Rattle.elf_read.specs.Compressed.{NoneIsCompressed};
+ghost use Rattle.elf_read.specs.Parsing.{compressed_rules};
 ghost use Rattle.elf_read.specs.Room.{HasRoom};
-ghost use Rattle.elf_read.specs.Used.{compressed_check};
 ghost use Rattle.elf_read.specs.Views.{file};
 
 use crate::view::Elf;
 
-/// Says, by its contract alone, that a file passes the check of compressed sections exactly where none that is
+/// Says, by its contract alone, that a file passes the rows of compressed sections exactly where none that is
 /// used is compressed, and that the least number of those that are is refused. It does nothing.
 pub fn compressed_law(file: &[u8])
-    ensures { NoneIsCompressed file.now (compressed_check file.now) }
+    ensures { NoneIsCompressed file.now (first_broken (compressed_rules file.now)) }
 {}
 
 /// Says, by its contract alone, that the sections that are read whole, call frame information, its relocations and

@@ -3,7 +3,7 @@
 ghost use Rattle.std.specs.Prelude.{◌≡◌, ◌<◌, ◌≤◌, ◌+◌, ◌*◌, ◌^◌, length, OnOk};
 ghost use Rattle.elf_read.specs.Checks as spec;
 ghost use Rattle.elf_read.specs.Checking.{each_below};
-ghost use Rattle.elf_read.specs.Header.{e_shoff as shoff};
+ghost use Rattle.elf_read.specs.Header.{header_fields};
 ghost use Rattle.elf_read.specs.Number.{EndsTexts};
 ghost use Rattle.elf_read.specs.Sections as counts;
 
@@ -19,7 +19,7 @@ use crate::text::texts_end;
 // A section's bytes lie in the file.
 #[tactic(auto, unfolding(crate::specs::Checks::bytes_check))]
 fn check_bytes(file: &[u8], i: u32) -> Result<(), ElfFault>
-    requires { shoff file.now < 2 ^ 32 }
+    requires { (header_fields file.now).e_shoff < 2 ^ 32 }
     ensures { result ≡ spec.bytes_check file.now i }
 {
     if !has_bytes(file, i) {
@@ -33,7 +33,7 @@ fn check_bytes(file: &[u8], i: u32) -> Result<(), ElfFault>
 
 // The bytes of each section lie in the file.
 fn check_all_bytes(file: &[u8], count: u32) -> Result<(), ElfFault>
-    requires { shoff file.now < 2 ^ 32 }
+    requires { (header_fields file.now).e_shoff < 2 ^ 32 }
     ensures { result ≡ each_below count (spec.bytes_check file.now) }
 {
     for i in 0..count {
@@ -47,7 +47,7 @@ fn check_all_bytes(file: &[u8], count: u32) -> Result<(), ElfFault>
 pub fn check_sections(file: &[u8]) -> Result<(), ElfFault>
     requires { length file.now < 2 ^ 32 }
     ensures check { result ≡ spec.sections_check file.now }
-    ensures headers { OnOk result (shoff file.now + 64 * counts.section_count file.now ≤ length file.now) }
+    ensures headers { OnOk result ((header_fields file.now).e_shoff + 64 * counts.section_count file.now ≤ length file.now) }
 {
     let count = section_count(file);
     require(
@@ -68,7 +68,7 @@ pub fn is_string_table(file: &[u8], i: u32) -> bool
 // A section's name stands in the name table, whose texts end there.
 #[tactic(auto, unfolding(crate::specs::Checks::name_check))]
 fn check_name(file: &[u8], end: u64, i: u32) -> Result<(), ElfFault>
-    requires headers { shoff file.now < 2 ^ 32 }
+    requires headers { (header_fields file.now).e_shoff < 2 ^ 32 }
     requires end { EndsTexts (counts.section_bytes file.now (counts.name_table file.now)) end }
     ensures { result ≡ spec.name_check file.now i }
 {
@@ -80,7 +80,7 @@ fn check_name(file: &[u8], end: u64, i: u32) -> Result<(), ElfFault>
 
 // The name of each section stands in the name table.
 fn check_all_names(file: &[u8], count: u32) -> Result<(), ElfFault>
-    requires { shoff file.now < 2 ^ 32 }
+    requires { (header_fields file.now).e_shoff < 2 ^ 32 }
     ensures { result ≡ each_below count (spec.name_check file.now) }
 {
     let end = texts_end(section_bytes(file, name_table(file)));
@@ -102,7 +102,7 @@ fn has_names(file: &[u8]) -> bool
 #[tactic(auto, unfolding(crate::specs::Checks::names_check))]
 pub fn check_names(file: &[u8], count: u32) -> Result<(), ElfFault>
     requires count { count ≡ counts.section_count file.now }
-    requires small { shoff file.now < 2 ^ 32 }
+    requires small { (header_fields file.now).e_shoff < 2 ^ 32 }
     ensures { result ≡ spec.names_check file.now }
 {
     if !has_names(file) {

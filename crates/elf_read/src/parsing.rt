@@ -1,9 +1,10 @@
 //! All checks of a file, in their order.
 
 ghost use Rattle.std.specs.Prelude.{◌≡◌, ◌<◌, ◌^◌, length, OnOk};
-ghost use Rattle.elf_read.specs.Header.{e_shoff as shoff};
+ghost use Rattle.elf_read.specs.Header.{header_fields};
 ghost use Rattle.elf_read.specs.Sections as fields;
-ghost use Rattle.elf_read.specs.Parsing as spec;
+ghost use Rattle.elf_read.specs.InTurn as spec;
+ghost use Rattle.elf_read.specs.Parsing.{file_check};
 
 use crate::compressed::check_compressed;
 use crate::fault::ElfFault;
@@ -16,7 +17,7 @@ use crate::segments::check_core;
 use crate::used::{check_all_entries, check_groups, check_relas};
 
 // Section 0's header, where it is needed.
-#[tactic(auto, unfolding(crate::specs::Parsing::table_check))]
+#[tactic(auto, unfolding(crate::specs::InTurn::table_check))]
 fn check_table(file: &[u8]) -> Result<(), ElfFault>
     ensures { result ≡ spec.table_check file.now }
 {
@@ -27,10 +28,10 @@ fn check_table(file: &[u8]) -> Result<(), ElfFault>
 }
 
 // The sections that are used.
-#[tactic(auto, unfolding(crate::specs::Parsing::used_check))]
+#[tactic(auto, unfolding(crate::specs::InTurn::used_check))]
 fn check_used(file: &[u8], count: u32) -> Result<(), ElfFault>
     requires small { length file.now < 2 ^ 32 }
-    requires headers { shoff file.now < 2 ^ 32 }
+    requires headers { (header_fields file.now).e_shoff < 2 ^ 32 }
     requires count { count ≡ fields.section_count file.now }
     ensures { result ≡ spec.used_check file.now }
 {
@@ -42,12 +43,12 @@ fn check_used(file: &[u8], count: u32) -> Result<(), ElfFault>
 }
 
 // The segments of a core file, or the sections of another.
-#[tactic(auto, unfolding(crate::specs::Parsing::content_check, crate::specs::Sections::section_count))]
+#[tactic(auto, unfolding(crate::specs::InTurn::content_check, crate::specs::Sections::section_count))]
 fn check_content(file: &[u8]) -> Result<(), ElfFault>
     requires { length file.now < 2 ^ 32 }
     ensures check { result ≡ spec.content_check file.now }
     ensures count { OnOk result (fields.section_count file.now < 2 ^ 32) }
-    ensures headers { OnOk result (0 < fields.section_count file.now → shoff file.now < 2 ^ 32) }
+    ensures headers { OnOk result (0 < fields.section_count file.now → (header_fields file.now).e_shoff < 2 ^ 32) }
 {
     if is_core_file(file) {
         return check_core(file);
@@ -58,16 +59,26 @@ fn check_content(file: &[u8]) -> Result<(), ElfFault>
     check_used(file, count)
 }
 
-/// All checks of a file: the first that fails is its fault.
-#[tactic(auto, unfolding(crate::specs::Parsing::file_check))]
-pub fn check_file(file: &[u8]) -> Result<(), ElfFault>
+// The checks one after the other.
+#[tactic(auto, unfolding(crate::specs::InTurn::checks_in_turn))]
+fn check_in_turn(file: &[u8]) -> Result<(), ElfFault>
     requires { length file.now < 2 ^ 32 }
-    ensures check { result ≡ spec.file_check file.now }
+    ensures check { result ≡ spec.checks_in_turn file.now }
     ensures count { OnOk result (fields.section_count file.now < 2 ^ 32) }
-    ensures headers { OnOk result (0 < fields.section_count file.now → shoff file.now < 2 ^ 32) }
+    ensures headers { OnOk result (0 < fields.section_count file.now → (header_fields file.now).e_shoff < 2 ^ 32) }
 {
     check_identity(file)?;
     check_purpose(file)?;
     check_table(file)?;
     check_content(file)
+}
+
+/// Checks all that is asked of a file: the first row that it breaks gives the fault.
+pub fn check_file(file: &[u8]) -> Result<(), ElfFault>
+    requires { length file.now < 2 ^ 32 }
+    ensures check { result ≡ file_check file.now }
+    ensures count { OnOk result (fields.section_count file.now < 2 ^ 32) }
+    ensures headers { OnOk result (0 < fields.section_count file.now → (header_fields file.now).e_shoff < 2 ^ 32) }
+{
+    check_in_turn(file)
 }

@@ -2,7 +2,7 @@
 
 ghost use Rattle.std.specs.Prelude.{◌≡◌, ◌<◌, ◌^◌, drop};
 ghost use Rattle.elf_read.specs.Header as spec;
-ghost use Rattle.elf_read.specs.Header.{e_phoff as phoff, program_header};
+ghost use Rattle.elf_read.specs.Header.{header_fields, program_header};
 
 use crate::header::e_phoff;
 use crate::layout::{P_FILESZ, P_OFFSET, P_TYPE, P_VADDR, PROGRAM_HEADER_LEN};
@@ -10,14 +10,14 @@ use crate::number::{bytes_from, u32_at, u64_at};
 
 // The program headers, and what stands after them.
 fn headers(file: &[u8]) -> &[u8]
-    ensures { result.now ≡ drop (phoff file.now) file.now }
+    ensures { result.now ≡ drop (header_fields file.now).e_phoff file.now }
 {
     bytes_from(file, e_phoff(file))
 }
 
 /// The place of a program header.
 pub fn header_place(file: &[u8], i: u32) -> u64
-    requires { phoff file.now < 2 ^ 32 }
+    requires { (header_fields file.now).e_phoff < 2 ^ 32 }
     ensures { result ≡ program_header file.now i }
 {
     e_phoff(file) + PROGRAM_HEADER_LEN * u64::from(i)

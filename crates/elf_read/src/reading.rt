@@ -47,12 +47,12 @@ pub fn symbol_at(file: &[u8], table: u32, k: u32) -> Symbol
 }
 
 /// An entry of a relocation section.
-#[tactic(auto, unfolding(crate::specs::Views::rela_offset, crate::specs::Views::rela_type, crate::specs::Views::rela_addend))]
+#[tactic(auto, unfolding(crate::specs::Sections::rela_fields))]
 pub fn rela_at(file: &[u8], i: u32, k: u32) -> Rela
-    ensures offset { result.offset ≡ spec.rela_offset file.now i k }
-    ensures symbol { result.symbol ≡ fields.rela_symbol file.now i k }
-    ensures kind { result.kind ≡ spec.rela_type file.now i k }
-    ensures addend { result.addend ≡ spec.rela_addend file.now i k }
+    ensures offset { result.offset ≡ (fields.rela_fields file.now i k).r_offset }
+    ensures symbol { result.symbol ≡ (fields.rela_fields file.now i k).r_sym }
+    ensures kind { result.kind ≡ (fields.rela_fields file.now i k).r_type }
+    ensures addend { result.addend ≡ (fields.rela_fields file.now i k).r_addend }
 {
     let bytes = section_bytes(file, i);
     let place = ENTRY_LEN * u64::from(k);
@@ -111,7 +111,7 @@ fn names_section(file: &[u8], index: u16) -> bool
 }
 
 // The name of a symbol, or where that is empty the name of its section.
-#[tactic(auto, unfolding(crate::specs::Views::symbol_text))]
+#[tactic(auto, unfolding(crate::specs::Views::symbol_text, crate::specs::Views::symbol_name))]
 fn symbol_text(file: &[u8], table: u32, k: u32) -> Text<'_>
     requires { length file.now < 2 ^ 32 }
     ensures text { spec.text_bytes result ≡ spec.symbol_text file.now table k }
@@ -135,7 +135,7 @@ fn is_comdat(file: &[u8], i: u32) -> bool
 }
 
 /// The head of a section group.
-#[tactic(auto, unfolding(crate::specs::Views::group_of))]
+#[tactic(auto, unfolding(crate::specs::Views::group_of, crate::specs::Views::is_comdat))]
 pub fn group_at(file: &[u8], i: u32) -> Option<GroupHead<'_>>
     requires { length file.now < 2 ^ 32 }
     ensures group { option_map spec.group_view result ≡ spec.group_of file.now i }

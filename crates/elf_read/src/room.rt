@@ -2,7 +2,7 @@
 
 ghost use Rattle.std.specs.Prelude.{◌≡◌, ◌<◌, ◌≤◌, ◌^◌, length};
 ghost use Rattle.elf_read.specs.Checking.{each_below};
-ghost use Rattle.elf_read.specs.Header.{e_shoff as shoff};
+ghost use Rattle.elf_read.specs.Header.{header_fields};
 ghost use Rattle.elf_read.specs.Room as spec;
 
 use crate::check::require;
@@ -35,7 +35,7 @@ fn read_size(file: &[u8], i: u32) -> u64
 /// The room in the file for each of the first `count` sections that is read whole, after those before it.
 pub fn check_room(file: &[u8], count: u32) -> Result<(), ElfFault>
     requires small { length file.now < 2 ^ 32 }
-    requires headers { shoff file.now < 2 ^ 32 }
+    requires headers { (header_fields file.now).e_shoff < 2 ^ 32 }
     ensures { result ≡ each_below count (spec.room_check file.now) }
 {
     let mut taken = 0;

@@ -1,7 +1,7 @@
 //! Section headers.
 
 ghost use Rattle.std.specs.Prelude.{◌≡◌, ◌<◌, ◌^◌, drop};
-ghost use Rattle.elf_read.specs.Header.{e_shoff as shoff};
+ghost use Rattle.elf_read.specs.Header.{header_fields};
 ghost use Rattle.elf_read.specs.Sections as spec;
 ghost use Rattle.elf_read.specs.Sections.{section_header};
 
@@ -14,87 +14,87 @@ use crate::number::{bytes_from, u32_at, u64_at};
 
 // The section headers, and what stands after them.
 fn headers(file: &[u8]) -> &[u8]
-    ensures { result.now ≡ drop (shoff file.now) file.now }
+    ensures { result.now ≡ drop (header_fields file.now).e_shoff file.now }
 {
     bytes_from(file, e_shoff(file))
 }
 
 /// The place of a section's header.
 pub fn header_place(file: &[u8], i: u32) -> u64
-    requires { shoff file.now < 2 ^ 32 }
+    requires { (header_fields file.now).e_shoff < 2 ^ 32 }
     ensures { result ≡ section_header file.now i }
 {
     e_shoff(file) + SECTION_HEADER_LEN * u64::from(i)
 }
 
 /// The place of its name in the name table.
-#[tactic(auto, unfolding(crate::specs::Sections::sh_name))]
+#[tactic(auto, unfolding(crate::specs::Sections::section_fields))]
 pub fn sh_name(file: &[u8], i: u32) -> u32
-    ensures { result ≡ spec.sh_name file.now i }
+    ensures { result ≡ (spec.section_fields file.now i).sh_name }
 {
     u32_at(headers(file), SECTION_HEADER_LEN * u64::from(i) + SH_NAME)
 }
 
 /// Its type.
-#[tactic(auto, unfolding(crate::specs::Sections::sh_type))]
+#[tactic(auto, unfolding(crate::specs::Sections::section_fields))]
 pub fn sh_type(file: &[u8], i: u32) -> u32
-    ensures { result ≡ spec.sh_type file.now i }
+    ensures { result ≡ (spec.section_fields file.now i).sh_type }
 {
     u32_at(headers(file), SECTION_HEADER_LEN * u64::from(i) + SH_TYPE)
 }
 
 /// Its flags.
-#[tactic(auto, unfolding(crate::specs::Sections::sh_flags))]
+#[tactic(auto, unfolding(crate::specs::Sections::section_fields))]
 pub fn sh_flags(file: &[u8], i: u32) -> u64
-    ensures { result ≡ spec.sh_flags file.now i }
+    ensures { result ≡ (spec.section_fields file.now i).sh_flags }
 {
     u64_at(headers(file), SECTION_HEADER_LEN * u64::from(i) + SH_FLAGS)
 }
 
 /// Its address.
-#[tactic(auto, unfolding(crate::specs::Sections::sh_addr))]
+#[tactic(auto, unfolding(crate::specs::Sections::section_fields))]
 pub fn sh_addr(file: &[u8], i: u32) -> u64
-    ensures { result ≡ spec.sh_addr file.now i }
+    ensures { result ≡ (spec.section_fields file.now i).sh_addr }
 {
     u64_at(headers(file), SECTION_HEADER_LEN * u64::from(i) + SH_ADDR)
 }
 
 /// The place of its bytes in the file.
-#[tactic(auto, unfolding(crate::specs::Sections::sh_offset))]
+#[tactic(auto, unfolding(crate::specs::Sections::section_fields))]
 pub fn sh_offset(file: &[u8], i: u32) -> u64
-    ensures { result ≡ spec.sh_offset file.now i }
+    ensures { result ≡ (spec.section_fields file.now i).sh_offset }
 {
     u64_at(headers(file), SECTION_HEADER_LEN * u64::from(i) + SH_OFFSET)
 }
 
 /// How many bytes it has.
-#[tactic(auto, unfolding(crate::specs::Sections::sh_size))]
+#[tactic(auto, unfolding(crate::specs::Sections::section_fields))]
 pub fn sh_size(file: &[u8], i: u32) -> u64
-    ensures { result ≡ spec.sh_size file.now i }
+    ensures { result ≡ (spec.section_fields file.now i).sh_size }
 {
     u64_at(headers(file), SECTION_HEADER_LEN * u64::from(i) + SH_SIZE)
 }
 
 /// The number of the section that it is linked to.
-#[tactic(auto, unfolding(crate::specs::Sections::sh_link))]
+#[tactic(auto, unfolding(crate::specs::Sections::section_fields))]
 pub fn sh_link(file: &[u8], i: u32) -> u32
-    ensures { result ≡ spec.sh_link file.now i }
+    ensures { result ≡ (spec.section_fields file.now i).sh_link }
 {
     u32_at(headers(file), SECTION_HEADER_LEN * u64::from(i) + SH_LINK)
 }
 
 /// What its type says.
-#[tactic(auto, unfolding(crate::specs::Sections::sh_info))]
+#[tactic(auto, unfolding(crate::specs::Sections::section_fields))]
 pub fn sh_info(file: &[u8], i: u32) -> u32
-    ensures { result ≡ spec.sh_info file.now i }
+    ensures { result ≡ (spec.section_fields file.now i).sh_info }
 {
     u32_at(headers(file), SECTION_HEADER_LEN * u64::from(i) + SH_INFO)
 }
 
 /// Its alignment.
-#[tactic(auto, unfolding(crate::specs::Sections::sh_addralign))]
+#[tactic(auto, unfolding(crate::specs::Sections::section_fields))]
 pub fn sh_addralign(file: &[u8], i: u32) -> u64
-    ensures { result ≡ spec.sh_addralign file.now i }
+    ensures { result ≡ (spec.section_fields file.now i).sh_addralign }
 {
     u64_at(
         headers(file),
@@ -103,9 +103,9 @@ pub fn sh_addralign(file: &[u8], i: u32) -> u64
 }
 
 /// How many bytes its entries have.
-#[tactic(auto, unfolding(crate::specs::Sections::sh_entsize))]
+#[tactic(auto, unfolding(crate::specs::Sections::section_fields))]
 pub fn sh_entsize(file: &[u8], i: u32) -> u64
-    ensures { result ≡ spec.sh_entsize file.now i }
+    ensures { result ≡ (spec.section_fields file.now i).sh_entsize }
 {
     u64_at(
         headers(file),

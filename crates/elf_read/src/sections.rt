@@ -28,7 +28,7 @@ fn section_total(file: &[u8]) -> u64
 }
 
 /// The number of sections. Those of a core file aren't read.
-#[tactic(auto, unfolding(crate::specs::Sections::section_count))]
+#[tactic(auto, unfolding(crate::specs::Sections::section_count, crate::specs::Sections::section_total))]
 pub fn section_count(file: &[u8]) -> u64
     ensures { result ≡ spec.section_count file.now }
 {
@@ -74,7 +74,7 @@ pub fn has_bytes(file: &[u8], i: u32) -> bool
 #[tactic(auto, unfolding(crate::specs::Sections::section_bytes))]
 pub fn section_bytes(file: &[u8], i: u32) -> &[u8]
     ensures bytes { result.now ≡ spec.section_bytes file.now i }
-    ensures within { 0 < length result.now → spec.sh_offset file.now i < length file.now }
+    ensures within { 0 < length result.now → (spec.section_fields file.now i).sh_offset < length file.now }
     ensures small { length result.now ≤ length file.now }
 {
     if has_bytes(file, i) {

@@ -3,7 +3,7 @@
 ghost use Rattle.std.specs.Prelude.{◌≡◌, ◌<◌, ◌^◌, IfOk, length};
 ghost use Rattle.elf_read.specs.Checks as spec;
 ghost use Rattle.elf_read.specs.Checking.{each_below};
-ghost use Rattle.elf_read.specs.Header.{e_phoff as phoff};
+ghost use Rattle.elf_read.specs.Header.{header_fields};
 ghost use Rattle.elf_read.specs.Checking.{verdict};
 ghost use Rattle.elf_read.specs.Sections.{segment_total as total};
 
@@ -18,7 +18,7 @@ use crate::sections::segment_total;
 // A segment's bytes lie in the file.
 #[tactic(auto, unfolding(crate::specs::Checks::segment_check))]
 fn check_segment(file: &[u8], i: u32) -> Result<(), ElfFault>
-    requires { phoff file.now < 2 ^ 32 }
+    requires { (header_fields file.now).e_phoff < 2 ^ 32 }
     ensures { result ≡ spec.segment_check file.now i }
 {
     require(
@@ -29,7 +29,7 @@ fn check_segment(file: &[u8], i: u32) -> Result<(), ElfFault>
 
 // The bytes of each segment lie in the file.
 fn check_segments(file: &[u8], count: u32) -> Result<(), ElfFault>
-    requires { phoff file.now < 2 ^ 32 }
+    requires { (header_fields file.now).e_phoff < 2 ^ 32 }
     ensures { result ≡ each_below count (spec.segment_check file.now) }
 {
     for i in 0..count {

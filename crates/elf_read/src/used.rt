@@ -2,7 +2,7 @@
 
 ghost use Rattle.std.specs.Prelude.{◌≡◌, ◌<◌, ◌^◌, length};
 ghost use Rattle.elf_read.specs.Checking.{each_below};
-ghost use Rattle.elf_read.specs.Header.{e_shoff as shoff};
+ghost use Rattle.elf_read.specs.Header.{header_fields};
 ghost use Rattle.elf_read.specs.Sections as fields;
 ghost use Rattle.elf_read.specs.Used as spec;
 ghost use Rattle.elf_read.specs.Zeros.{AreZeros};
@@ -64,7 +64,7 @@ fn is_entry_table(file: &[u8], i: u32) -> bool
 // A relocation section's symbol table, its own entries, and that table's.
 #[tactic(auto, unfolding(crate::specs::Used::rela_tables))]
 fn check_rela_tables(file: &[u8], i: u32) -> Result<(), ElfFault>
-    requires { shoff file.now < 2 ^ 32 }
+    requires { (header_fields file.now).e_shoff < 2 ^ 32 }
     ensures { result ≡ spec.rela_tables file.now i }
 {
     let header = header_place(file, i);
@@ -80,7 +80,7 @@ fn check_rela_tables(file: &[u8], i: u32) -> Result<(), ElfFault>
 // The same where the section is used.
 #[tactic(auto, unfolding(crate::specs::Used::rela_check))]
 fn check_rela(file: &[u8], i: u32) -> Result<(), ElfFault>
-    requires { shoff file.now < 2 ^ 32 }
+    requires { (header_fields file.now).e_shoff < 2 ^ 32 }
     ensures { result ≡ spec.rela_check file.now i }
 {
     if !is_used_rela(file, i) {
@@ -91,7 +91,7 @@ fn check_rela(file: &[u8], i: u32) -> Result<(), ElfFault>
 
 /// The tables of each relocation section that is used.
 pub fn check_relas(file: &[u8], count: u32) -> Result<(), ElfFault>
-    requires { shoff file.now < 2 ^ 32 }
+    requires { (header_fields file.now).e_shoff < 2 ^ 32 }
     ensures { result ≡ each_below count (spec.rela_check file.now) }
 {
     for i in 0..count {
@@ -126,7 +126,7 @@ fn is_word_table(file: &[u8], i: u32) -> bool
 #[tactic(auto, unfolding(crate::specs::Used::group_tables))]
 fn check_group_tables(file: &[u8], zeros: &Zeros, i: u32) -> Result<(), ElfFault>
     requires small { length file.now < 2 ^ 32 }
-    requires headers { shoff file.now < 2 ^ 32 }
+    requires headers { (header_fields file.now).e_shoff < 2 ^ 32 }
     requires zeros { AreZeros file.now zeros.now }
     ensures { result ≡ spec.group_tables file.now i }
 {
@@ -148,7 +148,7 @@ fn check_group_tables(file: &[u8], zeros: &Zeros, i: u32) -> Result<(), ElfFault
 // A member is the number of a section.
 #[tactic(auto, unfolding(crate::specs::Used::member_check))]
 fn check_member(file: &[u8], i: u32, k: u32) -> Result<(), ElfFault>
-    requires { fields.sh_offset file.now i < 2 ^ 32 }
+    requires { (fields.section_fields file.now i).sh_offset < 2 ^ 32 }
     ensures { result ≡ spec.member_check file.now i k }
 {
     let place = sh_offset(file, i) + (GROUP_WORD_LEN * u64::from(k) + GROUP_WORD_LEN);
@@ -160,7 +160,7 @@ fn check_member(file: &[u8], i: u32, k: u32) -> Result<(), ElfFault>
 
 // The members of a group are numbers of sections.
 fn check_members_upto(file: &[u8], i: u32, count: u32) -> Result<(), ElfFault>
-    requires { 0 < count → fields.sh_offset file.now i < 2 ^ 32 }
+    requires { 0 < count → (fields.section_fields file.now i).sh_offset < 2 ^ 32 }
     ensures { result ≡ each_below count (spec.member_check file.now i) }
 {
     for k in 0..count {
@@ -173,7 +173,7 @@ fn check_members_upto(file: &[u8], i: u32, count: u32) -> Result<(), ElfFault>
 #[tactic(auto, unfolding(crate::specs::Used::group_check, crate::specs::Used::members_check))]
 fn check_group(file: &[u8], zeros: &Zeros, i: u32) -> Result<(), ElfFault>
     requires small { length file.now < 2 ^ 32 }
-    requires headers { shoff file.now < 2 ^ 32 }
+    requires headers { (header_fields file.now).e_shoff < 2 ^ 32 }
     requires zeros { AreZeros file.now zeros.now }
     ensures { result ≡ spec.group_check file.now i }
 {
@@ -187,7 +187,7 @@ fn check_group(file: &[u8], zeros: &Zeros, i: u32) -> Result<(), ElfFault>
 /// Each section group.
 pub fn check_groups(file: &[u8], count: u32) -> Result<(), ElfFault>
     requires small { length file.now < 2 ^ 32 }
-    requires headers { shoff file.now < 2 ^ 32 }
+    requires headers { (header_fields file.now).e_shoff < 2 ^ 32 }
     ensures { result ≡ each_below count (spec.group_check file.now) }
 {
     let zeros = Zeros::of_tables(file, count);
@@ -200,7 +200,7 @@ pub fn check_groups(file: &[u8], count: u32) -> Result<(), ElfFault>
 // A relocation's symbol is in the table, and lies in a section of the file or has a reserved index.
 #[tactic(auto, unfolding(crate::specs::Used::entry_check))]
 fn check_entry(file: &[u8], i: u32, k: u32) -> Result<(), ElfFault>
-    requires { fields.sh_offset file.now i < 2 ^ 32 }
+    requires { (fields.section_fields file.now i).sh_offset < 2 ^ 32 }
     ensures { result ≡ spec.entry_check file.now i k }
 {
     let place = sh_offset(file, i) + ENTRY_LEN * u64::from(k);
@@ -212,7 +212,7 @@ fn check_entry(file: &[u8], i: u32, k: u32) -> Result<(), ElfFault>
 
 // The symbols of a section's relocations.
 fn check_entries_upto(file: &[u8], i: u32, count: u32) -> Result<(), ElfFault>
-    requires { 0 < count → fields.sh_offset file.now i < 2 ^ 32 }
+    requires { 0 < count → (fields.section_fields file.now i).sh_offset < 2 ^ 32 }
     ensures { result ≡ each_below count (spec.entry_check file.now i) }
 {
     for k in 0..count {

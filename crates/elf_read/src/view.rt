@@ -1,7 +1,7 @@
 //! A file that was checked.
 
 ghost use Rattle.std.specs.Prelude.{◌<◌, ◌^◌, length, IsTrue, is_ok};
-ghost use Rattle.elf_read.specs.Header.{e_shoff as shoff};
+ghost use Rattle.elf_read.specs.Header.{header_fields};
 ghost use Rattle.elf_read.specs.Parsing.{file_check};
 ghost use Rattle.elf_read.specs.Sections.{section_count as count_of};
 
@@ -20,7 +20,7 @@ pub struct Elf<'a> {
     bytes: &'a [u8],
     ghost small: { length bytes.now < 2 ^ 32 },
     ghost counted: { count_of bytes.now < 2 ^ 32 },
-    ghost headers: { 0 < count_of bytes.now → shoff bytes.now < 2 ^ 32 },
+    ghost headers: { 0 < count_of bytes.now → (header_fields bytes.now).e_shoff < 2 ^ 32 },
     ghost checked: { IsTrue (is_ok (file_check bytes.now)) },
 }
 
@@ -34,7 +34,7 @@ impl<'a> Elf<'a> {
     ghost use Rattle.elf_read.specs.Checking.{verdict};
     ghost use Rattle.elf_read.specs.Sections as fields;
     ghost use Rattle.elf_read.specs.SegmentFields as segment_spec;
-    ghost use Rattle.elf_read.specs.Views.{file, section_of, segment_bytes, symbol_of, rela_offset, rela_type, rela_addend, group_view, group_of};
+    ghost use Rattle.elf_read.specs.Views.{file, section_of, segment_bytes, symbol_of, group_view, group_of};
 
     /// Checks a file: the header, then the segments of a core file, or else the section headers, the
     /// sections' names, and the sections that are used (call frame information, its relocations and section
@@ -192,10 +192,10 @@ impl<'a> Elf<'a> {
 
     /// Entry `k` of the relocation section `i`.
     pub fn rela(&self, i: u32, k: u32) -> Rela
-        ensures offset { result.offset ≡ rela_offset (file self.now) i k }
-        ensures symbol { result.symbol ≡ fields.rela_symbol (file self.now) i k }
-        ensures kind { result.kind ≡ rela_type (file self.now) i k }
-        ensures addend { result.addend ≡ rela_addend (file self.now) i k }
+        ensures offset { result.offset ≡ (fields.rela_fields (file self.now) i k).r_offset }
+        ensures symbol { result.symbol ≡ (fields.rela_fields (file self.now) i k).r_sym }
+        ensures kind { result.kind ≡ (fields.rela_fields (file self.now) i k).r_type }
+        ensures addend { result.addend ≡ (fields.rela_fields (file self.now) i k).r_addend }
     {
         reading::rela_at(self.bytes, i, k)
     }

@@ -3,10 +3,10 @@ use Rattle.std.specs.Prelude.{◌&&◌, ◌==◌}
 use Rattle.std.proofs.Common.{◌≡◌, ℕ, zero, suc, ◌+◌, ◌*◌, ◌<◌, ◌≤◌, ◌^◌, Bool, true, false, IsTrue, List, [], ◌∷◌, ◌++◌, length, Ok, Err, refl, sym, ap, subst, ◌∙◌, arith, if◌then◌else◌}
 use Rattle.elf_read.specs.Header.{is_rel}
 use Rattle.elf_read.specs.Room.{read_size, read_size_below, HasRoom}
-use Rattle.elf_read.specs.Sections.{section_count, sh_type, sh_info, entry_count}
+use Rattle.elf_read.specs.Sections.{section_count, section_fields, entry_count}
 use Rattle.elf_read.specs.Used.{names_eh_frame, is_used_rela}
 use Rattle.elf_read.proofs.ReadSizes.{read_size_below-none, read_size_below-more}
-use Rattle.elf_place.specs.Place.{with_one}
+use Rattle.elf_place.proofs.Numbers.{with_one, filter_none, filter_suc}
 use Rattle.elf_place.specs.Relocations.{may_relocate, has_relocations, is_relocation_section, relocation_sections_below, relocation_sections}
 use Rattle.elf_reloc.specs.declared.fault.RelocFault.TheVariants.{RelSection}
 use Rattle.elf_reloc.specs.Reading.{Relocation, relocations_in, rel_check, has_addends}
@@ -25,7 +25,7 @@ relocations_with file (s ∷ sections) i =
     omega (arith, all, before, rest)
 
 checked_with : (file : List ℕ) (sections : List ℕ) (i : ℕ) → rel_check file (sections ++ i ∷ []) ≡ Ok tt → (rel_check file sections ≡ Ok tt) × (has_addends file i ≡ true)
-unfolding rel_check
+unfolding rel_check has_addends
 checked_with file [] i h = (refl, at_once (has_addends file i) refl h)
   where
     at_once : (b : Bool) → has_addends file i ≡ b → (if b then rel_check file [] else Err (RelSection i)) ≡ Ok tt → has_addends file i ≡ true
@@ -51,16 +51,16 @@ both a b c p q r = rw (p, q, r) refl
 holds_rela : (file : List ℕ) (target i : ℕ) → is_rel file ≡ true → has_addends file i ≡ true → is_relocation_section file target i ≡ true → is_used_rela file i ≡ true
 unfolding is_used_rela has_addends is_relocation_section has_relocations
 holds_rela file target i object addends applied =
-    both (is_rel file) (sh_type file i == 4) (names_eh_frame file (sh_info file i)) object addends
-    (second (may_relocate file i) (names_eh_frame file (sh_info file i)) (sh_info file i == target) applied)
+    both (is_rel file) ((section_fields file i).sh_type == 4) (names_eh_frame file (section_fields file i).sh_info) object addends
+    (second (may_relocate file i) (names_eh_frame file (section_fields file i).sh_info) ((section_fields file i).sh_info == target) applied)
 
 no_sections : (file : List ℕ) (target : ℕ) → length (relocations_in file (relocation_sections_below file target 0)) ≡ 0
-unfolding relocation_sections_below
-no_sections file target = ap (λ (rs : List Relocation). length rs) (relocations_in-none file)
+no_sections file target =
+    ap (λ (ns : List ℕ). length (relocations_in file ns)) (filter_none (is_relocation_section file target))
+    ∙ ap (λ (rs : List Relocation). length rs) (relocations_in-none file)
 
 one_more : (file : List ℕ) (target n : ℕ) → relocation_sections_below file target (suc n) ≡ with_one (is_relocation_section file target n) n (relocation_sections_below file target n)
-unfolding relocation_sections_below
-one_more file target n = refl
+one_more file target n = filter_suc (is_relocation_section file target) n
 
 few_below : (file : List ℕ) (target n : ℕ) → is_rel file ≡ true → HasRoom file → rel_check file (relocation_sections_below file target n) ≡ Ok tt
     → 24 * length (relocations_in file (relocation_sections_below file target n)) ≤ read_size_below file n

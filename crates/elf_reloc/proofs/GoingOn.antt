@@ -54,7 +54,7 @@ unfolding rel_check
 rel_check-none file = refl
 
 pub rel_check-first : (file : List ℕ) (i : ℕ) (sections : List ℕ) → rel_check file (i ∷ sections) ≡ (if has_addends file i then rel_check file sections else Err (RelSection i))
-unfolding rel_check
+unfolding rel_check has_addends
 rel_check-first file i sections = refl
 
 -- ---- what they write

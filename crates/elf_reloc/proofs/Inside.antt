@@ -141,7 +141,7 @@ state_cases p section t false h =
     subst (λ (fs : List RelocatedField). All (IsInside (length (section_bytes p.file section))) fs) (state_is [] t h) (All-nil (IsInside (length (section_bytes p.file section))))
 
 pub read_inside : (p : Placing) (section : ℕ) (t : State) → section_state p section ≡ Ok t → All (IsInside (length (section_bytes p.file section))) t.fixes
-unfolding section_state
+unfolding section_state object_fixes
 read_inside p section t h = state_cases p section t (is_rel p.file) h
 
 pub from_all : (len : ℕ) (fs : List RelocatedField) → All (IsInside len) fs → AreInside len fs

@@ -33,16 +33,13 @@ pub record Slot : Type 0 where
 abbrev pub slot_of : Field → Slot
 slot_of g = record { place = g.place; width = g.width }
 
-abbrev pub slot_place : Slot → ℕ
-slot_place g = g.place
-
 abbrev pub has_slot_width : RelocatedField → Option Slot → Bool
 has_slot_width f None = false
 has_slot_width f (Some g) = g.width == width_of f.range
 
 -- what is written is a pointer field, at its place and of its width
 abbrev pub is_slot : List Slot → RelocatedField → Bool
-is_slot slots f = has_slot_width f (first_at slot_place f.place slots)
+is_slot slots f = has_slot_width f (first_at (λ (g : Slot). g.place) f.place slots)
 
 -- the first by place that isn't
 unfoldable pub slot_check : List Slot → List RelocatedField → Result (Unit {0}) RelocFault
@@ -81,3 +78,7 @@ applied_to p section slots = do
   _ ← overlap_check 0 (by_place state.fixes)
   _ ← slot_check slots (by_place state.fixes)
   Ok (applied_of (by_place state.fixes) (section_bytes p.file section) slots)
+
+-- ---- Inside the crate
+abbrev pub slot_place : Slot → ℕ
+slot_place g = g.place

@@ -2,11 +2,11 @@
 -- bits of each known value stand in the place of its field.
 use Rattle.std.specs.Prelude.{◌≡◌, ℕ, ◌+◌, ◌≤◌, ◌⊎◌, true, List, [], ◌∷◌, ◌++◌, length, take, drop, Option, Some, None}
 use Rattle.std.specs.List.{All, Contains}
+use Rattle.std.specs.Option.{option_map}
 use Rattle.byteorder.specs.Endian.{little_bytes, little_number}
 use Rattle.sf_bytes.specs.declared.field.Field.{Field}
 use Rattle.elf_reloc.specs.declared.fix.RelocatedField.{RelocatedField}
-use Rattle.elf_reloc.specs.Table.{width_of}
-use Rattle.elf_reloc.specs.Fields.{fix_bits}
+use Rattle.elf_reloc.specs.Table.{width_of, low_bits}
 
 -- bytes in place of as many others
 unfoldable pub overwritten : ℕ → (bytes section : List ℕ) → List ℕ
@@ -19,7 +19,7 @@ with_bits f (Some bits) section = overwritten f.place (little_bytes (width_of f.
 
 unfoldable pub patched : List RelocatedField → List ℕ → List ℕ
 patched [] section = section
-patched (f ∷ fs) section = patched fs (with_bits f (fix_bits f) section)
+patched (f ∷ fs) section = patched fs (with_bits f (option_map (low_bits f.range) f.value) section)
 
 -- each field that is written lies in so many bytes
 abbrev pub AreInside : ℕ → List RelocatedField → Type 0

@@ -5,8 +5,7 @@ use Rattle.std.specs.Option.{unwrap_or}
 use Rattle.std.specs.Int.{w64, cast_unsigned}
 use Rattle.sf_model.specs.Answers as answers
 use Rattle.elf_read.specs.Header.{is_rel, arch_of}
-use Rattle.elf_read.specs.Sections.{sh_type, sh_link, section_bytes, rela_symbol, entry_count}
-use Rattle.elf_read.specs.Views.{rela_offset, rela_type, rela_addend}
+use Rattle.elf_read.specs.Sections.{section_fields, section_bytes, rela_fields, entry_count}
 use Rattle.elf_place.specs.Relocations.{relocation_sections}
 use Rattle.elf_place.specs.Views.{Placing, address_at}
 use Rattle.elf_reloc.specs.declared.fault.RelocFault.{RelocFault}
@@ -22,20 +21,14 @@ use Rattle.elf_reloc.specs.Table.{effect_of, width_of, absolute, relative, fits}
 use Rattle.elf_reloc.specs.Target.{target_of}
 pub use Rattle.sf_bytes.specs.Steps.{◌>>=◌}
 
--- a field that is written: its place, the relocation's number, its form, and its value where that is known
-abbrev pub fix : (place index : ℕ) → range → Option ℕ → Bool → RelocatedField
-fix place index form value dropped = record { place = place; index = index; range = form; value = value; dropped = dropped }
-
--- a value that must fit its field
-unfoldable pub written : (place index : ℕ) → range → ℕ → Result RelocatedField RelocFault
-written place index form value =
-    if fits form value then Ok (fix place index form (Some value) false) else Err (Range index)
-
--- what is written where the symbol's value is known, else what is known of the field
+-- what is written where the symbol's value is known, which must fit the field; else what is known of the field
 abbrev pub aimed : (place index : ℕ) → range → (ℕ → ℕ) → Target → Result RelocatedField RelocFault
-aimed place index form value (Address symbol) = written place index form (value symbol)
-aimed place index form value Unresolved = Ok (fix place index form None false)
-aimed place index form value Dropped = Ok (fix place index form None true)
+aimed place index form value (Address symbol) =
+    if fits form (value symbol)
+    then Ok (record { place = place; index = index; range = form; value = Some (value symbol); dropped = false })
+    else Err (Range index)
+aimed place index form value Unresolved = Ok (record { place = place; index = index; range = form; value = None; dropped = false })
+aimed place index form value Dropped = Ok (record { place = place; index = index; range = form; value = None; dropped = true })
 
 -- a field that must lie in the section's bytes
 unfoldable pub inside : (len place index : ℕ) → range → Result RelocatedField RelocFault → Result (Option RelocatedField) RelocFault
@@ -57,19 +50,16 @@ section_address p section = unwrap_or (address_at p section) 0
 -- what entry k of relocation section i does, which has this number among all
 unfoldable pub entry_fix : Placing → (section index i k : ℕ) → Result (Option RelocatedField) RelocFault
 entry_fix p section index i k =
-    applied (effect_of (arch_of p.file) (rela_type p.file i k)) (length (section_bytes p.file section)) (section_address p section)
-    (rela_offset p.file i k) index (cast_unsigned w64 (rela_addend p.file i k))
-    (target_of p (sh_link p.file i) (rela_symbol p.file i k))
+    applied (effect_of (arch_of p.file) (rela_fields p.file i k).r_type) (length (section_bytes p.file section)) (section_address p section)
+    (rela_fields p.file i k).r_offset index (cast_unsigned w64 (rela_fields p.file i k).r_addend)
+    (target_of p (section_fields p.file i).sh_link (rela_fields p.file i k).r_sym)
 
 -- ---- all relocations of a section
--- an SHT_RELA section (4), whose relocations have addends
-unfoldable pub has_addends : List ℕ → ℕ → Bool
-has_addends file i = sh_type file i == 4
-
--- relocations in another form than with addends are refused; the first of the sections that has some is named
+-- relocations in another form than with addends, in a section of type SHT_RELA 4, are refused; the first of the sections that has some
+-- is named
 unfoldable pub rel_check : List ℕ → (sections : List ℕ) → Result (Unit {0}) RelocFault
 rel_check file [] = Ok tt
-rel_check file (i ∷ sections) = if has_addends file i then rel_check file sections else Err (RelSection i)
+rel_check file (i ∷ sections) = if (section_fields file i).sh_type == 4 then rel_check file sections else Err (RelSection i)
 
 -- a relocation: the section that has it, and which of that section's entries it is
 pub record Relocation : Type 0 where
@@ -99,22 +89,18 @@ fixes_from p section number (r ∷ relocations) =
     >>= λ f. fixes_from p section (number + 1) relocations
     >>= λ fixes. Ok (with_fix f fixes)
 
--- those of an object's section, which may have none in another form
-unfoldable pub object_fixes : Placing → ℕ → Result (List RelocatedField) RelocFault
-object_fixes p section =
-    rel_check p.file (relocation_sections p.file section)
-    >>= λ _. fixes_from p section 0 (relocations_in p.file (relocation_sections p.file section))
-
 -- what a section's relocations write, in their order
 pub record State : Type 0 where
   pub fixes : List RelocatedField
 
-abbrev pub all_fixes : List RelocatedField → Result State RelocFault
-all_fixes fixes = Ok (record { fixes = fixes })
-
--- only an object's relocations are applied
+-- only an object's relocations are applied, and those of its sections that may have none in another form
 unfoldable pub section_state : Placing → ℕ → Result State RelocFault
-section_state p section = if is_rel p.file then (object_fixes p section >>= all_fixes) else all_fixes []
+section_state p section =
+    if is_rel p.file
+    then ((rel_check p.file (relocation_sections p.file section)
+    >>= λ _. fixes_from p section 0 (relocations_in p.file (relocation_sections p.file section)))
+    >>= λ fixes. Ok (record { fixes = fixes }))
+    else Ok (record { fixes = [] })
 
 -- ---- what a call returns
 -- the faults that a reading gives: all but out of memory
@@ -147,3 +133,28 @@ Holds (Err e) new all = Fails e all
 -- what a call returned is what is read, unless memory ran out
 abbrev pub Gives : Result FixesSoFar RelocFault → Result State RelocFault → Type 0
 Gives result given = answers.Gives refusal_of state_of result given
+
+-- ---- Inside the crate: names for these
+-- a field that is written: its place, the relocation's number, its form, and its value where that is known
+abbrev pub fix : (place index : ℕ) → range → Option ℕ → Bool → RelocatedField
+fix place index form value dropped = record { place = place; index = index; range = form; value = value; dropped = dropped }
+
+abbrev pub all_fixes : List RelocatedField → Result State RelocFault
+all_fixes fixes = Ok (record { fixes = fixes })
+
+-- a value that must fit its field
+unfoldable pub written : (place index : ℕ) → range → ℕ → Result RelocatedField RelocFault
+written place index form value =
+    if fits form value
+    then Ok (record { place = place; index = index; range = form; value = Some value; dropped = false })
+    else Err (Range index)
+
+-- an SHT_RELA section (4), whose relocations have addends
+unfoldable pub has_addends : List ℕ → ℕ → Bool
+has_addends file i = (section_fields file i).sh_type == 4
+
+-- those of an object's section, which may have none in another form
+unfoldable pub object_fixes : Placing → ℕ → Result (List RelocatedField) RelocFault
+object_fixes p section =
+    rel_check p.file (relocation_sections p.file section)
+    >>= λ _. fixes_from p section 0 (relocations_in p.file (relocation_sections p.file section))

@@ -8,55 +8,22 @@ use Rattle.elf_reloc.specs.declared.table.Effect.TheVariants.{Nothing, Absolute,
 use Rattle.elf_reloc.specs.declared.table.Range.{Range}
 use Rattle.elf_reloc.specs.declared.table.Range.TheVariants.{Any, Unsigned, Signed, Either}
 
--- System V psABI for AMD64
-abbrev pub R_X86_64_NONE : ℕ
-R_X86_64_NONE = 0
-
-abbrev pub R_X86_64_64 : ℕ
-R_X86_64_64 = 1
-
-abbrev pub R_X86_64_PC32 : ℕ
-R_X86_64_PC32 = 2
-
-abbrev pub R_X86_64_32 : ℕ
-R_X86_64_32 = 10
-
-abbrev pub R_X86_64_32S : ℕ
-R_X86_64_32S = 11
-
-abbrev pub R_X86_64_PC64 : ℕ
-R_X86_64_PC64 = 24
-
--- ELF for the Arm 64-bit Architecture
-abbrev pub R_AARCH64_NONE : ℕ
-R_AARCH64_NONE = 0
-
-abbrev pub R_AARCH64_ABS64 : ℕ
-R_AARCH64_ABS64 = 257
-
-abbrev pub R_AARCH64_ABS32 : ℕ
-R_AARCH64_ABS32 = 258
-
-abbrev pub R_AARCH64_PREL64 : ℕ
-R_AARCH64_PREL64 = 260
-
-abbrev pub R_AARCH64_PREL32 : ℕ
-R_AARCH64_PREL32 = 261
-
+-- AMD64: R_X86_64_NONE 0, R_X86_64_64 1, R_X86_64_PC32 2, R_X86_64_32 10, R_X86_64_32S 11, R_X86_64_PC64 24.
+-- AArch64: R_AARCH64_NONE 0, R_AARCH64_ABS64 257, R_AARCH64_ABS32 258, R_AARCH64_PREL64 260, R_AARCH64_PREL32 261.
 unfoldable pub effect_of : Arch → ℕ → Option Effect
 effect_of Amd64 kind =
-    if kind == R_X86_64_NONE then Some Nothing
-    else (if kind == R_X86_64_64 then Some (Absolute Any)
-    else (if kind == R_X86_64_PC32 then Some (Relative Signed)
-    else (if kind == R_X86_64_32 then Some (Absolute Unsigned)
-    else (if kind == R_X86_64_32S then Some (Absolute Signed)
-    else (if kind == R_X86_64_PC64 then Some (Relative Any) else None)))))
+    if kind == 0 then Some Nothing
+    else (if kind == 1 then Some (Absolute Any)
+    else (if kind == 2 then Some (Relative Signed)
+    else (if kind == 10 then Some (Absolute Unsigned)
+    else (if kind == 11 then Some (Absolute Signed)
+    else (if kind == 24 then Some (Relative Any) else None)))))
 effect_of Aarch64 kind =
-    if kind == R_AARCH64_NONE then Some Nothing
-    else (if kind == R_AARCH64_ABS64 then Some (Absolute Any)
-    else (if kind == R_AARCH64_ABS32 then Some (Absolute Either)
-    else (if kind == R_AARCH64_PREL64 then Some (Relative Any)
-    else (if kind == R_AARCH64_PREL32 then Some (Relative Signed) else None))))
+    if kind == 0 then Some Nothing
+    else (if kind == 257 then Some (Absolute Any)
+    else (if kind == 258 then Some (Absolute Either)
+    else (if kind == 260 then Some (Relative Any)
+    else (if kind == 261 then Some (Relative Signed) else None))))
 
 -- how many bytes the field has
 abbrev pub width_of : Range → ℕ

@@ -50,6 +50,7 @@ fn written(site: RelocationSite, range: Range, value: u64) -> Result<RelocatedFi
 }
 
 // A field that holds the symbol's value and the addend.
+#[tactic(auto, unfolding(crate::specs::Reading::written))]
 fn write_absolute(
     site: RelocationSite,
     range: Range,
@@ -66,6 +67,7 @@ fn write_absolute(
 }
 
 // The same minus the field's address.
+#[tactic(auto, unfolding(crate::specs::Reading::written))]
 fn write_relative(
     site: RelocationSite,
     range: Range,

@@ -133,7 +133,7 @@ fn read_object(placed: &Placed<'_>, section: u32, read: &mut FixesSoFar) -> Resu
 }
 
 /// Reads what a section's relocations write, in their order.
-#[tactic(auto, unfolding(crate::specs::Reading::section_state))]
+#[tactic(auto, unfolding(crate::specs::Reading::section_state, crate::specs::Reading::object_fixes))]
 pub fn read_relocations(
     alloc: Global,
     placed: &Placed<'_>,

@@ -47,7 +47,7 @@ fn index_target(placed: &Placed<'_>, index: u16, value: u64) -> Target
 }
 
 /// What a symbol stands for.
-#[tactic(auto, unfolding(crate::specs::Target::target_of))]
+#[tactic(auto, unfolding(crate::specs::Target::target_of, crate::specs::Target::index_target, crate::specs::Target::section_target))]
 pub fn target_of(placed: &Placed<'_>, table: u32, k: u32) -> Target
     ensures { result ≡ spec.target_of (placing placed.now) table k }
 {

@@ -138,7 +138,7 @@ unfolding bits_check
 with_bytes file dropped i = tried is_place_refusal _ _ (place_faults.NoBits i) refl
 
 placing : (file : List ℕ) (dropped : List Bool) (base : ℕ) → FaultIs is_place_refusal (place_check file dropped base)
-unfolding place_check
+unfolding place_check align_check overflow_check bits_check
 placing file dropped base =
     let count = section_count file in
     checked is_place_refusal _ _
@@ -153,6 +153,7 @@ unfolding written
 writing place index form value = either is_reloc_refusal (fits form value) _ _ tt refl
 
 aiming : (place index : ℕ) (form : Range) (value : ℕ → ℕ) (target : Target) → FaultIs is_reloc_refusal (aimed place index form value target)
+unfolding written
 aiming place index form value (Address symbol) = writing place index form (value symbol)
 aiming place index form value Unresolved = tt
 aiming place index form value Dropped = tt
@@ -180,7 +181,7 @@ entries p section number (r ∷ relocations) =
     (λ f. in_turn is_reloc_refusal (fixes_from p section (number + 1) relocations) _ (entries p section (number + 1) relocations) (λ fixes. tt))
 
 with_addends : (file sections : List ℕ) → FaultIs is_reloc_refusal (rel_check file sections)
-unfolding rel_check
+unfolding rel_check has_addends
 with_addends file [] = tt
 with_addends file (i ∷ sections) = either is_reloc_refusal (has_addends file i) _ _ (with_addends file sections) refl
 

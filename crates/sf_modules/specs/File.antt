@@ -5,7 +5,7 @@ use Rattle.std.specs.List.{find, range_with_len}
 use Rattle.elf_read.specs.declared.kind.Kind.{Kind}
 use Rattle.elf_read.specs.declared.kind.Kind.TheVariants.{Rel, Exec, Dyn, Core}
 use Rattle.elf_read.specs.Header.{p_type}
-use Rattle.elf_read.specs.Sections.{is_allocated, section_count, section_name, segment_total, sh_type}
+use Rattle.elf_read.specs.Sections.{is_allocated, section_count, section_name, segment_total, section_fields}
 
 -- ET_EXEC and ET_DYN
 abbrev pub is_program : Kind → Bool
@@ -20,7 +20,7 @@ sframe_text = 46 ∷ 115 ∷ 102 ∷ 114 ∷ 97 ∷ 109 ∷ 101 ∷ []
 
 -- the section is loaded, has the name `.sframe`, and is not of type SHT_NOBITS 8
 unfoldable pub is_sframe : List ℕ → (i : ℕ) → Bool
-is_sframe file i = is_allocated file i && bytes_eq (section_name file i) sframe_text && not (sh_type file i == 8)
+is_sframe file i = is_allocated file i && bytes_eq (section_name file i) sframe_text && not ((section_fields file i).sh_type == 8)
 
 -- the number of the first such section
 unfoldable pub sframe_section : List ℕ → Option ℕ

@@ -6,7 +6,7 @@ use Rattle.sf_model.specs.Section.{Section}
 use Rattle.sf_model.specs.Table.{Table}
 use Rattle.sf_decode.specs.View.{table_of}
 use Rattle.elf_read.specs.Header.{arch_of, p_vaddr}
-use Rattle.elf_read.specs.Sections.{section_bytes, sh_addr}
+use Rattle.elf_read.specs.Sections.{section_bytes, section_fields}
 use Rattle.sf_modules.specs.declared.mapped.Module.{Module}
 use Rattle.sf_modules.specs.Build.{is_same_build}
 use Rattle.sf_modules.specs.Entry.{EntryView}
@@ -30,7 +30,7 @@ file_base file page entry load = base_of page entry (p_vaddr file load)
 
 -- where a section lay
 abbrev pub address_of : List ℕ → (page : ℕ) → EntryView → (load section : ℕ) → ℕ
-address_of file page entry load section = moved (file_base file page entry load) (sh_addr file section)
+address_of file page entry load section = moved (file_base file page entry load) (section_fields file section).sh_addr
 
 -- this is the module of a file, for which the word is given
 pub record IsModule (p : ProcessView) (word file : List ℕ) (m : ModuleView) : Type 0 where

@@ -11,7 +11,7 @@ use Rattle.sf_decode.proofs.Standing.{part_are_bytes}
 use Rattle.elf_read.specs.Checking.{unless, ◌>>◌, each_below}
 use Rattle.elf_read.specs.Header.{arch_of}
 use Rattle.elf_read.specs.Number.{window}
-use Rattle.elf_read.specs.Sections.{has_bytes, section_bytes, sh_offset, sh_size}
+use Rattle.elf_read.specs.Sections.{has_bytes, section_bytes, section_fields}
 use Rattle.core_notes.specs.declared.fault.CoreFault.{CoreFault}
 use Rattle.sf_modules.specs.declared.fault.ModuleFault.{ModuleFault}
 use Rattle.sf_modules.specs.declared.fault.ModuleFault.TheVariants.{FileNote, Mapping, NotMapped, Segments}
@@ -53,8 +53,8 @@ section_are_bytes : (file : List ℕ) (i : ℕ) → AreBytes file → AreBytes (
 unfolding section_bytes
 section_are_bytes file i are = by_type (has_bytes file i)
   where
-    by_type : (has : Bool) → AreBytes (cond has (window (sh_offset file i) (sh_size file i) file) [])
-    by_type true = part_are_bytes file (sh_offset file i) (sh_size file i) are
+    by_type : (has : Bool) → AreBytes (cond has (window (section_fields file i).sh_offset (section_fields file i).sh_size file) [])
+    by_type true = part_are_bytes file (section_fields file i).sh_offset (section_fields file i).sh_size are
     by_type false = λ k. omega arith
 
 -- what the checks of a file say

@@ -1,6 +1,6 @@
 use Rattle.std.proofs.Common.{ℕ, ◌≡◌, ◌<◌, ◌-◌, length, ap, ◌∙◌, drop, arith}
 use Rattle.elf_read.specs.Number.{text_in}
-use Rattle.elf_read.specs.Sections.{section_bytes, sh_offset}
+use Rattle.elf_read.specs.Sections.{section_bytes, section_fields}
 use Rattle.elf_read.proofs.Texts.{text_from, text_place}
 use Rattle.elf_read.proofs.reading.text_in_table.Goals as goal
 
@@ -16,8 +16,8 @@ returns-clause-place c =
     (λ some.
     let len : length c.bytes_from.result.now ≡ length c.section_bytes.result.now - c.from-2.result = c.bytes_from.ensures.len in
     let some_bytes : 0 < length c.section_bytes.result.now = omega (arith, some, len) in
-    let within : sh_offset c.args.file.now c.args.table < length c.args.file.now = c.section_bytes.ensures.within some_bytes in
-    let offset : c.sh_offset.result ≡ sh_offset c.args.file.now c.args.table = c.sh_offset.ensures in
+    let within : (section_fields c.args.file.now c.args.table).sh_offset < length c.args.file.now = c.section_bytes.ensures.within some_bytes in
+    let offset : c.sh_offset.result ≡ (section_fields c.args.file.now c.args.table).sh_offset = c.sh_offset.ensures in
     let name : c.from.result ≡ c.args.place = c.from.ensures in
     let sum = c.saturating_add.ensures in
     omega (arith, within, offset, name, sum, c.requires, c.ranges.place))
