@@ -5,7 +5,7 @@ ghost use Rattle.elf_read.specs.Checking.{unless};
 
 use crate::fault::ElfFault;
 
-/// Answers the fault unless the test holds.
+/// Returns the fault unless the test holds.
 pub fn require(test: bool, fault: ElfFault) -> Result<(), ElfFault>
     ensures answer { result ≡ unless test fault }
     ensures holds { OnOk result (IsTrue test) }

@@ -1,13 +1,13 @@
 //! ELF64 files of both machines and all four kinds (ELF64 gABI), little-endian, as views over lent bytes.
 //!
 //! [`Elf::parse`] checks a file once, in a fixed order of checks, and the first that fails is the fault,
-//! with its place. What it answers lends the file's bytes: sections, segments, symbols, relocations and
+//! with its place. What it returns lends the file's bytes: sections, segments, symbols, relocations and
 //! groups are read from their places when they are asked for.
 //!
-//! The meaning of a file is its list of bytes. Each field is a function of it (`specs/Header.antt`,
-//! `specs/Sections.antt`), and so is each check (`specs/Checks.antt`, `specs/Used.antt`,
-//! `specs/Parsing.antt`): `parse` answers Ok exactly where no check fails, and the accessors give the
-//! fields.
+//! The meaning of a file is its list of bytes. Each header is a record of the standard's fields, and a function
+//! of it (`specs/Header.antt`, `specs/Sections.antt`). What is asked of a file is a table of conditions, each with
+//! its fault (`specs/Parsing.antt`): `parse` returns Ok exactly where none is broken, and else the fault of the
+//! first that is. The accessors give the fields.
 //!
 //! The caller owes a file of fewer than 2^32 bytes. Nothing allocates. Each check goes once over the
 //! headers, and those of relocations and group members once over the ones that are used, which have room in the
