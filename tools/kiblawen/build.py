@@ -20,6 +20,7 @@ import subprocess
 import sys
 import time
 
+from kiblawen import crates as crate_list
 from kiblawen.common import TOP, fail
 
 ROOMS = f"{TOP}/demo/out/rooms"
@@ -30,15 +31,9 @@ FIRST, FURTHER = 2e9, 1.5e9
 
 def crates():
     """The crates below each crate that is built, lowest first."""
-    used, made = {}, set()
-    with open(f"{TOP}/crates.txt", encoding="utf-8") as file:
-        for line in file:
-            words, colon, below = line.partition("#")[0].partition(":")
-            if colon:
-                name, *kind = words.split()
-                used[name] = below.split()
-                if kind or is_program(name):
-                    made.add(name)
+    listed = crate_list.listed()
+    used = {it.name: it.uses for it in listed}
+    made = {it.name for it in listed if it.is_static or crate_list.is_program(it.name)}
 
     @functools.lru_cache(maxsize=None)
     def below(name):
@@ -58,10 +53,6 @@ def files(name):
 
 def lines(name):
     return sum(open(it, "rb").read().count(b"\n") for it in files(name))
-
-
-def is_program(name):
-    return os.path.isfile(f"{TOP}/crates/{name}/src/main.rt")
 
 
 def free_memory():
@@ -90,7 +81,7 @@ class Proof:
         self.name, self.jobs, self.began = name, jobs, time.monotonic()
         self.out, self.room = f"{TOP}/crates/{name}/out", None
         folder, command = f"{TOP}/crates/{name}", ["run", "--jobs", str(jobs), "--", *words]
-        if not is_program(name):
+        if not crate_list.is_program(name):
             self.room = f"{ROOMS}/{name}"
             folder, command = f"{self.room}/crates/{name}", ["lib", "--jobs", str(jobs)]
             for it in below:

@@ -15,6 +15,7 @@ import os
 import re
 
 from kiblawen import closure
+from kiblawen import crates as crate_list
 from kiblawen.common import TOP
 
 
@@ -25,7 +26,7 @@ def lines_of(path):
 
 def crates():
     """The crates, from below upward."""
-    return [re.match(r"\w+", line)[0] for line in lines_of(f"{TOP}/crates.txt") if not line.startswith("#")]
+    return [it.name for it in crate_list.listed()]
 
 
 def front_page(crate):

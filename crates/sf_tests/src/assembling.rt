@@ -60,28 +60,31 @@ fn said(alloc: Global, bytes: &[u8], pc: u64) -> Result<Option<(Content, Key, u6
     }
 }
 
-/// A row that counts from the stack pointer, with the frame pointer at -16.
-fn row(cfa: i32, last: u64) -> Option<(Content, Key, u64)> {
-    let content = Content {
-        base: Base::Sp,
-        cfa,
-        ra: Ra::Fixed,
-        fp: Some(-16),
-        signed: false,
-    };
-    Some((content, Key::A, last))
-}
+/// The CFA is at 16 from the stack pointer, and the frame pointer is saved at -16.
+const PUSHED: Content = Content {
+    base: Base::Sp,
+    cfa: 16,
+    ra: Ra::Fixed,
+    fp: Some(-16),
+    signed: false,
+};
+
+/// The CFA is at 8 again.
+const POPPED: Content = Content { cfa: 8, ..PUSHED };
+
+/// An input, an address, and what is said there: the content of the row, the key, and the last address that it says this of.
+const SAID: [(&[u8], u64, Option<(Content, Key, u64)>); 5] = [
+    (&KEPT, 0x1002, Some((PUSHED, Key::A, 0x1003))),
+    (&KEPT, 0x1005, Some((POPPED, Key::A, 0x1005))),
+    (&KEPT, 0x1006, None),
+    (&OMITTED, 0x1003, Some((PUSHED, Key::A, 0x1008))),
+    (&OMITTED, 0x1009, None),
+];
 
 #[test]
 fn what_is_said_at_an_address(rt: HostRuntime) -> Result<(), Fail> {
-    for (bytes, pc, expected) in [
-        (KEPT.as_slice(), 0x1002, row(16, 0x1003)),
-        (KEPT.as_slice(), 0x1005, row(8, 0x1005)),
-        (KEPT.as_slice(), 0x1006, None),
-        (OMITTED.as_slice(), 0x1003, row(16, 0x1008)),
-        (OMITTED.as_slice(), 0x1009, None),
-    ] {
-        assert_eq!(rt; said(rt.alloc(), bytes, pc)?, expected);
+    for (bytes, pc, expected) in &SAID {
+        assert_eq!(rt; said(rt.alloc(), bytes, *pc)?, *expected);
     }
     Ok(())
 }

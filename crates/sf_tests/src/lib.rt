@@ -1,5 +1,6 @@
 //! What no clause says of linking and of whole runs: values from outside, and one call of each public function that
-//! allocates, with ample memory. The crates below have their tests in `sf_part_tests`.
+//! allocates, with ample memory. The crates below `sf_asm` have their tests in
+//! `base_tests`, `elf_dwarf_tests`, `sframe_tests` and `core_tests`.
 #![tactic(auto)]
 
 #[cfg(test)]
