@@ -5,9 +5,8 @@
     ./x picture --check     fails if docs/crates.svg differs
 
 A box names crates of one kind. An arrow leads from a box to one that it uses. None is drawn if other arrows lead to that
-box, too, or to the lowest box, which all use. The table BOXES says which crates a box has, and where the box is. A crate
-without a box, names without room, and an arrow without a way between the boxes are errors. The group of a crate is that
-of the comment above it in crates.txt, such as `# ELF`, or else that of the table.
+box, too, or to the lowest box, which all use. The table BOXES says which crates a box has, of which group it is, and
+where the box is. A crate without a box, names without room, and an arrow without a way between the boxes are errors.
 """
 
 import os
@@ -53,8 +52,8 @@ STYLE = """
 class Box:
     """A box of the picture, with its crates that there are."""
 
-    def __init__(self, title, crates, groups, row, left, right):
-        self.title, self.crates, self.groups, self.row, self.left, self.right = title, crates, groups, row, left, right
+    def __init__(self, title, crates, group, row, left, right):
+        self.title, self.crates, self.group, self.row, self.left, self.right = title, crates, group, row, left, right
         self.top = MARGIN + ROW * row
         self.bottom = self.top + BOX_HEIGHT
         self.middle = self.top + BOX_HEIGHT // 2
@@ -74,8 +73,8 @@ class Box:
 
     def drawn(self):
         yield f'<rect class="box" x="{self.left}" y="{self.top}" width="{self.right - self.left}" height="{BOX_HEIGHT}" rx="5"/>'
-        yield f'<rect fill="{GROUPS[self.groups[0]]}" x="{self.left}" y="{self.top + 5}" width="{BAR}" height="{BOX_HEIGHT - 10}"/>'
-        group, x = escape(", ".join(self.groups)), self.left + PADDING
+        yield f'<rect fill="{GROUPS[self.group]}" x="{self.left}" y="{self.top + 5}" width="{BAR}" height="{BOX_HEIGHT - 10}"/>'
+        group, x = escape(self.group), self.left + PADDING
         lines = self.lines()
         y = self.middle + 5 - 8 * len(lines)
         title = f": {escape(self.title)}" if self.title else ""
@@ -85,28 +84,22 @@ class Box:
 
 
 def read():
-    """The crates of crates.txt: all that each uses, in however many steps, and the groups that comments give."""
-    used, groups, group = {}, {}, None
+    """The crates of crates.txt: all that each uses, in however many steps."""
+    used = {}
     with open(common.at_top("crates.txt"), encoding="utf-8") as file:
         for line in file:
-            if line.startswith("#"):
-                word = (line[1:].split() or [""])[0].rstrip(":,.").lower()
-                group = next((it for it in GROUPS if it.lower() == word), group)
-                continue
             words, colon, below = line.partition("#")[0].partition(":")
             if colon:
-                name = words.split()[0]
-                used[name] = set(below.split())
-                groups[name] = group
+                used[words.split()[0]] = set(below.split())
     for name in used:
         more = used[name]
         while more:
             more = set().union(*(used.get(it, ()) for it in more)) - used[name]
             used[name] |= more
-    return used, groups
+    return used
 
 
-def placed(used, groups):
+def placed(used):
     """The boxes, by the table and the crates that there are."""
     left = set(used)
     boxes = []
@@ -116,8 +109,7 @@ def placed(used, groups):
         crates += sorted(it for it in left.difference(crates) if title == "tests" and it.endswith("tests"))
         left.difference_update(crates)
         if crates:
-            own = [groups[it] or group for it in crates]
-            boxes.append(Box(title, crates, [it for it in GROUPS if it in own], row, begin, end))
+            boxes.append(Box(title, crates, group, row, begin, end))
     if left:
         common.fail(__name__, f"{', '.join(sorted(left))}: BOXES in tools/kiblawen/picture.py has no box for it")
     return boxes
@@ -162,8 +154,8 @@ def way(box, to, boxes, taken):
 
 
 def picture():
-    used, groups = read()
-    boxes = placed(used, groups)
+    used = read()
+    boxes = placed(used)
     height = max(it.bottom for it in boxes) + MARGIN
     lines = [
         f'<svg xmlns="http://www.w3.org/2000/svg" viewBox="0 0 {WIDTH} {height}" width="{WIDTH}" height="{height}" role="img">',
