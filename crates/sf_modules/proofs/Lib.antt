@@ -2,7 +2,6 @@ pub mod Names
 pub mod Tails
 pub mod Placing
 pub mod Texts
-pub mod Scan
 pub mod Numbers
 pub mod FirstWith
 pub mod Faults
@@ -11,3 +10,4 @@ pub mod Headers
 pub mod Lines
 pub mod Stretched
 pub mod Reached
+pub mod Alike

@@ -1,10 +1,11 @@
 -- Names that are read backwards, byte by byte.
 use Rattle.std.specs.Prelude.{bytes_eq, slice_get}
 use Rattle.std.specs.Option.{option_map_or}
-use Rattle.std.proofs.Common.{◌≡◌, ◌≢◌, ℕ, suc, ◌+◌, ◌-◌, ◌&&◌, Bool, true, false, cond, List, [], ◌∷◌, ◌++◌, length, reverse, Option, Some, refl, sym, ap, subst, ◌∙◌, arith}
-use Rattle.std.proofs.lemmas.Bool.{eq-eqb, ne_eqb, eqb-true}
-use Rattle.std.proofs.lemmas.List.{length-append, nil_from_length, reverse-append, reverse-reverse}
-use Rattle.sf_modules.specs.Name.{common_tail, is_slash, longer_first, parts_of, shared}
+use Rattle.std.proofs.Common.{◌≡◌, ◌≢◌, ◌<◌, ℕ, suc, ◌+◌, ◌-◌, ◌&&◌, Bool, true, false, cond, List, [], ◌∷◌, ◌++◌, append-nil, append_assoc, drop, get_or, length, reverse, take, Option, Some, refl, sym, ap, subst, ◌∙◌, arith}
+use Rattle.std.proofs.lemmas.Bool.{eq-eqb, false_from_ne_true, ne_eqb, eqb-true}
+use Rattle.std.proofs.lemmas.List.{drop_all, drop_more, length-append, nil_from_length, reverse-append, reverse-reverse, take_all, take_more}
+use Rattle.std.proofs.lemmas.Slice.Eq.{bytes_eq-Decides}
+use Rattle.sf_modules.specs.Name.{common_tail, is_slash, last_part, longer_first, parts_of, shared, up_to_slash}
 
 -- how many parts they have in common, from the first on
 abbrev pub in_common : (bytes others : List ℕ) → ℕ
@@ -222,3 +223,81 @@ no_other_part all parts rest others h last e =
     and_false : (b : Bool) → ◌≡◌ {A = ℕ} (cond (b && false) 1 0) 0
     and_false true = refl
     and_false false = refl
+
+-- ---- the last part
+up_at_none : up_to_slash [] ≡ []
+unfolding up_to_slash
+up_at_none = refl
+
+up_at_slash : (byte : ℕ) (bytes : List ℕ) → is_slash byte ≡ true → up_to_slash (byte ∷ bytes) ≡ []
+unfolding up_to_slash
+up_at_slash byte bytes e = ap (λ (b : Bool). cond b [] (byte ∷ up_to_slash bytes)) e
+
+up_at_other : (byte : ℕ) (bytes : List ℕ) → is_slash byte ≡ false → up_to_slash (byte ∷ bytes) ≡ byte ∷ up_to_slash bytes
+unfolding up_to_slash
+up_at_other byte bytes e = ap (λ (b : Bool). cond b [] (byte ∷ up_to_slash bytes)) e
+
+-- it is the first of the parts
+record StartsWith (bytes : List ℕ) : Type 0 where
+  parts : List (List ℕ)
+  are : parts_of bytes ≡ up_to_slash bytes ∷ parts
+
+starts_with : (bytes : List ℕ) → StartsWith bytes
+starts_with [] = record { parts = []; are = at_none ∙ ap (λ (p : List ℕ). p ∷ []) (sym up_at_none) }
+starts_with (byte ∷ bytes) = by_test (is_slash byte) refl (starts_with bytes)
+  where
+    by_test : (b : Bool) → is_slash byte ≡ b → StartsWith bytes → StartsWith (byte ∷ bytes)
+    by_test true e later = record { parts = parts_of bytes; are = at_slash byte bytes e ∙ ap (λ (p : List ℕ). p ∷ parts_of bytes) (sym (up_at_slash byte bytes e)) }
+    by_test false e later = record { parts = later.parts; are = at_other byte bytes e ∙ ap (longer_first byte) later.are ∙ ap (λ (p : List ℕ). p ∷ later.parts) (sym (up_at_other byte bytes e)) }
+
+none_in_common : (bytes others : List ℕ) → bytes_eq (up_to_slash bytes) (up_to_slash others) ≡ false → in_common bytes others ≡ 0
+none_in_common bytes others e =
+    let p = starts_with bytes in
+    let q = starts_with others in
+    ap (λ (ps : List (List ℕ)). shared ps (parts_of others)) p.are ∙ ap (shared (up_to_slash bytes ∷ p.parts)) q.are
+    ∙ shared-step (up_to_slash bytes) (up_to_slash others) p.parts q.parts false e
+
+-- names whose last parts differ have none in common
+pub other_last : (word name : List ℕ) → bytes_eq (last_part word) (last_part name) ≡ false → common_tail word name ≡ 0
+other_last word name e =
+    let u = up_to_slash (reverse word) in
+    let v = up_to_slash (reverse name) in
+    let differ : bytes_eq u v ≡ false =
+    false_from_ne_true (bytes_eq u v) (λ t. let no : false ≡ true = sym e ∙ (bytes_eq-Decides (reverse u) (reverse v)).1 (ap reverse ((bytes_eq-Decides u v).0 t)) in cc) in
+    let none : in_common (reverse word) (reverse name) ≡ 0 = none_in_common (reverse word) (reverse name) differ in
+    starts_with_all word name ∙ ap (λ (n : ℕ). 0 + n) none
+
+-- the last part of the first n bytes, and the bytes after them
+abbrev pub last_from : (n : ℕ) → (name : List ℕ) → List ℕ
+last_from n name = reverse (up_to_slash (reverse (take n name))) ++ drop n name
+
+pub last_of_all : (name : List ℕ) (n : ℕ) → n ≡ length name → last_from n name ≡ last_part name
+last_of_all name n all =
+    let whole : take n name ≡ name = take_all n name (omega (all, arith)) in
+    let none : drop n name ≡ [] = drop_all n name (omega (all, arith)) in
+    ap (λ (bs : List ℕ). reverse (up_to_slash (reverse bs)) ++ drop n name) whole ∙ ap (λ (bs : List ℕ). last_part name ++ bs) none ∙ append-nil (last_part name)
+
+-- the byte before is no slash, or it is one, or there is none
+pub last_goes_on : (name : List ℕ) (n m : ℕ) (d : ℕ) → n ≡ m + 1 → m < length name → is_slash (get_or name m d) ≡ false → last_from n name ≡ last_from m name
+last_goes_on name n m d is lt e =
+    let byte = get_or name m d in
+    let front = up_to_slash (reverse (take m name)) in
+    let back : reverse (take (m + 1) name) ≡ byte ∷ reverse (take m name) = backwards (take (m + 1) name) (take m name) byte (take_more name m d lt) in
+    ap (λ (k : ℕ). last_from k name) is
+    ∙ ap (λ (bs : List ℕ). reverse (up_to_slash bs) ++ drop (m + 1) name) back
+    ∙ ap (λ (bs : List ℕ). reverse bs ++ drop (m + 1) name) (up_at_other byte (reverse (take m name)) e)
+    ∙ ap (λ (bs : List ℕ). bs ++ drop (m + 1) name) (reverse-append (byte ∷ []) front)
+    ∙ append_assoc (reverse front) (byte ∷ []) (drop (m + 1) name)
+    ∙ ap (λ (bs : List ℕ). reverse front ++ bs) (sym (drop_more name m d lt))
+
+pub last_after_slash : (name : List ℕ) (n m : ℕ) (d : ℕ) → n ≡ m + 1 → m < length name → is_slash (get_or name m d) ≡ true → last_from n name ≡ drop n name
+last_after_slash name n m d is lt e =
+    let byte = get_or name m d in
+    let back : reverse (take (m + 1) name) ≡ byte ∷ reverse (take m name) = backwards (take (m + 1) name) (take m name) byte (take_more name m d lt) in
+    ap (λ (k : ℕ). last_from k name) is
+    ∙ ap (λ (bs : List ℕ). reverse (up_to_slash bs) ++ drop (m + 1) name) back
+    ∙ ap (λ (bs : List ℕ). reverse bs ++ drop (m + 1) name) (up_at_slash byte (reverse (take m name)) e)
+    ∙ ap (λ (k : ℕ). drop k name) (sym is)
+
+pub last_is_all : (name : List ℕ) (n : ℕ) → n ≡ 0 → last_from n name ≡ name
+last_is_all name n none = ap (λ (k : ℕ). last_from k name) none ∙ ap (λ (bs : List ℕ). reverse bs ++ name) up_at_none

@@ -45,12 +45,12 @@ led modules (e ∷ es) pc = at_test (covers pc (span_of modules e)) (holds pc e)
 
 -- ---- the module of a number
 -- the first that passes, by its place
-record IsFirst {X : Type 0} (p : X → Bool) (first k : ℕ) (xs : List X) : Type 0 where
-  from : first ≤ k
-  within : (k - first) < length xs
-  is : (d : X) → find p xs ≡ Some (get_or xs (k - first) d)
+pub record IsFirst {X : Type 0} (p : X → Bool) (first k : ℕ) (xs : List X) : Type 0 where
+  pub from : first ≤ k
+  pub within : (k - first) < length xs
+  pub is : (d : X) → find p xs ≡ Some (get_or xs (k - first) d)
 
-first_is : {X : Type 0} (p : X → Bool) (first k : ℕ) (xs : List X) → position_from p first xs ≡ Some k → IsFirst p first k xs
+pub first_is : {X : Type 0} (p : X → Bool) (first k : ℕ) (xs : List X) → position_from p first xs ≡ Some k → IsFirst p first k xs
 first_is p first k [] e = absurd (let no : None ≡ Some k = e in cc)
 first_is p first k (x ∷ xs) e = at_test (p x) refl e (first_is p (first + 1) k xs)
   where

@@ -3,6 +3,8 @@ pub mod Fault
 pub mod Entry
 pub mod Stretch
 pub mod Stretches
+pub mod Candidates
+pub mod LastParts
 pub mod Note
 pub mod Process
 pub mod File

@@ -26,6 +26,15 @@ shared (part ∷ parts) (other ∷ others) = if bytes_eq part other then suc (sh
 unfoldable pub common_tail : (name other : List ℕ) → ℕ
 common_tail name other = shared (parts_of (reverse name)) (parts_of (reverse other))
 
+-- the bytes before the first slash, or all of them
+unfoldable pub up_to_slash : List ℕ → List ℕ
+up_to_slash [] = []
+up_to_slash (byte ∷ bytes) = if is_slash byte then [] else byte ∷ up_to_slash bytes
+
+-- the last part of a name: what is after its last slash
+abbrev pub last_part : (name : List ℕ) → List ℕ
+last_part name = reverse (up_to_slash (reverse name))
+
 -- the number of the first of these names that is a name
 abbrev pub name_number : (name : List ℕ) → (names : List (List ℕ)) → Option ℕ
 name_number name names = position_from (bytes_eq name) 0 names

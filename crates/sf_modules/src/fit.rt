@@ -62,22 +62,38 @@ fn segment_fits(process: &Process<'_>, elf: &Elf<'_>, named: &Named<'_>, base: u
         || (is_mapped(process, elf, named, base, i) && may_execute(process, elf, base, i))
 }
 
-// Whether each segment was.
-fn all_fit(process: &Process<'_>, program: &Program<'_>, named: &Named<'_>, base: u64) -> bool
+// Returns whether each segment was. The one of number `misfit`, which was not where the file was tried before, is tried first.
+fn all_fit(
+    process: &Process<'_>,
+    program: &Program<'_>,
+    misfit: &mut u32,
+    named: &Named<'_>,
+    base: u64,
+) -> bool
     requires { IsNamed process.now.stretches named.now }
     ensures { result ≡ list_all (spec.segment_fits (process_view process.now) (file program.now.elf) named.now.name.now base) (range_with_len 0 (segment_total (file program.now.elf))) }
 {
+    let first = *misfit;
+    if first < program.count && !segment_fits(process, &program.elf, named, base, first) {
+        return false;
+    }
     for i in 0..program.count {
         if !segment_fits(process, &program.elf, named, base, i) {
+            *misfit = i;
             return false;
         }
     }
     true
 }
 
-/// Whether a program was mapped as an entry says.
+/// Returns whether a program was mapped as an entry says. `misfit` becomes the number of a segment that was not where it has to be.
 #[tactic(auto, unfolding(crate::specs::Fit::fits))]
-pub fn fits(process: &Process<'_>, program: &Program<'_>, entry: &Entry<'_>) -> bool
+pub fn fits(
+    process: &Process<'_>,
+    program: &Program<'_>,
+    misfit: &mut u32,
+    entry: &Entry<'_>,
+) -> bool
     ensures { result ≡ spec.fits (process_view process.now) (file program.now.elf) program.now.load (entry_view entry.now) }
 {
     let segment = program.elf.segment(program.load);
@@ -85,6 +101,7 @@ pub fn fits(process: &Process<'_>, program: &Program<'_>, entry: &Entry<'_>) -> 
         && all_fit(
             process,
             program,
+            misfit,
             &process.stretches.named(entry.name),
             base_of(process.page, entry, segment.vaddr),
         )

@@ -21,10 +21,12 @@
 
 mod build;
 mod by_name;
+mod candidates;
 mod entry;
 mod fault;
 mod file;
 mod fit;
+mod last_parts;
 mod laws;
 mod layout;
 mod mapped;

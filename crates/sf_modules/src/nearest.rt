@@ -4,6 +4,7 @@ ghost use Rattle.std.specs.Prelude.{◌≡◌, IfOk, Some, map};
 ghost use Rattle.std.specs.List.{find, list_any};
 ghost use Rattle.std.specs.Option.{option_map};
 ghost use Rattle.elf_read.specs.Views.{file};
+ghost use Rattle.sf_modules.specs.Candidates.{candidates};
 ghost use Rattle.sf_modules.specs.Entry.{entry_view};
 ghost use Rattle.sf_modules.specs.Fault.{verdict};
 ghost use Rattle.sf_modules.specs.Match as spec;
@@ -17,75 +18,67 @@ use crate::fit::fits;
 use crate::name::common_tail;
 use crate::process::Process;
 
-// The most parts that an entry's name has in common with a word.
-fn longest_tail(word: &[u8], entries: &[Entry<'_>]) -> u128
-    ensures { result ≡ spec.longest_tail word.now (map entry_view entries.now) }
+// Returns the most parts that an entry's name has in common with a word.
+fn longest_tail(process: &Process<'_>, word: &[u8]) -> u128
+    ensures { result ≡ spec.longest_tail word.now (map entry_view process.now.entries.now) }
 {
     let mut longest = 0;
-    for entry in entries {
+    for entry in process.candidates(word) {
         longest = common_tail(word, entry.name).max(longest);
     }
     longest
 }
 
-// Whether an entry's name has `tail` parts in common with a word, and the program fits there.
+// Returns whether an entry's name has `tail` parts in common with a word, and the program fits there.
 fn matches(
     process: &Process<'_>,
     word: &[u8],
     tail: u128,
     program: &Program<'_>,
+    misfit: &mut u32,
     entry: &Entry<'_>,
 ) -> bool
     ensures { result ≡ spec.matches (process_view process.now) word.now (file program.now.elf) program.now.load tail (entry_view entry.now) }
 {
-    common_tail(word, entry.name) == tail && fits(process, program, entry)
+    common_tail(word, entry.name) == tail && fits(process, program, misfit, entry)
 }
 
-// The first such entry, by the fields of entries.
-fn first_by_fields<'p>(
-    process: &Process<'p>,
-    word: &[u8],
-    tail: u128,
-    program: &Program<'_>,
-) -> Option<&'p Entry<'p>>
-    ensures { option_map (λ e. e.now) result ≡ find (λ e. spec.matches (process_view process.now) word.now (file program.now.elf) program.now.load tail (entry_view e)) process.now.entries.now }
-{
-    process
-        .entries
-        .iter()
-        .find(|entry| matches(process, word, tail, program, entry))
-}
-
-// The same by what entries show.
+// Returns the first such entry.
 fn first_match<'p>(
     process: &Process<'p>,
     word: &[u8],
     tail: u128,
     program: &Program<'_>,
 ) -> Option<&'p Entry<'p>>
-    ensures { option_map (λ e. entry_view e.now) result ≡ find (spec.matches (process_view process.now) word.now (file program.now.elf) program.now.load tail) (map entry_view process.now.entries.now) }
+    ensures { option_map (λ e. entry_view e.now) result ≡ find (spec.matches (process_view process.now) word.now (file program.now.elf) program.now.load tail) (candidates word.now (map entry_view process.now.entries.now)) }
 {
-    first_by_fields(process, word, tail, program)
+    let mut misfit = program.load;
+    for entry in process.candidates(word) {
+        if matches(process, word, tail, program, &mut misfit, entry) {
+            return Some(entry);
+        }
+    }
+    None
 }
 
-// Whether an entry of another name does, by the fields of entries.
-fn any_by_fields(
+// Returns whether an entry does that has another name than one that was found.
+fn matches_too(
     process: &Process<'_>,
     word: &[u8],
     tail: u128,
     program: &Program<'_>,
+    misfit: &mut u32,
     found: &Entry<'_>,
+    entry: &Entry<'_>,
 ) -> bool
-    ensures { result ≡ list_any (λ e. spec.matches_too (process_view process.now) word.now (file program.now.elf) program.now.load tail (entry_view found.now) (entry_view e)) process.now.entries.now }
+    ensures { result ≡ spec.matches_too (process_view process.now) word.now (file program.now.elf) program.now.load tail (entry_view found.now) (entry_view entry.now) }
 {
-    process.entries.iter().any(|entry| {
-        common_tail(word, entry.name) == tail
-            && entry.name != found.name
-            && fits(process, program, entry)
-    })
+    common_tail(word, entry.name) == tail
+        && entry.name != found.name
+        && fits(process, program, misfit, entry)
 }
 
-// The same by what entries show.
+// Returns whether there is such an entry.
 fn other_matches(
     process: &Process<'_>,
     word: &[u8],
@@ -93,12 +86,18 @@ fn other_matches(
     program: &Program<'_>,
     found: &Entry<'_>,
 ) -> bool
-    ensures { result ≡ list_any (spec.matches_too (process_view process.now) word.now (file program.now.elf) program.now.load tail (entry_view found.now)) (map entry_view process.now.entries.now) }
+    ensures { result ≡ list_any (spec.matches_too (process_view process.now) word.now (file program.now.elf) program.now.load tail (entry_view found.now)) (candidates word.now (map entry_view process.now.entries.now)) }
 {
-    any_by_fields(process, word, tail, program, found)
+    let mut misfit = program.load;
+    for entry in process.candidates(word) {
+        if matches_too(process, word, tail, program, &mut misfit, found, entry) {
+            return true;
+        }
+    }
+    false
 }
 
-/// The entry of a program for which this word is given.
+/// Finds the entry of a program for which this word is given.
 pub fn entry_of<'p>(
     process: &Process<'p>,
     word: &[u8],
@@ -107,7 +106,7 @@ pub fn entry_of<'p>(
     ensures check { verdict result ≡ nearest_part (process_view process.now) word.now (file program.now.elf) program.now.load }
     ensures value { IfOk result (λ e. spec.entry_of (process_view process.now) word.now (file program.now.elf) program.now.load ≡ Some (entry_view e.now)) }
 {
-    let tail = longest_tail(word, process.entries);
+    let tail = longest_tail(process, word);
     if tail == 0 {
         return Err(ModuleFault::NotMapped);
     }

@@ -2,9 +2,13 @@
 
 ghost use Rattle.std.specs.Prelude.{◌<◌, map};
 ghost use Rattle.sf_modules.specs.Entry.{entry_view};
+ghost use Rattle.sf_modules.specs.LastParts.{AreByPart};
 ghost use Rattle.sf_modules.specs.Stretches.{AreInOrder};
 
+use crate::candidates::Candidates;
 use crate::entry::Entry;
+use crate::last_parts::{LastParts, last_parts_of};
+use crate::name::last_part;
 use crate::stretches::Stretches;
 use core_notes::{Core, MemoryMap};
 use sf_base::NoMemory;
@@ -21,14 +25,19 @@ pub struct Process<'p> {
     pub(crate) memory: MemoryMap<'p>,
     /// The files, put in order.
     pub(crate) stretches: Stretches<'p>,
+    /// Where those of each last part are.
+    pub(crate) last_parts: LastParts<'p>,
     ghost some: { 0 < page },
     ghost ordered: { AreInOrder stretches (map entry_view entries.now) },
+    ghost by_part: { AreByPart last_parts (map entry_view entries.now) },
 }
 
 impl<'p> Process<'p> {
     ghost use Rattle.std.specs.Prelude.{◌≡◌, IfOk, map};
     ghost use Rattle.core_notes.specs.Views.{core_bytes};
+    ghost use Rattle.sf_modules.specs.Candidates.{candidates};
     ghost use Rattle.sf_modules.specs.Entry.{entry_view};
+    ghost use Rattle.sf_modules.specs.LastParts.{candidates_left};
     ghost use Rattle.sf_modules.specs.Process.{process_of, process_view};
 
     /// The process of a core file, with the page size and the entries of its note on mapped files: put in order, once for
@@ -46,11 +55,24 @@ impl<'p> Process<'p> {
     {
         let memory = MemoryMap::new(alloc, core)?;
         let stretches = Stretches::new(alloc, entries)?;
+        let last_parts = last_parts_of(alloc, entries)?;
         Ok(Process {
             page,
             entries,
             memory,
             stretches,
+            last_parts,
         })
+    }
+
+    /// Returns the entries whose names have the last part of a word.
+    pub(crate) fn candidates(&self, word: &[u8]) -> Candidates<'_, 'p>
+        ensures { candidates_left result ≡ candidates word.now (map entry_view self.now.entries.now) }
+    {
+        Candidates {
+            entries: self.entries,
+            next: &self.last_parts.next,
+            at: self.last_parts.first.get(last_part(word)).copied(),
+        }
     }
 }
