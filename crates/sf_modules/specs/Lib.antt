@@ -13,6 +13,7 @@ pub mod Match
 pub mod Build
 pub mod Module
 pub mod Reading
+pub mod ReadFile
 pub mod Found
 pub mod Union
 pub mod FaultShown

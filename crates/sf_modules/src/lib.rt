@@ -13,10 +13,11 @@
 //!
 //! The caller owes files of fewer than 2^32 bytes, and a page size that isn't 0, as `entries` returns. [`Process::new`] puts
 //! a core file and its entries in order once for all files, in the time of a sort of them. `read_module` allocates nothing.
-//! It goes over the entries three times, and, for each entry of a nearest name that has the first loaded segment's place,
-//! over the file's program headers, with two searches by halves for each loaded one. `Modules::new` takes the time of a sort
-//! of the entries, and of the functions of each section that doesn't say to be sorted; an address is then found by two
-//! searches by halves.
+//! It goes over the entries whose names have the word's last part, three times. For each of a nearest name that has the first
+//! loaded segment's place it tries the segment at which the file didn't fit the entry before, and, where it fits there, goes
+//! over the file's program headers, with two searches by halves for each loaded one. [`read_module_once`] does this once for
+//! a file that is given again. `Modules::new` takes the time of a sort of the entries, and of the functions of each section
+//! that doesn't say to be sorted; an address is then found by two searches by halves.
 #![tactic(auto)]
 
 mod build;
@@ -36,6 +37,7 @@ mod nearest;
 mod note;
 mod notice;
 mod process;
+mod read_once;
 mod spans;
 mod stretch;
 mod stretches;
@@ -47,3 +49,4 @@ pub use mapped::{Module, read_module};
 pub use modules::{Modules, walk_modules};
 pub use note::entries;
 pub use process::Process;
+pub use read_once::{ReadFile, read_module_once};

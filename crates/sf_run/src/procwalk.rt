@@ -23,7 +23,9 @@ use crate::walk::{mixed, same_machine, unread_core, walks_text};
 use core_notes::Core;
 use sf_decode::DecodeFault;
 use sf_model::Arch;
-use sf_modules::{Entry, Module, ModuleFault, Modules, Process, entries, read_module};
+use sf_modules::{
+    Entry, Module, ModuleFault, Modules, Process, ReadFile, entries, read_module_once,
+};
 use sf_text::Output;
 use sf_words::{Limit, Refusal};
 use std::alloc::Global;
@@ -63,10 +65,20 @@ fn modules_of<'a, 'm>(
     ensures refused { IfErr result (λ refused. (depth : ℕ) → ComesAs (FilesCome (process_view process.now) depth (zip (map string_bytes names.now) (map (λ v. v.items) items.now)) (files_fault (process_view process.now) (zip (map string_bytes names.now) (map (λ v. v.items) items.now)))) refused) }
 {
     let mut modules: Vec<Module<'m, 'm>> = Vec::new(alloc);
+    let mut files: Vec<ReadFile<'_, 'm, 'm>> = Vec::new(alloc);
     for (name, bytes) in names.iter().zip(items) {
         let item = modules.len() as u32 + 1;
-        match read_module(process, name.as_bytes(), bytes) {
-            Ok(module) => modules.push(module)?,
+        let word = name.as_bytes();
+        let bytes = bytes.as_slice();
+        match read_module_once(process, &files, word, bytes) {
+            Ok(module) => {
+                modules.push(module)?;
+                files.push(ReadFile {
+                    word,
+                    bytes,
+                    module,
+                })?;
+            }
             Err(fault) => return Err(unread_module(&fault, item)),
         }
     }

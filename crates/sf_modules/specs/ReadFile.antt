@@ -1,0 +1,14 @@
+-- Files that were read, with their modules.
+use Rattle.std.specs.Prelude.{◌≡◌, List, Ok, All}
+use Rattle.sf_modules.specs.declared.read_once.ReadFile.{ReadFile}
+use Rattle.sf_modules.specs.Module.{IsModule, module_view}
+use Rattle.sf_modules.specs.Process.{ProcessView}
+use Rattle.sf_modules.specs.Reading.{module_check}
+
+-- no check of the file fails, and this is its module
+pub record IsRead (p : ProcessView) (file : ReadFile) : Type 0 where
+  pub fine : module_check p file.word.now file.bytes.now ≡ Ok tt
+  pub is : IsModule p file.word.now file.bytes.now (module_view file.module)
+
+abbrev pub AreRead : ProcessView → List ReadFile → Type 0
+AreRead p files = All (IsRead p) files

@@ -1,0 +1,57 @@
+//! Files that are given more than once: each is looked for once.
+
+ghost use Rattle.std.specs.Prelude.{◌≡◌, ◌<◌, ◌^◌, ◌&&◌, bytes_eq, IfOk, length};
+ghost use Rattle.sf_modules.specs.Fault.{verdict};
+ghost use Rattle.sf_modules.specs.Module.{IsModule, module_view};
+ghost use Rattle.sf_modules.specs.Process.{process_view};
+ghost use Rattle.sf_modules.specs.ReadFile.{AreRead};
+ghost use Rattle.sf_modules.specs.Reading.{module_check};
+
+use crate::fault::ModuleFault;
+use crate::mapped::{Module, read_module};
+use crate::process::Process;
+
+/// A file that was read, with its module.
+#[derive(Clone, Copy)]
+pub struct ReadFile<'w, 'p, 'a> {
+    /// The word that was given for the file.
+    pub word: &'w [u8],
+    /// The file's bytes.
+    pub bytes: &'a [u8],
+    /// Its module.
+    pub module: Module<'p, 'a>,
+}
+
+// Returns whether this word and these bytes are those of a file that was read.
+fn is_same(file: &ReadFile<'_, '_, '_>, word: &[u8], bytes: &[u8]) -> bool
+    ensures { result ≡ (bytes_eq file.now.word.now word.now && bytes_eq file.now.bytes.now bytes.now) }
+{
+    file.word == word && file.bytes == bytes
+}
+
+/// Reads the module of a file as [`read_module`] does. Where one of `files`, which were read before, has this word and these
+/// bytes, the module is that one's.
+///
+/// # Errors
+///
+/// As of [`read_module`].
+pub fn read_module_once<'p, 'a>(
+    process: &Process<'p>,
+    files: &[ReadFile<'_, 'p, 'a>],
+    word: &[u8],
+    bytes: &'a [u8],
+) -> Result<Module<'p, 'a>, ModuleFault>
+    requires small { length bytes.now < 2 ^ 32 }
+    requires before { AreRead (process_view process.now) files.now }
+    // What was read is the module of the file.
+    ensures sound { IfOk result (λ m. IsModule (process_view process.now) word.now bytes.now (module_view m)) }
+    // It is read exactly where no check fails; else the fault is that of the first that does.
+    ensures exact { verdict result ≡ module_check (process_view process.now) word.now bytes.now }
+{
+    for file in files {
+        if is_same(file, word, bytes) {
+            return Ok(file.module);
+        }
+    }
+    read_module(process, word, bytes)
+}
