@@ -66,6 +66,8 @@ USUAL = Limits()
 PRINTED = Limits(written=0)
 # What holds the records of omitted functions, each as long as it says.
 LENDING = Limits(files=40)
+# What puts the shortest entries of mapped files in order, and reads a file that is given 512 times each time.
+ORDERED = Limits(files=6)
 
 # The limits of each input of inputs.py. One without is only shown.
 INPUTS = {
@@ -121,12 +123,11 @@ INPUTS = {
     "files_and_a_long_name": USUAL,
     "files_and_alike_names": USUAL,
     "file_of_many_candidates": USUAL,
+    "files_of_many_candidates": ORDERED,
+    "candidates_of_many_segments": USUAL,
     "executables_over_falling_segments": USUAL,
     "notes_of_a_module": USUAL,
     "loads_and_notes_of_a_module": USUAL,
-    # Each entry of a file's name is tried, at each of the file's segments: these take longer.
-    "candidates_of_many_segments": None,
-    "files_of_many_candidates": None,
 }
 
 
