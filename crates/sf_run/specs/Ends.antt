@@ -22,7 +22,7 @@ use Rattle.sf_run.specs.Coming.{Coming, Refused, Exceeded, Makes}
 use Rattle.sf_run.specs.Making.{ComesAs}
 use Rattle.sf_run.specs.declared.status.Status.{Status}
 use Rattle.sf_run.specs.declared.status.Status.TheVariants as status
-use Rattle.sf_run.specs.Lines.{Says, read_line, write_file_line, write_output_line, memory_line, limit_line}
+use Rattle.sf_run.specs.Lines.{Says, usage_line, read_line, write_file_line, write_output_line, memory_line, limit_line}
 use Rattle.sf_run.specs.Status.{status_for, status_of}
 
 -- what is seen of the outside
@@ -138,6 +138,13 @@ pub record AnswersFor (answer : Status) (command : CommandWords) (items : List (
 abbrev pub RunIsComplete : Status → CommandWords → (before after : Seen) → Type 0
 RunIsComplete answer command before after =
     IfSome before.files.contents (λ known. NoneFailed before after → AnswersFor answer command (bytes_known known (items_of command)))
+
+-- A run of the words of a command line, whichever they are: they have no form, or ask for a command, or memory ran out before they were read.
+abbrev pub SomeRunEnds : Status → (before after : Seen) → Type 0
+SomeRunEnds answer before after =
+    ((answer ≡ status.Usage) × TurnedAway before after usage_line)
+    ⊎ (((command : CommandWords) × RunEnds answer command before after)
+    ⊎ ((answer ≡ status.Memory) × TurnedAway before after memory_line))
 
 -- ---- refusals and deliveries
 -- why a run makes nothing: an item could not be read, or a refusal is what the run comes to, or memory ran out

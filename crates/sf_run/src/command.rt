@@ -9,7 +9,7 @@ ghost use Rattle.sf_words.specs.Loading.{AreLoaded, IsRead};
 ghost use Rattle.sf_words.specs.Items.{counted_items, item_names, items_of};
 ghost use Rattle.sf_words.specs.Parsed.{Asks, words_of};
 ghost use Rattle.sf_words.specs.Words.{CanBeAsked, CommandWords, HasNoForm, IsCommand, out_name};
-ghost use Rattle.sf_run.specs.Ends.{RunEnds, RunIsComplete, RunRefuses, TurnedAway, TurnedAwayUnread, seen};
+ghost use Rattle.sf_run.specs.Ends.{RunEnds, RunIsComplete, RunRefuses, SomeRunEnds, TurnedAway, TurnedAwayUnread, seen};
 ghost use Rattle.sf_run.specs.Lines.{usage_line};
 
 use crate::deliver::deliver;
@@ -81,8 +81,8 @@ fn run_command<F: Files, O: Sink, E: Sink>(
 ) -> Status
     requires asked { (wanted : CommandWords) × Asks command.now wanted }
     requires form { (wanted : CommandWords) → Asks command.now wanted → CanBeAsked wanted }
-    requires open { (wanted : CommandWords) → Asks command.now wanted → All (λ name. IsTrue (F.may_open files.old name)) (item_names wanted) }
-    requires create { (wanted : CommandWords) → Asks command.now wanted → IfSome (out_name wanted) (λ name. IsTrue (F.may_create files.old name)) }
+    requires open { (wanted : CommandWords) → Asks command.now wanted → counted_items wanted ≤ 512 → All (λ name. IsTrue (F.may_open files.old name)) (item_names wanted) }
+    requires create { (wanted : CommandWords) → Asks command.now wanted → counted_items wanted ≤ 512 → IfSome (out_name wanted) (λ name. IsTrue (F.may_create files.old name)) }
     ensures ends { (wanted : CommandWords) → Asks command.now wanted → RunEnds result wanted
         (seen (F.seen files.old) (O.seen out.old) (E.seen err.old)) (seen (F.seen files.new) (O.seen out.new) (E.seen err.new)) }
     ensures counted { (wanted : CommandWords) → Asks command.now wanted → 512 < counted_items wanted → TurnedAwayUnread result
@@ -97,8 +97,11 @@ fn run_command<F: Files, O: Sink, E: Sink>(
     }
 }
 
-/// Runs the command that the words ask for, and returns how it ended. Nothing is opened or created but
-/// what the words name. On the statuses from 2 on one line goes to `err`, whose faults change nothing.
+/// Runs the command that the words ask for, and returns how it ended. On the statuses from 2 on one line goes
+/// to `err`, whose faults change nothing.
+///
+/// The caller permits what may be opened or created: what the words name, of a command with at most 512 files.
+/// So nothing else is; and where the words have no form, or name more files, no name is opened or created at all.
 pub fn run<F: Files, O: Sink, E: Sink>(
     alloc: Global,
     words: &[String],
@@ -106,8 +109,8 @@ pub fn run<F: Files, O: Sink, E: Sink>(
     out: &mut O,
     err: &mut E,
 ) -> Status
-    requires open { (command : CommandWords) → IsCommand (map string_bytes words.now) command → All (λ name. IsTrue (F.may_open files.old name)) (item_names command) }
-    requires create { (command : CommandWords) → IsCommand (map string_bytes words.now) command → IfSome (out_name command) (λ name. IsTrue (F.may_create files.old name)) }
+    requires open { (command : CommandWords) → IsCommand (map string_bytes words.now) command → counted_items command ≤ 512 → All (λ name. IsTrue (F.may_open files.old name)) (item_names command) }
+    requires create { (command : CommandWords) → IsCommand (map string_bytes words.now) command → counted_items command ≤ 512 → IfSome (out_name command) (λ name. IsTrue (F.may_create files.old name)) }
     ensures usage { (result ≡ Status.Usage) ↔ HasNoForm (map string_bytes words.now) }
     ensures turned_away { HasNoForm (map string_bytes words.now) → TurnedAway
         (seen (F.seen files.old) (O.seen out.old) (E.seen err.old)) (seen (F.seen files.new) (O.seen out.new) (E.seen err.new)) usage_line }
@@ -116,6 +119,9 @@ pub fn run<F: Files, O: Sink, E: Sink>(
         (seen (F.seen files.old) (O.seen out.old) (E.seen err.old)) (seen (F.seen files.new) (O.seen out.new) (E.seen err.new)) }
     // What each status says.
     ensures ends { (command : CommandWords) → IsCommand (map string_bytes words.now) command → RunEnds result command
+        (seen (F.seen files.old) (O.seen out.old) (E.seen err.old)) (seen (F.seen files.new) (O.seen out.new) (E.seen err.new)) }
+    // Each run ends as one of them.
+    ensures some { SomeRunEnds result
         (seen (F.seen files.old) (O.seen out.old) (E.seen err.old)) (seen (F.seen files.new) (O.seen out.new) (E.seen err.new)) }
     // Which status comes, where no call fails.
     ensures complete { (command : CommandWords) → IsCommand (map string_bytes words.now) command → RunIsComplete result command

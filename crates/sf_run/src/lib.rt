@@ -34,6 +34,7 @@ pub use laws::{
     a_shown_section_comes_to_something, linking_comes_to_a_result,
     nothing_is_refused_of_inputs_that_can_be_linked,
 };
+pub use lines::say;
 pub use made::{Made, Outcome};
 pub use making::make;
 pub use status::Status;

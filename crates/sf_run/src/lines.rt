@@ -28,14 +28,14 @@ fn put_name_line<S: Sink>(sink: &mut S, front: &str, name: &str) -> Result<(), F
     put_all(sink, b"\n")
 }
 
-/// Says one line. Where the sink fails, a prefix of the line stands there.
+/// Writes one line: the text and a line feed. Where the sink fails, a prefix of the line is there.
 pub fn say<S: Sink>(sink: &mut S, text: &str)
     ensures { Says (S.seen sink.old) (S.seen sink.new) (line text.now) }
 {
     let _ = put_line(sink, text);
 }
 
-/// Says one line that ends with a name, in which control characters are shown as `\xNN`, byte by byte.
+/// Writes one line that ends with a name, in which control characters are shown as `\xNN`, byte by byte.
 pub fn say_name<S: Sink>(sink: &mut S, front: &str, name: &str)
     ensures { Says (S.seen sink.old) (S.seen sink.new) (line (front.now ++ shown_name name.now)) }
 {

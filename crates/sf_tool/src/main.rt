@@ -2,13 +2,17 @@
 //! standard streams, and ends with its status.
 #![tactic(auto)]
 
-ghost use Rattle.std.specs.Prelude.{◌≡◌, ◌↔◌, map};
+ghost use Rattle.std.specs.Prelude.{◌≡◌, ◌↔◌, ◌<◌, codes, map};
 ghost use Rattle.std.specs.String.{string_bytes};
-ghost use Rattle.sf_words.specs.Words.{HasNoForm};
+ghost use Rattle.sf_words.specs.Items.{counted_items};
+ghost use Rattle.sf_words.specs.Words.{CommandWords, HasNoForm, IsCommand};
+ghost use Rattle.sf_run.specs.Ends.{RunEnds, SomeRunEnds, TurnedAway, TurnedAwayUnread, seen};
+ghost use Rattle.sf_run.specs.Lines.{Says, line, memory_line, usage_line};
 
-use sf_base::{HostFiles, HostSink, put_all};
-use sf_run::{Status, run};
+use sf_base::{Files, HostFiles, HostSink, Sink};
+use sf_run::{Status, run, say};
 use std::fs::File;
+use std::io::Write;
 use std::os::fd::AsFd;
 use std::process::ExitCode;
 use std::{env, io};
@@ -41,36 +45,81 @@ fn words(rt: &HostRuntime) -> io::Result<Vec<String>> {
         .map_err(io::Error::from)
 }
 
-/// Runs over the machine's files and streams.
-fn run_on_host(rt: &HostRuntime, words: &[String]) -> Status
+/// Runs the command of these words over the machine's files and streams. These tell nothing of what they hold, so of the
+/// clauses of `sf_run::run` those are left that need no contents: which status comes with which counts of faults, that a
+/// refusal created no file, and that nothing failed unseen.
+fn run_on_host<'a, O: Write + Drop, E: Write + Drop>(
+    rt: &HostRuntime,
+    words: &[String],
+    files: &mut HostFiles<'a, HostRuntime>,
+    out: &mut HostSink<O>,
+    err: &mut HostSink<E>,
+) -> Status
     ensures usage { (result ≡ Status.Usage) ↔ HasNoForm (map string_bytes words.now) }
+    ensures turned_away { HasNoForm (map string_bytes words.now) → TurnedAway
+        (seen (⟦<HostFiles<'a, HostRuntime> as Files>⟧.seen files.old) (⟦<HostSink<O> as Sink>⟧.seen out.old) (⟦<HostSink<E> as Sink>⟧.seen err.old))
+        (seen (⟦<HostFiles<'a, HostRuntime> as Files>⟧.seen files.new) (⟦<HostSink<O> as Sink>⟧.seen out.new) (⟦<HostSink<E> as Sink>⟧.seen err.new)) usage_line }
+    ensures counted { (command : CommandWords) → IsCommand (map string_bytes words.now) command → 512 < counted_items command → TurnedAwayUnread result
+        (seen (⟦<HostFiles<'a, HostRuntime> as Files>⟧.seen files.old) (⟦<HostSink<O> as Sink>⟧.seen out.old) (⟦<HostSink<E> as Sink>⟧.seen err.old))
+        (seen (⟦<HostFiles<'a, HostRuntime> as Files>⟧.seen files.new) (⟦<HostSink<O> as Sink>⟧.seen out.new) (⟦<HostSink<E> as Sink>⟧.seen err.new)) }
+    ensures ends { (command : CommandWords) → IsCommand (map string_bytes words.now) command → RunEnds result command
+        (seen (⟦<HostFiles<'a, HostRuntime> as Files>⟧.seen files.old) (⟦<HostSink<O> as Sink>⟧.seen out.old) (⟦<HostSink<E> as Sink>⟧.seen err.old))
+        (seen (⟦<HostFiles<'a, HostRuntime> as Files>⟧.seen files.new) (⟦<HostSink<O> as Sink>⟧.seen out.new) (⟦<HostSink<E> as Sink>⟧.seen err.new)) }
+    ensures some { SomeRunEnds result
+        (seen (⟦<HostFiles<'a, HostRuntime> as Files>⟧.seen files.old) (⟦<HostSink<O> as Sink>⟧.seen out.old) (⟦<HostSink<E> as Sink>⟧.seen err.old))
+        (seen (⟦<HostFiles<'a, HostRuntime> as Files>⟧.seen files.new) (⟦<HostSink<O> as Sink>⟧.seen out.new) (⟦<HostSink<E> as Sink>⟧.seen err.new)) }
 {
-    let mut files = HostFiles::new(rt);
-    let mut out = HostSink::new(rt.stdout());
-    let mut err = HostSink::new(rt.stderr());
-    run(rt.alloc(), words, &mut files, &mut out, &mut err)
+    run(rt.alloc(), words, files, out, err)
 }
 
-/// Prints the line of a run that ends before `run` is called; the status is the same.
-fn ended(rt: &HostRuntime, status: Status, line: &[u8]) -> Status {
-    let _ = put_all(&mut HostSink::new(rt.stderr()), line);
-    status
+/// Says that memory ran out before the words were read.
+fn out_of_memory<E: Sink>(err: &mut E) -> Status
+    ensures status { result ≡ Status.Memory }
+    ensures says { Says (E.seen err.old) (E.seen err.new) memory_line }
+{
+    say(err, "memory");
+    Status::Memory
 }
 
-/// The status of a run on the words of the command line.
-fn run_on_words(rt: &HostRuntime) -> Status {
+/// Says that the null device can't be opened.
+fn not_held<E: Sink>(err: &mut E) -> Status
+    ensures status { result ≡ Status.Read }
+    ensures says { Says (E.seen err.old) (E.seen err.new) (line (codes "read /dev/null")) }
+{
+    say(err, "read /dev/null");
+    Status::Read
+}
+
+/// Runs the command of the command line's words over the machine's files and streams.
+fn run_words<'a, O: Write + Drop, E: Write + Drop>(
+    rt: &HostRuntime,
+    files: &mut HostFiles<'a, HostRuntime>,
+    out: &mut HostSink<O>,
+    err: &mut HostSink<E>,
+) -> Status
+    ensures { SomeRunEnds result
+        (seen (⟦<HostFiles<'a, HostRuntime> as Files>⟧.seen files.old) (⟦<HostSink<O> as Sink>⟧.seen out.old) (⟦<HostSink<E> as Sink>⟧.seen err.old))
+        (seen (⟦<HostFiles<'a, HostRuntime> as Files>⟧.seen files.new) (⟦<HostSink<O> as Sink>⟧.seen out.new) (⟦<HostSink<E> as Sink>⟧.seen err.new)) }
+{
     match words(rt) {
-        Ok(words) => run_on_host(rt, &words),
+        Ok(words) => run_on_host(rt, &words, files, out, err),
         // Words that are no text have no form.
-        Err(fault) if fault.kind() != io::ErrorKind::OutOfMemory => run_on_host(rt, &[]),
-        Err(_) => ended(rt, Status::Memory, b"memory\n"),
+        Err(fault) if fault.kind() != io::ErrorKind::OutOfMemory => {
+            run_on_host(rt, &[], files, out, err)
+        }
+        Err(_) => out_of_memory(err),
     }
 }
 
 fn main(rt: HostRuntime) -> ExitCode {
+    let mut err = HostSink::new(rt.stderr());
     let status = match hold_streams(&rt) {
-        Ok(_held) => run_on_words(&rt),
-        Err(_) => ended(&rt, Status::Read, b"read /dev/null\n"),
+        Ok(_held) => {
+            let mut files = HostFiles::new(&rt);
+            let mut out = HostSink::new(rt.stdout());
+            run_words(&rt, &mut files, &mut out, &mut err)
+        }
+        Err(_) => not_held(&mut err),
     };
     ExitCode::from(status.code())
 }
