@@ -14,11 +14,11 @@ use Rattle.sf_run.specs.LinkComes.{objects_in}
 use Rattle.sf_run.specs.Linked.{LinkedComes}
 use Rattle.sf_run.specs.WalkComes.{coming_of_core, walks_text}
 
--- the walks of all threads of a core file by the rows of DWARF, with the file's memory, each of so many frames at most
+-- the walks of all threads of a core file by the rows of DWARF, with the file's memory, each of at most `depth` frames
 abbrev pub dwarf_walks : List Function → (core : List ℕ) → (depth : ℕ) → List ℕ
 dwarf_walks functions core depth = walks_text (λ thread. dwarf_walk functions thread (file_regions core) depth) 0 (file_threads core)
 
--- the section, and the walks by the rows of DWARF: what the section says has no part in their text
+-- the section, and the walks by the rows of DWARF: their text does not depend on the section
 abbrev pub section_and_walks : (core : List ℕ) → (depth : ℕ) → List Function → (section : List ℕ) → (kept : ℕ) → (omitted : List Omitted) → Coming
 section_and_walks core depth functions section kept omitted = Makes Done (Some section) (dwarf_walks functions core depth)
 

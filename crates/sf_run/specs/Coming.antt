@@ -4,7 +4,7 @@ use Rattle.sf_model.specs.FaultShown.{FaultShown}
 use Rattle.sf_words.specs.declared.refusal.Limit.{Limit}
 use Rattle.sf_run.specs.declared.made.Outcome.{Outcome}
 
--- refused, and what the line shows; a limit is exceeded; or made: with this outcome, a section or none, and a text
+-- an item is refused, with what the line shows; a limit is exceeded; or something is made: with this outcome, a section or none, and a text
 pub data Coming : Type 0 where
   Refused : (shown : FaultShown) → Coming
   Exceeded : (limit : Limit) → Coming

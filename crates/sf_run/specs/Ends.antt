@@ -1,4 +1,4 @@
--- How a run of a command ends: for each status what files and streams then hold, and which line was said.
+-- How a run of a command ends: for each status what files and streams then hold, and which line was printed.
 use Rattle.std.specs.Prelude.{◌≡◌, ◌⊎◌, ℕ, List, [], Contains, Option, Some, None, IfSome, IsTrue}
 use Rattle.sf_base.specs.Contents.{Unchanged, Holds, HoldsPrefix}
 use Rattle.sf_base.specs.Faults.{Rose}
@@ -31,10 +31,11 @@ pub record Seen : Type 0 where
   pub out : SinkSeen
   pub err : SinkSeen
 
+-- what is seen of these files and streams
 abbrev pub seen : FilesSeen → (out err : SinkSeen) → Seen
 seen files out err = record { files = files; out = out; err = err }
 
--- the command comes to this over the bytes of its items, which are those that its files hold, where that is known
+-- the command comes to this over the bytes of its items: what its files hold, where that is known
 pub record RunComes (command : CommandWords) (contents : Contents) (coming : Coming) : Type 0 where
   pub items : List (List ℕ)
   pub bytes : AreBytesOf contents (items_of command) items
@@ -74,7 +75,7 @@ pub record OutputFailed (file section : Option (List ℕ)) (text : List ℕ) (be
   pub cause : Rose before.out.faults after.out.faults
   pub says : Says before.err after.err write_output_line
 
--- what the command's file holds that could not be made or written whole: what it held before, or a prefix of the section
+-- what the command's file holds, if it could not be created or written whole: what it held before, or a prefix of the section
 abbrev pub StoredPart : (file section : Option (List ℕ)) → (before after : FilesSeen) → Type 0
 StoredPart (Some name) (Some section) before after = Unchanged before.contents after.contents ⊎ HoldsPrefix before.contents after.contents name section
 StoredPart (Some name) None before after = ⊥
@@ -85,7 +86,7 @@ abbrev pub file_line : Option (List ℕ) → List ℕ
 file_line (Some name) = write_file_line name
 file_line None = []
 
--- the file could not be made or written whole
+-- the file could not be created or written whole
 pub record FileFailed (file section : Option (List ℕ)) (before after : Seen) : Type 0 where
   pub stored : StoredPart file section before.files after.files
   pub cause : Rose before.files.write_faults after.files.write_faults

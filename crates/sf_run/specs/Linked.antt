@@ -20,11 +20,11 @@ coming_of_linking (Gather TooManyFunctions) = Exceeded Functions
 coming_of_linking (Gather TooManyRows) = Exceeded Rows
 coming_of_linking fault = Refused (shown_of_linking None fault)
 
--- what a command makes of the functions of its inputs, of their section, of how many functions it holds, and of those that were left out
+-- what a command makes of the functions of its inputs, of their section, of how many functions it holds, and of those that were omitted
 abbrev pub Makings : Type 0
 Makings = (functions : List Function) → (section : List ℕ) → (kept : ℕ) → (omitted : List Omitted) → Coming
 
--- The section is the faithful one of the inputs, behind an item of this machine or of none, without gaps and with the least widths, and
+-- The section is the faithful one of the inputs, after an item for this machine or after none, without gaps and with the least widths, and
 -- this is made of it.
 pub record MakesLinked (before : Option Arch) (objects : List Object) (at : ℕ) (made : Makings) (coming : Coming) : Type 0 where
   pub section : List ℕ

@@ -52,7 +52,7 @@ IsModuleOf p file m = IsModule p file.0 file.1 m
 abbrev pub file_check : ProcessView → File → Check
 file_check p file = module_check p file.0 file.1
 
--- the first file of which no module is read, and its fault: the files are the items 1 and on
+-- the first file whose module can't be read, and its fault: the files are the items from 1 on
 abbrev pub files_fault : ProcessView → List File → Option (ℕ × ModuleFault)
 files_fault p files = first_fault (file_check p) 1 files
 
@@ -60,7 +60,7 @@ files_fault p files = first_fault (file_check p) 1 files
 abbrev pub is_other : Arch → ModuleView → Bool
 is_other arch m = not (is_same arch m.machine && is_same arch m.table.arch)
 
--- the item of the first such module
+-- the item of the first module whose file or section is for another machine
 abbrev pub mixed_item : Arch → List ModuleView → Option ℕ
 mixed_item arch modules = option_map (λ (k : ℕ). k + 1) (position (is_other arch) modules)
 
@@ -71,7 +71,7 @@ sums_limit tables =
     if nat_lt (2 ^ 24) (rows_in_all tables) then Some Rows else None
 
 -- ---- the walks
--- of all threads of a core file by the rows of modules, with the file's memory, each of so many frames at most
+-- the walks of all threads of a core file by the rows of modules, with the file's memory, each of at most `depth` frames
 abbrev pub modules_walks : List EntryView → List ModuleView → (core : List ℕ) → (depth : ℕ) → List ℕ
 modules_walks entries modules core depth = walks_text (λ thread. modules_walk entries modules thread (file_regions core) depth) 0 (file_threads core)
 
@@ -99,7 +99,7 @@ file_note core = file_note_in (whole_notes (items_of core))
 abbrev pub process_of : (core : List ℕ) → (page : ℕ) → List EntryView → ProcessView
 process_of core page entries = record { core = core; page = page; entries = entries }
 
--- what the files come to by the page size and the entries of that note: the first of which no module is read, or the walks
+-- what the files come to by the page size and the entries of that note: the first whose module can't be read, or the walks
 pub record EntriesCome (core : List ℕ) (depth : ℕ) (files : List File) (coming : Coming) : Type 0 where
   pub page : ℕ
   pub entries : List EntryView

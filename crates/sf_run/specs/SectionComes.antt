@@ -31,7 +31,7 @@ abbrev pub found_outcome : Option FoundRow → Outcome
 found_outcome None = No
 found_outcome (Some found) = Done
 
--- the outcome and the text: of all that the section says, or of the row that holds at an address
+-- the outcome and the text: of all that the section holds, or of the row that holds at an address
 abbrev pub Shows : Query → Table → Outcome → (text : List ℕ) → Type 0
 Shows Whole table outcome text = (outcome ≡ Done) × (text ≡ dump_text table)
 Shows (RowAt pc) table outcome text = (outcome ≡ found_outcome (found_at table.functions pc)) × (text ≡ found_text pc (option_map pair_of (found_at table.functions pc)))

@@ -15,7 +15,7 @@ use Rattle.sf_run.specs.declared.made.Outcome.TheVariants.{Done}
 use Rattle.sf_run.specs.Coming.{Coming, Refused, Makes}
 use Rattle.sf_run.specs.SectionComes.{coming_of_decoding}
 
--- The section is that of what is needed of the section of these bytes, which says this table, without gaps and with the least widths. The
+-- The section is that of what is needed of the section of these bytes, which has this table, without gaps and with the least widths. The
 -- text has the lengths of both, and the counts of the new one's functions and rows.
 pub record MakesSlim (bytes : List ℕ) (table : Table) (at : ℕ) (coming : Coming) : Type 0 where
   pub section : List ℕ

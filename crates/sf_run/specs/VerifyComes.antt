@@ -27,7 +27,7 @@ coming_of_verifying (Gather TooManyFunctions) = Exceeded Functions
 coming_of_verifying (Gather TooManyRows) = Exceeded Rows
 coming_of_verifying fault = Refused (shown_of_verifying (Some 0) fault)
 
--- the answer is no where they differ
+-- the outcome is no if they differ
 abbrev pub verdict_outcome : Verdict → Outcome
 verdict_outcome (Agrees checked missing repeats) = Done
 verdict_outcome (Differs pc section dwarf) = No

@@ -36,11 +36,11 @@ unfoldable pub walks_text : (walk_of : ThreadState → Listing) → (first : ℕ
 walks_text walk_of first [] = []
 walks_text walk_of first (thread ∷ threads) = listing_text first thread (walk_of (thread_state thread)) ++ walks_text walk_of (first + 1) threads
 
--- the walks of all threads of a core file by the rows of a table, with the file's memory, each of so many frames at most
+-- the walks of all threads of a core file by the rows of a table, with the file's memory, each of at most `depth` frames
 abbrev pub table_walks : Table → (core : List ℕ) → (depth : ℕ) → List ℕ
 table_walks table core depth = walks_text (λ thread. section_walk table.functions thread (file_regions core) depth) 0 (file_threads core)
 
--- the text, where the section and the core file have one machine; else they are the items 0 and 1
+-- the text, if the section and the core file are for one machine; else the fault that items 0 and 1 are not
 abbrev pub coming_of_walks : (same : Bool) → (text : List ℕ) → Coming
 coming_of_walks true text = Makes Done None text
 coming_of_walks false text = Refused (shown_of_gathering None (MixedArch 0 1))

@@ -26,7 +26,7 @@ use sf_text::Output;
 use sf_words::{InputFile, Refusal};
 use std::alloc::Global;
 
-/// The texts of the walks of all threads by a section that was made, of so many frames each at most.
+/// Returns the texts of the walks of all threads by a section that was made, each of at most `depth` frames.
 fn section_walks(
     alloc: Global,
     section: &[u8],
@@ -44,7 +44,7 @@ fn section_walks(
     }
 }
 
-/// The section of the inputs of these bytes, and the walks of the threads of a core file by it.
+/// Returns the section of the inputs of these bytes, and the walks of a core file's threads by this section.
 pub fn backtrace_made<'a, 'm>(
     alloc: Global,
     inputs: &[InputFile<'_>],

@@ -44,7 +44,7 @@ fn load_items<'a, F: Files>(
     load_all(alloc, &items, files)
 }
 
-/// Loads the items, makes what is asked for and writes it, or says why nothing was made.
+/// Loads the items, makes what is asked for and writes it, or prints why nothing was made.
 fn load_and_deliver<F: Files, O: Sink, E: Sink>(
     alloc: Global,
     asked: &Asked<'_>,
@@ -71,7 +71,7 @@ fn load_and_deliver<F: Files, O: Sink, E: Sink>(
     }
 }
 
-/// Runs a command. Its files are counted before memory is allocated and before one is opened.
+/// Runs a command. Its files are counted before any memory is allocated and before a file is opened.
 fn run_command<F: Files, O: Sink, E: Sink>(
     alloc: Global,
     command: &Command<'_>,
@@ -114,16 +114,16 @@ pub fn run<F: Files, O: Sink, E: Sink>(
     ensures usage { (result ≡ Status.Usage) ↔ HasNoForm (map string_bytes words.now) }
     ensures turned_away { HasNoForm (map string_bytes words.now) → TurnedAway
         (seen (F.seen files.old) (O.seen out.old) (E.seen err.old)) (seen (F.seen files.new) (O.seen out.new) (E.seen err.new)) usage_line }
-    // More than 512 files: no file is read, and no memory is wanted.
+    // More than 512 files: no file is read, and no memory is allocated.
     ensures counted { (command : CommandWords) → IsCommand (map string_bytes words.now) command → 512 < counted_items command → TurnedAwayUnread result
         (seen (F.seen files.old) (O.seen out.old) (E.seen err.old)) (seen (F.seen files.new) (O.seen out.new) (E.seen err.new)) }
-    // What each status says.
+    // What then holds, for each status.
     ensures ends { (command : CommandWords) → IsCommand (map string_bytes words.now) command → RunEnds result command
         (seen (F.seen files.old) (O.seen out.old) (E.seen err.old)) (seen (F.seen files.new) (O.seen out.new) (E.seen err.new)) }
     // Each run ends as one of them.
     ensures some { SomeRunEnds result
         (seen (F.seen files.old) (O.seen out.old) (E.seen err.old)) (seen (F.seen files.new) (O.seen out.new) (E.seen err.new)) }
-    // Which status comes, where no call fails.
+    // Which status is returned, if no call fails.
     ensures complete { (command : CommandWords) → IsCommand (map string_bytes words.now) command → RunIsComplete result command
         (seen (F.seen files.old) (O.seen out.old) (E.seen err.old)) (seen (F.seen files.new) (O.seen out.new) (E.seen err.new)) }
 {

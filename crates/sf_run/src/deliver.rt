@@ -1,4 +1,4 @@
-//! What is made, written out: first the section, then the text.
+//! Writing what is made: first the section, then the text.
 
 ghost use Rattle.std.specs.Prelude.{◌≡◌, ◌⊎◌, IfSome, IsSome, IsTrue, OnOk, OnErr};
 ghost use Rattle.std.specs.Option.{option_map};
@@ -14,7 +14,7 @@ use crate::status::Status;
 use sf_base::{Failed, Files, Sink, put_file};
 use sf_text::put_output;
 
-/// Makes the file and writes the bytes.
+/// Creates the file and writes the bytes.
 fn store<F: Files>(files: &mut F, name: &str, bytes: &[u8]) -> Result<(), Failed>
     requires { IsTrue (F.may_create files.old name.now) }
     ensures whole { OnOk result (StoredIn name.now bytes.now (F.seen files.old) (F.seen files.new)) }
@@ -25,7 +25,7 @@ fn store<F: Files>(files: &mut F, name: &str, bytes: &[u8]) -> Result<(), Failed
     put_file(files, bytes)
 }
 
-/// Stores the section, where one is made for a file.
+/// Stores the section, if one is made for a file.
 fn store_made<F: Files>(
     files: &mut F,
     file: Option<&str>,
@@ -45,7 +45,7 @@ fn store_made<F: Files>(
     }
 }
 
-/// Says that the file could not be written.
+/// Prints that the file could not be written.
 fn say_file<E: Sink>(file: Option<&str>, err: &mut E)
     requires { IsSome file }
     ensures { Says (E.seen err.old) (E.seen err.new) (file_line (option_map (λ name. name.now) file.entry)) }
@@ -55,8 +55,8 @@ fn say_file<E: Sink>(file: Option<&str>, err: &mut E)
     }
 }
 
-/// Writes the section to its file, where there is one, and then the text to the output. Where one fails, a line
-/// says which.
+/// Writes the section to its file, if there is one, and then the text to the output. If one of them fails, a line
+/// is printed for it.
 pub fn deliver<F: Files, O: Sink, E: Sink>(
     file: Option<&str>,
     made: &Made<'_>,

@@ -3,7 +3,7 @@
 //! [`run`] finds the command (`sf_words`), counts the files that it names, loads them, makes what is asked for, and
 //! delivers it: first the section to its file, then the text to the output. Its clauses are in specs/Ends.antt.
 //!
-//! [`make`] is the middle of it, and knows no file and no stream: what it returns is what the command comes to by
+//! [`make`] is the middle of a run, and knows no file and no stream: what it returns is what the command comes to by
 //! `Comes` (specs/Comes.antt), with an arm and a file of specs/ for each command. Two laws say that this is defined:
 //! a command and the bytes of its items come to one thing at most ([`a_run_comes_to_one`]), and to something
 //! ([`a_run_comes_to_something`]).

@@ -1,4 +1,4 @@
-//! One line on a sink, in pieces, without memory.
+//! Writing one line to a sink, part by part, so that nothing is allocated.
 
 ghost use Rattle.std.specs.Prelude.{◌++◌, OnOk, OnErr};
 ghost use Rattle.sf_base.specs.Written.{Appends, AppendsPrefix};
@@ -28,7 +28,7 @@ fn put_name_line<S: Sink>(sink: &mut S, front: &str, name: &str) -> Result<(), F
     put_all(sink, b"\n")
 }
 
-/// Writes one line: the text and a line feed. Where the sink fails, a prefix of the line is there.
+/// Writes one line: the text and a line feed. If the sink fails, it got a prefix of the line.
 pub fn say<S: Sink>(sink: &mut S, text: &str)
     ensures { Says (S.seen sink.old) (S.seen sink.new) (line text.now) }
 {

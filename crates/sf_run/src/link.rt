@@ -19,7 +19,7 @@ use sf_text::{Output, report};
 use sf_words::{InputFile, Limit, Refusal};
 use std::alloc::Global;
 
-/// Why inputs were not linked, as a refusal of the run.
+/// Returns why inputs were not linked, as a refusal of the run.
 pub fn unlinked<'a>(fault: &LinkFault) -> Refusal<'a>
     requires { IsTrue (is_answered fault.now) }
     ensures { ComesAs (λ (coming : Coming). coming ≡ coming_of_linking fault.now) result }
@@ -35,7 +35,7 @@ pub fn unlinked<'a>(fault: &LinkFault) -> Refusal<'a>
     }
 }
 
-/// The inputs with their bytes, in order.
+/// Returns the inputs with their bytes, in order.
 pub fn inputs_in<'b>(
     alloc: Global,
     files: &[InputFile<'_>],
@@ -55,7 +55,7 @@ pub fn inputs_in<'b>(
     Ok(inputs)
 }
 
-/// The section of the inputs of these bytes.
+/// Returns the section of the inputs of these bytes.
 pub fn link_made<'a, 'm>(
     alloc: Global,
     inputs: &[InputFile<'_>],

@@ -14,7 +14,7 @@ use sf_text::{Output, report_plt};
 use sf_words::{InputFile, Refusal};
 use std::alloc::Global;
 
-/// The section of the inputs of these bytes, with their procedure linkage tables.
+/// Returns the section of the inputs of these bytes, with their procedure linkage tables.
 pub fn link_plt_made<'a, 'm>(
     alloc: Global,
     inputs: &[InputFile<'_>],

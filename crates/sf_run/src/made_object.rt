@@ -14,13 +14,13 @@ use sf_text::{Output, summary};
 use sf_words::Refusal;
 use std::alloc::Global;
 
-/// Where the sections of the made object are laid out.
+/// The address from which the sections of the made object are laid out.
 const OBJECT_BASE: u64 = 0x40_0000;
 
-/// Where the section of its link lies.
+/// The address of the section that is linked of the made object.
 const SECTION_ADDRESS: u64 = 0x400_0000;
 
-/// The summary of a link of a made object of `n` functions.
+/// Returns the summary of a link of a made object of `n` functions.
 pub fn gen_made<'a, 'm>(alloc: Global, n: u32) -> Result<Made<'m>, Refusal<'a>>
     requires { n ≤ 100000 }
     ensures { ComesTo (GenComes n) result }

@@ -1,4 +1,4 @@
-//! What a command makes of the bytes of its items.
+//! What each command makes of the bytes of its items.
 
 ghost use Rattle.std.specs.Prelude.{◌≡◌, None, map};
 ghost use Rattle.sf_words.specs.Parsed.{words_of};
@@ -23,8 +23,8 @@ use std::alloc::Global;
 ///
 /// # Errors
 ///
-/// `Refusal::Input` shows what is refused, `Refusal::Limit` says which limit of functions or rows is exceeded,
-/// and `Refusal::Memory` that memory ran out. `Refusal::Read` is never returned.
+/// `Refusal::Input` shows what is refused, `Refusal::Limit` has the limit of functions or rows that is exceeded,
+/// and `Refusal::Memory` means that memory ran out. `Refusal::Read` is never returned.
 pub fn make<'a, 'i>(
     alloc: Global,
     asked: &Asked<'a>,

@@ -16,7 +16,7 @@ use sf_text::{Output, merged};
 use sf_words::{Limit, Refusal, SectionFile};
 use std::alloc::Global;
 
-/// Why sections were not merged, as a refusal of the run.
+/// Returns why sections were not merged, as a refusal of the run.
 fn unmerged<'a>(fault: MergeFault) -> Refusal<'a>
     ensures memory { (fault ≡ MergeFault.NoMemory) → (result ≡ Refusal.Memory) }
     ensures is { ComesAs (λ (coming : Coming). coming ≡ coming_of_merging fault) result }
@@ -30,7 +30,7 @@ fn unmerged<'a>(fault: MergeFault) -> Refusal<'a>
     }
 }
 
-/// The sections of these bytes, in order.
+/// Returns the sections of these bytes, in order.
 fn views_of<'a, 'b>(
     alloc: Global,
     sections: &[SectionFile<'_>],
@@ -54,7 +54,7 @@ fn views_of<'a, 'b>(
     Ok(views)
 }
 
-/// The merged section of these bytes.
+/// Returns the merged section of these bytes.
 pub fn merge_made<'a, 'm>(
     alloc: Global,
     sections: &[SectionFile<'_>],

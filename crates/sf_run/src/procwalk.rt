@@ -36,7 +36,7 @@ const FUNCTION_LIMIT: u64 = 1 << 21;
 /// The most rows of all modules together.
 const ROW_LIMIT: u64 = 1 << 24;
 
-/// Why the mapped files, or the module, of an item were not read, as a refusal of the run.
+/// Returns why the mapped files or the module of an item were not read, as a refusal of the run.
 fn unread_module<'a>(fault: &ModuleFault, item: u32) -> Refusal<'a>
     ensures memory { (fault.now ≡ ModuleFault.NoMemory) → (result ≡ Refusal.Memory) }
     ensures is { ComesAs (λ (coming : Coming). coming ≡ coming_of_module item fault.now) result }
@@ -49,7 +49,7 @@ fn unread_module<'a>(fault: &ModuleFault, item: u32) -> Refusal<'a>
     }
 }
 
-/// The modules of these files, in order. The core file is item 0.
+/// Returns the modules of these files, in order. The core file is item 0.
 fn modules_of<'a, 'm>(
     alloc: Global,
     process: &Process<'m>,
@@ -85,7 +85,8 @@ fn modules_of<'a, 'm>(
     Ok(modules)
 }
 
-/// The same by a core file and what its note on mapped files says, which are put in order for this alone.
+/// Returns the modules of these files by a core file and the entries of its note on mapped files, which are sorted
+/// for this alone.
 fn mapped_modules<'a, 'm>(
     alloc: Global,
     core: &Core<'m>,
@@ -107,21 +108,21 @@ fn mapped_modules<'a, 'm>(
     modules_of(alloc, &process, names, items)
 }
 
-/// Whether a module's file, or its section, is for another machine.
+/// Returns whether a module's file or its section is for another machine.
 fn is_other(arch: Arch, mapped: &Module<'_, '_>) -> bool
     ensures { result ≡ spec.is_other arch (module_view mapped.now) }
 {
     !(same_machine(arch, mapped.machine) && same_machine(arch, mapped.view.arch()))
 }
 
-/// The place of the first such module.
+/// Returns the place of the first module whose file or section is for another machine.
 fn first_other(arch: Arch, modules: &[Module<'_, '_>]) -> Option<usize>
     ensures { result ≡ position (λ m. spec.is_other arch (module_view m)) modules.now }
 {
     modules.iter().position(|mapped| is_other(arch, mapped))
 }
 
-/// The item of the first such module. The core file is item 0.
+/// Returns the item of the first module whose file or section is for another machine. The core file is item 0.
 fn mixed_item(arch: Arch, modules: &[Module<'_, '_>]) -> Option<u32>
     requires { length modules.now ≤ 512 }
     ensures { result ≡ spec.mixed_item arch (map module_view modules.now) }
@@ -130,7 +131,7 @@ fn mixed_item(arch: Arch, modules: &[Module<'_, '_>]) -> Option<u32>
     Some(place as u32 + 1)
 }
 
-/// The limit that the sections of all modules exceed together: of functions first, then of rows.
+/// Returns the limit that the sections of all modules exceed together: of functions first, then of rows.
 fn exceeded(modules: &[Module<'_, '_>]) -> Option<Limit>
     requires { length modules.now ≤ 512 }
     ensures { result ≡ sums_limit (tables_of (map module_view modules.now)) }
@@ -150,7 +151,7 @@ fn exceeded(modules: &[Module<'_, '_>]) -> Option<Limit>
     None
 }
 
-/// The walks of the threads of a core file by modules, where they are for its machine and within the limits.
+/// Returns the walks of a core file's threads by modules, if they are for its machine and within the limits.
 fn walked<'a, 'm>(
     alloc: Global,
     core: &Core<'_>,
@@ -177,7 +178,7 @@ fn walked<'a, 'm>(
     })
 }
 
-/// The walks of the threads of a core file by the modules of these files.
+/// Returns the walks of a core file's threads by the modules of these files.
 pub fn procwalk_made<'a, 'm>(
     alloc: Global,
     core: &[u8],

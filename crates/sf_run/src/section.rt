@@ -19,13 +19,13 @@ use std::alloc::Global;
 /// What is asked of a section.
 #[derive(Clone, Copy)]
 pub enum Query {
-    /// All that it says.
+    /// All that the section holds.
     Whole,
     /// The row that holds at an address.
     RowAt(u64),
 }
 
-/// Why the section of an item was not read, as a refusal of the run.
+/// Returns why the section of an item was not read, as a refusal of the run.
 pub fn undecoded<'a>(fault: DecodeFault, item: u32) -> Refusal<'a>
     ensures { ComesAs (λ (coming : Coming). coming ≡ coming_of_decoding item fault) result }
 {
@@ -36,7 +36,7 @@ pub fn undecoded<'a>(fault: DecodeFault, item: u32) -> Refusal<'a>
     }
 }
 
-/// What is asked of a section.
+/// Returns what is asked of a section.
 fn shown<'a>(alloc: Global, view: &View<'a>, query: Query) -> Result<Made<'a>, NoMemory>
     ensures { IfOk result (λ made. (made.section ≡ None) × Shows query (table_of view.now) made.outcome (output_text made.output)) }
 {
@@ -57,7 +57,7 @@ fn shown<'a>(alloc: Global, view: &View<'a>, query: Query) -> Result<Made<'a>, N
     })
 }
 
-/// What is asked of the section of these bytes.
+/// Returns what is asked of the section of these bytes.
 pub fn section_made<'a, 'i>(
     alloc: Global,
     bytes: &'i [u8],

@@ -15,7 +15,7 @@ use sf_text::{Output, slim_line};
 use sf_words::Refusal;
 use std::alloc::Global;
 
-/// Why the section of the first item was not slimmed, as a refusal of the run.
+/// Returns why the section of the first item was not slimmed, as a refusal of the run.
 fn unslimmed<'a>(fault: SlimFault) -> Refusal<'a>
     ensures memory { (fault ≡ SlimFault.NoMemory) → (result ≡ Refusal.Memory) }
     ensures is { ComesAs (λ (coming : Coming). coming ≡ Refused (shown_of_slimming (Some 0) fault)) result }
@@ -26,7 +26,7 @@ fn unslimmed<'a>(fault: SlimFault) -> Refusal<'a>
     }
 }
 
-/// The section of these bytes, which is at `from`, slimmed for the address `at`.
+/// Returns the section of these bytes, which is at `from`, slimmed for the address `at`.
 pub fn slim_made<'a, 'm>(
     alloc: Global,
     bytes: &[u8],

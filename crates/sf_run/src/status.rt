@@ -27,7 +27,7 @@ pub enum Status {
 }
 
 impl Status {
-    /// The status of a run that made something.
+    /// Returns the status of a run that made something.
     pub fn of(outcome: Outcome) -> Status
         ensures { result ≡ status_for outcome }
     {
@@ -37,7 +37,7 @@ impl Status {
         }
     }
 
-    /// The exit status: 0 to 7, in the order of the variants.
+    /// Returns the exit status: 0 to 7, in the order of the variants.
     pub fn code(self) -> u8
         ensures { result ≡ status_code self }
     {

@@ -9,7 +9,7 @@ use sf_base::Sink;
 use sf_text::{fault_line, file_limit_line};
 use sf_words::{Limit, Refusal};
 
-/// Says which limit is exceeded.
+/// Prints which limit is exceeded.
 fn say_limit<E: Sink>(limit: Limit, err: &mut E)
     ensures { Says (E.seen err.old) (E.seen err.new) (limit_line limit) }
 {
@@ -25,7 +25,7 @@ fn say_limit<E: Sink>(limit: Limit, err: &mut E)
     }
 }
 
-/// Says why nothing was made.
+/// Prints why nothing was made, and returns the status.
 pub fn tell<E: Sink>(refusal: &Refusal<'_>, err: &mut E) -> Status
     requires { CanBeSaid refusal.now }
     ensures { Tells refusal.now result (E.seen err.old) (E.seen err.new) }

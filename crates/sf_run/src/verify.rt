@@ -24,7 +24,7 @@ use sf_verify::{VerifyFault, verify};
 use sf_words::{InputFile, Limit, Refusal};
 use std::alloc::Global;
 
-/// Why a section was not verified, as a refusal of the run. The section is item 0.
+/// Returns why a section was not verified, as a refusal of the run. The section is item 0.
 fn unverified<'a>(fault: &VerifyFault) -> Refusal<'a>
     requires { IsTrue (is_answered fault.now) }
     ensures memory { (fault.now ≡ VerifyFault.NoMemory) → (result ≡ Refusal.Memory) }
@@ -43,7 +43,7 @@ fn unverified<'a>(fault: &VerifyFault) -> Refusal<'a>
     }
 }
 
-/// The answer is no where the section differs.
+/// Returns the outcome: no if the section differs.
 fn outcome_of(verdict: &Verdict) -> Outcome
     ensures { result ≡ spec.verdict_outcome verdict.now }
 {
@@ -53,7 +53,7 @@ fn outcome_of(verdict: &Verdict) -> Outcome
     }
 }
 
-/// The verdict on the section of the first bytes, by the inputs of the others.
+/// Returns the verdict on the section of the first bytes, by the inputs of the others.
 pub fn verify_made<'a, 'm>(
     alloc: Global,
     section: &[u8],

@@ -26,7 +26,7 @@ use sf_text::{Output, thread_text};
 use sf_words::{Limit, Refusal};
 use std::alloc::Global;
 
-/// Why the core file of an item was not read, as a refusal of the run.
+/// Returns why the core file of an item was not read, as a refusal of the run.
 pub fn unread_core<'a>(fault: &CoreFault, item: u32) -> Refusal<'a>
     ensures { ComesAs (λ (coming : Coming). coming ≡ coming_of_core item fault.now) result }
 {
@@ -36,21 +36,21 @@ pub fn unread_core<'a>(fault: &CoreFault, item: u32) -> Refusal<'a>
     }
 }
 
-/// That item 0 and this one have different machines, as a refusal of the run.
+/// Returns that item 0 and this item are for different machines, as a refusal of the run.
 pub fn mixed<'a>(item: u32) -> Refusal<'a>
     ensures { ComesAs (λ (coming : Coming). coming ≡ Refused (shown_of_gathering None (GatherFault.MixedArch 0 item))) result }
 {
     Refusal::Input(GatherFault::MixedArch(0, item).notice(None))
 }
 
-/// Whether two machines are the same.
+/// Returns whether two machines are the same.
 pub fn same_machine(one: Arch, other: Arch) -> bool
     ensures { result ≡ is_same one other }
 {
     one == other
 }
 
-/// The texts of the walks of all threads, of so many frames each at most, by what rows are looked up in.
+/// Returns the texts of the walks of all threads, each of at most `depth` frames, by what rows are looked up in.
 pub fn walks_text<L: LookUp>(
     alloc: Global,
     rows: &L,
@@ -71,7 +71,8 @@ pub fn walks_text<L: LookUp>(
     Ok(text)
 }
 
-/// The same by the rows of a section, whose functions are put in order once for all threads where they are not sorted.
+/// Returns the texts of the walks of all threads by the rows of a section. If its functions are not sorted, they are
+/// sorted once for all threads.
 #[tactic(auto, unfolding(sf_model::specs::Walk::section_walk))]
 pub fn view_walks(
     alloc: Global,
@@ -86,7 +87,7 @@ pub fn view_walks(
     walks_text(alloc, &indexed, core, depth)
 }
 
-/// The walks of the threads of a core file by the section of these bytes.
+/// Returns the walks of a core file's threads by the section of these bytes.
 pub fn walk_made<'a, 'm>(
     alloc: Global,
     section: &[u8],

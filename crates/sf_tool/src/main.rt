@@ -17,10 +17,10 @@ use std::os::fd::AsFd;
 use std::process::ExitCode;
 use std::{env, io};
 
-/// Holds the null device on `stream` where the program was started with it closed, so that no file of the run
+/// Holds the null device on `stream` if the program was started with `stream` closed, so that no file of the run
 /// gets its descriptor. A file gets the least descriptor that is free: call this for the streams in their order.
 fn hold(rt: &HostRuntime, stream: &impl AsFd) -> io::Result<Option<File>> {
-    // A closed descriptor cannot be cloned.
+    // A closed descriptor can't be cloned.
     match stream.as_fd().try_clone_to_owned() {
         Ok(_) => Ok(None),
         // Opened for reading: what is written to a stream that was closed still fails.
@@ -28,7 +28,8 @@ fn hold(rt: &HostRuntime, stream: &impl AsFd) -> io::Result<Option<File>> {
     }
 }
 
-/// What is held on the standard streams that were closed; an error where the null device cannot be opened.
+/// Holds the null device on the standard streams that were closed, and returns it. An error means that it can't be
+/// opened.
 fn hold_streams(rt: &HostRuntime) -> io::Result<[Option<File>; 3]> {
     Ok([
         hold(rt, &rt.stdin())?,
@@ -37,7 +38,7 @@ fn hold_streams(rt: &HostRuntime) -> io::Result<[Option<File>; 3]> {
     ])
 }
 
-/// The words after the program's name.
+/// Returns the words after the program's name.
 fn words(rt: &HostRuntime) -> io::Result<Vec<String>> {
     env::args(rt)?
         .skip(1)
@@ -72,7 +73,7 @@ fn run_on_host<'a, O: Write + Drop, E: Write + Drop>(
     run(rt.alloc(), words, files, out, err)
 }
 
-/// Says that memory ran out before the words were read.
+/// Prints that memory ran out before the words were read, and returns the status.
 fn out_of_memory<E: Sink>(err: &mut E) -> Status
     ensures status { result ≡ Status.Memory }
     ensures says { Says (E.seen err.old) (E.seen err.new) memory_line }
@@ -81,7 +82,7 @@ fn out_of_memory<E: Sink>(err: &mut E) -> Status
     Status::Memory
 }
 
-/// Says that the null device can't be opened.
+/// Prints that the null device can't be opened, and returns the status.
 fn not_held<E: Sink>(err: &mut E) -> Status
     ensures status { result ≡ Status.Read }
     ensures says { Says (E.seen err.old) (E.seen err.new) (line (codes "read /dev/null")) }

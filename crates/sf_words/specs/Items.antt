@@ -10,6 +10,7 @@ pub record ItemWords : Type 0 where
   pub name : List ℕ
   pub kind : ItemKind
 
+-- the item, without where its name is in memory
 abbrev pub item_of : Item → ItemWords
 item_of item = record { name = item.name.now; kind = item.kind }
 
@@ -25,12 +26,15 @@ counted_bytes Input bytes = bytes
 counted_bytes Section bytes = bytes
 counted_bytes Core bytes = 0
 
+-- an input, as a file that is read
 abbrev pub input_item : InputWords → ItemWords
 input_item input = record { name = input.name; kind = Input }
 
+-- a section, as a file that is read
 abbrev pub section_item : SectionWords → ItemWords
 section_item section = record { name = section.name; kind = Section }
 
+-- a core file
 abbrev pub core_item : (name : List ℕ) → ItemWords
 core_item name = record { name = name; kind = Core }
 

@@ -1,4 +1,4 @@
--- The files that a command reads, loaded one after the other, and the limits of their bytes: of one file, by its kind, and 2^30 bytes of all.
+-- Loading the files that a command reads in order, and the limits of their bytes: of one file, by its kind, and 2^30 bytes of all.
 use Rattle.std.specs.Prelude.{◌≡◌, ◌+◌, ◌^◌, ℕ, nat_lt, List, [], ◌∷◌, map, length, Contains, Option, Some, None, IfSome, if◌then◌else◌}
 use Rattle.std.specs.List.{zip}
 use Rattle.sf_base.specs.Contents.{contents_of}
@@ -41,7 +41,7 @@ pub record AreBytesOf (contents : Contents) (items : List ItemWords) (files : Li
   pub are : IfSome contents (λ known. files ≡ bytes_known known items)
   pub count : length files ≡ length items
 
--- and they are within the limits
+-- these are the bytes of the items, and they are within the limits
 pub record AreLoaded (contents : Contents) (items : List ItemWords) (files : List (List ℕ)) : Type 0 where
   pub bytes : AreBytesOf contents items files
   pub within : items_limit items files ≡ None

@@ -1,4 +1,4 @@
--- What the words say, seen without where they lie in memory.
+-- The values of the words, without where these are in memory.
 use Rattle.std.specs.Prelude.{◌≡◌, map}
 use Rattle.std.specs.List.{AllZip}
 use Rattle.std.specs.String.{string_bytes}
@@ -19,6 +19,7 @@ use Rattle.sf_words.specs.declared.command.WalkFiles.{WalkFiles}
 use Rattle.sf_words.specs.declared.command.ProcwalkFiles.{ProcwalkFiles}
 use Rattle.sf_words.specs.Words.{InputWords, MergeWords, SectionAndInputs, SectionWords, CommandWords, IsInputWord, IsSectionWord, Link as LinkOf, LinkPlt as LinkPltOf, Merge as MergeOf, Slim, Dump, Lookup, Verify as VerifyOf, Walk, Backtrace as BacktraceOf, Procwalk, Gen, BacktraceWords, ProcwalkWords, SlimWords, WalkWords}
 
+-- each value of a command, without where its names are in memory
 abbrev pub input_of : InputFile → InputWords
 input_of input = record { form = input.form; name = input.name.now; base = input.base }
 
@@ -43,6 +44,7 @@ procwalk_of procwalk = record { core = procwalk.core.now; depth = procwalk.depth
 abbrev pub backtrace_of : Backtrace → BacktraceWords
 backtrace_of backtrace = record { out = section_of backtrace.out; core = backtrace.core.now; depth = backtrace.depth; inputs = map input_of backtrace.inputs.items }
 
+-- what is asked for
 abbrev pub words_of : Asked → CommandWords
 words_of (asked.Link link) = LinkOf (inputs_named link)
 words_of (asked.LinkPlt link) = LinkPltOf (inputs_named link)
@@ -56,21 +58,24 @@ words_of (asked.Backtrace backtrace) = BacktraceOf (backtrace_of backtrace)
 words_of (asked.Procwalk procwalk) = Procwalk (procwalk_of procwalk)
 words_of (asked.Gen n) = Gen n
 
--- words that are split, and what they ask for
+-- the words of a section and inputs ask for these
 pub record AsksInputs (split : SectionAndInputWords) (named : SectionAndInputs) : Type 0 where
   pub section : section_of split.section ≡ named.section
   pub inputs : AllZip IsInputWord (map string_bytes split.inputs.now) named.inputs
 
+-- the words of `merge` ask for this merge
 pub record AsksMerge (split : MergeCommand) (merge : MergeWords) : Type 0 where
   pub out : section_of split.out ≡ merge.out
   pub sections : AllZip IsSectionWord (map string_bytes split.sections.now) merge.sections
 
+-- the words of `backtrace` ask for this link and these walks
 pub record AsksBacktrace (split : BacktraceCommand) (backtrace : BacktraceWords) : Type 0 where
   pub out : section_of split.out ≡ backtrace.out
   pub core : split.core.now ≡ backtrace.core
   pub depth : split.depth ≡ backtrace.depth
   pub inputs : AllZip IsInputWord (map string_bytes split.inputs.now) backtrace.inputs
 
+-- the words of a command ask for this
 abbrev pub Asks : Command → CommandWords → Type 0
 Asks (command.Link split) wanted = (link : SectionAndInputs) × (wanted ≡ LinkOf link) × AsksInputs split link
 Asks (command.LinkPlt split) wanted = (link : SectionAndInputs) × (wanted ≡ LinkPltOf link) × AsksInputs split link

@@ -14,13 +14,13 @@ pub record IsPlaced (word name : List ℕ) (address : ℕ) : Type 0 where
   pub parts : word ≡ name ++ 64 ∷ digits
   pub value : SpellsHexadecimal digits address
 
--- what a word begins with that names a bare call frame section of this machine
+-- the prefix of a word that names a bare call frame section for this machine
 abbrev pub prefix_of : Arch → List ℕ
 prefix_of Amd64 = codes "eh-amd64:"
 prefix_of Aarch64 = codes "eh-aarch64:"
 
--- how the name of an input is spelled: a bare section's behind what its machine begins with, and an ELF file's as it is, where it begins
--- with neither
+-- how the name of an input is spelled: a bare section's after its machine's prefix, and an ELF file's as it is, if it begins with neither
+-- prefix
 abbrev pub Spells : Form → (text name : List ℕ) → Type 0
 Spells (Bare arch) text name = text ≡ prefix_of arch ++ name
 Spells Elf text name = (text ≡ name) × ((arch : Arch) (rest : List ℕ) → text ≡ prefix_of arch ++ rest → ⊥)
@@ -53,7 +53,7 @@ pub record SectionAndInputs : Type 0 where
   pub section : SectionWords
   pub inputs : List InputWords
 
--- the words are a command with this name, this section and these inputs, of which there is one at least
+-- the words are a command with this name, this section and these inputs, one at least
 pub record NameInputs (command : List ℕ) (words : List (List ℕ)) (named : SectionAndInputs) : Type 0 where
   pub section_word : List ℕ
   pub input_words : List (List ℕ)
@@ -89,7 +89,7 @@ pub record IsSlim (words : List (List ℕ)) (slim : SlimWords) : Type 0 where
   pub out : IsSectionWord out_word slim.out
   pub section : IsSectionWord section_word slim.section
 
--- the words ask for what this section says
+-- the words ask for all that this section holds
 pub record IsDump (words : List (List ℕ)) (section : SectionWords) : Type 0 where
   pub section_word : List ℕ
   pub words_are : words ≡ codes "dump" ∷ section_word ∷ []
@@ -200,7 +200,7 @@ IsCommand words (Backtrace backtrace) = IsBacktrace words backtrace
 IsCommand words (Procwalk procwalk) = IsProcwalk words procwalk
 IsCommand words (Gen n) = IsGen words n
 
--- what each form says of the command that it asks for: a list that names one file at least, and a number within its range
+-- what each form guarantees of its command: a list that names one file at least, and a number within its range
 abbrev pub CanBeAsked : CommandWords → Type 0
 CanBeAsked (Link link) = 0 < length link.inputs
 CanBeAsked (LinkPlt link) = 0 < length link.inputs

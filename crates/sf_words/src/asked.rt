@@ -82,7 +82,7 @@ fn read_inputs<'a>(
 ///
 /// # Errors
 ///
-/// `NoMemory`.
+/// `NoMemory` if memory ran out.
 pub fn read_words<'a>(alloc: Global, command: &Command<'a>) -> Result<Asked<'a>, NoMemory>
     ensures { (wanted : CommandWords) → Asks command.now wanted → IfOk result (λ asked. words_of asked ≡ wanted) }
 {
@@ -122,7 +122,7 @@ fn push_inputs<'a>(items: &mut Vec<Item<'a>>, inputs: &[InputFile<'a>]) -> Resul
     Ok(())
 }
 
-/// The files to be linked, as items.
+/// Returns the files to be linked, as items.
 fn input_items<'a>(alloc: Global, inputs: &[InputFile<'a>]) -> Result<Vec<Item<'a>>, NoMemory>
     ensures { IfOk result (λ items. map item_of items.items ≡ map input_item (map input_of inputs.now)) }
 {
@@ -131,7 +131,7 @@ fn input_items<'a>(alloc: Global, inputs: &[InputFile<'a>]) -> Result<Vec<Item<'
     Ok(items)
 }
 
-/// A section, as an item.
+/// Returns a section as an item.
 fn section_item<'a>(section: &SectionFile<'a>) -> Item<'a>
     ensures { item_of result ≡ section_item (section_of section.now) }
 {
@@ -141,7 +141,7 @@ fn section_item<'a>(section: &SectionFile<'a>) -> Item<'a>
     }
 }
 
-/// The sections, as items.
+/// Returns the sections as items.
 fn section_items<'a>(alloc: Global, sections: &[SectionFile<'a>]) -> Result<Vec<Item<'a>>, NoMemory>
     ensures { IfOk result (λ items. map item_of items.items ≡ map section_item (map section_of sections.now)) }
 {
@@ -152,7 +152,7 @@ fn section_items<'a>(alloc: Global, sections: &[SectionFile<'a>]) -> Result<Vec<
     Ok(items)
 }
 
-/// A core file, as an item.
+/// Returns a core file as an item.
 fn core_item(name: &str) -> Item<'_>
     ensures { item_of result ≡ core_item name.now }
 {
@@ -162,7 +162,7 @@ fn core_item(name: &str) -> Item<'_>
     }
 }
 
-/// The core file and the files to be linked, as items.
+/// Returns the core file and the files to be linked, as items.
 fn core_and_inputs<'a>(
     alloc: Global,
     core: &'a str,
@@ -175,7 +175,7 @@ fn core_and_inputs<'a>(
     Ok(items)
 }
 
-/// The core file and the files that were mapped, as items.
+/// Returns the core file and the files that were mapped, as items.
 fn core_and_files<'a>(
     alloc: Global,
     procwalk: &ProcwalkFiles<'a>,
@@ -192,7 +192,7 @@ fn core_and_files<'a>(
     Ok(items)
 }
 
-/// The section and the inputs, as items.
+/// Returns the section and the inputs as items.
 fn section_and_inputs<'a>(
     alloc: Global,
     files: &SectionAndInputFiles<'a>,
@@ -204,18 +204,18 @@ fn section_and_inputs<'a>(
     Ok(items)
 }
 
-/// The section and the core file, as items.
+/// Returns the section and the core file as items.
 fn walk_items<'a>(alloc: Global, walk: &WalkFiles<'a>) -> Result<Vec<Item<'a>>, NoMemory>
     ensures { IfOk result (λ items. map item_of items.items ≡ section_item (section_of walk.now.section) ∷ core_item walk.now.core.now ∷ []) }
 {
     Ok(vec![in alloc; section_item(&walk.section), core_item(walk.core)]?)
 }
 
-/// The files that a command reads, in order.
+/// Returns the files that a command reads, in order.
 ///
 /// # Errors
 ///
-/// `NoMemory`.
+/// `NoMemory` if memory ran out.
 pub fn items<'a>(alloc: Global, asked: &Asked<'a>) -> Result<Vec<Item<'a>>, NoMemory>
     ensures { IfOk result (λ items. map item_of items.items ≡ items_of (words_of asked.now)) }
 {

@@ -74,7 +74,7 @@ pub struct ProcwalkFiles<'a> {
     pub files: &'a [String],
 }
 
-/// A command line that has one of the forms. It lends its words: reading them allocates nothing.
+/// A command line that has one of the forms. It borrows its words, and making it allocates nothing.
 #[derive(Clone, Copy)]
 pub enum Command<'a> {
     /// `link OUT@AT IN@BASE ..`
@@ -102,7 +102,7 @@ pub enum Command<'a> {
 }
 
 impl<'a> Command<'a> {
-    /// How many files its list names, for the limit of 512.
+    /// Returns how many files the command's list names, for the limit of 512.
     pub fn counted(&self) -> usize
         ensures { (wanted : CommandWords) → Asks self.now wanted → result ≡ counted_items wanted }
     {
@@ -119,7 +119,7 @@ impl<'a> Command<'a> {
         }
     }
 
-    /// The name of the file that it makes, where it makes one.
+    /// Returns the name of the file that the command makes, or `None` if it makes none.
     pub fn out_name(&self) -> Option<&'a str>
         ensures { (wanted : CommandWords) → Asks self.now wanted → option_map (λ name. name.now) result ≡ out_name wanted }
     {
@@ -134,7 +134,7 @@ impl<'a> Command<'a> {
     }
 }
 
-/// The two words, where there are two.
+/// Returns the two words, if there are two.
 fn two_words(words: &[String]) -> Option<(&str, &str)>
     ensures found { IfSome result (λ t. map string_bytes words.now ≡ t.0.now ∷ t.1.now ∷ []) }
     ensures only { (a b : List ℕ) → map string_bytes words.now ≡ a ∷ b ∷ [] → IsSome result }
@@ -145,7 +145,7 @@ fn two_words(words: &[String]) -> Option<(&str, &str)>
     }
 }
 
-/// The three words, where there are three.
+/// Returns the three words, if there are three.
 fn three_words(words: &[String]) -> Option<(&str, &str, &str)>
     ensures found { IfSome result (λ t. map string_bytes words.now ≡ t.0.now ∷ t.1.now ∷ t.2.now ∷ []) }
     ensures only { (a b c : List ℕ) → map string_bytes words.now ≡ a ∷ b ∷ c ∷ [] → IsSome result }
@@ -156,7 +156,7 @@ fn three_words(words: &[String]) -> Option<(&str, &str, &str)>
     }
 }
 
-/// The four words, where there are four.
+/// Returns the four words, if there are four.
 fn four_words(words: &[String]) -> Option<(&str, &str, &str, &str)>
     ensures found { IfSome result (λ t. map string_bytes words.now ≡ t.0.now ∷ t.1.now ∷ t.2.now ∷ t.3.now ∷ []) }
     ensures only { (a b c d : List ℕ) → map string_bytes words.now ≡ a ∷ b ∷ c ∷ d ∷ [] → IsSome result }
@@ -172,7 +172,7 @@ fn four_words(words: &[String]) -> Option<(&str, &str, &str, &str)>
     }
 }
 
-/// The first two words and the others, where there is a third one.
+/// Returns the first two words and the others, if there is a third word.
 fn out_and_items(words: &[String]) -> Option<(&str, &str, &[String])>
     ensures found { IfSome result (λ t. (map string_bytes words.now ≡ t.0.now ∷ t.1.now ∷ map string_bytes t.2.now) × (0 < length t.2.now)) }
     ensures only { (a b : List ℕ) (rest : List (List ℕ)) → map string_bytes words.now ≡ a ∷ b ∷ rest → 0 < length rest → IsSome result }
@@ -184,7 +184,7 @@ fn out_and_items(words: &[String]) -> Option<(&str, &str, &[String])>
     }
 }
 
-/// The first three words and the others, where there is a fourth one.
+/// Returns the first three words and the others, if there is a fourth word.
 fn three_and_items(words: &[String]) -> Option<(&str, &str, &str, &[String])>
     ensures found { IfSome result (λ t. (map string_bytes words.now ≡ t.0.now ∷ t.1.now ∷ t.2.now ∷ map string_bytes t.3.now) × (0 < length t.3.now)) }
     ensures only { (a b c : List ℕ) (rest : List (List ℕ)) → map string_bytes words.now ≡ a ∷ b ∷ c ∷ rest → 0 < length rest → IsSome result }
@@ -198,7 +198,7 @@ fn three_and_items(words: &[String]) -> Option<(&str, &str, &str, &[String])>
     }
 }
 
-/// The first four words and the others, where there is a fifth one.
+/// Returns the first four words and the others, if there is a fifth word.
 fn four_and_items(words: &[String]) -> Option<(&str, &str, &str, &str, &[String])>
     ensures found { IfSome result (λ t. (map string_bytes words.now ≡ t.0.now ∷ t.1.now ∷ t.2.now ∷ t.3.now ∷ map string_bytes t.4.now) × (0 < length t.4.now)) }
     ensures only { (a b c d : List ℕ) (rest : List (List ℕ)) → map string_bytes words.now ≡ a ∷ b ∷ c ∷ d ∷ rest → 0 < length rest → IsSome result }
@@ -216,7 +216,7 @@ fn four_and_items(words: &[String]) -> Option<(&str, &str, &str, &str, &[String]
     }
 }
 
-/// The parts of the words, where they are a command with this name, a section and inputs, such as `link OUT@AT IN@BASE ..`.
+/// Returns the parts of the words, if they are a command with this name, a section and inputs, such as `link OUT@AT IN@BASE ..`.
 fn section_and_inputs<'a>(words: &'a [String], name: &str) -> Option<SectionAndInputWords<'a>>
     ensures found { IfSome result (λ c. (named : SectionAndInputs) → AsksInputs c named → NameInputs name.now (map string_bytes words.now) named) }
     ensures named { IfSome result (λ c. (named : SectionAndInputs) × AsksInputs c named) }
@@ -233,7 +233,7 @@ fn section_and_inputs<'a>(words: &'a [String], name: &str) -> Option<SectionAndI
     Some(SectionAndInputWords { section, inputs })
 }
 
-/// The parts of the words, where they have the form `merge OUT@AT FILE@AT ..`.
+/// Returns the parts of the words, if they have the form `merge OUT@AT FILE@AT ..`.
 fn merge_words(words: &[String]) -> Option<MergeCommand<'_>>
     ensures found { IfSome result (λ c. (merge : MergeWords) → AsksMerge c merge → IsMerge (map string_bytes words.now) merge) }
     ensures named { IfSome result (λ c. (merge : MergeWords) × AsksMerge c merge) }
@@ -250,7 +250,7 @@ fn merge_words(words: &[String]) -> Option<MergeCommand<'_>>
     Some(MergeCommand { out, sections })
 }
 
-/// Both sections, where the words have the form `slim OUT@AT FILE@AT`.
+/// Returns both sections, if the words have the form `slim OUT@AT FILE@AT`.
 fn slim_words(words: &[String]) -> Option<SlimFiles<'_>>
     ensures found { IfSome result (λ s. IsSlim (map string_bytes words.now) (slim_of s)) }
     ensures only { (slim : SlimWords) → IsSlim (map string_bytes words.now) slim → IsSomeAnd result (λ s. slim_of s ≡ slim) }
@@ -264,7 +264,7 @@ fn slim_words(words: &[String]) -> Option<SlimFiles<'_>>
     Some(SlimFiles { out, section })
 }
 
-/// The section, where the words have the form `dump FILE@AT`.
+/// Returns the section, if the words have the form `dump FILE@AT`.
 fn dump_words(words: &[String]) -> Option<SectionFile<'_>>
     ensures found { IfSome result (λ s. IsDump (map string_bytes words.now) (section_of s)) }
     ensures only { (section : SectionWords) → IsDump (map string_bytes words.now) section → IsSomeAnd result (λ s. section_of s ≡ section) }
@@ -276,7 +276,7 @@ fn dump_words(words: &[String]) -> Option<SectionFile<'_>>
     section_file(section)
 }
 
-/// The section and the address, where the words have the form `lookup FILE@AT PC`.
+/// Returns the section and the address, if the words have the form `lookup FILE@AT PC`.
 fn lookup_words(words: &[String]) -> Option<(SectionFile<'_>, u64)>
     ensures found { IfSome result (λ l. IsLookup (map string_bytes words.now) (section_of l.0) l.1) }
     ensures only { (section : SectionWords) (pc : ℕ) → IsLookup (map string_bytes words.now) section pc → IsSomeAnd result (λ l. (section_of l.0 ≡ section) × (l.1 ≡ pc)) }
@@ -288,7 +288,7 @@ fn lookup_words(words: &[String]) -> Option<(SectionFile<'_>, u64)>
     Some((section_file(section)?, hex_word(address)?))
 }
 
-/// The number of a word, where it is from 1 to `most`.
+/// Returns the number that a word spells, if it is from 1 to `most`.
 fn number_up_to(word: &str, most: u32) -> Option<u32>
     ensures found { IfSome result (λ n. SpellsDecimal word.now n × (0 < n) × (n ≤ most)) }
     ensures only { (n : ℕ) → SpellsDecimal word.now n → 0 < n → n ≤ most → IsSomeAnd result (λ m. m ≡ n) }
@@ -300,7 +300,7 @@ fn number_up_to(word: &str, most: u32) -> Option<u32>
     Some(number)
 }
 
-/// The section, the core file and the depth, where the words have the form `walk FILE@AT CORE DEPTH`.
+/// Returns the section, the core file and the depth, if the words have the form `walk FILE@AT CORE DEPTH`.
 fn walk_words(words: &[String]) -> Option<WalkFiles<'_>>
     ensures found { IfSome result (λ w. IsWalk (map string_bytes words.now) (walk_of w)) }
     ensures only { (walk : WalkWords) → IsWalk (map string_bytes words.now) walk → IsSomeAnd result (λ w. walk_of w ≡ walk) }
@@ -321,7 +321,7 @@ fn walk_words(words: &[String]) -> Option<WalkFiles<'_>>
     })
 }
 
-/// The parts of the words, where they have the form `backtrace OUT@AT CORE DEPTH IN@BASE ..`.
+/// Returns the parts of the words, if they have the form `backtrace OUT@AT CORE DEPTH IN@BASE ..`.
 fn backtrace_words(words: &[String]) -> Option<BacktraceCommand<'_>>
     ensures found { IfSome result (λ c. (backtrace : BacktraceWords) → AsksBacktrace c backtrace → IsBacktrace (map string_bytes words.now) backtrace) }
     ensures named { IfSome result (λ c. (backtrace : BacktraceWords) × AsksBacktrace c backtrace) }
@@ -347,7 +347,7 @@ fn backtrace_words(words: &[String]) -> Option<BacktraceCommand<'_>>
     })
 }
 
-/// The core file, the depth and the files, where the words have the form `procwalk CORE DEPTH FILE ..`.
+/// Returns the core file, the depth and the files, if the words have the form `procwalk CORE DEPTH FILE ..`.
 fn procwalk_words(words: &[String]) -> Option<ProcwalkFiles<'_>>
     ensures found { IfSome result (λ p. IsProcwalk (map string_bytes words.now) (procwalk_of p)) }
     ensures only { (procwalk : ProcwalkWords) → IsProcwalk (map string_bytes words.now) procwalk → IsSomeAnd result (λ p. procwalk_of p ≡ procwalk) }
@@ -363,7 +363,7 @@ fn procwalk_words(words: &[String]) -> Option<ProcwalkFiles<'_>>
     Some(ProcwalkFiles { core, depth, files })
 }
 
-/// The number of functions, where the words have the form `gen N`.
+/// Returns the number of functions, if the words have the form `gen N`.
 fn gen_words(words: &[String]) -> Option<u32>
     ensures found { IfSome result (λ n. IsGen (map string_bytes words.now) n) }
     ensures only { (n : ℕ) → IsGen (map string_bytes words.now) n → IsSomeAnd result (λ m. m ≡ n) }
@@ -375,7 +375,7 @@ fn gen_words(words: &[String]) -> Option<u32>
     number_up_to(count, MOST_FUNCTIONS)
 }
 
-/// What the words ask for, where they have one of the forms.
+/// Returns the command that the words ask for, if they have one of the forms.
 pub fn command_words(words: &[String]) -> Option<Command<'_>>
     ensures found { IfSome result (λ c. (command : CommandWords) → Asks c command → IsCommand (map string_bytes words.now) command) }
     ensures named { IfSome result (λ c. (command : CommandWords) × Asks c command) }

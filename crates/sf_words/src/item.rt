@@ -15,7 +15,7 @@ pub enum ItemKind {
 }
 
 impl ItemKind {
-    /// The most bytes of one such file.
+    /// Returns the most bytes that a file of this kind may have.
     pub fn limit(self) -> u64
         ensures { result ≡ limit_of self }
     {
@@ -26,7 +26,7 @@ impl ItemKind {
         }
     }
 
-    /// How many of its bytes count for the limit of all files of a run.
+    /// Returns how many bytes of such a file of `len` bytes count for the limit of all files of a run.
     pub fn counted(self, len: u64) -> u64
         ensures { result ≡ counted_bytes self len }
     {

@@ -1,8 +1,8 @@
 //! The words of a command line, from their forms to the bytes of the files that a command reads.
 //!
 //! [`command_words`] finds the form and allocates nothing, [`read_words`] reads each word, [`items`] names the files
-//! in order, and [`load_all`] loads them, one after the other, each within the limits of its kind. [`Refusal`] is why a
-//! run makes nothing. What each form says is in specs/Words.antt, and the limits in specs/Loading.antt.
+//! in order, and [`load_all`] loads them in that order, each within the limits of its kind. [`Refusal`] is why a run
+//! makes nothing. The forms are defined in specs/Words.antt, and the limits in specs/Loading.antt.
 #![tactic(auto)]
 
 mod asked;

@@ -10,7 +10,7 @@ use crate::words::{InputFile, SectionFile, input_file, section_file};
 use sf_base::NoMemory;
 use std::alloc::Global;
 
-/// Whether each word names an input.
+/// Returns whether each word names an input.
 pub fn are_inputs(words: &[String]) -> bool
     ensures all { IsTrue result → All (λ word. (input : InputWords) × IsInputWord (string_bytes word) input) words.now }
     ensures only { (inputs : List InputWords) → AllZip IsInputWord (map string_bytes words.now) inputs → IsTrue result }
@@ -23,7 +23,7 @@ pub fn are_inputs(words: &[String]) -> bool
     true
 }
 
-/// Whether each word names a section.
+/// Returns whether each word names a section.
 pub fn are_sections(words: &[String]) -> bool
     ensures all { IsTrue result → All (λ word. (section : SectionWords) × IsSectionWord (string_bytes word) section) words.now }
     ensures only { (sections : List SectionWords) → AllZip IsSectionWord (map string_bytes words.now) sections → IsTrue result }
@@ -36,7 +36,7 @@ pub fn are_sections(words: &[String]) -> bool
     true
 }
 
-/// Whether no word is empty.
+/// Returns whether no word is empty.
 pub fn are_named(words: &[String]) -> bool
     ensures all { IsTrue result → All (λ word. 0 < length (string_bytes word)) words.now }
     ensures only { All (λ word. 0 < length (string_bytes word)) words.now → IsTrue result }
@@ -49,7 +49,7 @@ pub fn are_named(words: &[String]) -> bool
     true
 }
 
-/// The inputs that the words name, in order.
+/// Returns the inputs that the words name, in order.
 pub fn inputs_of<'a>(alloc: Global, words: &'a [String]) -> Result<Vec<InputFile<'a>>, NoMemory>
     ensures { (inputs : List InputWords) → AllZip IsInputWord (map string_bytes words.now) inputs → IfOk result (λ files. map input_of files.items ≡ inputs) }
 {
@@ -63,7 +63,7 @@ pub fn inputs_of<'a>(alloc: Global, words: &'a [String]) -> Result<Vec<InputFile
     Ok(files)
 }
 
-/// The sections that the words name, in order.
+/// Returns the sections that the words name, in order.
 pub fn sections_of<'a>(alloc: Global, words: &'a [String]) -> Result<Vec<SectionFile<'a>>, NoMemory>
     ensures { (sections : List SectionWords) → AllZip IsSectionWord (map string_bytes words.now) sections → IfOk result (λ files. map section_of files.items ≡ sections) }
 {

@@ -1,4 +1,4 @@
-//! The files that a command reads, loaded one after the other.
+//! Loading the files that a command reads.
 
 ghost use Rattle.std.specs.Prelude.{◌≡◌, ◌<◌, ◌^◌, All, map, length, IsTrue, IfOk, IfErr, OnOk};
 ghost use Rattle.sf_base.specs.Faults.{Rose};
@@ -11,10 +11,10 @@ use crate::refusal::{Limit, Refusal};
 use sf_base::{Files, LoadFault, load};
 use std::alloc::Global;
 
-/// The most bytes of all files of one run, cores left out.
+/// The most bytes of all files of one run, without cores.
 const TOTAL_LIMIT: u64 = 1 << 30;
 
-/// Why an item was not loaded, as a refusal of the run.
+/// Returns why an item was not loaded, as a refusal of the run.
 fn not_loaded<'a>(fault: LoadFault, item: u32, name: &'a str) -> Refusal<'a>
     ensures { IsLoadRefusal fault item name.now result }
 {
@@ -25,12 +25,12 @@ fn not_loaded<'a>(fault: LoadFault, item: u32, name: &'a str) -> Refusal<'a>
     }
 }
 
-/// The bytes of the items, in order.
+/// Loads the items, and returns their bytes in order.
 ///
 /// # Errors
 ///
-/// `Refusal::Read` names an item that could not be read, `Refusal::Limit` says which limit the bytes exceed,
-/// and `Refusal::Memory` that memory ran out.
+/// `Refusal::Read` names the item whose open or read failed, `Refusal::Limit` has the limit that the bytes exceed,
+/// and `Refusal::Memory` means that memory ran out.
 pub fn load_all<'a, F: Files>(
     alloc: Global,
     items: &[Item<'a>],

@@ -9,7 +9,7 @@ ghost use Rattle.sf_words.specs.Parsed.{input_of, section_of};
 use sf_base::hex_word;
 use sf_model::{Arch, Form};
 
-/// A name and the address behind its last `@`.
+/// Returns the name and the address of a word: what is before its last `@`, and the number after it.
 #[derive(Clone, Copy)]
 struct Placed<'a> {
     name: &'a str,
@@ -24,7 +24,7 @@ pub struct InputFile<'a> {
     pub base: u64,
 }
 
-/// A section in a file, and the address at which it lies.
+/// A section in a file, and its address.
 #[derive(Clone, Copy)]
 pub struct SectionFile<'a> {
     pub name: &'a str,
@@ -51,7 +51,7 @@ fn machine_of(name: &str) -> Option<(Arch, &str)>
     Some((Arch::Aarch64, rest))
 }
 
-/// What a file is by how its name is spelled, and the name.
+/// Returns what a file is, by how its name is spelled, and the name.
 fn form_of(text: &str) -> (Form, &str)
     ensures spelled { Spells result.0 text.now result.1.now }
     ensures only { (form : input_form) (name : List ℕ) → Spells form text.now name → (result.0 ≡ form) × (result.1.now ≡ name) }
@@ -62,7 +62,7 @@ fn form_of(text: &str) -> (Form, &str)
     }
 }
 
-/// The file to be linked that a word names, where it names one.
+/// Returns the file to be linked that a word names, if it names one.
 pub fn input_file(word: &str) -> Option<InputFile<'_>>
     ensures found { IfSome result (λ i. IsInputWord word.now (input_of i)) }
     ensures only { (input : InputWords) → IsInputWord word.now input → IsSomeAnd result (λ i. input_of i ≡ input) }
@@ -79,7 +79,7 @@ pub fn input_file(word: &str) -> Option<InputFile<'_>>
     })
 }
 
-/// The section that a word names, where it names one.
+/// Returns the section that a word names, if it names one.
 pub fn section_file(word: &str) -> Option<SectionFile<'_>>
     ensures found { IfSome result (λ s. IsSectionWord word.now (section_of s)) }
     ensures only { (section : SectionWords) → IsSectionWord word.now section → IsSomeAnd result (λ s. section_of s ≡ section) }
