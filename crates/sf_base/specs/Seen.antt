@@ -12,13 +12,15 @@ pub record FilesSeen : Type 0 where
   -- how many opens and reads have failed, and how many creates and writes
   pub read_faults : ℕ
   pub write_faults : ℕ
+  -- the name of the file whose open or read failed last, if it is known
+  pub failed_name : Option (List ℕ)
 
 -- What is observable of a sink: all the bytes that were written, if they are known, and how many writes have failed.
 pub record SinkSeen : Type 0 where
   pub written : Option (List ℕ)
   pub faults : ℕ
 
--- at most the count of failed reads changed
+-- at most the count of failed reads changed, and the name of the file that failed last
 pub record OnlyReads (before after : FilesSeen) : Type 0 where
   pub later : before.read_faults ≤ after.read_faults
-  pub rest : after ≡ record before { read_faults = after.read_faults }
+  pub rest : after ≡ record before { read_faults = after.read_faults; failed_name = after.failed_name }

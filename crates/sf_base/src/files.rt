@@ -1,5 +1,5 @@
 // The files of the outside, as a program sees them.
-ghost use Rattle.std.specs.Prelude.{◌≡◌, ◌<◌, ◌≤◌, ℕ, Bool, false, List, [], Option, length, take, is_ok, IsTrue, IfOk, IfSome, OnOk, OnErr};
+ghost use Rattle.std.specs.Prelude.{◌≡◌, ◌<◌, ◌≤◌, ℕ, Bool, false, List, [], Option, Some, length, take, is_ok, IsTrue, IfOk, IfSome, OnOk, OnErr};
 ghost use Rattle.sf_base.specs.Contents.{contents_of, Unchanged, Holds, Grows, Moves};
 ghost use Rattle.sf_base.specs.Seen.{FilesSeen, OnlyReads};
 ghost use Rattle.sf_base.specs.Faults.{Cause};
@@ -10,7 +10,7 @@ use crate::Failed;
 ///
 /// What the files of an implementation hold may be known, or not. Its contracts hold in either case.
 pub trait Files {
-    /// What the files hold, which one is created, and how many calls have failed.
+    /// What the files hold, which one is created, how many calls have failed, and which file's open or read failed last.
     ghost seen: { Self → FilesSeen };
 
     /// Whether a file is open.
@@ -18,6 +18,9 @@ pub trait Files {
 
     /// What is left to read of the open file. It counts only if contents are known and a file is open.
     ghost rest: { Self → List ℕ };
+
+    /// The name of the open file, if it is known. It counts only if a file is open.
+    ghost opened_name: { Self → Option (List ℕ) };
 
     /// Whether a name may be opened. No call changes it.
     ghost may_open: { Self → List ℕ → Bool };
@@ -35,6 +38,9 @@ pub trait Files {
         ensures opened { opened self.new ≡ is_ok result }
         ensures rest { OnOk result (IfSome ((seen self.new).contents) (λ files.
             rest self.new ≡ contents_of files name.now)) }
+        ensures opened_name { OnOk result (IfSome (opened_name self.new) (λ opened. opened ≡ name.now)) }
+        ensures failed_name { OnErr result (IfSome ((seen self.new).failed_name) (λ failed. failed ≡ name.now)) }
+        ensures none_failed { OnOk result ((seen self.new).failed_name ≡ (seen self.old).failed_name) }
         ensures may_open { may_open self.new ≡ may_open self.old }
         ensures may_create { may_create self.new ≡ may_create self.old }
         ensures cause { Cause ((seen self.old).read_faults) ((seen self.new).read_faults) result }
@@ -52,6 +58,9 @@ pub trait Files {
         ensures within { IfOk result (λ n. n ≤ length buf.old) }
         ensures moves { IfOk result (λ n. IfSome ((seen self.old).contents) (λ _.
             Moves n (rest self.old) (rest self.new) buf.new)) }
+        ensures opened_name { OnOk result (opened_name self.new ≡ opened_name self.old) }
+        ensures failed_name { OnErr result (IfSome ((seen self.new).failed_name) (λ failed. opened_name self.old ≡ Some failed)) }
+        ensures none_failed { OnOk result ((seen self.new).failed_name ≡ (seen self.old).failed_name) }
         ensures opened { opened self.new ≡ is_ok result }
         ensures may_open { may_open self.new ≡ may_open self.old }
         ensures may_create { may_create self.new ≡ may_create self.old }
@@ -74,7 +83,8 @@ pub trait Files {
         ensures may_open { may_open self.new ≡ may_open self.old }
         ensures may_create { may_create self.new ≡ may_create self.old }
         ensures cause { Cause ((seen self.old).write_faults) ((seen self.new).write_faults) result }
-        ensures read_faults { (seen self.new).read_faults ≡ (seen self.old).read_faults };
+        ensures read_faults { (seen self.new).read_faults ≡ (seen self.old).read_faults }
+        ensures failed_name { (seen self.new).failed_name ≡ (seen self.old).failed_name };
 
     /// Appends the first bytes of `piece` to the created file, one or more, and returns how many. No file is
     /// open after it.
@@ -95,5 +105,6 @@ pub trait Files {
         ensures may_open { may_open self.new ≡ may_open self.old }
         ensures may_create { may_create self.new ≡ may_create self.old }
         ensures cause { Cause ((seen self.old).write_faults) ((seen self.new).write_faults) result }
-        ensures read_faults { (seen self.new).read_faults ≡ (seen self.old).read_faults };
+        ensures read_faults { (seen self.new).read_faults ≡ (seen self.old).read_faults }
+        ensures failed_name { (seen self.new).failed_name ≡ (seen self.old).failed_name };
 }

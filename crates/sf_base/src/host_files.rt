@@ -81,11 +81,13 @@ fn is_stored<F: OpenFile>(file: &F) -> bool {
 }
 
 impl<'a, R: rt::Files> Files for HostFiles<'a, R> {
-    ghost seen = { λ files. record { contents = None; created = is_some files.created; created_name = []; read_faults = files.read_faults; write_faults = files.write_faults } };
+    ghost seen = { λ files. record { contents = None; created = is_some files.created; created_name = []; read_faults = files.read_faults; write_faults = files.write_faults; failed_name = None } };
 
     ghost opened = { λ files. is_some files.opened };
 
     ghost rest = { λ _. [] };
+
+    ghost opened_name = { λ _. None };
 
     ghost may_open = { λ _ _. true };
 

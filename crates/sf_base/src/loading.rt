@@ -1,5 +1,5 @@
 // Reading a whole file into memory.
-ghost use Rattle.std.specs.Prelude.{◌≡◌, ◌<◌, ◌≤◌, ◌++◌, ◌+◌, ℕ, length, take, [], vec_len, IsTrue, IsErrOf, IfOk, IfSome, OnOk};
+ghost use Rattle.std.specs.Prelude.{◌≡◌, ◌<◌, ◌≤◌, ◌++◌, ◌+◌, ℕ, length, take, [], vec_len, IsTrue, IsErrOf, IfOk, IfSome, OnOk, Some};
 ghost use Rattle.sf_base.specs.Contents.{contents_of};
 ghost use Rattle.sf_base.specs.declared.loading.LoadFault.TheVariants.{Read, NoMemory};
 ghost use Rattle.sf_base.specs.Faults.{Rose};
@@ -68,6 +68,8 @@ pub fn load<F: Files>(
         bytes.items ≡ contents_of told name.now)) }
     ensures read { IsErrOf result LoadFault.Read →
         Rose ((F.seen files.old).read_faults) ((F.seen files.new).read_faults) }
+    ensures failed_name { IsErrOf result LoadFault.Read →
+        IfSome ((F.seen files.new).failed_name) (λ failed. failed ≡ name.now) }
     ensures too_long { (n : ℕ) → IsErrOf result (LoadFault.TooLong n) → n ≡ limit }
     ensures longer { (n : ℕ) → IsErrOf result (LoadFault.TooLong n) → IfSome ((F.seen files.old).contents) (λ told.
         limit < length (contents_of told name.now)) }
@@ -117,6 +119,9 @@ fn read_more<F: Files>(files: &mut F, bytes: &mut Vec<u8>, room: usize) -> Resul
     ensures opened { OnOk result (IsTrue (F.opened files.new)) }
     ensures read { IsErrOf result LoadFault.Read →
         Rose ((F.seen files.old).read_faults) ((F.seen files.new).read_faults) }
+    ensures opened_name { OnOk result (F.opened_name files.new ≡ F.opened_name files.old) }
+    ensures failed_name { IsErrOf result LoadFault.Read →
+        IfSome ((F.seen files.new).failed_name) (λ failed. F.opened_name files.old ≡ Some failed) }
     ensures not_long { (n : ℕ) → IsErrOf result (LoadFault.TooLong n) → ⊥ }
     ensures may_open { F.may_open files.new ≡ F.may_open files.old }
     ensures may_create { F.may_create files.new ≡ F.may_create files.old }

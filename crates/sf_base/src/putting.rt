@@ -42,6 +42,7 @@ pub fn put_file<F: Files>(files: &mut F, bytes: &[u8]) -> Result<(), Failed>
     ensures may_open { F.may_open files.new ≡ F.may_open files.old }
     ensures may_create { F.may_create files.new ≡ F.may_create files.old }
     ensures read_faults { (F.seen files.new).read_faults ≡ (F.seen files.old).read_faults }
+    ensures failed_name { (F.seen files.new).failed_name ≡ (F.seen files.old).failed_name }
 {
     let mut done = 0;
     while done < bytes.len() {

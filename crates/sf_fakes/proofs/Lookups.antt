@@ -96,6 +96,14 @@ found_name (file ∷ files) name k d h =
     (λ later. rw later.1.1.1 (found_name files name later.1.0 d later.1.1.0))
     (place_cases (bytes_eq (string_bytes file.0) name) (place_of (pairs_of files) name) k h)
 
+-- the name at the place that was found
+pub name_found : (files : List (List ℕ × List ℕ)) (name : List ℕ) (k : ℕ) → place_of files name ≡ Some k → name_at files k ≡ name
+name_found [] name k h = absurd (cc)
+name_found (file ∷ files) name k h =
+    ⊎_elim (λ first. rw first.1 (same_text file.0 name first.0))
+    (λ later. rw later.1.1.1 (name_found files name later.1.0 later.1.1.0))
+    (place_cases (bytes_eq file.0 name) (place_of files name) k h)
+
 -- the name of the file at a place
 pub name_is : (files : List Stored) (k : ℕ) (d : Stored) → k < length files → string_bytes (get_or files k d).0 ≡ name_at (pairs_of files) k
 name_is [] k d below = absurd (omega arith)

@@ -1,5 +1,6 @@
 // Finding a file by its name, in a list of names with bytes.
 ghost use Rattle.std.specs.Prelude.{◌≡◌, ◌<◌, ◌≤◌, length, IfOk, IfSome, OnOk, OnErr, Some, is_some, position, string_bytes, vec_len};
+ghost use Rattle.std.specs.Option.{option_map};
 ghost use Rattle.std.specs.Str.{bytes_eq};
 ghost use Rattle.sf_base.specs.Contents.{contents_of};
 ghost use Rattle.sf_fakes.specs.Pairs.{pairs_of, has_name, place_of, with_file, with_more, name_at, bytes_at};
@@ -20,6 +21,7 @@ pub(crate) fn find_file(files: &[(String, Vec<u8>)], name: &str) -> Option<usize
     ensures found { is_some result ≡ has_name (pairs_of files.now) name.now }
     ensures bytes { IfSome result (λ place.
         bytes_at (pairs_of files.now) place ≡ contents_of (pairs_of files.now) name.now) }
+    ensures name { IfSome result (λ place. name_at (pairs_of files.now) place ≡ name.now) }
 {
     first_named(files, name)
 }
@@ -41,6 +43,21 @@ pub(crate) fn bytes_of<'a>(files: &'a [(String, Vec<u8>)], name: &str) -> &'a [u
         Some(bytes) => bytes,
         None => &[],
     }
+}
+
+// Returns the name at this place.
+pub(crate) fn name_in(files: &[(String, Vec<u8>)], place: usize) -> &str
+    requires { place < length files.now }
+    ensures { result.now ≡ name_at (pairs_of files.now) place }
+{
+    files[place].0.as_str()
+}
+
+// Copies a name, if there is memory for it.
+pub(crate) fn copy_name(alloc: Global, name: &str) -> Option<String>
+    ensures { IfSome (option_map string_bytes result) (λ copy. copy ≡ name.now) }
+{
+    String::from_str(alloc, name).ok()
 }
 
 // Gives the first file with this name these bytes, or adds it at the end if there is none. Returns its place.

@@ -1,14 +1,15 @@
 // Files in memory.
 ghost use Rattle.std.specs.Prelude.{◌≡◌, ◌⊎◌, ◌↔◌, ◌<◌, ◌≤◌, [], true, false, min, length, take, is_some, is_ok, Some, None, IfSome, IfOk, OnOk, OnErr, IsErr, IsTrue, vec_len, if◌then◌else◌};
-ghost use Rattle.std.specs.Option.{ForSome};
+ghost use Rattle.std.specs.Option.{ForSome, option_map};
+ghost use Rattle.std.specs.String.{string_bytes};
 ghost use Rattle.sf_base.specs.Contents.{contents_of, Changes, Holds, Grows, Moves};
 ghost use Rattle.sf_base.specs.Faults.{Cause, one_more};
 ghost use Rattle.sf_fakes.specs.Calls.{IsListed, next_call};
 ghost use Rattle.sf_fakes.specs.Pairs.{pairs_of, has_name, AddsName};
-ghost use Rattle.sf_fakes.specs.Reading.{rest_at, name_of};
+ghost use Rattle.sf_fakes.specs.Reading.{rest_at, name_of, opened_name_of};
 
 use crate::calls::Calls;
-use crate::lookup::{append_file, find_bytes, find_file, set_file};
+use crate::lookup::{append_file, copy_name, find_bytes, find_file, name_in, set_file};
 use crate::reading::{Reading, read_at};
 use sf_base::{Failed, Files, NoMemory, count_fault};
 use std::alloc::Global;
@@ -23,6 +24,7 @@ pub struct MemFiles {
     calls: Calls,
     opened: Option<Reading>,
     created: Option<usize>,
+    failed: Option<String>,
     read_faults: u64,
     write_faults: u64,
     ghost some: { 0 < most },
@@ -40,6 +42,7 @@ impl MemFiles {
         ensures opened { ⟦<MemFiles as Files>⟧.opened result ≡ false }
         ensures read_faults { (⟦<MemFiles as Files>⟧.seen result).read_faults ≡ 0 }
         ensures write_faults { (⟦<MemFiles as Files>⟧.seen result).write_faults ≡ 0 }
+        ensures failed_name { (⟦<MemFiles as Files>⟧.seen result).failed_name ≡ None }
         ensures most { result.most ≡ most }
         ensures made { result.calls.made ≡ 0 }
         ensures fails { result.calls.fails.items ≡ fails.items }
@@ -51,6 +54,7 @@ impl MemFiles {
             calls: Calls::new(fails),
             opened: None,
             created: None,
+            failed: None,
             read_faults: 0,
             write_faults: 0,
         }
@@ -73,6 +77,7 @@ impl MemFiles {
         ensures created_name { (⟦<MemFiles as Files>⟧.seen self.new).created_name ≡ (⟦<MemFiles as Files>⟧.seen self.old).created_name }
         ensures read_faults { self.new.read_faults ≡ self.old.read_faults }
         ensures write_faults { self.new.write_faults ≡ self.old.write_faults }
+        ensures failed_name { self.new.failed ≡ self.old.failed }
         ensures made { self.new.calls.made ≡ self.old.calls.made }
         ensures fails { self.new.calls.fails.items ≡ self.old.calls.fails.items }
         ensures most { self.new.most ≡ self.old.most }
@@ -90,14 +95,25 @@ impl MemFiles {
     {
         find_bytes(&self.files, name)
     }
+
+    // Copies the name of the open file, if there is memory for it.
+    fn copy_opened_name(&self) -> Option<String>
+        ensures { IfSome (option_map string_bytes result) (λ name.
+            opened_name_of (pairs_of self.now.files.items) self.now.opened ≡ Some name) }
+    {
+        let reading = self.opened?;
+        copy_name(self.alloc, name_in(&self.files, reading.place))
+    }
 }
 
 impl Files for MemFiles {
-    ghost seen = { λ files. record { contents = Some (pairs_of files.files.items); created = is_some files.created; created_name = name_of (pairs_of files.files.items) files.created; read_faults = files.read_faults; write_faults = files.write_faults } };
+    ghost seen = { λ files. record { contents = Some (pairs_of files.files.items); created = is_some files.created; created_name = name_of (pairs_of files.files.items) files.created; read_faults = files.read_faults; write_faults = files.write_faults; failed_name = option_map string_bytes files.failed } };
 
     ghost opened = { λ files. is_some files.opened };
 
     ghost rest = { λ files. rest_at (pairs_of files.files.items) files.opened };
+
+    ghost opened_name = { λ files. opened_name_of (pairs_of files.files.items) files.opened };
 
     ghost may_open = { λ _ _. true };
 
@@ -110,6 +126,9 @@ impl Files for MemFiles {
         ensures opened { is_some self.new.opened ≡ is_ok result }
         ensures rest { OnOk result (rest_at (pairs_of self.new.files.items) self.new.opened
             ≡ contents_of (pairs_of self.new.files.items) name.now) }
+        ensures opened_name { OnOk result (IfSome (opened_name_of (pairs_of self.new.files.items) self.new.opened) (λ opened. opened ≡ name.now)) }
+        ensures failed_name { OnErr result (IfSome (option_map string_bytes self.new.failed) (λ failed. failed ≡ name.now)) }
+        ensures none_failed { OnOk result (self.new.failed ≡ self.old.failed) }
         ensures contents { pairs_of self.new.files.items ≡ pairs_of self.old.files.items }
         ensures created { self.new.created ≡ self.old.created }
         ensures read_faults { self.new.read_faults ≡
@@ -123,6 +142,7 @@ impl Files for MemFiles {
         let place = find_file(&self.files, name);
         if self.calls.fails_next() || place.is_none() {
             self.opened = None;
+            self.failed = copy_name(self.alloc, name);
             count_fault(&mut self.read_faults);
             return Err(Failed);
         }
@@ -140,6 +160,11 @@ impl Files for MemFiles {
         ensures moves { IfOk result (λ n. Moves n
             (rest_at (pairs_of self.old.files.items) self.old.opened)
             (rest_at (pairs_of self.new.files.items) self.new.opened) buf.new) }
+        ensures opened_name { OnOk result (opened_name_of (pairs_of self.new.files.items) self.new.opened
+            ≡ opened_name_of (pairs_of self.old.files.items) self.old.opened) }
+        ensures failed_name { OnErr result (IfSome (option_map string_bytes self.new.failed) (λ failed.
+            opened_name_of (pairs_of self.old.files.items) self.old.opened ≡ Some failed)) }
+        ensures none_failed { OnOk result (self.new.failed ≡ self.old.failed) }
         ensures opened { is_some self.new.opened ≡ is_ok result }
         ensures contents { pairs_of self.new.files.items ≡ pairs_of self.old.files.items }
         ensures created { self.new.created ≡ self.old.created }
@@ -161,6 +186,7 @@ impl Files for MemFiles {
                 return Ok(n);
             }
         }
+        self.failed = self.copy_opened_name();
         self.opened = None;
         count_fault(&mut self.read_faults);
         Err(Failed)
@@ -182,6 +208,7 @@ impl Files for MemFiles {
             (if is_ok result then self.old.write_faults else one_more self.old.write_faults) }
         ensures cause { Cause self.old.write_faults self.new.write_faults result }
         ensures read_faults { self.new.read_faults ≡ self.old.read_faults }
+        ensures failed_name { self.new.failed ≡ self.old.failed }
         ensures made { self.new.calls.made ≡ next_call self.old.calls.made }
         ensures fails { self.new.calls.fails.items ≡ self.old.calls.fails.items }
         ensures most { self.new.most ≡ self.old.most }
@@ -218,6 +245,7 @@ impl Files for MemFiles {
             (if is_ok result then self.old.write_faults else one_more self.old.write_faults) }
         ensures cause { Cause self.old.write_faults self.new.write_faults result }
         ensures read_faults { self.new.read_faults ≡ self.old.read_faults }
+        ensures failed_name { self.new.failed ≡ self.old.failed }
         ensures made { self.new.calls.made ≡ next_call self.old.calls.made }
         ensures fails { self.new.calls.fails.items ≡ self.old.calls.fails.items }
         ensures most { self.new.most ≡ self.old.most }

@@ -45,11 +45,13 @@ impl<'a> SureFiles<'a> {
 }
 
 impl<'a> Files for SureFiles<'a> {
-    ghost seen = { λ files. record { contents = told_until files.created (pairs_of files.names.now); created = files.created; created_name = []; read_faults = 0; write_faults = 0 } };
+    ghost seen = { λ files. record { contents = told_until files.created (pairs_of files.names.now); created = files.created; created_name = []; read_faults = 0; write_faults = 0; failed_name = None } };
 
     ghost opened = { λ files. is_some files.rest };
 
     ghost rest = { λ files. lent_rest files.rest };
+
+    ghost opened_name = { λ _. None };
 
     ghost may_open = { λ _ _. true };
 

@@ -10,7 +10,7 @@ use Rattle.sf_words.specs.declared.refusal.Limit.{Limit}
 use Rattle.sf_words.specs.declared.refusal.Limit.TheVariants.{Inputs}
 use Rattle.sf_words.specs.declared.refusal.Refusal.{Refusal}
 use Rattle.sf_words.specs.declared.refusal.Refusal.TheVariants as refusal
-use Rattle.sf_words.specs.Loading.{AreBytesOf, AreLoaded, Contents, IsLoadingRefusal, IsRead, bytes_known}
+use Rattle.sf_words.specs.Loading.{AreBytesOf, AreLoaded, Contents, IsLoadingRefusal, IsRead, NamesFailed, bytes_known}
 use Rattle.sf_words.specs.declared.item.Item.{Item}
 use Rattle.sf_words.specs.Items.{ItemWords, counted_items, item_of, items_of, names_of}
 use Rattle.sf_words.specs.Words.{CanBeAsked, CommandWords, out_name}
@@ -51,6 +51,12 @@ no_read P (refusal.Read name) h read = h
 no_read P refusal.Memory h read = read
 no_read P (refusal.Limit limit) h read = read
 no_read P (refusal.Input notice) h read = read
+
+pub no_name : (P : Coming → Type 0) (failed : Option (List ℕ)) (refused : Refusal) → ComesAs P refused → NamesFailed failed refused
+no_name P failed (refusal.Read name) h = absurd h
+no_name P failed refusal.Memory h = tt
+no_name P failed (refusal.Limit limit) h = tt
+no_name P failed (refusal.Input notice) h = tt
 
 refused_as : (command : CommandWords) (contents : Contents) (refused : Refusal) → ComesAs (RunComes command contents) refused → RunRefuses command contents refused
 refused_as command contents (refusal.Read name) h = absurd h
@@ -95,14 +101,14 @@ can_be_said command contents (refusal.Limit limit) h = tt
 can_be_said command contents (refusal.Input notice) h = h.0
 
 pub ends_from_tells : (refused : Refusal) (answer : Status) (command : CommandWords) (before after : Seen) → OnlyReads before.files after.files → after.out ≡ before.out
-    → (IsRead refused → Rose before.files.read_faults after.files.read_faults) → RunRefuses command before.files.contents refused → Tells refused answer before.err after.err → RunEnds answer command before after
-ends_from_tells (refusal.Read name) answer command before after reads out rose h t =
-    subst (λ (s : Status). RunEnds s command before after) (sym t.0) (name.now, h, record { files = reads; output = out; says = t.1 }, rose tt)
-ends_from_tells refusal.Memory answer command before after reads out rose h t =
+    → (IsRead refused → Rose before.files.read_faults after.files.read_faults) → NamesFailed after.files.failed_name refused → RunRefuses command before.files.contents refused → Tells refused answer before.err after.err → RunEnds answer command before after
+ends_from_tells (refusal.Read name) answer command before after reads out rose named h t =
+    subst (λ (s : Status). RunEnds s command before after) (sym t.0) (name.now, h, record { files = reads; output = out; says = t.1 }, rose tt, named)
+ends_from_tells refusal.Memory answer command before after reads out rose named h t =
     subst (λ (s : Status). RunEnds s command before after) (sym t.0) record { files = reads; output = out; says = t.1 }
-ends_from_tells (refusal.Limit limit) answer command before after reads out rose h t =
+ends_from_tells (refusal.Limit limit) answer command before after reads out rose named h t =
     subst (λ (s : Status). RunEnds s command before after) (sym t.0) (limit, h, record { files = reads; output = out; says = t.1 })
-ends_from_tells (refusal.Input notice) answer command before after reads out rose h t =
+ends_from_tells (refusal.Input notice) answer command before after reads out rose named h t =
     subst (λ (s : Status). RunEnds s command before after) (sym t.0) (notice, h.0, h.1, record { files = reads; output = out; says = t.1 })
 
 -- ---- how a run ends that delivers what it made

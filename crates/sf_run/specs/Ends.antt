@@ -109,6 +109,7 @@ RunEnds status.No command before after =
 RunEnds status.Usage command before after = ⊥
 RunEnds status.Read command before after =
     (name : List ℕ) × Contains (item_names command) name × TurnedAway before after (read_line name) × Rose before.files.read_faults after.files.read_faults
+    × IfSome after.files.failed_name (λ failed. failed ≡ name)
 RunEnds status.Write command before after =
     (made : Outcome) × Leaves command before.files.contents made (λ section text.
     FileFailed (out_name command) section before after ⊎ OutputFailed (out_name command) section text before after)

@@ -5,7 +5,7 @@ ghost use Rattle.std.specs.Option.{option_map};
 ghost use Rattle.std.specs.String.{string_bytes};
 ghost use Rattle.sf_base.specs.Faults.{Rose};
 ghost use Rattle.sf_base.specs.Seen.{OnlyReads};
-ghost use Rattle.sf_words.specs.Loading.{AreLoaded, IsRead};
+ghost use Rattle.sf_words.specs.Loading.{AreLoaded, IsRead, NamesFailed};
 ghost use Rattle.sf_words.specs.Items.{counted_items, item_names, items_of};
 ghost use Rattle.sf_words.specs.Parsed.{Asks, words_of};
 ghost use Rattle.sf_words.specs.Words.{CanBeAsked, CommandWords, HasNoForm, IsCommand, out_name};
@@ -36,6 +36,7 @@ fn load_items<'a, F: Files>(
     ensures loaded { IfOk result (λ loaded. AreLoaded ((F.seen files.old).contents) (items_of (words_of asked.now)) (map (λ v. v.items) loaded.items)) }
     ensures refused { IfErr result (RunRefuses (words_of asked.now) ((F.seen files.old).contents)) }
     ensures read { IfErr result (λ refused. IsRead refused → Rose ((F.seen files.old).read_faults) ((F.seen files.new).read_faults)) }
+    ensures failed_name { IfErr result (NamesFailed ((F.seen files.new).failed_name)) }
     ensures reads { OnlyReads (F.seen files.old) (F.seen files.new) }
     ensures same { OnOk result (F.seen files.new ≡ F.seen files.old) }
     ensures may_create { F.may_create files.new ≡ F.may_create files.old }

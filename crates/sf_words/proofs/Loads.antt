@@ -16,7 +16,7 @@ use Rattle.sf_words.specs.declared.refusal.Limit.{Limit}
 use Rattle.sf_words.specs.declared.refusal.Limit.TheVariants.{File, Total}
 use Rattle.sf_words.specs.declared.refusal.Refusal.{Refusal}
 use Rattle.sf_words.specs.declared.refusal.Refusal.TheVariants as refusal
-use Rattle.sf_words.specs.Loading.{Contents, bytes_limit, items_limit, of_kinds, bytes_known, AreLoaded, Exceeds, IsReadOf, IsLoadRefusal, IsLoadingRefusal}
+use Rattle.sf_words.specs.Loading.{Contents, bytes_limit, items_limit, of_kinds, bytes_known, AreLoaded, Exceeds, IsReadOf, IsLoadRefusal, IsLoadingRefusal, NamesFailed}
 
 one_step : (item total : ℕ) (kind : ItemKind) (bytes : List ℕ) (rest : List (ItemKind × List ℕ)) (long much : Bool) → nat_lt (limit_of kind) (length bytes) ≡ long
     → nat_lt (2 ^ 30) (total + counted_bytes kind (length bytes)) ≡ much
@@ -210,6 +210,16 @@ load_refuses contents items k item d loaded total load.Read refused h lt is refu
 load_refuses contents items k item d loaded total (load.TooLong limit) refused h lt is refuses long =
     subst (IsLoadingRefusal contents items) (ap (λ (n : ℕ). refusal.Limit (File n)) (sym is) ∙ sym refuses) (long_file contents items k d loaded total h lt (long limit refl))
 load_refuses contents items k item d loaded total load.NoMemory refused h lt is refuses long = subst (IsLoadingRefusal contents items) (sym refuses) tt
+
+-- the refusal of an item that could not be read names the file that failed
+pub names_failed : (failed : Option (List ℕ)) (fault : LoadFault) (item : ℕ) (name : List ℕ) (refused : Refusal) → IsLoadRefusal fault item name refused → (fault ≡ load.Read → IfSome failed (λ known. known ≡ name))
+    → NamesFailed failed refused
+names_failed failed load.Read item name (refusal.Read unread) is named = subst (λ (n : List ℕ). IfSome failed (λ known. known ≡ n)) (sym is) (named refl)
+names_failed failed load.Read item name refusal.Memory is named = tt
+names_failed failed load.Read item name (refusal.Limit limit) is named = tt
+names_failed failed load.Read item name (refusal.Input notice) is named = tt
+names_failed failed (load.TooLong limit) item name refused is named = subst (NamesFailed failed) (sym is) tt
+names_failed failed load.NoMemory item name refused is named = subst (NamesFailed failed) (sym is) tt
 
 pub map_items_push : (before after : List (Vec ℕ Global)) (v : Vec ℕ Global) → after ≡ before ++ v ∷ [] → map (λ (w : Vec ℕ Global). w.items) after ≡ map (λ (w : Vec ℕ Global). w.items) before ++ v.items ∷ []
 map_items_push before after v h = ap (map (λ (w : Vec ℕ Global). w.items)) h ∙ map_push (λ (w : Vec ℕ Global). w.items) before v

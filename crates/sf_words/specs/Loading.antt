@@ -71,6 +71,11 @@ IsLoadingRefusal contents items refusal.Memory = Unit {0}
 IsLoadingRefusal contents items (refusal.Limit limit) = Exceeds contents items limit
 IsLoadingRefusal contents items (refusal.Input notice) = ⊥
 
+-- the item that could not be read is the file whose open or read failed last, where its name is known
+abbrev pub NamesFailed : (failed : Option (List ℕ)) → Refusal → Type 0
+NamesFailed failed (refusal.Read name) = IfSome failed (λ known. known ≡ name.now)
+NamesFailed failed refused = Unit {0}
+
 -- an item could not be read
 abbrev pub IsRead : Refusal → Type 0
 IsRead (refusal.Read name) = Unit {0}

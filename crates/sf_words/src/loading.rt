@@ -4,7 +4,7 @@ ghost use Rattle.std.specs.Prelude.{◌≡◌, ◌<◌, ◌^◌, All, map, lengt
 ghost use Rattle.sf_base.specs.Faults.{Rose};
 ghost use Rattle.sf_base.specs.Seen.{OnlyReads};
 ghost use Rattle.sf_words.specs.Items.{item_of};
-ghost use Rattle.sf_words.specs.Loading.{AreLoaded, IsLoadRefusal, IsLoadingRefusal, IsRead};
+ghost use Rattle.sf_words.specs.Loading.{AreLoaded, IsLoadRefusal, IsLoadingRefusal, IsRead, NamesFailed};
 
 use crate::Item;
 use crate::refusal::{Limit, Refusal};
@@ -41,6 +41,7 @@ pub fn load_all<'a, F: Files>(
     ensures loaded { IfOk result (λ loaded. AreLoaded ((F.seen files.old).contents) (map item_of items.now) (map (λ v. v.items) loaded.items)) }
     ensures refused { IfErr result (IsLoadingRefusal ((F.seen files.old).contents) (map item_of items.now)) }
     ensures read { IfErr result (λ refused. IsRead refused → Rose ((F.seen files.old).read_faults) ((F.seen files.new).read_faults)) }
+    ensures failed_name { IfErr result (NamesFailed ((F.seen files.new).failed_name)) }
     ensures reads { OnlyReads (F.seen files.old) (F.seen files.new) }
     ensures same { OnOk result (F.seen files.new ≡ F.seen files.old) }
     ensures may_create { F.may_create files.new ≡ F.may_create files.old }

@@ -11,6 +11,7 @@ invariant-loop-bytes g l =
       within : vec_len l.bytes ≤ l.limit;
       opened : IsTrue (files.opened l.files);
       told : IfSome ((files.seen l.fn.files).contents) (λ told. l.bytes.items ++ files.rest l.files ≡ contents_of told l.name);
+      opened_name : IfSome (files.opened_name l.files) (λ opened. opened ≡ l.name);
       same : files.seen l.files ≡ files.seen l.fn.files;
       may_open : files.may_open l.files ≡ files.may_open l.fn.files;
       may_create : files.may_create l.files ≡ files.may_create l.fn.files;

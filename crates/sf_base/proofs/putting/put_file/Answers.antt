@@ -17,4 +17,5 @@ loop-done-preserved g c =
       may_open = ok.may_open ∙ done.may_open;
       may_create = ok.may_create ∙ done.may_create;
       read_faults = ok.read_faults ∙ done.read_faults;
+      failed_name = ok.failed_name ∙ done.failed_name;
     }

@@ -16,6 +16,7 @@ invariant-loop-done g l =
       may_open : files.may_open l.files ≡ files.may_open l.fn.files;
       may_create : files.may_create l.files ≡ files.may_create l.fn.files;
       read_faults : (files.seen l.files).read_faults ≡ (files.seen l.fn.files).read_faults;
+      failed_name : (files.seen l.files).failed_name ≡ (files.seen l.fn.files).failed_name;
     }
 
 abbrev pub decreases-loop-done : goal.decreases-loop-done

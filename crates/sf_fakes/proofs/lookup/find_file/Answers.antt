@@ -1,8 +1,8 @@
 use Rattle.std.proofs.Common.{◌≡◌, ◌<◌, ◌∙◌, Some, None, Option, List, ℕ, length, sym}
 use Rattle.std.specs.Option.{IfSome, is_some}
-use Rattle.sf_fakes.specs.Pairs.{pairs_of, place_of, has_name, bytes_at}
+use Rattle.sf_fakes.specs.Pairs.{pairs_of, place_of, has_name, bytes_at, name_at}
 use Rattle.sf_base.specs.Contents.{contents_of}
-use Rattle.sf_fakes.proofs.Lookups.{Stored, position_is_place, found_below, found_has, absent_has, found_there}
+use Rattle.sf_fakes.proofs.Lookups.{Stored, position_is_place, found_below, found_has, absent_has, found_there, name_found}
 use Rattle.sf_fakes.proofs.lookup.find_file.Goals as goal
 
 below : (files : List Stored) (name : List ℕ) (found : Option ℕ) → found ≡ place_of (pairs_of files) name → IfSome found (λ place. place < length files)
@@ -28,3 +28,10 @@ bytes files name (Some k) e = found_there (pairs_of files) name k (sym e)
 
 pub returns-clause-bytes : goal.returns-clause-bytes
 returns-clause-bytes c = bytes c.args.files.now c.args.name.now c.first_named.result (c.first_named.ensures ∙ position_is_place c.args.files.now c.args.name.now)
+
+named : (files : List Stored) (name : List ℕ) (found : Option ℕ) → found ≡ place_of (pairs_of files) name → IfSome found (λ place. name_at (pairs_of files) place ≡ name)
+named files name None e = tt
+named files name (Some k) e = name_found (pairs_of files) name k (sym e)
+
+pub returns-clause-name : goal.returns-clause-name
+returns-clause-name c = named c.args.files.now c.args.name.now c.first_named.result (c.first_named.ensures ∙ position_is_place c.args.files.now c.args.name.now)

@@ -1,10 +1,9 @@
 use Rattle.std.specs.Prelude.{IfSome, IsTrue}
-use Rattle.std.proofs.Common.{◌≡◌, ◌<◌, ◌≤◌, ◌∙◌, ℕ, Bool, List, All, Option, Some, None, Bor, refl, sym, subst, arith}
+use Rattle.std.proofs.Common.{◌≡◌, ◌<◌, ◌≤◌, ℕ, Bool, List, All, Option, Some, None, Bor, refl, sym, subst, arith}
 use Rattle.std.specs.Option.{option_map}
 use Rattle.sf_words.specs.declared.refusal.Limit.TheVariants.{Inputs}
 use Rattle.sf_words.specs.declared.refusal.Refusal.TheVariants as refusal
 use Rattle.sf_words.specs.Items.{counted_items, item_names}
-use Rattle.sf_words.specs.Parsed.{words_of}
 use Rattle.sf_words.specs.Words.{CommandWords, out_name}
 use Rattle.sf_run.specs.Ends.{RunEnds, seen}
 use Rattle.sf_run.proofs.Runs.{ends_from_tells, too_many_runs}
@@ -38,7 +37,7 @@ returns-then-counted-gt-ITEM_COUNT-clause-ends g c wanted asks =
     let files = g.F.Files.seen c.args.files.now in
     let out = g.O.Sink.seen c.args.out.now in
     ends_from_tells (refusal.Limit Inputs) c.tell.result wanted (seen files out (g.E.Sink.seen c.args.err.now)) (seen files out (g.E.Sink.seen c.tell.new.err)) record { later = omega arith; rest = refl } refl
-    (λ read. absurd read) (too_many_runs wanted files.contents many) c.tell.ensures
+    (λ read. absurd read) tt (too_many_runs wanted files.contents many) c.tell.ensures
 
 pub returns-in-Ok-clause-ends : goal.returns-in-Ok-clause-ends
 returns-in-Ok-clause-ends g c wanted asks =
@@ -51,4 +50,4 @@ returns-in-Err-clause-ends g c wanted asks =
     let files = g.F.Files.seen c.args.files.now in
     let out = g.O.Sink.seen c.args.out.now in
     ends_from_tells refusal.Memory c.tell-in-Err.result wanted (seen files out (g.E.Sink.seen c.args.err.now)) (seen files out (g.E.Sink.seen c.tell-in-Err.new.err)) record { later = omega arith; rest = refl } refl
-    (λ read. absurd read) tt c.tell-in-Err.ensures
+    (λ read. absurd read) tt tt c.tell-in-Err.ensures

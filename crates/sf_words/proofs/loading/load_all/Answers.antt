@@ -2,7 +2,7 @@ use Rattle.std.proofs.Common.{Vec, Global, ◌≡◌, ◌≤◌, ◌<◌, ◌^�
 use Rattle.std.proofs.lemmas.List.{length-map}
 use Rattle.sf_base.specs.Seen.{FilesSeen}
 use Rattle.sf_words.specs.Items.{item_of}
-use Rattle.sf_words.proofs.Loads.{Begun, begin, go_on_at, all_loaded, long_in_all_at, load_refuses_at, map_items_push}
+use Rattle.sf_words.proofs.Loads.{Begun, begin, go_on_at, all_loaded, long_in_all_at, load_refuses_at, map_items_push, names_failed}
 use Rattle.sf_words.proofs.loading.load_all.Goals as goal
 
 pub loop-item-init : goal.loop-item-init
@@ -23,6 +23,10 @@ returns-in-Err-clause-refused g c =
     load_refuses_at _ _ c.args.items.now c.loop-item.item-index c.len-number.result _ (map (λ v. v.items) c.loop-item.loaded.items) c.loop-item.total c.limit.result c.in-Err.fault c.not_loaded.result
     (ap (λ (f : FilesSeen). f.contents) c.loop-item.invariant.same) c.loop-item.invariant.begun lt number c.limit.ensures c.not_loaded.ensures
     (λ limit e. c.load.ensures.longer limit (c.in-Err.is ∙ ap Err e))
+
+pub returns-in-Err-clause-failed_name : goal.returns-in-Err-clause-failed_name
+returns-in-Err-clause-failed_name g c =
+    names_failed _ c.in-Err.fault c.len-number.result _ c.not_loaded.result c.not_loaded.ensures (λ e. c.load.ensures.failed_name (c.in-Err.is ∙ ap Err e))
 
 pub returns-then-total-gt-TOTAL_LIMIT-clause-refused : goal.returns-then-total-gt-TOTAL_LIMIT-clause-refused
 returns-then-total-gt-TOTAL_LIMIT-clause-refused g c =
