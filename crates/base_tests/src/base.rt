@@ -58,7 +58,11 @@ const CALLS: [(u64, Came); 12] = [
 #[test]
 fn a_fault_at_each_call_of_a_copy_shows(rt: HostRuntime) -> Result<(), Fail> {
     for (call, came) in &CALLS {
-        assert_eq!(rt; copy_with_fault(rt.alloc(), *call)?, *came, "at call {call}");
+        assert_eq!(rt;
+            copy_with_fault(rt.alloc(), *call)?,
+            *came,
+            "at call {call}"
+        );
     }
     Ok(())
 }

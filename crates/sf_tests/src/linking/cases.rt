@@ -1,8 +1,8 @@
 //! Inputs of one small function each, and what linking two of them comes to.
 
 use super::{Case, Given};
-use sf_model::{Arch, Form};
 use elf_dwarf_tests::samples::GROUPED;
+use sf_model::{Arch, Form};
 
 /// A function of AMD64 of 6 bytes, at 0x1000 where the section lies at 0x2000.
 const PUSHES: &str = "14 00 00 00 00 00 00 00 01 7a 52 00 01 78 10 01 1b 0c 07 08 90 01 00 00 \
