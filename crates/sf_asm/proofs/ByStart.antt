@@ -3,15 +3,15 @@ use Rattle.std.specs.Prelude.{nat_le, not}
 use Rattle.std.specs.List.{filter}
 use Rattle.std.specs.List.Sorted.{IsPermutation, IsNonDecreasingBy, IsStableByKey}
 use Rattle.std.specs.Ordering.{nat_cmp}
-use Rattle.std.proofs.Common.{◌≡◌, ℕ, zero, suc, ◌<◌, ◌≤◌, Bool, true, false, cond, List, [], ◌∷◌, length, get_or, map, refl, sym, ap, ◌∙◌, arith}
+use Rattle.std.proofs.Common.{◌≡◌, ℕ, zero, suc, ◌<◌, ◌≤◌, Bool, true, false, cond, List, [], ◌∷◌, length, get_or, map, refl, sym, ap, subst, ◌∙◌, arith}
 use Rattle.std.proofs.lemmas.Bool.Decides.{nat_tests}
 use Rattle.std.proofs.lemmas.List.Sorted.{IsPermutation-refl, IsPermutation-trans, IsPermutation-cons, IsPermutation-middle}
 use Rattle.sf_asm.specs.declared.entry.Entry.{Entry}
-use Rattle.sf_asm.specs.declared.source.Source.{Source}
+use Rattle.sf_asm.specs.declared.source.SourceItem.{SourceItem}
 use Rattle.sf_asm.specs.Functions.{Function}
 use Rattle.sf_asm.specs.Kept.{entry_of, is_kept, omitted_functions}
 use Rattle.sf_asm.specs.Linking.{InOrder, start_of}
-use Rattle.sf_asm.specs.Sources.{AreByStart, function_start, functions_lent, source_function, source_start}
+use Rattle.sf_asm.specs.Sources.{AreByStart, Common, function_start, item_function}
 use Rattle.sf_model.proofs.StableOrder.{tied, tied_means, NoneBelow, one_order_of}
 
 -- one element more, before two filters
@@ -178,8 +178,13 @@ pub ordered_are : (functions : List Function) (ordered : List Entry) → InOrder
 ordered_are functions ordered h =
     by_key-only start_of (map entry_of functions) ordered h.rising h.stable ∙ sym (by_key-map entry_of function_start start_of (λ f. refl) functions)
 
-pub sources_are : (functions : List Function) (read sources : List Source) → functions_lent read ≡ omitted_functions functions → IsNonDecreasingBy source_start sources → IsStableByKey source_start nat_cmp read sources
-    → functions_lent sources ≡ omitted_functions (sorted_functions functions)
-sources_are functions read sources lent rising stable =
-    ap functions_lent (by_key-only source_start read sources rising stable) ∙ by_key-map source_function source_start function_start (λ s. refl) read
-    ∙ ap (by_key function_start) lent ∙ sym (by_key-filter function_start (λ (f : Function). not (is_kept f)) functions)
+pub sources_are : (functions read sources : List Function) → read ≡ omitted_functions functions → AreByStart read sources → sources ≡ omitted_functions (sorted_functions functions)
+sources_are functions read sources lent h =
+    by_key-only function_start read sources h.rising h.stable ∙ ap (by_key function_start) lent ∙ sym (by_key-filter function_start (λ (f : Function). not (is_kept f)) functions)
+
+-- items that are sorted by their starts, with what is seen of them
+pub items_by_start : (commons : List Common) (old new : List SourceItem) → IsNonDecreasingBy (λ (i : SourceItem). i.start) new → IsStableByKey (λ (i : SourceItem). i.start) nat_cmp old new → AreByStart (map (item_function commons) old) (map (item_function commons) new)
+items_by_start commons old new rising stable =
+    subst (AreByStart (map (item_function commons) old))
+    (sym (ap (map (item_function commons)) (by_key-only (λ (i : SourceItem). i.start) old new rising stable) ∙ by_key-map (item_function commons) (λ (i : SourceItem). i.start) function_start (λ i. refl) old))
+    (are_by_start (map (item_function commons) old))

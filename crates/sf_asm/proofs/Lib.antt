@@ -25,6 +25,7 @@ pub mod Accepting
 pub mod MadeRows
 pub mod Lending
 pub mod ByStart
+pub mod CommonParts
 pub mod OneMachine
 pub mod Members
 pub mod Holding

@@ -20,7 +20,7 @@ use Rattle.sf_asm.specs.Kept.{entry_of}
 use Rattle.sf_asm.specs.Linking.{limits_fault}
 use Rattle.sf_asm.specs.Order.{entry_rows}
 use Rattle.sf_asm.specs.ReadSoFar.{AreCounted, AreHeld, AreRead, AreSound, Reads, ReadsAll}
-use Rattle.sf_asm.specs.Sources.{functions_lent, if_left}
+use Rattle.sf_asm.specs.Sources.{if_left}
 use Rattle.sf_asm.proofs.Lending.{one_omitted}
 use Rattle.sf_asm.proofs.Limits.{too_many_functions, too_many_rows, within_limits}
 
@@ -151,7 +151,7 @@ has_room entries rows left e = at_test (nat_lt (length entries) (2 ^ 21)) refl e
     at_test false t e = cc
 
 pub one_held : (lending : Bool) (old new : HeldFunctions) (before : List Function) (f : Function) (entry : Entry) → AreHeld lending old before → entry_of f ≡ entry → length old.entries < 2 ^ 21 → new.entries ≡ old.entries ++ entry ∷ []
-    → new.rows_left + entry_rows entry ≡ old.rows_left → (IsTrue lending → functions_lent new.sources.items ≡ functions_lent old.sources.items ++ if_left entry.outcome f) → AreHeld lending new (before ++ f ∷ [])
+    → new.rows_left + entry_rows entry ≡ old.rows_left → (IsTrue lending → new.sources.functions ≡ old.sources.functions ++ if_left entry.outcome f) → AreHeld lending new (before ++ f ∷ [])
 one_held lending old new before f entry h is room entries rows lent =
     let count : length old.entries ≡ length before = ap length h.entries ∙ length-map before entry_of in
     record {

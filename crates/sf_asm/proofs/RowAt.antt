@@ -1,10 +1,11 @@
 -- What the function that has an address says there, among all functions of inputs.
-use Rattle.std.specs.Prelude.{IfOk, not}
+use Rattle.std.specs.Prelude.{◌&&◌, IfOk, nat_le, nat_lt, not}
 use Rattle.std.specs.List.{find}
 use Rattle.std.specs.List.Sorted.{IsPermutation}
 use Rattle.std.specs.Option.{option_and_then, option_map}
-use Rattle.std.proofs.Common.{◌≡◌, ◌≢◌, ℕ, ◌+◌, ◌^◌, ◌-◌, ◌<◌, ◌≤◌, Bool, true, false, List, map, Option, Some, None, Result, Ok, Err, refl, sym, ap, subst, ◌∙◌, arith, inl, inr}
+use Rattle.std.proofs.Common.{◌≡◌, ◌≢◌, ℕ, ◌+◌, ◌^◌, ◌-◌, ◌<◌, ◌≤◌, Bool, true, false, cond, List, [], ◌∷◌, drop, get_or, length, map, Option, Some, None, Result, Ok, Err, refl, sym, ap, subst, ◌∙◌, arith, inl, inr}
 use Rattle.std.proofs.lemmas.Bool.{cases_lt}
+use Rattle.std.proofs.lemmas.List.{drop_more}
 use Rattle.sf_model.specs.declared.content.Content.{Content}
 use Rattle.sf_model.specs.declared.function.Func.{Func}
 use Rattle.sf_model.specs.declared.machine.Arch.{Arch}
@@ -15,21 +16,20 @@ use Rattle.sf_model.specs.Lookup.{contains}
 use Rattle.sf_express.specs.declared.pieces.Piece.{Piece}
 use Rattle.sf_express.specs.Pieces.{ArePieces, AreSaidBy, PiecesDiffer, piece_of_row, said_by}
 use Rattle.sf_asm.specs.Described.{Describe}
-use Rattle.sf_asm.specs.declared.source.Source.{Source}
 use Rattle.sf_asm.specs.Entry.{kept_of}
 use Rattle.sf_asm.specs.Faithful.{holds_address}
 use Rattle.sf_asm.specs.Functions.{Function, Object}
 use Rattle.sf_asm.specs.Kept.{entry_of, is_kept, kept_functions, omitted_functions}
 use Rattle.sf_asm.specs.Order.{are_apart}
 use Rattle.sf_asm.specs.Said.{IsSaidUpTo, RowAt, SaidTo, SaysUpTo, dwarf_at, form_content, said_in, with_key}
-use Rattle.sf_asm.specs.Sources.{AreWithSources, functions_lent, source_function}
+use Rattle.sf_asm.specs.Sources.{AreWithSources}
 use Rattle.sf_asm.specs.declared.said.Said.{Said}
 use Rattle.sf_asm.proofs.Agreeing.{expressed_of, find_kept, found_passes}
 use Rattle.sf_asm.proofs.Described.{described}
 use Rattle.sf_model.proofs.Unions.{Member, found, found_alone, from_filter, in_filter, some_found}
 use Rattle.sf_asm.proofs.Finding.{found_alike}
 use Rattle.sf_asm.proofs.Holding.{IsWithin, gathered_apart, is_within, kept_said_by, one_holds, within}
-use Rattle.sf_asm.proofs.Members.{find_in_map, placed}
+use Rattle.sf_asm.proofs.Members.{placed}
 
 -- ---- what calls found
 pub found_in : {X Y : Type 0} (view : X → Y) (p : Y → Bool) (found : Option X) (x : X) (asked items : List Y) → asked ≡ items → option_map view found ≡ find p asked → found ≡ Some x → find p items ≡ Some (view x)
@@ -41,6 +41,21 @@ none_in view p found asked items same e is = subst (λ (ys : List _). find p ys 
 pub if_ok : {A E : Type 0} (r : Result A E) (P Q : A → Type 0) → ((a : A) → P a → Q a) → IfOk r P → IfOk r Q
 if_ok (Ok a) P Q f h = f a h
 if_ok (Err e) P Q f h = h
+
+-- ---- what is found, one function after another
+pub found_here : {X : Type 0} (p : X → Bool) (xs : List X) (k : ℕ) (d x : X) → k < length xs → get_or xs k d ≡ x → p x ≡ true → find p (drop k xs) ≡ Some x
+found_here p xs k d x lt is t = ap (find p) (drop_more xs k d lt ∙ ap (λ y. y ∷ drop (k + 1) xs) is) ∙ ap (λ (b : Bool). cond b (Some x) (find p (drop (k + 1) xs))) t
+
+pub found_later : {X : Type 0} (p : X → Bool) (xs : List X) (k : ℕ) (d x : X) → k < length xs → get_or xs k d ≡ x → p x ≡ false → find p (drop k xs) ≡ find p (drop (k + 1) xs)
+found_later p xs k d x lt is t = ap (find p) (drop_more xs k d lt ∙ ap (λ y. y ∷ drop (k + 1) xs) is) ∙ ap (λ (b : Bool). cond b (Some x) (find p (drop (k + 1) xs))) t
+
+pub some_of : {X : Type 0} (xs : List X) (k : ℕ) → k < length xs → X
+some_of [] k lt = absurd (omega (arith, lt))
+some_of (x ∷ xs) k lt = x
+
+pub has_it : (f : Function) (start size pc : ℕ) (b : Bool) → start ≡ f.start → size ≡ f.size → b ≡ (nat_le start pc && nat_lt pc (start + size)) → holds_address pc f ≡ b
+has_it f start size pc b start_is size_is e =
+    sym (e ∙ ap (λ (n : ℕ). nat_le n pc && nat_lt pc (n + size)) start_is ∙ ap (λ (n : ℕ). nat_le f.start pc && nat_lt pc (f.start + n)) size_is)
 
 -- ---- one function
 -- what its pieces say, from an address up to the last one of a piece
@@ -168,19 +183,17 @@ module _ (functions sorted : List Function) (moved : IsPermutation functions sor
           let m = from_filter is_kept sorted f (found (holds_address pc) (kept_functions sorted) f is).within in
           record { f = f; kept = passes.1; is = sym one; holder = holder_of f m passes.0 }
 
-  omitted_there : (sources : List Source) (s : Source) → functions_lent sources ≡ omitted_functions sorted → find (λ (x : Source). holds_address pc (source_function x)) sources ≡ Some s → IsHolder functions pc (source_function s)
-  omitted_there sources s are e =
-      let lent : find (holds_address pc) (omitted_functions sorted) ≡ Some (source_function s) =
-      subst (λ (fs : List Function). find (holds_address pc) fs ≡ Some (source_function s)) are (find_in_map (holds_address pc) source_function sources ∙ ap (option_map source_function) e) in
-      let h = found (holds_address pc) (omitted_functions sorted) (source_function s) lent in
-      holder_of (source_function s) (from_filter (λ (f : Function). not (is_kept f)) sorted (source_function s) h.within) h.passes
+  omitted_there : (sources : List Function) (f : Function) → sources ≡ omitted_functions sorted → find (holds_address pc) sources ≡ Some f → IsHolder functions pc f
+  omitted_there sources f are e =
+      let h = found (holds_address pc) (omitted_functions sorted) f (subst (λ (fs : List Function). find (holds_address pc) fs ≡ Some f) are e) in
+      holder_of f (from_filter (λ (g : Function). not (is_kept g)) sorted f h.within) h.passes
 
-  none_there : (sources : List Source) → functions_lent sources ≡ omitted_functions sorted → find (contains pc) (kept_of (map entry_of sorted)) ≡ None → find (λ (x : Source). holds_address pc (source_function x)) sources ≡ None → dwarf_at functions pc ≡ None
+  none_there : (sources : List Function) → sources ≡ omitted_functions sorted → find (contains pc) (kept_of (map entry_of sorted)) ≡ None → find (holds_address pc) sources ≡ None → dwarf_at functions pc ≡ None
   unfolding dwarf_at
   none_there sources are no_kept no_omitted = at_found (find (holds_address pc) sorted) refl
     where
       no_lent : find (holds_address pc) (omitted_functions sorted) ≡ None
-      no_lent = subst (λ (fs : List Function). find (holds_address pc) fs ≡ None) are (find_in_map (holds_address pc) source_function sources ∙ ap (option_map source_function) no_omitted)
+      no_lent = subst (λ (fs : List Function). find (holds_address pc) fs ≡ None) are no_omitted
 
       neither : (f : Function) → holds_address pc f ≡ true → Member sorted f → (b : Bool) → is_kept f ≡ b → ⊥
       neither f t m true k = some_found (holds_address pc) (kept_functions sorted) f t (in_filter is_kept sorted f k m) (no_function (find (holds_address pc) (kept_functions sorted)) (sym (find_kept pc sorted) ∙ no_kept))
@@ -191,7 +204,7 @@ module _ (functions sorted : List Function) (moved : IsPermutation functions sor
       at_found (Some f) e = let h = found (holds_address pc) sorted f e in absurd (neither f h.passes h.within (is_kept f) refl)
 
 -- ---- gathered functions
-module _ (objects : List Object) (arch : Arch) (kept : List Func) (omitted : List Omitted) (sources : List Source) (h : AreWithSources None objects arch kept omitted (functions_lent sources)) (pc : ℕ) where
+module _ (objects : List Object) (arch : Arch) (kept : List Func) (omitted : List Omitted) (sources : List Function) (h : AreWithSources None objects arch kept omitted sources) (pc : ℕ) where
   apart : are_apart 0 (map entry_of h.sorted) ≡ true
   apart = gathered_apart None objects (map entry_of h.sorted) h.is
 
@@ -231,12 +244,11 @@ module _ (objects : List Object) (arch : Arch) (kept : List Func) (omitted : Lis
       let own = says k.f (sym (ap (λ (x : Func). x.start) k.is)) (sym (ap (λ (x : Func). x.size) k.is)) (sym (ap (λ (x : Func). x.key) k.is)) (said_by_rows g k) in
       of_these row (by_holder h.functions pc k.f row k.holder own)
 
-  pub row_of_omitted : (s : Source) → find (λ (x : Source). holds_address pc (source_function x)) sources ≡ Some s → (row : Option (Content × Key × ℕ)) → SaysUpTo (λ p. said_in p (source_function s)) (source_function s) pc row
-      → (functions : List Function) → Describe 0 objects (Ok functions) → RowAt functions pc row
-  row_of_omitted s e row says = of_these row (by_holder h.functions pc (source_function s) row (omitted_there h.functions h.sorted h.by_start.moved apart pc sources s h.sources_are e) says)
+  pub row_of_omitted : (f : Function) → find (holds_address pc) sources ≡ Some f → (row : Option (Content × Key × ℕ)) → SaysUpTo (λ p. said_in p f) f pc row → (functions : List Function) → Describe 0 objects (Ok functions) → RowAt functions pc row
+  row_of_omitted f e row says = of_these row (by_holder h.functions pc f row (omitted_there h.functions h.sorted h.by_start.moved apart pc sources f h.sources_are e) says)
 
-  pub omitted_within : (s : Source) → find (λ (x : Source). holds_address pc (source_function x)) sources ≡ Some s → IsWithin pc s.facts.start s.facts.size
-  omitted_within s e = within pc (source_function s) (found (λ (x : Source). holds_address pc (source_function x)) sources s e).passes
+  pub omitted_within : (f : Function) → find (holds_address pc) sources ≡ Some f → IsWithin pc f.start f.size
+  omitted_within f e = within pc f (found (holds_address pc) sources f e).passes
 
-  pub no_row : find (contains pc) kept ≡ None → find (λ (x : Source). holds_address pc (source_function x)) sources ≡ None → (functions : List Function) → Describe 0 objects (Ok functions) → RowAt functions pc None
+  pub no_row : find (contains pc) kept ≡ None → find (holds_address pc) sources ≡ None → (functions : List Function) → Describe 0 objects (Ok functions) → RowAt functions pc None
   no_row no_kept no_omitted = of_these None (none_there h.functions h.sorted h.by_start.moved apart pc sources h.sources_are (subst (λ (ks : List Func). find (contains pc) ks ≡ None) h.kept_are no_kept) no_omitted)

@@ -17,5 +17,6 @@ pub mod Views
 pub mod Placing
 pub mod Accepted
 pub mod Sources
+pub mod Numbers
 pub mod Said
 pub mod Described

@@ -11,14 +11,15 @@ use Rattle.sf_asm.specs.Functions.{Function}
 use Rattle.sf_asm.specs.Kept.{entry_of, omitted_functions}
 use Rattle.sf_asm.specs.Linking.{limits_fault}
 use Rattle.sf_asm.specs.Order.{entry_rows}
-use Rattle.sf_asm.specs.Sources.{functions_lent}
+use Rattle.sf_asm.specs.Numbers.{AreNumbered}
+use Rattle.sf_asm.specs.declared.numbers.CommonNumbers.{CommonNumbers}
 
 -- within the limits: all functions, the number of rows that may still come, and the omitted ones where they are to be lent
 pub record AreHeld (lending : Bool) (held : HeldFunctions) (functions : List Function) : Type 0 where
   pub entries : held.entries ≡ map entry_of functions
   pub few : length functions ≤ 2 ^ 21
   pub rows : sum_by entry_rows (map entry_of functions) + held.rows_left ≡ 2 ^ 24
-  pub lent : IsTrue lending → functions_lent held.sources.items ≡ omitted_functions functions
+  pub lent : IsTrue lending → held.sources.functions ≡ omitted_functions functions
 
 -- past a limit: how many there are, where all above the limit count as one above it
 pub record AreCounted (count : ℕ) (functions : List Function) : Type 0 where
@@ -38,6 +39,11 @@ counted_in (Past count) = count
 abbrev pub AreSound : Arch → ReadFunctions → Type 0
 AreSound arch (Within held) = All (IsSound arch) held.entries
 AreSound arch (Past count) = Unit {0}
+
+-- each number is that of what the functions of an entry of a section share, while functions are held
+abbrev pub AreNumberedIn : Arch → (section : List ℕ) → CommonNumbers → ReadFunctions → Type 0
+AreNumberedIn arch section numbers (Within held) = AreNumbered arch section numbers held.sources.common
+AreNumberedIn arch section numbers (Past count) = Unit {0}
 
 -- these functions were read after those that were read before
 abbrev pub Reads : (lending : Bool) → (old new : ReadFunctions) → (functions : List Function) → Type 0

@@ -1,19 +1,26 @@
--- Functions that are lent as their records say them (LSB Core, "The .eh_frame section"), and the order of functions by their starts.
-use Rattle.std.specs.Prelude.{◌≡◌, ℕ, List, [], ◌∷◌, map, Option, Ok}
+-- Functions that are lent as their records describe them (LSB Core, "The .eh_frame section"), and the order of functions by their starts.
+use Rattle.std.specs.Prelude.{◌≡◌, ◌<◌, ℕ, ℤ, pos, Bool, true, false, is_ok, List, [], ◌∷◌, get_or, length, map, Option, Ok}
 use Rattle.std.specs.List.Sorted.{IsPermutation, IsNonDecreasingBy, IsStableByKey}
 use Rattle.std.specs.Ordering.{nat_cmp}
 use Rattle.sf_bytes.specs.Cursor.{cursor}
-use Rattle.cfa_insn.specs.Listing.{listing}
+use Rattle.cfa_insn.specs.Listing.{Item, listing}
+use Rattle.cfa_machine.specs.Pass.{rows_by}
 use Rattle.sf_model.specs.declared.machine.Arch.{Arch}
+use Rattle.sf_model.specs.declared.machine.Arch.TheVariants.{Amd64}
+use Rattle.sf_model.specs.declared.machine.Key.{Key}
+use Rattle.sf_model.specs.declared.machine.Key.TheVariants.{A}
 use Rattle.sf_model.specs.declared.function.Func.{Func}
 use Rattle.sf_model.specs.declared.omission.Omitted.{Omitted}
 use Rattle.sf_model.specs.declared.omission.Span.{Span}
 use Rattle.eh_records.specs.declared.fde.Fde.{Fde}
+use Rattle.eh_records.specs.Cie.{CieView}
 use Rattle.sf_model.specs.Function.{AreWritable}
 use Rattle.sf_asm.specs.Described.{Describe}
 use Rattle.sf_asm.specs.declared.entry.Outcome.{Outcome}
 use Rattle.sf_asm.specs.declared.entry.Outcome.TheVariants.{Kept, Left}
+use Rattle.sf_asm.specs.declared.source.CommonPart.{CommonPart}
 use Rattle.sf_asm.specs.declared.source.Source.{Source}
+use Rattle.sf_asm.specs.declared.source.SourceItem.{SourceItem}
 use Rattle.sf_asm.specs.Entry.{kept_of, omitted_of}
 use Rattle.sf_asm.specs.Functions.{Function, Object}
 use Rattle.sf_asm.specs.Inputs.{first_item}
@@ -52,13 +59,65 @@ function_by_span arch f span = record {
   origin = span.origin;
 }
 
-abbrev pub functions_lent : List Source → List Function
-functions_lent sources = map source_function sources
+-- ---- what functions share, held once
+-- what the functions of one common information entry share
+pub record Common : Type 0 where
+  pub arch : Arch
+  pub column : ℕ
+  pub signal : Bool
+  pub key : Key
+  pub code : ℕ
+  pub factor : ℤ
+  pub initial : List Item
 
-abbrev pub source_start : Source → ℕ
-source_start s = s.facts.start
+abbrev pub common_view : CommonPart → Common
+common_view c = record { arch = c.arch; column = c.column; signal = c.signal; key = c.key; code = c.code; factor = c.factor; initial = listing (cursor c.initial) }
 
--- the function, where it is left out
+abbrev pub commons_of : List CommonPart → List Common
+commons_of parts = map common_view parts
+
+-- of the functions of this entry
+abbrev pub common_of : Arch → CieView → Common
+common_of arch cie = record { arch = arch; column = cie.column; signal = cie.signal; key = cie.key; code = cie.code; factor = cie.factor; initial = listing cie.insns }
+
+-- what is past the end of a list
+abbrev pub no_common : Common
+no_common = record { arch = Amd64; column = 0; signal = false; key = A; code = 0; factor = pos 0; initial = [] }
+
+-- a function by what it shares and what it has of its own
+abbrev pub function_by_item : Common → SourceItem → Function
+function_by_item c i = record {
+  arch = c.arch;
+  start = i.start;
+  size = i.size;
+  column = c.column;
+  signal = c.signal;
+  key = c.key;
+  code = c.code;
+  factor = c.factor;
+  initial = c.initial;
+  own = listing (cursor i.own);
+  origin = i.origin;
+}
+
+abbrev pub item_function : List Common → SourceItem → Function
+item_function commons i = function_by_item (get_or commons i.common no_common) i
+
+-- each instruction of a function can be run
+abbrev pub IsRun : Function → Type 0
+IsRun f = is_ok (rows_by f.arch f.code f.factor f.size f.initial f.own) ≡ true
+
+-- what it shares is one of these, and it can be run
+abbrev pub IsItemIn : List Common → SourceItem → Type 0
+IsItemIn commons i = (i.common < length commons) × IsRun (item_function commons i)
+
+-- functions that are lent, and what they share
+pub record SourcesView : Type 0 where
+  pub common : List Common
+  pub functions : List Function
+
+-- ---- the order by starts
+-- the function, if it is omitted
 abbrev pub if_left : Outcome → Function → List Function
 if_left (Kept g) f = []
 if_left (Left omission) f = f ∷ []
@@ -73,7 +132,7 @@ pub record AreByStart (all sorted : List Function) : Type 0 where
   pub stable : IsStableByKey function_start nat_cmp all sorted
 
 -- The functions of inputs, after an item of this machine or of none, by rising start: none is refused, one section can hold the kept
--- ones, and these are the kept ones, the omitted ones, and the omitted ones as their records say them, one for each in the same order.
+-- ones, and these are the kept ones, the omitted ones, and the omitted ones as their records describe them, one for each in the same order.
 pub record AreWithSources (before : Option Arch) (objects : List Object) (arch : Arch) (kept : List Func) (omitted : List Omitted) (sources : List Function) : Type 0 where
   pub functions : List Function
   pub are : Describe (first_item before) objects (Ok functions)

@@ -11,13 +11,14 @@ ghost use Rattle.sf_asm.specs.Faithful.{holds_address};
 ghost use Rattle.sf_asm.specs.Described.{Describe};
 ghost use Rattle.sf_asm.specs.Functions.{Function, object_of};
 ghost use Rattle.sf_asm.specs.Said.{RowAt, SaysUpTo, form_content, said_in};
-ghost use Rattle.sf_asm.specs.Sources.{AreWithSources, functions_lent, source_function};
+ghost use Rattle.sf_asm.specs.Sources.{AreWithSources, source_function};
 
 use crate::fault::GatherFault;
 use crate::gathering::{WithSources, gather_with_sources};
 use crate::input::Input;
 use crate::pieces::pieces_said;
 use crate::source::Source;
+use crate::sources::Sources;
 use cfa_machine::Runner;
 use sf_base::NoMemory;
 use sf_express::{Piece, piece_at, pieces_of_rows};
@@ -40,14 +41,6 @@ fn kept_has(func: &Func, pc: u64) -> bool
     has_address(func.start, u64::from(func.size), pc)
 }
 
-/// Whether an omitted function has an address.
-#[inline(always)]
-fn omitted_has(source: &Source<'_>, pc: u64) -> bool
-    ensures { result ≡ holds_address pc (source_function source.now) }
-{
-    has_address(source.facts.start, source.facts.size, pc)
-}
-
 /// The kept function that has an address.
 fn kept_at(kept: &[Func], pc: u64) -> Option<&Func>
     ensures { option_map (λ f. f.now) result ≡ find (contains pc) kept.now }
@@ -55,11 +48,16 @@ fn kept_at(kept: &[Func], pc: u64) -> Option<&Func>
     kept.iter().find(|func| kept_has(func, pc))
 }
 
-/// The omitted function that has an address.
-fn omitted_at<'s, 'a>(sources: &'s [Source<'a>], pc: u64) -> Option<&'s Source<'a>>
-    ensures { option_map (λ s. s.now) result ≡ find (λ s. holds_address pc (source_function s)) sources.now }
+/// Finds the omitted function that has an address.
+fn omitted_at<'a>(sources: &Sources<'a>, pc: u64) -> Option<Source<'a>>
+    ensures { option_map source_function result ≡ find (holds_address pc) sources.now.functions }
 {
-    sources.iter().find(|source| omitted_has(source, pc))
+    for number in 0..sources.len() {
+        if has_address(sources.start(number), sources.size(number), pc) {
+            return Some(sources.get(number));
+        }
+    }
+    None
 }
 
 /// What a function's pieces say at one of its addresses, and the last of its addresses up to which they do.
@@ -116,7 +114,7 @@ fn gather_accepted<'a>(alloc: Global, inputs: &[Input<'a>]) -> Result<WithSource
     requires some { (0 < length inputs.now) × (length inputs.now ≤ 512) }
     requires small { All (λ input. length input.bytes.now < 2 ^ 32) inputs.now }
     requires accepted { CanBeGathered None (map object_of inputs.now) }
-    ensures { IfOk result (λ g. AreWithSources None (map object_of inputs.now) g.arch g.kept.items g.omitted.items (functions_lent g.sources.items)) }
+    ensures { IfOk result (λ g. AreWithSources None (map object_of inputs.now) g.arch g.kept.items g.omitted.items g.sources.functions) }
 {
     match gather_with_sources(alloc, inputs, None) {
         Ok(gathered) => Ok(gathered),
@@ -149,7 +147,7 @@ pub fn row_at(
         return kept_row(alloc, func, pc);
     }
     match omitted_at(&gathered.sources, pc) {
-        Some(source) => omitted_row(alloc, source, pc),
+        Some(source) => omitted_row(alloc, &source, pc),
         None => Ok(None),
     }
 }

@@ -19,7 +19,7 @@ pub struct Linked {
     pub section: Vec<u8>,
     /// How many functions it holds.
     pub kept: u32,
-    /// The functions that are left out, by start and then origin.
+    /// The omitted functions, by start and then origin.
     pub omitted: Vec<Omitted>,
 }
 
@@ -31,7 +31,7 @@ pub struct Linked {
 /// address, and a function too far from the section, in this order; memory may run out at any time.
 pub fn assemble(alloc: Global, input: &Input<'_>, at: u64) -> Result<Linked, LinkFault>
     requires { length input.now.bytes.now < 2 ^ 32 }
-    // The section is that of the input's kept functions, and these were left out.
+    // The section is that of the input's kept functions, and these were omitted.
     ensures assembled { IfOk result (λ linked. IsAssembled (object_of input.now) at linked.section.items linked.kept linked.omitted.items) }
     // A fault is the first one.
     ensures fault { IfErr result (IsFirstLinked None (object_of input.now ∷ []) at) }

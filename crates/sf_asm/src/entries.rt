@@ -13,7 +13,7 @@ use sf_write::{StoredFunction, StoredList, StoredRows};
 use std::alloc::{AllocError, Global};
 use std::marker::Model;
 
-/// Functions that were read, kept or left out, which a contract sees as the list of them.
+/// Functions that were read, kept or omitted, which a contract sees as the list of them.
 #[derive(Drop)]
 pub struct Entries {
     heads: Vec<Head>,
@@ -214,7 +214,7 @@ impl OrderedEntries {
         self.heads[self.places[number].index].span()
     }
 
-    /// The functions that are left out.
+    /// Lists the omitted functions.
     fn omitted(&self, alloc: Global) -> Result<Vec<Omitted>, AllocError>
         ensures { IfOk result (λ omitted. omitted.items ≡ omitted_of self.now) }
     {

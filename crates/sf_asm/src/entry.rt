@@ -1,4 +1,4 @@
-//! A function that was read, kept or left out.
+//! A function that was read, kept or omitted.
 
 use sf_model::{Func, Omission, Omitted, Origin, Span};
 use sf_write::StoredFunction;
@@ -23,7 +23,7 @@ impl Entry {
     ghost use Rattle.std.specs.Prelude.{◌≡◌};
     ghost use Rattle.sf_asm.specs.Order.{entry_rows};
 
-    /// Counts its rows. A function that is left out has none.
+    /// Counts its rows. An omitted function has none.
     #[inline(always)]
     pub fn row_count(&self) -> usize
         ensures { result ≡ entry_rows self.now }

@@ -2,16 +2,13 @@
 
 ghost use Rattle.std.specs.Prelude.{◌≡◌, ◌≤◌, ◌<◌, ◌+◌, ◌^◌, All, [], length, map, Ok, None, IfOk, IfErr, OnOk, IsTrue};
 ghost use Rattle.std.specs.Option.{option_map};
-ghost use Rattle.std.specs.List.Sorted.{IsNonDecreasingBy, IsStableByKey};
-ghost use Rattle.std.specs.Ordering.{nat_cmp};
 ghost use Rattle.sf_model.specs.Function.{AreWritable};
 ghost use Rattle.sf_asm.specs.Entry.{IsSound, kept_by_item, kept_of, omitted_of, spans_of};
-ghost use Rattle.sf_asm.specs.declared.fault.GatherFault.TheVariants.{NoMemory};
 ghost use Rattle.sf_asm.specs.Answers.{AreGathered, AreTogether, IsFirstGathered, LendsAll};
 ghost use Rattle.sf_asm.specs.Functions.{functions_of, object_of, unless};
 ghost use Rattle.sf_asm.specs.Inputs.{HaveMachine, first_item as item_of_first};
 ghost use Rattle.sf_asm.specs.Linking.{Gathers, InOrder, functions_fault, overlap_fault, overlap_in};
-ghost use Rattle.sf_asm.specs.Sources.{AreWithSources, functions_lent, source_start};
+ghost use Rattle.sf_asm.specs.Sources.{AreWithSources};
 ghost use Rattle.sf_asm.specs.Fault.{is_gather_answered};
 ghost use Rattle.sf_write.specs.Stored.{IsStored, stored_in};
 
@@ -21,7 +18,7 @@ use crate::fault::GatherFault;
 use crate::input::Input;
 use crate::inputs::{one_machine, read_all};
 use crate::read::AllFunctions;
-use crate::source::Source;
+use crate::sources::Sources;
 use crate::spans::Overlaps;
 use sf_model::{Arch, Func, Omitted, Span};
 use sf_write::{StoredList, StoredRows};
@@ -53,7 +50,7 @@ pub struct Together {
     pub omitted: Vec<Omitted>,
 }
 
-/// The functions of the inputs, those of all inputs together, with the omitted ones as their records say
+/// The functions of the inputs, those of all inputs together, with the omitted ones as their records describe
 /// them.
 #[derive(Drop)]
 pub struct WithSources<'a> {
@@ -63,8 +60,8 @@ pub struct WithSources<'a> {
     pub kept: Vec<Func>,
     /// The functions that it can't, by start and then origin.
     pub omitted: Vec<Omitted>,
-    /// What the records say of each of these, in the same order.
-    pub sources: Vec<Source<'a>>,
+    /// The same as their records describe them, in the same order.
+    pub sources: Sources<'a>,
 }
 
 /// The functions of all inputs, in order.
@@ -72,8 +69,8 @@ pub struct WithSources<'a> {
 struct ReadInOrder<'a> {
     arch: Arch,
     entries: OrderedEntries,
-    /// Those of them that are left out, as their records say them, in the order of the inputs; or none.
-    sources: Vec<Source<'a>>,
+    /// The omitted ones as their records describe them, in the order of the inputs, or none.
+    sources: Sources<'a>,
 }
 
 /// Tries each function that has bytes against the one before it.
@@ -88,7 +85,7 @@ fn check_overlaps(entries: &OrderedEntries) -> Result<(), GatherFault>
 }
 
 /// Reads the functions of all inputs, tries their machines and the limits, brings them into order, and tries overlaps.
-/// Where `lending`, those that are left out are lent.
+/// Where `lending`, the omitted ones are lent.
 #[tactic(auto, using(crate::proofs::GatheredInputs::input_refused))]
 fn ordered<'a>(
     alloc: Global,
@@ -99,7 +96,7 @@ fn ordered<'a>(
     requires some { (0 < length inputs.now) × (length inputs.now ≤ 512) }
     requires small { All (λ input. length input.bytes.now < 2 ^ 32) inputs.now }
     ensures gathered { IfOk result (λ read. Gathers before (map object_of inputs.now) (Ok read.entries)) }
-    ensures lent { IfOk result (λ read. IsTrue lending → LendsAll (functions_lent read.sources.items) (functions_of (item_of_first before) (map object_of inputs.now))) }
+    ensures lent { IfOk result (λ read. IsTrue lending → LendsAll read.sources.functions (functions_of (item_of_first before) (map object_of inputs.now))) }
     ensures machine { IfOk result (λ read. HaveMachine before (map object_of inputs.now) read.arch) }
     ensures sound { IfOk result (λ read. All (IsSound read.arch) read.entries) }
     ensures checked { IfOk result (λ read. functions_fault read.entries ≡ None) }
@@ -174,16 +171,6 @@ pub fn gather_together(
     Ok(kept_and_omitted(alloc, read.arch, read.entries)?)
 }
 
-/// Brings the sources of functions into order by their starts. Those with one start stay in order.
-fn order_sources(sources: &mut Vec<Source<'_>>) -> Result<(), GatherFault>
-    ensures rising { OnOk result (IsNonDecreasingBy source_start sources.new.items) }
-    ensures stable { OnOk result (IsStableByKey source_start nat_cmp sources.old.items sources.new.items) }
-    ensures refused { IfErr result (λ fault. fault ≡ NoMemory) }
-{
-    sources.sort_by_key(|source| source.facts.start)?;
-    Ok(())
-}
-
 /// The functions, each with a list of its rows.
 fn functions(
     alloc: Global,
@@ -200,8 +187,8 @@ fn functions(
     Ok(functions)
 }
 
-/// Gathers the functions of 1 to 512 inputs as [`gather_together`] does, and lends those that are left out
-/// as their records say them.
+/// Gathers the functions of 1 to 512 inputs as [`gather_together`] does, and lends the omitted ones as their
+/// records describe them.
 ///
 /// # Errors
 ///
@@ -215,7 +202,7 @@ pub fn gather_with_sources<'a>(
     requires small { All (λ input. length input.bytes.now < 2 ^ 32) inputs.now }
     // The functions are those of the inputs by rising start, one section can hold the kept ones, and the
     // sources are the omitted ones, one for each in the same order.
-    ensures gathered { IfOk result (λ g. AreWithSources before (map object_of inputs.now) g.arch g.kept.items g.omitted.items (functions_lent g.sources.items)) }
+    ensures gathered { IfOk result (λ g. AreWithSources before (map object_of inputs.now) g.arch g.kept.items g.omitted.items g.sources.functions) }
     // It's the machine of all items.
     ensures machine { IfOk result (λ g. HaveMachine before (map object_of inputs.now) g.arch) }
     // A fault is the first one.
@@ -223,7 +210,7 @@ pub fn gather_with_sources<'a>(
     ensures answered { IfErr result (λ fault. IsTrue (is_gather_answered fault)) }
 {
     let mut read = ordered(alloc, inputs, before, true)?;
-    order_sources(&mut read.sources)?;
+    read.sources.sort()?;
     let together = kept_and_omitted(alloc, read.arch, read.entries)?;
     Ok(WithSources {
         arch: together.arch,
@@ -233,7 +220,7 @@ pub fn gather_with_sources<'a>(
     })
 }
 
-/// So many empty lists.
+/// Makes `count` empty lists.
 fn empty_lists(alloc: Global, count: usize) -> Result<Vec<Vec<Func>>, AllocError>
     ensures count { IfOk result (λ lists. length lists.items ≡ count) }
     ensures empty { IfOk result (λ lists. All (λ list. list.items ≡ []) lists.items) }
@@ -245,7 +232,7 @@ fn empty_lists(alloc: Global, count: usize) -> Result<Vec<Vec<Func>>, AllocError
     Ok(lists)
 }
 
-/// Sorts out functions, of so many inputs that are numbered from `first` on.
+/// Sorts out the functions of `count` inputs that are numbered from `first` on.
 fn sort_out(
     alloc: Global,
     arch: Arch,
@@ -284,7 +271,7 @@ fn sort_out(
 }
 
 /// Gathers the functions of 1 to 512 inputs, each of fewer than 2^32 bytes. `before` is the machine of an
-/// item that stands before them; the inputs are numbered from 1 on then, and else from 0 on. Of several
+/// item before them; the inputs are numbered from 1 on then, and else from 0 on. Of several
 /// COMDAT groups with one signature, over all inputs, the first stays (ELF64 gABI, "Section Groups").
 ///
 /// # Errors

@@ -1,4 +1,4 @@
-//! All inputs, one behind the other: their functions, and their one machine.
+//! All inputs in their order: their functions, and their one machine.
 
 ghost use Rattle.std.specs.Prelude.{◌≡◌, ◌⊎◌, ◌≤◌, ◌<◌, ◌^◌, ℕ, List, All, length, map, not, Ok, Err, IfOk, IfErr, OnOk, position};
 ghost use Rattle.sf_model.specs.declared.machine.Arch.{Arch as machine};
@@ -52,7 +52,7 @@ fn read_item<'a>(
 }
 
 /// Reads the functions of all inputs, as they are in them, and the machine of each. The inputs are numbered
-/// from `first` on. Where `lending`, those that are left out are lent. Past a limit functions are counted alone.
+/// from `first` on. Where `lending`, the omitted ones are lent. Past a limit functions are counted alone.
 pub fn read_all<'a>(
     alloc: Global,
     first: u32,

@@ -2,9 +2,10 @@
 //!
 //! [`gather`] reads the records of 1 to 512 inputs, runs the instructions of each frame description entry and
 //! sorts out what SFrame Version 2 can express: the functions that are kept, a list for each input by rising
-//! start, the functions that are left out, with their reasons, and the addresses of all. [`gather_together`]
+//! start, the omitted functions, with their reasons, and the addresses of all. [`gather_together`]
 //! makes one list of the functions that are kept, and one of their rows; [`gather_with_sources`] also lends the
-//! functions that are left out as their records say them. [`row_at`] says what call frame information says at an
+//! omitted functions as their records describe them; what the functions of one common information entry share is
+//! held once. [`row_at`] says what call frame information says at an
 //! address, in any of the functions. [`assemble`] writes the section of one input. An input has fewer than 2^32
 //! bytes. All five allocate; no section is copied.
 //!
@@ -27,7 +28,9 @@ mod initials;
 mod input;
 mod inputs;
 mod laws;
+mod lent;
 mod notices;
+mod numbers;
 mod overlay;
 mod pieces;
 mod read;
@@ -35,6 +38,7 @@ mod reading;
 mod said;
 mod section;
 mod source;
+mod sources;
 mod spans;
 
 pub use address::row_at;
@@ -54,3 +58,4 @@ pub use pieces::pieces_said;
 pub use said::Said;
 pub use sf_model::Form;
 pub use source::Source;
+pub use sources::Sources;

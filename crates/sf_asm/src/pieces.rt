@@ -1,4 +1,4 @@
-//! What a function that is left out says from offset to offset.
+//! What an omitted function says from offset to offset.
 
 ghost use Rattle.std.specs.Prelude.{◌≡◌, ◌<◌, ◌^◌, [], ◌∷◌, None, IfOk};
 ghost use Rattle.sf_bytes.specs.Cursor.{cursor};

@@ -12,7 +12,7 @@ ghost use Rattle.sf_asm.specs.ReadSoFar.{AreRead, counted_in};
 use crate::entries::Entries;
 use crate::entry::Entry;
 use crate::fault::GatherFault;
-use crate::source::Source;
+use crate::sources::Sources;
 use sf_model::{Arch, Rows};
 use std::alloc::{AllocError, Global};
 
@@ -29,8 +29,8 @@ pub struct HeldFunctions<'a> {
     pub entries: Entries,
     /// How many rows more there may be.
     pub rows_left: usize,
-    /// Those of them that are left out, as their records say them, in the same order, if they are to be lent.
-    pub sources: Vec<Source<'a>>,
+    /// The omitted ones as their records describe them, in the same order, if they are to be lent.
+    pub sources: Sources<'a>,
 }
 
 /// The functions that were read. Past a limit they are counted alone and nothing of them is held. They are still read,
@@ -85,7 +85,7 @@ impl<'a> ReadFunctions<'a> {
         ReadFunctions::Within(HeldFunctions {
             entries: Entries::new(alloc),
             rows_left: ROW_LIMIT,
-            sources: Vec::new(alloc),
+            sources: Sources::new(alloc),
         })
     }
 

@@ -23,18 +23,19 @@ ghost use Rattle.sf_asm.specs.declared.fault.AsmFault.TheVariants.{NoMemory, Rec
 ghost use Rattle.sf_asm.specs.Functions.{function_in, functions_in, named, section_functions, span_in};
 ghost use Rattle.sf_asm.specs.Initials.{AreInitial};
 ghost use Rattle.sf_asm.specs.Kept.{entry_of, outcome_by};
-ghost use Rattle.sf_asm.specs.ReadSoFar.{AreSound, Reads, ReadsMore};
+ghost use Rattle.sf_asm.specs.ReadSoFar.{AreNumberedIn, AreSound, Reads, ReadsMore};
 ghost use Rattle.sf_asm.specs.Relocated.{pointer_check};
-ghost use Rattle.sf_asm.specs.Sources.{function_by_span, functions_lent, if_left};
+ghost use Rattle.sf_asm.specs.Sources.{function_by_span};
 ghost use Rattle.sf_asm.specs.Views.{AreChecked, IsReadFrom, overlaid, relocations_by, seen_section, written_by};
 
 use crate::entry::{Entry, Outcome};
 use crate::fault::AsmFault;
 use crate::frames::CallFrameSection;
 use crate::initials::{InitialInstructions, Initials};
+use crate::lent::lend;
+use crate::numbers::CommonNumbers;
 use crate::overlay::Overlay;
 use crate::read::ReadFunctions;
-use crate::source::Source;
 use cfa_machine::{MachineFault, Runner};
 use eh_records::{Fde, RecordFault, Records};
 use elf_place::Placed;
@@ -193,71 +194,6 @@ fn facts_of(fde: &Fde<'_>, start: u64, size: u64) -> FdeFacts
     }
 }
 
-/// Lends a function as its records say it, each of whose instructions was run.
-#[inline(always)]
-fn lend_source<'a>(
-    section: &CallFrameSection<'a>,
-    fde: &Fde<'a>,
-    span: Span,
-    initials: &mut Initials,
-    sources: &mut Vec<Source<'a>>,
-) -> Result<(), AsmFault>
-    requires key { IsTrue (key_fits section.now.arch fde.now.cie.key) }
-    requires initials { AreInitial section.now.arch section.now.bytes.now initials.old }
-    requires named { HasNamed section.now.arch section.now.bytes.now (fde_view fde.now) }
-    requires end { span.start + span.size ≤ 2 ^ 64 }
-    requires ran { is_ok (rows_by section.now.arch fde.now.cie.code fde.now.cie.factor span.size (listing (cursor fde.now.cie.insns)) (listing (cursor fde.now.insns))) ≡ true }
-    ensures initials { OnOk result (AreInitial section.now.arch section.now.bytes.now initials.new) }
-    ensures lent { OnOk result (functions_lent sources.new.items ≡ functions_lent sources.old.items ++ function_by_span section.now.arch fde.now span ∷ []) }
-    ensures refused { IfErr result (λ fault. fault ≡ NoMemory) }
-{
-    let cie = &fde.cie;
-    match initials.find(section, InitialInstructions::of(cie)) {
-        Ok(()) => {}
-        Err(MachineFault::NoMemory) => return Err(AsmFault::NoMemory),
-        Err(_) => unreachable!(),
-    }
-    sources.push(Source {
-        arch: section.arch,
-        facts: facts_of(fde, span.start, span.size),
-        code: cie.code,
-        factor: cie.factor,
-        initial: cie.insns,
-        row: *initials.row(),
-        own: fde.insns,
-        origin: span.origin,
-    })?;
-    Ok(())
-}
-
-/// Lends a function where it's left out and the functions are to be lent.
-#[inline(always)]
-fn lend<'a>(
-    section: &CallFrameSection<'a>,
-    fde: &Fde<'a>,
-    entry: &Entry,
-    lending: bool,
-    initials: &mut Initials,
-    sources: &mut Vec<Source<'a>>,
-) -> Result<(), AsmFault>
-    requires key { IsTrue (key_fits section.now.arch fde.now.cie.key) }
-    requires initials { AreInitial section.now.arch section.now.bytes.now initials.old }
-    requires named { HasNamed section.now.arch section.now.bytes.now (fde_view fde.now) }
-    requires end { entry.now.span.start + entry.now.span.size ≤ 2 ^ 64 }
-    requires ran { is_ok (rows_by section.now.arch fde.now.cie.code fde.now.cie.factor entry.now.span.size (listing (cursor fde.now.cie.insns)) (listing (cursor fde.now.insns))) ≡ true }
-    ensures initials { OnOk result (AreInitial section.now.arch section.now.bytes.now initials.new) }
-    ensures lent { OnOk result (IsTrue lending → functions_lent sources.new.items ≡ functions_lent sources.old.items ++ if_left entry.now.outcome (function_by_span section.now.arch fde.now entry.now.span)) }
-    ensures refused { IfErr result (λ fault. fault ≡ NoMemory) }
-{
-    if !lending {
-        return Ok(());
-    }
-    if let Outcome::Left(_) = entry.outcome {
-        lend_source(section, fde, entry.span, initials, sources)?;
-    }
-    Ok(())
-}
-
 /// The function of one frame description entry, whose rows are made in the memory of `spare`.
 #[inline(always)]
 fn read_function<'a>(
@@ -304,6 +240,7 @@ fn add_function<'a>(
     entry: Entry,
     lending: bool,
     initials: &mut Initials,
+    numbers: &mut CommonNumbers,
     spare: &mut Rows,
     read: &mut ReadFunctions<'a>,
 ) -> Result<(), AsmFault>
@@ -314,14 +251,24 @@ fn add_function<'a>(
     requires ran { is_ok (rows_by section.now.arch fde.now.cie.code fde.now.cie.factor entry.span.size (listing (cursor fde.now.cie.insns)) (listing (cursor fde.now.insns))) ≡ true }
     requires sound { IsSound section.now.arch entry }
     requires function { entry_of (function_by_span section.now.arch fde.now entry.span) ≡ entry }
+    requires numbered { AreNumberedIn section.now.arch section.now.bytes.now numbers.old read.old }
     ensures initials { OnOk result (AreInitial section.now.arch section.now.bytes.now initials.new) }
+    ensures numbered { OnOk result (AreNumberedIn section.now.arch section.now.bytes.now numbers.new read.new) }
     ensures reads { OnOk result (Reads lending read.old read.new (function_by_span section.now.arch fde.now entry.span ∷ [])) }
     ensures sound { OnOk result (AreSound section.now.arch read.old → AreSound section.now.arch read.new) }
     ensures refused { IfErr result (λ fault. fault ≡ NoMemory) }
 {
     if let ReadFunctions::Within(held) = read {
         if held.has_room(&entry) {
-            lend(section, fde, &entry, lending, initials, &mut held.sources)?;
+            lend(
+                section,
+                fde,
+                &entry,
+                lending,
+                initials,
+                numbers,
+                &mut held.sources,
+            )?;
             held.add(section.arch, entry, spare)?;
             return Ok(());
         }
@@ -345,6 +292,7 @@ fn read_frames<'a>(
     ensures sound { OnOk result (AreSound section.now.arch read.old → AreSound section.now.arch read.new) }
 {
     let mut initials = Initials::new(alloc);
+    let mut numbers = CommonNumbers::new(alloc);
     let mut run = Runner::new();
     let mut spare = Rows::new(alloc);
     for fde in records.fdes() {
@@ -366,6 +314,7 @@ fn read_frames<'a>(
             entry,
             lending,
             &mut initials,
+            &mut numbers,
             &mut spare,
             read,
         )?;
@@ -373,8 +322,8 @@ fn read_frames<'a>(
     Ok(())
 }
 
-/// Reads the functions of a section of a file, or of none, after those that were read before. Where `lending`, those
-/// that are left out are lent.
+/// Reads the functions of a section of a file, or of none, after those that were read before. Where `lending`, the
+/// omitted ones are lent.
 pub fn read_section<'a>(
     alloc: Global,
     section: &CallFrameSection<'a>,

@@ -1,4 +1,4 @@
-//! Functions as their records say them.
+//! Functions as their records describe them.
 
 ghost use Rattle.std.specs.Prelude.{◌≡◌, ◌≤◌, ◌+◌, ◌^◌, IsTrue, is_ok, true};
 ghost use Rattle.sf_bytes.specs.Cursor.{cursor};
@@ -9,9 +9,9 @@ ghost use Rattle.cfa_machine.specs.Pass.{rows_by};
 
 use cfa_machine::Columns;
 use sf_bytes::Part;
-use sf_model::{Arch, FdeFacts, Origin};
+use sf_model::{Arch, FdeFacts, Key, Origin};
 
-/// A function as its records say it (LSB Core, "The .eh_frame section"), with its instructions lent from
+/// A function as its records describe it (LSB Core, "The .eh_frame section"), with its instructions lent from
 /// its input.
 #[derive(Clone, Copy)]
 pub struct Source<'a> {
@@ -35,4 +35,43 @@ pub struct Source<'a> {
     ghost has_key: { IsTrue (key_fits arch facts.key) },
     ghost given: { IsInitial arch factor (listing (cursor initial)) row },
     ghost ran: { is_ok (rows_by arch code factor facts.size (listing (cursor initial)) (listing (cursor own))) ≡ true },
+}
+
+/// What the functions of one common information entry share.
+#[derive(Clone, Copy)]
+pub struct CommonPart<'a> {
+    /// The machine of their input.
+    pub arch: Arch,
+    /// The return column.
+    pub column: u64,
+    /// Whether their frames are signal frames.
+    pub signal: bool,
+    /// The key of signed return addresses.
+    pub key: Key,
+    /// The code alignment factor.
+    pub code: u64,
+    /// The data alignment factor.
+    pub factor: i64,
+    /// The entry's instructions.
+    pub initial: Part<'a>,
+    /// The row that they give.
+    pub row: Columns,
+    ghost has_key: { IsTrue (key_fits arch key) },
+    ghost given: { IsInitial arch factor (listing (cursor initial)) row },
+}
+
+/// What a function has of its own.
+#[derive(Clone, Copy)]
+pub struct SourceItem<'a> {
+    /// Its first address.
+    pub start: u64,
+    /// Its size in bytes.
+    pub size: u64,
+    /// Its own instructions.
+    pub own: Part<'a>,
+    /// The record that it came from.
+    pub origin: Origin,
+    /// The number of what it shares with others.
+    pub common: u32,
+    ghost ends: { start + size ≤ 2 ^ 64 },
 }

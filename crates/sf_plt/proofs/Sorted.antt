@@ -1,9 +1,8 @@
 -- Omitted functions, sorted out as far as they were gone over.
 use Rattle.std.specs.Prelude.{All, not}
 use Rattle.std.specs.List.{cons_option, filter, flat_map}
-use Rattle.std.proofs.Common.{◌≡◌, ℕ, zero, suc, ◌+◌, ◌<◌, Bool, true, false, cond, List, [], ◌∷◌, ◌++◌, length, get_or, take, map, Option, Some, None, refl, sym, ap, ◌∙◌, append_assoc, arith}
-use Rattle.std.proofs.Math.ListN.{get_or-map}
-use Rattle.std.proofs.lemmas.List.{map-append, take_more, append-nil, length-map}
+use Rattle.std.proofs.Common.{◌≡◌, ℕ, zero, suc, ◌+◌, ◌<◌, ◌≤◌, Bool, true, false, cond, List, [], ◌∷◌, ◌++◌, length, get_or, take, map, Option, Some, None, refl, sym, ap, ◌∙◌, append_assoc, arith}
+use Rattle.std.proofs.lemmas.List.{map-append, take_all, take_more, append-nil}
 use Rattle.std.proofs.lemmas.List.Concat.{flat_map-append}
 use Rattle.std.proofs.lemmas.List.Elements.{filter-append, filter_map-append}
 use Rattle.sf_model.specs.declared.content.Content.{Content}
@@ -14,11 +13,9 @@ use Rattle.sf_model.specs.declared.machine.Arch.{Arch}
 use Rattle.sf_model.specs.declared.omission.Span.{Span}
 use Rattle.sf_asm.specs.declared.entry.Entry.{Entry}
 use Rattle.sf_asm.specs.declared.entry.Outcome.{Outcome}
-use Rattle.sf_asm.specs.declared.source.Source.{Source}
 use Rattle.sf_asm.specs.Entry.{omitted_in, omitted_of}
 use Rattle.sf_asm.specs.Functions.{Function}
 use Rattle.sf_asm.specs.Kept.{entry_of, is_kept, omitted_functions}
-use Rattle.sf_asm.specs.Sources.{functions_lent, source_function}
 use Rattle.sf_plt.specs.Answers.{others_in, span_of}
 use Rattle.sf_plt.specs.Plt.{is_plt, initial_content}
 use Rattle.sf_plt.specs.Sorting.{AreOmitted}
@@ -88,9 +85,6 @@ lines_alone (f ∷ fs) = at_case (case_of f) (lines_alone fs)
     at_case (other_case o) h = left o.omission o.kept h
 
 -- ---- one function more
-pub lent_more : (sources : List Source) (k : ℕ) (d : Source) → k < length sources → functions_lent (take (k + 1) sources) ≡ functions_lent (take k sources) ++ source_function (get_or sources k d) ∷ []
-lent_more sources k d lt = ap functions_lent (take_more sources k d lt) ∙ map-append source_function (take k sources) (get_or sources k d ∷ [])
-
 pub pairs_more : (fs : List Function) (f : Function) → is_plt f ≡ true → flat_map plt_pair (filter is_plt (fs ++ f ∷ [])) ≡ flat_map plt_pair (filter is_plt fs) ++ plt_pair f
 pairs_more fs f e =
     ap (flat_map plt_pair) (filter-append is_plt fs (f ∷ []) ∙ ap (λ (b : Bool). filter is_plt fs ++ cond b (f ∷ []) []) e)
@@ -113,23 +107,22 @@ others_more fs f e =
     ∙ ap omitted_of (map-append entry_of (others_in fs) (f ∷ [])) ∙ filter_map-append (λ (x : Entry). omitted_in x.span x.outcome) (map entry_of (others_in fs)) (map entry_of (f ∷ []))
 
 -- ---- the step of a source
-pub lent_step : (sources : List Source) (k : ℕ) (s : Source) → k < length sources → s ≡ get_or sources k s → functions_lent (take (k + 1) sources) ≡ functions_lent (take k sources) ++ source_function s ∷ []
-lent_step sources k s lt is = lent_more sources k s lt ∙ ap (λ (x : Source). functions_lent (take k sources) ++ source_function x ∷ []) (sym is)
+-- there is a line for each function
+pub within : (fs : List Function) (omitted : List Omitted) (k : ℕ) → AreOmitted fs → omitted ≡ omitted_of (map entry_of fs) → k < length omitted → k < length fs
+within fs omitted k left are lt = let count = omitted_count fs left in let lines = ap length are in omega (arith, count, lines, lt)
 
-pub lent_is : (sources : List Source) (k : ℕ) (s : Source) → s ≡ get_or sources k s → get_or (functions_lent sources) k (source_function s) ≡ source_function s
-lent_is sources k s is = get_or-map source_function sources k s ∙ ap source_function (sym is)
+pub past : (fs : List Function) (omitted : List Omitted) (k : ℕ) → AreOmitted fs → omitted ≡ omitted_of (map entry_of fs) → length omitted ≤ k → take k fs ≡ fs
+past fs omitted k left are le = let count = omitted_count fs left in let lines = ap length are in take_all k fs (omega (arith, count, lines, le))
 
-pub lent_arch : (arch : Arch) (sources : List Source) (k : ℕ) (s : Source) → k < length sources → s ≡ get_or sources k s → All (λ (f : Function). f.arch ≡ arch) (functions_lent sources) → s.arch ≡ arch
-lent_arch arch sources k s lt is h =
-    let long = length-map sources source_function in
-    ap (λ (f : Function). f.arch) (sym (lent_is sources k s is)) ∙ h k (source_function s) (omega (arith, lt, long))
+pub lent_step : (fs : List Function) (k : ℕ) (f : Function) → k < length fs → f ≡ get_or fs k f → take (k + 1) fs ≡ take k fs ++ f ∷ []
+lent_step fs k f lt is = take_more fs k f lt ∙ ap (λ (g : Function). take k fs ++ g ∷ []) (sym is)
 
-pub lent_omitted : (sources : List Source) (omitted : List Omitted) (k : ℕ) (s : Source) (e : Omitted) → k < length sources → s ≡ get_or sources k s → AreOmitted (functions_lent sources) → omitted ≡ omitted_of (map entry_of (functions_lent sources))
-    → omitted_of (map entry_of (source_function s ∷ [])) ≡ get_or omitted k e ∷ []
-lent_omitted sources omitted k s e lt is left are =
-    let long = length-map sources source_function in
-    ap (λ (f : Function). omitted_of (map entry_of (f ∷ []))) (sym (lent_is sources k s is)) ∙ omitted_at (functions_lent sources) left k (source_function s) e (omega (arith, lt, long))
-    ∙ sym (ap (λ (os : List Omitted). get_or os k e ∷ []) are)
+pub lent_arch : (arch : Arch) (fs : List Function) (k : ℕ) (f : Function) → k < length fs → f ≡ get_or fs k f → All (λ (g : Function). g.arch ≡ arch) fs → f.arch ≡ arch
+lent_arch arch fs k f lt is h = ap (λ (g : Function). g.arch) is ∙ h k f lt
+
+pub lent_omitted : (fs : List Function) (omitted : List Omitted) (k : ℕ) (f : Function) (e : Omitted) → k < length fs → f ≡ get_or fs k f → AreOmitted fs → omitted ≡ omitted_of (map entry_of fs) → omitted_of (map entry_of (f ∷ [])) ≡ get_or omitted k e ∷ []
+lent_omitted fs omitted k f e lt is left are =
+    ap (λ (g : Function). omitted_of (map entry_of (g ∷ []))) is ∙ omitted_at fs left k f e lt ∙ sym (ap (λ (os : List Omitted). get_or os k e ∷ []) are)
 
 pub table_chosen : (f : Function) (content : Content) (given : Option Content) → given ≡ Some content → given ≡ cond (is_plt f) (initial_content f) None → is_plt f ≡ true
 table_chosen f content given e is = at_test (is_plt f) (sym e ∙ is)

@@ -5,7 +5,7 @@ ghost use Rattle.std.specs.List.{filter, flat_map};
 ghost use Rattle.sf_model.specs.Function.{IsWritable};
 ghost use Rattle.sf_asm.specs.Entry.{omitted_of};
 ghost use Rattle.sf_asm.specs.Kept.{entry_of};
-ghost use Rattle.sf_asm.specs.Sources.{functions_lent, source_function};
+ghost use Rattle.sf_asm.specs.Sources.{source_function};
 ghost use Rattle.sf_plt.specs.Answers.{others_in, span_of};
 ghost use Rattle.sf_plt.specs.Plt.{initial_content, is_plt};
 ghost use Rattle.sf_plt.specs.Sorting.{AreOmitted};
@@ -13,7 +13,7 @@ ghost use Rattle.sf_plt.specs.Written.{plt_pair};
 
 use crate::pair::{first_entry, later_entries};
 use crate::table::table_content;
-use sf_asm::Source;
+use sf_asm::{Source, Sources};
 use sf_base::NoMemory;
 use sf_model::{Arch, Content, Func, Omitted, Span};
 use std::alloc::Global;
@@ -66,15 +66,15 @@ pub fn sort_out(
     arch: Arch,
     kept: Vec<Func>,
     omitted: &[Omitted],
-    sources: &[Source<'_>],
+    sources: &Sources<'_>,
 ) -> Result<Sorted, NoMemory>
-    requires left { AreOmitted (functions_lent sources.now) }
-    requires omitted { omitted.now ≡ omitted_of (map entry_of (functions_lent sources.now)) }
-    requires machine { All (λ f. f.arch ≡ arch) (functions_lent sources.now) }
+    requires left { AreOmitted sources.now.functions }
+    requires omitted { omitted.now ≡ omitted_of (map entry_of sources.now.functions) }
+    requires machine { All (λ f. f.arch ≡ arch) sources.now.functions }
     requires sound { All (IsWritable arch) kept.items }
-    ensures written { IfOk result (λ sorted. sorted.written.items ≡ kept.items ++ flat_map plt_pair (filter is_plt (functions_lent sources.now))) }
-    ensures plts { IfOk result (λ sorted. sorted.plts.items ≡ map span_of (filter is_plt (functions_lent sources.now))) }
-    ensures omitted { IfOk result (λ sorted. sorted.omitted.items ≡ omitted_of (map entry_of (others_in (functions_lent sources.now)))) }
+    ensures written { IfOk result (λ sorted. sorted.written.items ≡ kept.items ++ flat_map plt_pair (filter is_plt sources.now.functions)) }
+    ensures plts { IfOk result (λ sorted. sorted.plts.items ≡ map span_of (filter is_plt sources.now.functions)) }
+    ensures omitted { IfOk result (λ sorted. sorted.omitted.items ≡ omitted_of (map entry_of (others_in sources.now.functions))) }
     ensures sound { IfOk result (λ sorted. All (IsWritable arch) sorted.written.items) }
 {
     let mut sorted = Sorted {
@@ -82,10 +82,11 @@ pub fn sort_out(
         plts: Vec::new(alloc),
         omitted: Vec::new(alloc),
     };
-    for (index, source) in sources.iter().enumerate() {
-        match table_content(source) {
-            Some(content) => sorted.add_table(alloc, arch, source, content)?,
-            None => sorted.omitted.push(omitted[index])?,
+    for (number, line) in omitted.iter().enumerate() {
+        let source = sources.get(number);
+        match table_content(&source) {
+            Some(content) => sorted.add_table(alloc, arch, &source, content)?,
+            None => sorted.omitted.push(*line)?,
         }
     }
     Ok(sorted)

@@ -22,13 +22,12 @@ use Rattle.sf_express.specs.Pieces.{content_in}
 use Rattle.sf_express.specs.Runs.{Saying, begins, expressed, function_of, omission_of, row_there, rows_among, rows_of}
 use Rattle.sf_express.proofs.Found.{SaysContent, content_said, row_said}
 use Rattle.sf_express.proofs.Runs.{takes}
-use Rattle.sf_asm.specs.declared.source.Source.{Source}
 use Rattle.sf_asm.specs.Entry.{kept_of}
 use Rattle.sf_asm.specs.Faithful.{holds_address}
 use Rattle.sf_asm.specs.Functions.{Function}
 use Rattle.sf_asm.specs.Kept.{entry_of, facts_of, is_kept, omitted_functions, says_of}
 use Rattle.sf_asm.specs.Order.{are_apart}
-use Rattle.sf_asm.specs.Sources.{function_start, functions_lent, source_function}
+use Rattle.sf_asm.specs.Sources.{function_start}
 use Rattle.sf_merge.proofs.Apart.{all_back}
 use Rattle.sf_model.proofs.Unions as unions
 use Rattle.sf_model.proofs.Unions.{Member, found, found_alone, in_filter, some_found}
@@ -142,31 +141,20 @@ module _ (functions sorted : List Function) (moved : IsPermutation functions sor
       let good = fine f (passes k d lt) in
       record { rowed_is = rowed arch f good (each k d lt); says = λ pc low high. there f pc (members k d lt) low high ∙ kept_says f pc good low high })
 
-  holders_by : (arch : Arch) (kept : List Func) (sources : List Source) → kept ≡ map expressed_of (filter is_kept sorted) → functions_lent sources ≡ omitted_functions sorted → IsNonDecreasingBy function_start sorted
+  holders_by : (arch : Arch) (kept : List Func) (sources : List Function) → kept ≡ map expressed_of (filter is_kept sorted) → sources ≡ omitted_functions sorted → IsNonDecreasingBy function_start sorted
       → All (IsWritable arch) kept → All (λ (f : Function). f.arch ≡ arch) sorted → AreHolders arch (dwarf_at functions) kept sources
   holders_by arch kept sources kept_is sources_are rising writable machine = record {
     kept_says = λ i d lt. (holds i d lt).says;
-    omitted_says = λ i d lt pc low high. there (source_function (get_or sources i d)) pc (source_member i d lt) low high;
+    omitted_says = λ i d lt pc low high. there (get_or sources i d) pc (source_member i d lt) low high;
     none_says = λ pc no_kept no_omitted. nowhere pc (λ f m low high. by_kept pc f m low high no_kept no_omitted (is_kept f) refl);
     kept_rowed = λ i d lt. (holds i d lt).rowed_is;
     kept_rise = λ i j d le lt. rise_mapped i j d le lt;
-    omitted_rise = λ i j d le lt.
-        let starts : IsNonDecreasingBy function_start (functions_lent sources) = subst (IsNonDecreasingBy function_start) (sym sources_are) (IsNonDecreasingBy-filter function_start (λ (f : Function). not (is_kept f)) sorted rising) in
-        let count = lent_length in
-        let here = mapped source_function sources i (source_function d) d (omega (arith, le, lt)) in
-        let next = mapped source_function sources j (source_function d) d lt in
-        let up = starts i j (source_function d) le (subst (λ (n : ℕ). j < n) (sym count) lt) in
-        subst (λ (x : Function). x.start ≤ (get_or sources j d).facts.start) here (subst (λ (y : Function). (get_or (functions_lent sources) i (source_function d)).start ≤ y.start) next up);
-    omitted_here = λ i d lt.
-        let all : All (λ (f : Function). f.arch ≡ arch) (functions_lent sources) = subst (All (λ (f : Function). f.arch ≡ arch)) (sym sources_are) (All-filter (λ (f : Function). not (is_kept f)) (λ (f : Function). f.arch ≡ arch) sorted machine) in
-        all_back (λ (f : Function). f.arch ≡ arch) source_function sources all i d lt;
+    omitted_rise = λ i j d le lt. subst (IsNonDecreasingBy function_start) (sym sources_are) (IsNonDecreasingBy-filter function_start (λ (f : Function). not (is_kept f)) sorted rising) i j d le lt;
+    omitted_here = subst (All (λ (f : Function). f.arch ≡ arch)) (sym sources_are) (All-filter (λ (f : Function). not (is_kept f)) (λ (f : Function). f.arch ≡ arch) sorted machine);
   }
     where
       holds : All (KeptHolds arch) kept
       holds = subst (All (KeptHolds arch)) (sym kept_is) (kept_holds arch (subst (All (IsWritable arch)) kept_is writable))
-
-      lent_length : length (functions_lent sources) ≡ length sources
-      lent_length = length-map sources source_function
 
       kept_length : length kept ≡ length (filter is_kept sorted)
       kept_length = ap length kept_is ∙ length-map (filter is_kept sorted) expressed_of
@@ -180,49 +168,42 @@ module _ (functions sorted : List Function) (moved : IsPermutation functions sor
           let next : get_or kept j d ≡ expressed_of (get_or (filter is_kept sorted) j e) = ap (λ (ks : List Func). get_or ks j d) kept_is ∙ mapped expressed_of (filter is_kept sorted) j d e lt' in
           subst (λ (k : Func). k.start ≤ (get_or kept j d).start) (sym here) (subst (λ (k : Func). (get_or (filter is_kept sorted) i e).start ≤ k.start) (sym next) starts)
 
-      source_member : (i : ℕ) (d : Source) → i < length sources → Member sorted (source_function (get_or sources i d))
-      source_member i d lt =
-          let all : All (Member sorted) (functions_lent sources) = subst (All (Member sorted)) (sym sources_are) (All-filter (λ (f : Function). not (is_kept f)) (Member sorted) sorted (all_members sorted)) in
-          all_back (Member sorted) source_function sources all i d lt
+      source_member : (i : ℕ) (d : Function) → i < length sources → Member sorted (get_or sources i d)
+      source_member i d lt = subst (All (Member sorted)) (sym sources_are) (All-filter (λ (f : Function). not (is_kept f)) (Member sorted) sorted (all_members sorted)) i d lt
 
       by_kept : (pc : ℕ) (f : Function) → Member sorted f → f.start ≤ pc → pc < f.start + f.size
           → ((i : ℕ) (d : Func) → i < length kept → (get_or kept i d).start ≤ pc → pc < (get_or kept i d).start + (get_or kept i d).size → ⊥)
-          → ((i : ℕ) (d : Source) → i < length sources → (get_or sources i d).facts.start ≤ pc → pc < (get_or sources i d).facts.start + (get_or sources i d).facts.size → ⊥)
+          → ((i : ℕ) (d : Function) → i < length sources → (get_or sources i d).start ≤ pc → pc < (get_or sources i d).start + (get_or sources i d).size → ⊥)
           → (b : Bool) → is_kept f ≡ b → ⊥
       by_kept pc f m low high no_kept no_omitted true t =
           let p = placed kept (expressed_of f) (subst (λ (ks : List Func). Member ks (expressed_of f)) (sym kept_is) (in_map expressed_of (filter is_kept sorted) f (in_filter is_kept sorted f t m))) in
           let is = p.is (expressed_of f) in
           no_kept p.place (expressed_of f) p.within (subst (λ (k : Func). k.start ≤ pc) (sym is) low) (subst (λ (k : Func). pc < k.start + k.size) (sym is) high)
       by_kept pc f m low high no_kept no_omitted false t =
-          let p = placed (functions_lent sources) f (subst (λ (fs : List Function). Member fs f) (sym sources_are) (in_filter (λ (g : Function). not (is_kept g)) sorted f (ap not t) m)) in
-          let lt : p.place < length sources = subst (λ (n : ℕ). p.place < n) lent_length p.within in
-          let d = some_at sources p.place lt in
-          let is : source_function (get_or sources p.place d) ≡ f = sym (mapped source_function sources p.place f d lt) ∙ p.is f in
-          no_omitted p.place d lt (subst (λ (g : Function). g.start ≤ pc) (sym is) low) (subst (λ (g : Function). pc < g.start + g.size) (sym is) high)
+          let p = placed sources f (subst (λ (fs : List Function). Member fs f) (sym sources_are) (in_filter (λ (g : Function). not (is_kept g)) sorted f (ap not t) m)) in
+          let is = p.is f in
+          no_omitted p.place f p.within (subst (λ (g : Function). g.start ≤ pc) (sym is) low) (subst (λ (g : Function). pc < g.start + g.size) (sym is) high)
 
-pub holders : (arch : Arch) (functions sorted : List Function) (kept : List Func) (sources : List Source) → IsPermutation functions sorted → are_apart 0 (map entry_of sorted) ≡ true → kept ≡ kept_of (map entry_of sorted) → functions_lent sources ≡ omitted_functions sorted
+pub holders : (arch : Arch) (functions sorted : List Function) (kept : List Func) (sources : List Function) → IsPermutation functions sorted → are_apart 0 (map entry_of sorted) ≡ true → kept ≡ kept_of (map entry_of sorted) → sources ≡ omitted_functions sorted
     → IsNonDecreasingBy function_start sorted → All (IsWritable arch) kept → All (λ (f : Function). f.arch ≡ arch) functions → AreHolders arch (dwarf_at functions) kept sources
 holders arch functions sorted kept sources moved apart kept_is sources_are rising writable machine =
     holders_by functions sorted moved apart arch kept sources (kept_is ∙ kept_are sorted) sources_are rising writable (All-permutation (λ (f : Function). f.arch ≡ arch) functions sorted moved machine)
 
 -- ---- both lists say the same
-module _ (arch : Arch) (answers : Answers) (kept : List Func) (sources : List Source) (h : AreHolders arch answers kept sources) where
-  by_lent : (pc : ℕ) (o : Option Function) → find (contains pc) kept ≡ None → find (holds_address pc) (functions_lent sources) ≡ o → by_holder pc None o ≡ answers pc
+module _ (arch : Arch) (answers : Answers) (kept : List Func) (sources : List Function) (h : AreHolders arch answers kept sources) where
+  by_lent : (pc : ℕ) (o : Option Function) → find (contains pc) kept ≡ None → find (holds_address pc) sources ≡ o → by_holder pc None o ≡ answers pc
   by_lent pc None none e = sym (h.none_says pc
       (λ i d lt low high. some_found (contains pc) kept (get_or kept i d) (rw (le-leb (get_or kept i d).start pc low, lt-ltb pc ((get_or kept i d).start + (get_or kept i d).size) high) refl) (all_members kept i d lt) none)
-      (λ i d lt low high. some_found (holds_address pc) (functions_lent sources) (source_function (get_or sources i d)) (is_within pc (source_function (get_or sources i d)) low high)
-      (in_map source_function sources (get_or sources i d) (all_members sources i d lt)) e))
+      (λ i d lt low high. some_found (holds_address pc) sources (get_or sources i d) (is_within pc (get_or sources i d) low high) (all_members sources i d lt) e))
   by_lent pc (Some f) none e =
-      let t = found (holds_address pc) (functions_lent sources) f e in
+      let t = found (holds_address pc) sources f e in
       let w = within pc f t.passes in
-      let p = placed (functions_lent sources) f t.within in
-      let lt : p.place < length sources = subst (λ (n : ℕ). p.place < n) (length-map sources source_function) p.within in
-      let d = some_at sources p.place lt in
-      let is : source_function (get_or sources p.place d) ≡ f = sym (mapped source_function sources p.place f d lt) ∙ p.is f in
-      sym (h.omitted_says p.place d lt pc (subst (λ (g : Function). g.start ≤ pc) (sym is) w.from) (subst (λ (g : Function). pc < g.start + g.size) (sym is) w.to) ∙ ap (said_in pc) is)
+      let p = placed sources f t.within in
+      let is = p.is f in
+      sym (h.omitted_says p.place f p.within pc (subst (λ (g : Function). g.start ≤ pc) (sym is) w.from) (subst (λ (g : Function). pc < g.start + g.size) (sym is) w.to) ∙ ap (said_in pc) is)
 
-  by_found : (pc : ℕ) (o : Option Func) → find (contains pc) kept ≡ o → by_holder pc o (find (holds_address pc) (functions_lent sources)) ≡ answers pc
-  by_found pc None e = by_lent pc (find (holds_address pc) (functions_lent sources)) e refl
+  by_found : (pc : ℕ) (o : Option Func) → find (contains pc) kept ≡ o → by_holder pc o (find (holds_address pc) sources) ≡ answers pc
+  by_found pc None e = by_lent pc (find (holds_address pc) sources) e refl
   by_found pc (Some k) e =
       let t = found (contains pc) kept k e in
       let has = unions.within pc k t.passes in
@@ -230,11 +211,11 @@ module _ (arch : Arch) (answers : Answers) (kept : List Func) (sources : List So
       let is = p.is k in
       sym (h.kept_says p.place k p.within pc (subst (λ (g : Func). g.start ≤ pc) (sym is) has.from) (subst (λ (g : Func). pc < g.start + g.size) (sym is) has.to) ∙ ap (λ (g : Func). func_says g pc) is)
 
-  pub same_answers : (pc : ℕ) → answers_of kept (functions_lent sources) pc ≡ answers pc
+  pub same_answers : (pc : ℕ) → answers_of kept sources pc ≡ answers pc
   unfolding answers_of
   same_answers pc = by_found pc (find (contains pc) kept) refl
 
-  pub holders_of_both : AreHolders arch (answers_of kept (functions_lent sources)) kept sources
+  pub holders_of_both : AreHolders arch (answers_of kept sources) kept sources
   holders_of_both = record {
     kept_says = λ i d lt pc low high. same_answers pc ∙ h.kept_says i d lt pc low high;
     omitted_says = λ i d lt pc low high. same_answers pc ∙ h.omitted_says i d lt pc low high;

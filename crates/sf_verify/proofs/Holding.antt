@@ -14,8 +14,7 @@ use Rattle.sf_model.specs.declared.rows.Row.{Row}
 use Rattle.sf_model.specs.Lookup.{offset_in_block, row_at}
 use Rattle.sf_express.specs.declared.pieces.Piece.{Piece}
 use Rattle.sf_express.specs.Pieces.{ArePieces, PiecesSay, said_by}
-use Rattle.sf_asm.specs.declared.source.Source.{Source}
-use Rattle.sf_asm.specs.Sources.{source_function}
+use Rattle.sf_asm.specs.Functions.{Function}
 use Rattle.sf_verify.specs.declared.dwarf.Held.{Held}
 use Rattle.sf_asm.specs.Said.{AllFit, Answers, IfFits, form_content, said_in, with_key}
 use Rattle.sf_verify.specs.Asking.{AreHolders, IsHeld, IsKnown, IsRowed, KeptPassed, OmittedPassed}
@@ -81,7 +80,7 @@ taken_held arch answers h f t rowed holds = record {
   fits = subst (AllFit arch) (sym t.pieces) (as_pieces_fit arch f.rows rowed.fits);
 }
 
-pub kept_held : (arch : Arch) (answers : Answers) (kept : List Func) (omitted : List Source) (place : ℕ) (f : Func) (h : Held) → AreHolders arch answers kept omitted → place < length kept → f ≡ get_or kept place f
+pub kept_held : (arch : Arch) (answers : Answers) (kept : List Func) (omitted : List Function) (place : ℕ) (f : Func) (h : Held) → AreHolders arch answers kept omitted → place < length kept → f ≡ get_or kept place f
     → h.start ≡ f.start → h.size ≡ f.size → h.key ≡ f.key → h.pieces.items ≡ as_pieces f.rows → IsHeld arch answers h
 kept_held arch answers kept omitted place f h holders lt is start size key pieces =
     let taken : IsTaken h f = record { start = start; size = size; key = key; pieces = pieces } in
@@ -89,20 +88,24 @@ kept_held arch answers kept omitted place f h holders lt is start size key piece
     (λ pc from to. subst (λ (g : Func). g.start ≤ pc → pc < g.start + g.size → answers pc ≡ func_says g pc) (sym is) (holders.kept_says place f lt pc) from to)
 
 -- ---- an omitted function
-pub omitted_held : (arch : Arch) (answers : Answers) (kept : List Func) (omitted : List Source) (place : ℕ) (s : Source) (h : Held) → AreHolders arch answers kept omitted → place < length omitted → s ≡ get_or omitted place s → s.facts.start + s.facts.size ≤ 2 ^ 64
-    → h.start ≡ s.facts.start → h.size ≡ s.facts.size → h.key ≡ s.facts.key → ArePieces s.facts.size h.pieces.items → PiecesSay s.facts.size h.pieces.items (form_content (source_function s)) → AllFit s.arch h.pieces.items → IsHeld arch answers h
-omitted_held arch answers kept omitted place s h holders lt is end start size key pieces say fit = record {
+pub omitted_held : (arch : Arch) (answers : Answers) (kept : List Func) (omitted : List Function) (place : ℕ) (f : Function) (h : Held) → AreHolders arch answers kept omitted → place < length omitted → f ≡ get_or omitted place f → f.start + f.size ≤ 2 ^ 64
+    → h.start ≡ f.start → h.size ≡ f.size → h.key ≡ f.key → ArePieces f.size h.pieces.items → PiecesSay f.size h.pieces.items (form_content f) → AllFit f.arch h.pieces.items → IsHeld arch answers h
+omitted_held arch answers kept omitted place f h holders lt is end start size key pieces say fit = record {
   end = rw (start, size) end;
   pieces = λ some. rw size pieces;
   says = λ pc content from to said.
-      let from' : s.facts.start ≤ pc = omega (arith, from, start) in
-      let to' : pc < s.facts.start + s.facts.size = omega (arith, to, start, size) in
-      let here = subst (λ (g : Source). g.facts.start ≤ pc → pc < g.facts.start + g.facts.size → answers pc ≡ said_in pc (source_function g)) (sym is) (holders.omitted_says place s lt pc) from' to' in
-      let there : said_by (pc - h.start) None h.pieces.items ≡ Some (form_content (source_function s) (pc - h.start)) = say (pc - h.start) (omega (arith, from, to, size)) in
-      let same : form_content (source_function s) (pc - h.start) ≡ content = let e = sym there ∙ said in cc in
-      here ∙ ap (λ (k : ℕ). option_map (with_key s.facts.key) (form_content (source_function s) (pc - k))) (sym start) ∙ ap (option_map (with_key s.facts.key)) same ∙ ap (λ k. option_map (with_key k) content) (sym key);
-  fits = subst (λ (a : Arch). AllFit a h.pieces.items) (ap (λ (g : Source). g.arch) is ∙ holders.omitted_here place s lt) fit;
+      let from' : f.start ≤ pc = omega (arith, from, start) in
+      let to' : pc < f.start + f.size = omega (arith, to, start, size) in
+      let here = subst (λ (g : Function). g.start ≤ pc → pc < g.start + g.size → answers pc ≡ said_in pc g) (sym is) (holders.omitted_says place f lt pc) from' to' in
+      let there : said_by (pc - h.start) None h.pieces.items ≡ Some (form_content f (pc - h.start)) = say (pc - h.start) (omega (arith, from, to, size)) in
+      let same : form_content f (pc - h.start) ≡ content = let e = sym there ∙ said in cc in
+      here ∙ ap (λ (k : ℕ). option_map (with_key f.key) (form_content f (pc - k))) (sym start) ∙ ap (option_map (with_key f.key)) same ∙ ap (λ k. option_map (with_key k) content) (sym key);
+  fits = subst (λ (a : Arch). AllFit a h.pieces.items) (ap (λ (g : Function). g.arch) is ∙ holders.omitted_here place f lt) fit;
 }
+
+-- the function at a place has the address
+pub lent_has : (fs : List Function) (place pc : ℕ) (f : Function) → f ≡ get_or fs place f → (get_or fs place f).start ≤ pc → pc < (get_or fs place f).start + (get_or fs place f).size → (f.start ≤ pc) × (pc < f.start + f.size)
+lent_has fs place pc f is from to = (subst (λ (g : Function). g.start ≤ pc) (sym is) from, subst (λ (g : Function). pc < g.start + g.size) (sym is) to)
 
 -- ---- none has the address
 pub none_kept : (kept : List Func) (next pc : ℕ) (d : Func) → KeptPassed kept next pc → ((i j : ℕ) (d : Func) → i ≤ j → j < length kept → (get_or kept i d).start ≤ (get_or kept j d).start) → (next < length kept → pc < (get_or kept next d).start)
@@ -117,14 +120,14 @@ none_kept kept next pc d passed rise after i f lt from to = elim (cases_lt i nex
       omega (arith, first, up, from)
 ]
 
-pub none_omitted : (omitted : List Source) (next pc : ℕ) (d : Source) → OmittedPassed omitted next pc → ((i j : ℕ) (d : Source) → i ≤ j → j < length omitted → (get_or omitted i d).facts.start ≤ (get_or omitted j d).facts.start) → (next < length omitted → pc < (get_or omitted next d).facts.start)
-    → (i : ℕ) (s : Source) → i < length omitted → (get_or omitted i s).facts.start ≤ pc → pc < (get_or omitted i s).facts.start + (get_or omitted i s).facts.size → ⊥
-none_omitted omitted next pc d passed rise after i s lt from to = elim (cases_lt i next) [
-  | inl before ↦ let ends = passed i s before lt in omega (arith, ends, to)
+pub none_omitted : (omitted : List Function) (next pc : ℕ) (d : Function) → OmittedPassed omitted next pc → ((i j : ℕ) (d : Function) → i ≤ j → j < length omitted → (get_or omitted i d).start ≤ (get_or omitted j d).start) → (next < length omitted → pc < (get_or omitted next d).start)
+    → (i : ℕ) (f : Function) → i < length omitted → (get_or omitted i f).start ≤ pc → pc < (get_or omitted i f).start + (get_or omitted i f).size → ⊥
+none_omitted omitted next pc d passed rise after i f lt from to = elim (cases_lt i next) [
+  | inl before ↦ let ends = passed i f before lt in omega (arith, ends, to)
   | inr not_before ↦
       let low : next ≤ i = omega (arith, not_before) in
       let here : next < length omitted = omega (arith, low, lt) in
-      let first : pc < (get_or omitted next s).facts.start = subst (λ (g : Source). pc < g.facts.start) (get_or_default omitted next d s here) (after here) in
-      let up = rise next i s low lt in
+      let first : pc < (get_or omitted next f).start = subst (λ (g : Function). pc < g.start) (get_or_default omitted next d f here) (after here) in
+      let up = rise next i f low lt in
       omega (arith, first, up, from)
 ]

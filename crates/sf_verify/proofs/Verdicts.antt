@@ -18,12 +18,11 @@ use Rattle.sf_merge.specs.Located.{InOrder, compared}
 use Rattle.sf_merge.specs.Views.{IsRead}
 use Rattle.sf_asm.specs.declared.fault.GatherFault.{GatherFault}
 use Rattle.sf_asm.specs.declared.fault.GatherFault.TheVariants as gather
-use Rattle.sf_asm.specs.declared.source.Source.{Source}
 use Rattle.sf_asm.specs.Answers.{IsFirstGathered}
 use Rattle.sf_asm.specs.Functions.{Function, Object, machine_of}
 use Rattle.sf_asm.specs.Inputs.{HaveMachine}
 use Rattle.sf_asm.specs.Kept.{entry_of, is_kept}
-use Rattle.sf_asm.specs.Sources.{AreWithSources, functions_lent}
+use Rattle.sf_asm.specs.Sources.{AreWithSources}
 use Rattle.sf_asm.proofs.Described.{described}
 use Rattle.sf_asm.proofs.Holding.{gathered_apart, kept_size}
 use Rattle.sf_asm.proofs.OneMachine.{machine_of_functions}
@@ -84,7 +83,7 @@ kept_rise arch kept h i j d lt within =
         subst (λ (n : ℕ). (get_or kept i d).start < (get_or kept n d).start) (sym e) (omega (arith, ends, some))
 
 -- ---- gathered functions
-pub have_holders : (before : Arch) (objects : List Object) (arch : Arch) (kept : List Func) (omitted : List Omitted) (sources : List Source) (h : AreWithSources (Some before) objects arch kept omitted (functions_lent sources)) → HaveMachine (Some before) objects arch
+pub have_holders : (before : Arch) (objects : List Object) (arch : Arch) (kept : List Func) (omitted : List Omitted) (sources : List Function) (h : AreWithSources (Some before) objects arch kept omitted sources) → HaveMachine (Some before) objects arch
     → AreHolders arch (dwarf_at h.functions) kept sources
 have_holders before objects arch kept omitted sources h machine =
     let apart = gathered_apart (Some before) objects (map entry_of h.sorted) h.is in
@@ -102,13 +101,13 @@ covered_size f g kept some e =
     let same = eqb-true g.size f.size two.1 in
     omega (arith, same, some)
 
-pub is_verified : (view : View) (objects : List Object) (arch : Arch) (kept : List Func) (omitted : List Omitted) (sources : List Source) (ordered : List Located) (verdict : Verdict)
-    → (h : AreWithSources (Some (table_of view).arch) objects arch kept omitted (functions_lent sources)) → HaveMachine (Some (table_of view).arch) objects arch → InOrder (sized (table_of view)) ordered → section_fault (section_bytes view) ordered ≡ None
-    → IsVerdictBy (table_of view).functions (functions_in ordered) kept (answers_of kept (functions_lent sources)) verdict → Verifies (section_bytes view) (table_of view) objects (Ok verdict)
+pub is_verified : (view : View) (objects : List Object) (arch : Arch) (kept : List Func) (omitted : List Omitted) (sources : List Function) (ordered : List Located) (verdict : Verdict)
+    → (h : AreWithSources (Some (table_of view).arch) objects arch kept omitted sources) → HaveMachine (Some (table_of view).arch) objects arch → InOrder (sized (table_of view)) ordered → section_fault (section_bytes view) ordered ≡ None
+    → IsVerdictBy (table_of view).functions (functions_in ordered) kept (answers_of kept sources) verdict → Verifies (section_bytes view) (table_of view) objects (Ok verdict)
 is_verified view objects arch kept omitted sources ordered verdict h machine order none is =
     let table = table_of view in
     let hold = have_holders table.arch objects arch kept omitted sources h machine in
-    let verdict' = verdict_is table.functions (functions_in ordered) kept h.functions h.sorted (answers_of kept (functions_lent sources)) verdict
+    let verdict' = verdict_is table.functions (functions_in ordered) kept h.functions h.sorted (answers_of kept sources) verdict
     (section_says (section_bytes view) table ordered order none) (same_answers arch (dwarf_at h.functions) kept sources hold) (h.kept_are ∙ kept_are h.sorted) h.by_start.moved
     (λ f k. any_sized (covers (expressed_of f)) table ordered order (λ g e. covered_size f g k (kept_size f k) e)) is in
     (Ok (map entry_of h.sorted), h.is, ordered, order, subst (λ (fault : Option VerifyFault). VerdictUnless fault table objects (Ok verdict)) (sym none) (h.functions, h.are, verdict, verdict', refl))
@@ -128,17 +127,17 @@ is_shared view objects arch kept omitted sources ordered fault h order is =
     inr (Ok (map entry_of h.sorted), h.is, ordered, order, subst (λ (f : Option VerifyFault). VerdictUnless f (table_of view) objects (Err fault)) (sym is) refl)
 
 -- ---- what the comparison asks for
-pub record ArePrepared (view : View) (arch : Arch) (kept : List Func) (sources : List Source) (ordered : List Located) : Type 0 where
+pub record ArePrepared (view : View) (arch : Arch) (kept : List Func) (sources : List Function) (ordered : List Located) : Type 0 where
   pub machine : arch ≡ (table_of view).arch
   pub order : InOrder (sized (table_of view)) ordered
   pub none : section_fault (section_bytes view) ordered ≡ None
   pub comparable : AreComparable arch ordered
   pub rise : StartsRise ordered
-  pub holders : AreHolders arch (answers_of kept (functions_lent sources)) kept sources
+  pub holders : AreHolders arch (answers_of kept sources) kept sources
   pub kept_rises : KeptRise kept
 
-pub prepared : (view : View) (objects : List Object) (before arch : Arch) (kept : List Func) (omitted : List Omitted) (sources : List Source) (ordered asked : List Located) (shared : Option VerifyFault) → before ≡ (table_of view).arch
-    → AreWithSources (Some before) objects arch kept omitted (functions_lent sources) → HaveMachine (Some before) objects arch → IsRead view → IsPermutation (sized (table_of view)) ordered → IsSorted compared ordered
+pub prepared : (view : View) (objects : List Object) (before arch : Arch) (kept : List Func) (omitted : List Omitted) (sources : List Function) (ordered asked : List Located) (shared : Option VerifyFault) → before ≡ (table_of view).arch
+    → AreWithSources (Some before) objects arch kept omitted sources → HaveMachine (Some before) objects arch → IsRead view → IsPermutation (sized (table_of view)) ordered → IsSorted compared ordered
     → asked ≡ ordered → shared ≡ section_fault (section_bytes view) asked → shared ≡ None → ArePrepared view arch kept sources ordered
 prepared view objects before arch kept omitted sources ordered asked shared before_is h machine read moved sorted asked_is shared_is none =
     let order : InOrder (sized (table_of view)) ordered = record { moved = moved; rising = sorted } in
@@ -154,10 +153,10 @@ prepared view objects before arch kept omitted sources ordered asked shared befo
       kept_rises = kept_rise arch kept h.writable;
     }
 
-pub has_verdict : (view : View) (objects : List Object) (before arch : Arch) (kept : List Func) (omitted : List Omitted) (sources : List Source) (ordered asked : List Located) (verdict : Verdict) → before ≡ (table_of view).arch
-    → AreWithSources (Some before) objects arch kept omitted (functions_lent sources) → HaveMachine (Some before) objects arch → ArePrepared view arch kept sources ordered → asked ≡ ordered
-    → IsVerdictBy (table_of view).functions (functions_in asked) kept (answers_of kept (functions_lent sources)) verdict → Verifies (section_bytes view) (table_of view) objects (Ok verdict)
+pub has_verdict : (view : View) (objects : List Object) (before arch : Arch) (kept : List Func) (omitted : List Omitted) (sources : List Function) (ordered asked : List Located) (verdict : Verdict) → before ≡ (table_of view).arch
+    → AreWithSources (Some before) objects arch kept omitted sources → HaveMachine (Some before) objects arch → ArePrepared view arch kept sources ordered → asked ≡ ordered
+    → IsVerdictBy (table_of view).functions (functions_in asked) kept (answers_of kept sources) verdict → Verifies (section_bytes view) (table_of view) objects (Ok verdict)
 has_verdict view objects before arch kept omitted sources ordered asked verdict before_is h machine p asked_is is =
     is_verified view objects arch kept omitted sources ordered verdict
-    (subst (λ (a : Arch). AreWithSources (Some a) objects arch kept omitted (functions_lent sources)) before_is h) (subst (λ (a : Arch). HaveMachine (Some a) objects arch) before_is machine) p.order p.none
-    (subst (λ (ls : List Located). IsVerdictBy (table_of view).functions (functions_in ls) kept (answers_of kept (functions_lent sources)) verdict) asked_is is)
+    (subst (λ (a : Arch). AreWithSources (Some a) objects arch kept omitted sources) before_is h) (subst (λ (a : Arch). HaveMachine (Some a) objects arch) before_is machine) p.order p.none
+    (subst (λ (ls : List Located). IsVerdictBy (table_of view).functions (functions_in ls) kept (answers_of kept sources) verdict) asked_is is)

@@ -12,9 +12,7 @@ use Rattle.sf_model.specs.Function.{RowsRise}
 use Rattle.sf_model.specs.Lookup.{contains}
 use Rattle.sf_express.specs.Pieces.{ArePieces, said_by}
 use Rattle.sf_asm.specs.Faithful.{holds_address}
-use Rattle.sf_asm.specs.declared.source.Source.{Source}
 use Rattle.sf_asm.specs.Functions.{Function}
-use Rattle.sf_asm.specs.Sources.{functions_lent, source_function}
 use Rattle.sf_asm.specs.declared.said.Said.{Said}
 use Rattle.sf_asm.specs.Said.{AllFit, Answers, said_in, with_key}
 use Rattle.sf_verify.specs.declared.dwarf.Dwarf.{Dwarf}
@@ -32,7 +30,7 @@ unfoldable pub answers_of : (kept : List Func) → (omitted : List Function) →
 answers_of kept omitted pc = by_holder pc (find (contains pc) kept) (find (holds_address pc) omitted)
 
 abbrev pub says : Dwarf → Answers
-says d = answers_of d.kept.now (functions_lent d.omitted.now)
+says d = answers_of d.kept.now d.omitted.now.functions
 
 -- the first row begins at 0
 abbrev pub RowsBegin : List Row → Type 0
@@ -49,17 +47,16 @@ pub record IsRowed (arch : Arch) (f : Func) : Type 0 where
   pub fits : All (λ (r : Row). IsTrue (content_fits arch r.content)) f.rows
 
 -- What the two lists say, where at most one of their functions has an address.
-pub record AreHolders (arch : Arch) (answers : Answers) (kept : List Func) (omitted : List Source) : Type 0 where
+pub record AreHolders (arch : Arch) (answers : Answers) (kept : List Func) (omitted : List Function) : Type 0 where
   pub kept_says : (i : ℕ) (d : Func) → i < length kept → (pc : ℕ) → (get_or kept i d).start ≤ pc → pc < (get_or kept i d).start + (get_or kept i d).size → answers pc ≡ func_says (get_or kept i d) pc
-  pub omitted_says : (i : ℕ) (d : Source) → i < length omitted → (pc : ℕ) → (get_or omitted i d).facts.start ≤ pc → pc < (get_or omitted i d).facts.start + (get_or omitted i d).facts.size
-      → answers pc ≡ said_in pc (source_function (get_or omitted i d))
+  pub omitted_says : (i : ℕ) (d : Function) → i < length omitted → (pc : ℕ) → (get_or omitted i d).start ≤ pc → pc < (get_or omitted i d).start + (get_or omitted i d).size → answers pc ≡ said_in pc (get_or omitted i d)
   pub none_says : (pc : ℕ) → ((i : ℕ) (d : Func) → i < length kept → (get_or kept i d).start ≤ pc → pc < (get_or kept i d).start + (get_or kept i d).size → ⊥)
-      → ((i : ℕ) (d : Source) → i < length omitted → (get_or omitted i d).facts.start ≤ pc → pc < (get_or omitted i d).facts.start + (get_or omitted i d).facts.size → ⊥) → answers pc ≡ None
+      → ((i : ℕ) (d : Function) → i < length omitted → (get_or omitted i d).start ≤ pc → pc < (get_or omitted i d).start + (get_or omitted i d).size → ⊥) → answers pc ≡ None
   -- both lists are by rising start, of functions of this machine
   pub kept_rowed : All (IsRowed arch) kept
   pub kept_rise : (i j : ℕ) (d : Func) → i ≤ j → j < length kept → (get_or kept i d).start ≤ (get_or kept j d).start
-  pub omitted_rise : (i j : ℕ) (d : Source) → i ≤ j → j < length omitted → (get_or omitted i d).facts.start ≤ (get_or omitted j d).facts.start
-  pub omitted_here : All (λ (s : Source). s.arch ≡ arch) omitted
+  pub omitted_rise : (i j : ℕ) (d : Function) → i ≤ j → j < length omitted → (get_or omitted i d).start ≤ (get_or omitted j d).start
+  pub omitted_here : All (λ (f : Function). f.arch ≡ arch) omitted
 
 -- ---- the function that was found last
 -- its pieces say at each of its addresses what is answered there
@@ -74,15 +71,15 @@ pub record IsHeld (arch : Arch) (answers : Answers) (h : Held) : Type 0 where
 abbrev pub KeptPassed : List Func → (next pc : ℕ) → Type 0
 KeptPassed kept next pc = (i : ℕ) (d : Func) → i < next → i < length kept → (get_or kept i d).start + (get_or kept i d).size ≤ pc
 
-abbrev pub OmittedPassed : List Source → (next pc : ℕ) → Type 0
-OmittedPassed omitted next pc = (i : ℕ) (d : Source) → i < next → i < length omitted → (get_or omitted i d).facts.start + (get_or omitted i d).facts.size ≤ pc
+abbrev pub OmittedPassed : List Function → (next pc : ℕ) → Type 0
+OmittedPassed omitted next pc = (i : ℕ) (d : Function) → i < next → i < length omitted → (get_or omitted i d).start + (get_or omitted i d).size ≤ pc
 
 -- what is asked from an address on is found
 pub record IsReady (d : Dwarf) (pc : ℕ) : Type 0 where
-  pub holders : AreHolders d.arch (says d) d.kept.now d.omitted.now
+  pub holders : AreHolders d.arch (says d) d.kept.now d.omitted.now.functions
   pub held : IsHeld d.arch (says d) d.held
   pub kept_passed : KeptPassed d.kept.now d.next_kept pc
-  pub omitted_passed : OmittedPassed d.omitted.now d.next_omitted pc
+  pub omitted_passed : OmittedPassed d.omitted.now.functions d.next_omitted pc
 
 -- the same lists are asked
 pub record IsSame (d e : Dwarf) : Type 0 where
@@ -98,7 +95,7 @@ FindsKept d pc false = (i : ℕ) (f : Func) → i < length d.kept.now → (get_o
 
 abbrev pub FindsOmitted : Dwarf → (pc : ℕ) → Bool → Type 0
 FindsOmitted d pc true = (d.held.start ≤ pc) × (pc < d.held.start + d.held.size)
-FindsOmitted d pc false = (i : ℕ) (s : Source) → i < length d.omitted.now → (get_or d.omitted.now i s).facts.start ≤ pc → pc < (get_or d.omitted.now i s).facts.start + (get_or d.omitted.now i s).facts.size → ⊥
+FindsOmitted d pc false = (i : ℕ) (f : Function) → i < length d.omitted.now.functions → (get_or d.omitted.now.functions i f).start ≤ pc → pc < (get_or d.omitted.now.functions i f).start + (get_or d.omitted.now.functions i f).size → ⊥
 
 -- the function that is held has the address, or nothing is said there
 abbrev pub Finds : Dwarf → (pc : ℕ) → Bool → Type 0

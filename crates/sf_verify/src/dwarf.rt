@@ -4,13 +4,13 @@ ghost use Rattle.std.specs.Prelude.{◌≡◌, ◌≤◌, ◌<◌, ◌+◌, ◌^
 ghost use Rattle.sf_model.specs.declared.function.Func.{Func as function};
 ghost use Rattle.sf_model.specs.declared.machine.Arch.{Arch as machine};
 ghost use Rattle.sf_express.specs.Pieces.{ArePieces, PiecesSay, piece_of_row};
-ghost use Rattle.sf_asm.specs.declared.source.Source.{Source as source_of};
 ghost use Rattle.sf_asm.specs.Said.{AllFit, Answers, form_content};
-ghost use Rattle.sf_asm.specs.Sources.{functions_lent, source_function};
+ghost use Rattle.sf_asm.specs.Functions.{Function as lent};
+ghost use Rattle.sf_asm.specs.Sources.{source_function};
 ghost use Rattle.sf_verify.specs.Asking.{AreHolders, Finds, FindsKept, FindsOmitted, IsHeld, IsReady, IsSame, KeptPassed, Knows, OmittedPassed, answers_of, says};
 
 use cfa_machine::Runner;
-use sf_asm::{Said, Source, pieces_said};
+use sf_asm::{Said, Source, Sources, pieces_said};
 use sf_base::NoMemory;
 use sf_express::{Piece, piece_at};
 use sf_model::{Arch, Func, Key};
@@ -37,7 +37,7 @@ pub struct Held {
 pub struct Dwarf<'a> {
     arch: Arch,
     kept: &'a [Func],
-    omitted: &'a [Source<'a>],
+    omitted: &'a Sources<'a>,
     // Functions before these end by the address asked last.
     next_kept: usize,
     next_omitted: usize,
@@ -81,22 +81,22 @@ fn kept_starts(kept: &[Func], place: usize, pc: u64) -> bool
 
 /// Whether there is an omitted function at a place, and it starts by an address.
 #[inline(always)]
-fn omitted_starts(omitted: &[Source<'_>], place: usize, pc: u64) -> bool
-    ensures within { IsTrue result → place < length omitted.now }
-    ensures starts { (d : source_of) → IsTrue result → (get_or omitted.now place d).facts.start ≤ pc }
-    ensures after { (d : source_of) → result ≡ false → place < length omitted.now → pc < (get_or omitted.now place d).facts.start }
+fn omitted_starts(omitted: &Sources<'_>, place: usize, pc: u64) -> bool
+    ensures within { IsTrue result → place < length omitted.now.functions }
+    ensures starts { (d : lent) → IsTrue result → (get_or omitted.now.functions place d).start ≤ pc }
+    ensures after { (d : lent) → result ≡ false → place < length omitted.now.functions → pc < (get_or omitted.now.functions place d).start }
 {
-    place < omitted.len() && omitted[place].facts.start <= pc
+    place < omitted.len() && omitted.start(place) <= pc
 }
 
 /// The place of the first omitted function from a place on that ends after an address.
-fn pass_omitted(omitted: &[Source<'_>], passed: usize, pc: u64) -> usize
-    requires passed { OmittedPassed omitted.now passed pc }
-    ensures passed { OmittedPassed omitted.now result pc }
-    ensures after { (d : source_of) → result < length omitted.now → pc < (get_or omitted.now result d).facts.start + (get_or omitted.now result d).facts.size }
+fn pass_omitted(omitted: &Sources<'_>, passed: usize, pc: u64) -> usize
+    requires passed { OmittedPassed omitted.now.functions passed pc }
+    ensures passed { OmittedPassed omitted.now.functions result pc }
+    ensures after { (d : lent) → result < length omitted.now.functions → pc < (get_or omitted.now.functions result d).start + (get_or omitted.now.functions result d).size }
 {
     let mut next = passed;
-    while next < omitted.len() && ends_by(omitted[next].facts.start, omitted[next].facts.size, pc) {
+    while next < omitted.len() && ends_by(omitted.start(next), omitted.size(next), pc) {
         next += 1;
     }
     next
@@ -189,10 +189,10 @@ impl Held {
 
 impl<'a> Dwarf<'a> {
     /// The functions of inputs, before anything is asked.
-    pub fn new(alloc: Global, arch: Arch, kept: &'a [Func], omitted: &'a [Source<'a>]) -> Dwarf<'a>
-        requires { AreHolders arch (answers_of kept.now (functions_lent omitted.now)) kept.now omitted.now }
+    pub fn new(alloc: Global, arch: Arch, kept: &'a [Func], omitted: &'a Sources<'a>) -> Dwarf<'a>
+        requires { AreHolders arch (answers_of kept.now omitted.now.functions) kept.now omitted.now.functions }
         ensures ready { IsReady result 0 }
-        ensures says { says result ≡ answers_of kept.now (functions_lent omitted.now) }
+        ensures says { says result ≡ answers_of kept.now omitted.now.functions }
         ensures arch { result.arch ≡ arch }
     {
         Dwarf {
@@ -242,7 +242,8 @@ impl<'a> Dwarf<'a> {
             return Ok(false);
         }
         let omitted = self.omitted;
-        self.held = hold_omitted(alloc, &omitted[self.next_omitted], &mut self.run)?;
+        let source = omitted.get(self.next_omitted);
+        self.held = hold_omitted(alloc, &source, &mut self.run)?;
         Ok(true)
     }
 

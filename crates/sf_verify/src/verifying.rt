@@ -3,7 +3,6 @@
 ghost use Rattle.std.specs.Prelude.{◌≡◌, ◌≤◌, ◌<◌, ◌^◌, All, length, map, Ok, IfOk, IfErr, IsTrue};
 ghost use Rattle.sf_asm.specs.Functions.{object_of};
 ghost use Rattle.sf_decode.specs.View.{section_bytes, table_of};
-ghost use Rattle.sf_asm.specs.Sources.{functions_lent};
 ghost use Rattle.sf_verify.specs.Asking.{AreHolders, answers_of};
 ghost use Rattle.sf_verify.specs.Comparing.{AreComparable, functions_in};
 ghost use Rattle.sf_verify.specs.Concluding.{IsVerdictBy};
@@ -47,10 +46,10 @@ fn verdict_on(
     requires machine { gathered.now.arch ≡ (table_of view.now).arch }
     requires comparable { AreComparable gathered.now.arch ordered.now }
     requires rise { StartsRise ordered.now }
-    requires holders { AreHolders gathered.now.arch (answers_of gathered.now.kept.items (functions_lent gathered.now.sources.items)) gathered.now.kept.items gathered.now.sources.items }
+    requires holders { AreHolders gathered.now.arch (answers_of gathered.now.kept.items gathered.now.sources.functions) gathered.now.kept.items gathered.now.sources.functions }
     requires few { length gathered.now.kept.items ≤ 2 ^ 21 }
     requires kept { KeptRise gathered.now.kept.items }
-    ensures { IfOk result (IsVerdictBy (table_of view.now).functions (functions_in ordered.now) gathered.now.kept.items (answers_of gathered.now.kept.items (functions_lent gathered.now.sources.items))) }
+    ensures { IfOk result (IsVerdictBy (table_of view.now).functions (functions_in ordered.now) gathered.now.kept.items (answers_of gathered.now.kept.items gathered.now.sources.functions)) }
 {
     let mut dwarf = Dwarf::new(alloc, gathered.arch, &gathered.kept, &gathered.sources);
     if let Some(difference) = compare(alloc, ordered, &mut dwarf)? {

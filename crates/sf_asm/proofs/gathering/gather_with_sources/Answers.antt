@@ -30,7 +30,7 @@ returns-clause-gathered c =
       kept_are = kept ∙ ap kept_of is;
       writable = rw c.in_ok-together.ensures.arch (subst (AreWritable c.in_ok-read.read.arch) (sym kept) (kept_of_checked c.in_ok-read.read.arch entries c.in_ok-read.ensures.sound c.in_ok-read.ensures.checked));
       omitted_are = c.in_ok-together.ensures.omitted ∙ ap omitted_of is;
-      sources_are = sources_are read.functions c.in_ok-read.read.sources.items c.order_sources.new.sources.items (are_lent _ read.functions _ read.are (c.in_ok-read.ensures.lent refl)) c.in_ok-order_sources.ensures.rising c.in_ok-order_sources.ensures.stable;
+      sources_are = sources_are read.functions c.in_ok-read.read.sources.functions c.sort.new.self.functions (are_lent _ read.functions _ read.are (c.in_ok-read.ensures.lent refl)) c.in_ok-sort.ensures;
     }
 
 pub returns-in_err-read-clause-answered : goal.returns-in_err-read-clause-answered

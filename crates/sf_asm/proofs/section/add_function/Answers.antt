@@ -1,12 +1,12 @@
-use Rattle.std.proofs.Common.{◌≡◌, ◌&&◌, ◌∷◌, ◌++◌, ◌^◌, ◌+◌, ℕ, [], List, ap, length, subst, sym, ◌∙◌}
+use Rattle.std.proofs.Common.{◌≡◌, ◌&&◌, ◌∷◌, ◌++◌, ◌^◌, ◌+◌, ℕ, [], ap, length, subst, sym, ◌∙◌}
 use Rattle.std.specs.Prelude.{min, nat_le, nat_lt}
 use Rattle.sf_asm.specs.declared.entry.Entry.{Entry}
 use Rattle.sf_asm.specs.declared.read.ReadFunctions.{ReadFunctions}
 use Rattle.sf_asm.specs.declared.read.ReadFunctions.TheVariants.{Past}
-use Rattle.sf_asm.specs.declared.source.Source.{Source}
+use Rattle.sf_asm.specs.Numbers.{AreNumbered}
 use Rattle.sf_asm.specs.Order.{entry_rows}
 use Rattle.sf_asm.specs.ReadSoFar.{AreCounted, AreHeld, AreRead, counted_in}
-use Rattle.sf_asm.specs.Sources.{function_by_span, functions_lent}
+use Rattle.sf_asm.specs.Sources.{SourcesView, function_by_span}
 use Rattle.sf_asm.proofs.ReadSoFar.{one_counted, one_held, one_too_many, has_room}
 use Rattle.sf_asm.proofs.section.add_function.Goals as goal
 use Rattle.sf_asm.proofs.section.add_function.Goals.{in-Within+else-has_room, in_default}
@@ -17,7 +17,7 @@ returns-then-has_room-clause-reads c = λ before h.
     let held : AreHeld c.args.lending c.in-Within.held before = subst (λ (r : ReadFunctions). AreRead c.args.lending r before) c.in-Within.is h in
     let room = has_room c.in-Within.held.entries (entry_rows c.args.entry) c.in-Within.held.rows_left (sym c.has_room.ensures ∙ c.if-has_room.true) in
     one_held c.args.lending c.in-Within.held c.add.new.self before f c.args.entry held c.requires.function room c.in_ok-add.ensures.entries c.in_ok-add.ensures.rows
-    (λ asked. ap (λ (sources : List Source). functions_lent sources) (ap (λ v. v.items) c.in_ok-add.ensures.sources) ∙ c.in_ok-lend.ensures.lent asked)
+    (λ asked. ap (λ (v : SourcesView). v.functions) c.in_ok-add.ensures.sources ∙ c.in_ok-lend.ensures.lent asked)
 
 pub returns-clause-reads : goal.returns-clause-reads
 returns-clause-reads c = λ before h.
@@ -35,3 +35,7 @@ returns-clause-reads c = λ before h.
           subst (λ (r : ReadFunctions). AreRead c.args.lending r (before ++ f ∷ [])) (sym (c.count.ensures ∙ ap (λ (n : ℕ). Past (min n (2 ^ 21) + 1)) same))
           (one_counted w.in_default.field-0 before f counted)
     ]
+
+pub returns-then-has_room-clause-numbered : goal.returns-then-has_room-clause-numbered
+returns-then-has_room-clause-numbered c =
+    subst (λ (v : SourcesView). AreNumbered c.args.section.now.arch c.args.section.now.bytes.now c.lend.new.numbers v.common) (sym c.in_ok-add.ensures.sources) c.in_ok-lend.ensures.numbered

@@ -11,6 +11,7 @@ use Rattle.eh_records.specs.View.{bytes_of, entries, frames_left}
 use Rattle.sf_asm.specs.Functions.{functions_in}
 use Rattle.sf_asm.specs.Sources.{function_by_span}
 use Rattle.sf_asm.specs.Views.{overlaid, seen_section, written_by}
+use Rattle.sf_asm.proofs.CommonParts.{none_numbered}
 use Rattle.sf_asm.proofs.Lending.{one_entry}
 use Rattle.sf_asm.proofs.ReadFunctions.{kept_on, passed_on}
 use Rattle.sf_asm.proofs.ReadSoFar.{begins, goes_on, is_done, passes_on, then_more}
@@ -29,6 +30,7 @@ loop-fde-init c =
       keys = subst (λ (fs : List FdeView). All (λ (f : FdeView). IsTrue (key_fits c.args.section.now.arch f.cie.key)) fs) (sym left) keys;
       named = subst (λ (fs : List FdeView). All (HasNamed c.args.section.now.arch c.args.section.now.bytes.now) fs) (sym left) named;
       initials = c.new-initials.ensures c.args.section.now.arch c.args.section.now.bytes.now;
+      numbered = none_numbered c.args.section.now.arch c.args.section.now.bytes.now c.new-numbers.result c.args.read.now (c.new-numbers.ensures c.args.section.now.arch c.args.section.now.bytes.now);
       reads = λ relocations. begins c.args.lending c.args.read.now _ _ (ap (functions_in c.args.section.now.arch c.args.section.now.item (seen_section c.args.section.now relocations) (overlaid (written_by c.args.overlay.now))) left);
     }
 
@@ -42,6 +44,7 @@ loop-fde-preserved-then-dropped c =
       keys = All-tail (λ (f : FdeView). IsTrue (key_fits c.args.section.now.arch f.cie.key)) (fde_view c.in-Some.fde) (frames_left c.next.new.self) keys;
       named = All-tail (HasNamed c.args.section.now.arch c.args.section.now.bytes.now) (fde_view c.in-Some.fde) (frames_left c.next.new.self) named;
       initials = c.loop-fde.invariant.initials;
+      numbered = c.loop-fde.invariant.numbered;
       reads = λ relocations.
           let section = seen_section c.args.section.now relocations in
           let values = overlaid (written_by c.args.overlay.now) in
@@ -64,6 +67,7 @@ loop-fde-preserved c =
       keys = All-tail (λ (f : FdeView). IsTrue (key_fits c.args.section.now.arch f.cie.key)) (fde_view c.in-Some.fde) (frames_left c.next.new.self) keys;
       named = All-tail (HasNamed c.args.section.now.arch c.args.section.now.bytes.now) (fde_view c.in-Some.fde) (frames_left c.next.new.self) named;
       initials = c.in_ok-add_function.ensures.initials;
+      numbered = c.in_ok-add_function.ensures.numbered;
       reads = λ relocations.
           let section = seen_section c.args.section.now relocations in
           let values = overlaid (written_by c.args.overlay.now) in

@@ -9,7 +9,7 @@ use Rattle.elf_reloc.specs.declared.fault.RelocFault.{RelocFault}
 use Rattle.elf_reloc.specs.declared.fix.RelocatedField.{RelocatedField}
 use Rattle.sf_asm.specs.Functions.{functions_in}
 use Rattle.sf_asm.specs.Initials.{AreInitial}
-use Rattle.sf_asm.specs.ReadSoFar.{AreSound}
+use Rattle.sf_asm.specs.ReadSoFar.{AreNumberedIn, AreSound}
 use Rattle.sf_asm.specs.Views.{overlaid, seen_section, written_by}
 use Rattle.sf_asm.proofs.ReadSoFar.{GoesOn}
 use Rattle.sf_asm.proofs.section.read_frames.Given as goal
@@ -20,6 +20,7 @@ invariant-loop-fde l = record {
   keys : All (λ (f : FdeView). IsTrue (key_fits l.section.arch f.cie.key)) (frames_left l.fde-iterator);
   named : All (HasNamed l.section.arch l.section.bytes.now) (frames_left l.fde-iterator);
   initials : AreInitial l.section.arch l.section.bytes.now l.initials;
+  numbered : AreNumberedIn l.section.arch l.section.bytes.now l.numbers l.read;
   reads : (relocations : Result (List RelocatedField) RelocFault)
       → GoesOn l.lending l.fn.read l.read
       (functions_in l.section.arch l.section.item (seen_section l.section relocations) (overlaid (written_by l.overlay)) (frames_left l.fde-iterator))

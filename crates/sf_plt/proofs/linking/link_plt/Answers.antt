@@ -3,11 +3,9 @@ use Rattle.std.specs.List.{filter, flat_map}
 use Rattle.sf_model.specs.Function.{AreWritable}
 use Rattle.sf_model.specs.Table.{row_count}
 use Rattle.sf_write.specs.Reach.{first_out_of_reach}
-use Rattle.sf_asm.specs.declared.source.Source.{Source}
 use Rattle.sf_asm.specs.Entry.{omitted_of}
 use Rattle.sf_asm.specs.Functions.{Function, object_of}
 use Rattle.sf_asm.specs.Kept.{entry_of}
-use Rattle.sf_asm.specs.Sources.{functions_lent}
 use Rattle.sf_asm.proofs.FaithfulSections.{reach_refused}
 use Rattle.sf_plt.specs.Answers.{IsFirstPltLinked, others_in, span_of}
 use Rattle.sf_plt.specs.Plt.{is_plt}
@@ -17,7 +15,7 @@ use Rattle.sf_plt.proofs.Faults.{Made, counted, first_gathered, machine_of_lent,
 use Rattle.sf_plt.proofs.NeverMemory.{first_is_answered}
 use Rattle.sf_plt.proofs.Sorted.{are_omitted, lines_alone}
 use Rattle.sf_plt.proofs.linking.link_plt.Goals as goal
-use Rattle.sf_plt.proofs.linking.link_plt.Goals.{After-deref-4, After-len-tables}
+use Rattle.sf_plt.proofs.linking.link_plt.Goals.{After-deref-3, After-len-tables}
 
 pub returns-in-Err-clause-fault : goal.returns-in-Err-clause-fault
 returns-in-Err-clause-fault c =
@@ -29,25 +27,21 @@ returns-in-Err-clause-answered c = first_is_answered c.args.before (map object_o
 pub sort_out-requires-clause-left : goal.sort_out-requires-clause-left
 sort_out-requires-clause-left c =
     let g = c.in-Ok.ensures.gathered in
-    subst AreOmitted (sym (ap functions_lent c.deref-3.ensures.value ∙ g.sources_are)) (are_omitted g.sorted)
+    subst AreOmitted (sym g.sources_are) (are_omitted g.sorted)
 
 pub sort_out-requires-clause-omitted : goal.sort_out-requires-clause-omitted
 sort_out-requires-clause-omitted c =
     let g = c.in-Ok.ensures.gathered in
-    c.deref-2.ensures.value ∙ g.omitted_are ∙ lines_alone g.sorted ∙ sym (ap (λ (fs : List Function). omitted_of (map entry_of fs)) (ap functions_lent c.deref-3.ensures.value ∙ g.sources_are))
+    c.deref-2.ensures.value ∙ g.omitted_are ∙ lines_alone g.sorted ∙ sym (ap (λ (fs : List Function). omitted_of (map entry_of fs)) g.sources_are)
 
 pub sort_out-requires-clause-machine : goal.sort_out-requires-clause-machine
 sort_out-requires-clause-machine c =
     let found = c.in-Ok.gathered in
-    subst (λ (ss : List Source). All (λ (f : Function). f.arch ≡ found.arch) (functions_lent ss)) (sym c.deref-3.ensures.value)
-    (machine_of_lent c.args.before (map object_of c.args.inputs.now) found.arch found.kept.items found.omitted.items (functions_lent found.sources.items) c.in-Ok.ensures.gathered c.in-Ok.ensures.machine)
+    machine_of_lent c.args.before (map object_of c.args.inputs.now) found.arch found.kept.items found.omitted.items found.sources.functions c.in-Ok.ensures.gathered c.in-Ok.ensures.machine
 
 -- the functions that are lent
 abbrev lent : After-len-tables → List Function
-lent c = functions_lent c.in-Ok.gathered.sources.items
-
-same : (c : After-len-tables) → functions_lent c.deref-3.result.now ≡ lent c
-same c = ap functions_lent c.deref-3.ensures.value
+lent c = c.in-Ok.gathered.sources.functions
 
 functions : (c : After-len-tables) → c.len-count.result + c.len.result ≡ length c.in-Ok.gathered.kept.items + length c.in-Ok.gathered.omitted.items
 functions c =
@@ -59,17 +53,17 @@ rows : (c : After-len-tables) → c.count_rows-rows.result ≡ row_count c.in-Ok
 rows c = c.count_rows-rows.ensures ∙ ap row_count c.deref.ensures.value
 
 plts : (c : After-len-tables) → c.in-Ok-sort_out.sorted.plts.items ≡ map span_of (filter is_plt (lent c))
-plts c = c.in-Ok-sort_out.ensures.plts ∙ ap (λ (fs : List Function). map span_of (filter is_plt fs)) (same c)
+plts c = c.in-Ok-sort_out.ensures.plts
 
 tables : (c : After-len-tables) → c.len-tables.result ≡ length (filter is_plt (lent c))
 tables c = tables_counted c.len-tables.result c.in-Ok-sort_out.sorted.plts.items (lent c) (c.len-tables.ensures ∙ c.in-Ok-sort_out.sorted.plts.ok.0) (plts c)
 
 -- what is written, in order
-in_order : (c : After-deref-4) → Made c.in-Ok.gathered.arch c.in-Ok.ensures.gathered.sorted c.order.new.functions.items
+in_order : (c : After-deref-3) → Made c.in-Ok.gathered.arch c.in-Ok.ensures.gathered.sorted c.order.new.functions.items
 in_order c =
     let found = c.in-Ok.gathered in
-    let before = (goal.at.After-deref-4 c).After-len-tables in
-    let written : c.in-Ok-sort_out.sorted.written.items ≡ found.kept.items ++ flat_map plt_pair (filter is_plt (lent before)) = c.in-Ok-sort_out.ensures.written ∙ ap (λ (fs : List Function). found.kept.items ++ flat_map plt_pair (filter is_plt fs)) (same before) in
+    let before = (goal.at.After-deref-3 c).After-len-tables in
+    let written : c.in-Ok-sort_out.sorted.written.items ≡ found.kept.items ++ flat_map plt_pair (filter is_plt (lent before)) = c.in-Ok-sort_out.ensures.written in
     made c.args.before (map object_of c.args.inputs.now) found.arch found.kept.items found.omitted.items (lent before) c.in-Ok.ensures.gathered (c.len-count.result + c.len.result) c.count_rows-rows.result c.len-tables.result
     (functions before) (rows before) (tables before) c.in-Ok-check_tables.field-0 c.in-Ok-check_tables.ensures
     c.in-Ok-sort_out.sorted.written.items c.order.new.functions.items written c.in-Ok-sort_out.ensures.sound c.in-Ok-order.ensures.moved c.in-Ok-order.ensures.rising c.in-Ok-order.ensures.stable
@@ -93,16 +87,16 @@ pub returns-in-Err-check_tables-clause-answered : goal.returns-in-Err-check_tabl
 returns-in-Err-check_tables-clause-answered c = first_is_answered c.args.before (map object_of c.args.inputs.now) c.args.at _ (returns-in-Err-check_tables-clause-fault c)
 
 pub write-requires : goal.write-requires
-write-requires c = subst (AreWritable c.in-Ok.gathered.arch) (sym c.deref-4.ensures.value) (in_order c).writable
+write-requires c = subst (AreWritable c.in-Ok.gathered.arch) (sym c.deref-3.ensures.value) (in_order c).writable
 
 pub returns-in-Ok-write-clause-linked : goal.returns-in-Ok-write-clause-linked
 returns-in-Ok-write-clause-linked c =
     let found = c.in-Ok.gathered in
     let sorted = c.in-Ok-sort_out.sorted in
     let before = (goal.at.returns-in-Ok-write-clause-linked c).After-len-tables in
-    let m = in_order (goal.at.returns-in-Ok-write-clause-linked c).After-deref-4 in
-    let section = rw c.deref-4.ensures.value at c.in-Ok-write.ensures in
-    let omitted : sorted.omitted.items ≡ omitted_of (map entry_of (others_in (lent before))) = c.in-Ok-sort_out.ensures.omitted ∙ ap (λ (fs : List Function). omitted_of (map entry_of (others_in fs))) (same before) in
+    let m = in_order (goal.at.returns-in-Ok-write-clause-linked c).After-deref-3 in
+    let section = rw c.deref-3.ensures.value at c.in-Ok-write.ensures in
+    let omitted : sorted.omitted.items ≡ omitted_of (map entry_of (others_in (lent before))) = c.in-Ok-sort_out.ensures.omitted in
     plt_linked c.args.before (map object_of c.args.inputs.now) c.args.at c.in-Ok-write.section.items c.len-count.result sorted.omitted.items sorted.plts.items found.arch found.kept.items found.omitted.items (lent before) c.in-Ok.ensures.gathered
     c.in-Ok.ensures.machine c.order.new.functions.items m.is m.few section.section section.tight section.narrow section.in_reach (c.len-count.ensures ∙ found.kept.ok.0) omitted (plts before)
 
@@ -111,7 +105,7 @@ returns-in-Err-OutOfReach-clause-fault c =
     let found = c.in-Ok.gathered in
     let g = c.in-Ok.ensures.gathered in
     let objects = map object_of c.args.inputs.now in
-    let m = in_order (goal.at.returns-in-Err-OutOfReach-clause-fault c).After-deref-4 in
+    let m = in_order (goal.at.returns-in-Err-OutOfReach-clause-fault c).After-deref-3 in
     let far : first_out_of_reach c.args.at 0 (written_functions g.sorted) ≡ Some c.in-Err-OutOfReach.start =
-    ap (first_out_of_reach c.args.at 0) (sym m.is ∙ sym c.deref-4.ensures.value) ∙ reach_refused c.in-Err-OutOfReach.field-0 c.in-Err-OutOfReach.start _ c.in-Err-OutOfReach.field-0-is c.in-Err-OutOfReach.ensures.fault ∙ ap Some (sym c.in-Err-OutOfReach.start-is) in
-    inr (out_of_reach c.args.before objects c.args.at g.functions g.sorted c.in-Err-OutOfReach.start (ready c.args.before objects found.arch found.kept.items found.omitted.items (functions_lent found.sources.items) g) g.by_start m.few far)
+    ap (first_out_of_reach c.args.at 0) (sym m.is ∙ sym c.deref-3.ensures.value) ∙ reach_refused c.in-Err-OutOfReach.field-0 c.in-Err-OutOfReach.start _ c.in-Err-OutOfReach.field-0-is c.in-Err-OutOfReach.ensures.fault ∙ ap Some (sym c.in-Err-OutOfReach.start-is) in
+    inr (out_of_reach c.args.before objects c.args.at g.functions g.sorted c.in-Err-OutOfReach.start (ready c.args.before objects found.arch found.kept.items found.omitted.items found.sources.functions g) g.by_start m.few far)

@@ -1,49 +1,75 @@
-use Rattle.std.proofs.Common.{◌+◌, All, length, take, ap, subst, sym, ◌∙◌, arith}
-use Rattle.std.proofs.lemmas.List.{length-map}
+use Rattle.std.proofs.Common.{◌+◌, ◌++◌, ◌∷◌, [], All, List, length, map, take, ap, subst, sym, ◌∙◌, arith}
+use Rattle.std.specs.List.{filter, flat_map}
 use Rattle.sf_model.specs.Function.{IsWritable}
-use Rattle.sf_asm.specs.Sources.{functions_lent, source_function}
+use Rattle.sf_asm.specs.Entry.{omitted_of}
+use Rattle.sf_asm.specs.Functions.{Function}
+use Rattle.sf_asm.specs.Kept.{entry_of}
+use Rattle.sf_asm.specs.Sources.{source_function}
 use Rattle.sf_plt.specs.declared.sorting.Sorted.{Sorted}
-use Rattle.sf_plt.proofs.Sorted.{lent_arch, lent_omitted, lent_step, none_chosen, omitted_count, omitted_on, omitted_stay, plts_on, plts_stay, table_chosen, written_on, written_stays}
+use Rattle.sf_plt.specs.Answers.{others_in, span_of}
+use Rattle.sf_plt.specs.Plt.{is_plt}
+use Rattle.sf_plt.specs.Written.{plt_pair}
+use Rattle.sf_plt.proofs.Sorted.{lent_arch, lent_omitted, lent_step, none_chosen, omitted_count, omitted_on, omitted_stay, past, plts_on, plts_stay, table_chosen, within, written_on, written_stays}
 use Rattle.sf_plt.proofs.sorting.sort_out.Goals as goal
 use Rattle.sf_plt.proofs.sorting.sort_out.Goals.{in-Some+in_ok-add_table-in-Some, in-None+in_ok-push-in-None}
 
-pub add_table-requires-clause-machine : goal.add_table-requires-clause-machine
-add_table-requires-clause-machine c = lent_arch c.args.arch c.args.sources.now c.loop-index.index c.index-sources-index.result c.loop-index-test.true c.index-sources-index.is c.requires.machine
-
-pub bounds-omitted-index : goal.bounds-omitted-index
-bounds-omitted-index c =
-    let count = omitted_count (functions_lent c.args.sources.now) c.requires.left in
+-- a function for each line
+pub get-source-requires : goal.get-source-requires
+get-source-requires c =
+    let count = omitted_count c.args.sources.now.functions c.requires.left in
     let lines = ap length c.requires.omitted in
-    let long = length-map c.args.sources.now source_function in
-    let lt = c.loop-index-test.true in
-    omega (arith, count, lines, long, lt)
+    let lt = c.loop-number-test.true in
+    omega (arith, count, lines, lt)
 
-pub loop-index-preserved : goal.loop-index-preserved
-loop-index-preserved c =
-    let s = c.index-sources-index.result in
-    let f = source_function s in
-    let k = c.loop-index.index in
-    let fs = functions_lent (take k c.args.sources.now) in
-    let gs = functions_lent (take (k + 1) c.args.sources.now) in
-    let on = lent_step c.args.sources.now k s c.loop-index-test.true c.index-sources-index.is in
-    let inv = c.loop-index.invariant in
+pub add_table-requires-clause-machine : goal.add_table-requires-clause-machine
+add_table-requires-clause-machine c =
+    let fs = c.args.sources.now.functions in
+    let f = source_function c.get-source.result in
+    let lt = within fs c.args.omitted.now c.loop-number.number c.requires.left c.requires.omitted c.loop-number-test.true in
+    lent_arch c.args.arch fs c.loop-number.number f lt (c.get-source.ensures f) c.requires.machine
+
+pub loop-number-preserved : goal.loop-number-preserved
+loop-number-preserved c =
+    let f = source_function c.get-source.result in
+    let k = c.loop-number.number in
+    let lt = within c.args.sources.now.functions c.args.omitted.now k c.requires.left c.requires.omitted c.loop-number-test.true in
+    let fs = take k c.args.sources.now.functions in
+    let gs = take (k + 1) c.args.sources.now.functions in
+    let on = lent_step c.args.sources.now.functions k f lt (c.get-source.ensures f) in
+    let inv = c.loop-number.invariant in
     elim c.match-table_content.branch [
       | in-Some+in_ok-add_table-in-Some w ↦
           let t = table_chosen f w.in-Some.content c.table_content.result w.in-Some.is c.table_content.ensures in
           let done = w.in_ok-add_table-in-Some.ensures in
           record {
-            written = ap (λ (x : Sorted). x.written.items) w.sorted-is ∙ written_on c.args.kept.items c.loop-index.sorted.written.items w.add_table.new.self.written.items fs gs f on t done.written inv.written;
-            plts = ap (λ (x : Sorted). x.plts.items) w.sorted-is ∙ plts_on c.loop-index.sorted.plts.items w.add_table.new.self.plts.items fs gs f on t done.plts inv.plts;
-            omitted = ap (λ (x : Sorted). x.omitted.items) w.sorted-is ∙ ap (λ x. x.items) done.omitted ∙ omitted_stay c.loop-index.sorted.omitted.items fs gs f on t inv.omitted;
+            written = ap (λ (x : Sorted). x.written.items) w.sorted-is ∙ written_on c.args.kept.items c.loop-number.sorted.written.items w.add_table.new.self.written.items fs gs f on t done.written inv.written;
+            plts = ap (λ (x : Sorted). x.plts.items) w.sorted-is ∙ plts_on c.loop-number.sorted.plts.items w.add_table.new.self.plts.items fs gs f on t done.plts inv.plts;
+            omitted = ap (λ (x : Sorted). x.omitted.items) w.sorted-is ∙ ap (λ x. x.items) done.omitted ∙ omitted_stay c.loop-number.sorted.omitted.items fs gs f on t inv.omitted;
             sound = subst (λ (x : Sorted). All (IsWritable c.args.arch) x.written.items) (sym w.sorted-is) done.sound;
           }
       | in-None+in_ok-push-in-None w ↦
           let t = none_chosen f c.table_content.result w.in-None.is c.table_content.ensures in
           record {
-            written = ap (λ (x : Sorted). x.written.items) w.sorted-is ∙ written_stays c.args.kept.items c.loop-index.sorted.written.items fs gs f on t inv.written;
-            plts = ap (λ (x : Sorted). x.plts.items) w.sorted-is ∙ plts_stay c.loop-index.sorted.plts.items fs gs f on t inv.plts;
-            omitted = ap (λ (x : Sorted). x.omitted.items) w.sorted-is ∙ omitted_on c.loop-index.sorted.omitted.items w.push.new.self.items _ fs gs f on t w.in_ok-push-in-None.ensures.items
-                (lent_omitted c.args.sources.now c.args.omitted.now k s _ c.loop-index-test.true c.index-sources-index.is c.requires.left c.requires.omitted) inv.omitted;
+            written = ap (λ (x : Sorted). x.written.items) w.sorted-is ∙ written_stays c.args.kept.items c.loop-number.sorted.written.items fs gs f on t inv.written;
+            plts = ap (λ (x : Sorted). x.plts.items) w.sorted-is ∙ plts_stay c.loop-number.sorted.plts.items fs gs f on t inv.plts;
+            omitted = ap (λ (x : Sorted). x.omitted.items) w.sorted-is ∙ omitted_on c.loop-number.sorted.omitted.items w.push.new.self.items _ fs gs f on t w.in_ok-push-in-None.ensures.items
+                (lent_omitted c.args.sources.now.functions c.args.omitted.now k f _ lt (c.get-source.ensures f) c.requires.left c.requires.omitted) inv.omitted;
             sound = subst (λ (x : Sorted). All (IsWritable c.args.arch) x.written.items) (sym w.sorted-is) inv.sound;
           }
     ]
+
+-- each function was gone over
+pub returns-clause-written : goal.returns-clause-written
+returns-clause-written c =
+    let all = past c.args.sources.now.functions c.args.omitted.now c.loop-number.number c.requires.left c.requires.omitted c.loop-number-test.false in
+    c.loop-number.invariant.written ∙ ap (λ (fs : List Function). c.args.kept.items ++ flat_map plt_pair (filter is_plt fs)) all
+
+pub returns-clause-plts : goal.returns-clause-plts
+returns-clause-plts c =
+    let all = past c.args.sources.now.functions c.args.omitted.now c.loop-number.number c.requires.left c.requires.omitted c.loop-number-test.false in
+    c.loop-number.invariant.plts ∙ ap (λ (fs : List Function). map span_of (filter is_plt fs)) all
+
+pub returns-clause-omitted : goal.returns-clause-omitted
+returns-clause-omitted c =
+    let all = past c.args.sources.now.functions c.args.omitted.now c.loop-number.number c.requires.left c.requires.omitted c.loop-number-test.false in
+    c.loop-number.invariant.omitted ∙ ap (λ (fs : List Function). omitted_of (map entry_of (others_in fs))) all

@@ -3,16 +3,15 @@ use Rattle.std.specs.List.{filter, flat_map}
 use Rattle.sf_model.specs.Function.{IsWritable}
 use Rattle.sf_asm.specs.Entry.{omitted_of}
 use Rattle.sf_asm.specs.Kept.{entry_of}
-use Rattle.sf_asm.specs.Sources.{functions_lent}
 use Rattle.sf_plt.specs.Answers.{others_in, span_of}
 use Rattle.sf_plt.specs.Plt.{is_plt}
 use Rattle.sf_plt.specs.Written.{plt_pair}
 use Rattle.sf_plt.proofs.sorting.sort_out.Given as goal
 
-abbrev pub invariant-loop-index : goal.invariant-loop-index
-invariant-loop-index l = record {
-  written : l.sorted.written.items ≡ l.fn.kept.items ++ flat_map plt_pair (filter is_plt (functions_lent (take l.index l.sources)));
-  plts : l.sorted.plts.items ≡ map span_of (filter is_plt (functions_lent (take l.index l.sources)));
-  omitted : l.sorted.omitted.items ≡ omitted_of (map entry_of (others_in (functions_lent (take l.index l.sources))));
+abbrev pub invariant-loop-number : goal.invariant-loop-number
+invariant-loop-number l = record {
+  written : l.sorted.written.items ≡ l.fn.kept.items ++ flat_map plt_pair (filter is_plt (take l.number l.sources.functions));
+  plts : l.sorted.plts.items ≡ map span_of (filter is_plt (take l.number l.sources.functions));
+  omitted : l.sorted.omitted.items ≡ omitted_of (map entry_of (others_in (take l.number l.sources.functions)));
   sound : All (IsWritable l.arch) l.sorted.written.items;
 }

@@ -3,7 +3,7 @@ use Rattle.sf_verify.specs.Asking.{OmittedPassed}
 use Rattle.sf_verify.proofs.dwarf.pass_omitted.Given as goal
 
 abbrev pub invariant-loop-next : goal.invariant-loop-next
-invariant-loop-next l = OmittedPassed l.omitted l.next l.pc
+invariant-loop-next l = OmittedPassed l.omitted.functions l.next l.pc
 
 abbrev pub decreases-loop-next : goal.decreases-loop-next
-decreases-loop-next l = length l.omitted - l.next
+decreases-loop-next l = length l.omitted.functions - l.next

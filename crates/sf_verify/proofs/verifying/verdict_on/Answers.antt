@@ -2,8 +2,6 @@ use Rattle.std.specs.List.{filter}
 use Rattle.std.proofs.Common.{◌≡◌, List, Option, None, arith, length, ap, subst, ◌∙◌}
 use Rattle.sf_model.specs.declared.function.Func.{Func}
 use Rattle.sf_decode.specs.View.{table_of}
-use Rattle.sf_asm.specs.declared.source.Source.{Source}
-use Rattle.sf_asm.specs.Sources.{functions_lent}
 use Rattle.sf_verify.specs.declared.sweep.Difference.{Difference}
 use Rattle.sf_verify.specs.Agreement.{is_plain}
 use Rattle.sf_verify.specs.Asking.{answers_of, says}
@@ -24,13 +22,12 @@ returns c =
     let section = section_at (functions_in c.args.ordered.now) in
     let functions = (table_of c.args.view.now).functions in
     let kept_is : c.deref.result.now ≡ c.args.gathered.now.kept.items = c.deref.ensures.value in
-    let sources_are : c.deref-2.result.now ≡ c.args.gathered.now.sources.items = c.deref-2.ensures.value in
-    let answers : says c.new-dwarf.result ≡ answers_of c.args.gathered.now.kept.items (functions_lent c.args.gathered.now.sources.items) =
-    c.new-dwarf.ensures.says ∙ ap (λ (ks : List Func). answers_of ks (functions_lent c.deref-2.result.now)) kept_is ∙ ap (λ (ss : List Source). answers_of c.args.gathered.now.kept.items (functions_lent ss)) sources_are in
+    let answers : says c.new-dwarf.result ≡ answers_of c.args.gathered.now.kept.items c.args.gathered.now.sources.functions =
+    c.new-dwarf.ensures.says ∙ ap (λ (ks : List Func). answers_of ks c.args.gathered.now.sources.functions) kept_is in
     let none = subst (λ (d : Option Difference). ComparesAll section (says c.new-dwarf.result) d) c.in_default.is c.in_ok-difference.ensures in
     record {
       agree = subst (λ (q : Answers). ComparesAll section q None) answers none;
       checked_are = c.count_plain-checked.ensures;
-      missing_are = c.count_missing.ensures ∙ ap (λ (ks : List Func). length (filter (is_absent (functions_in c.args.ordered.now)) ks)) c.deref-3.ensures.value;
+      missing_are = c.count_missing.ensures ∙ ap (λ (ks : List Func). length (filter (is_absent (functions_in c.args.ordered.now)) ks)) c.deref-2.ensures.value;
       repeats_are = rest_are is_plain functions c.count_plain-checked.result c.len.result c.count_plain-checked.ensures c.len.ensures.value;
     }

@@ -1,0 +1,167 @@
+//! Omitted functions, lent as their records describe them.
+
+ghost use Rattle.std.specs.Prelude.{◌≡◌, ◌≤◌, ◌+◌, ◌^◌, ◌++◌, [], ◌∷◌, IfOk, IfErr, OnOk, IsTrue, Some, is_ok, true};
+ghost use Rattle.sf_bytes.specs.Cursor.{cursor};
+ghost use Rattle.sf_model.specs.Function.{key_fits};
+ghost use Rattle.cfa_insn.specs.Listing.{listing};
+ghost use Rattle.cfa_machine.specs.Initial.{IsInitial};
+ghost use Rattle.cfa_machine.specs.Pass.{rows_by};
+ghost use Rattle.eh_records.specs.Cie.{cie_view};
+ghost use Rattle.eh_records.specs.Fde.{fde_view};
+ghost use Rattle.eh_records.specs.Named.{HasNamed};
+ghost use Rattle.sf_asm.specs.declared.fault.AsmFault.TheVariants.{NoMemory};
+ghost use Rattle.sf_asm.specs.Initials.{AreInitial};
+ghost use Rattle.sf_asm.specs.Numbers.{AreNumbered, IsNumberOf};
+ghost use Rattle.sf_asm.specs.Sources.{common_of, common_view, function_by_span, if_left};
+
+use crate::entry::{Entry, Outcome};
+use crate::fault::AsmFault;
+use crate::frames::CallFrameSection;
+use crate::initials::{InitialInstructions, Initials};
+use crate::numbers::CommonNumbers;
+use crate::source::{CommonPart, SourceItem};
+use crate::sources::Sources;
+use cfa_machine::{Columns, MachineFault};
+use eh_records::{Cie, Fde};
+use sf_model::{Arch, Span};
+
+/// Returns what the functions of a common information entry share.
+#[inline(always)]
+fn common_part<'a>(arch: Arch, cie: &Cie<'a>, row: Columns) -> CommonPart<'a>
+    requires key { IsTrue (key_fits arch cie.now.key) }
+    requires given { IsInitial arch cie.now.factor (listing (cursor cie.now.insns)) row }
+    ensures { common_view result ≡ common_of arch (cie_view cie.now) }
+{
+    CommonPart {
+        arch,
+        column: cie.column,
+        signal: cie.signal,
+        key: cie.key,
+        code: cie.code,
+        factor: cie.factor,
+        initial: cie.insns,
+        row,
+    }
+}
+
+/// Adds what the functions of a function's common information entry share, and returns its number. Each of the
+/// function's instructions was run.
+fn add_common<'a>(
+    section: &CallFrameSection<'a>,
+    fde: &Fde<'a>,
+    span: Span,
+    initials: &mut Initials,
+    numbers: &mut CommonNumbers,
+    sources: &mut Sources<'a>,
+) -> Result<u32, AsmFault>
+    requires key { IsTrue (key_fits section.now.arch fde.now.cie.key) }
+    requires initials { AreInitial section.now.arch section.now.bytes.now initials.old }
+    requires named { HasNamed section.now.arch section.now.bytes.now (fde_view fde.now) }
+    requires ran { is_ok (rows_by section.now.arch fde.now.cie.code fde.now.cie.factor span.size (listing (cursor fde.now.cie.insns)) (listing (cursor fde.now.insns))) ≡ true }
+    requires numbered { AreNumbered section.now.arch section.now.bytes.now numbers.old sources.old.common }
+    ensures initials { OnOk result (AreInitial section.now.arch section.now.bytes.now initials.new) }
+    ensures numbered { OnOk result (AreNumbered section.now.arch section.now.bytes.now numbers.new sources.new.common) }
+    ensures number { IfOk result (IsNumberOf sources.new.common (Some (common_of section.now.arch (cie_view fde.now.cie)))) }
+    ensures functions { OnOk result (sources.new.functions ≡ sources.old.functions) }
+    ensures refused { IfErr result (λ fault. fault ≡ NoMemory) }
+{
+    let cie = &fde.cie;
+    match initials.find(section, InitialInstructions::of(cie)) {
+        Ok(()) => {}
+        Err(MachineFault::NoMemory) => return Err(AsmFault::NoMemory),
+        Err(_) => unreachable!(),
+    }
+    let number = sources.add_common(common_part(section.arch, cie, *initials.row()))?;
+    numbers.insert(cie.place, number)?;
+    Ok(number)
+}
+
+/// Finds the number of what the functions of a function's common information entry share. It is added if it isn't there.
+#[inline(always)]
+fn common_number<'a>(
+    section: &CallFrameSection<'a>,
+    fde: &Fde<'a>,
+    span: Span,
+    initials: &mut Initials,
+    numbers: &mut CommonNumbers,
+    sources: &mut Sources<'a>,
+) -> Result<u32, AsmFault>
+    requires key { IsTrue (key_fits section.now.arch fde.now.cie.key) }
+    requires initials { AreInitial section.now.arch section.now.bytes.now initials.old }
+    requires named { HasNamed section.now.arch section.now.bytes.now (fde_view fde.now) }
+    requires ran { is_ok (rows_by section.now.arch fde.now.cie.code fde.now.cie.factor span.size (listing (cursor fde.now.cie.insns)) (listing (cursor fde.now.insns))) ≡ true }
+    requires numbered { AreNumbered section.now.arch section.now.bytes.now numbers.old sources.old.common }
+    ensures initials { OnOk result (AreInitial section.now.arch section.now.bytes.now initials.new) }
+    ensures numbered { OnOk result (AreNumbered section.now.arch section.now.bytes.now numbers.new sources.new.common) }
+    ensures number { IfOk result (IsNumberOf sources.new.common (Some (common_of section.now.arch (cie_view fde.now.cie)))) }
+    ensures functions { OnOk result (sources.new.functions ≡ sources.old.functions) }
+    ensures refused { IfErr result (λ fault. fault ≡ NoMemory) }
+{
+    match numbers.get(fde.cie.place) {
+        Some(number) => Ok(number),
+        None => add_common(section, fde, span, initials, numbers, sources),
+    }
+}
+
+/// Lends a function as its records describe it, each of whose instructions was run.
+#[inline(always)]
+fn lend_source<'a>(
+    section: &CallFrameSection<'a>,
+    fde: &Fde<'a>,
+    span: Span,
+    initials: &mut Initials,
+    numbers: &mut CommonNumbers,
+    sources: &mut Sources<'a>,
+) -> Result<(), AsmFault>
+    requires key { IsTrue (key_fits section.now.arch fde.now.cie.key) }
+    requires initials { AreInitial section.now.arch section.now.bytes.now initials.old }
+    requires named { HasNamed section.now.arch section.now.bytes.now (fde_view fde.now) }
+    requires end { span.start + span.size ≤ 2 ^ 64 }
+    requires ran { is_ok (rows_by section.now.arch fde.now.cie.code fde.now.cie.factor span.size (listing (cursor fde.now.cie.insns)) (listing (cursor fde.now.insns))) ≡ true }
+    requires numbered { AreNumbered section.now.arch section.now.bytes.now numbers.old sources.old.common }
+    ensures initials { OnOk result (AreInitial section.now.arch section.now.bytes.now initials.new) }
+    ensures numbered { OnOk result (AreNumbered section.now.arch section.now.bytes.now numbers.new sources.new.common) }
+    ensures lent { OnOk result (sources.new.functions ≡ sources.old.functions ++ function_by_span section.now.arch fde.now span ∷ []) }
+    ensures refused { IfErr result (λ fault. fault ≡ NoMemory) }
+{
+    let common = common_number(section, fde, span, initials, numbers, sources)?;
+    sources.push(SourceItem {
+        start: span.start,
+        size: span.size,
+        own: fde.insns,
+        origin: span.origin,
+        common,
+    })?;
+    Ok(())
+}
+
+/// Lends a function where it is omitted and the functions are to be lent.
+#[inline(always)]
+pub fn lend<'a>(
+    section: &CallFrameSection<'a>,
+    fde: &Fde<'a>,
+    entry: &Entry,
+    lending: bool,
+    initials: &mut Initials,
+    numbers: &mut CommonNumbers,
+    sources: &mut Sources<'a>,
+) -> Result<(), AsmFault>
+    requires key { IsTrue (key_fits section.now.arch fde.now.cie.key) }
+    requires initials { AreInitial section.now.arch section.now.bytes.now initials.old }
+    requires named { HasNamed section.now.arch section.now.bytes.now (fde_view fde.now) }
+    requires end { entry.now.span.start + entry.now.span.size ≤ 2 ^ 64 }
+    requires ran { is_ok (rows_by section.now.arch fde.now.cie.code fde.now.cie.factor entry.now.span.size (listing (cursor fde.now.cie.insns)) (listing (cursor fde.now.insns))) ≡ true }
+    requires numbered { AreNumbered section.now.arch section.now.bytes.now numbers.old sources.old.common }
+    ensures initials { OnOk result (AreInitial section.now.arch section.now.bytes.now initials.new) }
+    ensures numbered { OnOk result (AreNumbered section.now.arch section.now.bytes.now numbers.new sources.new.common) }
+    ensures lent { OnOk result (IsTrue lending → sources.new.functions ≡ sources.old.functions ++ if_left entry.now.outcome (function_by_span section.now.arch fde.now entry.now.span)) }
+    ensures refused { IfErr result (λ fault. fault ≡ NoMemory) }
+{
+    if !lending {
+        return Ok(());
+    }
+    if let Outcome::Left(_) = entry.outcome {
+        lend_source(section, fde, entry.span, initials, numbers, sources)?;
+    }
+    Ok(())
+}
