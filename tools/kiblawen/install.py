@@ -39,12 +39,13 @@ def absolute(folder, start):
 
 
 class Installation:
-    """The folders that files are put into, below DESTDIR where it is given."""
+    """The folders that files are put into, below DESTDIR where it is given. `named` is the prefix in the pkg-config file."""
 
-    def __init__(self, prefix, libdir, root):
+    def __init__(self, prefix, libdir, root, named=None):
         self.prefix = absolute(prefix or "/usr/local", here())
         self.prefix = self.prefix[:-1] if self.prefix.endswith("/") else self.prefix
         self.libdir = absolute(libdir or "lib", self.prefix)
+        self.named = named or self.prefix
         self.root = absolute(root, here()) if root else ""
 
     def put(self, mode, path, folder, name=None):
@@ -73,7 +74,7 @@ class Installation:
         is_below = self.libdir.startswith(f"{self.prefix}/")
         named = f"${{prefix}}{self.libdir[len(self.prefix):]}" if is_below else self.libdir
         with open(f"{folder}/kiblawen.pc", "w", encoding="utf-8", errors="surrogateescape") as file:
-            file.write(PKG_CONFIG.format(prefix=self.prefix, libdir=named, version=version))
+            file.write(PKG_CONFIG.format(prefix=self.named, libdir=named, version=version))
         os.chmod(f"{folder}/kiblawen.pc", 0o644)
 
 

@@ -29,9 +29,9 @@ def find(module, tool=None, has_to_be_new=False):
     return BUILT
 
 
-def newer_source():
-    """A source that is newer than the program that was built."""
-    built = os.path.getmtime(BUILT)
+def newer_source(path=BUILT):
+    """A source that is newer than the program or the library that was built."""
+    built = os.path.getmtime(path)
     for folder, folders, files in os.walk(common.at_top("crates")):
         folders[:] = [name for name in folders if name != "out"]
         for name in files:

@@ -1,0 +1,192 @@
+"""Makes the Debian packages of a release. `./x release` calls it."""
+
+import hashlib
+import os
+import re
+import shutil
+import subprocess
+import time
+
+from kiblawen import common, staging
+
+MAINTAINER = "Kiblawen maintainers <maintainers@users.noreply.kiblawen.example>"
+# A package's version is that of the release, and this number of its packaging.
+REVISION = "1"
+# dpkg's names for the two machines, and the folders of their libraries below /usr/lib.
+ARCHITECTURES = {"amd64": ("amd64", "x86_64-linux-gnu"), "aarch64": ("arm64", "aarch64-linux-gnu")}
+LICENSES = ("LICENSE-MIT", "LICENSE-APACHE")
+CHANGELOG = """{name} ({version}) unstable; urgency=medium
+
+  * Kiblawen {number}, of the commit
+    {commit}.
+
+ -- {maintainer}  {date}
+"""
+COPYRIGHT = """Format: https://www.debian.org/doc/packaging-manuals/copyright-format/1.0/
+Upstream-Name: Kiblawen
+
+Files: *
+Copyright: {copyright}
+License: MIT or Apache-2.0
+
+License: MIT
+{mit}
+
+License: Apache-2.0
+ The text is /usr/share/common-licenses/Apache-2.0.
+"""
+# What lintian would report, and why it is so.
+OVERRIDES = """# This package is not in Debian's archive.
+{name}: initial-upload-closes-no-bugs *
+"""
+TOOL_OVERRIDES = """# The program's bytes are those that the gate built and tested, so that they can be compared. It has no debug information.
+kiblawen: unstripped-binary-or-object *
+# The pages refer to it by this name.
+kiblawen: wrong-name-for-upstream-changelog *
+"""
+TOOL = """Package: kiblawen
+Section: devel
+Multi-Arch: foreign
+Depends: {needs}
+Recommends: binutils
+Description: proved tool for SFrame Version 2 stack trace tables
+ sf_tool makes SFrame tables from the .eh_frame sections that AMD64 and
+ AArch64 programs, shared objects and relocatable objects carry. Profilers,
+ crash reporters and kernels walk stacks with such a table, without frame
+ pointers and without an interpreter of DWARF.
+ .
+ It is proved for every input that a table recovers what DWARF recovers.
+ sf_tool also merges, shortens, prints, searches and verifies tables, and
+ walks the threads of core files with them.
+"""
+LIBRARY = """Package: libkiblawen-dev
+Section: libdevel
+Multi-Arch: same
+Suggests: kiblawen
+Description: look-ups and walks with SFrame stack trace tables, for C and C++
+ The library checks an SFrame Version 2 section once. Then it looks up
+ addresses, recovers a caller's frame, and walks samples: registers and a
+ copy of part of the stack. It allocates nothing.
+ .
+ It is proved what each call returns and writes, for all sections, registers
+ and memory, if the caller meets the header's conditions. The package has the
+ static library, the header and the pkg-config file.
+"""
+# Each has its fields, and the files that it takes of those that no earlier one took.
+PACKAGES = ((LIBRARY, re.compile("usr/(include|lib)/")), (TOOL, re.compile("")))
+
+
+def pack(path):
+    with open(path, "rb") as file:
+        staging.write_packed(f"{path}.gz", file.read())
+    os.remove(path)
+
+
+def copyright_text():
+    with open(common.at_top("LICENSE-MIT"), encoding="utf-8") as file:
+        text = file.read()
+    holder = re.search(r"(?m)^Copyright \(c\) (.*)$", text)[1]
+    mit = "\n".join(f" {line}" if line else " ." for line in text.strip().splitlines())
+    return COPYRIGHT.format(copyright=holder, mit=mit)
+
+
+def is_script(path):
+    with open(path, "rb") as file:
+        return bool(re.match(rb"#!.*python3", file.readline()))
+
+
+class Package:
+    """A package that is made in a folder: its files, what dpkg wants to know of them, and the note of the release."""
+
+    def __init__(self, release, fields, root):
+        self.release, self.fields, self.root = release, fields, root
+        self.name = re.match(r"Package: (\S+)", fields)[1]
+        self.version = f"{release.version}-{REVISION}"
+        self.architecture = ARCHITECTURES[release.machine][0]
+
+    def take(self, stage, wanted):
+        """Moves the files that it takes from the folder where all are."""
+        for name in staging.names_below(stage):
+            if wanted.match(name):
+                os.renames(os.path.join(stage, name), os.path.join(self.root, name))
+
+    def needs(self):
+        """The packages that its files need: glibc of the program's version, and Python if there is a script in Python."""
+        folder = os.path.join(self.root, "usr/bin")
+        scripts = [name for name in os.listdir(folder) if is_script(os.path.join(folder, name))]
+        glibc = self.release.glibc
+        return ", ".join(([f"libc6 (>= {glibc})"] if glibc else []) + (["python3 (>= 3.8)"] if scripts else []))
+
+    def changelog(self):
+        values = {"name": self.name, "version": self.version, "number": self.release.version, "commit": self.release.commit}
+        date = time.strftime("%a, %d %b %Y %H:%M:%S +0000", time.gmtime(self.release.date))
+        return CHANGELOG.format(maintainer=MAINTAINER, date=date, **values)
+
+    def add_documents(self, note):
+        """Adds the documents that each Debian package has."""
+        documents = os.path.join(self.root, "usr/share/doc", self.name)
+        staging.write_packed(os.path.join(documents, "changelog.Debian.gz"), self.changelog().encode())
+        staging.write(os.path.join(documents, "copyright"), copyright_text())
+        staging.write(os.path.join(documents, "RELEASE.txt"), note)
+        has_tool = os.path.exists(os.path.join(self.root, "usr/bin/sf_tool"))
+        overrides = OVERRIDES.format(name=self.name) + (TOOL_OVERRIDES if has_tool else "")
+        staging.write(os.path.join(self.root, "usr/share/lintian/overrides", self.name), overrides)
+
+    def follow_policy(self):
+        """Compresses the man pages, and drops the licences, which the file `copyright` has."""
+        for name in staging.names_below(self.root):
+            if os.path.basename(name) in LICENSES:
+                os.remove(os.path.join(self.root, name))
+            elif re.match(r"usr/share/man/.*[0-9]$", name):
+                pack(os.path.join(self.root, name))
+
+    def add_control(self):
+        names = staging.names_below(self.root)
+        paths = [os.path.join(self.root, name) for name in names]
+        sums = "".join(f"{staging.digest(path, hashlib.md5)}  {name}\n" for path, name in zip(paths, names))
+        size = sum(-(-os.path.getsize(path) // 1024) for path in paths)
+        first, rest = self.fields.split("\n", 1)
+        own = f"Version: {self.version}\nArchitecture: {self.architecture}\nMaintainer: {MAINTAINER}\nInstalled-Size: {size}\nPriority: optional\n"
+        rest = rest.replace("{needs}", self.needs() if "{needs}" in rest else "")
+        staging.write(os.path.join(self.root, "DEBIAN/md5sums"), sums)
+        staging.write(os.path.join(self.root, "DEBIAN/control"), f"{first}\n{own}{rest}")
+
+    def make(self, to):
+        """Writes the package by dpkg-deb. Returns its pathname."""
+        staging.settle(self.root, self.release.date)
+        path = os.path.join(to, f"{self.name}_{self.version}_{self.architecture}.deb")
+        words = ["dpkg-deb", "-Zxz", "--root-owner-group", "--build", self.root, path]
+        how = {"env": {**os.environ, "SOURCE_DATE_EPOCH": str(self.release.date)}, "stdout": subprocess.DEVNULL}
+        if common.status_of(words, **how):
+            common.fail("release", f"dpkg-deb did not make {os.path.basename(path)}")
+        return path
+
+
+def make_all(release, note, room, to):
+    """Makes the packages. Returns their pathnames: none, with a line, if this machine has no dpkg-deb."""
+    if not shutil.which("dpkg-deb"):
+        print("release: no packages were made: this machine has no dpkg-deb")
+        return []
+    stage = os.path.join(room, "stage")
+    staging.installed(stage, "/usr", f"lib/{ARCHITECTURES[release.machine][1]}")
+    made = []
+    for fields, wanted in PACKAGES:
+        package = Package(release, fields, os.path.join(room, "packages", str(len(made))))
+        package.take(stage, wanted)
+        package.follow_policy()
+        package.add_documents(note)
+        package.add_control()
+        made.append(package.make(to))
+    return made
+
+
+def lint(packages):
+    """Has lintian read the packages, if this machine has it. Returns 1 if it reports an error."""
+    if not packages:
+        return 0
+    if not shutil.which("lintian"):
+        print("release: the packages were not read by lintian: this machine has none")
+        return 0
+    failed = common.status_of(["lintian", "--allow-root", "--fail-on", "error", *packages]) != 0
+    print(f"release: the packages were read by lintian: {'FAILED' if failed else 'no error'}")
+    return int(failed)

@@ -1,0 +1,157 @@
+"""Makes the files of a release from what the gate has built: a tarball, Debian packages, a note and checksums.
+
+    ./x release
+
+The files are in dist/, which is emptied first: kiblawen-VERSION-linux-MACHINE.tar.gz, the packages kiblawen and libkiblawen-dev,
+kiblawen-VERSION.txt, which is the note, and SHA256SUMS. First run the gate, or `sh demo/run`. The tree has to be as it was committed.
+
+A commit that has the tag vVERSION is that version. Any other one is VERSION+gitDATE.COMMIT. All bytes come from the commit and from what
+was built: times are the commit's, the owner is root, names are in order. Packages need dpkg-deb. Without it they are omitted.
+If this machine has lintian, it reads the packages, and the status is 1 if it reports an error. `./x stranger` tries the files.
+"""
+
+import glob
+import os
+import re
+import shutil
+import tempfile
+import time
+
+from kiblawen import clauses, closure, common, debian, definitions, elf, program, staging
+
+DIST = common.at_top("dist")
+# The toolchain's line, as README has it, and the digits of the logic in it.
+KIT = re.compile(r"`(\S+ logic ([0-9a-f]+))`")
+NOTE = """Kiblawen {version}, for Linux on {machine}
+
+commit          {commit}
+date            {day}
+toolchain       {kit}
+sf_tool         sha256 {program}
+libkiblawen.a   sha256 {library}
+sf_tool needs   {needs}
+
+{functions:,} public functions have {clauses:,} clauses: theorems about each of their calls, over {definitions:,} definitions. The prover has to
+refuse {edits:,} wrong bodies. These are counted in the sources of this commit. README.md has the claim, and docs/proof.md what is
+trusted: both are in share/doc/kiblawen. This note, the packages and the scripts that make them are not proved.
+"""
+UNPACKED = """
+bin, include, lib and share work in any folder. Add bin to PATH, share/man to MANPATH and lib/pkgconfig to PKG_CONFIG_PATH.
+"""
+
+
+def git(*words):
+    found = common.output("git", "-C", common.TOP, *words)
+    if found is None:
+        common.fail(__name__, f"git {words[0]} failed: a release is made in a clone of the repository")
+    return found.strip()
+
+
+def kit():
+    """The toolchain's line in README, and the logic that it names."""
+    with open(common.at_top("README.md"), encoding="utf-8") as file:
+        found = KIT.search(file.read())
+    if not found:
+        common.fail(__name__, "README.md does not name the toolchain")
+    return found[1], found[2]
+
+
+class Release:
+    """The commit that is released, its version and date, and the machine of the program that was built."""
+
+    def __init__(self):
+        self.commit, self.date = git("rev-parse", "HEAD"), int(git("log", "-1", "--format=%ct"))
+        self.machine = elf.machine(program.BUILT)
+        self.day = time.strftime("%Y-%m-%d", time.gmtime(self.date))
+        number = common.version()
+        is_tagged = f"v{number}" in git("tag", "--points-at", "HEAD").split()
+        self.version = number if is_tagged else f"{number}+git{self.day.replace('-', '')}.{self.commit[:8]}"
+        self.glibc = glibc_of(program.BUILT)
+
+
+def glibc_of(path):
+    """The least version of glibc that a program runs with, or None if it needs no shared one."""
+    with open(path, "rb") as file:
+        found = re.findall(rb"\0GLIBC_(\d+)\.(\d+)", file.read())
+    return ".".join(map(str, max((int(major), int(minor)) for major, minor in found))) if found else None
+
+
+def public_functions():
+    """The public functions that have clauses, as on the page of clauses."""
+    for crate in definitions.crates():
+        names = clauses.exported(crate)
+        for path in glob.glob(common.at_top("crates", crate, "src", "*.rt")):
+            yield from (it for it in clauses.Source(path, names).functions if it.clauses)
+
+
+def note(release):
+    functions = list(public_functions())
+    return NOTE.format(
+        version=release.version,
+        machine=release.machine,
+        commit=release.commit,
+        day=release.day,
+        kit=kit()[0],
+        program=staging.digest(program.BUILT),
+        library=staging.digest(program.LIBRARY),
+        needs=f"glibc {release.glibc} or later" if release.glibc else "nothing",
+        functions=len(functions),
+        clauses=sum(len(it.clauses) for it in functions),
+        definitions=len(closure.Definitions().lines),
+        edits=len(glob.glob(common.at_top("crates", "*", "must-fail", "*.edit"))),
+    )
+
+
+def check_tree():
+    """Ends the command if the tree differs from its commit."""
+    changed = git("status", "--porcelain").splitlines()
+    if changed:
+        others = f", and {len(changed) - 1} more" if len(changed) > 1 else ""
+        common.fail(__name__, f"the tree is not as it was committed: {changed[0].strip()}{others}")
+
+
+def check_built():
+    """Ends the command if the program or the library is missing, older than a source, or made by another toolchain."""
+    program.find(__name__, has_to_be_new=True)
+    if not os.access(program.LIBRARY, os.R_OK):
+        common.fail(__name__, f"there is no {program.LIBRARY}: `sh demo/run` builds it")
+    newer = program.newer_source(program.LIBRARY)
+    if newer:
+        common.fail(__name__, f"{newer} is newer than {program.LIBRARY}: build it again")
+    logic = kit()[1]
+    for path in (program.BUILT, program.LIBRARY):
+        with open(path, "rb") as file:
+            if f"rattle logic={logic}".encode() not in file.read():
+                common.fail(__name__, f"{path} was not made by the toolchain that README.md names (logic {logic})")
+
+
+def make_tarball(release, text, room):
+    root = os.path.join(room, "tarball")
+    staging.installed(root, "/", "lib", "${pcfiledir}/../..")
+    staging.write(os.path.join(root, "RELEASE.txt"), text + UNPACKED)
+    staging.settle(root, release.date)
+    name = f"kiblawen-{release.version}-linux-{release.machine}"
+    staging.write_tar(os.path.join(DIST, f"{name}.tar.gz"), root, name, release.date)
+
+
+def write_sums():
+    lines = [f"{staging.digest(os.path.join(DIST, name))}  {name}\n" for name in staging.names_below(DIST)]
+    staging.write(os.path.join(DIST, "SHA256SUMS"), "".join(lines))
+
+
+def main(words):
+    common.parser(__name__, __doc__).parse_args(words)
+    check_tree()
+    check_built()
+    release = Release()
+    text = note(release)
+    shutil.rmtree(DIST, ignore_errors=True)
+    os.makedirs(DIST)
+    with tempfile.TemporaryDirectory() as room:
+        make_tarball(release, text, room)
+        packages = debian.make_all(release, text, room, DIST)
+    staging.write(os.path.join(DIST, f"kiblawen-{release.version}.txt"), text)
+    write_sums()
+    for name in staging.names_below(DIST):
+        print(f"{os.path.getsize(os.path.join(DIST, name)):9,} dist/{name}")
+    return debian.lint(packages)

@@ -1,0 +1,273 @@
+"""Installs each file of dist/ in a Debian root of its own, without a Rattle toolchain, and uses it there as a stranger would.
+
+    ./x stranger            the root is made by debootstrap, with a C compiler, binutils and pkg-config
+    ./x stranger ROOT       the root is a copy of this one, such as debootstrap made; tried with Debian 12 and 13
+
+First run `./x release`. It needs the rights of root for chroot, and gdb and a C compiler for a core file. The copies of a root are links
+to its files, in a temporary folder beside it, so they take little room. ROOT gets lines in dpkg's log.
+
+The package kiblawen: README's example, and procwalk on a core file that is copied in, beside gdb; then it is removed.
+The package libkiblawen-dev: the program of docs/library.md, built by pkg-config, walks a sample with a table that is copied in.
+The tarball: README's example, and example/walk-self.c, built by pkg-config, walks its own stack beside backtrace().
+At last a clone in another folder makes the same release from the same program and library: the checksums are the same.
+
+The last line is `N passed, M failed, K skipped`. The status is 1 if a part failed.
+"""
+
+import glob
+import os
+import re
+import shutil
+import subprocess
+import sys
+import tempfile
+
+from kiblawen import common, processes, program, release, staging
+
+SUITE = "bookworm"
+DEBOOTSTRAP = ["debootstrap", "--variant=minbase", "--include=gcc,libc6-dev,binutils,pkgconf", SUITE]
+PATH = "/usr/sbin:/usr/bin:/sbin:/bin"
+# Where the tarball is unpacked, in a root.
+TARBALL = "/try/kiblawen"
+# How a command is begun in a root, and with /proc there. That is mounted for this command alone.
+CHROOT = ("chroot",)
+WITH_PROC = ("unshare", "--mount", "sh", "-c", 'mount -t proc proc "$0/proc" && exec chroot "$0" "$@"')
+# Adds to FILE, below with/, the table of FILE: as the tutorial does it.
+WITH = """
+mkdir -p with
+for file in FILES; do
+    end=$(readelf -lW $file | awk '$1 == "LOAD" { end = $3 "+" $6 } END { print end }')
+    at=$(printf 0x%x $((($end + 4095) / 4096 * 4096)))
+    sf_tool link $file.sframe@$at $file@0x0 >$file.report
+    objcopy --add-section .sframe=$file.sframe --set-section-flags .sframe=alloc,readonly,data --change-section-address .sframe=$at $file with/$file 2>warnings
+done
+"""
+SORTS = """
+#include <stdlib.h>
+static int less(const void *a, const void *b) { __builtin_trap(); return a < b; }
+int main(void)
+{
+    int numbers[8] = { 8, 7, 6, 5, 4, 3, 2, 1 };
+    qsort(numbers, 8, sizeof *numbers, less);
+    return numbers[0];
+}
+"""
+# Walks a sample whose stack holds one value, with the function of docs/library.md.
+WALKS = """
+#include <stdlib.h>
+int main(int argc, char **argv)
+{
+    static uint8_t bytes[1 << 20];
+    FILE *file = argc == 5 ? fopen(argv[1], "rb") : NULL;
+    if (file == NULL)
+        return 1;
+    size_t len = fread(bytes, 1, sizeof bytes, file);
+    uint64_t top = strtoull(argv[4], NULL, 0);
+    struct kiblawen_sample sample = {
+        .pc = strtoull(argv[3], NULL, 0), .sp = 0x1000,
+        .stack = (const uint8_t *)&top, .stack_len = sizeof top, .stack_start = 0x1000,
+    };
+    print_frames(bytes, len, strtoull(argv[2], NULL, 0), &sample);
+    return 0;
+}
+"""
+WALK_SELF = """
+cc -std=gnu11 -O1 $(pkg-config --cflags kiblawen) -o walk-self walk-self.c $(pkg-config --libs kiblawen)
+mkdir tables
+for file in ./walk-self $(ldd ./walk-self | awk '$2 == "=>" { print $3 } $1 ~ /^\\// { print $1 }'); do
+    end=$(readelf -lW $file | awk '$1 == "LOAD" { end = $3 "+" $6 } END { print end }')
+    sf_tool link tables/${file##*/}.sframe@$(printf 0x%x $((($end + 4095) / 4096 * 4096))) $file@0x0 >report
+done
+./walk-self tables samples
+"""
+
+
+class Tries:
+    """What was tried, with a line for each."""
+
+    def __init__(self):
+        self.passed = self.failed = self.skipped = 0
+
+    def check(self, name, passed, said=""):
+        self.passed += bool(passed)
+        self.failed += not passed
+        print(f"{'ok' if passed else 'FAILED'}  {name}", flush=True)
+        if said and not passed:
+            print("\n".join(f"        {line}" for line in said.splitlines()[-20:]), flush=True)
+        return passed
+
+    def skip(self, name, why):
+        self.skipped += 1
+        print(f"skipped  {name}: {why}", flush=True)
+
+
+class Root:
+    """A root of its own, in which scripts run in the folder /try."""
+
+    def __init__(self, base, path):
+        self.path, self.room = path, f"{path}/try"
+        if common.status_of(["cp", "-al", base, path]):
+            common.fail(__name__, f"{base} cannot be copied")
+        os.makedirs(self.room)
+        self.environment = {"PATH": PATH, "HOME": "/root", "LC_ALL": "C"}
+
+    def copy(self, *paths):
+        for path in paths:
+            shutil.copy(path, self.room)
+
+    def run(self, script, begin=CHROOT):
+        """Returns the exit status and what the script prints on both streams."""
+        words = [*begin, self.path, "sh", "-euc", f"cd /try\n{script}"]
+        how = {"stdin": subprocess.DEVNULL, "stdout": subprocess.PIPE, "stderr": subprocess.STDOUT}
+        ran = subprocess.run(words, env=self.environment, timeout=common.SECONDS, check=False, **how)
+        return ran.returncode, ran.stdout.decode(errors="replace")
+
+    def ends_well(self, script, begin=CHROOT):
+        """Whether the script ends with 0, and what it prints."""
+        status, said = self.run(script, begin)
+        return status == 0, said
+
+    def has_toolchain(self):
+        return self.ends_well("command -v rt")[0]
+
+
+def block(page, heading, kind=""):
+    """The lines of the first fenced block of this kind after a heading of a page."""
+    with open(common.at_top(page), encoding="utf-8") as file:
+        text = file.read()
+    return re.search(rf"(?ms)^{heading}$.*?^```{kind}\n(.*?)^```", text)[1].splitlines()
+
+
+def example():
+    """README's example: a script, and what it prints. `cat FILE` there makes the file of the lines that follow."""
+    script, prints, source = [], [], None
+    for line in block("README.md", "## An example"):
+        if line.startswith("$ "):
+            script += ["END"] if source else []
+            source = re.fullmatch(r"\$ cat (\S+)", line)
+            script.append(f"cat >{source[1]} <<'END'" if source else line[2:])
+        else:
+            (script if source else prints).append(line)
+    return "\n".join(script) + "\necho $at >at\n", "\n".join(prints) + "\n"
+
+
+def without_numbers(text):
+    """A report without the numbers of sections, which depend on the linker."""
+    return re.sub(r"section \d+", "section", text)
+
+
+def try_example(tries, root, name):
+    script, prints = example()
+    status, said = root.run(script)
+    passed = status == 0 and without_numbers(said) == without_numbers(prints)
+    tries.check(f"{name}: README's example prints what README shows", passed, f"status {status}\n{said}")
+
+
+def try_procwalk(tries, root, name, room):
+    """A core file of this machine, walked in the root with the tables of the files that the process had mapped."""
+    sorts = os.path.join(room, "sorts")
+    library = os.path.realpath((common.output("cc", "-print-file-name=libc.so.6") or "").strip()) if shutil.which("cc") else ""
+    core, peers = processes.stopped(sorts) if shutil.which("gdb") and library and processes.compiled(SORTS, sorts) else (None, {})
+    if core is None:
+        tries.skip(f"{name}: procwalk", "there is no gdb with a C compiler here that makes a core file")
+        return
+    root.copy(core, sorts, library)
+    status, said = root.run(WITH.replace("FILES", f"sorts {os.path.basename(library)}") + "sf_tool procwalk sorts.core 64 with/*")
+    frames = [int(it, 16) for it in re.findall(r"#\d+ pc (0x\w+)", said)]
+    for peer, theirs in peers.items():
+        passed = status == 0 and frames == theirs != []
+        tries.check(f"{name}: procwalk lists the {len(theirs)} frames of {peer}", passed, f"status {status}\n{said}")
+
+
+def try_tool(tries, root, path, room):
+    name = os.path.basename(path)
+    root.copy(path)
+    tries.check("kiblawen: no toolchain is there", not root.has_toolchain())
+    tries.check(f"kiblawen: {name} is installed, and its files are whole", *root.ends_well(f"dpkg -i {name} && dpkg --verify kiblawen"))
+    try_example(tries, root, "kiblawen")
+    try_procwalk(tries, root, "kiblawen", room)
+    removed = "dpkg -P kiblawen && [ -z \"$(find /usr /etc -name '*kiblawen*' -o -name 'sf_tool*')\" ]"
+    tries.check("kiblawen: nothing is left after it is removed", *root.ends_well(removed))
+
+
+def try_library(tries, root, path, tables):
+    name = os.path.basename(path)
+    root.copy(path, *filter(os.path.exists, (f"{tables}/echo.sframe", f"{tables}/at")))
+    tries.check("libkiblawen-dev: no toolchain is there", not root.has_toolchain())
+    tries.check(f"libkiblawen-dev: {name} is installed, and its files are whole", *root.ends_well(f"dpkg -i {name} && dpkg --verify libkiblawen-dev"))
+    staging.write(f"{root.room}/walks.c", "\n".join(block("docs/library.md", "### A program", "c")) + WALKS)
+    build = "cc -std=c11 -Wall -Wextra -Werror $(pkg-config --cflags kiblawen) walks.c $(pkg-config --libs kiblawen) -o walks"
+    status, said = root.run(f"{build}\n./walks echo.sframe $(cat at) 0x1139 0x4242")
+    passed = (status, said) == (0, "0x1139\n0x4242\n")
+    tries.check("libkiblawen-dev: a program built by pkg-config walks a sample", passed, f"status {status}\n{said}")
+
+
+def try_tarball(tries, root, path):
+    name = os.path.basename(path)
+    root.copy(path, common.at_top("example", "walk-self.c"))
+    tries.check("tarball: no toolchain is there", not root.has_toolchain())
+    tries.check(f"tarball: {name} is unpacked", *root.ends_well(f"tar xf {name} && mv {name[: -len('.tar.gz')]} kiblawen"))
+    root.environment.update(PATH=f"{TARBALL}/bin:{PATH}", PKG_CONFIG_PATH=f"{TARBALL}/lib/pkgconfig")
+    try_example(tries, root, "tarball")
+    walks = "tarball: a program built by pkg-config walks its own stack as backtrace() does"
+    if root.ends_well("test -e /proc/self/maps", WITH_PROC)[0]:
+        tries.check(walks, *root.ends_well(WALK_SELF, WITH_PROC))
+    else:
+        tries.skip(walks, "/proc cannot be mounted, in which it finds the end of its stack")
+
+
+def try_again(tries, room):
+    """Makes the release in another folder, of the same commit, program and library."""
+    clone = os.path.join(room, "another folder")
+    if common.status_of(["git", "clone", "-q", common.TOP, clone]):
+        tries.skip("another folder", "the repository cannot be cloned")
+        return
+    for path in (program.BUILT, program.LIBRARY):
+        to = os.path.join(clone, os.path.relpath(path, common.TOP))
+        os.makedirs(os.path.dirname(to))
+        shutil.copy(path, to)
+    common.output(sys.executable, os.path.join(clone, "x"), "release", status=(0, 1))
+    sums = [os.path.join(top, "dist", "SHA256SUMS") for top in (common.TOP, clone)]
+    passed = os.path.exists(sums[1]) and len({staging.digest(path) for path in sums}) == 1
+    tries.check("another folder: the same commit, program and library give the same bytes", passed)
+
+
+def one(pattern):
+    """The one file of dist/ of this name."""
+    found = glob.glob(os.path.join(release.DIST, pattern))
+    if len(found) != 1:
+        common.fail(__name__, f"dist/ has {len(found)} files {pattern}: `./x release` makes them")
+    return found[0]
+
+
+def base_root(given, room):
+    if given:
+        return os.path.abspath(given)
+    if not shutil.which("debootstrap"):
+        common.fail(__name__, "there is no debootstrap: name a ROOT, which has cc, binutils and pkg-config")
+    print(f"stranger: {' '.join(DEBOOTSTRAP)} makes a root, which takes some minutes", flush=True)
+    if common.status_of([*DEBOOTSTRAP, f"{room}/base"], stdout=subprocess.DEVNULL):
+        common.fail(__name__, "debootstrap made no root")
+    return f"{room}/base"
+
+
+def main(words):
+    parser = common.parser(__name__, __doc__)
+    parser.add_argument("root", nargs="?", metavar="ROOT")
+    given = parser.parse_args(words)
+    tool, library, tarball = one("kiblawen_*.deb"), one("libkiblawen-dev_*.deb"), one("kiblawen-*.tar.gz")
+    if os.geteuid() != 0:
+        common.fail(__name__, "chroot needs the rights of root")
+    tries = Tries()
+    sums = ["sha256sum", "--quiet", "-c", "SHA256SUMS"]
+    tries.check("dist: the files have the sums of SHA256SUMS", common.status_of(sums, cwd=release.DIST) == 0)
+    beside = os.path.dirname(os.path.abspath(given.root)) if given.root else None
+    with tempfile.TemporaryDirectory(dir=beside, prefix="stranger-") as room:
+        base = base_root(given.root, room)
+        roots = [Root(base, f"{room}/{name}") for name in ("tool", "library", "tarball")]
+        try_tool(tries, roots[0], tool, room)
+        try_library(tries, roots[1], library, roots[0].room)
+        try_tarball(tries, roots[2], tarball)
+        try_again(tries, room)
+    print(f"{tries.passed} passed, {tries.failed} failed, {tries.skipped} skipped")
+    return int(tries.failed > 0)
