@@ -65,7 +65,7 @@ USUAL = Limits()
 # What prints a line for each row has to hold none of them.
 PRINTED = Limits(written=0)
 # What holds the records of omitted functions, each as long as it says.
-LENDING = Limits(files=40)
+LENDING = Limits(files=14)
 # What puts the shortest entries of mapped files in order, and reads a file that is given 512 times each time.
 ORDERED = Limits(files=6)
 
