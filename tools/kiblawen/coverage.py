@@ -18,13 +18,8 @@ from kiblawen import common, elf, program
 
 def code_bytes(path):
     """How many bytes the sections of a file hold that are code."""
-    total = 0
-    for line in (common.output("readelf", "-SW", path) or "").splitlines():
-        _, bracket, rest = line.partition("]")
-        words = rest.split()
-        if bracket and len(words) > 6 and "X" in words[-4] and words[1] != "NOBITS":
-            total += int(words[4], 16)
-    return total
+    with open(path, "rb") as file:
+        return sum(it.size for it in elf.sections(file) if it.flags & elf.SHF_EXECINSTR and it.kind != elf.SHT_NOBITS)
 
 
 def look(job):

@@ -1,4 +1,4 @@
-"""Puts the program, its man page, the C library, its header and pkg-config file, and the documents under a prefix.
+"""Puts the program, `kiblawen-add`, man pages, the C library, its header and pkg-config file, and the documents under a prefix.
 
     ./x install [PREFIX]                               by default /usr/local
     LIBDIR=lib/x86_64-linux-gnu ./x install /usr       the folder of the C library, by default PREFIX/lib
@@ -14,6 +14,8 @@ import shutil
 from kiblawen import common, program
 
 DOCUMENTS = ["README.md", "CHANGELOG.md", "CONTRIBUTING.md", "SECURITY.md", "VERSION", "LICENSE-MIT", "LICENSE-APACHE"]
+# The modules of kiblawen-add.
+MODULES = ["__init__.py", "add.py", "common.py", "elf.py", "program.py", "tables.py"]
 # The quotes keep a folder with a blank in its name one word.
 PKG_CONFIG = """prefix={prefix}
 libdir={libdir}
@@ -57,7 +59,11 @@ class Installation:
 
     def put_all(self, version):
         self.put(0o755, program.BUILT, f"{self.prefix}/bin")
-        self.put(0o644, common.at_top("man", "sf_tool.1"), f"{self.prefix}/share/man/man1")
+        self.put(0o755, common.at_top("tools", "kiblawen-add"), f"{self.prefix}/bin")
+        for name in MODULES:
+            self.put(0o644, common.at_top("tools", "kiblawen", name), f"{self.prefix}/share/kiblawen/kiblawen")
+        for name in ("sf_tool.1", "kiblawen-add.1"):
+            self.put(0o644, common.at_top("man", name), f"{self.prefix}/share/man/man1")
         self.put(0o644, program.LIBRARY, self.libdir, "libkiblawen.a")
         self.put(0o644, common.at_top("include", "kiblawen.h"), f"{self.prefix}/include")
         documents = f"{self.prefix}/share/doc/kiblawen"

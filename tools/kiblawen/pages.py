@@ -232,6 +232,7 @@ def main(words):
         print(f"FAILED {link} leads nowhere")
     with tempfile.TemporaryDirectory(prefix="tool-") as folder:
         os.symlink(tool, os.path.join(folder, "sf_tool"))
+        os.symlink(common.at_top("tools", "kiblawen-add"), os.path.join(folder, "kiblawen-add"))
         environment = {"PATH": f"{folder}:{os.environ.get('PATH', os.defpath)}", "LC_ALL": "C", "HOME": folder}
         missing = missing_needs(environment)
         counts = [try_page(path, environment, missing) for path in pages]

@@ -58,10 +58,10 @@ def report(text):
     return omitted, int(re.search(r"kept (\d+) omitted", text)[1])
 
 
-def linked(tool, path, out):
+def linked(tool, path, out, command="link"):
     """Links a file at its own addresses. Returns the section's address and the report, or none and the line of its refusal."""
     at = elf.page_after(path)
-    words = [tool, "link", f"{out}@{at:#x}", f"{path}@{elf.BASE:#x}"]
+    words = [tool, command, f"{out}@{at:#x}", f"{path}@{elf.BASE:#x}"]
     ran = subprocess.run(words, stdin=subprocess.DEVNULL, capture_output=True, timeout=common.SECONDS, check=False)
     if ran.returncode != 0:
         return None, f"status {ran.returncode}: {ran.stderr.decode(errors='replace').strip()}"

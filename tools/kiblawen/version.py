@@ -15,6 +15,7 @@ def main(words):
     named = (
         ("CHANGELOG.md", f"## {version}"),
         ("man/sf_tool.1", f"Kiblawen {version}"),
+        ("man/kiblawen-add.1", f"Kiblawen {version}"),
         ("README.md", kit),
         ("docs/proof.md", kit),
     )
