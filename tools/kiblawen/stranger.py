@@ -1,14 +1,15 @@
 """Installs each file of dist/ in a Debian root of its own, without a Rattle toolchain, and uses it there as a stranger would.
 
-    ./x stranger            the root is made by debootstrap, with a C compiler, binutils and pkg-config
+    ./x stranger            the root is made by debootstrap, with a C compiler, binutils, pkg-config and Python
     ./x stranger ROOT       the root is a copy of this one, such as debootstrap made; tried with Debian 12 and 13
 
 First run `./x release`. It needs the rights of root for chroot, and gdb and a C compiler for a core file. The copies of a root are links
 to its files, in a temporary folder beside it, so they take little room. ROOT gets lines in dpkg's log.
 
-The package kiblawen: README's example, and procwalk on a core file that is copied in, beside gdb; then it is removed.
+The package kiblawen: README's example, kiblawen-add on its program, and procwalk on a core file that is copied in, beside gdb; then it is
+removed.
 The package libkiblawen-dev: the program of docs/library.md, built by pkg-config, walks a sample with a table that is copied in.
-The tarball: README's example, and example/walk-self.c, built by pkg-config, walks its own stack beside backtrace().
+The tarball: README's example, kiblawen-add, and example/walk-self.c, built by pkg-config, walks its own stack beside backtrace().
 At last a clone in another folder makes the same release from the same program and library: the checksums are the same.
 
 The last line is `N passed, M failed, K skipped`. The status is 1 if a part failed.
@@ -25,7 +26,7 @@ import tempfile
 from kiblawen import common, processes, program, release, staging
 
 SUITE = "bookworm"
-DEBOOTSTRAP = ["debootstrap", "--variant=minbase", "--include=gcc,libc6-dev,binutils,pkgconf", SUITE]
+DEBOOTSTRAP = ["debootstrap", "--variant=minbase", "--include=gcc,libc6-dev,binutils,pkgconf,python3", SUITE]
 PATH = "/usr/sbin:/usr/bin:/sbin:/bin"
 # Where the tarball is unpacked, in a root.
 TARBALL = "/try/kiblawen"
@@ -163,6 +164,13 @@ def try_example(tries, root, name):
     tries.check(f"{name}: README's example prints what README shows", passed, f"status {status}\n{said}")
 
 
+def try_add(tries, root, name):
+    """The table of the example's program, added to a copy of it."""
+    status, said = root.run("cp echo added; kiblawen-add added | head -n 1; ./added runs | tail -n 1; strip added 2>warnings; kiblawen-add added")
+    passed = status == 0 and said == "1 file: 1 added\nruns\n1 file: 1 had one\n"
+    tries.check(f"{name}: kiblawen-add adds a table, which strip keeps, to a program that still runs", passed, f"status {status}\n{said}")
+
+
 def try_procwalk(tries, root, name, room):
     """A core file of this machine, walked in the root with the tables of the files that the process had mapped."""
     sorts = os.path.join(room, "sorts")
@@ -185,6 +193,7 @@ def try_tool(tries, root, path, room):
     tries.check("kiblawen: no toolchain is there", not root.has_toolchain())
     tries.check(f"kiblawen: {name} is installed, and its files are whole", *root.ends_well(f"dpkg -i {name} && dpkg --verify kiblawen"))
     try_example(tries, root, "kiblawen")
+    try_add(tries, root, "kiblawen")
     try_procwalk(tries, root, "kiblawen", room)
     removed = "dpkg -P kiblawen && [ -z \"$(find /usr /etc -name '*kiblawen*' -o -name 'sf_tool*')\" ]"
     tries.check("kiblawen: nothing is left after it is removed", *root.ends_well(removed))
@@ -209,6 +218,7 @@ def try_tarball(tries, root, path):
     tries.check(f"tarball: {name} is unpacked", *root.ends_well(f"tar xf {name} && mv {name[: -len('.tar.gz')]} kiblawen"))
     root.environment.update(PATH=f"{TARBALL}/bin:{PATH}", PKG_CONFIG_PATH=f"{TARBALL}/lib/pkgconfig")
     try_example(tries, root, "tarball")
+    try_add(tries, root, "tarball")
     walks = "tarball: a program built by pkg-config walks its own stack as backtrace() does"
     if root.ends_well("test -e /proc/self/maps", WITH_PROC)[0]:
         tries.check(walks, *root.ends_well(WALK_SELF, WITH_PROC))
