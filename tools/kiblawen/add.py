@@ -68,8 +68,10 @@ def find_files(words):
         if not os.path.isdir(word) and not is_finished(word):
             lost.append(f"{word}: no program or shared object for AMD64 or AArch64")
             continue
-        for path in below(word, lost) if os.path.isdir(word) else [os.path.realpath(word)]:
-            path, here = os.path.abspath(path), os.stat(path)
+        # Of a folder and a link to it, or of two links, the files have the same names.
+        named = os.path.realpath(word)
+        for path in below(named, lost) if os.path.isdir(named) else [named]:
+            here = os.stat(path)
             names = files.setdefault((here.st_dev, here.st_ino), [])
             names += [path] if path not in names else []
     return list(files.values()), lost
