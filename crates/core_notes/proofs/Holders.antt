@@ -6,7 +6,7 @@ use Rattle.std.proofs.lemmas.Bool.{le-leb, lt-leb, le-ltb}
 use Rattle.std.proofs.lemmas.List.{length-drop}
 use Rattle.byteorder.specs.Endian.{little_number}
 use Rattle.sf_model.specs.Memory.{Region, eight_bytes, holds_eight, read_eight}
-use Rattle.elf_read.specs.Number.{front_number, number_in}
+use Rattle.elf_read.specs.Number.{front_number, field_at}
 use Rattle.core_notes.specs.Segment.{SegmentView, segments}
 use Rattle.core_notes.specs.Memory.{file_regions, is_holder, region_of}
 use Rattle.core_notes.proofs.BytesHeld.{holder_holds, regions_find}
@@ -31,7 +31,7 @@ unfolding front_number
 long_enough bytes h = ap (λ (b : Bool). cond b 0 (little_number 8 bytes)) (le-ltb (length bytes) 8 h)
 
 pub read_some : (file : List ℕ) (address : ℕ) (s : SegmentView) → address + 8 ≤ 2 ^ 64 → Some s ≡ find (is_holder address) (segments file)
-    → Some (number_in 8 (address - s.vaddr) s.bytes) ≡ read_eight (file_regions file) address
+    → Some (field_at 8 (address - s.vaddr) s.bytes) ≡ read_eight (file_regions file) address
 read_some file address s h e =
     let held = holder_holds address 8 (segments file) s e in
     let len : length (drop (address - s.vaddr) s.bytes) ≡ length s.bytes - (address - s.vaddr) = length-drop (address - s.vaddr) s.bytes in

@@ -6,7 +6,7 @@ use Rattle.elf_read.specs.declared.fault.ElfFault.{ElfFault}
 use Rattle.elf_read.specs.declared.fault.ElfFault.TheVariants.{EntrySize, OutOfFile}
 use Rattle.elf_read.specs.declared.view.Elf.{Elf}
 use Rattle.elf_read.specs.Checking.{unless, each_below, ◌>>◌}
-use Rattle.elf_read.specs.Checks.{Check, core_check, has_program_headers, identity_check, names_check, purpose_check, sections_check, segment_check}
+use Rattle.elf_read.specs.Checks.{ElfCheck, core_check, has_program_headers, identity_check, names_check, purpose_check, sections_check, segment_check}
 use Rattle.elf_read.specs.Header.{header_fields, is_core, program_header}
 use Rattle.elf_read.specs.Number.{lies_in}
 use Rattle.elf_read.specs.InTurn.{content_check, checks_in_turn, table_check, used_check}
@@ -85,7 +85,7 @@ headers_lie : (file : List ℕ) (i : ℕ) → file_check file ≡ Ok tt → i < 
 unfolding checks_in_turn content_check segment_count
 headers_lie file i h lt = headers_if file i (is_core file) (both_fine (identity_check file >> purpose_check file >> table_check file) (content_check file) (sym (file_check_is file) ∙ h)).1 lt
 
-passed : (check : Check) → IsTrue (is_ok check) → check ≡ Ok tt
+passed : (check : ElfCheck) → IsTrue (is_ok check) → check ≡ Ok tt
 passed (Ok u) h = refl
 passed (Err e) h = absurd (cc h)
 

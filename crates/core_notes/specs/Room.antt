@@ -3,7 +3,7 @@
 use Rattle.std.specs.Prelude.{ℕ, zero, suc, ◌+◌, ◌<◌, ◌≤◌, List, length, nat_le, if◌then◌else◌}
 use Rattle.elf_read.specs.declared.fault.ElfFault.TheVariants.{OutOfFile}
 use Rattle.elf_read.specs.Checking.{unless}
-use Rattle.elf_read.specs.Checks.{Check}
+use Rattle.elf_read.specs.Checks.{ElfCheck}
 use Rattle.elf_read.specs.Header.{program_header}
 use Rattle.elf_read.specs.Sections.{segment_count}
 use Rattle.core_notes.specs.Segment.{SegmentView, holds_notes, segment_of}
@@ -18,7 +18,7 @@ note_size_below file zero = 0
 note_size_below file (suc n) = note_size_below file n + note_size (segment_of file n)
 
 -- there is room in the file for those up to this one
-unfoldable pub room_check : List ℕ → ℕ → Check
+unfoldable pub room_check : List ℕ → ℕ → ElfCheck
 room_check file i = unless (nat_le (note_size_below file (suc i)) (length file)) (OutOfFile (program_header file i))
 
 -- there is room for all of them, up to any

@@ -4,7 +4,7 @@ use Rattle.std.specs.Prelude.{ℕ, ◌==◌, Bool, true, false, ◌&&◌, List, 
 use Rattle.std.specs.Cmp.Lexicographic.{pointwise}
 use Rattle.sf_model.specs.declared.machine.Arch.{Arch}
 use Rattle.sf_model.specs.declared.machine.Arch.TheVariants.{Amd64, Aarch64}
-use Rattle.elf_read.specs.Number.{number_in}
+use Rattle.elf_read.specs.Number.{field_at}
 use Rattle.core_notes.specs.declared.status.Thread.{Thread}
 use Rattle.core_notes.specs.Note.{NoteView}
 
@@ -43,21 +43,21 @@ status_size Aarch64 = 392
 -- the thread of a status, with its mask: rsp, rbp and rip, or sp, x29, x30 and pc
 unfoldable pub thread_of : Arch → (status : List ℕ) → (mask : Option ℕ) → Thread
 thread_of Amd64 status mask = record {
-  pid = number_in 4 32 status;
-  pc = number_in 8 240 status;
-  regs = record { sp = number_in 8 264 status; fp = number_in 8 144 status; lr = 0 };
+  pid = field_at 4 32 status;
+  pc = field_at 8 240 status;
+  regs = record { sp = field_at 8 264 status; fp = field_at 8 144 status; lr = 0 };
   mask = mask;
 }
 thread_of Aarch64 status mask = record {
-  pid = number_in 4 32 status;
-  pc = number_in 8 368 status;
-  regs = record { sp = number_in 8 360 status; fp = number_in 8 344 status; lr = number_in 8 352 status };
+  pid = field_at 4 32 status;
+  pc = field_at 8 368 status;
+  regs = record { sp = field_at 8 360 status; fp = field_at 8 344 status; lr = field_at 8 352 status };
   mask = mask;
 }
 
 -- the mask of instruction addresses; that of data addresses is before it
 abbrev pub mask_in : NoteView → ℕ
-mask_in n = number_in 8 8 n.descriptor.left
+mask_in n = field_at 8 8 n.descriptor.left
 
 -- a later mask, or else that of this note, if it is a mask's
 abbrev pub mask_or : Arch → NoteView → (later : Option ℕ) → Option ℕ

@@ -1,7 +1,7 @@
 -- Texts of whole blocks at the places of a file.
 use Rattle.std.proofs.Common.{◌≡◌, ℕ, ◌+◌, ◌-◌, ◌*◌, ◌/◌, ◌%◌, ◌<◌, ◌≤◌, List, length, take, drop, sym, ap, ◌∙◌, arith}
 use Rattle.std.proofs.lemmas.List.{drop-drop, drop-take, length-drop}
-use Rattle.elf_read.specs.Number.{window, StandsAt}
+use Rattle.elf_read.specs.Number.{window, LiesAt}
 use Rattle.elf_groups.specs.declared.blocks.Blocks.{Blocks}
 use Rattle.elf_groups.specs.declared.file_texts.FileTexts.{FileTexts}
 use Rattle.elf_groups.specs.declared.file_texts.Known.{Known}
@@ -23,7 +23,7 @@ none_known file blocks end =
     }
 
 -- what is left of a text of a file
-end_of : (file text : List ℕ) (place from : ℕ) → StandsAt place text file → from ≤ length text → drop from text ≡ window (place + from) (length text - from) file
+end_of : (file text : List ℕ) (place from : ℕ) → LiesAt place text file → from ≤ length text → drop from text ≡ window (place + from) (length text - from) file
 end_of file text place from stands upto =
     let all : length text ≡ from + (length text - from) = omega (arith, upto) in
     ap (drop from) (stands ∙ ap (λ (n : ℕ). take n (drop place file)) all)
@@ -34,14 +34,14 @@ windows : (file : List ℕ) (p q m n : ℕ) → p ≡ q → m ≡ n → window p
 windows file p q m n at as_long = ap (λ (k : ℕ). window k m file) at ∙ ap (λ (k : ℕ). window q k file) as_long
 
 -- and what follows the bytes before its blocks
-pub blocks_stand : (file text front whole : List ℕ) (place : ℕ) → StandsAt place text file → length front ≡ length text % 256 → whole ≡ drop (length text % 256) text → StandsAt (place + length front) whole file
+pub blocks_stand : (file text front whole : List ℕ) (place : ℕ) → LiesAt place text file → length front ≡ length text % 256 → whole ≡ drop (length text % 256) text → LiesAt (place + length front) whole file
 blocks_stand file text front whole place stands before behind =
     let upto : length text % 256 ≤ length text = omega arith in
     let len : length whole ≡ length text - length text % 256 = ap length behind ∙ length-drop (length text % 256) text in
     behind ∙ end_of file text place (length text % 256) stands upto ∙ windows file (place + length text % 256) (place + length front) (length text - length text % 256) (length whole) (omega (arith, before)) (sym len)
 
 -- a known end of a text
-pub known_end : (file text : List ℕ) (blocks : Blocks) (known : Known) (place left : ℕ) → IsKnown file blocks known → StandsAt place text file → known.end ≡ place + length text → place ≤ known.place → known.place ≤ place + length text → left ≡ known.place - place
+pub known_end : (file text : List ℕ) (blocks : Blocks) (known : Known) (place left : ℕ) → IsKnown file blocks known → LiesAt place text file → known.end ≡ place + length text → place ≤ known.place → known.place ≤ place + length text → left ≡ known.place - place
     → Numbers blocks known.number (drop left text)
 unfolding IsKnown
 known_end file text blocks known place left is stands end from upto back =
@@ -61,7 +61,7 @@ one_end_more blocks text rest n left index start numbers at is =
     let from : start ≡ left - (index + 1) * 256 = omega (arith, at) in
     numbers_same blocks n rest (drop (left - (index + 1) * 256) text) numbers (is ∙ ap (λ (k : ℕ). drop k text) from)
 
-pub is_known : (file text rest : List ℕ) (blocks : Blocks) (place start at end n : ℕ) → Numbers blocks n rest → rest ≡ drop start text → StandsAt place text file → start ≤ length text → at ≡ place + start → end ≡ place + length text
+pub is_known : (file text rest : List ℕ) (blocks : Blocks) (place start at end n : ℕ) → Numbers blocks n rest → rest ≡ drop start text → LiesAt place text file → start ≤ length text → at ≡ place + start → end ≡ place + length text
     → IsKnown file blocks (record { place = at; end = end; number = n })
 unfolding IsKnown
 is_known file text rest blocks place start at end n numbers is stands upto from all =

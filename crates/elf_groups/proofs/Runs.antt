@@ -8,7 +8,7 @@ use Rattle.std.proofs.lemmas.Bool.{cases_lt}
 use Rattle.std.proofs.lemmas.List.{get_or-drop, get_or-take, get_or_past, length-drop, length-take}
 use Rattle.std.proofs.lemmas.List.Elements.{All-head, All-tail, All-cons}
 use Rattle.std.proofs.lemmas.List.Sums.{position_or_len_is, prefix_len_passes, prefix_len_stops}
-use Rattle.elf_read.specs.Number.{StandsAt}
+use Rattle.elf_read.specs.Number.{LiesAt}
 use Rattle.elf_read.proofs.FirstZero.{is_zero, before_zero, before_zero-within}
 use Rattle.elf_groups.specs.declared.ends.Run.{Run}
 use Rattle.elf_groups.specs.Ends.{IsFree, IsRun}
@@ -66,19 +66,19 @@ by_known rest first end known front free upto short =
     (λ some. ap is_zero (sym (get_or-drop known rest m 1)) ∙ stops (drop known rest) (omega (arith, some, len, short))))
 
 -- ---- a text and its file
-byte_at : (file rest : List ℕ) (place k : ℕ) → StandsAt place rest file → k < length rest → get_or rest k 1 ≡ get_or file (place + k) 1
+byte_at : (file rest : List ℕ) (place k : ℕ) → LiesAt place rest file → k < length rest → get_or rest k 1 ≡ get_or file (place + k) 1
 byte_at file rest place k stands inside =
     ap (λ (r : List ℕ). get_or r k 1) stands ∙ get_or-take (length rest) (drop place file) k 1 inside ∙ get_or-drop place file k 1
 
 -- the bytes of a run, from a text's place on
-pub free_from : (file rest : List ℕ) (place first end : ℕ) (run : Run) → StandsAt place rest file → IsRun file run → first ≡ run.first - place → end ≡ run.end - place → IsFree rest first end
+pub free_from : (file rest : List ℕ) (place first end : ℕ) (run : Run) → LiesAt place rest file → IsRun file run → first ≡ run.first - place → end ≡ run.end - place → IsFree rest first end
 free_from file rest place first end run stands free from upto k low high = elim (cases_lt k (length rest)) [
   | inl inside ↦ ap is_zero (byte_at file rest place k stands inside) ∙ free (place + k) (omega (arith, low, from)) (omega (arith, high, upto))
   | inr past ↦ ap is_zero (get_or_past rest k 1 (omega (arith, past)))
 ]
 
 -- the bytes of a text
-pub free_of_text : (file rest : List ℕ) (place end len : ℕ) → StandsAt place rest file → len ≡ before_zero rest → end ≤ place + len → IsFree file place end
+pub free_of_text : (file rest : List ℕ) (place end len : ℕ) → LiesAt place rest file → len ≡ before_zero rest → end ≤ place + len → IsFree file place end
 free_of_text file rest place end len stands is upto k low high =
     let at : place + (k - place) ≡ k = omega (arith, low) in
     let short : before_zero rest ≤ length rest = before_zero-within rest in

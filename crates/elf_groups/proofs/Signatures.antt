@@ -12,7 +12,7 @@ use Rattle.std.proofs.lemmas.List.Elements.{All-head, All-tail, All-cons}
 use Rattle.std.proofs.lemmas.List.{append_cancel_left, length-append, length-drop, length-take, take-append-drop, take_all}
 use Rattle.std.proofs.Math.Seq.{take-append_seam}
 use Rattle.std.proofs.Common.{◌≡◌, ℕ, Bool, true, false, All, List, [], ◌∷◌, ◌++◌, ◌+◌, ◌-◌, ◌*◌, ◌/◌, ◌%◌, ◌<◌, min, length, refl, sym, ap, ◌∙◌, zero, suc, ◌≤◌, take, drop, Result, Ok, Err, OnOk, arith}
-use Rattle.elf_read.specs.Number.{window, StandsAt}
+use Rattle.elf_read.specs.Number.{window, LiesAt}
 use Rattle.elf_groups.specs.declared.blocks.Blocks.{Blocks}
 use Rattle.elf_groups.specs.Blocks.{AreBlocks, Grows, IsWhole, Numbers, text_of}
 use Rattle.elf_groups.specs.Seen.{IsKeptIn, is_kept_as}
@@ -171,7 +171,7 @@ take_of_take (suc n) zero xs upto = absurd (omega (arith, upto))
 take_of_take (suc n) (suc k) [] upto = let low : 0 ≤ suc k = omega arith in ap (take (suc n)) (take_all (suc k) [] low)
 take_of_take (suc n) (suc k) (x ∷ xs) upto = ap (λ (ys : List ℕ). x ∷ ys) (take_of_take n k xs (omega (arith, upto)))
 
-pub front_stands : (file rest text : List ℕ) (place len : ℕ) → StandsAt place rest file → len ≤ length rest → text ≡ take len rest → StandsAt place text file
+pub front_stands : (file rest text : List ℕ) (place len : ℕ) → LiesAt place rest file → len ≤ length rest → text ≡ take len rest → LiesAt place text file
 front_stands file rest text place len stands short is =
     let all : length text ≡ min len (length rest) = ap length is ∙ length-take len rest in
     let same : len ≡ length text = omega (arith, all, short) in

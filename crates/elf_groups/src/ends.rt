@@ -2,7 +2,7 @@
 
 ghost use Rattle.std.specs.Prelude.{◌≡◌, ◌≤◌, ◌==◌, ℕ, List, IfOk, OnOk, length, take};
 ghost use Rattle.std.specs.List.{position_or_len};
-ghost use Rattle.elf_read.specs.Number.{StandsAt};
+ghost use Rattle.elf_read.specs.Number.{LiesAt};
 ghost use Rattle.elf_read.specs.Views.{text_bytes};
 ghost use Rattle.elf_groups.specs.Ends as spec;
 
@@ -73,9 +73,9 @@ impl Ends {
 
     /// Counts the bytes of a text of the file.
     pub fn len_of(&mut self, text: &Text<'_>) -> Result<usize, AllocError>
-        ensures len { IfOk result (λ len. (file : List ℕ) → spec.AreRuns file self.old → StandsAt text.now.place text.now.rest.now file → text_bytes text.now ≡ take len text.now.rest.now) }
+        ensures len { IfOk result (λ len. (file : List ℕ) → spec.AreRuns file self.old → LiesAt text.now.place text.now.rest.now file → text_bytes text.now ≡ take len text.now.rest.now) }
         ensures within { IfOk result (λ len. len ≤ length text.now.rest.now) }
-        ensures runs { OnOk result ((file : List ℕ) → spec.AreRuns file self.old → StandsAt text.now.place text.now.rest.now file → spec.AreRuns file self.new) }
+        ensures runs { OnOk result ((file : List ℕ) → spec.AreRuns file self.old → LiesAt text.now.place text.now.rest.now file → spec.AreRuns file self.new) }
     {
         let run = self.run_from(text.place);
         let first = run.first.saturating_sub(text.place);

@@ -2,7 +2,7 @@
 
 ghost use Rattle.std.specs.Prelude.{◌≡◌, ◌<◌, ◌+◌, ◌^◌, ℕ, List, [], ◌∷◌, ◌++◌, IfOk, OnOk, bytes_eq, length};
 ghost use Rattle.std.specs.List.{list_any};
-ghost use Rattle.elf_read.specs.Number.{StandsAt};
+ghost use Rattle.elf_read.specs.Number.{LiesAt};
 ghost use Rattle.elf_read.specs.Views.{file, text_bytes};
 ghost use Rattle.elf_groups.specs.Dropped.{signature_of};
 ghost use Rattle.elf_groups.specs.Groups.{gone_groups, is_repeated, seen_after, with_signature};
@@ -42,9 +42,9 @@ impl<'a> Seen<'a> {
         signature: &'a [u8],
     ) -> Result<bool, AllocError>
         requires { place + length signature.now < 2 ^ 64 }
-        ensures repeated { IfOk result (λ repeated. (file : List ℕ) (seen : List (List ℕ)) → HasSeen self.old seen → HasTexts file self.old.blocks texts.old → StandsAt place signature.now file → repeated ≡ list_any (bytes_eq signature.now) seen) }
-        ensures seen { OnOk result ((file : List ℕ) (seen : List (List ℕ)) → HasSeen self.old seen → HasTexts file self.old.blocks texts.old → StandsAt place signature.now file → HasSeen self.new (seen ++ signature.now ∷ [])) }
-        ensures texts { OnOk result ((file : List ℕ) (seen : List (List ℕ)) → HasSeen self.old seen → HasTexts file self.old.blocks texts.old → StandsAt place signature.now file → HasTexts file self.new.blocks texts.new) }
+        ensures repeated { IfOk result (λ repeated. (file : List ℕ) (seen : List (List ℕ)) → HasSeen self.old seen → HasTexts file self.old.blocks texts.old → LiesAt place signature.now file → repeated ≡ list_any (bytes_eq signature.now) seen) }
+        ensures seen { OnOk result ((file : List ℕ) (seen : List (List ℕ)) → HasSeen self.old seen → HasTexts file self.old.blocks texts.old → LiesAt place signature.now file → HasSeen self.new (seen ++ signature.now ∷ [])) }
+        ensures texts { OnOk result ((file : List ℕ) (seen : List (List ℕ)) → HasSeen self.old seen → HasTexts file self.old.blocks texts.old → LiesAt place signature.now file → HasTexts file self.new.blocks texts.new) }
     {
         let (front, whole) = signature.split_at(signature.len() % BLOCK);
         let number = texts.number(&mut self.blocks, place + front.len() as u64, whole)?;
@@ -58,9 +58,9 @@ impl<'a> Seen<'a> {
         text: &Text<'a>,
     ) -> Result<bool, AllocError>
         requires { text.now.place + length text.now.rest.now < 2 ^ 64 }
-        ensures repeated { IfOk result (λ repeated. (file : List ℕ) (seen : List (List ℕ)) → HasSeen self.old seen → HasTexts file self.old.blocks texts.old → StandsAt text.now.place text.now.rest.now file → repeated ≡ list_any (bytes_eq (text_bytes text.now)) seen) }
-        ensures seen { OnOk result ((file : List ℕ) (seen : List (List ℕ)) → HasSeen self.old seen → HasTexts file self.old.blocks texts.old → StandsAt text.now.place text.now.rest.now file → HasSeen self.new (seen ++ text_bytes text.now ∷ [])) }
-        ensures texts { OnOk result ((file : List ℕ) (seen : List (List ℕ)) → HasSeen self.old seen → HasTexts file self.old.blocks texts.old → StandsAt text.now.place text.now.rest.now file → HasTexts file self.new.blocks texts.new) }
+        ensures repeated { IfOk result (λ repeated. (file : List ℕ) (seen : List (List ℕ)) → HasSeen self.old seen → HasTexts file self.old.blocks texts.old → LiesAt text.now.place text.now.rest.now file → repeated ≡ list_any (bytes_eq (text_bytes text.now)) seen) }
+        ensures seen { OnOk result ((file : List ℕ) (seen : List (List ℕ)) → HasSeen self.old seen → HasTexts file self.old.blocks texts.old → LiesAt text.now.place text.now.rest.now file → HasSeen self.new (seen ++ text_bytes text.now ∷ [])) }
+        ensures texts { OnOk result ((file : List ℕ) (seen : List (List ℕ)) → HasSeen self.old seen → HasTexts file self.old.blocks texts.old → LiesAt text.now.place text.now.rest.now file → HasTexts file self.new.blocks texts.new) }
     {
         let len = texts.ends.len_of(text)?;
         let (signature, _) = text.rest.split_at(len);

@@ -7,7 +7,7 @@ use Rattle.std.proofs.lemmas.Bool.{cases_lt}
 use Rattle.std.proofs.lemmas.List.{drop-drop, length-drop}
 use Rattle.std.proofs.lemmas.List.Sums.{prefix_len-le-length}
 use Rattle.std.proofs.lemmas.Nat.{div-add-mod'}
-use Rattle.elf_read.specs.Number.{IsFree, has_text, zero_from}
+use Rattle.elf_read.specs.Number.{HasNoZero, has_text, zero_from}
 use Rattle.elf_read.specs.Sections.{section_bytes, section_fields}
 use Rattle.elf_read.proofs.Texts.{has_by, text_place}
 
@@ -79,7 +79,7 @@ zero_from-between bytes before place found is less low =
     is ∙ sym (zero_from-later bytes before (place - before) (omega (arith, is, low, less))) ∙ ap (zero_from bytes) sum
 
 -- pieces without a zero byte are passed over
-pub zero_from-past_pieces : (bytes : List ℕ) (len piece n : ℕ) → ((j : ℕ) → j < n → IsFree bytes ((piece + j) * len) len) → zero_from bytes ((piece + n) * len) ≡ zero_from bytes (piece * len)
+pub zero_from-past_pieces : (bytes : List ℕ) (len piece n : ℕ) → ((j : ℕ) → j < n → HasNoZero bytes ((piece + j) * len) len) → zero_from bytes ((piece + n) * len) ≡ zero_from bytes (piece * len)
 zero_from-past_pieces bytes len piece zero free = let same : piece + 0 ≡ piece = omega arith in ap (λ (m : ℕ). zero_from bytes (m * len)) same
 zero_from-past_pieces bytes len piece (suc n) free =
     let here : (piece + n) * len + len ≤ zero_from bytes ((piece + n) * len) = free n (omega arith) in
@@ -87,7 +87,7 @@ zero_from-past_pieces bytes len piece (suc n) free =
     ap (zero_from bytes) place ∙ zero_from-later bytes ((piece + n) * len) len (omega (arith, here)) ∙ zero_from-past_pieces bytes len piece n (λ j below. free j (omega (arith, below)))
 
 -- a piece that is there and has no zero byte
-pub is_free : (bytes : List ℕ) (place len count : ℕ) → count ≡ before_zero (take len (drop place bytes)) → len ≤ count → IsFree bytes place len
+pub is_free : (bytes : List ℕ) (place len count : ℕ) → count ≡ before_zero (take len (drop place bytes)) → len ≤ count → HasNoZero bytes place len
 is_free bytes place len count is all = omega (arith, is, all, before_zero-take len (drop place bytes))
 
 -- the first byte of the next piece

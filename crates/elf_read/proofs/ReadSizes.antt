@@ -6,7 +6,7 @@ use Rattle.elf_read.specs.declared.fault.ElfFault.{ElfFault}
 use Rattle.elf_read.specs.declared.fault.ElfFault.TheVariants.{OutOfFile}
 use Rattle.elf_read.specs.declared.view.Elf.{Elf}
 use Rattle.elf_read.specs.Checking.{unless, ◌>>◌, each_below}
-use Rattle.elf_read.specs.Checks.{Check, identity_check, purpose_check, core_check, sections_check, names_check}
+use Rattle.elf_read.specs.Checks.{ElfCheck, identity_check, purpose_check, core_check, sections_check, names_check}
 use Rattle.elf_read.specs.Header.{is_core}
 use Rattle.elf_read.specs.InTurn.{table_check, used_check, content_check, checks_in_turn}
 use Rattle.elf_read.specs.Parsing.{file_check}
@@ -90,7 +90,7 @@ entries_by file i used = ap (λ (n : ℕ). n / 24) (sym (used_read (is_eh_frame 
 pub has_room : (file : List ℕ) → file_check file ≡ Ok tt → HasRoom file
 has_room file checked = record { together = λ n upto. together_by file n upto (room_is_checked file checked); entries = entries_by file }
 
-passed : (check : Check) → IsTrue (is_ok check) → check ≡ Ok tt
+passed : (check : ElfCheck) → IsTrue (is_ok check) → check ≡ Ok tt
 passed (Ok u) h = refl
 passed (Err e) h = absurd (cc h)
 

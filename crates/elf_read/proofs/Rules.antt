@@ -8,7 +8,7 @@ use Rattle.std.proofs.lemmas.Grind.{flat_map-append}
 use Rattle.elf_read.specs.declared.fault.ElfFault.{ElfFault}
 use Rattle.elf_read.specs.declared.fault.ElfFault.TheVariants.{Short, NotElf, Class, Order, Version, Machine, Kind, EntrySize, Strings, OutOfFile, Compressed, SymbolIndex}
 use Rattle.elf_read.specs.Checking.{unless, where_so, ◌>>◌, each_below, numbers_below, first_broken}
-use Rattle.elf_read.specs.Checks.{Check, is_string_table, identity_check, purpose_check, needs_sections, has_first_section, first_section_check, segment_check, core_check, bytes_check, sections_check, name_check, has_names, names_check}
+use Rattle.elf_read.specs.Checks.{ElfCheck, is_string_table, identity_check, purpose_check, needs_sections, has_first_section, first_section_check, segment_check, core_check, bytes_check, sections_check, name_check, has_names, names_check}
 use Rattle.elf_read.specs.Header.{header_fields, is_core, program_header, p_offset, p_filesz}
 use Rattle.elf_read.specs.Number.{lies_in, has_text}
 use Rattle.elf_read.specs.InTurn.{used_check, table_check, content_check, checks_in_turn}
@@ -163,14 +163,14 @@ unfolding core_check segment_check
 core_is file =
     let headers = unless ((segment_total file == 0) || ((header_fields file).e_phentsize == 56)) (EntrySize 54) in
     let lies = unless (lies_in (length file) (header_fields file).e_phoff (segment_total file) 56) (OutOfFile 32) in
-    ap (λ (c : Check). headers >> (lies >> c))
+    ap (λ (c : ElfCheck). headers >> (lies >> c))
     (mapped (segment_total file) (λ i. (lies_in (length file) (p_offset file i) (p_filesz file i) 1, OutOfFile (program_header file i))))
     ∙ sym (assoc headers lies (each_below (segment_total file) (segment_check file)))
 
 sections_are : (file : List ℕ) → first_broken (section_rules file) ≡ sections_check file
 unfolding sections_check bytes_check
 sections_are file =
-    ap (λ (c : Check). unless (lies_in (length file) (header_fields file).e_shoff (section_count file) 64) (OutOfFile 40) >> c)
+    ap (λ (c : ElfCheck). unless (lies_in (length file) (header_fields file).e_shoff (section_count file) 64) (OutOfFile 40) >> c)
     (mapped_where (section_count file) (has_bytes file) (λ i. (lies_in (length file) (section_fields file i).sh_offset (section_fields file i).sh_size 1, OutOfFile (section_header file i))))
 
 names_are : (file : List ℕ) → first_broken (name_rules file) ≡ names_check file
@@ -178,7 +178,7 @@ unfolding names_check has_names name_check
 names_are file =
     let row : ℕ → Bool × ElfFault = λ i. (has_text (section_fields file i).sh_name (section_bytes file (name_table file)), Strings (section_header file i)) in
     at_test (has_names file) ((is_string_table file (name_table file), Strings 62) ∷ map row (sections file))
-    ∙ ap (λ (c : Check). where_so (has_names file) (unless (is_string_table file (name_table file)) (Strings 62) >> c)) (mapped (section_count file) row)
+    ∙ ap (λ (c : ElfCheck). where_so (has_names file) (unless (is_string_table file (name_table file)) (Strings 62) >> c)) (mapped (section_count file) row)
 
 -- ---- the sections that are used
 rela_is : (file : List ℕ) (i : ℕ) → where_so (is_used_rela file i) (first_broken (rela_rules file i)) ≡ rela_check file i
@@ -233,7 +233,7 @@ group_is file i =
     let symbol = unless (nat_lt group.sh_info (entry_count file group.sh_link)) (SymbolIndex (section_header file i)) in
     let name = unless (is_string_table file strings && has_text (symbol_fields file group.sh_link group.sh_info).st_name (section_bytes file strings)) (Strings (section_header file i)) in
     ap (where_so (is_group file i))
-    (ap (λ (c : Check). words >> (symbols >> (entries >> (symbol >> (name >> c)))))
+    (ap (λ (c : ElfCheck). words >> (symbols >> (entries >> (symbol >> (name >> c)))))
     (mapped (member_count file i) (λ k. (nat_lt (group_member file i k) (section_count file), SymbolIndex (group.sh_offset + (4 * k + 4)))))
     ∙ six_on words symbols entries symbol name (each_below (member_count file i) (member_check file i)))
 
@@ -322,11 +322,11 @@ compressed_is file =
 seven_lists : (a b c d e f g : List (Bool × ElfFault)) → first_broken (a ++ b ++ c ++ d ++ e ++ f ++ g) ≡ (first_broken a >> first_broken b >> (first_broken c >> first_broken d >> first_broken e >> first_broken f >> first_broken g))
 seven_lists a b c d e f g =
     joined (a ++ b ++ c ++ d ++ e ++ f) g
-    ∙ ap (λ (x : Check). x >> first_broken g) (joined (a ++ b ++ c ++ d ++ e) f
-    ∙ ap (λ (x : Check). x >> first_broken f) (joined (a ++ b ++ c ++ d) e
-    ∙ ap (λ (x : Check). x >> first_broken e) (joined (a ++ b ++ c) d
-    ∙ ap (λ (x : Check). x >> first_broken d) (joined (a ++ b) c
-    ∙ ap (λ (x : Check). x >> first_broken c) (joined a b)))))
+    ∙ ap (λ (x : ElfCheck). x >> first_broken g) (joined (a ++ b ++ c ++ d ++ e) f
+    ∙ ap (λ (x : ElfCheck). x >> first_broken f) (joined (a ++ b ++ c ++ d) e
+    ∙ ap (λ (x : ElfCheck). x >> first_broken e) (joined (a ++ b ++ c) d
+    ∙ ap (λ (x : ElfCheck). x >> first_broken d) (joined (a ++ b) c
+    ∙ ap (λ (x : ElfCheck). x >> first_broken c) (joined a b)))))
     ∙ two_and_five (first_broken a) (first_broken b) (first_broken c) (first_broken d) (first_broken e) (first_broken f) (first_broken g)
 
 abbrev others_of : List ℕ → List (Bool × ElfFault)
@@ -353,11 +353,11 @@ file_check_is file =
     let others = others_of file in
     let content = cond (is_core file) (core_rules file) others in
     joined (identity_rules (length file) (header_fields file) ++ first) content
-    ∙ ap (λ (c : Check). c >> first_broken content)
+    ∙ ap (λ (c : ElfCheck). c >> first_broken content)
     (joined (identity_rules (length file) (header_fields file)) first
-    ∙ ap (λ (c : Check). c >> first_broken first) (identity_is file)
-    ∙ ap (λ (c : Check). identity_check file >> purpose_check file >> c) (table_is file))
-    ∙ ap (λ (c : Check). identity_check file >> purpose_check file >> table_check file >> c)
+    ∙ ap (λ (c : ElfCheck). c >> first_broken first) (identity_is file)
+    ∙ ap (λ (c : ElfCheck). identity_check file >> purpose_check file >> c) (table_is file))
+    ∙ ap (λ (c : ElfCheck). identity_check file >> purpose_check file >> table_check file >> c)
     (either (is_core file) (core_rules file) others
-    ∙ ap (λ (c : Check). cond (is_core file) c (first_broken others)) (core_is file)
-    ∙ ap (λ (c : Check). cond (is_core file) (core_check file) c) (others_are file))
+    ∙ ap (λ (c : ElfCheck). cond (is_core file) c (first_broken others)) (core_is file)
+    ∙ ap (λ (c : ElfCheck). cond (is_core file) (core_check file) c) (others_are file))

@@ -6,7 +6,7 @@ use Rattle.std.proofs.lemmas.Bool.{cases_lt, eq-eqb, ne_eqb}
 use Rattle.std.proofs.Math.ListN.{drop_of_length-le}
 use Rattle.std.proofs.lemmas.List.{get_or-drop, length-drop, length-take, drop-drop, drop-take, take_all, take_min}
 use Rattle.std.proofs.lemmas.List.Sums.{prefix_len_passes, prefix_len_stops}
-use Rattle.elf_read.specs.Number.{upto, text_in, has_text, window, StandsAt}
+use Rattle.elf_read.specs.Number.{upto, text_in, has_text, window, LiesAt}
 use Rattle.elf_read.specs.Sections.{has_bytes, name_table, section_bytes, section_name, section_fields}
 
 abbrev is_zero : ℕ → Bool
@@ -130,23 +130,23 @@ window_part size n xs = elim (cases_lt n size) [
       drop_of_length-le (take size xs) short ∙ ap (λ (s : ℕ). take s (drop n xs)) (sym none)
 ]
 
-pub stands_at : (p size n : ℕ) (bytes : List ℕ) → StandsAt (p + n) (drop n (window p size bytes)) bytes
+pub stands_at : (p size n : ℕ) (bytes : List ℕ) → LiesAt (p + n) (drop n (window p size bytes)) bytes
 stands_at p size n bytes =
     let ys = drop (p + n) bytes in
     let part : drop n (window p size bytes) ≡ take (size - n) ys = window_part size n (drop p bytes) ∙ ap (take (size - n)) (drop-drop n p bytes) in
     part ∙ sym (take_min (size - n) ys) ∙ ap (λ (k : ℕ). take k ys) (sym (ap length part ∙ length-take (size - n) ys))
 
-place_by : (b : Bool) (off size : ℕ) (file : List ℕ) (place at : ℕ) (rest : List ℕ) → rest ≡ drop place (cond b (window off size file) []) → (0 < length rest → at ≡ off + place) → StandsAt at rest file
+place_by : (b : Bool) (off size : ℕ) (file : List ℕ) (place at : ℕ) (rest : List ℕ) → rest ≡ drop place (cond b (window off size file) []) → (0 < length rest → at ≡ off + place) → LiesAt at rest file
 place_by b off size file place at [] is there = refl
 place_by true off size file place at (x ∷ xs) is there =
     let same : at ≡ off + place = there (omega arith) in
-    subst (λ (p : ℕ). StandsAt p (x ∷ xs) file) (sym same) (subst (λ (r : List ℕ). StandsAt (off + place) r file) (sym is) (stands_at off size place file))
+    subst (λ (p : ℕ). LiesAt p (x ∷ xs) file) (sym same) (subst (λ (r : List ℕ). LiesAt (off + place) r file) (sym is) (stands_at off size place file))
 place_by false off size file place at (x ∷ xs) is there =
     let low : 0 ≤ place = omega arith in
     absurd (let differ : x ∷ xs ≡ [] = is ∙ drop_of_length-le [] low in cc)
 
 -- what is left of a section from a place on stands at that place of the section
-pub text_place : (file : List ℕ) (i place at : ℕ) (rest : List ℕ) → rest ≡ drop place (section_bytes file i) → (0 < length rest → at ≡ (section_fields file i).sh_offset + place) → StandsAt at rest file
+pub text_place : (file : List ℕ) (i place at : ℕ) (rest : List ℕ) → rest ≡ drop place (section_bytes file i) → (0 < length rest → at ≡ (section_fields file i).sh_offset + place) → LiesAt at rest file
 unfolding section_bytes
 text_place file i place at rest is there = place_by (has_bytes file i) (section_fields file i).sh_offset (section_fields file i).sh_size file place at rest is there
 

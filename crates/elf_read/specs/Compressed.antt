@@ -2,7 +2,7 @@
 -- "Compressed Sections").
 use Rattle.std.specs.Prelude.{◌≡◌, ◌⊎◌, ◌<◌, ◌≤◌, ◌||◌, ℕ, true, false, List, Ok, Err}
 use Rattle.elf_read.specs.declared.fault.ElfFault.TheVariants.{Compressed}
-use Rattle.elf_read.specs.Checks.{Check}
+use Rattle.elf_read.specs.Checks.{ElfCheck}
 use Rattle.elf_read.specs.Sections.{section_header, section_fields, section_count, is_compressed, is_eh_frame}
 use Rattle.elf_read.specs.Used.{is_used_rela, is_group}
 
@@ -27,6 +27,6 @@ pub record IsFirstCompressed (file : List ℕ) (i : ℕ) : Type 0 where
   pub least : (k : ℕ) → IsUsed file k → is_compressed file k ≡ true → i ≤ k
 
 -- no used section is compressed, or the first one that is is refused
-abbrev pub NoneIsCompressed : List ℕ → Check → Type 0
+abbrev pub NoneIsCompressed : List ℕ → ElfCheck → Type 0
 NoneIsCompressed file (Ok u) = (k : ℕ) → IsUsed file k → is_compressed file k ≡ false
 NoneIsCompressed file (Err e) = (i : ℕ) × (e ≡ Compressed (section_header file i)) × IsFirstCompressed file i

@@ -3,24 +3,24 @@ use Rattle.std.specs.Prelude.{◌≡◌, ℕ, ◌+◌, ◌*◌, ◌/◌, ◌%◌
 use Rattle.std.specs.List.{position, position_or_len}
 use Rattle.byteorder.specs.Endian.{little_number}
 
--- the number in the first bytes, where there are as many
+-- the number in the first `width` bytes, or 0 if there are fewer
 unfoldable pub front_number : ℕ → List ℕ → ℕ
 front_number width bytes = if nat_lt (length bytes) width then 0 else little_number width bytes
 
--- the number of so many bytes at a place, where the bytes go that far
-abbrev pub number_in : ℕ → ℕ → List ℕ → ℕ
-number_in width place bytes = front_number width (drop place bytes)
+-- the number in the field of `width` bytes at a place, or 0 if the bytes end before that
+abbrev pub field_at : ℕ → ℕ → List ℕ → ℕ
+field_at width place bytes = front_number width (drop place bytes)
 
--- so many bytes from a place on
+-- `size` bytes from a place on, or those that are there
 abbrev pub window : ℕ → ℕ → List ℕ → List ℕ
 window place size bytes = take size (drop place bytes)
 
--- bytes stand at this place
-abbrev pub StandsAt : ℕ → List ℕ → List ℕ → Type 0
-StandsAt place part bytes = part ≡ window place (length part) bytes
+-- the part is what the bytes have at this place
+abbrev pub LiesAt : ℕ → List ℕ → List ℕ → Type 0
+LiesAt place part bytes = part ≡ window place (length part) bytes
 
--- whether so many entries of a length from a place on lie in so many bytes
-abbrev pub lies_in : ℕ → ℕ → ℕ → ℕ → Bool
+-- whether `count` entries of `entry` bytes from a place on lie in `len` bytes
+abbrev pub lies_in : (len place count entry : ℕ) → Bool
 lies_in len place count entry = nat_le (place + entry * count) len
 
 -- whether a flag that is a power of two is set
@@ -40,7 +40,7 @@ text_in place table = upto (position (λ b. b == 0) (drop place table)) (drop pl
 unfoldable pub has_text : ℕ → List ℕ → Bool
 has_text place table = is_some (position (λ b. b == 0) (drop place table))
 
--- texts stand at exactly the places below a number
+-- texts begin at exactly the places below a number
 abbrev pub EndsTexts : List ℕ → ℕ → Type 0
 EndsTexts table end = (place : ℕ) → has_text place table ≡ nat_lt place end
 
@@ -48,6 +48,6 @@ EndsTexts table end = (place : ℕ) → has_text place table ≡ nat_lt place en
 abbrev pub zero_from : List ℕ → ℕ → ℕ
 zero_from bytes place = place + position_or_len (λ b. b == 0) (drop place bytes)
 
--- so many bytes from a place on are there, and none of them is zero
-abbrev pub IsFree : List ℕ → ℕ → ℕ → Type 0
-IsFree bytes place len = place + len ≤ zero_from bytes place
+-- `len` bytes from a place on are there, and none of them is zero
+abbrev pub HasNoZero : List ℕ → ℕ → ℕ → Type 0
+HasNoZero bytes place len = place + len ≤ zero_from bytes place

@@ -4,7 +4,7 @@ use Rattle.std.specs.Prelude.{◌≡◌, ℕ, zero, suc, true, ◌+◌, ◌/◌,
 use Rattle.elf_read.specs.declared.fault.ElfFault.TheVariants.{OutOfFile}
 use Rattle.elf_read.specs.Sections.{section_header, section_bytes, section_count, is_eh_frame, entry_count}
 use Rattle.elf_read.specs.Checking.{unless}
-use Rattle.elf_read.specs.Checks.{Check}
+use Rattle.elf_read.specs.Checks.{ElfCheck}
 use Rattle.elf_read.specs.Used.{is_used_rela, is_group}
 
 -- A section that is read whole: call frame information, an object's relocations of such a section, and each group of an object,
@@ -12,12 +12,12 @@ use Rattle.elf_read.specs.Used.{is_used_rela, is_group}
 unfoldable pub is_read : List ℕ → ℕ → Bool
 is_read file i = is_eh_frame file i || (is_used_rela file i || is_group file i)
 
--- ---- what the law `room_law` says
+-- ---- for the law `room_law`
 -- how many of a section's bytes are read: all or none
 unfoldable pub read_size : List ℕ → ℕ → ℕ
 read_size file i = if is_read file i then length (section_bytes file i) else 0
 
--- of the first n sections together
+-- how many bytes of the first n sections are read
 unfoldable pub read_size_below : List ℕ → ℕ → ℕ
 read_size_below file zero = 0
 read_size_below file (suc n) = read_size_below file n + read_size file n
@@ -29,5 +29,5 @@ pub record HasRoom (file : List ℕ) : Type 0 where
 
 -- ---- Inside the crate: the check in the order of the code
 -- no byte is in two sections, so there is room in the file for those up to this one
-unfoldable pub room_check : List ℕ → ℕ → Check
+unfoldable pub room_check : List ℕ → ℕ → ElfCheck
 room_check file i = unless (nat_le (read_size_below file (suc i)) (length file)) (OutOfFile (section_header file i))

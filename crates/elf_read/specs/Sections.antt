@@ -3,7 +3,7 @@
 use Rattle.std.specs.Prelude.{ℕ, ℤ, true, false, ◌+◌, ◌-◌, ◌*◌, ◌/◌, ◌==◌, Bool, ◌&&◌, List, [], ◌∷◌, length, drop, if◌then◌else◌}
 use Rattle.byteorder.specs.Endian.{twos_complement}
 use Rattle.std.specs.Cmp.Lexicographic.{pointwise}
-use Rattle.elf_read.specs.Number.{number_in, window, has_flag, text_in}
+use Rattle.elf_read.specs.Number.{field_at, window, has_flag, text_in}
 use Rattle.elf_read.specs.Header.{header_fields, is_core}
 
 -- the place of a section header
@@ -23,21 +23,21 @@ pub record SectionHeader : Type 0 where
   pub sh_addralign : ℕ
   pub sh_entsize : ℕ
 
--- the one with this number
+-- the header of section i
 unfoldable pub section_fields : List ℕ → ℕ → SectionHeader
 section_fields file i =
     let headers = drop (header_fields file).e_shoff file in
     record {
-      sh_name = number_in 4 (64 * i + 0) headers;
-      sh_type = number_in 4 (64 * i + 4) headers;
-      sh_flags = number_in 8 (64 * i + 8) headers;
-      sh_addr = number_in 8 (64 * i + 16) headers;
-      sh_offset = number_in 8 (64 * i + 24) headers;
-      sh_size = number_in 8 (64 * i + 32) headers;
-      sh_link = number_in 4 (64 * i + 40) headers;
-      sh_info = number_in 4 (64 * i + 44) headers;
-      sh_addralign = number_in 8 (64 * i + 48) headers;
-      sh_entsize = number_in 8 (64 * i + 56) headers;
+      sh_name = field_at 4 (64 * i + 0) headers;
+      sh_type = field_at 4 (64 * i + 4) headers;
+      sh_flags = field_at 8 (64 * i + 8) headers;
+      sh_addr = field_at 8 (64 * i + 16) headers;
+      sh_offset = field_at 8 (64 * i + 24) headers;
+      sh_size = field_at 8 (64 * i + 32) headers;
+      sh_link = field_at 4 (64 * i + 40) headers;
+      sh_info = field_at 4 (64 * i + 44) headers;
+      sh_addralign = field_at 8 (64 * i + 48) headers;
+      sh_entsize = field_at 8 (64 * i + 56) headers;
     }
 
 -- the number of sections: where e_shnum is 0, section 0's size; those of a core file aren't read
@@ -54,10 +54,11 @@ segment_total file = if (header_fields file).e_phnum == 0xffff then (section_fie
 unfoldable pub segment_count : List ℕ → ℕ
 segment_count file = if is_core file then segment_total file else 0
 
--- SHT_NULL 0 and SHT_NOBITS 8 have no bytes
+-- whether a section has bytes in the file: SHT_NULL 0 and SHT_NOBITS 8 have none
 unfoldable pub has_bytes : List ℕ → ℕ → Bool
 has_bytes file i = if (section_fields file i).sh_type == 0 then false else (if (section_fields file i).sh_type == 8 then false else true)
 
+-- a section's bytes
 unfoldable pub section_bytes : List ℕ → ℕ → List ℕ
 section_bytes file i = if has_bytes file i then window (section_fields file i).sh_offset (section_fields file i).sh_size file else []
 
@@ -69,15 +70,15 @@ name_table file = if (header_fields file).e_shstrndx == 0xffff then (section_fie
 unfoldable pub section_name : List ℕ → ℕ → List ℕ
 section_name file i = if name_table file == 0 then [] else text_in (section_fields file i).sh_name (section_bytes file (name_table file))
 
--- SHF_ALLOC 0x2
+-- whether a section is loaded: SHF_ALLOC 0x2
 unfoldable pub is_allocated : List ℕ → ℕ → Bool
 is_allocated file i = has_flag (section_fields file i).sh_flags 2
 
--- SHF_INFO_LINK 0x40: the section's info is the number of a section
+-- whether a section has the flag SHF_INFO_LINK 0x40: its info is the number of a section
 unfoldable pub has_info_link : List ℕ → ℕ → Bool
 has_info_link file i = has_flag (section_fields file i).sh_flags 0x40
 
--- SHF_COMPRESSED 0x800
+-- whether a section's bytes are compressed: SHF_COMPRESSED 0x800
 unfoldable pub is_compressed : List ℕ → ℕ → Bool
 is_compressed file i = has_flag (section_fields file i).sh_flags 0x800
 
@@ -95,9 +96,9 @@ pub record SymbolEntry : Type 0 where
 -- symbol k of the table that is section i
 unfoldable pub symbol_fields : List ℕ → ℕ → ℕ → SymbolEntry
 symbol_fields file i k = record {
-  st_name = number_in 4 (24 * k + 0) (section_bytes file i);
-  st_shndx = number_in 2 (24 * k + 6) (section_bytes file i);
-  st_value = number_in 8 (24 * k + 8) (section_bytes file i);
+  st_name = field_at 4 (24 * k + 0) (section_bytes file i);
+  st_shndx = field_at 2 (24 * k + 6) (section_bytes file i);
+  st_value = field_at 8 (24 * k + 8) (section_bytes file i);
 }
 
 -- a relocation with an addend (Elf64_Rela): the low half of its info is its type, the high half its symbol
@@ -110,15 +111,15 @@ pub record RelaEntry : Type 0 where
 -- entry k of the relocation section i
 unfoldable pub rela_fields : List ℕ → ℕ → ℕ → RelaEntry
 rela_fields file i k = record {
-  r_offset = number_in 8 (24 * k) (section_bytes file i);
-  r_type = number_in 4 (24 * k + 8) (section_bytes file i);
-  r_sym = number_in 4 (24 * k + 12) (section_bytes file i);
-  r_addend = twos_complement 8 (number_in 8 (24 * k + 16) (section_bytes file i));
+  r_offset = field_at 8 (24 * k) (section_bytes file i);
+  r_type = field_at 4 (24 * k + 8) (section_bytes file i);
+  r_sym = field_at 4 (24 * k + 12) (section_bytes file i);
+  r_addend = twos_complement 8 (field_at 8 (24 * k + 16) (section_bytes file i));
 }
 
 -- the number of a member of a group; the word before the members holds the group's flags
 unfoldable pub group_member : List ℕ → ℕ → ℕ → ℕ
-group_member file i k = number_in 4 (4 * k + 4) (section_bytes file i)
+group_member file i k = field_at 4 (4 * k + 4) (section_bytes file i)
 
 -- how many members a group's bytes hold after its flags
 unfoldable pub member_count : List ℕ → ℕ → ℕ

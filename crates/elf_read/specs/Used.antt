@@ -6,7 +6,7 @@ use Rattle.elf_read.specs.Number.{has_text}
 use Rattle.elf_read.specs.Header.{is_rel}
 use Rattle.elf_read.specs.Sections.{section_header, section_fields, section_count, section_bytes, is_compressed, is_eh_frame, symbol_fields, rela_fields, group_member, member_count, entry_count}
 use Rattle.elf_read.specs.Checking.{unless, where_so, ◌>>◌, each_below}
-use Rattle.elf_read.specs.Checks.{Check, is_string_table}
+use Rattle.elf_read.specs.Checks.{ElfCheck, is_string_table}
 
 -- the number of a section that holds call frame information
 unfoldable pub names_eh_frame : List ℕ → ℕ → Bool
@@ -40,16 +40,17 @@ unfoldable pub is_symbol : List ℕ → ℕ → ℕ → Bool
 is_symbol file table k = nat_lt k (entry_count file table)
 
 -- a relocation section's symbol table, its own entries, and that table's
-unfoldable pub rela_tables : List ℕ → ℕ → Check
+unfoldable pub rela_tables : List ℕ → ℕ → ElfCheck
 rela_tables file i =
     unless (is_symbol_table file (section_fields file i).sh_link) (SymbolIndex (section_header file i))
     >> unless (is_entry_table file i) (EntrySize (section_header file i))
     >> unless (is_entry_table file (section_fields file i).sh_link) (EntrySize (section_header file (section_fields file i).sh_link))
 
-unfoldable pub rela_check : List ℕ → ℕ → Check
+-- the tables of a relocation section that is used
+unfoldable pub rela_check : List ℕ → ℕ → ElfCheck
 rela_check file i = where_so (is_used_rela file i) (rela_tables file i)
 
--- the name of a group's symbol stands in its table's string table
+-- the name of a group's symbol is in its table's string table
 unfoldable pub has_signature : List ℕ → ℕ → Bool
 has_signature file i =
     is_string_table file (section_fields file (section_fields file i).sh_link).sh_link
@@ -59,8 +60,8 @@ has_signature file i =
 unfoldable pub is_word_table : List ℕ → ℕ → Bool
 is_word_table file i = ((section_fields file i).sh_size % 4 == 0) && not ((section_fields file i).sh_size == 0)
 
--- a group's size, its symbol table, its symbol, and the name of that
-unfoldable pub group_tables : List ℕ → ℕ → Check
+-- a group's size, its symbol table, its symbol, and the symbol's name
+unfoldable pub group_tables : List ℕ → ℕ → ElfCheck
 group_tables file i =
     unless (is_word_table file i) (EntrySize (section_header file i))
     >> unless (is_symbol_table file (section_fields file i).sh_link) (SymbolIndex (section_header file i))
@@ -69,13 +70,15 @@ group_tables file i =
     >> unless (has_signature file i) (Strings (section_header file i))
 
 -- a member is the number of a section
-unfoldable pub member_check : List ℕ → ℕ → ℕ → Check
+unfoldable pub member_check : List ℕ → ℕ → ℕ → ElfCheck
 member_check file i k = unless (nat_lt (group_member file i k) (section_count file)) (SymbolIndex ((section_fields file i).sh_offset + (4 * k + 4)))
 
-unfoldable pub members_check : List ℕ → ℕ → Check
+-- each member of a group is the number of a section
+unfoldable pub members_check : List ℕ → ℕ → ElfCheck
 members_check file i = each_below (member_count file i) (member_check file i)
 
-unfoldable pub group_check : List ℕ → ℕ → Check
+-- the tables and the members of a section that is a group
+unfoldable pub group_check : List ℕ → ℕ → ElfCheck
 group_check file i = where_so (is_group file i) (group_tables file i >> members_check file i)
 
 -- this number, where it is used and names a compressed section
@@ -95,15 +98,16 @@ unfoldable pub least_compressed : List ℕ → ℕ → Option ℕ
 least_compressed file zero = None
 least_compressed file (suc n) = least (least_compressed file n) (compressed_by file n)
 
-abbrev pub refused_compressed : List ℕ → Option ℕ → Check
+-- the fault of the compressed section that is named, if there is one
+abbrev pub refused_compressed : List ℕ → Option ℕ → ElfCheck
 refused_compressed file None = Ok tt
 refused_compressed file (Some i) = Err (Compressed (section_header file i))
 
 -- no used section is compressed; the first in order of number is named
-unfoldable pub compressed_check : List ℕ → Check
+unfoldable pub compressed_check : List ℕ → ElfCheck
 compressed_check file = refused_compressed file (least_compressed file (section_count file))
 
--- SHN_LORESERVE 0xff00 and above are reserved
+-- whether an index is the number of a section, or reserved: SHN_LORESERVE 0xff00 and above
 abbrev pub is_section_number : List ℕ → ℕ → Bool
 is_section_number file index = nat_le 0xff00 index || nat_lt index (section_count file)
 
@@ -112,8 +116,9 @@ unfoldable pub is_sound_symbol : List ℕ → ℕ → ℕ → Bool
 is_sound_symbol file table k = is_symbol file table k && is_section_number file (symbol_fields file table k).st_shndx
 
 -- an entry's symbol is sound
-unfoldable pub entry_check : List ℕ → ℕ → ℕ → Check
+unfoldable pub entry_check : List ℕ → ℕ → ℕ → ElfCheck
 entry_check file i k = unless (is_sound_symbol file (section_fields file i).sh_link (rela_fields file i k).r_sym) (SymbolIndex ((section_fields file i).sh_offset + 24 * k))
 
-unfoldable pub entries_check : List ℕ → ℕ → Check
+-- the symbols of a relocation section that is used
+unfoldable pub entries_check : List ℕ → ℕ → ElfCheck
 entries_check file i = where_so (is_used_rela file i) (each_below (entry_count file i) (entry_check file i))

@@ -6,7 +6,7 @@ use Rattle.elf_read.specs.declared.entry.Section.{Section}
 use Rattle.elf_read.specs.declared.entry.Symbol.{Symbol}
 use Rattle.elf_read.specs.declared.entry.GroupHead.{GroupHead}
 use Rattle.elf_read.specs.declared.text.Text.{Text}
-use Rattle.elf_read.specs.Number.{number_in, window, text_in}
+use Rattle.elf_read.specs.Number.{field_at, window, text_in}
 use Rattle.elf_read.specs.Header.{p_offset, p_filesz}
 use Rattle.elf_read.specs.Sections.{section_fields, section_count, section_bytes, section_name, symbol_fields, member_count}
 use Rattle.elf_read.specs.Used.{is_group}
@@ -56,6 +56,7 @@ pub record GroupView : Type 0 where
 abbrev pub text_bytes : Text → List ℕ
 text_bytes text = text_in 0 text.rest.now
 
+-- the view of a group's head
 abbrev pub group_view : GroupHead → GroupView
 group_view head = record { comdat = head.comdat; signature = text_bytes head.signature; count = head.count }
 
@@ -64,7 +65,7 @@ unfoldable pub group_of : List ℕ → ℕ → Option GroupView
 group_of bytes i =
     if is_group bytes i
     then Some (record {
-      comdat = number_in 4 0 (section_bytes bytes i) % 2 == 1;
+      comdat = field_at 4 0 (section_bytes bytes i) % 2 == 1;
       signature = symbol_text bytes (section_fields bytes i).sh_link (section_fields bytes i).sh_info;
       count = member_count bytes i;
     })
@@ -75,9 +76,10 @@ group_of bytes i =
 unfoldable pub symbol_name : List ℕ → ℕ → ℕ → List ℕ
 symbol_name bytes table k = text_in (symbol_fields bytes table k).st_name (section_bytes bytes (section_fields bytes table).sh_link)
 
--- the name of a section, where the index is one's number; a reserved index isn't
+-- whether an index is the number of a section; a reserved index isn't
 abbrev pub names_section : List ℕ → ℕ → Bool
 names_section bytes index = nat_lt index 0xff00 && nat_lt index (section_count bytes)
 
+-- whether a group is a COMDAT group
 unfoldable pub is_comdat : List ℕ → ℕ → Bool
-is_comdat bytes i = number_in 4 0 (section_bytes bytes i) % 2 == 1
+is_comdat bytes i = field_at 4 0 (section_bytes bytes i) % 2 == 1

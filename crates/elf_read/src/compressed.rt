@@ -10,7 +10,7 @@ use crate::section_header::{header_place, sh_link};
 use crate::sections::{is_compressed, is_eh_frame};
 use crate::used::{is_group, is_used_rela};
 
-// The lesser of two numbers, where there are some.
+// Returns the lesser of two numbers, where there are some.
 fn least(a: Option<u32>, b: Option<u32>) -> Option<u32>
     ensures { result ≡ spec.least a b }
 {
@@ -21,7 +21,7 @@ fn least(a: Option<u32>, b: Option<u32>) -> Option<u32>
     }
 }
 
-// This number, where it is used and names a compressed section.
+// Returns this number, where it is used and names a compressed section.
 #[tactic(auto, unfolding(crate::specs::Used::if_compressed))]
 fn if_compressed(file: &[u8], used: bool, i: u32) -> Option<u32>
     ensures { result ≡ spec.if_compressed file.now used i }
@@ -33,7 +33,7 @@ fn if_compressed(file: &[u8], used: bool, i: u32) -> Option<u32>
     }
 }
 
-// The least compressed section among those that are used because of this one.
+// Returns the least compressed section among those that are used because of this one.
 #[tactic(auto, unfolding(crate::specs::Used::compressed_by))]
 fn compressed_by(file: &[u8], i: u32) -> Option<u32>
     ensures { result ≡ spec.compressed_by file.now i }
@@ -47,7 +47,7 @@ fn compressed_by(file: &[u8], i: u32) -> Option<u32>
     least(itself, least(table, strings))
 }
 
-// The least compressed section among those that are used.
+// Returns the least compressed section among those that are used.
 fn least_compressed(file: &[u8], count: u32) -> Option<u32>
     ensures { result ≡ spec.least_compressed file.now count }
 {
@@ -58,7 +58,7 @@ fn least_compressed(file: &[u8], count: u32) -> Option<u32>
     found
 }
 
-/// The first compressed section that is used, in order of number.
+/// Checks that no section that is used is compressed; the one with the lowest number is refused.
 #[tactic(auto, unfolding(crate::specs::Used::compressed_check))]
 pub fn check_compressed(file: &[u8], count: u32) -> Result<(), ElfFault>
     requires headers { (header_fields file.now).e_shoff < 2 ^ 32 }

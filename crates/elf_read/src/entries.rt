@@ -10,7 +10,7 @@ use crate::layout::{
 use crate::number::{u16_at, u32_at, u64_at};
 use crate::sections::{section_bytes, section_count};
 
-/// The place of a symbol's name in the string table of its table.
+/// Returns the place of a symbol's name in the string table of its table.
 #[tactic(auto, unfolding(crate::specs::Sections::symbol_fields))]
 pub fn st_name(file: &[u8], table: u32, k: u32) -> u32
     ensures { result ≡ (spec.symbol_fields file.now table k).st_name }
@@ -21,7 +21,7 @@ pub fn st_name(file: &[u8], table: u32, k: u32) -> u32
     )
 }
 
-/// The number of a symbol's section, or a reserved index.
+/// Returns the number of a symbol's section, or a reserved index.
 #[tactic(auto, unfolding(crate::specs::Sections::symbol_fields))]
 pub fn st_shndx(file: &[u8], table: u32, k: u32) -> u16
     ensures { result ≡ (spec.symbol_fields file.now table k).st_shndx }
@@ -32,7 +32,7 @@ pub fn st_shndx(file: &[u8], table: u32, k: u32) -> u16
     )
 }
 
-/// A symbol's value.
+/// Returns a symbol's value.
 #[tactic(auto, unfolding(crate::specs::Sections::symbol_fields))]
 pub fn st_value(file: &[u8], table: u32, k: u32) -> u64
     ensures { result ≡ (spec.symbol_fields file.now table k).st_value }
@@ -43,7 +43,7 @@ pub fn st_value(file: &[u8], table: u32, k: u32) -> u64
     )
 }
 
-/// The number of the symbol that a relocation names.
+/// Returns the number of the symbol that a relocation names.
 #[tactic(auto, unfolding(crate::specs::Sections::rela_fields))]
 pub fn rela_symbol(file: &[u8], i: u32, k: u32) -> u32
     ensures { result ≡ (spec.rela_fields file.now i k).r_sym }
@@ -51,7 +51,7 @@ pub fn rela_symbol(file: &[u8], i: u32, k: u32) -> u32
     u32_at(section_bytes(file, i), ENTRY_LEN * u64::from(k) + R_SYMBOL)
 }
 
-/// The number of a group's member.
+/// Returns the number of a group's member.
 #[tactic(auto, unfolding(crate::specs::Sections::group_member))]
 pub fn group_member(file: &[u8], i: u32, k: u32) -> u32
     ensures { result ≡ spec.group_member file.now i k }
@@ -62,7 +62,7 @@ pub fn group_member(file: &[u8], i: u32, k: u32) -> u32
     )
 }
 
-/// How many members a group has.
+/// Returns how many members a group has.
 #[tactic(auto, unfolding(crate::specs::Sections::member_count))]
 pub fn member_count(file: &[u8], i: u32) -> u64
     ensures value { result ≡ spec.member_count file.now i }
@@ -72,7 +72,7 @@ pub fn member_count(file: &[u8], i: u32) -> u64
     (section_bytes(file, i).len() as u64 / GROUP_WORD_LEN).saturating_sub(1)
 }
 
-/// How many symbols or relocations a section has.
+/// Returns how many symbols or relocations a section has.
 #[tactic(auto, unfolding(crate::specs::Sections::entry_count))]
 pub fn entry_count(file: &[u8], i: u32) -> u64
     ensures value { result ≡ spec.entry_count file.now i }
@@ -82,7 +82,7 @@ pub fn entry_count(file: &[u8], i: u32) -> u64
     section_bytes(file, i).len() as u64 / ENTRY_LEN
 }
 
-/// Whether a table has a symbol of this number.
+/// Returns whether a table has a symbol of this number.
 #[tactic(auto, unfolding(crate::specs::Used::is_symbol))]
 pub fn is_symbol(file: &[u8], table: u32, k: u32) -> bool
     ensures { result ≡ used.is_symbol file.now table k }
@@ -90,14 +90,14 @@ pub fn is_symbol(file: &[u8], table: u32, k: u32) -> bool
     u64::from(k) < entry_count(file, table)
 }
 
-// Whether a symbol's index is reserved or the number of a section.
+// Returns whether a symbol's index is reserved or the number of a section.
 fn is_section_number(file: &[u8], index: u16) -> bool
     ensures { result ≡ used.is_section_number file.now index }
 {
     index >= SHN_LORESERVE || u64::from(index) < section_count(file)
 }
 
-/// Whether a table has a symbol of this number that lies in a section of the file or has a reserved index.
+/// Returns whether a table has a symbol of this number that lies in a section of the file or has a reserved index.
 #[tactic(auto, unfolding(crate::specs::Used::is_sound_symbol))]
 pub fn is_sound_symbol(file: &[u8], table: u32, k: u32) -> bool
     ensures { result ≡ used.is_sound_symbol file.now table k }

@@ -65,7 +65,7 @@ pub struct Symbol {
 /// A section group (ELF64 gABI, "Section Groups").
 #[derive(Clone, Copy)]
 pub struct GroupHead<'a> {
-    /// Whether one copy of it is kept.
+    /// True if one copy of it is kept.
     pub comdat: bool,
     /// What its copies have in common.
     pub signature: Text<'a>,

@@ -19,7 +19,7 @@ pub enum ElfFault {
     Kind(u64),
     /// Entries have another length than the format's, or a table isn't made of whole entries.
     EntrySize(u64),
-    /// A name doesn't stand in a string table.
+    /// A name isn't in a string table.
     Strings(u64),
     /// Headers or bytes don't lie in the file.
     OutOfFile(u64),

@@ -8,7 +8,7 @@ use crate::text::text_len;
 /// How many bytes are looked at together.
 const STRETCH: usize = 64;
 
-// Whether one of the bytes is zero. All are looked at, so that the machine can take many at once.
+// Returns whether one of the bytes is zero. All are looked at, so that the machine can take many at once.
 #[inline(always)]
 fn has_zero(bytes: &[u8]) -> bool
     ensures { result ≡ list_any (λ b. b == 0) bytes.now }
@@ -20,7 +20,7 @@ fn has_zero(bytes: &[u8]) -> bool
     found
 }
 
-// How many bytes the stretches have that come before the first one with a zero byte.
+// Returns how many bytes the stretches have that come before the first one with a zero byte.
 fn len_without_zero(bytes: &[u8]) -> usize
     ensures { result ≤ position_or_len (λ b. b == 0) bytes.now }
 {
@@ -33,7 +33,7 @@ fn len_without_zero(bytes: &[u8]) -> usize
     bytes.len() / STRETCH * STRETCH
 }
 
-/// How many bytes come before the first zero byte, or how many there are where none is zero.
+/// Returns how many bytes come before the first zero byte, or how many there are where none is zero.
 pub fn bytes_before_zero(bytes: &[u8]) -> usize
     ensures value { result ≡ position_or_len (λ b. b == 0) bytes.now }
     ensures within { result ≤ length bytes.now }

@@ -12,7 +12,7 @@ use crate::layout::{
 use crate::number::{u16_at, u64_at};
 use sf_model::Arch;
 
-/// The file's type.
+/// Returns the file's type.
 #[tactic(auto, unfolding(crate::specs::Header::header_fields))]
 pub fn e_type(file: &[u8]) -> u16
     ensures { result ≡ (spec.header_fields file.now).e_type }
@@ -20,7 +20,7 @@ pub fn e_type(file: &[u8]) -> u16
     u16_at(file, E_TYPE)
 }
 
-/// The machine.
+/// Returns the number of the machine.
 #[tactic(auto, unfolding(crate::specs::Header::header_fields))]
 pub fn e_machine(file: &[u8]) -> u16
     ensures { result ≡ (spec.header_fields file.now).e_machine }
@@ -28,7 +28,7 @@ pub fn e_machine(file: &[u8]) -> u16
     u16_at(file, E_MACHINE)
 }
 
-/// The place of the program headers.
+/// Returns the place of the program headers.
 #[tactic(auto, unfolding(crate::specs::Header::header_fields))]
 pub fn e_phoff(file: &[u8]) -> u64
     ensures { result ≡ (spec.header_fields file.now).e_phoff }
@@ -36,7 +36,7 @@ pub fn e_phoff(file: &[u8]) -> u64
     u64_at(file, E_PHOFF)
 }
 
-/// The place of the section headers.
+/// Returns the place of the section headers.
 #[tactic(auto, unfolding(crate::specs::Header::header_fields))]
 pub fn e_shoff(file: &[u8]) -> u64
     ensures { result ≡ (spec.header_fields file.now).e_shoff }
@@ -44,7 +44,7 @@ pub fn e_shoff(file: &[u8]) -> u64
     u64_at(file, E_SHOFF)
 }
 
-/// How many bytes a program header has.
+/// Returns how many bytes a program header has.
 #[tactic(auto, unfolding(crate::specs::Header::header_fields))]
 pub fn e_phentsize(file: &[u8]) -> u16
     ensures { result ≡ (spec.header_fields file.now).e_phentsize }
@@ -52,7 +52,7 @@ pub fn e_phentsize(file: &[u8]) -> u16
     u16_at(file, E_PHENTSIZE)
 }
 
-/// How many program headers there are, or PN_XNUM.
+/// Returns how many program headers there are, or PN_XNUM.
 #[tactic(auto, unfolding(crate::specs::Header::header_fields))]
 pub fn e_phnum(file: &[u8]) -> u16
     ensures { result ≡ (spec.header_fields file.now).e_phnum }
@@ -60,7 +60,7 @@ pub fn e_phnum(file: &[u8]) -> u16
     u16_at(file, E_PHNUM)
 }
 
-/// How many bytes a section header has.
+/// Returns how many bytes a section header has.
 #[tactic(auto, unfolding(crate::specs::Header::header_fields))]
 pub fn e_shentsize(file: &[u8]) -> u16
     ensures { result ≡ (spec.header_fields file.now).e_shentsize }
@@ -68,7 +68,7 @@ pub fn e_shentsize(file: &[u8]) -> u16
     u16_at(file, E_SHENTSIZE)
 }
 
-/// How many section headers there are, or 0.
+/// Returns how many section headers there are, or 0.
 #[tactic(auto, unfolding(crate::specs::Header::header_fields))]
 pub fn e_shnum(file: &[u8]) -> u16
     ensures { result ≡ (spec.header_fields file.now).e_shnum }
@@ -76,7 +76,7 @@ pub fn e_shnum(file: &[u8]) -> u16
     u16_at(file, E_SHNUM)
 }
 
-/// The number of the section with the sections' names, or SHN_XINDEX.
+/// Returns the number of the section with the sections' names, or SHN_XINDEX.
 #[tactic(auto, unfolding(crate::specs::Header::header_fields))]
 pub fn e_shstrndx(file: &[u8]) -> u16
     ensures { result ≡ (spec.header_fields file.now).e_shstrndx }
@@ -84,21 +84,21 @@ pub fn e_shstrndx(file: &[u8]) -> u16
     u16_at(file, E_SHSTRNDX)
 }
 
-/// Whether the file is a core file.
+/// Returns whether the file is a core file.
 pub fn is_core_file(file: &[u8]) -> bool
     ensures { result ≡ is_core file.now }
 {
     e_type(file) == ET_CORE
 }
 
-/// Whether the file is an object that is not linked yet.
+/// Returns whether the file is an object that is not linked yet.
 pub fn is_object(file: &[u8]) -> bool
     ensures { result ≡ is_rel file.now }
 {
     e_type(file) == ET_REL
 }
 
-/// What kind of file it is.
+/// Returns the kind of the file.
 #[tactic(auto, unfolding(crate::specs::Header::kind_of))]
 pub fn kind_of(file: &[u8]) -> Kind
     ensures { result ≡ spec.kind_of file.now }
@@ -111,7 +111,7 @@ pub fn kind_of(file: &[u8]) -> Kind
     }
 }
 
-/// For which machine it is.
+/// Returns the machine of the file.
 #[tactic(auto, unfolding(crate::specs::Header::arch_of))]
 pub fn arch_of(file: &[u8]) -> Arch
     ensures { result ≡ spec.arch_of file.now }

@@ -13,7 +13,7 @@ use crate::layout::{
 };
 use crate::number::{lies, u8_at, u32_at};
 
-/// The identification: the magic bytes, the class, the byte order and the version.
+/// Checks the identification: the magic bytes, the class, the byte order and the version.
 #[tactic(auto, unfolding(crate::specs::Checks::identity_check))]
 pub fn check_identity(file: &[u8]) -> Result<(), ElfFault>
     ensures { result ≡ spec.identity_check file.now }
@@ -39,21 +39,21 @@ pub fn check_identity(file: &[u8]) -> Result<(), ElfFault>
     )
 }
 
-// Whether the machine is one of the two.
+// Returns whether the machine is one of the two.
 fn is_known_machine(machine: u16) -> bool
     ensures { result ≡ spec.is_known_machine machine }
 {
     machine == EM_X86_64 || machine == EM_AARCH64
 }
 
-// Whether the type is one of the four.
+// Returns whether the type is one of the four.
 fn is_known_type(kind: u16) -> bool
     ensures { result ≡ spec.is_known_type kind }
 {
     ET_REL <= kind && kind <= ET_CORE
 }
 
-/// The machine and the type.
+/// Checks the machine and the type.
 #[tactic(auto, unfolding(crate::specs::Checks::purpose_check))]
 pub fn check_purpose(file: &[u8]) -> Result<(), ElfFault>
     ensures { result ≡ spec.purpose_check file.now }
@@ -65,7 +65,7 @@ pub fn check_purpose(file: &[u8]) -> Result<(), ElfFault>
     require(is_known_type(e_type(file)), ElfFault::Kind(E_TYPE))
 }
 
-/// Whether section 0's header is needed: for sections, or for the number of segments.
+/// Returns whether section 0's header is needed: for sections, or for the number of segments.
 #[tactic(auto, unfolding(crate::specs::Checks::needs_sections))]
 pub fn needs_sections(file: &[u8]) -> bool
     ensures { result ≡ spec.needs_sections file.now }
@@ -73,7 +73,7 @@ pub fn needs_sections(file: &[u8]) -> bool
     (e_shoff(file) != 0 && !is_core_file(file)) || e_phnum(file) == PN_XNUM
 }
 
-// Whether section 0's header stands in the file.
+// Returns whether section 0's header lies in the file.
 #[tactic(auto, unfolding(crate::specs::Checks::has_first_section))]
 fn has_first_section(file: &[u8]) -> bool
     ensures { result ≡ spec.has_first_section file.now }
@@ -82,7 +82,7 @@ fn has_first_section(file: &[u8]) -> bool
     place != 0 && lies(file.len() as u64, place, 1, 64)
 }
 
-/// Section 0's header.
+/// Checks section 0's header.
 #[tactic(auto, unfolding(crate::specs::Checks::first_section_check))]
 pub fn check_first_section(file: &[u8]) -> Result<(), ElfFault>
     ensures { result ≡ spec.first_section_check file.now }

@@ -8,13 +8,13 @@ ghost use Rattle.elf_read.specs.Views.{file};
 
 use crate::view::Elf;
 
-/// Says, by its contract alone, that a file passes the rows of compressed sections exactly where none that is
-/// used is compressed, and that the least number of those that are is refused. It does nothing.
+/// States, by its contract alone, that a file passes the rows of compressed sections exactly where no section that is
+/// used is compressed, and that else the compressed one with the lowest number is refused. It does nothing.
 pub fn compressed_law(file: &[u8])
     ensures { NoneIsCompressed file.now (first_broken (compressed_rules file.now)) }
 {}
 
-/// Says, by its contract alone, that the sections that are read whole, call frame information, its relocations and
+/// States, by its contract alone, that the sections that are read whole, call frame information, its relocations and
 /// groups, are together no longer than the file. It does nothing.
 pub fn room_law(elf: &Elf<'_>)
     ensures { HasRoom (file elf.now) }

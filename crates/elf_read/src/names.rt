@@ -16,7 +16,7 @@ use crate::section_header::{header_place, sh_name, sh_offset, sh_size, sh_type};
 use crate::sections::{has_bytes, name_table, section_bytes, section_count};
 use crate::text::texts_end;
 
-// A section's bytes lie in the file.
+// Checks that a section's bytes lie in the file.
 #[tactic(auto, unfolding(crate::specs::Checks::bytes_check))]
 fn check_bytes(file: &[u8], i: u32) -> Result<(), ElfFault>
     requires { (header_fields file.now).e_shoff < 2 ^ 32 }
@@ -31,7 +31,7 @@ fn check_bytes(file: &[u8], i: u32) -> Result<(), ElfFault>
     )
 }
 
-// The bytes of each section lie in the file.
+// Checks that the bytes of each section lie in the file.
 fn check_all_bytes(file: &[u8], count: u32) -> Result<(), ElfFault>
     requires { (header_fields file.now).e_shoff < 2 ^ 32 }
     ensures { result ≡ each_below count (spec.bytes_check file.now) }
@@ -42,7 +42,7 @@ fn check_all_bytes(file: &[u8], count: u32) -> Result<(), ElfFault>
     Ok(())
 }
 
-/// The section headers and the sections' bytes.
+/// Checks the section headers and the sections' bytes.
 #[tactic(auto, unfolding(crate::specs::Checks::sections_check))]
 pub fn check_sections(file: &[u8]) -> Result<(), ElfFault>
     requires { length file.now < 2 ^ 32 }
@@ -57,7 +57,7 @@ pub fn check_sections(file: &[u8]) -> Result<(), ElfFault>
     check_all_bytes(file, count as u32)
 }
 
-/// Whether a number is that of a string table.
+/// Returns whether a number is that of a string table.
 #[tactic(auto, unfolding(crate::specs::Checks::is_string_table))]
 pub fn is_string_table(file: &[u8], i: u32) -> bool
     ensures { result ≡ spec.is_string_table file.now i }
@@ -65,7 +65,7 @@ pub fn is_string_table(file: &[u8], i: u32) -> bool
     u64::from(i) < section_count(file) && sh_type(file, i) == SHT_STRTAB
 }
 
-// A section's name stands in the name table, whose texts end there.
+// Checks that a section's name is in the name table, whose texts end there.
 #[tactic(auto, unfolding(crate::specs::Checks::name_check))]
 fn check_name(file: &[u8], end: u64, i: u32) -> Result<(), ElfFault>
     requires headers { (header_fields file.now).e_shoff < 2 ^ 32 }
@@ -78,7 +78,7 @@ fn check_name(file: &[u8], end: u64, i: u32) -> Result<(), ElfFault>
     )
 }
 
-// The name of each section stands in the name table.
+// Checks that the name of each section is in the name table.
 fn check_all_names(file: &[u8], count: u32) -> Result<(), ElfFault>
     requires { (header_fields file.now).e_shoff < 2 ^ 32 }
     ensures { result ≡ each_below count (spec.name_check file.now) }
@@ -90,7 +90,7 @@ fn check_all_names(file: &[u8], count: u32) -> Result<(), ElfFault>
     Ok(())
 }
 
-// Whether there are sections with names.
+// Returns whether there are sections with names.
 #[tactic(auto, unfolding(crate::specs::Checks::has_names))]
 fn has_names(file: &[u8]) -> bool
     ensures { result ≡ spec.has_names file.now }
@@ -98,7 +98,7 @@ fn has_names(file: &[u8]) -> bool
     section_count(file) != 0 && name_table(file) != 0
 }
 
-/// The name table, and the sections' names.
+/// Checks the name table, and the sections' names.
 #[tactic(auto, unfolding(crate::specs::Checks::names_check))]
 pub fn check_names(file: &[u8], count: u32) -> Result<(), ElfFault>
     requires count { count ≡ counts.section_count file.now }

@@ -3,15 +3,15 @@
 ghost use Rattle.std.specs.Prelude.{◌≡◌, IsSome, IsTrue};
 ghost use Rattle.sf_model.specs.Notice.{HasLine, up_to};
 ghost use Rattle.sf_model.specs.FaultShown.{shown_by};
-ghost use Rattle.elf_read.specs.FaultShown.{number_and_place, shown_of_elf};
+ghost use Rattle.elf_read.specs.FaultShown.{fault_number_and_place, shown_of_elf};
 
 use crate::fault::ElfFault;
 use sf_model::{Group, Notice};
 
-// The fault's number, and the place that it carries.
+// Returns the fault's number, and the place that it carries.
 fn number_and_place_of(fault: ElfFault) -> (u8, u64)
-    ensures number { result.0 ≡ (number_and_place fault).0 }
-    ensures place { result.1 ≡ (number_and_place fault).1 }
+    ensures number { result.0 ≡ (fault_number_and_place fault).0 }
+    ensures place { result.1 ≡ (fault_number_and_place fault).1 }
     ensures line { IsTrue (up_to 12 result.0) }
 {
     match fault {
@@ -31,7 +31,7 @@ fn number_and_place_of(fault: ElfFault) -> (u8, u64)
 }
 
 impl ElfFault {
-    /// The fault of this item's file, as its line shows it.
+    /// Returns the fault of this item's file, as its line shows it.
     pub fn notice(&self, item: Option<u32>) -> Notice
         ensures shown { shown_by result ≡ shown_of_elf item self.now }
         ensures line { IsSome item → HasLine result }

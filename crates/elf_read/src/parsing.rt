@@ -16,7 +16,7 @@ use crate::sections::section_count;
 use crate::segments::check_core;
 use crate::used::{check_all_entries, check_groups, check_relas};
 
-// Section 0's header, where it is needed.
+// Checks section 0's header, where it is needed.
 #[tactic(auto, unfolding(crate::specs::InTurn::table_check))]
 fn check_table(file: &[u8]) -> Result<(), ElfFault>
     ensures { result ≡ spec.table_check file.now }
@@ -27,7 +27,7 @@ fn check_table(file: &[u8]) -> Result<(), ElfFault>
     check_first_section(file)
 }
 
-// The sections that are used.
+// Checks the sections that are used.
 #[tactic(auto, unfolding(crate::specs::InTurn::used_check))]
 fn check_used(file: &[u8], count: u32) -> Result<(), ElfFault>
     requires small { length file.now < 2 ^ 32 }
@@ -42,7 +42,7 @@ fn check_used(file: &[u8], count: u32) -> Result<(), ElfFault>
     check_all_entries(file, count)
 }
 
-// The segments of a core file, or the sections of another.
+// Checks the segments of a core file, or the sections of another.
 #[tactic(auto, unfolding(crate::specs::InTurn::content_check, crate::specs::Sections::section_count))]
 fn check_content(file: &[u8]) -> Result<(), ElfFault>
     requires { length file.now < 2 ^ 32 }
@@ -59,7 +59,7 @@ fn check_content(file: &[u8]) -> Result<(), ElfFault>
     check_used(file, count)
 }
 
-// The checks one after the other.
+// Makes the checks in their order.
 #[tactic(auto, unfolding(crate::specs::InTurn::checks_in_turn))]
 fn check_in_turn(file: &[u8]) -> Result<(), ElfFault>
     requires { length file.now < 2 ^ 32 }

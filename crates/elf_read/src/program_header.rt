@@ -8,14 +8,14 @@ use crate::header::e_phoff;
 use crate::layout::{P_FILESZ, P_OFFSET, P_TYPE, P_VADDR, PROGRAM_HEADER_LEN};
 use crate::number::{bytes_from, u32_at, u64_at};
 
-// The program headers, and what stands after them.
+// Returns the bytes from the first program header on.
 fn headers(file: &[u8]) -> &[u8]
     ensures { result.now ≡ drop (header_fields file.now).e_phoff file.now }
 {
     bytes_from(file, e_phoff(file))
 }
 
-/// The place of a program header.
+/// Returns the place of a program header.
 pub fn header_place(file: &[u8], i: u32) -> u64
     requires { (header_fields file.now).e_phoff < 2 ^ 32 }
     ensures { result ≡ program_header file.now i }
@@ -23,7 +23,7 @@ pub fn header_place(file: &[u8], i: u32) -> u64
     e_phoff(file) + PROGRAM_HEADER_LEN * u64::from(i)
 }
 
-/// Its type.
+/// Returns the header's type.
 #[tactic(auto, unfolding(crate::specs::Header::p_type))]
 pub fn p_type(file: &[u8], i: u32) -> u32
     ensures { result ≡ spec.p_type file.now i }
@@ -31,7 +31,7 @@ pub fn p_type(file: &[u8], i: u32) -> u32
     u32_at(headers(file), PROGRAM_HEADER_LEN * u64::from(i) + P_TYPE)
 }
 
-/// The place of its bytes in the file.
+/// Returns the place of the bytes in the file.
 #[tactic(auto, unfolding(crate::specs::Header::p_offset))]
 pub fn p_offset(file: &[u8], i: u32) -> u64
     ensures { result ≡ spec.p_offset file.now i }
@@ -39,7 +39,7 @@ pub fn p_offset(file: &[u8], i: u32) -> u64
     u64_at(headers(file), PROGRAM_HEADER_LEN * u64::from(i) + P_OFFSET)
 }
 
-/// Its address.
+/// Returns the header's address.
 #[tactic(auto, unfolding(crate::specs::Header::p_vaddr))]
 pub fn p_vaddr(file: &[u8], i: u32) -> u64
     ensures { result ≡ spec.p_vaddr file.now i }
@@ -47,7 +47,7 @@ pub fn p_vaddr(file: &[u8], i: u32) -> u64
     u64_at(headers(file), PROGRAM_HEADER_LEN * u64::from(i) + P_VADDR)
 }
 
-/// How many bytes it has in the file.
+/// Returns how many bytes the segment has in the file.
 #[tactic(auto, unfolding(crate::specs::Header::p_filesz))]
 pub fn p_filesz(file: &[u8], i: u32) -> u64
     ensures { result ≡ spec.p_filesz file.now i }

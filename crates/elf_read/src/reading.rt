@@ -2,7 +2,7 @@
 
 ghost use Rattle.std.specs.Prelude.{◌≡◌, ◌<◌, ◌^◌, length, IfSome};
 ghost use Rattle.std.specs.Option.{option_map};
-ghost use Rattle.elf_read.specs.Number.{text_in, StandsAt};
+ghost use Rattle.elf_read.specs.Number.{text_in, LiesAt};
 ghost use Rattle.elf_read.specs.Sections as fields;
 ghost use Rattle.elf_read.specs.Views as spec;
 
@@ -18,7 +18,7 @@ use crate::sections::{name_table, section_bytes, section_count};
 use crate::text::Text;
 use crate::used::is_group;
 
-/// The header of a section.
+/// Returns the header of a section.
 pub fn section_at(file: &[u8], i: u32) -> Section
     ensures { result ≡ spec.section_of file.now i }
 {
@@ -35,7 +35,7 @@ pub fn section_at(file: &[u8], i: u32) -> Section
     }
 }
 
-/// A symbol of a table.
+/// Returns a symbol of a table.
 pub fn symbol_at(file: &[u8], table: u32, k: u32) -> Symbol
     ensures { result ≡ spec.symbol_of file.now table k }
 {
@@ -46,7 +46,7 @@ pub fn symbol_at(file: &[u8], table: u32, k: u32) -> Symbol
     }
 }
 
-/// An entry of a relocation section.
+/// Returns an entry of a relocation section.
 #[tactic(auto, unfolding(crate::specs::Sections::rela_fields))]
 pub fn rela_at(file: &[u8], i: u32, k: u32) -> Rela
     ensures offset { result.offset ≡ (fields.rela_fields file.now i k).r_offset }
@@ -64,11 +64,11 @@ pub fn rela_at(file: &[u8], i: u32, k: u32) -> Rela
     }
 }
 
-// The text at a place of a string table.
+// Returns the text at a place of a string table.
 fn text_in_table(file: &[u8], table: u32, place: u32) -> Text<'_>
     requires { length file.now < 2 ^ 32 }
     ensures text { spec.text_bytes result ≡ text_in place (fields.section_bytes file.now table) }
-    ensures place { StandsAt result.place result.rest.now file.now }
+    ensures place { LiesAt result.place result.rest.now file.now }
 {
     Text {
         place: sh_offset(file, table).saturating_add(u64::from(place)),
@@ -76,22 +76,22 @@ fn text_in_table(file: &[u8], table: u32, place: u32) -> Text<'_>
     }
 }
 
-// The name of a symbol.
+// Returns the name of a symbol.
 #[tactic(auto, unfolding(crate::specs::Views::symbol_name))]
 fn symbol_name(file: &[u8], table: u32, k: u32) -> Text<'_>
     requires { length file.now < 2 ^ 32 }
     ensures text { spec.text_bytes result ≡ spec.symbol_name file.now table k }
-    ensures place { StandsAt result.place result.rest.now file.now }
+    ensures place { LiesAt result.place result.rest.now file.now }
 {
     text_in_table(file, sh_link(file, table), st_name(file, table, k))
 }
 
-// The name of a section.
+// Returns the name of a section.
 #[tactic(auto, unfolding(crate::specs::Sections::section_name))]
 fn section_text(file: &[u8], i: u32) -> Text<'_>
     requires { length file.now < 2 ^ 32 }
     ensures text { spec.text_bytes result ≡ fields.section_name file.now i }
-    ensures place { StandsAt result.place result.rest.now file.now }
+    ensures place { LiesAt result.place result.rest.now file.now }
 {
     let table = name_table(file);
     if table == 0 {
@@ -103,19 +103,19 @@ fn section_text(file: &[u8], i: u32) -> Text<'_>
     text_in_table(file, table, sh_name(file, i))
 }
 
-// Whether an index is the number of a section.
+// Returns whether an index is the number of a section.
 fn names_section(file: &[u8], index: u16) -> bool
     ensures { result ≡ spec.names_section file.now index }
 {
     index < SHN_LORESERVE && u64::from(index) < section_count(file)
 }
 
-// The name of a symbol, or where that is empty the name of its section.
+// Returns the name of a symbol, or where that is empty the name of its section.
 #[tactic(auto, unfolding(crate::specs::Views::symbol_text, crate::specs::Views::symbol_name))]
 fn symbol_text(file: &[u8], table: u32, k: u32) -> Text<'_>
     requires { length file.now < 2 ^ 32 }
     ensures text { spec.text_bytes result ≡ spec.symbol_text file.now table k }
-    ensures place { StandsAt result.place result.rest.now file.now }
+    ensures place { LiesAt result.place result.rest.now file.now }
 {
     let name = symbol_name(file, table, k);
     let section = st_shndx(file, table, k);
@@ -126,7 +126,7 @@ fn symbol_text(file: &[u8], table: u32, k: u32) -> Text<'_>
     }
 }
 
-// Whether one copy of a group is kept.
+// Returns whether one copy of a group is kept.
 #[tactic(auto, unfolding(crate::specs::Views::is_comdat))]
 fn is_comdat(file: &[u8], i: u32) -> bool
     ensures { result ≡ spec.is_comdat file.now i }
@@ -134,12 +134,12 @@ fn is_comdat(file: &[u8], i: u32) -> bool
     u32_at(section_bytes(file, i), 0) % 2 == 1
 }
 
-/// The head of a section group.
+/// Returns the head of a section group.
 #[tactic(auto, unfolding(crate::specs::Views::group_of, crate::specs::Views::is_comdat))]
 pub fn group_at(file: &[u8], i: u32) -> Option<GroupHead<'_>>
     requires { length file.now < 2 ^ 32 }
     ensures group { option_map spec.group_view result ≡ spec.group_of file.now i }
-    ensures signature { IfSome result (λ head. StandsAt head.signature.place head.signature.rest.now file.now) }
+    ensures signature { IfSome result (λ head. LiesAt head.signature.place head.signature.rest.now file.now) }
 {
     if !is_group(file, i) {
         return None;

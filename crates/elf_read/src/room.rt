@@ -1,4 +1,4 @@
-//! Check that the sections that are read whole have room in the file.
+//! Checks that the sections that are read whole have room in the file.
 
 ghost use Rattle.std.specs.Prelude.{◌≡◌, ◌<◌, ◌≤◌, ◌^◌, length};
 ghost use Rattle.elf_read.specs.Checking.{each_below};
@@ -11,7 +11,7 @@ use crate::section_header::header_place;
 use crate::sections::{is_eh_frame, section_bytes};
 use crate::used::{is_group, is_used_rela};
 
-// Whether a section is read whole.
+// Returns whether a section is read whole.
 #[tactic(auto, unfolding(crate::specs::Room::is_read))]
 fn is_read(file: &[u8], i: u32) -> bool
     ensures { result ≡ spec.is_read file.now i }
@@ -19,7 +19,7 @@ fn is_read(file: &[u8], i: u32) -> bool
     is_eh_frame(file, i) || is_used_rela(file, i) || is_group(file, i)
 }
 
-// How many of a section's bytes are read.
+// Returns how many of a section's bytes are read.
 #[tactic(auto, unfolding(crate::specs::Room::read_size))]
 fn read_size(file: &[u8], i: u32) -> u64
     ensures value { result ≡ spec.read_size file.now i }
@@ -32,7 +32,7 @@ fn read_size(file: &[u8], i: u32) -> u64
     }
 }
 
-/// The room in the file for each of the first `count` sections that is read whole, after those before it.
+/// Checks the room in the file for each of the first `count` sections that is read whole, after those before it.
 pub fn check_room(file: &[u8], count: u32) -> Result<(), ElfFault>
     requires small { length file.now < 2 ^ 32 }
     requires headers { (header_fields file.now).e_shoff < 2 ^ 32 }

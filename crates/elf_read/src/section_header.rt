@@ -12,14 +12,14 @@ use crate::layout::{
 };
 use crate::number::{bytes_from, u32_at, u64_at};
 
-// The section headers, and what stands after them.
+// Returns the bytes from the first section header on.
 fn headers(file: &[u8]) -> &[u8]
     ensures { result.now ≡ drop (header_fields file.now).e_shoff file.now }
 {
     bytes_from(file, e_shoff(file))
 }
 
-/// The place of a section's header.
+/// Returns the place of a section's header.
 pub fn header_place(file: &[u8], i: u32) -> u64
     requires { (header_fields file.now).e_shoff < 2 ^ 32 }
     ensures { result ≡ section_header file.now i }
@@ -27,7 +27,7 @@ pub fn header_place(file: &[u8], i: u32) -> u64
     e_shoff(file) + SECTION_HEADER_LEN * u64::from(i)
 }
 
-/// The place of its name in the name table.
+/// Returns the place of the section's name in the name table.
 #[tactic(auto, unfolding(crate::specs::Sections::section_fields))]
 pub fn sh_name(file: &[u8], i: u32) -> u32
     ensures { result ≡ (spec.section_fields file.now i).sh_name }
@@ -35,7 +35,7 @@ pub fn sh_name(file: &[u8], i: u32) -> u32
     u32_at(headers(file), SECTION_HEADER_LEN * u64::from(i) + SH_NAME)
 }
 
-/// Its type.
+/// Returns the header's type.
 #[tactic(auto, unfolding(crate::specs::Sections::section_fields))]
 pub fn sh_type(file: &[u8], i: u32) -> u32
     ensures { result ≡ (spec.section_fields file.now i).sh_type }
@@ -43,7 +43,7 @@ pub fn sh_type(file: &[u8], i: u32) -> u32
     u32_at(headers(file), SECTION_HEADER_LEN * u64::from(i) + SH_TYPE)
 }
 
-/// Its flags.
+/// Returns the section's flags.
 #[tactic(auto, unfolding(crate::specs::Sections::section_fields))]
 pub fn sh_flags(file: &[u8], i: u32) -> u64
     ensures { result ≡ (spec.section_fields file.now i).sh_flags }
@@ -51,7 +51,7 @@ pub fn sh_flags(file: &[u8], i: u32) -> u64
     u64_at(headers(file), SECTION_HEADER_LEN * u64::from(i) + SH_FLAGS)
 }
 
-/// Its address.
+/// Returns the header's address.
 #[tactic(auto, unfolding(crate::specs::Sections::section_fields))]
 pub fn sh_addr(file: &[u8], i: u32) -> u64
     ensures { result ≡ (spec.section_fields file.now i).sh_addr }
@@ -59,7 +59,7 @@ pub fn sh_addr(file: &[u8], i: u32) -> u64
     u64_at(headers(file), SECTION_HEADER_LEN * u64::from(i) + SH_ADDR)
 }
 
-/// The place of its bytes in the file.
+/// Returns the place of the bytes in the file.
 #[tactic(auto, unfolding(crate::specs::Sections::section_fields))]
 pub fn sh_offset(file: &[u8], i: u32) -> u64
     ensures { result ≡ (spec.section_fields file.now i).sh_offset }
@@ -67,7 +67,7 @@ pub fn sh_offset(file: &[u8], i: u32) -> u64
     u64_at(headers(file), SECTION_HEADER_LEN * u64::from(i) + SH_OFFSET)
 }
 
-/// How many bytes it has.
+/// Returns the section's size in bytes.
 #[tactic(auto, unfolding(crate::specs::Sections::section_fields))]
 pub fn sh_size(file: &[u8], i: u32) -> u64
     ensures { result ≡ (spec.section_fields file.now i).sh_size }
@@ -75,7 +75,7 @@ pub fn sh_size(file: &[u8], i: u32) -> u64
     u64_at(headers(file), SECTION_HEADER_LEN * u64::from(i) + SH_SIZE)
 }
 
-/// The number of the section that it is linked to.
+/// Returns the number of the section that this one is linked to.
 #[tactic(auto, unfolding(crate::specs::Sections::section_fields))]
 pub fn sh_link(file: &[u8], i: u32) -> u32
     ensures { result ≡ (spec.section_fields file.now i).sh_link }
@@ -83,7 +83,7 @@ pub fn sh_link(file: &[u8], i: u32) -> u32
     u32_at(headers(file), SECTION_HEADER_LEN * u64::from(i) + SH_LINK)
 }
 
-/// What its type says.
+/// Returns the section's info, whose meaning its type gives.
 #[tactic(auto, unfolding(crate::specs::Sections::section_fields))]
 pub fn sh_info(file: &[u8], i: u32) -> u32
     ensures { result ≡ (spec.section_fields file.now i).sh_info }
@@ -91,7 +91,7 @@ pub fn sh_info(file: &[u8], i: u32) -> u32
     u32_at(headers(file), SECTION_HEADER_LEN * u64::from(i) + SH_INFO)
 }
 
-/// Its alignment.
+/// Returns the section's alignment.
 #[tactic(auto, unfolding(crate::specs::Sections::section_fields))]
 pub fn sh_addralign(file: &[u8], i: u32) -> u64
     ensures { result ≡ (spec.section_fields file.now i).sh_addralign }
@@ -102,7 +102,7 @@ pub fn sh_addralign(file: &[u8], i: u32) -> u64
     )
 }
 
-/// How many bytes its entries have.
+/// Returns the length of the section's entries, in bytes.
 #[tactic(auto, unfolding(crate::specs::Sections::section_fields))]
 pub fn sh_entsize(file: &[u8], i: u32) -> u64
     ensures { result ≡ (spec.section_fields file.now i).sh_entsize }

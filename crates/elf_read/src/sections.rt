@@ -13,7 +13,7 @@ use crate::number::{bytes_at, flag_is_set};
 use crate::section_header::{sh_flags, sh_info, sh_link, sh_name, sh_offset, sh_size, sh_type};
 use crate::text::{text_at, text_is};
 
-// How many section headers the file has.
+// Returns how many section headers the file has.
 #[tactic(auto, unfolding(crate::specs::Sections::section_total))]
 fn section_total(file: &[u8]) -> u64
     ensures { result ≡ spec.section_total file.now }
@@ -27,7 +27,7 @@ fn section_total(file: &[u8]) -> u64
     }
 }
 
-/// The number of sections. Those of a core file aren't read.
+/// Returns the number of sections. Those of a core file aren't read.
 #[tactic(auto, unfolding(crate::specs::Sections::section_count, crate::specs::Sections::section_total))]
 pub fn section_count(file: &[u8]) -> u64
     ensures { result ≡ spec.section_count file.now }
@@ -39,7 +39,7 @@ pub fn section_count(file: &[u8]) -> u64
     }
 }
 
-/// How many program headers the file has.
+/// Returns how many program headers the file has.
 #[tactic(auto, unfolding(crate::specs::Sections::segment_total))]
 pub fn segment_total(file: &[u8]) -> u32
     ensures { result ≡ spec.segment_total file.now }
@@ -50,7 +50,7 @@ pub fn segment_total(file: &[u8]) -> u32
     }
 }
 
-/// The number of segments. Only those of a core file are read.
+/// Returns the number of segments. Only those of a core file are read.
 #[tactic(auto, unfolding(crate::specs::Sections::segment_count))]
 pub fn segment_count(file: &[u8]) -> u32
     ensures { result ≡ spec.segment_count file.now }
@@ -62,7 +62,7 @@ pub fn segment_count(file: &[u8]) -> u32
     }
 }
 
-/// Whether a section has bytes in the file.
+/// Returns whether a section has bytes in the file.
 #[tactic(auto, unfolding(crate::specs::Sections::has_bytes))]
 pub fn has_bytes(file: &[u8], i: u32) -> bool
     ensures { result ≡ spec.has_bytes file.now i }
@@ -70,7 +70,7 @@ pub fn has_bytes(file: &[u8], i: u32) -> bool
     !matches!(sh_type(file, i), SHT_NULL | SHT_NOBITS)
 }
 
-/// A section's bytes.
+/// Returns a section's bytes.
 #[tactic(auto, unfolding(crate::specs::Sections::section_bytes))]
 pub fn section_bytes(file: &[u8], i: u32) -> &[u8]
     ensures bytes { result.now ≡ spec.section_bytes file.now i }
@@ -84,7 +84,7 @@ pub fn section_bytes(file: &[u8], i: u32) -> &[u8]
     }
 }
 
-/// The number of the section that holds the sections' names, or 0.
+/// Returns the number of the section that holds the sections' names, or 0.
 #[tactic(auto, unfolding(crate::specs::Sections::name_table))]
 pub fn name_table(file: &[u8]) -> u32
     ensures { result ≡ spec.name_table file.now }
@@ -95,7 +95,7 @@ pub fn name_table(file: &[u8]) -> u32
     }
 }
 
-/// A section's name.
+/// Returns a section's name.
 #[tactic(auto, unfolding(crate::specs::Sections::section_name))]
 pub fn section_name(file: &[u8], i: u32) -> &[u8]
     ensures { result.now ≡ spec.section_name file.now i }
@@ -107,7 +107,7 @@ pub fn section_name(file: &[u8], i: u32) -> &[u8]
     text_at(section_bytes(file, table), u64::from(sh_name(file, i)))
 }
 
-/// Whether a section is loaded.
+/// Returns whether a section is loaded.
 #[tactic(auto, unfolding(crate::specs::Sections::is_allocated))]
 pub fn is_allocated(file: &[u8], i: u32) -> bool
     ensures { result ≡ spec.is_allocated file.now i }
@@ -115,7 +115,7 @@ pub fn is_allocated(file: &[u8], i: u32) -> bool
     flag_is_set(sh_flags(file, i), SHF_ALLOC)
 }
 
-/// Whether a section's flags say that its info is the number of a section.
+/// Returns whether a section's flags say that its info is the number of a section.
 #[tactic(auto, unfolding(crate::specs::Sections::has_info_link))]
 pub fn has_info_link(file: &[u8], i: u32) -> bool
     ensures { result ≡ spec.has_info_link file.now i }
@@ -123,7 +123,7 @@ pub fn has_info_link(file: &[u8], i: u32) -> bool
     flag_is_set(sh_flags(file, i), SHF_INFO_LINK)
 }
 
-/// Whether a section's bytes are compressed.
+/// Returns whether a section's bytes are compressed.
 #[tactic(auto, unfolding(crate::specs::Sections::is_compressed))]
 pub fn is_compressed(file: &[u8], i: u32) -> bool
     ensures { result ≡ spec.is_compressed file.now i }
@@ -131,7 +131,7 @@ pub fn is_compressed(file: &[u8], i: u32) -> bool
     flag_is_set(sh_flags(file, i), SHF_COMPRESSED)
 }
 
-/// Whether a section has this name.
+/// Returns whether a section has this name.
 #[tactic(auto, unfolding(crate::specs::Sections::section_name))]
 pub fn is_named(file: &[u8], i: u32, name: &[u8]) -> bool
     requires { length name.now < 2 ^ 32 }
@@ -148,7 +148,7 @@ pub fn is_named(file: &[u8], i: u32, name: &[u8]) -> bool
     )
 }
 
-/// Whether a section holds call frame information that is loaded.
+/// Returns whether a section holds call frame information that is loaded.
 #[tactic(auto, unfolding(crate::specs::Sections::is_eh_frame))]
 pub fn is_eh_frame(file: &[u8], i: u32) -> bool
     ensures { result ≡ spec.is_eh_frame file.now i }

@@ -7,7 +7,7 @@ use crate::header::e_phoff;
 use crate::layout::{P_FLAGS, P_MEMSZ, PF_X, PROGRAM_HEADER_LEN};
 use crate::number::{bytes_from, flag_is_set, u32_at, u64_at};
 
-/// Whether it is executable: it has the flag PF_X.
+/// Returns whether the segment is executable: it has the flag PF_X.
 #[tactic(auto, unfolding(crate::specs::SegmentFields::p_flags))]
 pub fn is_executable(file: &[u8], i: u32) -> bool
     ensures { result ≡ spec.is_executable file.now i }
@@ -17,7 +17,7 @@ pub fn is_executable(file: &[u8], i: u32) -> bool
     flag_is_set(u64::from(flags), PF_X)
 }
 
-/// How many bytes it has in memory.
+/// Returns how many bytes the segment has in memory.
 #[tactic(auto, unfolding(crate::specs::SegmentFields::p_memsz))]
 pub fn p_memsz(file: &[u8], i: u32) -> u64
     ensures { result ≡ spec.p_memsz file.now i }

@@ -15,7 +15,7 @@ use crate::number::lies;
 use crate::program_header::{header_place, p_filesz, p_offset};
 use crate::sections::segment_total;
 
-// A segment's bytes lie in the file.
+// Checks that a segment's bytes lie in the file.
 #[tactic(auto, unfolding(crate::specs::Checks::segment_check))]
 fn check_segment(file: &[u8], i: u32) -> Result<(), ElfFault>
     requires { (header_fields file.now).e_phoff < 2 ^ 32 }
@@ -27,7 +27,7 @@ fn check_segment(file: &[u8], i: u32) -> Result<(), ElfFault>
     )
 }
 
-// The bytes of each segment lie in the file.
+// Checks that the bytes of each segment lie in the file.
 fn check_segments(file: &[u8], count: u32) -> Result<(), ElfFault>
     requires { (header_fields file.now).e_phoff < 2 ^ 32 }
     ensures { result ≡ each_below count (spec.segment_check file.now) }
@@ -38,14 +38,14 @@ fn check_segments(file: &[u8], count: u32) -> Result<(), ElfFault>
     Ok(())
 }
 
-// Whether the program headers have the format's length, where there are some.
+// Returns whether the program headers have the format's length, where there are some.
 fn has_program_headers(file: &[u8]) -> bool
     ensures { result ≡ spec.has_program_headers file.now }
 {
     segment_total(file) == 0 || u64::from(e_phentsize(file)) == PROGRAM_HEADER_LEN
 }
 
-/// The program headers and the segments.
+/// Checks the program headers and the segments.
 #[tactic(auto, unfolding(crate::specs::Checks::core_check))]
 pub fn check_core(file: &[u8]) -> Result<(), ElfFault>
     requires { length file.now < 2 ^ 32 }
@@ -60,7 +60,7 @@ pub fn check_core(file: &[u8]) -> Result<(), ElfFault>
     check_segments(file, count)
 }
 
-/// The length and the place of the program headers of a file of any kind, and how many there are.
+/// Checks the length and the place of the program headers of a file of any kind, and returns how many there are.
 #[tactic(auto, unfolding(crate::specs::Checks::program_headers_check))]
 pub fn check_program_headers(file: &[u8]) -> Result<u32, ElfFault>
     ensures check { verdict result ≡ spec.program_headers_check file.now }

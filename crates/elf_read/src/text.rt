@@ -7,14 +7,14 @@ ghost use Rattle.elf_read.specs.Number.{text_in, EndsTexts};
 
 use crate::number::{bytes_at, bytes_from};
 
-/// How many bytes stand before the first zero byte.
+/// Returns how many bytes are before the first zero byte.
 pub fn text_len(bytes: &[u8]) -> Option<usize>
     ensures { result ≡ position (λ b. b == 0) bytes.now }
 {
     bytes.iter().position(|byte| *byte == 0)
 }
 
-/// The text that begins at a place of a string table.
+/// Returns the text that begins at a place of a string table.
 #[tactic(auto, unfolding(crate::specs::Number::text_in))]
 pub fn text_at(table: &[u8], place: u64) -> &[u8]
     ensures { result.now ≡ text_in place table.now }
@@ -36,14 +36,14 @@ pub struct Text<'a> {
 }
 
 impl<'a> Text<'a> {
-    /// Its bytes.
+    /// Returns the text's bytes.
     pub fn bytes(&self) -> &'a [u8]
         ensures { result.now ≡ text_in 0 self.now.rest.now }
     {
         text_at(self.rest, 0)
     }
 
-    /// Whether it has no bytes. At most one byte is looked at.
+    /// Returns whether the text has no bytes. At most one byte is looked at.
     pub fn is_empty(&self) -> bool
         ensures { result ≡ (length (text_in 0 self.now.rest.now) == 0) }
     {
@@ -54,7 +54,7 @@ impl<'a> Text<'a> {
     }
 }
 
-/// Whether the text at a place of a string table is this one. No more of the table is looked at.
+/// Returns whether the text at a place of a string table is this one. No more of the table is looked at.
 pub fn text_is(table: &[u8], place: u64, text: &[u8]) -> bool
     requires { length text.now < 2 ^ 32 }
     ensures { result ≡ pointwise (λ (a b : ℕ). a == b) (text_in place table.now) text.now }
@@ -62,7 +62,7 @@ pub fn text_is(table: &[u8], place: u64, text: &[u8]) -> bool
     text_at(bytes_at(table, place, text.len() as u64 + 1), 0) == text
 }
 
-/// The first place after all texts of a string table: texts stand at the places before, and at no other.
+/// Returns the first place after all texts of a string table: texts are at the places before, and at no other.
 pub fn texts_end(table: &[u8]) -> u64
     ensures { EndsTexts table.now result }
 {

@@ -21,7 +21,7 @@ use crate::section_header::{
 use crate::sections::{is_eh_frame, section_count};
 use crate::zeros::Zeros;
 
-// Whether a number is that of a section with call frame information.
+// Returns whether a number is that of a section with call frame information.
 #[tactic(auto, unfolding(crate::specs::Used::names_eh_frame))]
 fn names_eh_frame(file: &[u8], i: u32) -> bool
     ensures { result ≡ spec.names_eh_frame file.now i }
@@ -29,7 +29,7 @@ fn names_eh_frame(file: &[u8], i: u32) -> bool
     u64::from(i) < section_count(file) && is_eh_frame(file, i)
 }
 
-/// Whether a section holds relocations of call frame information.
+/// Returns whether a section holds relocations of call frame information.
 #[tactic(auto, unfolding(crate::specs::Used::is_used_rela))]
 pub fn is_used_rela(file: &[u8], i: u32) -> bool
     ensures { result ≡ spec.is_used_rela file.now i }
@@ -37,7 +37,7 @@ pub fn is_used_rela(file: &[u8], i: u32) -> bool
     is_object(file) && sh_type(file, i) == SHT_RELA && names_eh_frame(file, sh_info(file, i))
 }
 
-/// Whether a section is a group.
+/// Returns whether a section is a group.
 #[tactic(auto, unfolding(crate::specs::Used::is_group))]
 pub fn is_group(file: &[u8], i: u32) -> bool
     ensures { result ≡ spec.is_group file.now i }
@@ -45,7 +45,7 @@ pub fn is_group(file: &[u8], i: u32) -> bool
     is_object(file) && sh_type(file, i) == SHT_GROUP
 }
 
-// Whether a number is that of a symbol table.
+// Returns whether a number is that of a symbol table.
 #[tactic(auto, unfolding(crate::specs::Used::is_symbol_table))]
 fn is_symbol_table(file: &[u8], i: u32) -> bool
     ensures { result ≡ spec.is_symbol_table file.now i }
@@ -53,7 +53,7 @@ fn is_symbol_table(file: &[u8], i: u32) -> bool
     u64::from(i) < section_count(file) && sh_type(file, i) == SHT_SYMTAB
 }
 
-// Whether a section is a table of symbols or relocations.
+// Returns whether a section is a table of symbols or relocations.
 #[tactic(auto, unfolding(crate::specs::Used::is_entry_table))]
 fn is_entry_table(file: &[u8], i: u32) -> bool
     ensures { result ≡ spec.is_entry_table file.now i }
@@ -61,7 +61,7 @@ fn is_entry_table(file: &[u8], i: u32) -> bool
     sh_entsize(file, i) == ENTRY_LEN && sh_size(file, i) % ENTRY_LEN == 0
 }
 
-// A relocation section's symbol table, its own entries, and that table's.
+// Checks a relocation section's symbol table, its own entries, and that table's.
 #[tactic(auto, unfolding(crate::specs::Used::rela_tables))]
 fn check_rela_tables(file: &[u8], i: u32) -> Result<(), ElfFault>
     requires { (header_fields file.now).e_shoff < 2 ^ 32 }
@@ -77,7 +77,7 @@ fn check_rela_tables(file: &[u8], i: u32) -> Result<(), ElfFault>
     )
 }
 
-// The same where the section is used.
+// Checks a relocation section's tables, where the section is used.
 #[tactic(auto, unfolding(crate::specs::Used::rela_check))]
 fn check_rela(file: &[u8], i: u32) -> Result<(), ElfFault>
     requires { (header_fields file.now).e_shoff < 2 ^ 32 }
@@ -89,7 +89,7 @@ fn check_rela(file: &[u8], i: u32) -> Result<(), ElfFault>
     check_rela_tables(file, i)
 }
 
-/// The tables of each relocation section that is used.
+/// Checks the tables of each relocation section that is used.
 pub fn check_relas(file: &[u8], count: u32) -> Result<(), ElfFault>
     requires { (header_fields file.now).e_shoff < 2 ^ 32 }
     ensures { result ≡ each_below count (spec.rela_check file.now) }
@@ -100,7 +100,7 @@ pub fn check_relas(file: &[u8], count: u32) -> Result<(), ElfFault>
     Ok(())
 }
 
-// Whether the name of a group's symbol stands in its table's string table.
+// Returns whether the name of a group's symbol is in its table's string table.
 #[tactic(auto, unfolding(crate::specs::Used::has_signature))]
 fn has_signature(file: &[u8], zeros: &Zeros, i: u32) -> bool
     requires small { length file.now < 2 ^ 32 }
@@ -113,7 +113,7 @@ fn has_signature(file: &[u8], zeros: &Zeros, i: u32) -> bool
     is_string_table(file, strings) && zeros.text_stands(file, strings, u64::from(name))
 }
 
-// Whether a section is made of at least one word.
+// Returns whether a section is made of at least one word.
 #[tactic(auto, unfolding(crate::specs::Used::is_word_table))]
 fn is_word_table(file: &[u8], i: u32) -> bool
     ensures { result ≡ spec.is_word_table file.now i }
@@ -122,7 +122,7 @@ fn is_word_table(file: &[u8], i: u32) -> bool
     size % GROUP_WORD_LEN == 0 && size != 0
 }
 
-// A group's size, its symbol table, its symbol, and the name of that.
+// Checks a group's size, its symbol table, its symbol, and the symbol's name.
 #[tactic(auto, unfolding(crate::specs::Used::group_tables))]
 fn check_group_tables(file: &[u8], zeros: &Zeros, i: u32) -> Result<(), ElfFault>
     requires small { length file.now < 2 ^ 32 }
@@ -145,7 +145,7 @@ fn check_group_tables(file: &[u8], zeros: &Zeros, i: u32) -> Result<(), ElfFault
     require(has_signature(file, zeros, i), ElfFault::Strings(header))
 }
 
-// A member is the number of a section.
+// Checks that a member is the number of a section.
 #[tactic(auto, unfolding(crate::specs::Used::member_check))]
 fn check_member(file: &[u8], i: u32, k: u32) -> Result<(), ElfFault>
     requires { (fields.section_fields file.now i).sh_offset < 2 ^ 32 }
@@ -158,7 +158,7 @@ fn check_member(file: &[u8], i: u32, k: u32) -> Result<(), ElfFault>
     )
 }
 
-// The members of a group are numbers of sections.
+// Checks that the members of a group are numbers of sections.
 fn check_members_upto(file: &[u8], i: u32, count: u32) -> Result<(), ElfFault>
     requires { 0 < count → (fields.section_fields file.now i).sh_offset < 2 ^ 32 }
     ensures { result ≡ each_below count (spec.member_check file.now i) }
@@ -169,7 +169,7 @@ fn check_members_upto(file: &[u8], i: u32, count: u32) -> Result<(), ElfFault>
     Ok(())
 }
 
-// A group's tables and members, where the section is one.
+// Checks a group's tables and members, where the section is one.
 #[tactic(auto, unfolding(crate::specs::Used::group_check, crate::specs::Used::members_check))]
 fn check_group(file: &[u8], zeros: &Zeros, i: u32) -> Result<(), ElfFault>
     requires small { length file.now < 2 ^ 32 }
@@ -184,7 +184,7 @@ fn check_group(file: &[u8], zeros: &Zeros, i: u32) -> Result<(), ElfFault>
     check_members_upto(file, i, member_count(file, i) as u32)
 }
 
-/// Each section group.
+/// Checks each section group.
 pub fn check_groups(file: &[u8], count: u32) -> Result<(), ElfFault>
     requires small { length file.now < 2 ^ 32 }
     requires headers { (header_fields file.now).e_shoff < 2 ^ 32 }
@@ -197,7 +197,7 @@ pub fn check_groups(file: &[u8], count: u32) -> Result<(), ElfFault>
     Ok(())
 }
 
-// A relocation's symbol is in the table, and lies in a section of the file or has a reserved index.
+// Checks that a relocation's symbol is in the table, and is in a section of the file or has a reserved index.
 #[tactic(auto, unfolding(crate::specs::Used::entry_check))]
 fn check_entry(file: &[u8], i: u32, k: u32) -> Result<(), ElfFault>
     requires { (fields.section_fields file.now i).sh_offset < 2 ^ 32 }
@@ -210,7 +210,7 @@ fn check_entry(file: &[u8], i: u32, k: u32) -> Result<(), ElfFault>
     )
 }
 
-// The symbols of a section's relocations.
+// Checks the symbols of a section's relocations.
 fn check_entries_upto(file: &[u8], i: u32, count: u32) -> Result<(), ElfFault>
     requires { 0 < count → (fields.section_fields file.now i).sh_offset < 2 ^ 32 }
     ensures { result ≡ each_below count (spec.entry_check file.now i) }
@@ -221,7 +221,7 @@ fn check_entries_upto(file: &[u8], i: u32, count: u32) -> Result<(), ElfFault>
     Ok(())
 }
 
-// The same where the section is used.
+// Checks the symbols of a section's relocations, where the section is used.
 #[tactic(auto, unfolding(crate::specs::Used::entries_check))]
 fn check_entries(file: &[u8], i: u32) -> Result<(), ElfFault>
     requires { length file.now < 2 ^ 32 }
@@ -233,7 +233,7 @@ fn check_entries(file: &[u8], i: u32) -> Result<(), ElfFault>
     check_entries_upto(file, i, entry_count(file, i) as u32)
 }
 
-/// The symbols of all relocations that are used.
+/// Checks the symbols of all relocations that are used.
 pub fn check_all_entries(file: &[u8], count: u32) -> Result<(), ElfFault>
     requires { length file.now < 2 ^ 32 }
     ensures { result ≡ each_below count (spec.entries_check file.now) }

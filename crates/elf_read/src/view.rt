@@ -14,7 +14,7 @@ use crate::segments::check_program_headers;
 use crate::{entries, header, program_header, reading, section_header, sections, segment_fields};
 use sf_model::Arch;
 
-/// An ELF file that was checked. It lends the file's bytes, of which there are fewer than 2^32.
+/// An ELF file that was checked. It lends the file's bytes. There are fewer than 2^32.
 #[derive(Clone, Copy)]
 pub struct Elf<'a> {
     bytes: &'a [u8],
@@ -30,7 +30,7 @@ impl<'a> Elf<'a> {
     ghost use Rattle.std.specs.Option.{option_map};
     ghost use Rattle.elf_read.specs.Checks.{program_headers_check};
     ghost use Rattle.elf_read.specs.Header as head;
-    ghost use Rattle.elf_read.specs.Number.{StandsAt};
+    ghost use Rattle.elf_read.specs.Number.{LiesAt};
     ghost use Rattle.elf_read.specs.Checking.{verdict};
     ghost use Rattle.elf_read.specs.Sections as fields;
     ghost use Rattle.elf_read.specs.SegmentFields as segment_spec;
@@ -49,49 +49,49 @@ impl<'a> Elf<'a> {
         Ok(Elf { bytes })
     }
 
-    /// What kind of file it is.
+    /// Returns the kind of the file.
     pub fn kind(&self) -> Kind
         ensures { result ≡ head.kind_of (file self.now) }
     {
         header::kind_of(self.bytes)
     }
 
-    /// For which machine it is.
+    /// Returns the machine of the file.
     pub fn arch(&self) -> Arch
         ensures { result ≡ head.arch_of (file self.now) }
     {
         header::arch_of(self.bytes)
     }
 
-    /// How many sections it has, none in a core file.
+    /// Returns how many sections the file has; 0 for a core file.
     pub fn sections(&self) -> u32
         ensures { result ≡ fields.section_count (file self.now) }
     {
         sections::section_count(self.bytes) as u32
     }
 
-    /// How many segments it has, none in another than a core file.
+    /// Returns how many segments the file has; 0 unless it is a core file.
     pub fn segments(&self) -> u32
         ensures { result ≡ fields.segment_count (file self.now) }
     {
         sections::segment_count(self.bytes)
     }
 
-    /// The header of a section.
+    /// Returns the header of a section.
     pub fn section(&self, i: u32) -> Section
         ensures { result ≡ section_of (file self.now) i }
     {
         reading::section_at(self.bytes, i)
     }
 
-    /// The name of a section, empty where the file has no names.
+    /// Returns the name of a section, empty where the file has no names.
     pub fn name(&self, i: u32) -> &'a [u8]
         ensures { result.now ≡ fields.section_name (file self.now) i }
     {
         sections::section_name(self.bytes, i)
     }
 
-    /// Whether a section has this name. Of its own name at most one byte more than this one has is read.
+    /// Returns whether a section has this name. Of the section's name at most one byte more than this name has is read.
     pub fn is_named(&self, i: u32, name: &[u8]) -> bool
         requires { length name.now < 2 ^ 32 }
         ensures { result ≡ pointwise (λ (a b : ℕ). a == b) (fields.section_name (file self.now) i) name.now }
@@ -99,28 +99,28 @@ impl<'a> Elf<'a> {
         sections::is_named(self.bytes, i, name)
     }
 
-    /// Whether a section is loaded: it has the flag SHF_ALLOC.
+    /// Returns whether a section is loaded: it has the flag SHF_ALLOC.
     pub fn is_allocated(&self, i: u32) -> bool
         ensures { result ≡ fields.is_allocated (file self.now) i }
     {
         sections::is_allocated(self.bytes, i)
     }
 
-    /// Whether a section's flags say that its info is the number of a section: it has the flag SHF_INFO_LINK.
+    /// Returns whether a section's flags say that its info is the number of a section: it has the flag SHF_INFO_LINK.
     pub fn has_info_link(&self, i: u32) -> bool
         ensures { result ≡ fields.has_info_link (file self.now) i }
     {
         sections::has_info_link(self.bytes, i)
     }
 
-    /// Whether a section's bytes are compressed: it has the flag SHF_COMPRESSED.
+    /// Returns whether a section's bytes are compressed: it has the flag SHF_COMPRESSED.
     pub fn is_compressed(&self, i: u32) -> bool
         ensures { result ≡ fields.is_compressed (file self.now) i }
     {
         sections::is_compressed(self.bytes, i)
     }
 
-    /// The place of a section's header in the file.
+    /// Returns the place of a section's header in the file.
     pub fn header_place(&self, i: u32) -> u64
         requires { i < fields.section_count (file self.now) }
         ensures { result ≡ fields.section_header (file self.now) i }
@@ -128,14 +128,14 @@ impl<'a> Elf<'a> {
         section_header::header_place(self.bytes, i)
     }
 
-    /// Whether a section holds call frame information: it is loaded and has the name `.eh_frame`.
+    /// Returns whether a section holds call frame information: it is loaded and has the name `.eh_frame`.
     pub fn is_eh_frame(&self, i: u32) -> bool
         ensures { result ≡ fields.is_eh_frame (file self.now) i }
     {
         sections::is_eh_frame(self.bytes, i)
     }
 
-    /// The bytes of a section, none where its type is SHT_NULL or SHT_NOBITS.
+    /// Returns the bytes of a section; no bytes where its type is SHT_NULL or SHT_NOBITS.
     pub fn bytes(&self, i: u32) -> &'a [u8]
         ensures bytes { result.now ≡ fields.section_bytes (file self.now) i }
         ensures small { length result.now < 2 ^ 32 }
@@ -152,7 +152,7 @@ impl<'a> Elf<'a> {
         check_program_headers(self.bytes)
     }
 
-    /// The segment of a program header's number, in a file of any kind.
+    /// Returns the segment of a program header's number, in a file of any kind.
     pub fn segment(&self, i: u32) -> Segment<'a>
         ensures kind { result.kind ≡ head.p_type (file self.now) i }
         ensures vaddr { result.vaddr ≡ head.p_vaddr (file self.now) i }
@@ -169,28 +169,28 @@ impl<'a> Elf<'a> {
         }
     }
 
-    /// Whether a segment is executable: it has the flag PF_X.
+    /// Returns whether a segment is executable: it has the flag PF_X.
     pub fn is_executable(&self, i: u32) -> bool
         ensures { result ≡ segment_spec.is_executable (file self.now) i }
     {
         segment_fields::is_executable(self.bytes, i)
     }
 
-    /// How many bytes a segment has in the file by its header.
+    /// Returns how many bytes a segment has in the file by its header.
     pub fn file_size(&self, i: u32) -> u64
         ensures { result ≡ head.p_filesz (file self.now) i }
     {
         program_header::p_filesz(self.bytes, i)
     }
 
-    /// How many bytes a segment has in memory.
+    /// Returns how many bytes a segment has in memory.
     pub fn memory_size(&self, i: u32) -> u64
         ensures { result ≡ segment_spec.p_memsz (file self.now) i }
     {
         segment_fields::p_memsz(self.bytes, i)
     }
 
-    /// Entry `k` of the relocation section `i`.
+    /// Returns entry `k` of the relocation section `i`.
     pub fn rela(&self, i: u32, k: u32) -> Rela
         ensures offset { result.offset ≡ (fields.rela_fields (file self.now) i k).r_offset }
         ensures symbol { result.symbol ≡ (fields.rela_fields (file self.now) i k).r_sym }
@@ -200,23 +200,23 @@ impl<'a> Elf<'a> {
         reading::rela_at(self.bytes, i, k)
     }
 
-    /// Symbol `k` of the symbol table `table`.
+    /// Returns symbol `k` of the symbol table `table`.
     pub fn symbol(&self, table: u32, k: u32) -> Symbol
         ensures { result ≡ symbol_of (file self.now) table k }
     {
         reading::symbol_at(self.bytes, table, k)
     }
 
-    /// The head of a section group, or none where the section isn't one or the file is no object.
+    /// Returns the head of a section group, or none if the section isn't one or the file is no object.
     pub fn group(&self, i: u32) -> Option<GroupHead<'a>>
         ensures group { option_map group_view result ≡ group_of (file self.now) i }
         // The place of its signature in the file.
-        ensures signature { IfSome result (λ head. StandsAt head.signature.place head.signature.rest.now (file self.now)) }
+        ensures signature { IfSome result (λ head. LiesAt head.signature.place head.signature.rest.now (file self.now)) }
     {
         reading::group_at(self.bytes, i)
     }
 
-    /// The number of the section that member `k` of a group is.
+    /// Returns the number of the section that member `k` of a group is.
     pub fn member(&self, i: u32, k: u32) -> u32
         ensures { result ≡ fields.group_member (file self.now) i k }
     {

@@ -4,7 +4,7 @@
 ghost use Rattle.std.specs.Prelude.{◌≡◌, ◌<◌, ◌≤◌, ◌==◌, ◌^◌, ◌+◌, ◌*◌, ℕ, length};
 ghost use Rattle.std.specs.Int.{bit_at};
 ghost use Rattle.elf_read.specs.Number as spec;
-ghost use Rattle.elf_read.specs.Number.{IsFree};
+ghost use Rattle.elf_read.specs.Number.{HasNoZero};
 
 use crate::first_zero::bytes_before_zero;
 use crate::layout::SHT_STRTAB;
@@ -31,7 +31,7 @@ pub struct Zeros {
     ghost small: { piece_len ≤ 2 ^ 32 },
 }
 
-// The place of the first zero byte from a place on, or else the first place past the file.
+// Returns the place of the first zero byte from a place on, or else the first place past the file.
 fn zero_from(file: &[u8], place: u64) -> u64
     requires { place < 2 ^ 62 }
     ensures { result ≡ spec.zero_from file.now place }
@@ -39,10 +39,10 @@ fn zero_from(file: &[u8], place: u64) -> u64
     place + bytes_before_zero(bytes_from(file, place)) as u64
 }
 
-// The mask of a part: a bit for each piece from this one on, 0 where no byte of the piece is zero.
+// Returns the mask of a part: a bit for each piece from this one on, 0 where no byte of the piece is zero.
 fn mask_from(file: &[u8], first: u64, piece_len: u64) -> u64
     requires small { (first < 2 ^ 24) × (piece_len ≤ 2 ^ 32) }
-    ensures { (k : ℕ) → k < 64 → bit_at result k ≡ 0 → IsFree file.now ((first + k) * piece_len) piece_len }
+    ensures { (k : ℕ) → k < 64 → bit_at result k ≡ 0 → HasNoZero file.now ((first + k) * piece_len) piece_len }
 {
     let mut mask = 0;
     for k in 0..PIECES {
@@ -59,7 +59,7 @@ impl Zeros {
     ghost use Rattle.elf_read.specs.Sections.{section_bytes as bytes_of};
     ghost use Rattle.elf_read.specs.Zeros.{AreZeros};
 
-    // Nothing.
+    // Returns what is known of no part.
     fn unknown() -> Zeros
         ensures { (file : List ℕ) → AreZeros file result }
     {
@@ -71,7 +71,7 @@ impl Zeros {
         }
     }
 
-    // Of each part. Each byte of the file is looked at twice.
+    // Returns what is known of each part. Each byte of the file is looked at twice.
     fn of_parts(file: &[u8]) -> Zeros
         requires { length file.now < 2 ^ 32 }
         ensures { AreZeros file.now result }
@@ -98,7 +98,8 @@ impl Zeros {
         }
     }
 
-    /// Of each part, where one of the first `count` sections is a string table that doesn't end with a zero byte.
+    /// Returns what is known of each part, where one of the first `count` sections is a string table that doesn't end with a zero
+    /// byte.
     pub fn of_tables(file: &[u8], count: u32) -> Zeros
         requires { length file.now < 2 ^ 32 }
         ensures { AreZeros file.now result }
@@ -111,7 +112,7 @@ impl Zeros {
         Zeros::unknown()
     }
 
-    // The place of the first zero byte from a piece's first byte on, or else the first place past the file.
+    // Returns the place of the first zero byte from a piece's first byte on, or else the first place past the file.
     fn first_from_piece(&self, file: &[u8], piece: u64) -> u64
         requires zeros { AreZeros file.now self.now }
         requires small { piece * self.now.piece_len < 2 ^ 61 }
@@ -135,7 +136,7 @@ impl Zeros {
         }
     }
 
-    // The place of the first zero byte from a place on, or else the first place past the file.
+    // Returns the place of the first zero byte from a place on, or else the first place past the file.
     fn first_from(&self, file: &[u8], place: u64) -> u64
         requires zeros { AreZeros file.now self.now }
         requires small { place < 2 ^ 60 }
@@ -150,8 +151,8 @@ impl Zeros {
         }
     }
 
-    /// Whether a text begins at that place of a string table and ends there with a zero byte. A table's last byte is zero
-    /// (gABI, "String Table"), and then no other is looked at.
+    /// Returns whether a text begins at that place of a string table and ends there with a zero byte. A table's last byte is
+    /// zero (gABI, "String Table"), and then no other is looked at.
     pub fn text_stands(&self, file: &[u8], table: u32, place: u64) -> bool
         requires small { length file.now < 2 ^ 32 }
         requires zeros { AreZeros file.now self.now }

@@ -5,7 +5,7 @@ use Rattle.std.proofs.lemmas.Bool.{leb-true}
 use Rattle.elf_read.specs.declared.fault.ElfFault.{ElfFault}
 use Rattle.elf_read.specs.declared.fault.ElfFault.TheVariants.{Short, NotElf, Class, Order, Version, Machine, Kind, EntrySize, Strings, OutOfFile, Compressed, SymbolIndex}
 use Rattle.elf_read.specs.Checking.{unless}
-use Rattle.elf_read.specs.Checks.{Check, program_headers_check}
+use Rattle.elf_read.specs.Checks.{ElfCheck, program_headers_check}
 use Rattle.elf_read.specs.Header.{header_fields}
 use Rattle.elf_read.specs.Number.{lies_in}
 use Rattle.elf_read.specs.Sections.{segment_total}
@@ -13,7 +13,7 @@ use Rattle.elf_read.proofs.Each.{both_fine}
 use Rattle.core_notes.specs.Room.{HeadersLie}
 use Rattle.sf_modules.specs.Reading.{headers_part}
 
-no_fault : (check : Check) → headers_part check ≡ Ok tt → check ≡ Ok tt
+no_fault : (check : ElfCheck) → headers_part check ≡ Ok tt → check ≡ Ok tt
 no_fault (Ok u) h = refl
 no_fault (Err (Short p)) h = cc
 no_fault (Err (NotElf p)) h = cc

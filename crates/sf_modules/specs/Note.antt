@@ -7,7 +7,7 @@ use Rattle.std.specs.List.{enumerate_from, find, position}
 use Rattle.std.specs.Option.{option_and_then, option_map}
 use Rattle.sf_bytes.specs.Cursor.{Cursor}
 use Rattle.elf_read.specs.Checking.{unless, ◌>>◌, each_below}
-use Rattle.elf_read.specs.Number.{number_in, lies_in}
+use Rattle.elf_read.specs.Number.{field_at, lies_in}
 use Rattle.core_notes.specs.Note.{NoteView}
 use Rattle.core_notes.specs.Thread.{is_file_note}
 use Rattle.sf_modules.specs.declared.fault.ModuleFault.TheVariants.{NoFileNote, FileNote}
@@ -16,20 +16,20 @@ use Rattle.sf_modules.specs.Fault.{Check}
 
 -- ---- the fields
 abbrev pub entry_count : List ℕ → ℕ
-entry_count note = number_in 8 0 note
+entry_count note = field_at 8 0 note
 
 abbrev pub page_size : List ℕ → ℕ
-page_size note = number_in 8 8 note
+page_size note = field_at 8 8 note
 
 -- of the entry of number k
 abbrev pub start_of : List ℕ → (k : ℕ) → ℕ
-start_of note k = number_in 8 (24 * k + 16) note
+start_of note k = field_at 8 (24 * k + 16) note
 
 abbrev pub end_of : List ℕ → (k : ℕ) → ℕ
-end_of note k = number_in 8 (24 * k + 24) note
+end_of note k = field_at 8 (24 * k + 24) note
 
 abbrev pub pages_of : List ℕ → (k : ℕ) → ℕ
-pages_of note k = number_in 8 (24 * k + 32) note
+pages_of note k = field_at 8 (24 * k + 32) note
 
 -- what is after the numbers
 abbrev pub names_part : List ℕ → List ℕ

@@ -1,12 +1,12 @@
 use Rattle.std.proofs.Common.{◌≡◌, List, ℕ, ap, ◌∙◌, arith}
 use Rattle.elf_read.specs.Header.{header_fields}
-use Rattle.elf_read.specs.Number.{number_in}
+use Rattle.elf_read.specs.Number.{field_at}
 use Rattle.elf_read.specs.Views.{file}
 use Rattle.core_notes.proofs.room.header_place.Goals as goal
 
 read : (c : goal.After-from) → c.u64_at.result ≡ (header_fields (file c.args.elf.now)).e_phoff
 unfolding header_fields
-read c = c.u64_at.ensures ∙ ap (λ (bytes : List ℕ). number_in 8 32 bytes) c.requires.same
+read c = c.u64_at.ensures ∙ ap (λ (bytes : List ℕ). field_at 8 32 bytes) c.requires.same
 
 pub overflow_add-result : goal.overflow_add-result
 overflow_add-result c = omega (read c, c.requires.lies, c.requires.small, c.from.ensures, arith)

@@ -2,7 +2,7 @@ use Rattle.std.proofs.Common.{◌≡◌, ◌≤◌, ◌+◌, ◌*◌, ℕ, ap, s
 use Rattle.std.proofs.Math.Nat.{eq-or-lt_of_le}
 use Rattle.std.proofs.lemmas.Nat.Bits.{bit_at_set_same, bit_at_set_other}
 use Rattle.std.specs.Int.{bit_at}
-use Rattle.elf_read.specs.Number.{IsFree}
+use Rattle.elf_read.specs.Number.{HasNoZero}
 use Rattle.elf_read.proofs.FirstZero.{before_zero, is_free}
 use Rattle.elf_read.proofs.zeros.mask_from.Goals as goal
 use Rattle.elf_read.proofs.zeros.mask_from.Goals.{then-bytes_before_zero-piece_len, else-bytes_before_zero-piece_len}
@@ -23,7 +23,7 @@ loop-k-preserved c = λ j below clear.
                 absurd (omega (arith, set, ap (bit_at mask) (sym same) ∙ clear))
             | else-bytes_before_zero-piece_len w ↦
                 let place : (c.args.first + j) * c.args.piece_len ≡ (c.args.first + k) * c.args.piece_len = ap (λ (n : ℕ). (c.args.first + n) * c.args.piece_len) same in
-                subst (λ (n : ℕ). IsFree c.args.file.now n c.args.piece_len) (sym place)
+                subst (λ (n : ℕ). HasNoZero c.args.file.now n c.args.piece_len) (sym place)
                 (is_free c.args.file.now ((c.args.first + k) * c.args.piece_len) c.args.piece_len c.bytes_before_zero.result
                 (c.bytes_before_zero.ensures.value ∙ ap before_zero c.bytes_at-piece.ensures.bytes) w.if-bytes_before_zero-piece_len.false)
           ]

@@ -1,6 +1,6 @@
 use Rattle.std.proofs.Common.{◌≡◌, ◌+◌, ◌-◌, ◌*◌, ℕ, List, All, length, drop, refl, sym, subst, arith}
 use Rattle.std.specs.Ordering.{nat_cmp, ordering_then}
-use Rattle.elf_read.specs.Number.{StandsAt}
+use Rattle.elf_read.specs.Number.{LiesAt}
 use Rattle.elf_groups.specs.Blocks.{AreBlocks, Numbers}
 use Rattle.elf_groups.specs.Seen.{HasTexts, IsKnown}
 use Rattle.elf_groups.proofs.Known.{all_numbered, all_still_known, is_known, known_end, next_end, one_end_more}
@@ -31,8 +31,8 @@ loop-index-preserved c =
     let rest = c.split_at.result.1.now in
     let back : rest ≡ drop (left - 256 - index * 256) text = c.split_at.ensures.back in
     let inv = c.loop-index.invariant in
-    let next : (file : List ℕ) → AreBlocks c.args.blocks.now → HasTexts file c.args.blocks.now c.args.self.now → StandsAt place text file → Numbers old c.loop-index.number (drop 256 rest) = λ file blocks texts stands. next_end old text rest c.loop-index.number left index (left - 256 - index * 256) (inv.number file blocks texts stands) c.loop-index-test.true refl back in
-    let numbers : (file : List ℕ) → AreBlocks c.args.blocks.now → HasTexts file c.args.blocks.now c.args.self.now → StandsAt place text file → Numbers new c.in_ok-number.number rest = λ file blocks texts stands. c.in_ok-number.ensures.number (inv.blocks file blocks texts stands) (next file blocks texts stands) in
+    let next : (file : List ℕ) → AreBlocks c.args.blocks.now → HasTexts file c.args.blocks.now c.args.self.now → LiesAt place text file → Numbers old c.loop-index.number (drop 256 rest) = λ file blocks texts stands. next_end old text rest c.loop-index.number left index (left - 256 - index * 256) (inv.number file blocks texts stands) c.loop-index-test.true refl back in
+    let numbers : (file : List ℕ) → AreBlocks c.args.blocks.now → HasTexts file c.args.blocks.now c.args.self.now → LiesAt place text file → Numbers new c.in_ok-number.number rest = λ file blocks texts stands. c.in_ok-number.ensures.number (inv.blocks file blocks texts stands) (next file blocks texts stands) in
     record {
       number = λ file blocks texts stands. one_end_more new text rest c.in_ok-number.number left index (left - 256 - index * 256) (numbers file blocks texts stands) refl back;
       blocks = λ file blocks texts stands. c.in_ok-number.ensures.blocks (inv.blocks file blocks texts stands) (next file blocks texts stands);

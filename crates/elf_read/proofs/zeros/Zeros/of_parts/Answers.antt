@@ -4,7 +4,7 @@ use Rattle.std.proofs.lemmas.Grind.{get_or-set_at}
 use Rattle.std.proofs.lemmas.List.{get_or-set_other}
 use Rattle.std.proofs.lemmas.Nat.{mul-le}
 use Rattle.std.specs.Int.{bit_at}
-use Rattle.elf_read.specs.Number.{IsFree, zero_from}
+use Rattle.elf_read.specs.Number.{HasNoZero, zero_from}
 use Rattle.elf_read.proofs.FirstZero.{zero_from-between}
 use Rattle.elf_read.proofs.zeros.Zeros.of_parts.Goals as goal
 use Rattle.elf_read.proofs.zeros.Zeros.of_parts.Goals.{then-zero-first, else-zero-first}
@@ -46,7 +46,7 @@ loop-at-preserved c =
             | inl same ↦
                 let is : get_or (slice_set c.loop-at.masks at c.mask_from.result) (piece / 64) 0 ≡ c.mask_from.result = get_or-set_at c.loop-at.masks at (piece / 64) c.mask_from.result 0 same (omega (arith, small, c.loop-at.invariant.masked)) in
                 let place : (at * 64 + piece % 64) * len ≡ piece * len = let number : at * 64 + piece % 64 ≡ piece = omega (arith, same) in ap (λ (n : ℕ). n * len) number in
-                subst (λ (n : ℕ). IsFree file n len) place
+                subst (λ (n : ℕ). HasNoZero file n len) place
                 (c.mask_from.ensures (piece % 64) (omega arith) (ap (λ (m : ℕ). bit_at m (piece % 64)) (sym is) ∙ clear))
             | inr before ↦
                 let kept : get_or (slice_set c.loop-at.masks at c.mask_from.result) (piece / 64) 0 ≡ get_or c.loop-at.masks (piece / 64) 0 = get_or-set_other c.loop-at.masks at (piece / 64) c.mask_from.result 0 (λ e. omega (arith, e, before)) in
