@@ -20,7 +20,7 @@ use Rattle.cfa_machine.specs.declared.machine.FunctionContext.{FunctionContext}
 use Rattle.cfa_machine.specs.declared.row.DwRow.{DwRow}
 use Rattle.cfa_machine.specs.Columns.{no_columns, changed, with_cfa_register, with_cfa_offset, row_from}
 use Rattle.cfa_machine.specs.Effects.{effect_by}
-use Rattle.cfa_machine.specs.Pass.{◌>>=◌, State, cie_step, cie_item_step, initial_columns, advanced, with_recalled, step, item_step, in_front, rows_from, rows_by, Gives}
+use Rattle.cfa_machine.specs.Pass.{◌>>=◌, State, cie_step, cie_item_step, initial_columns, advanced, with_recalled, step, item_step, with_ended, rows_from, rows_by, Gives}
 use Rattle.cfa_machine.specs.RowList.{RiseFrom, BeginAtZero, sign_fits, AreRows}
 
 -- ---- the sign
@@ -157,17 +157,17 @@ rest_without : (k : FunctionContext) (s t : State) (rows : List DwRow) → (t.of
 rest_without k s t rows (inl same) h = subst (λ (n : ℕ). AreRest k.arch k.size n rows) same h
 rest_without k s t rows (inr (past, le)) h = record { begins = λ lt. absurd (omega arith); rise = rise_lower s.offset t.offset rows le h.rise; below = h.below; signs = h.signs }
 
-rest_in_front : (k : FunctionContext) (s t : State) (row : Option DwRow) (given : Result (List DwRow) MachineFault) → StateFits k s → Moves k s t row → IsRest k t.offset given → IsRest k s.offset (given >>= λ rows. Ok (in_front row rows))
+rest_in_front : (k : FunctionContext) (s t : State) (row : Option DwRow) (given : Result (List DwRow) MachineFault) → StateFits k s → Moves k s t row → IsRest k t.offset given → IsRest k s.offset (given >>= λ rows. Ok (with_ended row rows))
 rest_in_front k s t None (Ok rows) fits moves h = rest_without k s t rows moves h
 rest_in_front k s t (Some row) (Ok rows) fits moves h = rest_with k s row t.offset rows fits.sign moves.0 moves.1 moves.2 h.rise h.below h.signs
 rest_in_front k s t row (Err e) fits moves h = tt
 
 rest_then : (k : FunctionContext) (s : State) (given : Result (State × Option DwRow) MachineFault) (next : State → Result (List DwRow) MachineFault) → StateFits k s → GoesOn k s given → ((t : State) → StateFits k t → IsRest k t.offset (next t))
-    → IsRest k s.offset (given >>= λ o. (next o.0 >>= λ rows. Ok (in_front o.1 rows)))
+    → IsRest k s.offset (given >>= λ o. (next o.0 >>= λ rows. Ok (with_ended o.1 rows)))
 rest_then k s (Ok (t, row)) next fits goes go = rest_in_front k s t row (next t) fits goes.moves (go t goes.fits)
 rest_then k s (Err e) next fits goes go = tt
 
-last_rest : (k : FunctionContext) (s : State) (inside : Bool) → StateFits k s → nat_lt s.offset k.size ≡ inside → AreRest k.arch k.size s.offset (in_front (cond inside (Some (row_from s.offset s.columns)) None) [])
+last_rest : (k : FunctionContext) (s : State) (inside : Bool) → StateFits k s → nat_lt s.offset k.size ≡ inside → AreRest k.arch k.size s.offset (with_ended (cond inside (Some (row_from s.offset s.columns)) None) [])
 last_rest k s true fits e =
     let inside : s.offset < k.size = ltb-true s.offset k.size e in
     rest_with k s (row_from s.offset s.columns) (s.offset + 1) [] fits.sign refl (omega arith) inside tt (All-nil (λ (r : DwRow). r.start < k.size)) (All-nil (λ (r : DwRow). IsTrue (sign_fits k.arch r.signed)))

@@ -17,7 +17,7 @@ use Rattle.cfa_machine.specs.declared.machine.Machine.{Machine}
 use Rattle.cfa_machine.specs.declared.row.DwRow.{DwRow}
 use Rattle.cfa_machine.specs.Effects.{effect_by}
 use Rattle.cfa_machine.specs.Left.{Follows, RunsNext, behind_row}
-use Rattle.cfa_machine.specs.Pass.{◌>>=◌, State, Steps, cie_item_step, initial_columns, ended, state, step, item_step, rows_from, in_front, last_row, Fails}
+use Rattle.cfa_machine.specs.Pass.{◌>>=◌, State, MachineSteps, cie_item_step, initial_columns, ended, state, step, item_step, rows_from, with_ended, last_row, Fails}
 
 -- ---- the common information entry
 pub cie_goes_on : (arch : Arch) (f : ℤ) (c : Columns) (x : Item) (d : Columns) (items rest : List Item) (whole : Result Columns MachineFault) → items ≡ x ∷ rest → Ok d ≡ cie_item_step arch f x c
@@ -41,7 +41,7 @@ cie_done arch f c items whole none so_far =
     sym here ∙ so_far
 
 -- ---- one row after another
-nothing_in_front : (given : Result (List DwRow) MachineFault) → (given >>= λ rows. Ok (in_front None rows)) ≡ given
+nothing_in_front : (given : Result (List DwRow) MachineFault) → (given >>= λ rows. Ok (with_ended None rows)) ≡ given
 nothing_in_front (Ok rows) = refl
 nothing_in_front (Err e) = refl
 
@@ -118,33 +118,33 @@ pub none_taken : (a b c d e : Insns) → b ≡ a → c ≡ b → d ≡ c → e �
 none_taken a b c d e p q r s = same_left a e (s ∙ r ∙ q ∙ p)
 
 pub end_comes : (k : FunctionContext) (f : ℤ) (s : State) (items : List Item) (whole : Result (List DwRow) MachineFault) → items ≡ []
-    → rows_from k f s items ≡ whole → whole ≡ Ok (in_front (last_row k.size s) [])
+    → rows_from k f s items ≡ whole → whole ≡ Ok (with_ended (last_row k.size s) [])
 unfolding rows_from
 end_comes k f s items whole none so_far =
-    let here : rows_from k f s items ≡ Ok (in_front (last_row k.size s) []) = rw none refl in
+    let here : rows_from k f s items ≡ Ok (with_ended (last_row k.size s) []) = rw none refl in
     sym so_far ∙ here
 
 -- ---- any next instruction
 pub next_row_comes : (k : FunctionContext) (f : ℤ) (old new : Machine) (answer : Result (Option ℕ) MachineFault) (found : Option ℕ) (start : ℕ) (items before after : List Item) (whole : Result (List DwRow) MachineFault) → items ≡ before → RunsNext k f old new (Some answer) before after → answer ≡ Ok found → found ≡ Some start
     → rows_from k f (state old) items ≡ whole → whole ≡ behind_row start new.columns (rows_from k f (state new) after)
 next_row_comes k f old new answer found start items before after whole same h is there so_far =
-    let ran = subst (λ r. Steps new r (item_step k f h.0 (state old))) is h.2 in
+    let ran = subst (λ r. MachineSteps new r (item_step k f h.0 (state old))) is h.2 in
     row_comes k f (state old) h.0 (state new) start new.columns found items after whole (same ∙ h.1) ran there so_far
 
 pub next_gives_no_row : (k : FunctionContext) (f : ℤ) (old new : Machine) (answer : Result (Option ℕ) MachineFault) (found : Option ℕ) (items before after : List Item) (whole : Result (List DwRow) MachineFault) → items ≡ before → RunsNext k f old new (Some answer) before after → answer ≡ Ok found → found ≡ None
     → rows_from k f (state old) items ≡ whole → rows_from k f (state new) after ≡ whole
 next_gives_no_row k f old new answer found items before after whole same h is there so_far =
-    let ran = subst (λ r. Steps new r (item_step k f h.0 (state old))) is h.2 in
+    let ran = subst (λ r. MachineSteps new r (item_step k f h.0 (state old))) is h.2 in
     no_row_comes k f (state old) h.0 (state new) new.columns found items after whole (same ∙ h.1) ran there so_far
 
 pub next_fault_comes : (k : FunctionContext) (f : ℤ) (old new : Machine) (answer : Result (Option ℕ) MachineFault) (e : MachineFault) (items before after : List Item) (whole : Result (List DwRow) MachineFault) → items ≡ before → RunsNext k f old new (Some answer) before after → answer ≡ Err e
     → rows_from k f (state old) items ≡ whole → whole ≡ Err e
 next_fault_comes k f old new answer e items before after whole same h is so_far =
-    let ran = subst (λ r. Steps new r (item_step k f h.0 (state old))) is h.2 in
+    let ran = subst (λ r. MachineSteps new r (item_step k f h.0 (state old))) is h.2 in
     fault_comes k f (state old) h.0 e items after whole (same ∙ h.1) ran so_far
 
 pub none_is_next : (k : FunctionContext) (f : ℤ) (old new : Machine) (items before after : List Item) (whole : Result (List DwRow) MachineFault) → items ≡ before → RunsNext k f old new None before after
-    → rows_from k f (state old) items ≡ whole → whole ≡ Ok (in_front (last_row k.size (state new)) [])
+    → rows_from k f (state old) items ≡ whole → whole ≡ Ok (with_ended (last_row k.size (state new)) [])
 none_is_next k f old new items before after whole same h so_far = rw h.2 (end_comes k f (state old) items whole (same ∙ h.0) so_far)
 
 -- what a call for the next row returned

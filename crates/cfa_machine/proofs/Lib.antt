@@ -2,6 +2,7 @@ pub mod InstructionLoops
 pub mod GoodRows
 pub mod Agrees
 pub mod Says
+pub mod Counts
 pub mod Faults
 pub mod Starts
 pub mod Worked

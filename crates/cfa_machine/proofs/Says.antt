@@ -15,7 +15,7 @@ use Rattle.cfa_machine.specs.declared.machine.FunctionContext.{FunctionContext}
 use Rattle.cfa_machine.specs.declared.row.DwRow.{DwRow}
 use Rattle.cfa_machine.specs.Columns.{no_columns, restored, changed, row_from}
 use Rattle.cfa_machine.specs.Effects.{effect_by}
-use Rattle.cfa_machine.specs.Pass.{◌>>=◌, State, initial_columns, advanced, row_before, with_recalled, step, last_row, in_front, rows_from, rows_by, Gives}
+use Rattle.cfa_machine.specs.Pass.{◌>>=◌, State, initial_columns, advanced, row_before, with_recalled, step, last_row, with_ended, rows_from, rows_by, Gives}
 use Rattle.cfa_machine.specs.RowList.{RiseFrom}
 use Rattle.cfa_machine.specs.FullRow.{FullRow, no_row, restored_rule, with_register_rule, row_after, columns_of}
 use Rattle.cfa_machine.specs.RowAtOffset.{UnwindState, recalled, after_instruction, offset_behind, state_before, initial_by, row_at_offset, latest_at, SaysAt, SayAll}
@@ -88,13 +88,13 @@ latest_past o least found (r ∷ rows) lt h =
     let test : nat_le r.start o ≡ false = lt-leb r.start o above in
     rw test (latest_past o (r.start + 1) found rows (omega arith) h.1)
 
-latest_front : (arch : Arch) (o : ℕ) (row : FullRow) (r : Option DwRow) (rows : List DwRow) → ((found : Option DwRow) → SaysAt arch row (latest_at o found rows)) → (found : Option DwRow) → SaysAt arch row (latest_at o found (in_front r rows))
+latest_front : (arch : Arch) (o : ℕ) (row : FullRow) (r : Option DwRow) (rows : List DwRow) → ((found : Option DwRow) → SaysAt arch row (latest_at o found rows)) → (found : Option DwRow) → SaysAt arch row (latest_at o found (with_ended r rows))
 latest_front arch o row None rows h found = h found
 latest_front arch o row (Some r) rows h found = h (cond (nat_le r.start o) (Some r) found)
 
-found_here : (arch : Arch) (o offset next : ℕ) (c : Columns) (full : FullRow) (row : Option DwRow) (rows : List DwRow) (found : Option DwRow) → c ≡ columns_of arch full → row ≡ Some (row_from offset c) → offset ≤ o → o < next → RiseFrom next rows → SaysAt arch full (latest_at o found (in_front row rows))
+found_here : (arch : Arch) (o offset next : ℕ) (c : Columns) (full : FullRow) (row : Option DwRow) (rows : List DwRow) (found : Option DwRow) → c ≡ columns_of arch full → row ≡ Some (row_from offset c) → offset ≤ o → o < next → RiseFrom next rows → SaysAt arch full (latest_at o found (with_ended row rows))
 found_here arch o offset next c full row rows found e row_is le lt rise =
-    let front : latest_at o found (in_front row rows) ≡ latest_at o found (row_from offset c ∷ rows) = ap (λ (x : Option DwRow). latest_at o found (in_front x rows)) row_is in
+    let front : latest_at o found (with_ended row rows) ≡ latest_at o found (row_from offset c ∷ rows) = ap (λ (x : Option DwRow). latest_at o found (with_ended x rows)) row_is in
     let taken : latest_at o found (row_from offset c ∷ rows) ≡ latest_at o (Some (row_from offset c)) rows = ap (λ (b : Bool). latest_at o (cond b (Some (row_from offset c)) found) rows) (le-leb offset o le) in
     record { start = offset; is = front ∙ taken ∙ latest_past o next (Some (row_from offset c)) rows lt rise ∙ ap (λ (x : Columns). Some (row_from offset x)) e }
 
@@ -102,7 +102,7 @@ row_there : (size next offset : ℕ) (c : Columns) → offset < next → offset 
 row_there size next offset c later inside = rw (lt-ltb offset next later, lt-ltb offset size inside) refl
 
 step_says : (k : FunctionContext) (o : ℕ) (s t : State) (n m : ℕ) (full later : UnwindState) (b : Bool) (row : Option DwRow) (given : Result (List DwRow) MachineFault) → nat_lt o m ≡ b → Agrees k s n full → t.offset ≡ min m (2 ^ 64 - 1) → row ≡ row_before k.size t.offset s.offset s.columns
-    → n ≤ o → o < k.size → k.size < 2 ^ 64 → IsRest k t.offset given → (m ≤ o → Says k.arch o later.row given) → Says k.arch o (cond b full later).row (given >>= λ rows. Ok (in_front row rows))
+    → n ≤ o → o < k.size → k.size < 2 ^ 64 → IsRest k t.offset given → (m ≤ o → Says k.arch o later.row given) → Says k.arch o (cond b full later).row (given >>= λ rows. Ok (with_ended row rows))
 step_says k o s t n m full later b row (Err e) test h to row_is le inside small rest go = tt
 step_says k o s t n m full later false row (Ok rows) test h to row_is le inside small rest go = latest_front k.arch o later.row row rows (go (ltb-false o m test))
 step_says k o s t n m full later true row (Ok rows) test h to row_is le inside small rest go = λ found.
@@ -113,7 +113,7 @@ step_says k o s t n m full later true row (Ok rows) test h to row_is le inside s
     let there : row ≡ Some (row_from s.offset s.columns) = row_is ∙ row_there k.size t.offset s.offset s.columns (omega arith) (omega arith) in
     found_here k.arch o s.offset t.offset s.columns full.row row rows found h.columns there here above rest.rise
 
-last_says : (k : FunctionContext) (o : ℕ) (s : State) (n : ℕ) (full : UnwindState) → Agrees k s n full → n ≤ o → o < k.size → k.size < 2 ^ 64 → Says k.arch o full.row (Ok (in_front (last_row k.size s) []))
+last_says : (k : FunctionContext) (o : ℕ) (s : State) (n : ℕ) (full : UnwindState) → Agrees k s n full → n ≤ o → o < k.size → k.size < 2 ^ 64 → Says k.arch o full.row (Ok (with_ended (last_row k.size s) []))
 last_says k o s n full h le inside small = λ found.
     let from : s.offset ≡ min n (2 ^ 64 - 1) = h.offset in
     let below : s.offset < k.size = omega arith in
@@ -125,7 +125,7 @@ record Follows (k : FunctionContext) (o m : ℕ) (later : UnwindState) (t : Stat
   says : m ≤ o → Says k.arch o later.row given
 
 then_says : (k : FunctionContext) (o : ℕ) (s : State) (n m : ℕ) (full behind later : UnwindState) (given : Result (State × Option DwRow) MachineFault) (next : State → Result (List DwRow) MachineFault) → Agrees k s n full → n ≤ o → o < k.size → k.size < 2 ^ 64 → StepsAgree k s given m behind → GoesOn k s given
-    → ((t : State) → Agrees k t m behind → StateFits k t → Follows k o m later t (next t)) → Says k.arch o (cond (nat_lt o m) full later).row (given >>= λ x. (next x.0 >>= λ rows. Ok (in_front x.1 rows)))
+    → ((t : State) → Agrees k t m behind → StateFits k t → Follows k o m later t (next t)) → Says k.arch o (cond (nat_lt o m) full later).row (given >>= λ x. (next x.0 >>= λ rows. Ok (with_ended x.1 rows)))
 then_says k o s n m full behind later (Ok (t, row)) next h le inside small step goes go =
     let f = go t step.agrees goes.fits in
     step_says k o s t n m full later (nat_lt o m) row (next t) refl h step.agrees.offset step.row_is le inside small f.rest f.says

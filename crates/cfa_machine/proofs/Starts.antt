@@ -12,7 +12,7 @@ use Rattle.cfa_machine.specs.declared.machine.FunctionContext.{FunctionContext}
 use Rattle.cfa_machine.specs.declared.row.DwRow.{DwRow}
 use Rattle.cfa_machine.specs.Columns.{no_columns, row_from}
 use Rattle.cfa_machine.specs.Effects.{effect_by}
-use Rattle.cfa_machine.specs.Pass.{◌>>=◌, State, initial_columns, step, in_front, rows_from, rows_by, Gives}
+use Rattle.cfa_machine.specs.Pass.{◌>>=◌, State, initial_columns, step, with_ended, rows_from, rows_by, Gives}
 use Rattle.cfa_machine.specs.FullRow.{FullRow, no_row, columns_of}
 use Rattle.cfa_machine.specs.RowAtOffset.{UnwindState, after_instruction, offset_behind, initial_by, reaches, has_start, StartWhereReached}
 use Rattle.cfa_machine.proofs.Agrees.{ChangesTo, initial_agrees}
@@ -38,7 +38,7 @@ behind_on code Remember n = omega arith
 behind_on code Recall n = omega arith
 
 -- a row or none, by the tests of its start
-start_there : (o offset n size : ℕ) (c : Columns) (inside : Bool) → nat_lt offset size ≡ inside → offset ≡ min n (2 ^ 64 - 1) → o < size → size < 2 ^ 64 → has_start o (in_front (cond inside (Some (row_from offset c)) None) []) ≡ (n == o)
+start_there : (o offset n size : ℕ) (c : Columns) (inside : Bool) → nat_lt offset size ≡ inside → offset ≡ min n (2 ^ 64 - 1) → o < size → size < 2 ^ 64 → has_start o (with_ended (cond inside (Some (row_from offset c)) None) []) ≡ (n == o)
 start_there o offset n size c true test e lt small =
     let below : offset < size = ltb-true offset size test in
     let same : offset ≡ n = omega arith in
@@ -52,7 +52,7 @@ start_there o offset n size c false test e lt small =
     sym (not_equal n o (omega arith))
 
 start_front : (o offset next n m size : ℕ) (c : Columns) (rows : List DwRow) (reached : Bool) (later inside : Bool) → nat_lt offset next ≡ later → nat_lt offset size ≡ inside → offset ≡ min n (2 ^ 64 - 1) → next ≡ min m (2 ^ 64 - 1) → n ≤ m → o < size → size < 2 ^ 64
-    → (m ≡ o → reached ≡ true) → has_start o rows ≡ reached → has_start o (in_front (cond (later && inside) (Some (row_from offset c)) None) rows) ≡ ((n == o) || reached)
+    → (m ≡ o → reached ≡ true) → has_start o rows ≡ reached → has_start o (with_ended (cond (later && inside) (Some (row_from offset c)) None) rows) ≡ ((n == o) || reached)
 start_front o offset next n m size c rows reached true true test inner e to le lt small here h =
     let below : offset < size = ltb-true offset size inner in
     let same : offset ≡ n = omega arith in
@@ -75,13 +75,13 @@ StartsAre o reached (Ok rows) = has_start o rows ≡ reached
 StartsAre o reached (Err e) = Unit {0}
 
 starts_then : (k : FunctionContext) (o : ℕ) (s : State) (n m : ℕ) (full behind : UnwindState) (reached : Bool) (given : Result (State × Option DwRow) MachineFault) (next : State → Result (List DwRow) MachineFault) → Agrees k s n full → n ≤ m → o < k.size → k.size < 2 ^ 64 → (m ≡ o → reached ≡ true) → StepsAgree k s given m behind
-    → ((t : State) → Agrees k t m behind → StartsAre o reached (next t)) → StartsAre o ((n == o) || reached) (given >>= λ x. (next x.0 >>= λ rows. Ok (in_front x.1 rows)))
+    → ((t : State) → Agrees k t m behind → StartsAre o reached (next t)) → StartsAre o ((n == o) || reached) (given >>= λ x. (next x.0 >>= λ rows. Ok (with_ended x.1 rows)))
 starts_then k o s n m full behind reached (Ok (t, row)) next h le lt small here step go = at_rest (next t) (go t step.agrees)
   where
-    at_rest : (rest : Result (List DwRow) MachineFault) → StartsAre o reached rest → StartsAre o ((n == o) || reached) (rest >>= λ rows. Ok (in_front row rows))
+    at_rest : (rest : Result (List DwRow) MachineFault) → StartsAre o reached rest → StartsAre o ((n == o) || reached) (rest >>= λ rows. Ok (with_ended row rows))
     at_rest (Err e) g = tt
     at_rest (Ok rows) g =
-        ap (λ (r : Option DwRow). has_start o (in_front r rows)) step.row_is ∙ start_front o s.offset t.offset n m k.size s.columns rows reached (nat_lt s.offset t.offset) (nat_lt s.offset k.size) refl refl h.offset step.agrees.offset le lt small here g
+        ap (λ (r : Option DwRow). has_start o (with_ended r rows)) step.row_is ∙ start_front o s.offset t.offset n m k.size s.columns rows reached (nat_lt s.offset t.offset) (nat_lt s.offset k.size) refl refl h.offset step.agrees.offset le lt small here g
 starts_then k o s n m full behind reached (Err e) next h le lt small here step go = tt
 
 starts_are : (k : FunctionContext) (initial : FullRow) (f : ℤ) (o : ℕ) (s : State) (n : ℕ) (full : UnwindState) (items : List Item) → k.initial ≡ columns_of k.arch initial → Agrees k s n full → o < k.size → k.size < 2 ^ 64 → StartsAre o (reaches k.code f o n items) (rows_from k f s items)

@@ -26,5 +26,6 @@ columns_recover_from arch columns key regs memory frame_address = record {
   signed = key_if_signed columns.signed key;
 }
 
+-- what columns recover, with the machine's return column, the key, the present registers and the memory
 unfoldable pub columns_recover : Arch → Columns → Key → Regs → List Region → RuleRecovery
 columns_recover arch columns key regs memory = columns_recover_from arch columns key regs memory (frame_address_by arch columns.cfa regs)

@@ -18,6 +18,7 @@ use Rattle.cfa_machine.specs.declared.row.DwRow.{DwRow}
 use Rattle.cfa_machine.specs.Registers.{stack_pointer, frame_pointer, return_address, is_sign_state}
 use Rattle.cfa_machine.specs.FullRow.{or_same}
 
+-- the columns of the row before any instruction
 abbrev pub no_columns : Columns
 no_columns = record { cfa = cfa.Missing; sp = rule.Missing; fp = rule.Missing; ra = rule.Missing; sign = rule.Missing; signed = false }
 
@@ -43,18 +44,19 @@ restored arch r initial c = record {
   signed = c.signed;
 }
 
--- the CFA counts from another register, or has another offset, where it is a register and an offset
+-- the CFA counts from another register, where it is a register and an offset
 abbrev pub with_cfa_register : ℕ → ℕ → CfaRule → Columns → Result Columns MachineFault
 with_cfa_register place r (cfa.Reg q n) c = Ok (record c { cfa = cfa.Reg r n })
 with_cfa_register place r cfa.Missing c = Err (NoCfaRegister place)
 with_cfa_register place r cfa.Expression c = Err (NoCfaRegister place)
 
+-- the CFA has another offset, where it is a register and an offset
 abbrev pub with_cfa_offset : ℕ → ℤ → CfaRule → Columns → Result Columns MachineFault
 with_cfa_offset place n (cfa.Reg r m) c = Ok (record c { cfa = cfa.Reg r n })
 with_cfa_offset place n cfa.Missing c = Err (NoCfaRegister place)
 with_cfa_offset place n cfa.Expression c = Err (NoCfaRegister place)
 
--- AMD64 has no sign state
+-- the sign state is inverted; AMD64 has none
 abbrev pub with_sign_inverted : Arch → ℕ → Columns → Result Columns MachineFault
 with_sign_inverted Amd64 place c = Err (Insn (Opcode place DW_CFA_AARCH64_negate_ra_state))
 with_sign_inverted Aarch64 place c = Ok (record c { signed = not c.signed })
@@ -68,9 +70,10 @@ changed arch place (SetCfaRegister r) c = with_cfa_register place r c.cfa c
 changed arch place (SetCfaOffset n) c = with_cfa_offset place n c.cfa c
 changed arch place NegateSign c = with_sign_inverted arch place c
 
--- what a call answered, and the row that it left, are what the change gives
+-- what a call returned, and the row that it left, are what the change gives
 abbrev pub Changes : {U : Type 0} → (new : Columns) → Result U MachineFault → (given : Result Columns MachineFault) → Type 0
 Changes new result given = Is (λ u. new) result given
 
+-- the row with these columns from an offset on
 abbrev pub row_from : ℕ → Columns → DwRow
 row_from start c = record { start = start; cfa = c.cfa; sp = c.sp; fp = c.fp; ra = c.ra; sign = c.sign; signed = c.signed }

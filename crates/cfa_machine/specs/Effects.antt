@@ -8,6 +8,7 @@ use Rattle.cfa_machine.specs.declared.effect.RowEffect.TheVariants.{Nothing, Set
 use Rattle.cfa_machine.specs.declared.effect.Effect.{Effect}
 use Rattle.cfa_machine.specs.declared.effect.Effect.TheVariants.{Row, Advance, Restore, Remember, Recall}
 
+-- the effect of an instruction
 unfoldable pub effect_by : ℤ → Instruction → Effect
 -- DW_CFA_advance_loc
 effect_by f (advance_loc n) = Advance n

@@ -5,14 +5,14 @@ use Rattle.cfa_machine.specs.declared.fault.MachineFault.{MachineFault}
 use Rattle.cfa_machine.specs.declared.fault.MachineFault.TheVariants.{NoMemory}
 
 -- the faults that a definition gives: all but out of memory
-abbrev pub refusal_of : MachineFault → Option MachineFault
-refusal_of NoMemory = None
-refusal_of fault = Some fault
+abbrev pub machine_refusal : MachineFault → Option MachineFault
+machine_refusal NoMemory = None
+machine_refusal fault = Some fault
 
 -- the definition gives this fault, or memory ran out
 abbrev pub Fails : {Y : Type 0} → MachineFault → Result Y MachineFault → Type 0
-Fails fault given = answers.Fails refusal_of fault given
+Fails fault given = answers.Fails machine_refusal fault given
 
 -- the result, seen by view, is what the definition gives, unless memory ran out
 abbrev pub Gives : {X Y : Type 0} → (X → Y) → Result X MachineFault → Result Y MachineFault → Type 0
-Gives view result given = answers.Gives refusal_of view result given
+Gives view result given = answers.Gives machine_refusal view result given

@@ -1,5 +1,5 @@
 -- Unwind rows, and what instructions do to them (DWARF 5, section 6.4.1 and 6.4.2): a CFA rule, a rule for each register
--- that was named, and the sign state of AArch64. Rules stand in a list, the latest first.
+-- that was named, and the sign state of AArch64. Rules are in a list, the latest first.
 use Rattle.std.specs.Prelude.{ℕ, ℤ, ◌==◌, Bool, not, false, List, [], ◌∷◌, if◌then◌else◌}
 use Rattle.sf_model.specs.declared.machine.Arch.{Arch}
 use Rattle.sf_model.specs.declared.machine.Arch.TheVariants.{Amd64, Aarch64}
@@ -12,6 +12,7 @@ use Rattle.cfa_machine.specs.declared.effect.RowEffect.TheVariants.{Nothing, Set
 use Rattle.cfa_machine.specs.declared.columns.Columns.{Columns}
 use Rattle.cfa_machine.specs.Registers.{stack_pointer, frame_pointer, return_address}
 
+-- a row: the CFA rule, the rules of registers, and whether the return address is signed
 pub record FullRow : Type 0 where
   pub cfa : CfaRule
   pub rules : List (ℕ × Rule)
@@ -37,20 +38,23 @@ or_same given = given
 abbrev pub restored_rule : ℕ → (initial : List (ℕ × Rule)) → Rule
 restored_rule r initial = if r == 34 then or_same (rule_of r initial) else rule_of r initial
 
+-- the row with a rule for a register
 abbrev pub with_register_rule : ℕ → Rule → FullRow → FullRow
 with_register_rule r new row = record { cfa = row.cfa; rules = (r, new) ∷ row.rules; signed = row.signed }
 
--- the CFA's register or offset alone; a CFA without them stays
+-- another register of the CFA alone; a CFA without one stays
 abbrev pub cfa_register : ℕ → CfaRule → CfaRule
 cfa_register r (cfa.Reg q n) = cfa.Reg r n
 cfa_register r cfa.Missing = cfa.Missing
 cfa_register r cfa.Expression = cfa.Expression
 
+-- another offset of the CFA alone; a CFA without one stays
 abbrev pub cfa_offset : ℤ → CfaRule → CfaRule
 cfa_offset n (cfa.Reg r m) = cfa.Reg r n
 cfa_offset n cfa.Missing = cfa.Missing
 cfa_offset n cfa.Expression = cfa.Expression
 
+-- the row after a change
 abbrev pub row_after : RowEffect → FullRow → FullRow
 row_after Nothing row = row
 row_after (SetRule r new) row = with_register_rule r new row
@@ -60,10 +64,12 @@ row_after (SetCfaOffset n) row = record row { cfa = cfa_offset n row.cfa }
 row_after NegateSign row = record row { signed = not row.signed }
 
 -- ---- what SFrame can use of a full row
+-- the rule of the sign state, which AArch64 alone has
 abbrev pub sign_rule : Arch → List (ℕ × Rule) → Rule
 sign_rule Amd64 rules = rule.Missing
 sign_rule Aarch64 rules = rule_of 34 rules
 
+-- the columns that SFrame can use
 abbrev pub columns_of : Arch → FullRow → Columns
 columns_of arch row = record {
   cfa = row.cfa;

@@ -9,13 +9,14 @@ use Rattle.cfa_machine.specs.declared.machine.Machine.{Machine}
 use Rattle.cfa_machine.specs.declared.row.DwRow.{DwRow}
 use Rattle.cfa_machine.specs.declared.runner.Runner.{Runner}
 use Rattle.cfa_machine.specs.Columns.{row_from}
-use Rattle.cfa_machine.specs.Pass.{◌>>=◌, StartsBelow, Steps, item_step, rows_from, state}
+use Rattle.cfa_machine.specs.Pass.{◌>>=◌, StartsBelow, MachineSteps, item_step, rows_from, state}
 
 -- the rows that come, or the fault that will
 abbrev pub unless_over : Bool → Result (List DwRow) MachineFault → Result (List DwRow) MachineFault
 unless_over true rows = Ok []
 unless_over false rows = rows
 
+-- the rows that a runner has left, or the fault that will come
 abbrev pub rows_left : Runner → Result (List DwRow) MachineFault
 rows_left r = unless_over r.over (rows_from r.setup r.factor (state r.machine) (items_left r.insns))
 
@@ -24,6 +25,7 @@ abbrev pub steps_if : Bool → ℕ → ℕ
 steps_if true n = 0
 steps_if false n = n + 1
 
+-- how many steps a runner has left at most
 abbrev pub steps_left : Runner → ℕ
 steps_left r = steps_if r.over (length (items_left r.insns))
 
@@ -39,30 +41,30 @@ limit r = r.setup.size
 abbrev pub behind_row : ℕ → Columns → Result (List DwRow) MachineFault → Result (List DwRow) MachineFault
 behind_row start c after = after >>= λ rows. Ok (row_from start c ∷ rows)
 
--- what a call answered is the next row, or that the instructions are over, or their fault
+-- what a call returned is the next row, or that the instructions are over, or their fault
 abbrev pub Reaches : Columns → Result (Option ℕ) MachineFault → (before after end : Result (List DwRow) MachineFault) → Type 0
 Reaches c (Ok (Some start)) before after end = before ≡ behind_row start c after
 Reaches c (Ok None) before after end = before ≡ end
 Reaches c (Err e) before after end = before ≡ Err e
 
--- what a call answered is the next row, or that there is none, or the fault
+-- what a call returned is the next row, or that there is no other, or the fault
 abbrev pub Follows : Columns → Result (Option ℕ) MachineFault → (before after : Result (List DwRow) MachineFault) → Type 0
 Follows c (Ok (Some start)) before after = before ≡ behind_row start c after
 Follows c (Ok None) before after = before ≡ Ok []
 Follows c (Err e) before after = before ≡ Err e
 
--- where a row was given, this holds
+-- this holds of a row that was given
 abbrev pub OnRow : Result (Option ℕ) MachineFault → (ℕ → Type 0) → Type 0
 OnRow (Ok (Some start)) P = P start
 OnRow (Ok None) P = Unit {0}
 OnRow (Err e) P = Unit {0}
 
--- none where no instruction was left, and all is as it was; else the first one was run, and the others are left
+-- no instruction was left, and all is as it was; or the first was run, and the others are left
 abbrev pub RunsNext : FunctionContext → ℤ → (old new : Machine) → Option (Result (Option ℕ) MachineFault) → (before after : List Item) → Type 0
 RunsNext k f old new None before after = (before ≡ []) × (after ≡ []) × (new ≡ old)
-RunsNext k f old new (Some answer) before after = (x : Item) × (before ≡ x ∷ after) × Steps new answer (item_step k f x (state old)) × StartsBelow k.size answer
+RunsNext k f old new (Some answer) before after = (x : Item) × (before ≡ x ∷ after) × MachineSteps new answer (item_step k f x (state old)) × StartsBelow k.size answer
 
--- what a start answered
+-- after a start the runner has these rows left, or the start returned their fault
 abbrev pub Begins : {U : Type 0} → Runner → Result U MachineFault → Result (List DwRow) MachineFault → Type 0
 Begins new (Ok u) given = rows_left new ≡ given
 Begins new (Err e) given = given ≡ Err e

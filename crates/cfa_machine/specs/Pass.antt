@@ -19,6 +19,7 @@ use Rattle.sf_bytes.specs.Answers.{Is}
 pub use Rattle.sf_bytes.specs.Steps.{◌>>=◌}
 
 -- ---- the common information entry
+-- the columns after one instruction
 abbrev pub cie_step : Arch → ℕ → Effect → Columns → Result Columns MachineFault
 cie_step arch place (Row change) c = changed arch place change c
 cie_step arch place (Advance n) c = Err (CieInstruction place)
@@ -26,17 +27,18 @@ cie_step arch place (Restore r) c = Err (CieInstruction place)
 cie_step arch place Remember c = Err (CieInstruction place)
 cie_step arch place Recall c = Err (CieInstruction place)
 
--- the row after one more item
+-- the columns after one more item
 abbrev pub cie_item_step : Arch → ℤ → Item → Columns → Result Columns MachineFault
 cie_item_step arch f (Ok (place, i)) c = cie_step arch place (effect_by f i) c
 cie_item_step arch f (Err e) c = Err (Insn e)
 
--- the row after all of them, from c on
+-- the columns after all items, from c on
 unfoldable pub initial_columns : Arch → ℤ → Columns → List Item → Result Columns MachineFault
 initial_columns arch f c [] = Ok c
 initial_columns arch f c (x ∷ items) = cie_item_step arch f x c >>= λ d. initial_columns arch f d items
 
 -- ---- the function
+-- the present columns, the remembered ones, and the offset
 pub record State : Type 0 where
   pub columns : Columns
   pub remembered : List Columns
@@ -50,10 +52,11 @@ advanced code delta offset = min (offset + min (code * delta) (2 ^ 64 - 1)) (2 ^
 abbrev pub row_before : (size next offset : ℕ) → Columns → Option DwRow
 row_before size next offset c = if nat_lt offset next && nat_lt offset size then Some (row_from offset c) else None
 
--- the stack, the latest row first
+-- the remembered columns with these, the latest first
 abbrev pub with_remembered : ℕ → Columns → List Columns → Result (List Columns) MachineFault
 with_remembered place c rows = if nat_lt (length rows) 64 then Ok (c ∷ rows) else Err (StateDepth place)
 
+-- the latest remembered columns, and those before them
 abbrev pub with_recalled : ℕ → List Columns → Result (Columns × List Columns) MachineFault
 with_recalled place [] = Err (StateEmpty place)
 with_recalled place (c ∷ rows) = Ok (c, rows)
@@ -66,12 +69,14 @@ step k place (Restore r) s = Ok (record s { columns = restored k.arch r k.initia
 step k place Remember s = with_remembered place s.columns s.remembered >>= λ rows. Ok (record s { remembered = rows }, None)
 step k place Recall s = with_recalled place s.remembered >>= λ x. Ok (record s { columns = x.0; remembered = x.1 }, None)
 
+-- the row at the end, if it starts below the size
 abbrev pub last_row : (size : ℕ) → State → Option DwRow
 last_row size s = if nat_lt s.offset size then Some (row_from s.offset s.columns) else None
 
-abbrev pub in_front : Option DwRow → List DwRow → List DwRow
-in_front None rows = rows
-in_front (Some row) rows = row ∷ rows
+-- the rows with one that ended before them
+abbrev pub with_ended : Option DwRow → List DwRow → List DwRow
+with_ended None rows = rows
+with_ended (Some row) rows = row ∷ rows
 
 -- the same for an item
 abbrev pub item_step : FunctionContext → ℤ → Item → State → Result (State × Option DwRow) MachineFault
@@ -80,11 +85,11 @@ item_step k f (Err e) s = Err (Insn e)
 
 -- the rows that the instructions give from a state on
 unfoldable pub rows_from : FunctionContext → ℤ → State → List Item → Result (List DwRow) MachineFault
-rows_from k f s [] = Ok (in_front (last_row k.size s) [])
+rows_from k f s [] = Ok (with_ended (last_row k.size s) [])
 rows_from k f s (x ∷ items) = do
   o ← item_step k f x s
   rows ← rows_from k f o.0 items
-  Ok (in_front o.1 rows)
+  Ok (with_ended o.1 rows)
 
 -- both entries: the rows of a function
 abbrev pub rows_by : Arch → (code : ℕ) → (factor : ℤ) → (size : ℕ) → (cie fde : List Item) → Result (List DwRow) MachineFault
@@ -93,9 +98,11 @@ rows_by arch code f size cie fde = do
   rows_from (record { arch = arch; code = code; size = size; initial = initial }) f (record { columns = initial; remembered = []; offset = 0 }) fde
 
 -- ---- what the code keeps of a state
+-- the remembered columns that the code keeps, the latest first
 abbrev pub latest_first : ArrayVec Columns → List Columns
 latest_first stack = reverse stack.items
 
+-- the state of a machine
 abbrev pub state : Machine → State
 state m = record { columns = m.columns; remembered = latest_first m.remembered; offset = m.offset }
 
@@ -105,8 +112,8 @@ ended c None = None
 ended c (Some start) = Some (row_from start c)
 
 -- a call gave the start of the row that ends, and left the machine, as the step does
-abbrev pub Steps : Machine → Result (Option ℕ) MachineFault → Result (State × Option DwRow) MachineFault → Type 0
-Steps new result given = Is (λ start. (state new, ended new.columns start)) result given
+abbrev pub MachineSteps : Machine → Result (Option ℕ) MachineFault → Result (State × Option DwRow) MachineFault → Type 0
+MachineSteps new result given = Is (λ start. (state new, ended new.columns start)) result given
 
 -- the same for a call that ends no row
 abbrev pub StepsInRow : {U : Type 0} → Machine → Result U MachineFault → Result (State × Option DwRow) MachineFault → Type 0
@@ -118,8 +125,10 @@ StartsBelow size (Ok (Some start)) = start < size
 StartsBelow size (Ok None) = Unit {0}
 StartsBelow size (Err e) = Unit {0}
 
+-- a call left the remembered columns that are given
 abbrev pub Remembers : {U : Type 0} → ArrayVec Columns → Result U MachineFault → Result (List Columns) MachineFault → Type 0
 Remembers new result given = Is (λ u. latest_first new) result given
 
+-- a call returned the columns that are given, and left those before them
 abbrev pub Recalls : ArrayVec Columns → Result Columns MachineFault → Result (Columns × List Columns) MachineFault → Type 0
 Recalls new result given = Is (λ c. (c, latest_first new)) result given

@@ -1,6 +1,6 @@
 -- What a row recovers of the caller's frame (DWARF 5, section 6.4.1): the canonical frame address, and the caller's
 -- values of the function's return address column, the frame pointer and the stack pointer, each by the rule that the row has
--- for that register. Offsets are plain integers of any size, and addresses are taken modulo 2^64. A value is none where the
+-- for that register. Offsets are plain integers of any size, and addresses are taken modulo 2^64. There is no value where the
 -- rules leave it undefined.
 use Rattle.std.specs.Prelude.{ℕ, ℤ, ◌==◌, List, Option, Some, None, if◌then◌else◌}
 use Rattle.std.specs.Option.{option_map}
@@ -24,7 +24,7 @@ pub record RuleRecovery : Type 0 where
   pub return_address : Option Value
   pub frame_pointer : Option Value
   pub stack_pointer : Option Value
-  -- the key that signed the return address, none where it is unsigned
+  -- the key that signed the return address, if it is signed
   pub signed : Option Key
 
 -- the present value of the register that the canonical frame address counts from: of the stack pointer and the frame pointer
@@ -38,21 +38,14 @@ frame_address_by arch cfa.Missing regs = None
 frame_address_by arch cfa.Expression regs = None
 frame_address_by arch (cfa.Reg register offset) regs = option_map (λ (base : ℕ). moved base offset) (register_value arch register regs)
 
--- the value that is saved at an offset from the canonical frame address
-abbrev pub saved_from : List Region → (frame_address : Option ℕ) → (offset : ℤ) → Option Value
-saved_from memory frame_address offset = option_map (λ (address : ℕ). saved_at memory (moved address offset)) frame_address
-
--- the value that is the address at an offset from the canonical frame address
-abbrev pub address_from : (frame_address : Option ℕ) → (offset : ℤ) → Option Value
-address_from frame_address offset = option_map (λ (address : ℕ). Known (moved address offset)) frame_address
-
 -- A register's value by a rule. Without a rule it is as the machine's calling convention has it (`by_convention`), and `same value`
--- gives the present one. A value that is in another register, or that an expression gives, isn't recovered.
+-- gives the present one. `offset` gives what is saved there from the canonical frame address, and `val_offset` that address itself. A
+-- value that is in another register, or that an expression gives, isn't recovered.
 abbrev pub value_by : List Region → (frame_address : Option ℕ) → (by_convention present : Option Value) → Rule → Option Value
 value_by memory frame_address by_convention present rule.Missing = by_convention
 value_by memory frame_address by_convention present rule.Same = present
-value_by memory frame_address by_convention present (rule.Offset offset) = saved_from memory frame_address offset
-value_by memory frame_address by_convention present (rule.ValOffset offset) = address_from frame_address offset
+value_by memory frame_address by_convention present (rule.Offset offset) = option_map (λ (address : ℕ). saved_at memory (moved address offset)) frame_address
+value_by memory frame_address by_convention present (rule.ValOffset offset) = option_map (λ (address : ℕ). Known (moved address offset)) frame_address
 value_by memory frame_address by_convention present rule.Undefined = None
 value_by memory frame_address by_convention present (rule.Register register) = None
 value_by memory frame_address by_convention present rule.Expression = None
@@ -67,16 +60,14 @@ present_value arch register regs =
     else if is_link_register arch register then Some (Known regs.lr)
     else None
 
--- The caller's value of a register that has no rule: the stack pointer's is the canonical frame address, and others keep their
--- values (System V AMD64 psABI and the procedure call standard of AArch64: registers that are preserved over calls).
-abbrev pub value_by_convention : Arch → (register : ℕ) → Regs → (frame_address : Option ℕ) → Option Value
-value_by_convention arch register regs frame_address =
-    if register == stack_pointer arch then option_map Known frame_address else present_value arch register regs
-
--- the caller's value of a register, by the rule that a row has for it
+-- The caller's value of a register, by the rule that a row has for it. Without one the stack pointer's is the canonical frame address,
+-- and others keep their values (System V AMD64 psABI and the procedure call standard of AArch64: registers that are preserved over
+-- calls).
 abbrev pub caller_value : Arch → FullRow → Regs → List Region → (frame_address : Option ℕ) → (register : ℕ) → Option Value
 caller_value arch row regs memory frame_address register =
-    value_by memory frame_address (value_by_convention arch register regs frame_address) (present_value arch register regs) (rule_of register row.rules)
+    let present = present_value arch register regs in
+    let by_convention = if register == stack_pointer arch then option_map Known frame_address else present in
+    value_by memory frame_address by_convention present (rule_of register row.rules)
 
 -- what a row recovers, where this is the canonical frame address
 abbrev pub recovery_from : Arch → (return_column : ℕ) → FullRow → Key → Regs → List Region → (frame_address : Option ℕ) → RuleRecovery

@@ -4,14 +4,17 @@ use Rattle.std.specs.Prelude.{ℕ, Bool, false, ◌==◌}
 use Rattle.sf_model.specs.declared.machine.Arch.{Arch}
 use Rattle.sf_model.specs.declared.machine.Arch.TheVariants.{Amd64, Aarch64}
 
+-- rsp, or sp
 abbrev pub stack_pointer : Arch → ℕ
 stack_pointer Amd64 = 7
 stack_pointer Aarch64 = 31
 
+-- rbp, or x29
 abbrev pub frame_pointer : Arch → ℕ
 frame_pointer Amd64 = 6
 frame_pointer Aarch64 = 29
 
+-- the return address column 16, or x30
 abbrev pub return_address : Arch → ℕ
 return_address Amd64 = 16
 return_address Aarch64 = 30

@@ -16,11 +16,12 @@ pub record UnwindState : Type 0 where
   pub row : FullRow
   pub remembered : List FullRow
 
+-- the latest of the remembered rows is the present one again
 abbrev pub recalled : List FullRow → UnwindState → UnwindState
 recalled [] s = s
 recalled (row ∷ rows) s = record { row = row; remembered = rows }
 
--- one instruction but for its advance
+-- the state after one instruction; its offset is apart
 abbrev pub after_instruction : (initial : FullRow) → Effect → UnwindState → UnwindState
 after_instruction initial (Row change) s = record { row = row_after change s.row; remembered = s.remembered }
 after_instruction initial (Advance n) s = s
@@ -36,7 +37,7 @@ offset_behind code (Restore r) offset = offset
 offset_behind code Remember offset = offset
 offset_behind code Recall offset = offset
 
--- the instructions from an offset on, before the first advance to an offset above o
+-- the state after the instructions from an offset on, before the first advance to an offset above o
 unfoldable pub state_before : (initial : FullRow) (code : ℕ) (f : ℤ) (o offset : ℕ) → UnwindState → List Item → UnwindState
 state_before initial code f o offset s [] = s
 state_before initial code f o offset s (Err e ∷ items) = s
@@ -44,7 +45,7 @@ state_before initial code f o offset s (Ok (place, i) ∷ items) =
     if nat_lt o (offset_behind code (effect_by f i) offset) then s
     else state_before initial code f o (offset_behind code (effect_by f i) offset) (after_instruction initial (effect_by f i) s) items
 
--- the initial row
+-- the initial row after one instruction
 abbrev pub row_defined : Effect → FullRow → FullRow
 row_defined (Row change) row = row_after change row
 row_defined (Advance n) row = row
@@ -52,6 +53,7 @@ row_defined (Restore r) row = row
 row_defined Remember row = row
 row_defined Recall row = row
 
+-- the initial row after all instructions
 unfoldable pub initial_by : ℤ → FullRow → List Item → FullRow
 initial_by f row [] = row
 initial_by f row (Err e ∷ items) = row
@@ -69,11 +71,12 @@ abbrev pub latest_at : ℕ → Option DwRow → List DwRow → Option DwRow
 latest_at o found [] = found
 latest_at o found (r ∷ rows) = latest_at o (if nat_le r.start o then Some r else found) rows
 
--- at each offset below the size the rows say what the instructions give there
+-- the row that was found has the columns of a full row
 pub record SaysAt (arch : Arch) (row : FullRow) (found : Option DwRow) : Type 0 where
   pub start : ℕ
   pub is : found ≡ Some (row_from start (columns_of arch row))
 
+-- at each offset below the size the rows are what the instructions give there
 abbrev pub SayAll : Arch → (code : ℕ) (f : ℤ) (size : ℕ) (cie fde : List Item) → List DwRow → Type 0
 SayAll arch code f size cie fde rows = (o : ℕ) → o < size → SaysAt arch (row_at_offset code f cie fde o) (latest_at o None rows)
 

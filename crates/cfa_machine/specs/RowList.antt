@@ -15,10 +15,12 @@ abbrev pub BeginAtZero : List DwRow → Type 0
 BeginAtZero [] = Unit {0}
 BeginAtZero (r ∷ rows) = r.start ≡ 0
 
+-- whether a return address may be signed: not on AMD64
 abbrev pub sign_fits : Arch → Bool → Bool
 sign_fits Amd64 signed = not signed
 sign_fits Aarch64 signed = true
 
+-- these can be the rows of a function of this size
 pub record AreRows (arch : Arch) (size : ℕ) (rows : List DwRow) : Type 0 where
   pub some : 0 < size → 0 < length rows
   pub first : BeginAtZero rows

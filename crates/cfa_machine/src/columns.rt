@@ -25,7 +25,7 @@ pub struct Columns {
 }
 
 impl Columns {
-    /// A row's columns.
+    /// Returns the columns of a row.
     #[inline(always)]
     pub fn of_row(row: &DwRow) -> Columns
         ensures { row_from row.now.start result ≡ row.now }
@@ -41,7 +41,7 @@ impl Columns {
     }
 }
 
-/// The row before any instruction.
+/// Returns the row before any instruction.
 #[inline(always)]
 pub fn empty_columns() -> Columns
     ensures { result ≡ no_columns }
@@ -81,7 +81,7 @@ pub fn set_rule(arch: Arch, register: u64, rule: Rule, columns: &mut Columns)
     }
 }
 
-// A rule; without one the register keeps its value.
+// Returns a rule; without one the register keeps its value.
 #[inline(always)]
 fn or_same(rule: Rule) -> Rule
     ensures { result ≡ rule_or_same rule }
@@ -174,7 +174,7 @@ pub fn change_row(
     }
 }
 
-/// The row from an offset on.
+/// Returns the row from an offset on.
 #[inline(always)]
 pub fn row_at(start: u64, columns: &Columns) -> DwRow
     ensures { result ≡ row_from start columns.now }

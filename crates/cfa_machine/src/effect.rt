@@ -39,7 +39,7 @@ pub enum Effect {
     Recall,
 }
 
-/// An operand times the data alignment factor.
+/// Returns an operand times the data alignment factor.
 #[inline(always)]
 pub fn scaled(operand: u64, factor: i64) -> i128
     ensures { result ≡ pos operand *ℤ factor }
@@ -47,7 +47,7 @@ pub fn scaled(operand: u64, factor: i64) -> i128
     i128::from(operand) * i128::from(factor)
 }
 
-// A signed operand times the data alignment factor.
+// Returns a signed operand times the data alignment factor.
 #[inline(always)]
 fn scaled_signed(operand: i64, factor: i64) -> i128
     ensures { result ≡ operand *ℤ factor }
@@ -55,7 +55,7 @@ fn scaled_signed(operand: i64, factor: i64) -> i128
     i128::from(operand) * i128::from(factor)
 }
 
-// A register gets a rule.
+// Returns the effect that a register gets a rule.
 #[inline(always)]
 fn rule_for(register: u64, rule: Rule) -> Effect
     ensures { result ≡ Effect.Row (RowEffect.SetRule register rule) }
@@ -63,7 +63,7 @@ fn rule_for(register: u64, rule: Rule) -> Effect
     Effect::Row(RowEffect::SetRule(register, rule))
 }
 
-// The CFA is a register plus an offset.
+// Returns the effect that the CFA is a register plus an offset.
 #[inline(always)]
 fn cfa_at(register: u64, offset: i128) -> Effect
     ensures { result ≡ Effect.Row (RowEffect.SetCfa (CfaRule.Reg register offset)) }
@@ -71,7 +71,7 @@ fn cfa_at(register: u64, offset: i128) -> Effect
     Effect::Row(RowEffect::SetCfa(CfaRule::Reg { register, offset }))
 }
 
-/// The effect of an instruction under a data alignment factor.
+/// Returns the effect of an instruction under a data alignment factor.
 #[tactic(auto, unfolding(crate::specs::Effects::effect_by), using(std::proofs::lemmas::Int::ints))]
 #[inline(always)]
 pub fn effect_of(factor: i64, insn: Insn<'_>) -> Effect

@@ -13,7 +13,7 @@ use cfa_insn::Insns;
 use sf_bytes::Part;
 use sf_model::Arch;
 
-/// The initial row, by the instructions of the common information entry.
+/// Returns the initial row, by the instructions of the common information entry.
 ///
 /// # Errors
 ///

@@ -3,7 +3,7 @@
 ghost use Rattle.std.specs.Prelude.{◌≡◌, ◌<◌, ◌&&◌, ◌*ℤ◌, ℕ, [], Ok, nat_lt, pos, IfSome};
 ghost use Rattle.cfa_insn.specs.Listing.{item};
 ghost use Rattle.cfa_machine.specs.Columns.{Changes};
-ghost use Rattle.cfa_machine.specs.Pass.{state, cie_step, cie_item_step, step, item_step, ended, last_row, advanced, with_remembered, with_recalled, StartsBelow, Steps, StepsInRow, Remembers, Recalls, latest_first};
+ghost use Rattle.cfa_machine.specs.Pass.{state, cie_step, cie_item_step, step, item_step, ended, last_row, advanced, with_remembered, with_recalled, StartsBelow, MachineSteps, StepsInRow, Remembers, Recalls, latest_first};
 
 use crate::columns::{Columns, change_row, restore_rule, set_cfa_offset, set_rule};
 use crate::effect::{Effect, RowEffect, effect_of, scaled};
@@ -75,7 +75,7 @@ pub fn define_row(
     }
 }
 
-// The offset after an advance by `delta` code alignments, or the greatest `u64` where it passes it.
+// Returns the offset after an advance by `delta` code alignments, or the greatest `u64` where it passes it.
 #[inline(always)]
 fn offset_after(code: u64, delta: u32, offset: u64) -> u64
     ensures { result ≡ advanced code delta offset }
@@ -83,7 +83,7 @@ fn offset_after(code: u64, delta: u32, offset: u64) -> u64
     offset.saturating_add(code.saturating_mul(u64::from(delta)))
 }
 
-// Whether a row ends where the offset goes on to `next`.
+// Returns whether a row ends where the offset goes on to `next`.
 #[inline(always)]
 fn row_ends(size: u64, next: u64, offset: u64) -> bool
     ensures { result ≡ (nat_lt offset next && nat_lt offset size) }
@@ -122,7 +122,7 @@ fn recall(
 }
 
 impl Machine {
-    /// The machine before a function's first instruction.
+    /// Returns the machine before a function's first instruction.
     #[inline(always)]
     pub fn new(initial: Columns) -> Machine
         ensures { state result ≡ record { columns = initial; remembered = []; offset = 0 } }
@@ -144,11 +144,11 @@ impl Machine {
         self.remembered.clear();
     }
 
-    /// Advances by `delta` code alignments, and gives the start of the row that ends there, if one does: its columns are the
+    /// Advances by `delta` code alignments, and returns the start of the row that ends there, if one does: its columns are the
     /// machine's.
     #[inline(always)]
     pub fn advance(&mut self, setup: &FunctionContext, delta: u32) -> Option<u64>
-        ensures steps { (place : ℕ) → Steps self.new (Ok result) (step setup.now place (Effect.Advance delta) (state self.old)) }
+        ensures steps { (place : ℕ) → MachineSteps self.new (Ok result) (step setup.now place (Effect.Advance delta) (state self.old)) }
         ensures below { StartsBelow setup.now.size (Ok result) }
     {
         let next = offset_after(setup.code, delta, self.offset);
@@ -178,7 +178,7 @@ impl Machine {
         set_cfa_offset(place, i128::from(bytes), &mut self.columns)
     }
 
-    /// Runs one more item of the instructions, and gives the start of the row that ends there, if one does: its columns are the
+    /// Runs one more item of the instructions, and returns the start of the row that ends there, if one does: its columns are the
     /// machine's.
     #[inline(always)]
     pub fn step(
@@ -187,7 +187,7 @@ impl Machine {
         factor: i64,
         read: Result<(u64, Insn<'_>), InsnFault>,
     ) -> Result<Option<u64>, MachineFault>
-        ensures steps { Steps self.new result (item_step setup.now factor (item read.entry) (state self.old)) }
+        ensures steps { MachineSteps self.new result (item_step setup.now factor (item read.entry) (state self.old)) }
         ensures below { StartsBelow setup.now.size result }
     {
         match read {
@@ -196,7 +196,7 @@ impl Machine {
         }
     }
 
-    // Runs one instruction, which stands at `place`, and gives the start of the row that ends there.
+    // Runs the instruction at `place`, and returns the start of the row that ends there.
     #[inline(always)]
     fn run(
         &mut self,
@@ -204,7 +204,7 @@ impl Machine {
         place: u64,
         effect: Effect,
     ) -> Result<Option<u64>, MachineFault>
-        ensures steps { Steps self.new result (step setup.now place effect (state self.old)) }
+        ensures steps { MachineSteps self.new result (step setup.now place effect (state self.old)) }
         ensures below { StartsBelow setup.now.size result }
     {
         match effect {
@@ -228,7 +228,7 @@ impl Machine {
         }
     }
 
-    /// The start of the row at the end, which covers all offsets from the last advance on.
+    /// Returns the start of the row at the end, which covers all offsets from the last advance on.
     #[inline(always)]
     pub fn last(&self, size: u64) -> Option<u64>
         ensures is { ended self.now.columns result ≡ last_row size (state self.now) }

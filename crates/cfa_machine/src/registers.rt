@@ -6,7 +6,7 @@ ghost use Rattle.cfa_machine.specs.Registers.{stack_pointer, frame_pointer, retu
 
 use sf_model::Arch;
 
-/// The stack pointer: rsp, or sp.
+/// Returns the number of the stack pointer: rsp, or sp.
 #[inline(always)]
 pub fn stack_pointer_of(arch: Arch) -> u64
     ensures { result ≡ stack_pointer arch }
@@ -17,7 +17,7 @@ pub fn stack_pointer_of(arch: Arch) -> u64
     }
 }
 
-/// The frame pointer: rbp, or x29.
+/// Returns the number of the frame pointer: rbp, or x29.
 #[inline(always)]
 pub fn frame_pointer_of(arch: Arch) -> u64
     ensures { result ≡ frame_pointer arch }
@@ -28,7 +28,7 @@ pub fn frame_pointer_of(arch: Arch) -> u64
     }
 }
 
-/// The return address: the return column 16, or x30.
+/// Returns the number of the return address: the return column 16, or x30.
 #[inline(always)]
 pub fn return_address_of(arch: Arch) -> u64
     ensures { result ≡ return_address arch }
@@ -39,7 +39,7 @@ pub fn return_address_of(arch: Arch) -> u64
     }
 }
 
-/// Whether this is the register of the sign state, which AArch64 alone has.
+/// Returns whether this is the register of the sign state, which AArch64 alone has.
 #[inline(always)]
 pub fn is_sign_state_of(arch: Arch, register: u64) -> bool
     ensures { result ≡ is_sign_state arch register }

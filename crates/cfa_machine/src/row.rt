@@ -17,6 +17,6 @@ pub struct DwRow {
     pub ra: Rule,
     /// The rule of the sign state, register 34, on AArch64. It has one once it is restored. On AMD64 it is missing.
     pub sign: Rule,
-    /// Whether the return address is signed.
+    /// True if the return address is signed.
     pub signed: bool,
 }

@@ -6,7 +6,7 @@ ghost use Rattle.cfa_insn.specs.Listing.{Item, listing};
 ghost use Rattle.cfa_insn.specs.Remaining.{items_left};
 ghost use Rattle.cfa_machine.specs.Initial.{IsInitial};
 ghost use Rattle.cfa_machine.specs.Left.{Begins, Follows, OnRow, Reaches, RunsNext, limit, present, rows_left, steps_left};
-ghost use Rattle.cfa_machine.specs.Pass.{in_front, last_row, rows_by, rows_from, state};
+ghost use Rattle.cfa_machine.specs.Pass.{with_ended, last_row, rows_by, rows_from, state};
 
 use crate::columns::{Columns, empty_columns};
 use crate::fault::MachineFault;
@@ -27,8 +27,8 @@ pub struct Runner<'a> {
     over: bool,
 }
 
-// Runs the next instruction, whichever it is, and gives the start of the row that ends there. None where none is left. It is not
-// inlined, so that the loop over the frequent instructions is short.
+// Runs the next instruction, whichever it is, and returns the start of the row that ends there. It is not inlined, so that the loop
+// over the frequent instructions is short.
 #[inline(never)]
 fn step_next(
     machine: &mut Machine,
@@ -42,7 +42,7 @@ fn step_next(
     Some(machine.step(setup, factor, item))
 }
 
-// Runs instructions up to the next row, whose start it gives, or to their end. The four kinds that are nearly all of a program's
+// Runs instructions up to the next row, whose start it returns, or to their end. The four kinds that are nearly all of a program's
 // instructions are taken straight from their bytes, any other through its item.
 #[inline(always)]
 fn next_start(
@@ -51,7 +51,7 @@ fn next_start(
     factor: i64,
     insns: &mut Insns<'_>,
 ) -> Result<Option<u64>, MachineFault>
-    ensures reaches { Reaches machine.new.columns result (rows_from setup.now factor (state machine.old) (items_left insns.old)) (rows_from setup.now factor (state machine.new) (items_left insns.new)) (Ok (in_front (last_row setup.now.size (state machine.new)) [])) }
+    ensures reaches { Reaches machine.new.columns result (rows_from setup.now factor (state machine.old) (items_left insns.old)) (rows_from setup.now factor (state machine.new) (items_left insns.new)) (Ok (with_ended (last_row setup.now.size (state machine.new)) [])) }
     ensures fewer { OnRow result (λ start. length (items_left insns.new) < length (items_left insns.old)) }
     ensures below { OnRow result (λ start. start < setup.now.size) }
 {
@@ -84,7 +84,7 @@ fn next_start(
 }
 
 impl<'a> Runner<'a> {
-    /// The runner before any function.
+    /// Returns the runner before any function.
     pub fn new() -> Runner<'a>
         ensures { rows_left result ≡ Ok [] }
     {
@@ -150,7 +150,7 @@ impl<'a> Runner<'a> {
         self.over = false;
     }
 
-    /// The start of the next row, or none after the last. [`columns`](Runner::columns) has its columns.
+    /// Returns the start of the next row, or none after the last. [`columns`](Runner::columns) has its columns.
     ///
     /// # Errors
     ///
@@ -177,7 +177,7 @@ impl<'a> Runner<'a> {
         Ok(self.machine.last(self.setup.size))
     }
 
-    /// The columns of the row whose start was returned last.
+    /// Returns the columns of the row whose start was returned last.
     #[inline(always)]
     pub fn columns(&self) -> &Columns
         ensures { result.now ≡ present self.now }

@@ -4,7 +4,7 @@ ghost use Rattle.std.specs.Prelude.{◌≡◌, IfOk};
 ghost use Rattle.sf_bytes.specs.Cursor.{cursor};
 ghost use Rattle.cfa_insn.specs.Listing.{listing};
 ghost use Rattle.cfa_machine.specs.RowAtOffset.{SayAll, StartWhereReached};
-ghost use Rattle.cfa_machine.specs.FirstFault.{Answers, first_fault};
+ghost use Rattle.cfa_machine.specs.FirstFault.{FailsBy, first_fault};
 ghost use Rattle.cfa_machine.specs.RowList.{AreRows};
 ghost use Rattle.cfa_machine.specs.Pass.{Gives, rows_by};
 
@@ -16,7 +16,7 @@ use sf_bytes::Part;
 use sf_model::Arch;
 use std::alloc::Global;
 
-// The rows of a function, as one pass over the instructions gives them.
+// Returns the rows of a function, as one pass over the instructions gives them.
 fn pass(
     alloc: Global,
     arch: Arch,
@@ -37,7 +37,7 @@ fn pass(
     Ok(rows)
 }
 
-/// The rows of a function, by rising start: for each offset below `size` that is 0 or that an advance
+/// Returns the rows of a function, by rising start: for each offset below `size` that is 0 or that an advance
 /// arrives at, the state from there on. For size 0 there are none.
 ///
 /// `code` and `factor` are the code and data alignment factors of the common information entry, `cie`
@@ -53,14 +53,14 @@ pub fn rows(
     fde: Part<'_>,
     size: u64,
 ) -> Result<Vec<DwRow>, MachineFault>
-    // They rise from 0 on, below the size.
+    // The rows rise from 0 on, below the size.
     ensures rows { IfOk result (λ v. AreRows arch size v.items) }
-    // At each offset below the size they say what the instructions give there.
+    // At each offset below the size the rows are what the instructions give there.
     ensures at { IfOk result (λ v. SayAll arch code factor size (listing (cursor cie.entry)) (listing (cursor fde.entry)) v.items) }
-    // One starts at each offset below the size that is 0 or that an advance arrives at, and no other.
+    // A row starts at each offset below the size that is 0 or that an advance arrives at, and at no other.
     ensures starts { IfOk result (λ v. StartWhereReached code factor size (listing (cursor fde.entry)) v.items) }
-    // Which instruction can't be read or run.
-    ensures fault { Answers result (first_fault arch factor (listing (cursor cie.entry)) (listing (cursor fde.entry))) }
+    // It names the first instruction that can't be read or run.
+    ensures fault { FailsBy result (first_fault arch factor (listing (cursor cie.entry)) (listing (cursor fde.entry))) }
     // The same by one pass.
     ensures exact { Gives (λ v. v.items) result (rows_by arch code factor size (listing (cursor cie.entry)) (listing (cursor fde.entry))) }
 {

@@ -2,7 +2,7 @@
 -- its own, is all that a call returns.
 use Rattle.std.specs.Prelude.{IfErr, IfSome, IsTrue, nat_lt}
 use Rattle.std.specs.Option.{option_map}
-use Rattle.std.proofs.Common.{◌≡◌, ℕ, zero, suc, ◌+◌, ◌^◌, ℤ, Bool, true, false, cond, List, [], ◌∷◌, length, map, sum_by, Option, Some, None, Result, Ok, Err, refl, sym, subst, inl, inr}
+use Rattle.std.proofs.Common.{◌≡◌, ℕ, zero, suc, ◌+◌, ◌^◌, ℤ, Bool, true, false, cond, List, [], ◌∷◌, ◌++◌, ◌==◌, length, map, sum_by, Option, Some, None, Result, Ok, Err, refl, sym, subst, inl, inr}
 use Rattle.sf_model.specs.declared.machine.Arch.{Arch}
 use Rattle.sf_model.specs.declared.machine.Arch.TheVariants.{Amd64, Aarch64}
 use Rattle.sf_model.specs.declared.form.Form.{Form}
@@ -17,7 +17,7 @@ use Rattle.cfa_machine.specs.declared.rule.CfaRule.{CfaRule}
 use Rattle.cfa_machine.specs.declared.rule.CfaRule.TheVariants as cfa
 use Rattle.cfa_machine.specs.RowAtOffset.{UnwindState, after_instruction, row_defined}
 use Rattle.cfa_machine.specs.Effects.{effect_by}
-use Rattle.cfa_machine.specs.FirstFault.{change_fault, define_fault, function_fault, initial_fault, recall_fault, run_fault, unless_register, unless_signs}
+use Rattle.cfa_machine.specs.FirstFault.{change_fault, define_fault, function_fault, depth_after, initial_fault, run_fault, unless_register, unless_signs}
 use Rattle.cfa_machine.specs.FullRow.{FullRow, no_row}
 use Rattle.eh_records.specs.declared.fault.RecordFault.{RecordFault}
 use Rattle.eh_records.specs.declared.fault.RecordFault.TheVariants as record_faults
@@ -269,27 +269,24 @@ initial arch f row (Err e ∷ items) = refl
 initial arch f row (Ok (place, i) ∷ items) =
     earlier is_machine_refusal (define_fault arch place (effect_by f i) row.cfa) _ (defines arch place (effect_by f i) row.cfa) (initial arch f (row_defined (effect_by f i) row) items)
 
-recalls : (place : ℕ) (rows : List FullRow) → FaultIn is_machine_refusal (recall_fault place rows)
-recalls place [] = refl
-recalls place (row ∷ rows) = tt
+runs : (arch : Arch) (place : ℕ) (effect : Effect) (before : List Item) (rule : CfaRule) → FaultIn is_machine_refusal (run_fault arch place effect before rule)
+runs arch place (Row change) before rule = changes arch place change rule
+runs arch place (Advance n) before rule = tt
+runs arch place (Restore r) before rule = tt
+runs arch place Remember before rule = either_in is_machine_refusal (nat_lt (depth_after before) 64) _ _ tt refl
+runs arch place Recall before rule = either_in is_machine_refusal (depth_after before == 0) _ _ refl tt
 
-runs : (arch : Arch) (place : ℕ) (effect : Effect) (s : UnwindState) → FaultIn is_machine_refusal (run_fault arch place effect s)
-runs arch place (Row change) s = changes arch place change s.row.cfa
-runs arch place (Advance n) s = tt
-runs arch place (Restore r) s = tt
-runs arch place Remember s = either_in is_machine_refusal (nat_lt (length s.remembered) 64) _ _ tt refl
-runs arch place Recall s = recalls place s.remembered
-
-own : (arch : Arch) (f : ℤ) (first : FullRow) (s : UnwindState) (items : List Item) → FaultIn is_machine_refusal (function_fault arch f first s items)
+own : (arch : Arch) (f : ℤ) (first : FullRow) (s : UnwindState) (before items : List Item) → FaultIn is_machine_refusal (function_fault arch f first s before items)
 unfolding function_fault
-own arch f first s [] = tt
-own arch f first s (Err e ∷ items) = refl
-own arch f first s (Ok (place, i) ∷ items) =
-    earlier is_machine_refusal (run_fault arch place (effect_by f i) s) _ (runs arch place (effect_by f i) s) (own arch f first (after_instruction first (effect_by f i) s) items)
+own arch f first s before [] = tt
+own arch f first s before (Err e ∷ items) = refl
+own arch f first s before (Ok (place, i) ∷ items) =
+    earlier is_machine_refusal (run_fault arch place (effect_by f i) before s.row.cfa) _ (runs arch place (effect_by f i) before s.row.cfa)
+    (own arch f first (after_instruction first (effect_by f i) s) (before ++ Ok (place, i) ∷ []) items)
 
 instructions : (arch : Arch) (f : FdeView) → FaultIn is_machine_refusal (fault_in arch f)
 instructions arch f =
-    earlier is_machine_refusal (initial_fault arch f.cie.factor no_row (listing f.cie.insns)) _ (initial arch f.cie.factor no_row (listing f.cie.insns)) (own arch f.cie.factor _ _ (listing f.insns))
+    earlier is_machine_refusal (initial_fault arch f.cie.factor no_row (listing f.cie.insns)) _ (initial arch f.cie.factor no_row (listing f.cie.insns)) (own arch f.cie.factor _ _ _ (listing f.insns))
 
 -- ---- sections
 one_function : (arch : Arch) (item : ℕ) (section : CallFrames) (values : Values) (f : FdeView) → FaultIs is_input_refusal (function_in arch item section values f)
