@@ -11,9 +11,9 @@ fn a_group_that_an_earlier_file_has(rt: HostRuntime) -> Result<(), Fail> {
     assert!(rt; bytes.len() < 4096);
     let elf = Elf::parse(&bytes).ok().ok_or("the object is sound")?;
     let mut seen = Seen::new(rt.alloc());
-    let first = seen.gone_groups(rt.alloc(), &elf)?;
+    let first = seen.dropped_groups(rt.alloc(), &elf)?;
     assert_eq!(rt; first.len(), 0);
-    let second = seen.gone_groups(rt.alloc(), &elf)?;
+    let second = seen.dropped_groups(rt.alloc(), &elf)?;
     assert_eq!(rt; second.as_slice(), [1u32].as_slice());
     Ok(())
 }

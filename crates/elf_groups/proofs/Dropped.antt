@@ -13,7 +13,7 @@ use Rattle.elf_read.specs.Sections.{section_count}
 use Rattle.elf_groups.specs.Dropped.{AreDroppedGroups, HasAmong, HasBelow, IsDroppedGroup, signature_of}
 use Rattle.elf_groups.proofs.Gone.{none_seen, none_gone, seen_suc, gone_suc}
 use Rattle.elf_groups.proofs.Rising.{same_members}
-use Rattle.elf_groups.specs.Groups.{gone_below, gone_groups, is_repeated, seen_after, seen_below, seen_in, with_signature}
+use Rattle.elf_groups.specs.Groups.{dropped_below, dropped_groups, was_seen, seen_after, seen_below, seen_in, with_signature}
 
 -- ---- the signatures that were seen
 seen_cases : (seen : List (List ℕ)) (o : Option (List ℕ)) (s : List ℕ) → Contains (with_signature seen o) s → Contains seen s ⊎ (o ≡ Some s)
@@ -85,12 +85,12 @@ one_file_more seen [] file = refl
 one_file_more seen (f ∷ fs) file = one_file_more (seen_after seen f) fs file
 
 -- ---- a signature that is repeated
-repeated : (seen : List (List ℕ)) (o : Option (List ℕ)) → is_repeated seen o ≡ true → (s : List ℕ) × (o ≡ Some s) × Contains seen s
+repeated : (seen : List (List ℕ)) (o : Option (List ℕ)) → was_seen seen o ≡ true → (s : List ℕ) × (o ≡ Some s) × Contains seen s
 repeated seen None h = cc
 repeated seen (Some s) h = (s, refl, Contains-from_any (λ (x y : List ℕ). (bytes_eq-Decides x y).0) s seen h)
 
-is_among : (seen : List (List ℕ)) (o : Option (List ℕ)) (s : List ℕ) → o ≡ Some s → Contains seen s → is_repeated seen o ≡ true
-is_among seen o s e h = ap (is_repeated seen) e ∙ list_any-from_Any (bytes_eq s) seen (h.0, s, h.1, h.2, (bytes_eq-Decides s s).1 refl)
+is_among : (seen : List (List ℕ)) (o : Option (List ℕ)) (s : List ℕ) → o ≡ Some s → Contains seen s → was_seen seen o ≡ true
+is_among seen o s e h = ap (was_seen seen) e ∙ list_any-from_Any (bytes_eq s) seen (h.0, s, h.1, h.2, (bytes_eq-Decides s s).1 refl)
 
 -- ---- the numbers below n
 gone_cases : (b : Bool) (n : ℕ) (gone : List ℕ) (k : ℕ) → Contains (cond b (gone ++ n ∷ []) gone) k → Contains gone k ⊎ ((n ≡ k) × (b ≡ true))
@@ -105,22 +105,22 @@ still_gone false n gone k h = h
 still_gone true n gone k h = Contains-append_left gone (n ∷ []) k h
 
 abbrev Repeats : (seen : List (List ℕ)) → (file : List ℕ) → ℕ → Type 0
-Repeats seen file k = is_repeated (seen_below seen file k) (signature_of file k) ≡ true
+Repeats seen file k = was_seen (seen_below seen file k) (signature_of file k) ≡ true
 
-gone_is : (seen : List (List ℕ)) (file : List ℕ) (n k : ℕ) → Contains (gone_below seen file n) k → (k < n) × Repeats seen file k
+gone_is : (seen : List (List ℕ)) (file : List ℕ) (n k : ℕ) → Contains (dropped_below seen file n) k → (k < n) × Repeats seen file k
 gone_is seen file zero k h = let none = subst (λ (xs : List ℕ). Contains xs k) (none_gone seen file) h in absurd (omega (arith, none.1))
-gone_is seen file (suc n) k h = elim (gone_cases (is_repeated (seen_below seen file n) (signature_of file n)) n (gone_below seen file n) k (subst (λ (xs : List ℕ). Contains xs k) (gone_suc seen file n) h)) [
+gone_is seen file (suc n) k h = elim (gone_cases (was_seen (seen_below seen file n) (signature_of file n)) n (dropped_below seen file n) k (subst (λ (xs : List ℕ). Contains xs k) (gone_suc seen file n) h)) [
   | inl there ↦ let rest = gone_is seen file n k there in (omega (arith, rest.0), rest.1)
   | inr here ↦ (omega (arith, here.0), subst (Repeats seen file) here.0 here.1)
 ]
 
-is_gone : (seen : List (List ℕ)) (file : List ℕ) (n k : ℕ) → k < n → Repeats seen file k → Contains (gone_below seen file n) k
+is_gone : (seen : List (List ℕ)) (file : List ℕ) (n k : ℕ) → k < n → Repeats seen file k → Contains (dropped_below seen file n) k
 is_gone seen file zero k low is = absurd (omega (arith, low))
 is_gone seen file (suc n) k low is = subst (λ (xs : List ℕ). Contains xs k) (sym (gone_suc seen file n)) (elim (cases_eq k n) [
   | inl same ↦
-      subst (λ (b : Bool). Contains (cond b (gone_below seen file n ++ n ∷ []) (gone_below seen file n)) k) (sym (subst (Repeats seen file) same is))
-      (subst (Contains (gone_below seen file n ++ n ∷ [])) (sym same) (Contains-push (gone_below seen file n) n))
-  | inr other ↦ still_gone (is_repeated (seen_below seen file n) (signature_of file n)) n (gone_below seen file n) k (is_gone seen file n k (omega (arith, low, other)) is)
+      subst (λ (b : Bool). Contains (cond b (dropped_below seen file n ++ n ∷ []) (dropped_below seen file n)) k) (sym (subst (Repeats seen file) same is))
+      (subst (Contains (dropped_below seen file n ++ n ∷ [])) (sym same) (Contains-push (dropped_below seen file n) n))
+  | inr other ↦ still_gone (was_seen (seen_below seen file n) (signature_of file n)) n (dropped_below seen file n) k (is_gone seen file n k (omega (arith, low, other)) is)
 ])
 
 -- they rise
@@ -150,10 +150,10 @@ or_one_higher : (b : Bool) (xs : List ℕ) (n : ℕ) → IsStrictlyIncreasing xs
 or_one_higher false xs n rising all = rising
 or_one_higher true xs n rising all = one_higher xs n rising all
 
-rises : (seen : List (List ℕ)) (file : List ℕ) (n : ℕ) → IsStrictlyIncreasing (gone_below seen file n)
+rises : (seen : List (List ℕ)) (file : List ℕ) (n : ℕ) → IsStrictlyIncreasing (dropped_below seen file n)
 rises seen file zero = subst IsStrictlyIncreasing (sym (none_gone seen file)) (λ k within. absurd (omega (arith, within)))
 rises seen file (suc n) = subst IsStrictlyIncreasing (sym (gone_suc seen file n))
-    (or_one_higher (is_repeated (seen_below seen file n) (signature_of file n)) (gone_below seen file n) n (rises seen file n) (λ k h. (gone_is seen file n k h).0))
+    (or_one_higher (was_seen (seen_below seen file n) (signature_of file n)) (dropped_below seen file n) n (rises seen file n) (λ k h. (gone_is seen file n k h).0))
 
 -- ---- all of them
 abbrev after : List (List ℕ) → List (List ℕ)
@@ -181,7 +181,7 @@ repeats earlier file k d = is_among (seen_below (after earlier) file k) (signatu
   | inr has ↦ to_below (after earlier) file k has.0 d.signature has.1 has.2
 ])
 
-pub gone_are_dropped : (earlier : List (List ℕ)) (file : List ℕ) → AreDroppedGroups earlier file (gone_groups (after earlier) file)
+pub gone_are_dropped : (earlier : List (List ℕ)) (file : List ℕ) → AreDroppedGroups earlier file (dropped_groups (after earlier) file)
 gone_are_dropped earlier file = record {
   rising = rises (after earlier) file (section_count file);
   are = λ k. (
@@ -191,7 +191,7 @@ gone_are_dropped earlier file = record {
 }
 
 -- and there is one such list
-pub dropped_are_gone : (earlier : List (List ℕ)) (file : List ℕ) (numbers : List ℕ) → AreDroppedGroups earlier file numbers → gone_groups (after earlier) file ≡ numbers
+pub dropped_are_gone : (earlier : List (List ℕ)) (file : List ℕ) (numbers : List ℕ) → AreDroppedGroups earlier file numbers → dropped_groups (after earlier) file ≡ numbers
 dropped_are_gone earlier file numbers d =
     let own = gone_are_dropped earlier file in
-    same_members (gone_groups (after earlier) file) numbers own.rising d.rising (λ k c. (d.are k).1 ((own.are k).0 c)) (λ k c. (own.are k).1 ((d.are k).0 c))
+    same_members (dropped_groups (after earlier) file) numbers own.rising d.rising (λ k c. (d.are k).1 ((own.are k).0 c)) (λ k c. (own.are k).1 ((d.are k).0 c))

@@ -6,7 +6,7 @@ use Rattle.std.proofs.lemmas.List.{append-nil}
 use Rattle.std.proofs.lemmas.List.Elements.{filter-append, filter_map-append}
 use Rattle.elf_read.specs.Checking.{numbers_below}
 use Rattle.elf_groups.specs.Dropped.{signature_of}
-use Rattle.elf_groups.specs.Groups.{gone_below, is_repeated, seen_below, signatures_below, with_signature}
+use Rattle.elf_groups.specs.Groups.{dropped_below, was_seen, seen_below, signatures_below, with_signature}
 
 joined : {X : Type 0} (xs ys zs : List X) → xs ++ (ys ++ zs) ≡ (xs ++ ys) ++ zs
 joined [] ys zs = refl
@@ -32,30 +32,30 @@ pub one_seen : (seen : List (List ℕ)) (file : List ℕ) (n : ℕ) → with_sig
 one_seen seen file n = rw (add-one n) (sym (seen_suc seen file n))
 
 -- ---- the numbers
-pub none_gone : (seen : List (List ℕ)) (file : List ℕ) → gone_below seen file 0 ≡ []
+pub none_gone : (seen : List (List ℕ)) (file : List ℕ) → dropped_below seen file 0 ≡ []
 unfolding numbers_below
 none_gone seen file = refl
 
 pub gone_suc : (seen : List (List ℕ)) (file : List ℕ) (n : ℕ)
-    → gone_below seen file (suc n) ≡ cond (is_repeated (seen_below seen file n) (signature_of file n)) (gone_below seen file n ++ n ∷ []) (gone_below seen file n)
+    → dropped_below seen file (suc n) ≡ cond (was_seen (seen_below seen file n) (signature_of file n)) (dropped_below seen file n ++ n ∷ []) (dropped_below seen file n)
 unfolding numbers_below
 gone_suc seen file n = filter-append gone (numbers_below n) (n ∷ []) ∙ last (gone n) (filter gone (numbers_below n))
   where
     gone : ℕ → Bool
-    gone k = is_repeated (seen_below seen file k) (signature_of file k)
+    gone k = was_seen (seen_below seen file k) (signature_of file k)
 
     last : (b : Bool) (before : List ℕ) → before ++ cond b (n ∷ []) [] ≡ cond b (before ++ n ∷ []) before
     last true before = refl
     last false before = append-nil before
 
-pub one_gone : (seen : List (List ℕ)) (file : List ℕ) (n : ℕ) (gone : List ℕ) → gone ≡ gone_below seen file n → is_repeated (seen_below seen file n) (signature_of file n) ≡ true → gone ++ n ∷ [] ≡ gone_below seen file (n + 1)
+pub one_gone : (seen : List (List ℕ)) (file : List ℕ) (n : ℕ) (gone : List ℕ) → gone ≡ dropped_below seen file n → was_seen (seen_below seen file n) (signature_of file n) ≡ true → gone ++ n ∷ [] ≡ dropped_below seen file (n + 1)
 one_gone seen file n gone e t = rw (add-one n)
     (ap (λ (xs : List ℕ). xs ++ n ∷ []) e
-    ∙ sym (ap (λ (b : Bool). cond b (gone_below seen file n ++ n ∷ []) (gone_below seen file n)) t)
+    ∙ sym (ap (λ (b : Bool). cond b (dropped_below seen file n ++ n ∷ []) (dropped_below seen file n)) t)
     ∙ sym (gone_suc seen file n))
 
-pub one_stays : (seen : List (List ℕ)) (file : List ℕ) (n : ℕ) (gone : List ℕ) → gone ≡ gone_below seen file n → is_repeated (seen_below seen file n) (signature_of file n) ≡ false → gone ≡ gone_below seen file (n + 1)
+pub one_stays : (seen : List (List ℕ)) (file : List ℕ) (n : ℕ) (gone : List ℕ) → gone ≡ dropped_below seen file n → was_seen (seen_below seen file n) (signature_of file n) ≡ false → gone ≡ dropped_below seen file (n + 1)
 one_stays seen file n gone e t = rw (add-one n)
     (e
-    ∙ sym (ap (λ (b : Bool). cond b (gone_below seen file n ++ n ∷ []) (gone_below seen file n)) t)
+    ∙ sym (ap (λ (b : Bool). cond b (dropped_below seen file n ++ n ∷ []) (dropped_below seen file n)) t)
     ∙ sym (gone_suc seen file n))

@@ -5,7 +5,7 @@ use Rattle.elf_read.specs.Number.{window, LiesAt}
 use Rattle.elf_groups.specs.declared.blocks.Blocks.{Blocks}
 use Rattle.elf_groups.specs.declared.file_texts.FileTexts.{FileTexts}
 use Rattle.elf_groups.specs.declared.file_texts.Known.{Known}
-use Rattle.elf_groups.specs.Blocks.{AreBlocks, Grows, IsWhole, Numbers}
+use Rattle.elf_groups.specs.Blocks.{AreBlocks, KeepsNumbers, IsOfBlocks, Numbers}
 use Rattle.elf_groups.specs.Seen.{AreKnown, IsKnown}
 use Rattle.elf_groups.proofs.WholeBlocks.{numbered_is_whole}
 
@@ -68,17 +68,17 @@ is_known file text rest blocks place start at end n numbers is stands upto from 
     numbers_same blocks n rest (window at (end - at) file) numbers
     (is ∙ end_of file text place start stands upto ∙ windows file (place + start) at (length text - start) (end - at) (sym from) (omega (arith, from, all, upto)))
 
-pub still_known : (file : List ℕ) (old new : Blocks) (known : Known) → Grows old new → IsKnown file old known → IsKnown file new known
+pub still_known : (file : List ℕ) (old new : Blocks) (known : Known) → KeepsNumbers old new → IsKnown file old known → IsKnown file new known
 unfolding IsKnown
 still_known file old new known grows is = grows known.number (window known.place (known.end - known.place) file) is
 
-pub all_still_known : (file : List ℕ) (old new : Blocks) (texts : FileTexts) → Grows old new → AreKnown file old texts → AreKnown file new texts
+pub all_still_known : (file : List ℕ) (old new : Blocks) (texts : FileTexts) → KeepsNumbers old new → AreKnown file old texts → AreKnown file new texts
 all_still_known file old new texts grows each k d low = still_known file old new _ grows (each k d low)
 
 -- the whole text, once no block is left
-pub all_numbered : (old new : Blocks) (text : List ℕ) (n m left index : ℕ) → AreBlocks old → Numbers old n (drop left text) → IsWhole text → left ≤ length text → left / 256 ≤ index → Numbers new m (drop (left - index * 256) text) → Numbers new m text
+pub all_numbered : (old new : Blocks) (text : List ℕ) (n m left index : ℕ) → AreBlocks old → Numbers old n (drop left text) → IsOfBlocks text → left ≤ length text → left / 256 ≤ index → Numbers new m (drop (left - index * 256) text) → Numbers new m text
 all_numbered old new text n m left index blocks first whole upto past numbers =
-    let end : IsWhole (drop left text) = numbered_is_whole old n (drop left text) blocks first in
+    let end : IsOfBlocks (drop left text) = numbered_is_whole old n (drop left text) blocks first in
     let len : length (drop left text) ≡ length text - left = length-drop left text in
     let count : length text ≡ whole.0 * 256 = whole.1 in
     let count_end : length (drop left text) ≡ end.0 * 256 = end.1 in

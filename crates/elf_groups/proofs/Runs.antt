@@ -11,7 +11,7 @@ use Rattle.std.proofs.lemmas.List.Sums.{position_or_len_is, prefix_len_passes, p
 use Rattle.elf_read.specs.Number.{LiesAt}
 use Rattle.elf_read.proofs.FirstZero.{is_zero, before_zero, before_zero-within}
 use Rattle.elf_groups.specs.declared.ends.Run.{Run}
-use Rattle.elf_groups.specs.Ends.{IsFree, IsRun}
+use Rattle.elf_groups.specs.Ends.{AreNotZero, IsFreeRun}
 
 abbrev not_zero : ℕ → Bool
 not_zero b = not (is_zero b)
@@ -42,7 +42,7 @@ by_front rest first below =
     (λ some. ap is_zero (sym (get_or-take first rest n 1 below)) ∙ stops (take first rest) (omega (arith, some, len, below))))
 
 -- bytes that are known not to be zero, before and after a place
-known_free : (rest : List ℕ) (first end known : ℕ) → first ≤ before_zero (take first rest) → IsFree rest first end → known ≤ max first end → (k : ℕ) → k < known → is_zero (get_or rest k 1) ≡ false
+known_free : (rest : List ℕ) (first end known : ℕ) → first ≤ before_zero (take first rest) → AreNotZero rest first end → known ≤ max first end → (k : ℕ) → k < known → is_zero (get_or rest k 1) ≡ false
 known_free rest first end known front free upto k low = elim (cases_lt k first) [
   | inl before ↦ ap is_zero (sym (get_or-take first rest k 1 before)) ∙ passes (take first rest) k (omega (arith, before, front))
   | inr behind ↦ free k (omega (arith, behind)) (omega (arith, behind, low, upto))
@@ -56,7 +56,7 @@ free_on rest known free k low = elim (cases_lt k known) [
       ap is_zero (sym (get_or-drop known rest (k - known) 1 ∙ ap (λ (j : ℕ). get_or rest j 1) at)) ∙ passes (drop known rest) (k - known) (omega (arith, behind, low))
 ]
 
-pub by_known : (rest : List ℕ) (first end known : ℕ) → first ≤ before_zero (take first rest) → IsFree rest first end → known ≤ max first end → known ≤ length rest → known + before_zero (drop known rest) ≡ before_zero rest
+pub by_known : (rest : List ℕ) (first end known : ℕ) → first ≤ before_zero (take first rest) → AreNotZero rest first end → known ≤ max first end → known ≤ length rest → known + before_zero (drop known rest) ≡ before_zero rest
 by_known rest first end known front free upto short =
     let m = before_zero (drop known rest) in
     let len : length (drop known rest) ≡ length rest - known = length-drop known rest in
@@ -71,14 +71,14 @@ byte_at file rest place k stands inside =
     ap (λ (r : List ℕ). get_or r k 1) stands ∙ get_or-take (length rest) (drop place file) k 1 inside ∙ get_or-drop place file k 1
 
 -- the bytes of a run, from a text's place on
-pub free_from : (file rest : List ℕ) (place first end : ℕ) (run : Run) → LiesAt place rest file → IsRun file run → first ≡ run.first - place → end ≡ run.end - place → IsFree rest first end
+pub free_from : (file rest : List ℕ) (place first end : ℕ) (run : Run) → LiesAt place rest file → IsFreeRun file run → first ≡ run.first - place → end ≡ run.end - place → AreNotZero rest first end
 free_from file rest place first end run stands free from upto k low high = elim (cases_lt k (length rest)) [
   | inl inside ↦ ap is_zero (byte_at file rest place k stands inside) ∙ free (place + k) (omega (arith, low, from)) (omega (arith, high, upto))
   | inr past ↦ ap is_zero (get_or_past rest k 1 (omega (arith, past)))
 ]
 
 -- the bytes of a text
-pub free_of_text : (file rest : List ℕ) (place end len : ℕ) → LiesAt place rest file → len ≡ before_zero rest → end ≤ place + len → IsFree file place end
+pub free_of_text : (file rest : List ℕ) (place end len : ℕ) → LiesAt place rest file → len ≡ before_zero rest → end ≤ place + len → AreNotZero file place end
 free_of_text file rest place end len stands is upto k low high =
     let at : place + (k - place) ≡ k = omega (arith, low) in
     let short : before_zero rest ≤ length rest = before_zero-within rest in

@@ -14,7 +14,7 @@ use Rattle.std.proofs.Math.Seq.{take-append_seam}
 use Rattle.std.proofs.Common.{◌≡◌, ℕ, Bool, true, false, All, List, [], ◌∷◌, ◌++◌, ◌+◌, ◌-◌, ◌*◌, ◌/◌, ◌%◌, ◌<◌, min, length, refl, sym, ap, ◌∙◌, zero, suc, ◌≤◌, take, drop, Result, Ok, Err, OnOk, arith}
 use Rattle.elf_read.specs.Number.{window, LiesAt}
 use Rattle.elf_groups.specs.declared.blocks.Blocks.{Blocks}
-use Rattle.elf_groups.specs.Blocks.{AreBlocks, Grows, IsWhole, Numbers, text_of}
+use Rattle.elf_groups.specs.Blocks.{AreBlocks, KeepsNumbers, IsOfBlocks, Numbers, text_of}
 use Rattle.elf_groups.specs.Seen.{IsKeptIn, is_kept_as}
 use Rattle.elf_groups.proofs.WholeBlocks.{Key, key_cmp, numbered_is_whole, one_number, tied}
 
@@ -84,7 +84,7 @@ front_is_short signature front before =
     let len : length front ≡ min (length signature % 256) (length signature) = ap length before ∙ length-take (length signature % 256) signature in
     omega (arith, len)
 
-pub rest_is_whole : (signature whole : List ℕ) → whole ≡ drop (length signature % 256) signature → IsWhole whole
+pub rest_is_whole : (signature whole : List ℕ) → whole ≡ drop (length signature % 256) signature → IsOfBlocks whole
 rest_is_whole signature whole behind =
     let len : length whole ≡ length signature - length signature % 256 = ap length behind ∙ length-drop (length signature % 256) signature in
     (length signature / 256, omega (arith, len))
@@ -99,7 +99,7 @@ own_key blocks signature front whole key is before number =
     }
 
 -- less than a block before whole blocks
-same_fronts : (f g x y : List ℕ) → length f < 256 → length g < 256 → IsWhole x → IsWhole y → f ++ x ≡ g ++ y → f ≡ g
+same_fronts : (f g x y : List ℕ) → length f < 256 → length g < 256 → IsOfBlocks x → IsOfBlocks y → f ++ x ≡ g ++ y → f ≡ g
 same_fronts f g x y short_f short_g whole_x whole_y same =
     let all_f : length (f ++ x) ≡ length f + length x = length-append f x in
     let all_g : length (g ++ y) ≡ length g + length y = length-append g y in
@@ -132,19 +132,19 @@ any_same blocks key (k ∷ ks) are own each =
     ∙ ap (λ (b : Bool). is_kept_as blocks (key.1.now ++ text_of blocks key.0) k || b) (any_same blocks key ks are own (All-tail (IsKeptIn blocks) k ks each))
 
 -- ---- with more numbers
-same_text : (old new : Blocks) (n : ℕ) → Grows old new → Numbers old n (text_of old n) → text_of new n ≡ text_of old n
+same_text : (old new : Blocks) (n : ℕ) → KeepsNumbers old new → Numbers old n (text_of old n) → text_of new n ≡ text_of old n
 same_text old new n grows number = (grows n (text_of old n) number).text
 
-still_kept : (old new : Blocks) (k : Key) → Grows old new → IsKeptIn old k → IsKeptIn new k
+still_kept : (old new : Blocks) (k : Key) → KeepsNumbers old new → IsKeptIn old k → IsKeptIn new k
 still_kept old new k grows kept = record {
   short = kept.short;
   number = record { below = (grows k.0 (text_of old k.0) kept.number).below; text = refl };
 }
 
-pub all_still_kept : (old new : Blocks) (keys : List Key) → Grows old new → All (IsKeptIn old) keys → All (IsKeptIn new) keys
+pub all_still_kept : (old new : Blocks) (keys : List Key) → KeepsNumbers old new → All (IsKeptIn old) keys → All (IsKeptIn new) keys
 all_still_kept old new keys grows each k d low = still_kept old new _ grows (each k d low)
 
-pub any_still_kept : (old new : Blocks) (q : List ℕ) (keys : List Key) → Grows old new → All (IsKeptIn old) keys → list_any (is_kept_as new q) keys ≡ list_any (is_kept_as old q) keys
+pub any_still_kept : (old new : Blocks) (q : List ℕ) (keys : List Key) → KeepsNumbers old new → All (IsKeptIn old) keys → list_any (is_kept_as new q) keys ≡ list_any (is_kept_as old q) keys
 any_still_kept old new q [] grows each = refl
 any_still_kept old new q (k ∷ ks) grows each =
     ap (λ (xs : List ℕ). bytes_eq q (k.1.now ++ xs) || list_any (is_kept_as new q) ks) (same_text old new k.0 grows (All-head (IsKeptIn old) k ks each).number)

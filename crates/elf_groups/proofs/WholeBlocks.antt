@@ -14,23 +14,23 @@ use Rattle.std.proofs.lemmas.Slice.Eq.{bytes_eq-Decides}
 use Rattle.std.proofs.lemmas.Option.{none-some, same_Some}
 use Rattle.elf_groups.specs.declared.blocks.Blocks.{Blocks}
 use Rattle.elf_groups.specs.declared.blocks.Numbered.{Numbered}
-use Rattle.elf_groups.specs.Blocks.{AreBlocks, IsNumbered, IsNumberOf, Numbers, IsWhole, block_cmp, count_of, number_at, rest_of, text_of}
+use Rattle.elf_groups.specs.Blocks.{AreBlocks, IsNumbered, IsNumberOf, Numbers, IsOfBlocks, block_cmp, count_of, number_kept, rest_of, text_of}
 
 -- ---- lengths
 one_block_more : (len rest count : ℕ) → 256 ≤ len → rest ≡ len - 256 → rest ≡ count * 256 → len ≡ suc count * 256
 one_block_more len rest count some e whole = omega (arith, some, e, whole)
 
-whole_by : (fuel n : ℕ) (b : Blocks) → AreBlocks b → n ≤ fuel → n ≤ count_of b → IsWhole (text_of b n)
+whole_by : (fuel n : ℕ) (b : Blocks) → AreBlocks b → n ≤ fuel → n ≤ count_of b → IsOfBlocks (text_of b n)
 whole_by fuel zero b are upto below = (0, refl)
 whole_by zero (suc k) b are upto below = absurd (omega (arith, upto))
 whole_by (suc fuel) (suc k) b are upto below =
     let is : IsNumbered b k = are.each k (omega (arith, below)) in
-    let rest : IsWhole (text_of b (rest_of b k)) = whole_by fuel (rest_of b k) b are (omega (arith, upto, is.lower)) (omega (arith, below, is.lower)) in
+    let rest : IsOfBlocks (text_of b (rest_of b k)) = whole_by fuel (rest_of b k) b are (omega (arith, upto, is.lower)) (omega (arith, below, is.lower)) in
     (suc rest.0, one_block_more (length (text_of b (suc k))) (length (text_of b (rest_of b k))) rest.0 is.some (sym (ap length is.follows) ∙ length-drop 256 (text_of b (suc k))) rest.1)
 
 -- a text with a number is whole blocks
-pub numbered_is_whole : (b : Blocks) (n : ℕ) (text : List ℕ) → AreBlocks b → Numbers b n text → IsWhole text
-numbered_is_whole b n text are is = subst IsWhole is.text (whole_by n n b are (omega arith) is.below)
+pub numbered_is_whole : (b : Blocks) (n : ℕ) (text : List ℕ) → AreBlocks b → Numbers b n text → IsOfBlocks text
+numbered_is_whole b n text are is = subst IsOfBlocks is.text (whole_by n n b are (omega arith) is.below)
 
 -- ---- one number for a text
 not_empty : (text : List ℕ) → 256 ≤ length text → [] ≡ text → ⊥
@@ -47,14 +47,14 @@ same_by (suc fuel) (suc n) (suc m) b are upto below also e =
     let rests : rest_of b n ≡ rest_of b m = same_by fuel (rest_of b n) (rest_of b m) b are (omega (arith, upto, one.lower)) (omega (arith, below, one.lower)) (omega (arith, also, other.lower))
     (sym one.follows ∙ ap (drop 256) e ∙ other.follows) in
     same_Some (suc n) (suc m)
-    (sym one.kept ∙ ap (λ (r : ℕ). number_at b r (take 256 (text_of b (suc n)))) rests ∙ ap (λ (xs : List ℕ). number_at b (rest_of b m) (take 256 xs)) e ∙ other.kept)
+    (sym one.kept ∙ ap (λ (r : ℕ). number_kept b r (take 256 (text_of b (suc n)))) rests ∙ ap (λ (xs : List ℕ). number_kept b (rest_of b m) (take 256 xs)) e ∙ other.kept)
 
 -- a text has one number
 pub one_number : (b : Blocks) (n m : ℕ) (text : List ℕ) → AreBlocks b → Numbers b n text → Numbers b m text → n ≡ m
 one_number b n m text are one other = same_by n n m b are (omega arith) one.below other.below (one.text ∙ sym other.text)
 
 -- ---- a number that is kept
-pub kept_number : (b : Blocks) (rest n : ℕ) (block text : List ℕ) → AreBlocks b → Numbers b rest (drop 256 text) → block ≡ take 256 text → number_at b rest block ≡ Some n → Numbers b n text
+pub kept_number : (b : Blocks) (rest n : ℕ) (block text : List ℕ) → AreBlocks b → Numbers b rest (drop 256 text) → block ≡ take 256 text → number_kept b rest block ≡ Some n → Numbers b n text
 kept_number b rest n block text are follows is found =
     let of : IsNumberOf b rest block n = are.kept rest block n found in
     record {
@@ -67,8 +67,8 @@ pub record IsOneMore (old new : Blocks) (rest : ℕ) (bytes : List ℕ) : Type 0
   pub texts : map (λ t. t.bytes.now) new.texts.items ≡ map (λ t. t.bytes.now) old.texts.items ++ bytes ∷ []
   pub rests : map (λ t. t.rest) new.texts.items ≡ map (λ t. t.rest) old.texts.items ++ rest ∷ []
   pub count : count_of new ≡ suc (count_of old)
-  pub numbers : (r : ℕ) (b : List ℕ) → number_at new r b ≡ cond ((rest == r) && bytes_eq (take 256 bytes) b) (Some (suc (count_of old))) (number_at old r b)
-  pub absent : number_at old rest (take 256 bytes) ≡ None
+  pub numbers : (r : ℕ) (b : List ℕ) → number_kept new r b ≡ cond ((rest == r) && bytes_eq (take 256 bytes) b) (Some (suc (count_of old))) (number_kept old r b)
+  pub absent : number_kept old rest (take 256 bytes) ≡ None
 
 -- by the keys of the map
 abbrev pub Key : Type 0
@@ -125,30 +125,30 @@ same_rest rest r block b e = eqb-true rest r (and_parts (rest == r) (bytes_eq bl
 same_block : (rest r : ℕ) (block b : List ℕ) → ((rest == r) && bytes_eq block b) ≡ true → block ≡ b
 same_block rest r block b e = (bytes_eq-Decides block b).0 (and_parts (rest == r) (bytes_eq block b) e).1
 
-still_by : (old : Blocks) (rest r n last : ℕ) (block b : List ℕ) (c : Bool) → ((rest == r) && bytes_eq block b) ≡ c → number_at old rest block ≡ None → number_at old r b ≡ Some n
-    → cond c (Some last) (number_at old r b) ≡ Some n
+still_by : (old : Blocks) (rest r n last : ℕ) (block b : List ℕ) (c : Bool) → ((rest == r) && bytes_eq block b) ≡ c → number_kept old rest block ≡ None → number_kept old r b ≡ Some n
+    → cond c (Some last) (number_kept old r b) ≡ Some n
 still_by old rest r n last block b true e absent found =
     absurd (none-some n
-    (sym absent ∙ ap (λ (k : ℕ). number_at old k block) (same_rest rest r block b e) ∙ ap (λ (xs : List ℕ). number_at old r xs) (same_block rest r block b e) ∙ found))
+    (sym absent ∙ ap (λ (k : ℕ). number_kept old k block) (same_rest rest r block b e) ∙ ap (λ (xs : List ℕ). number_kept old r xs) (same_block rest r block b e) ∙ found))
 still_by old rest r n last block b false e absent found = found
 
-number_still : (old new : Blocks) (rest r n : ℕ) (bytes b : List ℕ) → IsOneMore old new rest bytes → number_at old r b ≡ Some n → number_at new r b ≡ Some n
+number_still : (old new : Blocks) (rest r n : ℕ) (bytes b : List ℕ) → IsOneMore old new rest bytes → number_kept old r b ≡ Some n → number_kept new r b ≡ Some n
 number_still old new rest r n bytes b more found =
     more.numbers r b ∙ still_by old rest r n (suc (count_of old)) (take 256 bytes) b ((rest == r) && bytes_eq (take 256 bytes) b) refl more.absent found
 
-number_last : (old new : Blocks) (rest : ℕ) (bytes : List ℕ) → IsOneMore old new rest bytes → number_at new rest (take 256 bytes) ≡ Some (suc (count_of old))
+number_last : (old new : Blocks) (rest : ℕ) (bytes : List ℕ) → IsOneMore old new rest bytes → number_kept new rest (take 256 bytes) ≡ Some (suc (count_of old))
 number_last old new rest bytes more =
     more.numbers rest (take 256 bytes)
-    ∙ ap (λ (c : Bool). cond c (Some (suc (count_of old))) (number_at old rest (take 256 bytes)))
+    ∙ ap (λ (c : Bool). cond c (Some (suc (count_of old))) (number_kept old rest (take 256 bytes)))
     (and_from (rest == rest) (bytes_eq (take 256 bytes) (take 256 bytes)) (eq-eqb rest rest refl) ((bytes_eq-Decides (take 256 bytes) (take 256 bytes)).1 refl))
 
 -- each text is its first block and one with a lower number
-numbered_by : (b : Blocks) (k rest : ℕ) (text : List ℕ) → rest_of b k ≡ rest → text_of b (suc k) ≡ text → rest ≤ k → 256 ≤ length text → drop 256 text ≡ text_of b rest → number_at b rest (take 256 text) ≡ Some (suc k) → IsNumbered b k
+numbered_by : (b : Blocks) (k rest : ℕ) (text : List ℕ) → rest_of b k ≡ rest → text_of b (suc k) ≡ text → rest ≤ k → 256 ≤ length text → drop 256 text ≡ text_of b rest → number_kept b rest (take 256 text) ≡ Some (suc k) → IsNumbered b k
 numbered_by b k rest text er et lower some follows kept = record {
   lower = subst (λ (r : ℕ). r ≤ k) (sym er) lower;
   some = subst (λ (xs : List ℕ). 256 ≤ length xs) (sym et) some;
   follows = ap (drop 256) et ∙ follows ∙ ap (text_of b) (sym er);
-  kept = ap (λ (r : ℕ). number_at b r (take 256 (text_of b (suc k)))) er ∙ ap (λ (xs : List ℕ). number_at b rest (take 256 xs)) et ∙ kept;
+  kept = ap (λ (r : ℕ). number_kept b r (take 256 (text_of b (suc k)))) er ∙ ap (λ (xs : List ℕ). number_kept b rest (take 256 xs)) et ∙ kept;
 }
 
 numbered_still : (old new : Blocks) (rest k : ℕ) (bytes : List ℕ) → IsOneMore old new rest bytes → AreBlocks old → k < count_of old → IsNumbered new k
@@ -186,7 +186,7 @@ number_of_last old new rest bytes more follows =
     (text_last old new rest bytes more) (text_still old new rest rest bytes more follows.below ∙ follows.text) (sym (take-append-drop 256 bytes))
 
 number_of_more : (old new : Blocks) (rest r n : ℕ) (bytes b : List ℕ) (c : Bool) → IsOneMore old new rest bytes → AreBlocks old → Numbers old rest (drop 256 bytes) → ((rest == r) && bytes_eq (take 256 bytes) b) ≡ c
-    → cond c (Some (suc (count_of old))) (number_at old r b) ≡ Some n → IsNumberOf new r b n
+    → cond c (Some (suc (count_of old))) (number_kept old r b) ≡ Some n → IsNumberOf new r b n
 number_of_more old new rest r n bytes b true more are follows e found =
     subst (λ (k : ℕ). IsNumberOf new k b n) (same_rest rest r (take 256 bytes) b e)
     (subst (λ (xs : List ℕ). IsNumberOf new rest xs n) (same_block rest r (take 256 bytes) b e)
@@ -204,7 +204,7 @@ one_more old new rest bytes more are some follows = record {
 
 -- from what the list and the map do
 pub is_one_more : (old new : Blocks) (text : Numbered) (block : Bor (List ℕ)) (n : ℕ) → new.texts.items ≡ old.texts.items ++ text ∷ [] → Updates key_cmp old.numbers new.numbers (text.rest, block) (Some n)
-    → n ≡ count_of new → block.now ≡ take 256 text.bytes.now → number_at old text.rest block.now ≡ None → IsOneMore old new text.rest text.bytes.now
+    → n ≡ count_of new → block.now ≡ take 256 text.bytes.now → number_kept old text.rest block.now ≡ None → IsOneMore old new text.rest text.bytes.now
 is_one_more old new text block n items updates last is absent =
     let count : count_of new ≡ suc (count_of old) = ap length items ∙ length-append old.texts.items (text ∷ []) ∙ plus_one (count_of old) in
     record {
@@ -213,9 +213,9 @@ is_one_more old new text block n items updates last is absent =
       count = count;
       numbers = λ r b.
           kept_more old.numbers new.numbers (text.rest, block) n updates r b
-          ∙ ap (λ (k : ℕ). cond ((text.rest == r) && bytes_eq block.now b) (Some k) (number_at old r b)) (last ∙ count)
-          ∙ ap (λ (xs : List ℕ). cond ((text.rest == r) && bytes_eq xs b) (Some (suc (count_of old))) (number_at old r b)) is;
-      absent = ap (λ (xs : List ℕ). number_at old text.rest xs) (sym is) ∙ absent;
+          ∙ ap (λ (k : ℕ). cond ((text.rest == r) && bytes_eq block.now b) (Some k) (number_kept old r b)) (last ∙ count)
+          ∙ ap (λ (xs : List ℕ). cond ((text.rest == r) && bytes_eq xs b) (Some (suc (count_of old))) (number_kept old r b)) is;
+      absent = ap (λ (xs : List ℕ). number_kept old text.rest xs) (sym is) ∙ absent;
     }
   where
     plus_one : (n : ℕ) → n + 1 ≡ suc n

@@ -25,15 +25,15 @@ abbrev pub block_cmp : (rest : ℕ) → (block : List ℕ) → ℕ × Bor (List 
 block_cmp rest block key = ordering_then (nat_cmp rest key.0) (slice_cmp nat_cmp block key.1.now)
 
 -- the number that is kept for a block and what follows it
-abbrev pub number_at : Blocks → (rest : ℕ) → (block : List ℕ) → Option ℕ
-number_at b rest block = get_by (block_cmp rest block) b.numbers
+abbrev pub number_kept : Blocks → (rest : ℕ) → (block : List ℕ) → Option ℕ
+number_kept b rest block = get_by (block_cmp rest block) b.numbers
 
 -- a text is its first block and a text with a lower number, and its number is kept for these
 pub record IsNumbered (b : Blocks) (k : ℕ) : Type 0 where
   pub lower : rest_of b k ≤ k
   pub some : 256 ≤ length (text_of b (suc k))
   pub follows : drop 256 (text_of b (suc k)) ≡ text_of b (rest_of b k)
-  pub kept : number_at b (rest_of b k) (take 256 (text_of b (suc k))) ≡ Some (suc k)
+  pub kept : number_kept b (rest_of b k) (take 256 (text_of b (suc k))) ≡ Some (suc k)
 
 -- what is kept for a block and what follows it is the number of both together
 pub record IsNumberOf (b : Blocks) (rest : ℕ) (block : List ℕ) (n : ℕ) : Type 0 where
@@ -41,19 +41,20 @@ pub record IsNumberOf (b : Blocks) (rest : ℕ) (block : List ℕ) (n : ℕ) : T
   pub below : n ≤ count_of b
   pub text : text_of b n ≡ block ++ text_of b rest
 
+-- each text with a number is numbered by its blocks, and what is kept leads to these numbers
 pub record AreBlocks (b : Blocks) : Type 0 where
   pub each : (k : ℕ) → k < count_of b → IsNumbered b k
-  pub kept : (rest : ℕ) (block : List ℕ) (n : ℕ) → number_at b rest block ≡ Some n → IsNumberOf b rest block n
+  pub kept : (rest : ℕ) (block : List ℕ) (n : ℕ) → number_kept b rest block ≡ Some n → IsNumberOf b rest block n
 
--- a number of a text
+-- the number is that of the text
 pub record Numbers (b : Blocks) (n : ℕ) (bytes : List ℕ) : Type 0 where
   pub below : n ≤ count_of b
   pub text : text_of b n ≡ bytes
 
 -- no text loses its number
-abbrev pub Grows : (old new : Blocks) → Type 0
-Grows old new = (n : ℕ) (text : List ℕ) → Numbers old n text → Numbers new n text
+abbrev pub KeepsNumbers : (old new : Blocks) → Type 0
+KeepsNumbers old new = (n : ℕ) (text : List ℕ) → Numbers old n text → Numbers new n text
 
--- the length is that of whole blocks
-abbrev pub IsWhole : List ℕ → Type 0
-IsWhole text = (count : ℕ) × (length text ≡ count * 256)
+-- the text is made of whole blocks
+abbrev pub IsOfBlocks : List ℕ → Type 0
+IsOfBlocks text = (count : ℕ) × (length text ≡ count * 256)

@@ -31,5 +31,6 @@ pub record AreDroppedGroups (earlier : List (List ℕ)) (file : List ℕ) (numbe
   pub are : (number : ℕ) → Contains numbers number ↔ IsDroppedGroup earlier file number
 
 -- ---- Inside the crate
+-- the signature of a COMDAT group
 abbrev pub if_comdat : GroupView → Option (List ℕ)
 if_comdat g = if g.comdat then Some g.signature else None

@@ -4,12 +4,13 @@ use Rattle.elf_groups.specs.declared.ends.Ends.{Ends}
 use Rattle.elf_groups.specs.declared.ends.Run.{Run}
 
 -- none of these bytes is zero, from one place to another
-abbrev pub IsFree : List ℕ → (first end : ℕ) → Type 0
-IsFree bytes first end = (k : ℕ) → first ≤ k → k < end → (get_or bytes k 1 == 0) ≡ false
+abbrev pub AreNotZero : List ℕ → (first end : ℕ) → Type 0
+AreNotZero bytes first end = (k : ℕ) → first ≤ k → k < end → (get_or bytes k 1 == 0) ≡ false
 
-abbrev pub IsRun : List ℕ → Run → Type 0
-IsRun file run = IsFree file run.first run.end
+-- a run that is kept has no zero byte
+abbrev pub IsFreeRun : List ℕ → Run → Type 0
+IsFreeRun file run = AreNotZero file run.first run.end
 
 -- all runs that are kept are runs of the file
 abbrev pub AreRuns : List ℕ → Ends → Type 0
-AreRuns file ends = All (λ e. IsRun file e.1) ends.runs.entries
+AreRuns file ends = All (λ e. IsFreeRun file e.1) ends.runs.entries

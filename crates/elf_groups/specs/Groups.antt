@@ -10,18 +10,18 @@ use Rattle.elf_groups.specs.Dropped.{signature_of}
 unfoldable pub signatures_below : (file : List ℕ) → ℕ → List (List ℕ)
 signatures_below file n = filter_map (signature_of file) (numbers_below n)
 
--- a signature that was seen before
-abbrev pub is_repeated : List (List ℕ) → Option (List ℕ) → Bool
-is_repeated seen None = false
-is_repeated seen (Some signature) = list_any (bytes_eq signature) seen
+-- whether a section's signature was seen before
+abbrev pub was_seen : List (List ℕ) → Option (List ℕ) → Bool
+was_seen seen None = false
+was_seen seen (Some signature) = list_any (bytes_eq signature) seen
 
 -- the signatures that were seen once a file is read, after those that were seen before
 abbrev pub seen_after : (seen : List (List ℕ)) → (file : List ℕ) → List (List ℕ)
 seen_after seen file = seen ++ signatures_below file (section_count file)
 
--- the numbers of a file's COMDAT groups that are gone: their signature was seen before
-abbrev pub gone_groups : (seen : List (List ℕ)) → (file : List ℕ) → List ℕ
-gone_groups seen file = filter (λ n. is_repeated (seen ++ signatures_below file n) (signature_of file n)) (numbers_below (section_count file))
+-- the numbers of a file's COMDAT groups that are dropped: their signature was seen before
+abbrev pub dropped_groups : (seen : List (List ℕ)) → (file : List ℕ) → List ℕ
+dropped_groups seen file = filter (λ n. was_seen (seen ++ signatures_below file n) (signature_of file n)) (numbers_below (section_count file))
 
 -- the signatures that were seen once files are read, after those that were seen before
 abbrev pub seen_in : (seen : List (List ℕ)) → (files : List (List ℕ)) → List (List ℕ)
@@ -29,6 +29,7 @@ seen_in seen [] = seen
 seen_in seen (file ∷ files) = seen_in (seen_after seen file) files
 
 -- ---- Inside the crate: one section after the other
+-- the signatures that were seen, with that of one more section
 abbrev pub with_signature : List (List ℕ) → Option (List ℕ) → List (List ℕ)
 with_signature seen None = seen
 with_signature seen (Some signature) = seen ++ signature ∷ []
@@ -37,6 +38,6 @@ with_signature seen (Some signature) = seen ++ signature ∷ []
 abbrev pub seen_below : (seen : List (List ℕ)) → (file : List ℕ) → ℕ → List (List ℕ)
 seen_below seen file n = seen ++ signatures_below file n
 
--- the numbers below n of the COMDAT groups that are gone
-abbrev pub gone_below : (seen : List (List ℕ)) → (file : List ℕ) → ℕ → List ℕ
-gone_below seen file n = filter (λ k. is_repeated (seen ++ signatures_below file k) (signature_of file k)) (numbers_below n)
+-- the numbers below n of the COMDAT groups that are dropped
+abbrev pub dropped_below : (seen : List (List ℕ)) → (file : List ℕ) → ℕ → List ℕ
+dropped_below seen file n = filter (λ k. was_seen (seen ++ signatures_below file k) (signature_of file k)) (numbers_below n)

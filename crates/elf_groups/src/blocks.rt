@@ -1,7 +1,7 @@
 //! Texts of whole blocks, each with a number of its own: long texts that end alike are compared by their numbers.
 
 ghost use Rattle.std.specs.Prelude.{◌≤◌, length, drop, IfOk, OnOk};
-ghost use Rattle.elf_groups.specs.Blocks.{AreBlocks, Grows, Numbers};
+ghost use Rattle.elf_groups.specs.Blocks.{AreBlocks, KeepsNumbers, Numbers};
 
 use std::alloc::{AllocError, Global};
 use std::collections::BTreeMap;
@@ -42,7 +42,7 @@ impl<'a> Blocks<'a> {
         requires { 256 ≤ length text.now }
         ensures number { IfOk result (λ number. AreBlocks self.old → Numbers self.old rest (drop 256 text.now) → Numbers self.new number text.now) }
         ensures blocks { OnOk result (AreBlocks self.old → Numbers self.old rest (drop 256 text.now) → AreBlocks self.new) }
-        ensures grows { OnOk result (Grows self.old self.new) }
+        ensures grows { OnOk result (KeepsNumbers self.old self.new) }
     {
         let (block, _) = text.split_at(BLOCK);
         if let Some(number) = self.numbers.get(&(rest, block)) {

@@ -35,7 +35,7 @@ fn front(bytes: &[u8], count: usize) -> &[u8]
 
 // Counts the bytes before the first zero byte. Those from `first` to `end` are known not to be zero, and are not looked at.
 fn bytes_before_zero_past(bytes: &[u8], first: usize, end: usize) -> usize
-    ensures count { spec.IsFree bytes.now first end → result ≡ position_or_len (λ b. b == 0) bytes.now }
+    ensures count { spec.AreNotZero bytes.now first end → result ≡ position_or_len (λ b. b == 0) bytes.now }
     ensures within { result ≤ length bytes.now }
 {
     let before = bytes_before_zero(front(bytes, first));
@@ -60,7 +60,7 @@ impl Ends {
 
     // Finds the first run whose end is not below a place, or else gives an empty one past all places.
     fn run_from(&self, place: u64) -> Run
-        ensures { (file : List ℕ) → spec.AreRuns file self.now → spec.IsRun file result }
+        ensures { (file : List ℕ) → spec.AreRuns file self.now → spec.IsFreeRun file result }
     {
         match self.runs.range(place..).next() {
             Some((_, run)) => *run,

@@ -2,7 +2,7 @@
 
 ghost use Rattle.std.specs.Prelude.{◌≡◌, ◌≤◌, ◌<◌, ◌+◌, ◌^◌, ℕ, List, length, IfOk, OnOk};
 ghost use Rattle.elf_read.specs.Number.{LiesAt};
-ghost use Rattle.elf_groups.specs.Blocks.{AreBlocks, Grows, IsWhole, Numbers};
+ghost use Rattle.elf_groups.specs.Blocks.{AreBlocks, KeepsNumbers, IsOfBlocks, Numbers};
 ghost use Rattle.elf_groups.specs.declared.blocks.Blocks.{Blocks as numbered_texts};
 ghost use Rattle.elf_groups.specs.Seen.{AreKnown, HasTexts, IsKnown};
 
@@ -68,10 +68,10 @@ impl FileTexts {
         text: &'a [u8],
     ) -> Result<usize, AllocError>
         requires { place + length text.now < 2 ^ 64 }
-        ensures number { IfOk result (λ number. (file : List ℕ) → AreBlocks blocks.old → HasTexts file blocks.old self.old → LiesAt place text.now file → IsWhole text.now → Numbers blocks.new number text.now) }
-        ensures blocks { OnOk result ((file : List ℕ) → AreBlocks blocks.old → HasTexts file blocks.old self.old → LiesAt place text.now file → IsWhole text.now → AreBlocks blocks.new) }
-        ensures grows { OnOk result (Grows blocks.old blocks.new) }
-        ensures texts { OnOk result ((file : List ℕ) → AreBlocks blocks.old → HasTexts file blocks.old self.old → LiesAt place text.now file → IsWhole text.now → HasTexts file blocks.new self.new) }
+        ensures number { IfOk result (λ number. (file : List ℕ) → AreBlocks blocks.old → HasTexts file blocks.old self.old → LiesAt place text.now file → IsOfBlocks text.now → Numbers blocks.new number text.now) }
+        ensures blocks { OnOk result ((file : List ℕ) → AreBlocks blocks.old → HasTexts file blocks.old self.old → LiesAt place text.now file → IsOfBlocks text.now → AreBlocks blocks.new) }
+        ensures grows { OnOk result (KeepsNumbers blocks.old blocks.new) }
+        ensures texts { OnOk result ((file : List ℕ) → AreBlocks blocks.old → HasTexts file blocks.old self.old → LiesAt place text.now file → IsOfBlocks text.now → HasTexts file blocks.new self.new) }
     {
         let end = place + text.len() as u64;
         let known = self.known(place, end);

@@ -5,7 +5,7 @@ ghost use Rattle.std.specs.List.{list_any};
 ghost use Rattle.elf_read.specs.Number.{LiesAt};
 ghost use Rattle.elf_read.specs.Views.{file, text_bytes};
 ghost use Rattle.elf_groups.specs.Dropped.{signature_of};
-ghost use Rattle.elf_groups.specs.Groups.{gone_groups, is_repeated, seen_after, with_signature};
+ghost use Rattle.elf_groups.specs.Groups.{dropped_groups, was_seen, seen_after, with_signature};
 ghost use Rattle.elf_groups.specs.Seen.{HasSeen, HasTexts};
 
 use crate::blocks::{BLOCK, Blocks};
@@ -34,7 +34,7 @@ impl<'a> Seen<'a> {
         }
     }
 
-    // Puts a signature at a place of a file into the set, and says whether the set had it.
+    // Puts a signature at a place of a file into the set, and returns whether the set had it.
     fn is_repeated(
         &mut self,
         texts: &mut FileTexts,
@@ -51,7 +51,7 @@ impl<'a> Seen<'a> {
         Ok(!self.signatures.insert((number, front))?)
     }
 
-    // Puts a text of a file into the set, and says whether the set had it.
+    // Puts a text of a file into the set, and returns whether the set had it.
     fn is_text_repeated(
         &mut self,
         texts: &mut FileTexts,
@@ -67,10 +67,10 @@ impl<'a> Seen<'a> {
         self.is_repeated(texts, text.place, signature)
     }
 
-    // Says whether a section is a COMDAT group whose signature the set had, and puts the signature into it.
+    // Returns whether a section is a COMDAT group whose signature the set had, and puts the signature into it.
     #[tactic(auto, unfolding(crate::specs::Dropped::signature_of))]
     fn is_gone(&mut self, texts: &mut FileTexts, elf: &Elf<'a>, i: u32) -> Result<bool, AllocError>
-        ensures gone { IfOk result (λ gone. (seen : List (List ℕ)) → HasSeen self.old seen → HasTexts (file elf.now) self.old.blocks texts.old → gone ≡ is_repeated seen (signature_of (file elf.now) i)) }
+        ensures gone { IfOk result (λ gone. (seen : List (List ℕ)) → HasSeen self.old seen → HasTexts (file elf.now) self.old.blocks texts.old → gone ≡ was_seen seen (signature_of (file elf.now) i)) }
         ensures seen { OnOk result ((seen : List (List ℕ)) → HasSeen self.old seen → HasTexts (file elf.now) self.old.blocks texts.old → HasSeen self.new (with_signature seen (signature_of (file elf.now) i))) }
         ensures texts { OnOk result ((seen : List (List ℕ)) → HasSeen self.old seen → HasTexts (file elf.now) self.old.blocks texts.old → HasTexts (file elf.now) self.new.blocks texts.new) }
     {
@@ -91,9 +91,9 @@ impl<'a> Seen<'a> {
     ///
     /// # Errors
     ///
-    /// Out of memory alone. Nothing is said of the set then.
-    pub fn gone_groups(&mut self, alloc: Global, elf: &Elf<'a>) -> Result<Vec<u32>, AllocError>
-        ensures gone { IfOk result (λ gone. (seen : List (List ℕ)) → HasSeen self.old seen → gone.items ≡ gone_groups seen (file elf.now)) }
+    /// Out of memory alone. Nothing is known of the set then.
+    pub fn dropped_groups(&mut self, alloc: Global, elf: &Elf<'a>) -> Result<Vec<u32>, AllocError>
+        ensures gone { IfOk result (λ gone. (seen : List (List ℕ)) → HasSeen self.old seen → gone.items ≡ dropped_groups seen (file elf.now)) }
         ensures seen { OnOk result ((seen : List (List ℕ)) → HasSeen self.old seen → HasSeen self.new (seen_after seen (file elf.now))) }
     {
         let mut texts = FileTexts::new(alloc);

@@ -8,9 +8,8 @@ use Rattle.elf_read.specs.Checking.{unless, where_so, ◌>>◌, each_below}
 use Rattle.elf_read.specs.Sections.{section_fields}
 use Rattle.elf_place.specs.declared.fault.PlaceFault.{PlaceFault}
 use Rattle.elf_place.specs.declared.fault.PlaceFault.TheVariants.{AddressOverflow}
-use Rattle.elf_place.specs.Dropped.{values_below}
 use Rattle.elf_place.specs.Place.{is_placed, is_in_memory, start_of, address_of, overflow_check, LiesInMemory}
-use Rattle.elf_place.proofs.Values.{length-values_below, get_or-values_below}
+use Rattle.elf_place.proofs.Values.{values_below, length-values_below, get_or-values_below}
 
 abbrev okay : Result (Unit {0}) PlaceFault
 okay = Ok tt

@@ -1,18 +1,21 @@
--- A list that was made item by item.
-use Rattle.std.proofs.Common.{◌≡◌, ℕ, zero, suc, ◌+◌, ◌<◌, ◌≤◌, List, [], ◌∷◌, ◌++◌, length, get_or, refl, sym, ap, ◌∙◌, arith, length-append, inl, inr}
+-- The values of a function at the numbers below n, made item by item.
+use Rattle.std.proofs.Common.{◌≡◌, ℕ, zero, suc, ◌+◌, ◌<◌, ◌≤◌, List, [], ◌∷◌, ◌++◌, length, map, get_or, refl, sym, ap, ◌∙◌, arith, length-append, inl, inr}
 use Rattle.std.proofs.Math.Nat.{eq-or-lt_of_le}
 use Rattle.std.proofs.Math.ListN.{get_or-append}
 use Rattle.std.proofs.Math.Seq.{get_or-append_seam}
-use Rattle.std.proofs.lemmas.List.{ext_get_or}
-use Rattle.elf_place.specs.Dropped.{values_below}
+use Rattle.std.proofs.lemmas.List.{ext_get_or, map-append}
+use Rattle.elf_read.specs.Checking.{numbers_below}
+
+abbrev pub values_below : {X : Type 0} → ℕ → (ℕ → X) → List X
+values_below n f = map f (numbers_below n)
 
 pub values_below-none : {X : Type 0} → (f : ℕ → X) → values_below 0 f ≡ []
-unfolding values_below
+unfolding numbers_below
 values_below-none f = refl
 
 values_below-suc : {X : Type 0} → (n : ℕ) (f : ℕ → X) → values_below (suc n) f ≡ values_below n f ++ f n ∷ []
-unfolding values_below
-values_below-suc n f = refl
+unfolding numbers_below
+values_below-suc n f = map-append f (numbers_below n) (n ∷ [])
 
 pub values_below-more : {X : Type 0} → (n : ℕ) (f : ℕ → X) → values_below (n + 1) f ≡ values_below n f ++ f n ∷ []
 values_below-more n f =

@@ -10,7 +10,7 @@ use Rattle.std.proofs.lemmas.List.{append-nil, map-append, take-append-drop, get
 use Rattle.std.proofs.lemmas.List.Elements.{filter-append, filter_agree}
 use Rattle.elf_read.specs.Sections.{section_fields}
 use Rattle.elf_place.specs.declared.relocations.RelocationSection.{RelocationSection}
-use Rattle.elf_place.specs.Relocations.{has_relocations, is_relocation_section, relocation_sections_below, target_of, numbers_of, with_target, listed, listed_below}
+use Rattle.elf_place.specs.Relocations.{has_relocations, is_relocation_section, relocation_sections_below, target_of, numbers_of, with_target, as_listed, listed_below}
 use Rattle.elf_place.proofs.Numbers.{with_one, filter_none, filter_suc}
 
 -- ---- the list
@@ -18,11 +18,11 @@ pub listed_below-none : (file : List ℕ) → listed_below file 0 ≡ []
 unfolding listed_below
 listed_below-none file = refl
 
-listed_below-suc : (file : List ℕ) (n : ℕ) → listed_below file (suc n) ≡ (if has_relocations file n then listed_below file n ++ listed file n ∷ [] else listed_below file n)
+listed_below-suc : (file : List ℕ) (n : ℕ) → listed_below file (suc n) ≡ (if has_relocations file n then listed_below file n ++ as_listed file n ∷ [] else listed_below file n)
 unfolding listed_below
 listed_below-suc file n = refl
 
-pub listed_below-more : (file : List ℕ) (n : ℕ) → listed_below file (n + 1) ≡ (if has_relocations file n then listed_below file n ++ listed file n ∷ [] else listed_below file n)
+pub listed_below-more : (file : List ℕ) (n : ℕ) → listed_below file (n + 1) ≡ (if has_relocations file n then listed_below file n ++ as_listed file n ∷ [] else listed_below file n)
 listed_below-more file n =
     let next : n + 1 ≡ suc n = omega arith in
     ap (listed_below file) next ∙ listed_below-suc file n
@@ -36,16 +36,16 @@ below-suc file target n = filter_suc (is_relocation_section file target) n
 
 -- one section more, by its tests
 more_by : (file : List ℕ) (target n : ℕ) (has is : Bool) (before : List RelocationSection) (numbers : List ℕ) → ((section_fields file n).sh_info == target) ≡ is → numbers_of (with_target target before) ≡ numbers
-    → numbers_of (with_target target (if has then before ++ listed file n ∷ [] else before)) ≡ with_one (has && is) n numbers
+    → numbers_of (with_target target (if has then before ++ as_listed file n ∷ [] else before)) ≡ with_one (has && is) n numbers
 more_by file target n false is before numbers e h = h
 more_by file target n true is before numbers e h =
-    ap (λ (xs : List RelocationSection). numbers_of xs) (filter-append (λ (s : RelocationSection). s.target == target) before (listed file n ∷ []))
-    ∙ map-append (λ (s : RelocationSection). s.number) (with_target target before) (with_target target (listed file n ∷ []))
-    ∙ ap (λ (xs : List ℕ). xs ++ numbers_of (with_target target (listed file n ∷ []))) h
-    ∙ ap (λ (b : Bool). numbers ++ numbers_of (cond b (listed file n ∷ []) [])) e
+    ap (λ (xs : List RelocationSection). numbers_of xs) (filter-append (λ (s : RelocationSection). s.target == target) before (as_listed file n ∷ []))
+    ∙ map-append (λ (s : RelocationSection). s.number) (with_target target before) (with_target target (as_listed file n ∷ []))
+    ∙ ap (λ (xs : List ℕ). xs ++ numbers_of (with_target target (as_listed file n ∷ []))) h
+    ∙ ap (λ (b : Bool). numbers ++ numbers_of (cond b (as_listed file n ∷ []) [])) e
     ∙ last is
   where
-    last : (b : Bool) → numbers ++ numbers_of (cond b (listed file n ∷ []) []) ≡ with_one b n numbers
+    last : (b : Bool) → numbers ++ numbers_of (cond b (as_listed file n ∷ []) []) ≡ with_one b n numbers
     last true = refl
     last false = append-nil numbers
 

@@ -20,6 +20,7 @@ cursor_from file dropped base cursor i = if is_placed file dropped i then start_
 unfoldable pub address_from : List ℕ → List Bool → (base cursor : ℕ) → ℕ → Option ℕ
 address_from file dropped base cursor i = if is_placed file dropped i then Some (start_from file base cursor i) else None
 
+-- a section lies in memory from the cursor on
 unfoldable pub overflow_from : List ℕ → List Bool → (base cursor : ℕ) → ℕ → Result (Unit {0}) PlaceFault
 overflow_from file dropped base cursor i =
     where_so (is_placed file dropped i) (unless (is_in_memory (start_from file base cursor i) (section_fields file i).sh_size) (AddressOverflow i))

@@ -1,4 +1,4 @@
--- Where the sections of a file lie (ELF64 gABI, "Sections", sh_addr and sh_addralign). `dropped` says of
+-- Where the sections of a file lie (ELF64 gABI, "Sections", sh_addr and sh_addralign). `dropped` has for
 -- each section whether it is dropped.
 use Rattle.std.specs.Prelude.{ℕ, ◌+◌, ◌-◌, ◌*◌, ◌/◌, ◌^◌, ◌==◌, ◌<◌, ◌≤◌, Bool, false, ◌&&◌, ◌||◌, not, List, [], ◌∷◌, Option, Some, None, Result, nat_le, nat_lt, slice_index_or, if◌then◌else◌}
 use Rattle.std.specs.Int.{is_power_of_two}
@@ -63,23 +63,24 @@ shift_of file base = if is_rel file then 0 else base
 
 -- ---- what a call returns
 -- the faults that a check gives: all but out of memory
-abbrev pub refusal_of : PlaceFault → Option PlaceFault
-refusal_of NoMemory = None
-refusal_of fault = Some fault
+abbrev pub place_refusal : PlaceFault → Option PlaceFault
+place_refusal NoMemory = None
+place_refusal fault = Some fault
 
--- a fault is what the check says, unless memory ran out
+-- a fault is that of the check, unless memory ran out
 abbrev pub Fails : PlaceFault → Result (Unit {0}) PlaceFault → Type 0
-Fails fault check = answers.Fails refusal_of fault check
+Fails fault check = answers.Fails place_refusal fault check
 
--- what a call returned is what the check says, unless memory ran out
-abbrev pub Answers : {X : Type 0} → Result X PlaceFault → Result (Unit {0}) PlaceFault → Type 0
-Answers result check = answers.Gives refusal_of (λ x. tt) result check
+-- what a call returned is what the check gives, unless memory ran out
+abbrev pub Gives : {X : Type 0} → Result X PlaceFault → Result (Unit {0}) PlaceFault → Type 0
+Gives result check = answers.Gives place_refusal (λ x. tt) result check
 
 -- ---- Inside the crate: the checks of one section
 -- no alignment, or a power of two
 abbrev pub is_alignment : ℕ → Bool
 is_alignment align = (align == 0) || is_power_of_two align
 
+-- the alignment of a section that gets an address is none or a power of two
 unfoldable pub align_check : List ℕ → List Bool → ℕ → Result (Unit {0}) PlaceFault
 align_check file dropped i = where_so (is_placed file dropped i) (unless (is_alignment (section_fields file i).sh_addralign) (Align i))
 
@@ -87,6 +88,7 @@ align_check file dropped i = where_so (is_placed file dropped i) (unless (is_ali
 abbrev pub is_in_memory : ℕ → ℕ → Bool
 is_in_memory start size = nat_lt start (2 ^ 64) && nat_le (start + size) (2 ^ 64)
 
+-- a section that gets an address lies in memory
 unfoldable pub overflow_check : List ℕ → List Bool → (base i : ℕ) → Result (Unit {0}) PlaceFault
 overflow_check file dropped base i =
     where_so (is_placed file dropped i) (unless (is_in_memory (start_of file dropped base i) (section_fields file i).sh_size) (AddressOverflow i))

@@ -28,9 +28,11 @@ abbrev pub relocation_sections : List ℕ → (target : ℕ) → List ℕ
 relocation_sections file target = filter (is_relocation_section file target) (numbers_below (section_count file))
 
 -- ---- Inside the crate
+-- whether a type is one of relocations
 abbrev pub is_relocation_type : ℕ → Bool
 is_relocation_type kind = (kind == 4) || (kind == 9) || (kind == 0x40000014)
 
+-- whether a type is one of something else
 abbrev pub is_type_without_relocations : ℕ → Bool
 is_type_without_relocations kind =
     (kind == 0) || (kind == 1) || (kind == 2) || (kind == 3) || (kind == 8) || (kind == 17) || (kind == 0x70000001)
@@ -44,9 +46,11 @@ abbrev pub relocation_sections_below : List ℕ → (target : ℕ) → ℕ → L
 relocation_sections_below file target n = filter (is_relocation_section file target) (numbers_below n)
 
 -- ---- lists of them, as they are kept
+-- the section that the relocations are applied to
 abbrev pub target_of : RelocationSection → ℕ
 target_of s = s.target
 
+-- the numbers of the sections that have the relocations
 abbrev pub numbers_of : List RelocationSection → List ℕ
 numbers_of list = map (λ (s : RelocationSection). s.number) list
 
@@ -55,13 +59,13 @@ abbrev pub with_target : ℕ → List RelocationSection → List RelocationSecti
 with_target target list = filter (λ (s : RelocationSection). s.target == target) list
 
 -- section i as it is listed
-abbrev pub listed : List ℕ → ℕ → RelocationSection
-listed file i = record { target = (section_fields file i).sh_info; number = i }
+abbrev pub as_listed : List ℕ → ℕ → RelocationSection
+as_listed file i = record { target = (section_fields file i).sh_info; number = i }
 
 -- the sections below n that have relocations, in order of their numbers
 unfoldable pub listed_below : List ℕ → ℕ → List RelocationSection
 listed_below file zero = []
-listed_below file (suc n) = if has_relocations file n then listed_below file n ++ listed file n ∷ [] else listed_below file n
+listed_below file (suc n) = if has_relocations file n then listed_below file n ++ as_listed file n ∷ [] else listed_below file n
 
 -- a list has the sections with relocations of each section, in order of their numbers
 abbrev pub HasAll : List ℕ → List RelocationSection → Type 0

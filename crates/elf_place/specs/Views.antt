@@ -4,8 +4,8 @@ use Rattle.elf_read.specs.Views.{file as file_of}
 use Rattle.elf_place.specs.declared.placed.Placed.{Placed}
 
 -- the bytes of the whole file
-abbrev pub file : Placed → List ℕ
-file p = file_of p.elf
+abbrev pub placed_file : Placed → List ℕ
+placed_file p = file_of p.elf
 
 -- the address of each section, where it has one
 abbrev pub addresses : Placed → List (Option ℕ)
@@ -23,9 +23,11 @@ eh_frames p = p.eh_frames.items
 abbrev pub shift_in : Placed → ℕ
 shift_in p = p.shift
 
+-- the address of a section, where it has one
 abbrev pub address_in : Placed → ℕ → Option ℕ
 address_in p i = slice_index_or p.addresses.items i None
 
+-- whether a section is dropped
 abbrev pub is_dropped_in : Placed → ℕ → Bool
 is_dropped_in p i = slice_index_or p.dropped.items i false
 
@@ -35,11 +37,14 @@ pub record Placing : Type 0 where
   pub addresses : List (Option ℕ)
   pub dropped : List Bool
 
+-- the view of a placed file
 abbrev pub placing : Placed → Placing
-placing p = record { file = file p; addresses = addresses p; dropped = dropped p }
+placing p = record { file = placed_file p; addresses = addresses p; dropped = dropped p }
 
+-- the address of a section in such a view, where it has one
 abbrev pub address_at : Placing → ℕ → Option ℕ
 address_at p i = slice_index_or p.addresses i None
 
+-- whether a section is dropped in such a view
 abbrev pub is_dropped_at : Placing → ℕ → Bool
 is_dropped_at p i = slice_index_or p.dropped i false

@@ -1,10 +1,9 @@
 //! The addresses of sections.
 
-ghost use Rattle.std.specs.Prelude.{◌≡◌, ◌<◌, ◌≤◌, ◌^◌, length, IfOk};
-ghost use Rattle.elf_read.specs.Checking.{each_below, verdict};
+ghost use Rattle.std.specs.Prelude.{◌≡◌, ◌<◌, ◌≤◌, ◌^◌, length, map, IfOk};
+ghost use Rattle.elf_read.specs.Checking.{each_below, numbers_below, verdict};
 ghost use Rattle.elf_read.specs.Header.{is_rel};
 ghost use Rattle.elf_read.specs.Views.{file};
-ghost use Rattle.elf_place.specs.Dropped.{values_below};
 ghost use Rattle.elf_place.specs.Cursor as by_cursor;
 ghost use Rattle.elf_place.specs.Place as spec;
 
@@ -23,7 +22,7 @@ struct Spot {
     cursor: u128,
 }
 
-// The least multiple of the alignment that is not below the number.
+// Returns the least multiple of the alignment that is not below the number.
 #[tactic(auto, unfolding(crate::specs::Place::aligned))]
 fn align_up(from: u128, align: u64) -> u128
     requires { from ≤ 2 ^ 64 }
@@ -37,7 +36,7 @@ fn align_up(from: u128, align: u64) -> u128
     (from + (align - 1)) / align * align
 }
 
-// Whether the file is an object, whose sections have no addresses of their own.
+// Returns whether the file is an object, whose sections have no addresses of their own.
 #[tactic(auto, unfolding(elf_read::specs::Header::kind_of))]
 fn is_object(elf: &Elf<'_>) -> bool
     ensures { result ≡ is_rel (file elf.now) }
@@ -45,7 +44,7 @@ fn is_object(elf: &Elf<'_>) -> bool
     matches!(elf.kind(), Kind::Rel)
 }
 
-// Where a section starts.
+// Returns where a section starts.
 #[tactic(auto, unfolding(crate::specs::Cursor::start_from))]
 fn start_from(elf: &Elf<'_>, base: u64, cursor: u128, i: u32) -> u128
     requires { cursor ≤ 2 ^ 64 }
@@ -60,7 +59,7 @@ fn start_from(elf: &Elf<'_>, base: u64, cursor: u128, i: u32) -> u128
     }
 }
 
-// Whether a section starts below 2^64 and ends there or before.
+// Returns whether a section starts below 2^64 and ends there or before.
 fn is_in_memory(start: u128, size: u64) -> bool
     requires { start < 2 ^ 66 }
     ensures { result ≡ spec.is_in_memory start size }
@@ -101,7 +100,7 @@ fn place_section(
     })
 }
 
-/// The address of each section, where it has one.
+/// Returns the address of each section, where it has one.
 pub fn addresses_of(
     alloc: Global,
     elf: &Elf<'_>,
@@ -110,8 +109,8 @@ pub fn addresses_of(
     count: u32,
 ) -> Result<Vec<Option<u64>>, PlaceFault>
     requires { count ≡ length dropped.now }
-    ensures value { IfOk result (λ v. v.items ≡ values_below count (spec.address_of (file elf.now) dropped.now base)) }
-    ensures exact { spec.Answers result (each_below count (spec.overflow_check (file elf.now) dropped.now base)) }
+    ensures value { IfOk result (λ v. v.items ≡ map (spec.address_of (file elf.now) dropped.now base) (numbers_below count)) }
+    ensures exact { spec.Gives result (each_below count (spec.overflow_check (file elf.now) dropped.now base)) }
 {
     let mut addresses = Vec::new(alloc);
     let mut cursor = u128::from(base);
@@ -123,7 +122,7 @@ pub fn addresses_of(
     Ok(addresses)
 }
 
-/// How far the addresses of a file are from those in its headers.
+/// Returns how far the addresses of a file are from those in its headers.
 #[tactic(auto, unfolding(crate::specs::Place::shift_of))]
 pub fn shift_of(elf: &Elf<'_>, base: u64) -> u64
     ensures { result ≡ spec.shift_of (file elf.now) base }

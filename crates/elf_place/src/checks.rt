@@ -10,7 +10,7 @@ use crate::fault::PlaceFault;
 use elf_read::Elf;
 use elf_read::layout::{SHF_ALLOC, SHT_NOBITS};
 
-// Whether a section is loaded.
+// Returns whether a section is loaded.
 #[tactic(auto, unfolding(elf_read::specs::Sections::is_allocated))]
 fn is_allocated(elf: &Elf<'_>, i: u32) -> bool
     ensures { result ≡ sections.is_allocated (file elf.now) i }
@@ -18,7 +18,7 @@ fn is_allocated(elf: &Elf<'_>, i: u32) -> bool
     elf.section(i).flags / SHF_ALLOC % 2 == 1
 }
 
-/// Whether a section gets an address.
+/// Returns whether a section gets an address.
 #[tactic(auto, unfolding(crate::specs::Place::is_placed))]
 pub fn is_placed(elf: &Elf<'_>, dropped: &[bool], i: u32) -> bool
     requires { i < length dropped.now }
@@ -27,7 +27,7 @@ pub fn is_placed(elf: &Elf<'_>, dropped: &[bool], i: u32) -> bool
     is_allocated(elf, i) && !dropped[i as usize]
 }
 
-/// Whether a section is call frame information that is not dropped.
+/// Returns whether a section is call frame information that is not dropped.
 #[tactic(auto, unfolding(crate::specs::Place::is_kept_eh_frame))]
 pub fn is_kept_eh_frame(elf: &Elf<'_>, dropped: &[bool], i: u32) -> bool
     requires { i < length dropped.now }
@@ -36,7 +36,7 @@ pub fn is_kept_eh_frame(elf: &Elf<'_>, dropped: &[bool], i: u32) -> bool
     elf.is_eh_frame(i) && !dropped[i as usize]
 }
 
-// Whether an alignment is none or a power of two.
+// Returns whether an alignment is none or a power of two.
 fn is_alignment(align: u64) -> bool
     ensures { result ≡ spec.is_alignment align }
 {
@@ -54,7 +54,7 @@ fn check_align(elf: &Elf<'_>, dropped: &[bool], i: u32) -> Result<(), PlaceFault
     Ok(())
 }
 
-/// The alignments of the sections that get an address.
+/// Checks the alignments of the sections that get an address.
 pub fn check_aligns(elf: &Elf<'_>, dropped: &[bool], count: u32) -> Result<(), PlaceFault>
     requires { count ≡ length dropped.now }
     ensures { result ≡ each_below count (spec.align_check (file elf.now) dropped.now) }

@@ -8,7 +8,7 @@ use crate::checks::is_kept_eh_frame;
 use elf_read::Elf;
 use std::alloc::{AllocError, Global};
 
-/// The numbers of the sections with call frame information that are not dropped, in order.
+/// Returns the numbers of the sections with call frame information that are not dropped, in order.
 pub fn eh_frames_of(
     alloc: Global,
     elf: &Elf<'_>,

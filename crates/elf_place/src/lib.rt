@@ -2,7 +2,7 @@
 //!
 //! [`Placed::new`] gives each section that is loaded its address: an object's sections follow one another
 //! from a base on, those of another file lie at their own addresses, moved by the base. Members of groups
-//! that the caller says are gone are dropped and have no address.
+//! that the caller names are dropped and have no address.
 //!
 //! [`Placed::relocation_sections`] finds the sections with relocations of a section by halves.
 //!

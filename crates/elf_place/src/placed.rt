@@ -27,16 +27,16 @@ pub struct Placed<'a> {
 }
 
 impl<'a> Placed<'a> {
-    ghost use Rattle.std.specs.Prelude.{◌≡◌, ◌<◌, ℕ, IfOk, length};
+    ghost use Rattle.std.specs.Prelude.{◌≡◌, ◌<◌, ℕ, IfOk, length, map};
     ghost use Rattle.elf_read.specs.Sections.{section_count, section_fields};
     ghost use Rattle.elf_read.specs.Views.{file as file_of};
     ghost use Rattle.elf_place.specs.Dropped as drops;
     ghost use Rattle.elf_place.specs.Place as spec;
-    ghost use Rattle.elf_place.specs.Dropped.{values_below};
+    ghost use Rattle.elf_read.specs.Checking.{numbers_below};
     ghost use Rattle.elf_place.specs.Relocations.{numbers_of, relocation_sections as relocation_sections_of};
     ghost use Rattle.elf_place.specs.Views as seen;
 
-    /// Places the sections of a file that is loaded at `base`. `gone` are the numbers of its groups that are
+    /// Places the sections of a file that is loaded at `base`. `gone` has the numbers of its groups that are
     /// dropped: their members get no address.
     ///
     /// In an object the sections that are loaded follow one another from the base on, each at the least
@@ -48,16 +48,16 @@ impl<'a> Placed<'a> {
         gone: &[u32],
     ) -> Result<Placed<'a>, PlaceFault>
         // The file, and how far its addresses are moved.
-        ensures file { IfOk result (λ p. seen.file p ≡ file_of elf.now) }
+        ensures file { IfOk result (λ p. seen.placed_file p ≡ file_of elf.now) }
         ensures shift { IfOk result (λ p. p.shift ≡ spec.shift_of (file_of elf.now) base) }
         // What is dropped, the addresses, and the call frame information.
         ensures dropped { IfOk result (λ p. seen.dropped p ≡ drops.dropped_sections (file_of elf.now) gone.now) }
-        ensures addresses { IfOk result (λ p. seen.addresses p ≡ values_below (section_count (file_of elf.now)) (spec.address_of (file_of elf.now) (drops.dropped_sections (file_of elf.now) gone.now) base)) }
+        ensures addresses { IfOk result (λ p. seen.addresses p ≡ map (spec.address_of (file_of elf.now) (drops.dropped_sections (file_of elf.now) gone.now) base) (numbers_below (section_count (file_of elf.now)))) }
         ensures eh_frames { IfOk result (λ p. seen.eh_frames p ≡ spec.eh_frames_below (file_of elf.now) (drops.dropped_sections (file_of elf.now) gone.now) (section_count (file_of elf.now))) }
         // Each address is below 2^64, and so is each section's last byte.
         ensures memory { IfOk result (λ p. (i : ℕ) → spec.LiesInMemory (seen.address_in p i) (section_fields (file_of elf.now) i).sh_size) }
-        // It is placed exactly where no check fails; else the fault is the first, unless memory ran out.
-        ensures exact { spec.Answers result (spec.place_check (file_of elf.now) (drops.dropped_sections (file_of elf.now) gone.now) base) }
+        // The file is placed exactly where no check fails; else the fault is the first, unless memory ran out.
+        ensures exact { spec.Gives result (spec.place_check (file_of elf.now) (drops.dropped_sections (file_of elf.now) gone.now) base) }
     {
         let count = elf.sections();
         let dropped = dropped_sections(alloc, elf, gone)?;
@@ -76,7 +76,7 @@ impl<'a> Placed<'a> {
         })
     }
 
-    /// The address of a section, or none where it has none: it is not loaded, or it is dropped.
+    /// Returns the address of a section, or none if it is not loaded or is dropped.
     pub fn address(&self, i: u32) -> Option<u64>
         ensures { result ≡ seen.address_in self.now i }
     {
@@ -86,36 +86,36 @@ impl<'a> Placed<'a> {
         }
     }
 
-    /// How far the addresses are from those in the file: the base, or 0 in an object.
+    /// Returns how far the addresses are from those in the file: the base, or 0 in an object.
     pub fn shift(&self) -> u64
         ensures { result ≡ self.now.shift }
     {
         self.shift
     }
 
-    /// The numbers of the sections with call frame information, in order.
+    /// Returns the numbers of the sections with call frame information, in order.
     pub fn eh_frames(&self) -> &[u32]
         ensures { result.now ≡ seen.eh_frames self.now }
     {
         self.eh_frames.as_slice()
     }
 
-    /// The sections with relocations of a section with call frame information, in whatever form, in order of their
-    /// numbers; none of another section. They are found by halves.
+    /// Returns the sections with relocations of a section with call frame information, in whatever form, in order of their
+    /// numbers, and none for another section. They are found by halves.
     pub fn relocation_sections(&self, target: u32) -> &[RelocationSection]
-        ensures { numbers_of result.now ≡ relocation_sections_of (seen.file self.now) target }
+        ensures { numbers_of result.now ≡ relocation_sections_of (seen.placed_file self.now) target }
     {
         with_target(&self.relocations, target)
     }
 
-    /// The file.
+    /// Returns the file.
     pub fn elf(&self) -> &Elf<'a>
-        ensures { file_of result.now ≡ seen.file self.now }
+        ensures { file_of result.now ≡ seen.placed_file self.now }
     {
         &self.elf
     }
 
-    /// Whether a section is dropped with its group.
+    /// Returns whether a section is dropped with its group.
     pub fn dropped(&self, i: u32) -> bool
         ensures { result ≡ seen.is_dropped_in self.now i }
     {

@@ -18,20 +18,20 @@ use std::alloc::{AllocError, Global};
 /// A section with relocations of call frame information, in whatever form, and the section that they are applied to.
 #[derive(Clone, Copy)]
 pub struct RelocationSection {
-    /// The number of the section that the relocations are applied to, which its info says.
+    /// The number of the section that the relocations are applied to: its info.
     pub target: u32,
     /// Its own number.
     pub number: u32,
 }
 
-// Whether the sections of a type have relocations.
+// Returns whether the sections of a type have relocations.
 fn is_relocation_type(kind: u32) -> bool
     ensures { result ≡ spec.is_relocation_type kind }
 {
     kind == SHT_RELA || kind == SHT_REL || kind == SHT_CREL
 }
 
-// Whether the sections of a type have something else.
+// Returns whether the sections of a type have something else than relocations.
 fn is_type_without_relocations(kind: u32) -> bool
     ensures { result ≡ spec.is_type_without_relocations kind }
 {
@@ -47,7 +47,7 @@ fn is_type_without_relocations(kind: u32) -> bool
     )
 }
 
-// Whether a section relocates another, as its type says or, where that is unknown, its flags.
+// Returns whether a section relocates another, by its type or, where that is unknown, by its flags.
 #[tactic(auto, unfolding(crate::specs::Relocations::may_relocate, elf_read::specs::Sections::has_info_link))]
 fn may_relocate(elf: &Elf<'_>, i: u32) -> bool
     ensures { result ≡ spec.may_relocate (file elf.now) i }
@@ -56,7 +56,7 @@ fn may_relocate(elf: &Elf<'_>, i: u32) -> bool
     is_relocation_type(kind) || (elf.has_info_link(i) && !is_type_without_relocations(kind))
 }
 
-// Whether a number is that of a section with call frame information.
+// Returns whether a number is that of a section with call frame information.
 #[tactic(auto, unfolding(elf_read::specs::Used::names_eh_frame))]
 fn names_eh_frame(elf: &Elf<'_>, i: u32) -> bool
     ensures { result ≡ names (file elf.now) i }
@@ -64,7 +64,7 @@ fn names_eh_frame(elf: &Elf<'_>, i: u32) -> bool
     i < elf.sections() && elf.is_eh_frame(i)
 }
 
-// Whether a section has relocations of call frame information.
+// Returns whether a section has relocations of call frame information.
 #[tactic(auto, unfolding(crate::specs::Relocations::has_relocations))]
 fn has_relocations(elf: &Elf<'_>, i: u32) -> bool
     ensures { result ≡ spec.has_relocations (file elf.now) i }
@@ -72,7 +72,7 @@ fn has_relocations(elf: &Elf<'_>, i: u32) -> bool
     may_relocate(elf, i) && names_eh_frame(elf, elf.section(i).info)
 }
 
-// The first `count` sections that have relocations, in order of their numbers.
+// Returns those of the first `count` sections that have relocations, in order of their numbers.
 fn list_sections(
     alloc: Global,
     elf: &Elf<'_>,
@@ -90,7 +90,7 @@ fn list_sections(
     Ok(list)
 }
 
-// Brings them into the order of their targets. Those of one target stay in order.
+// Brings these sections into the order of their targets. Those of one target stay in order.
 fn sort_by_target(list: &mut Vec<RelocationSection>) -> Result<(), AllocError>
     ensures rising { OnOk result (IsNonDecreasingBy spec.target_of list.new.items) }
     ensures stable { OnOk result (IsStableByKey spec.target_of nat_cmp list.old.items list.new.items) }
@@ -99,7 +99,7 @@ fn sort_by_target(list: &mut Vec<RelocationSection>) -> Result<(), AllocError>
     Ok(())
 }
 
-/// The sections with relocations, by rising target; those of one target in order of their numbers.
+/// Returns the sections with relocations, by rising target; those of one target in order of their numbers.
 pub fn relocation_sections(
     alloc: Global,
     elf: &Elf<'_>,
@@ -114,7 +114,7 @@ pub fn relocation_sections(
     Ok(list)
 }
 
-/// Those of a list by rising target that have this target.
+/// Returns those of a list by rising target that have this target.
 pub fn with_target(list: &[RelocationSection], target: u32) -> &[RelocationSection]
     requires { IsNonDecreasingBy spec.target_of list.now }
     ensures { result.now ≡ spec.with_target target list.now }

@@ -11,7 +11,7 @@ use Rattle.elf_reloc.specs.declared.fault.RelocFault.TheVariants as faults
 use Rattle.elf_reloc.specs.declared.fix.RelocatedField.{RelocatedField}
 use Rattle.elf_reloc.specs.Applied.{Slot, Applied, by_place, slot_of, slot_place, has_slot_width, is_slot, slot_check, applied_of, applied_to}
 use Rattle.elf_reloc.specs.Order.{first_at, has_width, lies_on, overlap_check, place_check}
-use Rattle.elf_reloc.specs.Reading.{◌>>=◌, State, section_state}
+use Rattle.elf_reloc.specs.Reading.{◌>>=◌, section_fixes}
 use Rattle.elf_reloc.specs.Views.{Reads, Overlaps, Refuses}
 use Rattle.elf_reloc.proofs.SortedFixes.{is_by_place}
 
@@ -43,44 +43,44 @@ slots_checked fields (f ∷ fs) =
 abbrev in_order : List Slot → List ℕ → List RelocatedField → Result Applied RelocFault
 in_order slots section fixes = overlap_check 0 fixes >>= λ _. slot_check slots fixes >>= λ _. Ok (applied_of fixes section slots)
 
-abbrev from_state : List Slot → List ℕ → Result State RelocFault → Result Applied RelocFault
-from_state slots section given = given >>= λ state. in_order slots section (by_place state.fixes)
+abbrev from_fixes : List Slot → List ℕ → Result (List RelocatedField) RelocFault → Result Applied RelocFault
+from_fixes slots section given = given >>= λ fixes. in_order slots section (by_place fixes)
 
-to_is : (p : Placing) (section : ℕ) (slots : List Slot) → applied_to p section slots ≡ from_state slots (section_bytes p.file section) (section_state p section)
+to_is : (p : Placing) (section : ℕ) (slots : List Slot) → applied_to p section slots ≡ from_fixes slots (section_bytes p.file section) (section_fixes p section)
 unfolding applied_to
 to_is p section slots = refl
 
-read_is : (slots : List Slot) (section : List ℕ) (given : Result State RelocFault) (fixes : List RelocatedField) → Reads given fixes → from_state slots section given ≡ (slot_check slots fixes >>= λ _. Ok (applied_of fixes section slots))
+read_is : (slots : List Slot) (section : List ℕ) (given : Result (List RelocatedField) RelocFault) (fixes : List RelocatedField) → Reads given fixes → from_fixes slots section given ≡ (slot_check slots fixes >>= λ _. Ok (applied_of fixes section slots))
 read_is slots section given fixes r =
-    ap (from_state slots section) r.read
-    ∙ ap (in_order slots section) (is_by_place r.state.fixes fixes r.order)
+    ap (from_fixes slots section) r.read
+    ∙ ap (in_order slots section) (is_by_place r.fixes fixes r.order)
     ∙ ap (λ (c : Result (Unit {0}) RelocFault). c >>= λ _. slot_check slots fixes >>= λ _. Ok (applied_of fixes section slots)) r.apart
 
 checked_is : (slots : List Slot) (section : List ℕ) (fixes : List RelocatedField) (check : Result (Unit {0}) RelocFault) → slot_check slots fixes ≡ check → (slot_check slots fixes >>= λ _. Ok (applied_of fixes section slots)) ≡ (check >>= λ _. Ok (applied_of fixes section slots))
 checked_is slots section fixes check e = ap (λ (c : Result (Unit {0}) RelocFault). c >>= λ _. Ok (applied_of fixes section slots)) e
 
-pub applied : (p : Placing) (section : ℕ) (fixes : List RelocatedField) (fields : List Field) → Reads (section_state p section) fixes → place_check fields fixes ≡ Ok tt
+pub applied : (p : Placing) (section : ℕ) (fixes : List RelocatedField) (fields : List Field) → Reads (section_fixes p section) fixes → place_check fields fixes ≡ Ok tt
     → applied_to p section (map slot_of fields) ≡ Ok (applied_of fixes (section_bytes p.file section) (map slot_of fields))
 applied p section fixes fields reads checked =
     to_is p section (map slot_of fields)
-    ∙ read_is (map slot_of fields) (section_bytes p.file section) (section_state p section) fixes reads
+    ∙ read_is (map slot_of fields) (section_bytes p.file section) (section_fixes p section) fixes reads
     ∙ checked_is (map slot_of fields) (section_bytes p.file section) fixes (Ok tt) (slots_checked fields fixes ∙ checked)
 
-pub misplaced : (p : Placing) (section : ℕ) (fixes : List RelocatedField) (fields : List Field) (e : RelocFault) → Reads (section_state p section) fixes → place_check fields fixes ≡ Err e → applied_to p section (map slot_of fields) ≡ Err e
+pub misplaced : (p : Placing) (section : ℕ) (fixes : List RelocatedField) (fields : List Field) (e : RelocFault) → Reads (section_fixes p section) fixes → place_check fields fixes ≡ Err e → applied_to p section (map slot_of fields) ≡ Err e
 misplaced p section fixes fields e reads checked =
     to_is p section (map slot_of fields)
-    ∙ read_is (map slot_of fields) (section_bytes p.file section) (section_state p section) fixes reads
+    ∙ read_is (map slot_of fields) (section_bytes p.file section) (section_fixes p section) fixes reads
     ∙ checked_is (map slot_of fields) (section_bytes p.file section) fixes (Err e) (slots_checked fields fixes ∙ checked)
 
-refused_by : (slots : List Slot) (section : List ℕ) (given : Result State RelocFault) (e : RelocFault) → (given ≡ Err e) ⊎ Overlaps given e → (e ≡ faults.NoMemory) ⊎ (from_state slots section given ≡ Err e)
-refused_by slots section given e (inl read) = inr (ap (from_state slots section) read)
+refused_by : (slots : List Slot) (section : List ℕ) (given : Result (List RelocatedField) RelocFault) (e : RelocFault) → (given ≡ Err e) ⊎ Overlaps given e → (e ≡ faults.NoMemory) ⊎ (from_fixes slots section given ≡ Err e)
+refused_by slots section given e (inl read) = inr (ap (from_fixes slots section) read)
 refused_by slots section given e (inr o) = inr (
-    ap (from_state slots section) o.read
-    ∙ ap (in_order slots section) (is_by_place o.state.fixes o.sorted o.order)
+    ap (from_fixes slots section) o.read
+    ∙ ap (in_order slots section) (is_by_place o.fixes o.sorted o.order)
     ∙ ap (λ (c : Result (Unit {0}) RelocFault). c >>= λ _. slot_check slots o.sorted >>= λ _. Ok (applied_of o.sorted section slots)) o.refused
     )
 
-refused_from : (slots : List Slot) (section : List ℕ) (given : Result State RelocFault) (e : RelocFault) → Refuses e given → (e ≡ faults.NoMemory) ⊎ (from_state slots section given ≡ Err e)
+refused_from : (slots : List Slot) (section : List ℕ) (given : Result (List RelocatedField) RelocFault) (e : RelocFault) → Refuses e given → (e ≡ faults.NoMemory) ⊎ (from_fixes slots section given ≡ Err e)
 refused_from slots section given faults.NoMemory h = inl refl
 refused_from slots section given (faults.UnknownType index) h = refused_by slots section given (faults.UnknownType index) h
 refused_from slots section given (faults.Range index) h = refused_by slots section given (faults.Range index) h
@@ -89,24 +89,24 @@ refused_from slots section given (faults.Twice index) h = refused_by slots secti
 refused_from slots section given (faults.RelSection number) h = refused_by slots section given (faults.RelSection number) h
 refused_from slots section given (faults.OutOfSection index) h = refused_by slots section given (faults.OutOfSection index) h
 
-pub refused : (p : Placing) (section : ℕ) (slots : List Slot) (e : RelocFault) → Refuses e (section_state p section) → (e ≡ faults.NoMemory) ⊎ (applied_to p section slots ≡ Err e)
+pub refused : (p : Placing) (section : ℕ) (slots : List Slot) (e : RelocFault) → Refuses e (section_fixes p section) → (e ≡ faults.NoMemory) ⊎ (applied_to p section slots ≡ Err e)
 unfolding applied_to
-refused p section slots e h = refused_from slots (section_bytes p.file section) (section_state p section) e h
+refused p section slots e h = refused_from slots (section_bytes p.file section) (section_fixes p section) e h
 
 -- ---- by the first part that fails
-pub applied_unread : (p : Placing) (section : ℕ) (slots : List Slot) (e : RelocFault) → section_state p section ≡ Err e → applied_to p section slots ≡ Err e
-applied_unread p section slots e read = to_is p section slots ∙ ap (from_state slots (section_bytes p.file section)) read
+pub applied_unread : (p : Placing) (section : ℕ) (slots : List Slot) (e : RelocFault) → section_fixes p section ≡ Err e → applied_to p section slots ≡ Err e
+applied_unread p section slots e read = to_is p section slots ∙ ap (from_fixes slots (section_bytes p.file section)) read
 
-pub applied_overlapping : (p : Placing) (section : ℕ) (slots : List Slot) (state : State) (e : RelocFault) → section_state p section ≡ Ok state → overlap_check 0 (by_place state.fixes) ≡ Err e → applied_to p section slots ≡ Err e
-applied_overlapping p section slots state e read overlap =
+pub applied_overlapping : (p : Placing) (section : ℕ) (slots : List Slot) (fixes : List RelocatedField) (e : RelocFault) → section_fixes p section ≡ Ok fixes → overlap_check 0 (by_place fixes) ≡ Err e → applied_to p section slots ≡ Err e
+applied_overlapping p section slots fixes e read overlap =
     to_is p section slots
-    ∙ ap (from_state slots (section_bytes p.file section)) read
-    ∙ ap (λ (c : Result (Unit {0}) RelocFault). c >>= λ _. slot_check slots (by_place state.fixes) >>= λ _. Ok (applied_of (by_place state.fixes) (section_bytes p.file section) slots)) overlap
+    ∙ ap (from_fixes slots (section_bytes p.file section)) read
+    ∙ ap (λ (c : Result (Unit {0}) RelocFault). c >>= λ _. slot_check slots (by_place fixes) >>= λ _. Ok (applied_of (by_place fixes) (section_bytes p.file section) slots)) overlap
 
-pub applied_checked : (p : Placing) (section : ℕ) (slots : List Slot) (state : State) (check : Result (Unit {0}) RelocFault) → section_state p section ≡ Ok state → overlap_check 0 (by_place state.fixes) ≡ Ok tt
-    → slot_check slots (by_place state.fixes) ≡ check → applied_to p section slots ≡ (check >>= λ _. Ok (applied_of (by_place state.fixes) (section_bytes p.file section) slots))
-applied_checked p section slots state check read apart checked =
+pub applied_checked : (p : Placing) (section : ℕ) (slots : List Slot) (fixes : List RelocatedField) (check : Result (Unit {0}) RelocFault) → section_fixes p section ≡ Ok fixes → overlap_check 0 (by_place fixes) ≡ Ok tt
+    → slot_check slots (by_place fixes) ≡ check → applied_to p section slots ≡ (check >>= λ _. Ok (applied_of (by_place fixes) (section_bytes p.file section) slots))
+applied_checked p section slots fixes check read apart checked =
     to_is p section slots
-    ∙ ap (from_state slots (section_bytes p.file section)) read
-    ∙ ap (λ (c : Result (Unit {0}) RelocFault). c >>= λ _. slot_check slots (by_place state.fixes) >>= λ _. Ok (applied_of (by_place state.fixes) (section_bytes p.file section) slots)) apart
-    ∙ checked_is slots (section_bytes p.file section) (by_place state.fixes) check checked
+    ∙ ap (from_fixes slots (section_bytes p.file section)) read
+    ∙ ap (λ (c : Result (Unit {0}) RelocFault). c >>= λ _. slot_check slots (by_place fixes) >>= λ _. Ok (applied_of (by_place fixes) (section_bytes p.file section) slots)) apart
+    ∙ checked_is slots (section_bytes p.file section) (by_place fixes) check checked

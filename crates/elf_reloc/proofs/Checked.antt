@@ -16,11 +16,11 @@ use Rattle.elf_reloc.specs.declared.fault.RelocFault.TheVariants as faults
 use Rattle.elf_reloc.specs.declared.fix.RelocatedField.{RelocatedField}
 use Rattle.elf_reloc.specs.declared.table.Range.{Range}
 use Rattle.elf_reloc.specs.declared.table.Range.TheVariants.{Any, Unsigned, Signed, Either}
-use Rattle.elf_reloc.specs.Fields.{fix_bits, bits_by, bits_in, dropped_by, is_dropped_in}
+use Rattle.elf_reloc.specs.Fields.{fix_bits, bits_by, bits_in, dropped_by, is_dropped_field}
 use Rattle.sf_bytes.specs.Rising.{field_place, AreApart}
 use Rattle.elf_reloc.specs.Order.{overlap_check, first_at, place_of, has_width, lies_on, place_check}
-use Rattle.elf_reloc.specs.Patched.{patched, AreInside, IsFree, AreRaw, IsUnresolved, IsDropped, Holds}
-use Rattle.elf_reloc.specs.Reading.{section_state}
+use Rattle.elf_reloc.specs.Patched.{patched, AreInside, IsFree, AreRaw, IsUnresolved, IsDropped, FieldHolds}
+use Rattle.elf_reloc.specs.Reading.{section_fixes}
 use Rattle.elf_reloc.specs.Table.{width_of, low_bits}
 use Rattle.elf_reloc.specs.Views.{Reads}
 use Rattle.elf_reloc.proofs.First.{nil, same, other}
@@ -157,7 +157,7 @@ bits_fit f v small known = bits_in_width f.range v (small v known)
 
 -- the value of the one that is found is what the field holds
 holds_where : (fixes : List RelocatedField) (section : List ℕ) (g : Field) (f : RelocatedField) (o : Option ℕ) → overlap_check 0 fixes ≡ Ok tt → AreInside (length section) fixes → IsSmall f → Contains fixes f → f.place ≡ g.place → width_of f.range ≡ g.width
-    → first_at place_of g.place fixes ≡ Some f → f.value ≡ o → Holds fixes section g (option_map (low_bits f.range) o)
+    → first_at place_of g.place fixes ≡ Some f → f.value ≡ o → FieldHolds fixes section g (option_map (low_bits f.range) o)
 holds_where fixes section g f None apart inside small among place width found unknown = record { fix = f; among = among; at = place; unknown = unknown }
 holds_where fixes section g f (Some v) apart inside small among place width found known =
     let bits : fix_bits f ≡ Some (low_bits f.range v) = ap (λ (o : Option ℕ). option_map (low_bits f.range) o) known in (
@@ -178,7 +178,7 @@ positive_width (suc w) t = omega arith
 -- what a field holds, by what was found at its place
 holds_by : (fixes : List RelocatedField) (section : List ℕ) (fields : List Field) (i : ℕ) (d : Field) (o : Option RelocatedField) → overlap_check 0 fixes ≡ Ok tt → AreInside (length section) fixes → All IsSmall fixes
     → AreApart fields → AreRaw section fields → All (λ f. lies_on fields f ≡ true) fixes → i < length fields → first_at place_of (get_or fields i d).place fixes ≡ o
-    → Holds fixes section (get_or fields i d) (bits_by o (get_or fields i d).width (get_or fields i d).raw)
+    → FieldHolds fixes section (get_or fields i d) (bits_by o (get_or fields i d).width (get_or fields i d).raw)
 holds_by fixes section fields i d None apart inside small clear raw lie within found =
     let g = get_or fields i d in
     let differ = none_has place_of g.place fixes found in (
@@ -193,22 +193,22 @@ holds_by fixes section fields i d (Some f) apart inside small clear raw lie with
     let width : width_of f.range ≡ g.width = width_there fields i d f clear within (positive_width g.width g.wide) t at.3 in
     let bits : bits_by (Some f) g.width g.raw ≡ fix_bits f = ap (λ (b : Bool). if b then fix_bits f else Some g.raw) (eq-eqb (width_of f.range) g.width width) in
     let fits : IsSmall f = All-contains IsSmall fixes f small among in
-    subst (Holds fixes section g) (sym bits)
+    subst (FieldHolds fixes section g) (sym bits)
     (holds_where fixes section g f f.value apart inside fits among at.3 width found refl)
 
 -- the fields of a list on which all lie
 pub hold : (fixes : List RelocatedField) (section : List ℕ) (fields : List Field) → overlap_check 0 fixes ≡ Ok tt → AreInside (length section) fixes → All IsSmall fixes
-    → AreApart fields → AreRaw section fields → place_check fields fixes ≡ Ok tt → All (λ g. Holds fixes section g (bits_in fixes g.place g.width g.raw)) fields
+    → AreApart fields → AreRaw section fields → place_check fields fixes ≡ Ok tt → All (λ g. FieldHolds fixes section g (bits_in fixes g.place g.width g.raw)) fields
 hold fixes section fields apart inside small clear raw checked = λ i d within.
     holds_by fixes section fields i d (first_at place_of (get_or fields i d).place fixes) apart inside small clear raw (each_lies fields fixes checked) within refl
 
 -- the same of a section's relocations
-pub reads_hold : (p : Placing) (section : ℕ) (fixes : List RelocatedField) (fields : List Field) → Reads (section_state p section) fixes → AreApart fields → AreRaw (section_bytes p.file section) fields → place_check fields fixes ≡ Ok tt
-    → All (λ g. Holds fixes (section_bytes p.file section) g (bits_in fixes g.place g.width g.raw)) fields
+pub reads_hold : (p : Placing) (section : ℕ) (fixes : List RelocatedField) (fields : List Field) → Reads (section_fixes p section) fixes → AreApart fields → AreRaw (section_bytes p.file section) fields → place_check fields fixes ≡ Ok tt
+    → All (λ g. FieldHolds fixes (section_bytes p.file section) g (bits_in fixes g.place g.width g.raw)) fields
 reads_hold p section fixes fields reads clear raw checked =
     hold fixes (section_bytes p.file section) fields reads.apart
-    (reads_inside p section reads.state fixes reads.read reads.order.moved)
-    (reads_small p section reads.state fixes reads.read reads.order.moved)
+    (reads_inside p section reads.fixes fixes reads.read reads.order.moved)
+    (reads_small p section reads.fixes fixes reads.read reads.order.moved)
     clear raw checked
 
 known_fits : (f : RelocatedField) (o : Option ℕ) (bits : ℕ) → IsSmall f → f.value ≡ o → option_map (low_bits f.range) o ≡ Some bits → bits < 256 ^ width_of f.range
@@ -217,20 +217,20 @@ known_fits f (Some v) bits small is h =
     let e : low_bits f.range v ≡ bits = cc h in
     subst (λ (k : ℕ). k < 256 ^ width_of f.range) e (bits_fit f v small is)
 
-pub reads_written : (p : Placing) (section : ℕ) (fixes : List RelocatedField) (place : ℕ) (f : RelocatedField) (bits : ℕ) → Reads (section_state p section) fixes → first_at place_of place fixes ≡ Some f → fix_bits f ≡ Some bits
+pub reads_written : (p : Placing) (section : ℕ) (fixes : List RelocatedField) (place : ℕ) (f : RelocatedField) (bits : ℕ) → Reads (section_fixes p section) fixes → first_at place_of place fixes ≡ Some f → fix_bits f ≡ Some bits
     → little_number (width_of f.range) (drop place (patched fixes (section_bytes p.file section))) ≡ bits
 reads_written p section fixes place f bits reads found known =
     let at = found_at place_of place fixes f f found in
-    let small = reads_small p section reads.state fixes reads.read reads.order.moved in
+    let small = reads_small p section reads.fixes fixes reads.read reads.order.moved in
     holds fixes (section_bytes p.file section) 0 place f bits reads.apart
-    (reads_inside p section reads.state fixes reads.read reads.order.moved)
+    (reads_inside p section reads.fixes fixes reads.read reads.order.moved)
     found known
     (known_fits f f.value bits (All-contains IsSmall fixes f small (at.0, at.1, at.2)) refl known)
 
-pub reads_free : (p : Placing) (section : ℕ) (fixes : List RelocatedField) (place width : ℕ) → Reads (section_state p section) fixes → IsFree place width fixes
+pub reads_free : (p : Placing) (section : ℕ) (fixes : List RelocatedField) (place width : ℕ) → Reads (section_fixes p section) fixes → IsFree place width fixes
     → little_number width (drop place (patched fixes (section_bytes p.file section))) ≡ little_number width (drop place (section_bytes p.file section))
 reads_free p section fixes place width reads free =
-    holds_still fixes (section_bytes p.file section) place width (reads_inside p section reads.state fixes reads.read reads.order.moved) free
+    holds_still fixes (section_bytes p.file section) place width (reads_inside p section reads.fixes fixes reads.read reads.order.moved) free
 
 -- whether a field is dropped, by what was found at its place
 drops_by : (fixes : List RelocatedField) (fields : List Field) (i : ℕ) (d : Field) (o : Option RelocatedField) → overlap_check 0 fixes ≡ Ok tt → AreApart fields → All (λ f. lies_on fields f ≡ true) fixes → i < length fields → first_at place_of (get_or fields i d).place fixes ≡ o
@@ -254,12 +254,12 @@ drops_by fixes fields i d (Some f) apart clear lie within found =
           is ∙ ap (λ (x : RelocatedField). x.dropped) e ∙ u.gone,
     )
 
-pub reads_drop : (p : Placing) (section : ℕ) (fixes : List RelocatedField) (fields : List Field) → Reads (section_state p section) fixes → AreApart fields → place_check fields fixes ≡ Ok tt
-    → All (λ g. (is_dropped_in fixes g.place g.width ≡ true) ↔ IsDropped fixes g) fields
+pub reads_drop : (p : Placing) (section : ℕ) (fixes : List RelocatedField) (fields : List Field) → Reads (section_fixes p section) fixes → AreApart fields → place_check fields fixes ≡ Ok tt
+    → All (λ g. (is_dropped_field fixes g.place g.width ≡ true) ↔ IsDropped fixes g) fields
 reads_drop p section fixes fields reads clear checked = λ i d within.
     drops_by fixes fields i d (first_at place_of (get_or fields i d).place fixes) reads.apart clear (each_lies fields fixes checked) within refl
 
-pub reads_unknown : (p : Placing) (section : ℕ) (fixes : List RelocatedField) (g : Field) → Reads (section_state p section) fixes → IsDropped fixes g → IsUnresolved fixes g
+pub reads_unknown : (p : Placing) (section : ℕ) (fixes : List RelocatedField) (g : Field) → Reads (section_fixes p section) fixes → IsDropped fixes g → IsUnresolved fixes g
 reads_unknown p section fixes g reads u =
-    let hidden = reads_hidden p section reads.state fixes reads.read reads.order.moved in
+    let hidden = reads_hidden p section reads.fixes fixes reads.read reads.order.moved in
     record { fix = u.fix; among = u.among; at = u.at; unknown = All-contains (λ (f : RelocatedField). f.dropped ≡ true → f.value ≡ None) fixes u.fix hidden u.among u.gone }

@@ -1,5 +1,6 @@
 -- Reading relocations one after the other gives what the list of all of them gives.
 use Rattle.std.proofs.Common.{◌≡◌, ℕ, zero, suc, ◌+◌, ◌-◌, ◌<◌, ◌≤◌, Bool, true, false, List, [], ◌∷◌, ◌++◌, length, drop, get_or, Option, Some, None, Result, Ok, Err, refl, sym, ap, ◌∙◌, subst, arith, append_assoc, drop-cons, if◌then◌else◌}
+use Rattle.std.specs.Prelude.{option_to_list}
 use Rattle.std.proofs.lemmas.List.{append-nil, drop_all, length-append}
 use Rattle.elf_read.specs.Sections.{entry_count}
 use Rattle.elf_place.specs.Relocations.{numbers_of, relocation_sections}
@@ -9,7 +10,7 @@ use Rattle.elf_reloc.specs.declared.fault.RelocFault.{RelocFault}
 use Rattle.elf_reloc.specs.declared.fault.RelocFault.TheVariants.{UnknownType, Range, Place, Twice, RelSection, OutOfSection, NoMemory}
 use Rattle.elf_reloc.specs.declared.fix.RelocatedField.{RelocatedField}
 use Rattle.elf_reloc.specs.declared.reading.FixesSoFar.{FixesSoFar}
-use Rattle.elf_reloc.specs.Reading.{◌>>=◌, Relocation, entries_from, relocations_in, rel_check, has_addends, with_fix, fixes_from, object_fixes, entry_fix, going_on, Fails, GoesOn, Holds}
+use Rattle.elf_reloc.specs.Reading.{◌>>=◌, Relocation, entries_from, relocations_in, rel_check, has_addends, fixes_from, object_fixes, entry_fix, going_on, Fails, GoesOn, HoldsAll}
 
 -- a fault that is known is how it fails
 pub fails : {X : Type 0} → (e : RelocFault) (given : Result X RelocFault) → given ≡ Err e → Fails e given
@@ -63,7 +64,7 @@ unfolding fixes_from
 fixes_from-none p section place = refl
 
 pub fixes_from-first : (p : Placing) (section place : ℕ) (r : Relocation) (left : List Relocation) → fixes_from p section place (r ∷ left)
-    ≡ (entry_fix p section place r.table r.entry >>= λ f. fixes_from p section (place + 1) left >>= λ fixes. Ok (with_fix f fixes))
+    ≡ (entry_fix p section place r.table r.entry >>= λ f. fixes_from p section (place + 1) left >>= λ fixes. Ok (option_to_list f ++ fixes))
 unfolding fixes_from
 fixes_from-first p section place r left = refl
 
@@ -73,7 +74,7 @@ after_one fixes (Some f) = fixes ++ f ∷ []
 
 -- one that was read goes to the end of those so far
 joined : (fixes : List RelocatedField) (f : Option RelocatedField) (rest : Result (List RelocatedField) RelocFault)
-    → ((rest >>= λ others. Ok (with_fix f others)) >>= λ others. Ok (fixes ++ others)) ≡ (rest >>= λ others. Ok (after_one fixes f ++ others))
+    → ((rest >>= λ others. Ok (option_to_list f ++ others)) >>= λ others. Ok (fixes ++ others)) ≡ (rest >>= λ others. Ok (after_one fixes f ++ others))
 joined fixes f (Err e) = refl
 joined fixes None (Ok others) = refl
 joined fixes (Some f) (Ok others) = ap (λ (fs : List RelocatedField). Ok fs) (sym (append_assoc fixes (f ∷ []) others))
@@ -85,7 +86,7 @@ goes_on p section next table entry fixes f left read =
     ap (λ (r : Result (List RelocatedField) RelocFault). r >>= λ others. Ok (fixes ++ others))
     (
     fixes_from-first p section next (record { table = table; entry = entry }) left
-    ∙ ap (λ (r : Result (Option RelocatedField) RelocFault). r >>= λ o. fixes_from p section (next + 1) left >>= λ others. Ok (with_fix o others)) read
+    ∙ ap (λ (r : Result (Option RelocatedField) RelocFault). r >>= λ o. fixes_from p section (next + 1) left >>= λ others. Ok (option_to_list o ++ others)) read
     )
     ∙ joined fixes f (fixes_from p section (next + 1) left)
 
@@ -97,7 +98,7 @@ stops p section next table entry fixes e left refused =
     ap (λ (r : Result (List RelocatedField) RelocFault). r >>= λ others. Ok (fixes ++ others))
     (
     fixes_from-first p section next (record { table = table; entry = entry }) left
-    ∙ ap (λ (r : Result (Option RelocatedField) RelocFault). r >>= λ o. fixes_from p section (next + 1) left >>= λ others. Ok (with_fix o others)) refused
+    ∙ ap (λ (r : Result (Option RelocatedField) RelocFault). r >>= λ o. fixes_from p section (next + 1) left >>= λ others. Ok (option_to_list o ++ others)) refused
     )
     )
 
@@ -201,7 +202,7 @@ object_refused p section numbers e is refused = fails e _ (
     ∙ ap (λ (r : Result (Unit {0}) RelocFault). r >>= λ _. fixes_from p section 0 (relocations_in p.file numbers)) (sym refused)
     )
 
-pub object_read : {X : Type 0} (p : Placing) (section : ℕ) (r : Result X RelocFault) (new : FixesSoFar) (all given : Result (List RelocatedField) RelocFault) → all ≡ given → GoesOn p section r new all [] → Holds r new given
+pub object_read : {X : Type 0} (p : Placing) (section : ℕ) (r : Result X RelocFault) (new : FixesSoFar) (all given : Result (List RelocatedField) RelocFault) → all ≡ given → GoesOn p section r new all [] → HoldsAll r new given
 object_read p section (Ok x) new all given is h = sym is ∙ h ∙ ends p section new.next new.fixes.items
 object_read p section (Err e) new all given is h = subst (λ (x : Result (List RelocatedField) RelocFault). Fails e x) is h
 

@@ -1,5 +1,6 @@
 -- What is read of a section lies in its bytes, and its values are numbers of 64 bits.
 use Rattle.std.proofs.Common.{◌≡◌, ℕ, suc, ◌+◌, ◌-◌, ◌%◌, ◌^◌, ◌<◌, ◌≤◌, Bool, true, false, List, [], ◌∷◌, length, Option, Some, None, Result, Ok, Err, refl, sym, ap, ◌∙◌, subst, arith, nat_lt, ltb-false, if◌then◌else◌}
+use Rattle.std.specs.Prelude.{◌++◌, option_to_list}
 use Rattle.std.specs.List.{All}
 use Rattle.std.specs.List.Sorted.{IsPermutation}
 use Rattle.std.proofs.Math.Nat.{mod-lt}
@@ -19,7 +20,7 @@ use Rattle.elf_reloc.specs.declared.target.Target.{Target}
 use Rattle.elf_reloc.specs.declared.target.Target.TheVariants.{Address, Unresolved, Dropped}
 use Rattle.elf_reloc.specs.Patched.{AreInside}
 use Rattle.elf_reloc.specs.Reading as spec
-use Rattle.elf_reloc.specs.Reading.{◌>>=◌, State, Relocation, written, aimed, inside, applied, entry_fix, with_fix, fixes_from, rel_check, relocations_in, object_fixes, all_fixes, section_state}
+use Rattle.elf_reloc.specs.Reading.{◌>>=◌, Relocation, written, aimed, inside, applied, entry_fix, fixes_from, rel_check, relocations_in, object_fixes, section_fixes}
 use Rattle.elf_reloc.specs.Table.{width_of, fits, absolute, relative}
 
 -- a value that is known is a number of 64 bits
@@ -108,7 +109,7 @@ entry_inside : (p : Placing) (section index i k : ℕ) (f : RelocatedField) → 
 unfolding entry_fix
 entry_inside p section index i k f h = applied_inside _ _ _ _ _ _ _ f h
 
-with_fix_inside : (len : ℕ) (o : Option RelocatedField) (fixes : List RelocatedField) → ((f : RelocatedField) → o ≡ Some f → IsInside len f) → All (IsInside len) fixes → All (IsInside len) (with_fix o fixes)
+with_fix_inside : (len : ℕ) (o : Option RelocatedField) (fixes : List RelocatedField) → ((f : RelocatedField) → o ≡ Some f → IsInside len f) → All (IsInside len) fixes → All (IsInside len) (option_to_list o ++ fixes)
 with_fix_inside len None fixes one all = all
 with_fix_inside len (Some f) fixes one all = All-cons (IsInside len) f fixes (one f refl) all
 
@@ -117,9 +118,9 @@ unfolding fixes_from
 fixes_inside p section place [] fixes h =
     subst (λ (fs : List RelocatedField). All (IsInside (length (section_bytes p.file section))) fs) (ok_is [] fixes h) (All-nil (IsInside (length (section_bytes p.file section))))
 fixes_inside p section place (r ∷ left) fixes h =
-    let q = bound (entry_fix p section place r.table r.entry) (λ f. fixes_from p section (place + 1) left >>= λ others. Ok (with_fix f others)) fixes h in
-    let t = bound (fixes_from p section (place + 1) left) (λ others. Ok (with_fix q.0 others)) fixes q.2 in
-    subst (λ (fs : List RelocatedField). All (IsInside (length (section_bytes p.file section))) fs) (ok_is (with_fix q.0 t.0) fixes t.2)
+    let q = bound (entry_fix p section place r.table r.entry) (λ f. fixes_from p section (place + 1) left >>= λ others. Ok (option_to_list f ++ others)) fixes h in
+    let t = bound (fixes_from p section (place + 1) left) (λ others. Ok (option_to_list q.0 ++ others)) fixes q.2 in
+    subst (λ (fs : List RelocatedField). All (IsInside (length (section_bytes p.file section))) fs) (ok_is (option_to_list q.0 ++ t.0) fixes t.2)
     (with_fix_inside (length (section_bytes p.file section)) q.0 t.0
     (λ f found. entry_inside p section place r.table r.entry f (q.1 ∙ ap (λ (o : Option RelocatedField). Ok o) found))
     (fixes_inside p section (place + 1) left t.0 t.1))
@@ -130,19 +131,14 @@ object_inside p section fixes h =
     let q = bound (rel_check p.file (relocation_sections p.file section)) (λ _. fixes_from p section 0 (relocations_in p.file (relocation_sections p.file section))) fixes h in
     fixes_inside p section 0 (relocations_in p.file (relocation_sections p.file section)) fixes q.2
 
-state_is : (fixes : List RelocatedField) (t : State) → all_fixes fixes ≡ Ok t → fixes ≡ t.fixes
-state_is fixes t h = ap (λ (s : State). s.fixes) (ok_is (record { fixes = fixes }) t h)
+fixes_cases : (p : Placing) (section : ℕ) (t : List RelocatedField) (b : Bool) → (if b then object_fixes p section else Ok []) ≡ Ok t → All (IsInside (length (section_bytes p.file section))) t
+fixes_cases p section t true h = object_inside p section t h
+fixes_cases p section t false h =
+    subst (λ (fs : List RelocatedField). All (IsInside (length (section_bytes p.file section))) fs) (ok_is [] t h) (All-nil (IsInside (length (section_bytes p.file section))))
 
-state_cases : (p : Placing) (section : ℕ) (t : State) (b : Bool) → (if b then (object_fixes p section >>= all_fixes) else all_fixes []) ≡ Ok t → All (IsInside (length (section_bytes p.file section))) t.fixes
-state_cases p section t true h =
-    let q = bound (object_fixes p section) all_fixes t h in
-    subst (λ (fs : List RelocatedField). All (IsInside (length (section_bytes p.file section))) fs) (state_is q.0 t q.2) (object_inside p section q.0 q.1)
-state_cases p section t false h =
-    subst (λ (fs : List RelocatedField). All (IsInside (length (section_bytes p.file section))) fs) (state_is [] t h) (All-nil (IsInside (length (section_bytes p.file section))))
-
-pub read_inside : (p : Placing) (section : ℕ) (t : State) → section_state p section ≡ Ok t → All (IsInside (length (section_bytes p.file section))) t.fixes
-unfolding section_state object_fixes
-read_inside p section t h = state_cases p section t (is_rel p.file) h
+pub read_inside : (p : Placing) (section : ℕ) (t : List RelocatedField) → section_fixes p section ≡ Ok t → All (IsInside (length (section_bytes p.file section))) t
+unfolding section_fixes object_fixes
+read_inside p section t h = fixes_cases p section t (is_rel p.file) h
 
 pub from_all : (len : ℕ) (fs : List RelocatedField) → All (IsInside len) fs → AreInside len fs
 from_all len [] all = tt
@@ -152,13 +148,13 @@ pub moved_inside : (len : ℕ) (fs gs : List RelocatedField) → IsPermutation f
 moved_inside len fs gs moved all = from_all len gs (All-permutation (IsInside len) fs gs moved all)
 
 -- the same of what was read and brought into order
-pub reads_inside : (p : Placing) (section : ℕ) (t : State) (fixes : List RelocatedField) → section_state p section ≡ Ok t → IsPermutation t.fixes fixes → AreInside (length (section_bytes p.file section)) fixes
-reads_inside p section t fixes read moved = moved_inside (length (section_bytes p.file section)) t.fixes fixes moved (read_inside p section t read)
+pub reads_inside : (p : Placing) (section : ℕ) (t : List RelocatedField) (fixes : List RelocatedField) → section_fixes p section ≡ Ok t → IsPermutation t fixes → AreInside (length (section_bytes p.file section)) fixes
+reads_inside p section t fixes read moved = moved_inside (length (section_bytes p.file section)) t fixes moved (read_inside p section t read)
 
-pub reads_small : (p : Placing) (section : ℕ) (t : State) (fixes : List RelocatedField) → section_state p section ≡ Ok t → IsPermutation t.fixes fixes → All IsSmall fixes
+pub reads_small : (p : Placing) (section : ℕ) (t : List RelocatedField) (fixes : List RelocatedField) → section_fixes p section ≡ Ok t → IsPermutation t fixes → All IsSmall fixes
 reads_small p section t fixes read moved = λ k d within.
-    (All-permutation (IsInside (length (section_bytes p.file section))) t.fixes fixes moved (read_inside p section t read) k d within).1
+    (All-permutation (IsInside (length (section_bytes p.file section))) t fixes moved (read_inside p section t read) k d within).1
 
-pub reads_hidden : (p : Placing) (section : ℕ) (t : State) (fixes : List RelocatedField) → section_state p section ≡ Ok t → IsPermutation t.fixes fixes → All IsHidden fixes
+pub reads_hidden : (p : Placing) (section : ℕ) (t : List RelocatedField) (fixes : List RelocatedField) → section_fixes p section ≡ Ok t → IsPermutation t fixes → All IsHidden fixes
 reads_hidden p section t fixes read moved = λ k d within.
-    (All-permutation (IsInside (length (section_bytes p.file section))) t.fixes fixes moved (read_inside p section t read) k d within).2
+    (All-permutation (IsInside (length (section_bytes p.file section))) t fixes moved (read_inside p section t read) k d within).2

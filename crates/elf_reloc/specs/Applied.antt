@@ -10,7 +10,7 @@ use Rattle.elf_reloc.specs.declared.fault.RelocFault.TheVariants.{Place}
 use Rattle.elf_reloc.specs.declared.fix.RelocatedField.{RelocatedField}
 use Rattle.elf_reloc.specs.Order.{first_at, overlap_check}
 use Rattle.elf_reloc.specs.Patched.{patched}
-use Rattle.elf_reloc.specs.Reading.{◌>>=◌, section_state}
+use Rattle.elf_reloc.specs.Reading.{◌>>=◌, section_fixes}
 use Rattle.elf_reloc.specs.Table.{width_of}
 
 -- ---- the fields that are written, by rising place
@@ -30,9 +30,11 @@ pub record Slot : Type 0 where
   pub place : ℕ
   pub width : ℕ
 
+-- the pointer field alone, without the number in it
 abbrev pub slot_of : Field → Slot
 slot_of g = record { place = g.place; width = g.width }
 
+-- whether a pointer field that was found has the width that is written
 abbrev pub has_slot_width : RelocatedField → Option Slot → Bool
 has_slot_width f None = false
 has_slot_width f (Some g) = g.width == width_of f.range
@@ -55,6 +57,7 @@ abbrev pub names_dropped_at : List RelocatedField → (place : ℕ) → Bool
 names_dropped_at fixes place = list_any (λ f. (f.place == place) && f.dropped) fixes
 
 -- ---- the section
+-- a section to which its relocations are applied
 pub record Applied : Type 0 where
   -- a copy of the section's bytes in which the low bits of each known value are in the place of its field
   pub bytes : List ℕ
@@ -63,6 +66,7 @@ pub record Applied : Type 0 where
   -- those whose symbol is in a dropped section
   pub dropped : List Slot
 
+-- the section with what is written, by rising place
 abbrev pub applied_of : List RelocatedField → (section : List ℕ) → List Slot → Applied
 applied_of fixes section slots = record {
   bytes = patched fixes section;
@@ -74,11 +78,12 @@ applied_of fixes section slots = record {
 -- then the first by place that is no pointer field
 unfoldable pub applied_to : Placing → (section : ℕ) → List Slot → Result Applied RelocFault
 applied_to p section slots = do
-  state ← section_state p section
-  _ ← overlap_check 0 (by_place state.fixes)
-  _ ← slot_check slots (by_place state.fixes)
-  Ok (applied_of (by_place state.fixes) (section_bytes p.file section) slots)
+  fixes ← section_fixes p section
+  _ ← overlap_check 0 (by_place fixes)
+  _ ← slot_check slots (by_place fixes)
+  Ok (applied_of (by_place fixes) (section_bytes p.file section) slots)
 
 -- ---- Inside the crate
+-- the place of a pointer field
 abbrev pub slot_place : Slot → ℕ
 slot_place g = g.place

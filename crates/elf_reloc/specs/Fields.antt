@@ -14,6 +14,7 @@ abbrev pub bits_by : Option RelocatedField → (width raw : ℕ) → Option ℕ
 bits_by None width raw = Some raw
 bits_by (Some f) width raw = if width_of f.range == width then fix_bits f else Some raw
 
+-- the bits of a field with this place, width and raw number
 abbrev pub bits_in : List RelocatedField → (place width raw : ℕ) → Option ℕ
 bits_in fixes place width raw = bits_by (first_at place_of place fixes) width raw
 
@@ -22,5 +23,6 @@ abbrev pub dropped_by : Option RelocatedField → ℕ → Bool
 dropped_by None width = false
 dropped_by (Some f) width = if width_of f.range == width then f.dropped else false
 
-abbrev pub is_dropped_in : List RelocatedField → (place width : ℕ) → Bool
-is_dropped_in fixes place width = dropped_by (first_at place_of place fixes) width
+-- whether what is written to a field with this place and width is a place in a section that is dropped
+abbrev pub is_dropped_field : List RelocatedField → (place width : ℕ) → Bool
+is_dropped_field fixes place width = dropped_by (first_at place_of place fixes) width

@@ -9,6 +9,7 @@ use Rattle.elf_reloc.specs.declared.fault.RelocFault.TheVariants.{Twice, Place}
 use Rattle.elf_reloc.specs.declared.fix.RelocatedField.{RelocatedField}
 use Rattle.elf_reloc.specs.Table.{width_of}
 
+-- the place of a field that is written
 abbrev pub place_of : RelocatedField → ℕ
 place_of f = f.place
 

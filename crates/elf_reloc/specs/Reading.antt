@@ -1,6 +1,6 @@
 -- The relocations of a section with call frame information, in order of section and entry (ELF64 gABI,
 -- "Relocation"), and the first fault.
-use Rattle.std.specs.Prelude.{◌≡◌, ℕ, zero, suc, ◌+◌, ◌%◌, ◌^◌, ◌==◌, Bool, true, false, List, [], ◌∷◌, ◌++◌, length, Option, Some, None, Result, Ok, Err, nat_lt, if◌then◌else◌}
+use Rattle.std.specs.Prelude.{◌≡◌, ℕ, zero, suc, ◌+◌, ◌%◌, ◌^◌, ◌==◌, Bool, true, false, List, [], ◌∷◌, ◌++◌, length, Option, Some, None, option_to_list, Result, Ok, Err, nat_lt, if◌then◌else◌}
 use Rattle.std.specs.Option.{unwrap_or}
 use Rattle.std.specs.Int.{w64, cast_unsigned}
 use Rattle.sf_model.specs.Answers as answers
@@ -77,44 +77,31 @@ relocations_in file [] = []
 relocations_in file (i ∷ sections) = entries_from i 0 (entry_count file i) ++ relocations_in file sections
 
 -- ---- what they write
-abbrev pub with_fix : Option RelocatedField → List RelocatedField → List RelocatedField
-with_fix None fixes = fixes
-with_fix (Some f) fixes = f ∷ fixes
-
--- the fields that relocations write, of which the first has this number, its place in the list of all; or the first fault
+-- the fields that relocations write, or the first fault; the first relocation has this number, its place in the list of all
 unfoldable pub fixes_from : Placing → (section number : ℕ) → List Relocation → Result (List RelocatedField) RelocFault
 fixes_from p section number [] = Ok []
 fixes_from p section number (r ∷ relocations) =
     entry_fix p section number r.table r.entry
     >>= λ f. fixes_from p section (number + 1) relocations
-    >>= λ fixes. Ok (with_fix f fixes)
+    >>= λ fixes. Ok (option_to_list f ++ fixes)
 
--- what a section's relocations write, in their order
-pub record State : Type 0 where
-  pub fixes : List RelocatedField
-
--- only an object's relocations are applied, and those of its sections that may have none in another form
-unfoldable pub section_state : Placing → ℕ → Result State RelocFault
-section_state p section =
+-- What a section's relocations write, in their order. Only an object's are applied, and a section may have none in another form.
+unfoldable pub section_fixes : Placing → ℕ → Result (List RelocatedField) RelocFault
+section_fixes p section =
     if is_rel p.file
-    then ((rel_check p.file (relocation_sections p.file section)
+    then (rel_check p.file (relocation_sections p.file section)
     >>= λ _. fixes_from p section 0 (relocations_in p.file (relocation_sections p.file section)))
-    >>= λ fixes. Ok (record { fixes = fixes }))
-    else Ok (record { fixes = [] })
+    else Ok []
 
 -- ---- what a call returns
 -- the faults that a reading gives: all but out of memory
-abbrev pub refusal_of : RelocFault → Option RelocFault
-refusal_of NoMemory = None
-refusal_of fault = Some fault
+abbrev pub reloc_refusal : RelocFault → Option RelocFault
+reloc_refusal NoMemory = None
+reloc_refusal fault = Some fault
 
 -- a fault is that of the reading, unless memory ran out
 abbrev pub Fails : {X : Type 0} → RelocFault → Result X RelocFault → Type 0
-Fails fault given = answers.Fails refusal_of fault given
-
--- what a call read so far
-abbrev pub state_of : FixesSoFar → State
-state_of r = record { fixes = r.fixes.items }
+Fails fault given = answers.Fails reloc_refusal fault given
 
 -- all fields, where these relocations are left: those so far, and what these write
 abbrev pub going_on : Placing → (section : ℕ) → FixesSoFar → List Relocation → Result (List RelocatedField) RelocFault
@@ -126,21 +113,18 @@ GoesOn p section (Ok x) new all left = all ≡ going_on p section new left
 GoesOn p section (Err e) new all left = Fails e all
 
 -- a call read all fields
-abbrev pub Holds : {X : Type 0} → Result X RelocFault → FixesSoFar → Result (List RelocatedField) RelocFault → Type 0
-Holds (Ok x) new all = all ≡ Ok new.fixes.items
-Holds (Err e) new all = Fails e all
+abbrev pub HoldsAll : {X : Type 0} → Result X RelocFault → FixesSoFar → Result (List RelocatedField) RelocFault → Type 0
+HoldsAll (Ok x) new all = all ≡ Ok new.fixes.items
+HoldsAll (Err e) new all = Fails e all
 
 -- what a call returned is what is read, unless memory ran out
-abbrev pub Gives : Result FixesSoFar RelocFault → Result State RelocFault → Type 0
-Gives result given = answers.Gives refusal_of state_of result given
+abbrev pub Gives : Result FixesSoFar RelocFault → Result (List RelocatedField) RelocFault → Type 0
+Gives result given = answers.Gives reloc_refusal (λ (r : FixesSoFar). r.fixes.items) result given
 
 -- ---- Inside the crate: names for these
 -- a field that is written: its place, the relocation's number, its form, and its value where that is known
 abbrev pub fix : (place index : ℕ) → range → Option ℕ → Bool → RelocatedField
 fix place index form value dropped = record { place = place; index = index; range = form; value = value; dropped = dropped }
-
-abbrev pub all_fixes : List RelocatedField → Result State RelocFault
-all_fixes fixes = Ok (record { fixes = fixes })
 
 -- a value that must fit its field
 unfoldable pub written : (place index : ℕ) → range → ℕ → Result RelocatedField RelocFault
@@ -153,7 +137,7 @@ written place index form value =
 unfoldable pub has_addends : List ℕ → ℕ → Bool
 has_addends file i = (section_fields file i).sh_type == 4
 
--- those of an object's section, which may have none in another form
+-- what those of an object's section write, which may have none in another form
 unfoldable pub object_fixes : Placing → ℕ → Result (List RelocatedField) RelocFault
 object_fixes p section =
     rel_check p.file (relocation_sections p.file section)

@@ -8,7 +8,7 @@ use Rattle.elf_reloc.specs.declared.table.Effect.TheVariants.{Nothing, Absolute,
 use Rattle.elf_reloc.specs.declared.table.Range.{Range}
 use Rattle.elf_reloc.specs.declared.table.Range.TheVariants.{Any, Unsigned, Signed, Either}
 
--- AMD64: R_X86_64_NONE 0, R_X86_64_64 1, R_X86_64_PC32 2, R_X86_64_32 10, R_X86_64_32S 11, R_X86_64_PC64 24.
+-- What a type of relocation does. AMD64: R_X86_64_NONE 0, R_X86_64_64 1, R_X86_64_PC32 2, R_X86_64_32 10, R_X86_64_32S 11, R_X86_64_PC64 24.
 -- AArch64: R_AARCH64_NONE 0, R_AARCH64_ABS64 257, R_AARCH64_ABS32 258, R_AARCH64_PREL64 260, R_AARCH64_PREL32 261.
 unfoldable pub effect_of : Arch → ℕ → Option Effect
 effect_of Amd64 kind =
@@ -32,14 +32,15 @@ width_of Unsigned = 4
 width_of Signed = 4
 width_of Either = 4
 
--- the sums S + A and S + A - P modulo 2^64
+-- the sum S + A modulo 2^64
 unfoldable pub absolute : (symbol addend : ℕ) → ℕ
 absolute symbol addend = (symbol + addend) % 2 ^ 64
 
+-- the sum S + A - P modulo 2^64
 unfoldable pub relative : (symbol addend place : ℕ) → ℕ
 relative symbol addend place = (symbol + addend + (2 ^ 64 - place)) % 2 ^ 64
 
--- a number below 2^32, one from -2^31 to 2^31-1 as two's complement of 64 bits, or either
+-- whether a value lies in a range: a number below 2^32, one from -2^31 to 2^31-1 as two's complement of 64 bits, or either
 unfoldable pub fits : Range → ℕ → Bool
 fits Any value = true
 fits Unsigned value = nat_lt value (2 ^ 32)

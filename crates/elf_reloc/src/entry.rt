@@ -19,7 +19,7 @@ struct RelocationSite {
     index: u32,
 }
 
-// A field whose bits are not known.
+// Returns a field whose bits are not known.
 fn unknown(site: RelocationSite, range: Range, dropped: bool) -> RelocatedField
     ensures { result ≡ spec.fix site.place site.index range None dropped }
 {
@@ -32,7 +32,7 @@ fn unknown(site: RelocationSite, range: Range, dropped: bool) -> RelocatedField
     }
 }
 
-// A value that must fit its field.
+// Returns a field with a value, which must fit it.
 #[tactic(auto, unfolding(crate::specs::Reading::written))]
 fn written(site: RelocationSite, range: Range, value: u64) -> Result<RelocatedField, RelocFault>
     ensures { result ≡ spec.written site.place site.index range value }
@@ -49,7 +49,7 @@ fn written(site: RelocationSite, range: Range, value: u64) -> Result<RelocatedFi
     })
 }
 
-// A field that holds the symbol's value and the addend.
+// Returns a field that holds the symbol's value and the addend.
 #[tactic(auto, unfolding(crate::specs::Reading::written))]
 fn write_absolute(
     site: RelocationSite,
@@ -66,7 +66,7 @@ fn write_absolute(
     }
 }
 
-// The same minus the field's address.
+// Returns a field that holds the same minus the field's address.
 #[tactic(auto, unfolding(crate::specs::Reading::written))]
 fn write_relative(
     site: RelocationSite,
@@ -84,7 +84,7 @@ fn write_relative(
     }
 }
 
-// A field that must lie in the section's bytes.
+// Returns a field, which must lie in the section's bytes.
 #[tactic(auto, unfolding(crate::specs::Reading::inside))]
 fn inside(
     len: u64,
@@ -101,7 +101,7 @@ fn inside(
     Ok(Some(fix))
 }
 
-// The address of a section that has one.
+// Returns the address of a section that has one.
 #[tactic(auto, unfolding(crate::specs::Reading::section_address))]
 fn section_address(placed: &Placed<'_>, section: u32) -> u64
     ensures { result ≡ spec.section_address (placing placed.now) section }
@@ -109,7 +109,7 @@ fn section_address(placed: &Placed<'_>, section: u32) -> u64
     placed.address(section).unwrap_or(0)
 }
 
-/// What entry `k` of relocation section `i` does, which has this number among all.
+/// Returns what entry `k` of relocation section `i` does. It has this number among all.
 #[tactic(auto, unfolding(crate::specs::Reading::entry_fix))]
 pub fn entry_fix(
     placed: &Placed<'_>,

@@ -12,7 +12,7 @@ use crate::order::find_at;
 use crate::table::{low_bits, width_of};
 use sf_bytes::Field;
 
-/// The low bits of a value that is written, where it is known.
+/// Returns the low bits of a value that is written, where it is known.
 pub fn fix_bits(fix: RelocatedField) -> Option<u64>
     ensures value { result ≡ spec.fix_bits fix }
     ensures fits { IfSome result (λ bits. bits < 256 ^ table.width_of fix.range) }
@@ -23,7 +23,7 @@ pub fn fix_bits(fix: RelocatedField) -> Option<u64>
     }
 }
 
-// Whether a field that is written lies on one of these.
+// Returns whether a field that is written lies on one of these.
 fn lies(fields: &[Field], fix: RelocatedField) -> bool
     requires { AreRising fields.now }
     ensures { result ≡ lies_on fields.now fix }
@@ -34,7 +34,7 @@ fn lies(fields: &[Field], fix: RelocatedField) -> bool
     }
 }
 
-/// Each field that is written lies on one of these.
+/// Checks that each field that is written lies on one of these.
 pub fn check_places(fixes: &[RelocatedField], fields: &[Field]) -> Result<(), RelocFault>
     requires { AreRising fields.now }
     ensures { result ≡ place_check fields.now fixes.now }

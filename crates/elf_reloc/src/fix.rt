@@ -11,8 +11,8 @@ pub struct RelocatedField {
     pub index: u32,
     /// How wide it is, and what it can hold.
     pub range: Range,
-    /// Its value, or none where that can't be known yet.
+    /// Its value, if that is known.
     pub value: Option<u64>,
-    /// Whether the symbol lies in a section that is dropped.
+    /// True if the symbol lies in a section that is dropped.
     pub dropped: bool,
 }

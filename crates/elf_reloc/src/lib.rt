@@ -5,7 +5,7 @@
 //! section and entry, and keeps what they write by place. It lends its values to those who read the
 //! section's pointer fields: the section's bytes are not copied.
 //!
-//! The table of types stands in `specs/Table.antt`, what a symbol stands for in `specs/Target.antt`, the
+//! The table of types is in `specs/Table.antt`, what a symbol names in `specs/Target.antt`, the
 //! relocations in order and their first fault in `specs/Reading.antt`, their order by place in
 //! `specs/Order.antt`, and what fields hold in `specs/Fields.antt`. Only `Relocs::new` allocates. Time
 //! grows with the logarithm of the number of the file's sections, and with the relocations times the logarithm

@@ -19,7 +19,7 @@ pub fn bring_into_order(fixes: &mut Vec<RelocatedField>) -> Result<(), RelocFaul
     Ok(())
 }
 
-/// No field begins before the end of the one before it.
+/// Checks that no field begins before the end of the one before it.
 pub fn check_overlap(fixes: &[RelocatedField]) -> Result<(), RelocFault>
     ensures { result ≡ overlap_check 0 fixes.now }
 {
@@ -39,7 +39,7 @@ pub trait HasPlace {
 
     ghost place_in: { Self → ℕ };
 
-    /// Its place in the section, in bytes.
+    /// Returns the place in the section, in bytes.
     fn place(&self) -> u64
         ensures { result ≡ place_in self.now };
 }
@@ -62,7 +62,7 @@ impl HasPlace for Field {
     }
 }
 
-/// The first at a place.
+/// Returns the first at a place.
 pub fn find_at<P: HasPlace + Copy>(list: &[P], place: u64) -> Option<P>
     requires { IsNonDecreasingBy P.place_in list.now }
     ensures { result ≡ first_at P.place_in place list.now }

@@ -4,9 +4,9 @@ ghost use Rattle.std.specs.Prelude.{◌≡◌, ◌<◌, ◌+◌, ◌^◌, ◌++�
 ghost use Rattle.elf_read.specs.Header.{is_rel};
 ghost use Rattle.elf_read.specs.Sections as fields;
 ghost use Rattle.elf_place.specs.Relocations.{numbers_of};
-ghost use Rattle.elf_place.specs.Views.{file, placing};
+ghost use Rattle.elf_place.specs.Views.{placed_file, placing};
 ghost use Rattle.elf_reloc.specs.Reading as spec;
-ghost use Rattle.elf_reloc.specs.Reading.{Relocation, entries_from, going_on, relocations_in, state_of};
+ghost use Rattle.elf_reloc.specs.Reading.{Relocation, entries_from, going_on, relocations_in};
 
 use crate::entry::entry_fix;
 use crate::fault::RelocFault;
@@ -61,10 +61,10 @@ fn read_entries(
     Ok(())
 }
 
-// How many relocations with addends section `i` has.
+// Returns how many relocations with addends section `i` has.
 #[tactic(auto, unfolding(elf_read::specs::Sections::entry_count))]
 fn entry_count(placed: &Placed<'_>, i: u32) -> u32
-    ensures { result ≡ fields.entry_count (file placed.now) i }
+    ensures { result ≡ fields.entry_count (placed_file placed.now) i }
 {
     (placed.elf().bytes(i).len() as u64 / ENTRY_LEN) as u32
 }
@@ -76,8 +76,8 @@ fn read_sections(
     sections: &[RelocationSection],
     read: &mut FixesSoFar,
 ) -> Result<(), RelocFault>
-    requires { read.old.next + length (relocations_in (file placed.now) (numbers_of sections.now)) < 2 ^ 32 }
-    ensures { spec.GoesOn (placing placed.now) section result read.new (going_on (placing placed.now) section read.old (relocations_in (file placed.now) (numbers_of sections.now))) [] }
+    requires { read.old.next + length (relocations_in (placed_file placed.now) (numbers_of sections.now)) < 2 ^ 32 }
+    ensures { spec.GoesOn (placing placed.now) section result read.new (going_on (placing placed.now) section read.old (relocations_in (placed_file placed.now) (numbers_of sections.now))) [] }
 {
     for it in sections {
         read_entries(
@@ -91,17 +91,17 @@ fn read_sections(
     Ok(())
 }
 
-// Whether section `i` has relocations with addends.
+// Returns whether section `i` has relocations with addends.
 #[tactic(auto, unfolding(crate::specs::Reading::has_addends))]
 fn has_addends(placed: &Placed<'_>, i: u32) -> bool
-    ensures { result ≡ spec.has_addends (file placed.now) i }
+    ensures { result ≡ spec.has_addends (placed_file placed.now) i }
 {
     placed.elf().section(i).kind == SHT_RELA
 }
 
-// Each of these sections has relocations with addends.
+// Checks that each of these sections has relocations with addends.
 fn check_rels(placed: &Placed<'_>, sections: &[RelocationSection]) -> Result<(), RelocFault>
-    ensures { result ≡ spec.rel_check (file placed.now) (numbers_of sections.now) }
+    ensures { result ≡ spec.rel_check (placed_file placed.now) (numbers_of sections.now) }
 {
     for it in sections {
         if !has_addends(placed, it.number) {
@@ -111,20 +111,20 @@ fn check_rels(placed: &Placed<'_>, sections: &[RelocationSection]) -> Result<(),
     Ok(())
 }
 
-// Whether the file is an object, whose relocations are applied.
+// Returns whether the file is an object, whose relocations are applied.
 #[tactic(auto, unfolding(elf_read::specs::Header::kind_of))]
 fn is_object(placed: &Placed<'_>) -> bool
-    ensures { result ≡ is_rel (file placed.now) }
+    ensures { result ≡ is_rel (placed_file placed.now) }
 {
     matches!(placed.elf().kind(), Kind::Rel)
 }
 
 // Reads the relocations of an object's section. A file has room for fewer than 2^32 of them.
 fn read_object(placed: &Placed<'_>, section: u32, read: &mut FixesSoFar) -> Result<(), RelocFault>
-    requires object { IsTrue (is_rel (file placed.now)) }
+    requires object { IsTrue (is_rel (placed_file placed.now)) }
     requires none { read.old.fixes.items ≡ [] }
     requires first { read.old.next ≡ 0 }
-    ensures { spec.Holds result read.new (spec.object_fixes (placing placed.now) section) }
+    ensures { spec.HoldsAll result read.new (spec.object_fixes (placing placed.now) section) }
 {
     let sections = placed.relocation_sections(section);
     check_rels(placed, sections)?;
@@ -133,13 +133,13 @@ fn read_object(placed: &Placed<'_>, section: u32, read: &mut FixesSoFar) -> Resu
 }
 
 /// Reads what a section's relocations write, in their order.
-#[tactic(auto, unfolding(crate::specs::Reading::section_state, crate::specs::Reading::object_fixes))]
+#[tactic(auto, unfolding(crate::specs::Reading::section_fixes, crate::specs::Reading::object_fixes))]
 pub fn read_relocations(
     alloc: Global,
     placed: &Placed<'_>,
     section: u32,
 ) -> Result<FixesSoFar, RelocFault>
-    ensures { spec.Gives result (spec.section_state (placing placed.now) section) }
+    ensures { spec.Gives result (spec.section_fixes (placing placed.now) section) }
 {
     let mut read = FixesSoFar {
         fixes: Vec::new(alloc),

@@ -23,12 +23,12 @@ pub struct Relocs {
 impl Relocs {
     ghost use Rattle.std.specs.Prelude.{◌≡◌, ◌==◌, length, IfOk};
     ghost use Rattle.elf_read.specs.Sections.{section_bytes};
-    ghost use Rattle.elf_place.specs.Views.{file, placing};
+    ghost use Rattle.elf_place.specs.Views.{placed_file, placing};
     ghost use Rattle.elf_reloc.specs.Patched.{AreInside};
     ghost use Rattle.sf_bytes.specs.Rising.{AreRising};
     ghost use Rattle.elf_reloc.specs.Order.{place_check};
-    ghost use Rattle.elf_reloc.specs.Fields.{is_dropped_in};
-    ghost use Rattle.elf_reloc.specs.Reading.{section_state};
+    ghost use Rattle.elf_reloc.specs.Fields.{is_dropped_field};
+    ghost use Rattle.elf_reloc.specs.Reading.{section_fixes};
     ghost use Rattle.elf_reloc.specs.Views.{Relocated, fixes_in};
 
     /// Reads the relocations of a section. Only an object's are applied.
@@ -37,10 +37,10 @@ impl Relocs {
     /// section and entry (its type, whether its field lies in the section, whether its value fits), then two
     /// fields that overlap.
     pub fn new(alloc: Global, placed: &Placed<'_>, section: u32) -> Result<Relocs, RelocFault>
-        // What it answers is what the relocations give, and each fault is the first.
-        ensures exact { Relocated result (section_state (placing placed.now) section) }
+        // The result is what the relocations give, and a fault is the first.
+        ensures exact { Relocated result (section_fixes (placing placed.now) section) }
         // What is written lies in the section.
-        ensures inside { IfOk result (λ r. AreInside (length (section_bytes (file placed.now) section)) (fixes_in r)) }
+        ensures inside { IfOk result (λ r. AreInside (length (section_bytes (placed_file placed.now) section)) (fixes_in r)) }
     {
         let read = read_relocations(alloc, placed, section)?;
         let mut fixes = read.fixes;
@@ -49,14 +49,14 @@ impl Relocs {
         Ok(Relocs { fixes })
     }
 
-    /// Whether nothing is written.
+    /// Returns whether nothing is written.
     pub fn is_empty(&self) -> bool
         ensures { result ≡ (length (fixes_in self.now) == 0) }
     {
         self.fixes.is_empty()
     }
 
-    /// Whether each relocation lies on one of these pointer fields, which rise in place, at its place and
+    /// Checks that each relocation lies on one of these pointer fields, which rise in place, at its place and
     /// with its width. `Place` names the one of the least place that doesn't.
     pub fn check(&self, fields: &[Field]) -> Result<(), RelocFault>
         requires { AreRising fields.now }
@@ -65,9 +65,9 @@ impl Relocs {
         check_places(&self.fixes, fields)
     }
 
-    /// Whether a field's relocation names a symbol in a section that is dropped.
+    /// Returns whether a field's relocation names a symbol in a section that is dropped.
     pub fn dropped(&self, field: Field) -> bool
-        ensures { result ≡ is_dropped_in (fixes_in self.now) field.place field.width }
+        ensures { result ≡ is_dropped_field (fixes_in self.now) field.place field.width }
     {
         match find_at(&self.fixes, field.place) {
             Some(fix) if width_of(fix.range) == field.width => fix.dropped,

@@ -36,7 +36,7 @@ pub enum Effect {
     Relative(Range),
 }
 
-/// What a type of relocation does, or none where it isn't known.
+/// Returns what a type of relocation does, or none if the type isn't known.
 #[tactic(auto, unfolding(crate::specs::Table::effect_of))]
 pub fn effect_of(arch: Arch, kind: u32) -> Option<Effect>
     ensures { result ≡ spec.effect_of arch kind }
@@ -62,7 +62,7 @@ pub fn effect_of(arch: Arch, kind: u32) -> Option<Effect>
     }
 }
 
-/// How many bytes the field has.
+/// Returns how many bytes the field has.
 pub fn width_of(range: Range) -> u8
     ensures { result ≡ spec.width_of range }
 {
@@ -72,7 +72,7 @@ pub fn width_of(range: Range) -> u8
     }
 }
 
-/// The symbol's value and the addend, modulo 2^64.
+/// Returns the symbol's value and the addend, modulo 2^64.
 #[tactic(auto, unfolding(crate::specs::Table::absolute))]
 pub fn absolute(symbol: u64, addend: u64) -> u64
     ensures { result ≡ spec.absolute symbol addend }
@@ -80,7 +80,7 @@ pub fn absolute(symbol: u64, addend: u64) -> u64
     ((u128::from(symbol) + u128::from(addend)) % MODULUS) as u64
 }
 
-/// The symbol's value and the addend minus the field's address, modulo 2^64.
+/// Returns the symbol's value and the addend minus the field's address, modulo 2^64.
 #[tactic(auto, unfolding(crate::specs::Table::relative))]
 pub fn relative(symbol: u64, addend: u64, place: u64) -> u64
     ensures { result ≡ spec.relative symbol addend place }
@@ -89,7 +89,7 @@ pub fn relative(symbol: u64, addend: u64, place: u64) -> u64
     (sum % MODULUS) as u64
 }
 
-/// Whether a value lies in the range.
+/// Returns whether a value lies in the range.
 #[tactic(auto, unfolding(crate::specs::Table::fits))]
 pub fn fits(range: Range, value: u64) -> bool
     ensures { result ≡ spec.fits range value }
@@ -104,7 +104,7 @@ pub fn fits(range: Range, value: u64) -> bool
     }
 }
 
-/// The low bits that the field holds.
+/// Returns the low bits that the field holds.
 #[tactic(auto, unfolding(crate::specs::Table::low_bits))]
 pub fn low_bits(range: Range, value: u64) -> u64
     ensures value { result ≡ spec.low_bits range value }

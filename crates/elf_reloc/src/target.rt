@@ -1,4 +1,4 @@
-//! What a symbol stands for.
+//! The address that a symbol names.
 
 ghost use Rattle.std.specs.Prelude.{◌≡◌};
 ghost use Rattle.elf_place.specs.Views.{placing};
@@ -7,7 +7,7 @@ ghost use Rattle.elf_reloc.specs.Target as spec;
 use elf_place::Placed;
 use elf_read::layout::{SHN_ABS, SHN_LORESERVE, SHN_UNDEF};
 
-/// What a symbol stands for once sections are placed.
+/// What a symbol names once sections are placed.
 #[derive(Clone, Copy, PartialEq, Eq)]
 pub enum Target {
     /// An address.
@@ -18,7 +18,7 @@ pub enum Target {
     Dropped,
 }
 
-// A value in a section of the file.
+// Returns a value in a section of the file.
 #[tactic(auto, unfolding(crate::specs::Target::section_target))]
 fn section_target(placed: &Placed<'_>, section: u32, value: u64) -> Target
     ensures { result ≡ spec.section_target (placing placed.now) section value }
@@ -32,7 +32,7 @@ fn section_target(placed: &Placed<'_>, section: u32, value: u64) -> Target
     }
 }
 
-// A value in the section of this index.
+// Returns a value in the section of this index.
 #[tactic(auto, unfolding(crate::specs::Target::index_target))]
 fn index_target(placed: &Placed<'_>, index: u16, value: u64) -> Target
     ensures { result ≡ spec.index_target (placing placed.now) index value }
@@ -46,7 +46,7 @@ fn index_target(placed: &Placed<'_>, index: u16, value: u64) -> Target
     section_target(placed, u32::from(index), value)
 }
 
-/// What a symbol stands for.
+/// Returns what a symbol names.
 #[tactic(auto, unfolding(crate::specs::Target::target_of, crate::specs::Target::index_target, crate::specs::Target::section_target))]
 pub fn target_of(placed: &Placed<'_>, table: u32, k: u32) -> Target
     ensures { result ≡ spec.target_of (placing placed.now) table k }

@@ -1,12 +1,13 @@
 -- The sections of a file that was placed.
 use Rattle.std.specs.Prelude.{◌⊎◌}
 use Rattle.std.proofs.Common.{◌≡◌, ℕ, ◌+◌, ◌-◌, ◌%◌, ◌^◌, Bool, List, map, Option, Result, Ok, Err, refl, sym, ap, ◌∙◌, inl, inr}
+use Rattle.elf_read.specs.Checking.{numbers_below}
 use Rattle.elf_read.specs.Header.{arch_of}
 use Rattle.elf_read.specs.Sections.{section_bytes, section_count}
 use Rattle.elf_place.specs.declared.fault.PlaceFault.{PlaceFault}
 use Rattle.elf_place.specs.declared.fault.PlaceFault.TheVariants as place_faults
 use Rattle.elf_place.specs.declared.placed.Placed.{Placed}
-use Rattle.elf_place.specs.Dropped.{dropped_sections, values_below}
+use Rattle.elf_place.specs.Dropped.{dropped_sections}
 use Rattle.elf_place.specs.Place.{Fails, address_of, eh_frames_below, place_check, shift_of}
 use Rattle.elf_place.specs.Views as view
 use Rattle.elf_reloc.specs.declared.fault.RelocFault.{RelocFault}
@@ -17,7 +18,7 @@ use Rattle.sf_asm.specs.declared.fault.AsmFault.TheVariants as asm
 use Rattle.sf_model.specs.declared.form.Form.TheVariants.{Elf}
 use Rattle.sf_asm.specs.Fault.{wraps_place}
 use Rattle.sf_asm.specs.Functions.{◌>>=◌, Function, CallFrames, named, object_functions, sections_functions}
-use Rattle.elf_groups.specs.Groups.{gone_groups}
+use Rattle.elf_groups.specs.Groups.{dropped_groups}
 use Rattle.sf_asm.specs.Placing.{IsPlacing}
 use Rattle.sf_asm.specs.Relocated.{relocations_of}
 use Rattle.sf_asm.specs.Sections.{dropped_after, placing_of, placed_section, linked_check}
@@ -30,12 +31,12 @@ same_placing : (f g : List ℕ) (a b : List (Option ℕ)) (d e : List Bool) → 
 same_placing f g a b d e p q r =
     ap (λ (x : List ℕ). placing_by x a d) p ∙ ap (λ (x : List (Option ℕ)). placing_by g x d) q ∙ ap (λ (x : List Bool). placing_by g b x) r
 
-pub is_placing : (seen : List (List ℕ)) (file : List ℕ) (base : ℕ) (p : Placed) (gone : List ℕ) → gone ≡ gone_groups seen file → view.file p ≡ file → view.shift_in p ≡ shift_of file base
-    → view.dropped p ≡ dropped_sections file gone → view.addresses p ≡ values_below (section_count file) (address_of file (dropped_sections file gone) base)
+pub is_placing : (seen : List (List ℕ)) (file : List ℕ) (base : ℕ) (p : Placed) (gone : List ℕ) → gone ≡ dropped_groups seen file → view.placed_file p ≡ file → view.shift_in p ≡ shift_of file base
+    → view.dropped p ≡ dropped_sections file gone → view.addresses p ≡ map (address_of file (dropped_sections file gone) base) (numbers_below (section_count file))
     → view.eh_frames p ≡ eh_frames_below file (dropped_sections file gone) (section_count file) → IsPlacing seen file base p
 is_placing seen file base p gone e is shift dropped addresses sections = record {
-  placing = same_placing (view.file p) file (view.addresses p) _ (view.dropped p) _ is
-      (addresses ∙ ap (λ (g : List ℕ). values_below (section_count file) (address_of file (dropped_sections file g) base)) e)
+  placing = same_placing (view.placed_file p) file (view.addresses p) _ (view.dropped p) _ is
+      (addresses ∙ ap (λ (g : List ℕ). map (address_of file (dropped_sections file g) base) (numbers_below (section_count file))) e)
       (dropped ∙ ap (dropped_sections file) e);
   shift = shift;
   sections = sections ∙ ap (λ (g : List ℕ). eh_frames_below file (dropped_sections file g) (section_count file)) e;

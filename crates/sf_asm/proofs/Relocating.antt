@@ -13,7 +13,7 @@ use Rattle.elf_reloc.specs.declared.relocs.Relocs.{Relocs}
 use Rattle.elf_reloc.specs.Applied.{Slot, slot_check, slot_of}
 use Rattle.elf_reloc.specs.Fields.{bits_in, is_dropped_in}
 use Rattle.elf_reloc.specs.Order.{first_at, place_check}
-use Rattle.elf_reloc.specs.Reading.{State, section_state}
+use Rattle.elf_reloc.specs.Reading.{section_fixes}
 use Rattle.elf_reloc.specs.Views.{Reads, Overlaps, Refuses, Relocated, fixes_in}
 use Rattle.sf_bytes.specs.Steps.{◌>>=◌}
 use Rattle.sf_asm.specs.Relocated.{by_place, without_overlap, relocations_of, pointer_check, pointer_slot}
@@ -22,29 +22,29 @@ use Rattle.elf_reloc.proofs.Applying.{slots_checked}
 use Rattle.elf_reloc.proofs.SortedFixes.{is_by_place}
 
 -- ---- reading
-abbrev from_state : Result State RelocFault → Result (List RelocatedField) RelocFault
-from_state given = given >>= λ state. without_overlap (by_place state.fixes)
+abbrev from_fixes : Result (List RelocatedField) RelocFault → Result (List RelocatedField) RelocFault
+from_fixes given = given >>= λ fixes. without_overlap (by_place fixes)
 
 abbrev from_check : List RelocatedField → Result (Unit {0}) RelocFault → Result (List RelocatedField) RelocFault
 from_check fixes check = check >>= λ _. Ok fixes
 
-read_from : (given : Result State RelocFault) (sorted : List RelocatedField) → Reads given sorted → from_state given ≡ Ok sorted
+read_from : (given : Result (List RelocatedField) RelocFault) (sorted : List RelocatedField) → Reads given sorted → from_fixes given ≡ Ok sorted
 read_from given sorted r =
-    ap from_state r.read
-    ∙ ap without_overlap (is_by_place r.state.fixes sorted r.order)
+    ap from_fixes r.read
+    ∙ ap without_overlap (is_by_place r.fixes sorted r.order)
     ∙ ap (from_check sorted) r.apart
 
-overlap_from : (given : Result State RelocFault) (e : RelocFault) → Overlaps given e → from_state given ≡ Err e
+overlap_from : (given : Result (List RelocatedField) RelocFault) (e : RelocFault) → Overlaps given e → from_fixes given ≡ Err e
 overlap_from given e r =
-    ap from_state r.read
-    ∙ ap without_overlap (is_by_place r.state.fixes r.sorted r.order)
+    ap from_fixes r.read
+    ∙ ap without_overlap (is_by_place r.fixes r.sorted r.order)
     ∙ ap (from_check r.sorted) r.refused
 
-refused_from : (given : Result State RelocFault) (e : RelocFault) → (given ≡ Err e) ⊎ Overlaps given e → (e ≡ faults.NoMemory) ⊎ (from_state given ≡ Err e)
-refused_from given e (inl read) = inr (ap from_state read)
+refused_from : (given : Result (List RelocatedField) RelocFault) (e : RelocFault) → (given ≡ Err e) ⊎ Overlaps given e → (e ≡ faults.NoMemory) ⊎ (from_fixes given ≡ Err e)
+refused_from given e (inl read) = inr (ap from_fixes read)
 refused_from given e (inr overlap) = inr (overlap_from given e overlap)
 
-refuses_from : (given : Result State RelocFault) (e : RelocFault) → Refuses e given → (e ≡ faults.NoMemory) ⊎ (from_state given ≡ Err e)
+refuses_from : (given : Result (List RelocatedField) RelocFault) (e : RelocFault) → Refuses e given → (e ≡ faults.NoMemory) ⊎ (from_fixes given ≡ Err e)
 refuses_from given faults.NoMemory h = inl refl
 refuses_from given (faults.UnknownType index) h = refused_from given (faults.UnknownType index) h
 refuses_from given (faults.Range index) h = refused_from given (faults.Range index) h
@@ -53,13 +53,13 @@ refuses_from given (faults.Twice index) h = refused_from given (faults.Twice ind
 refuses_from given (faults.RelSection section) h = refused_from given (faults.RelSection section) h
 refuses_from given (faults.OutOfSection index) h = refused_from given (faults.OutOfSection index) h
 
-pub relocations_read : (p : Placing) (section : ℕ) (sorted : List RelocatedField) → Reads (section_state p section) sorted → relocations_of p section ≡ Ok sorted
+pub relocations_read : (p : Placing) (section : ℕ) (sorted : List RelocatedField) → Reads (section_fixes p section) sorted → relocations_of p section ≡ Ok sorted
 unfolding relocations_of
-relocations_read p section sorted r = read_from (section_state p section) sorted r
+relocations_read p section sorted r = read_from (section_fixes p section) sorted r
 
-pub relocations_refused : (p : Placing) (section : ℕ) (e : RelocFault) → Refuses e (section_state p section) → (e ≡ faults.NoMemory) ⊎ (relocations_of p section ≡ Err e)
+pub relocations_refused : (p : Placing) (section : ℕ) (e : RelocFault) → Refuses e (section_fixes p section) → (e ≡ faults.NoMemory) ⊎ (relocations_of p section ≡ Err e)
 unfolding relocations_of
-relocations_refused p section e r = refuses_from (section_state p section) e r
+relocations_refused p section e r = refuses_from (section_fixes p section) e r
 
 -- ---- pointer fields
 slots_viewed : (fields : List Field) → map pointer_slot (map pointer_view fields) ≡ map slot_of fields
@@ -104,14 +104,14 @@ unfolding first_at
 nothing_dropped place width = refl
 
 -- ---- what a call answered
-pub relocated_read : (p : Placing) (section : ℕ) (r : Result Relocs RelocFault) → Relocated r (section_state p section) → IfOk r (λ relocs. relocations_of p section ≡ Ok (fixes_in relocs))
+pub relocated_read : (p : Placing) (section : ℕ) (r : Result Relocs RelocFault) → Relocated r (section_fixes p section) → IfOk r (λ relocs. relocations_of p section ≡ Ok (fixes_in relocs))
 relocated_read p section (Ok relocs) h = relocations_read p section (fixes_in relocs) h
 relocated_read p section (Err fault) h = tt
 
-pub relocated_from : (p : Placing) (section : ℕ) (r : Result Relocs RelocFault) → Relocated r (section_state p section) → IfOk r (λ relocs. Reads (section_state p section) (fixes_in relocs))
+pub relocated_from : (p : Placing) (section : ℕ) (r : Result Relocs RelocFault) → Relocated r (section_fixes p section) → IfOk r (λ relocs. Reads (section_fixes p section) (fixes_in relocs))
 relocated_from p section (Ok relocs) h = h
 relocated_from p section (Err fault) h = tt
 
-pub relocated_refused : (p : Placing) (section : ℕ) (r : Result Relocs RelocFault) → Relocated r (section_state p section) → IfErr r (λ fault. (fault ≡ faults.NoMemory) ⊎ (relocations_of p section ≡ Err fault))
+pub relocated_refused : (p : Placing) (section : ℕ) (r : Result Relocs RelocFault) → Relocated r (section_fixes p section) → IfErr r (λ fault. (fault ≡ faults.NoMemory) ⊎ (relocations_of p section ≡ Err fault))
 relocated_refused p section (Ok relocs) h = tt
 relocated_refused p section (Err fault) h = relocations_refused p section fault h

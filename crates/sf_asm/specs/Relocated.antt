@@ -10,7 +10,7 @@ use Rattle.elf_reloc.specs.declared.fix.RelocatedField.{RelocatedField}
 use Rattle.elf_reloc.specs.Applied.{Slot, Applied, applied_of, slot_check}
 use Rattle.elf_reloc.specs.Order.{overlap_check}
 use Rattle.elf_reloc.specs.Patched.{patched}
-use Rattle.elf_reloc.specs.Reading.{section_state}
+use Rattle.elf_reloc.specs.Reading.{section_fixes}
 pub use Rattle.elf_reloc.specs.Applied.{placed_among, by_place, is_unresolved_at, names_dropped_at}
 use Rattle.sf_bytes.specs.Steps.{◌>>=◌}
 
@@ -21,7 +21,7 @@ without_overlap fixes = overlap_check 0 fixes >>= λ _. Ok fixes
 
 -- of a section of a placed file
 unfoldable pub relocations_of : Placing → (section : ℕ) → Result (List RelocatedField) RelocFault
-relocations_of p section = section_state p section >>= λ state. without_overlap (by_place state.fixes)
+relocations_of p section = section_fixes p section >>= λ fixes. without_overlap (by_place fixes)
 
 -- ---- pointer fields
 -- its place and width alone

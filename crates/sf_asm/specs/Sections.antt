@@ -4,10 +4,11 @@ use Rattle.sf_model.specs.declared.machine.Arch.{Arch}
 use Rattle.elf_read.specs.declared.fault.ElfFault.TheVariants as faults
 use Rattle.elf_read.specs.declared.kind.Kind.{Kind}
 use Rattle.elf_read.specs.declared.kind.Kind.TheVariants as kinds
+use Rattle.elf_read.specs.Checking.{numbers_below}
 use Rattle.elf_read.specs.Header.{arch_of, kind_of}
 use Rattle.elf_read.specs.Parsing.{file_check}
 use Rattle.elf_read.specs.Sections.{section_bytes, section_count}
-use Rattle.elf_place.specs.Dropped.{dropped_sections, values_below}
+use Rattle.elf_place.specs.Dropped.{dropped_sections}
 use Rattle.elf_place.specs.Place.{address_of, eh_frames_below, place_check, shift_of}
 use Rattle.elf_place.specs.Views.{Placing}
 use Rattle.elf_reloc.specs.declared.fault.RelocFault.{RelocFault}
@@ -18,7 +19,7 @@ use Rattle.sf_asm.specs.declared.fault.AsmFault.TheVariants as asm
 use Rattle.sf_model.specs.declared.form.Form.{Form}
 use Rattle.sf_model.specs.declared.form.Form.TheVariants.{Elf, Bare}
 use Rattle.sf_asm.specs.declared.input.Input.{Input}
-use Rattle.elf_groups.specs.Groups.{gone_groups, seen_after}
+use Rattle.elf_groups.specs.Groups.{dropped_groups, seen_after}
 use Rattle.sf_asm.specs.Relocated.{relocations_of}
 use Rattle.sf_bytes.specs.Steps.{◌>>=◌, named}
 
@@ -56,13 +57,13 @@ bare_section bytes base = record { number = 0; bytes = bytes; address = base; sh
 -- ---- ELF files, where these signatures of groups were seen before
 -- for each section whether it is dropped with its group
 abbrev pub dropped_after : (seen : List (List ℕ)) → (file : List ℕ) → List Bool
-dropped_after seen file = dropped_sections file (gone_groups seen file)
+dropped_after seen file = dropped_sections file (dropped_groups seen file)
 
 -- all sections at their addresses
 abbrev pub placing_of : (seen : List (List ℕ)) → (file : List ℕ) → (base : ℕ) → Placing
 placing_of seen file base = record {
   file = file;
-  addresses = values_below (section_count file) (address_of file (dropped_after seen file) base);
+  addresses = map (address_of file (dropped_after seen file) base) (numbers_below (section_count file));
   dropped = dropped_after seen file;
 }
 

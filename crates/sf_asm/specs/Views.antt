@@ -8,7 +8,7 @@ use Rattle.elf_reloc.specs.declared.fault.RelocFault.{RelocFault}
 use Rattle.elf_reloc.specs.declared.fix.RelocatedField.{RelocatedField}
 use Rattle.elf_reloc.specs.Fields.{bits_in, is_dropped_in}
 use Rattle.elf_reloc.specs.Order.{place_check}
-use Rattle.elf_reloc.specs.Reading.{section_state}
+use Rattle.elf_reloc.specs.Reading.{section_fixes}
 use Rattle.elf_reloc.specs.Views.{Reads, fixes_in}
 use Rattle.sf_asm.specs.declared.frames.CallFrameSection.{CallFrameSection}
 use Rattle.sf_asm.specs.declared.overlay.Overlay.{Overlay}
@@ -36,7 +36,7 @@ relocations_by (Some p) section = relocations_of p section
 -- the same, with the order in which it was read
 abbrev pub IsReadFrom : Option Placing → (section : ℕ) → List RelocatedField → Type 0
 IsReadFrom None section fixes = fixes ≡ []
-IsReadFrom (Some p) section fixes = Reads (section_state p section) fixes
+IsReadFrom (Some p) section fixes = Reads (section_fixes p section) fixes
 
 -- pointer fields, as they are listed, on which all of it lies
 pub record LieOn (pointers : List PointerField) (fixes : List RelocatedField) : Type 0 where

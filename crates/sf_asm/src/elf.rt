@@ -69,7 +69,7 @@ fn place<'a>(
     ensures seen { OnOk result ((signatures : List (List ℕ)) → HasSeen seen.old signatures → HasSeen seen.new (seen_after signatures (file elf.now))) }
     ensures fault { IfErr result (λ fault. (signatures : List (List ℕ)) → HasSeen seen.old signatures → (fault ≡ asm.NoMemory) ⊎ (named asm.Place (place_check (file elf.now) (dropped_after signatures (file elf.now)) base) ≡ Err fault)) }
 {
-    let gone = seen.gone_groups(alloc, elf)?;
+    let gone = seen.dropped_groups(alloc, elf)?;
     match Placed::new(alloc, elf, base, &gone) {
         Ok(placed) => Ok(placed),
         Err(fault) => Err(place_fault(fault)),
@@ -82,7 +82,7 @@ fn frames_at<'a>(arch: Arch, item: u32, placed: &Placed<'a>, number: u32) -> Cal
     ensures arch { result.arch ≡ arch }
     ensures item { result.item ≡ item }
     ensures number { result.number ≡ number }
-    ensures bytes { result.bytes.now ≡ section_bytes (placed_views.file placed.now) number }
+    ensures bytes { result.bytes.now ≡ section_bytes (placed_views.placed_file placed.now) number }
     ensures address { result.address ≡ (section_address (placed_views.placing placed.now) number + (2 ^ 64 - placed_views.shift_in placed.now)) % 2 ^ 64 }
     ensures shift { result.shift ≡ placed_views.shift_in placed.now }
 {

@@ -5,7 +5,7 @@ ghost use Rattle.std.specs.Option.{option_map};
 ghost use Rattle.elf_place.specs.Views.{placing};
 ghost use Rattle.elf_reloc.specs.declared.fault.RelocFault.TheVariants.{NoMemory};
 ghost use Rattle.elf_reloc.specs.Fields.{bits_in, is_dropped_in};
-ghost use Rattle.elf_reloc.specs.Reading.{section_state};
+ghost use Rattle.elf_reloc.specs.Reading.{section_fixes};
 ghost use Rattle.eh_records.specs.Section.{pointer_fields};
 ghost use Rattle.eh_records.specs.View.{entries};
 ghost use Rattle.elf_reloc.specs.Views.{Reads, fixes_in};
@@ -30,7 +30,7 @@ pub enum Overlay {
 // Reads the relocations of a section.
 fn read_relocs(alloc: Global, placed: &Placed<'_>, section: u32) -> Result<Relocs, RelocFault>
     ensures read { IfOk result (λ relocs. relocations_of (placing placed.now) section ≡ Ok (fixes_in relocs)) }
-    ensures from { IfOk result (λ relocs. Reads (section_state (placing placed.now) section) (fixes_in relocs)) }
+    ensures from { IfOk result (λ relocs. Reads (section_fixes (placing placed.now) section) (fixes_in relocs)) }
     ensures fault { IfErr result (λ fault. (fault ≡ NoMemory) ⊎ (relocations_of (placing placed.now) section ≡ Err fault)) }
 {
     Relocs::new(alloc, placed, section)

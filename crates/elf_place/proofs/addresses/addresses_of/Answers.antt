@@ -2,10 +2,9 @@ use Rattle.std.proofs.Common.{◌≡◌, ◌++◌, ◌∷◌, [], ℕ, List, Opt
 use Rattle.std.proofs.lemmas.Result.{err_from_is_err_and}
 use Rattle.elf_read.specs.Views.{file}
 use Rattle.elf_read.proofs.Each.{each_below-none, each_below-more, each_below-stop}
-use Rattle.elf_place.specs.Dropped.{values_below}
 use Rattle.elf_place.specs.Cursor.{IsCursor}
 use Rattle.elf_place.specs.Place.{address_of, overflow_check}
-use Rattle.elf_place.proofs.Values.{values_below-none, values_below-more}
+use Rattle.elf_place.proofs.Values.{values_below, values_below-none, values_below-more}
 use Rattle.elf_place.proofs.Cursor.{is_cursor-start, is_cursor-next, address_from-is, overflow_from-is, fails}
 use Rattle.elf_place.proofs.addresses.addresses_of.Goals as goal
 

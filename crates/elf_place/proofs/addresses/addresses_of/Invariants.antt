@@ -1,9 +1,9 @@
 use Rattle.std.proofs.Common.{◌≡◌, ◌≤◌, ◌^◌, Ok}
 use Rattle.elf_read.specs.Checking.{each_below}
 use Rattle.elf_read.specs.Views.{file}
-use Rattle.elf_place.specs.Dropped.{values_below}
 use Rattle.elf_place.specs.Cursor.{IsCursor}
 use Rattle.elf_place.specs.Place.{address_of, overflow_check}
+use Rattle.elf_place.proofs.Values.{values_below}
 use Rattle.elf_place.proofs.addresses.addresses_of.Given as goal
 
 abbrev pub invariant-loop-i : goal.invariant-loop-i

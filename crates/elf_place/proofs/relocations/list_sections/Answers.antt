@@ -1,6 +1,6 @@
 use Rattle.std.proofs.Common.{◌≡◌, ◌++◌, ◌∷◌, [], true, false, List, sym, ap, ◌∙◌, rules}
 use Rattle.elf_read.specs.Views.{file}
-use Rattle.elf_place.specs.Relocations.{has_relocations, listed}
+use Rattle.elf_place.specs.Relocations.{has_relocations, as_listed}
 use Rattle.elf_place.specs.declared.relocations.RelocationSection.{RelocationSection}
 use Rattle.elf_place.proofs.WithTarget.{listed_below-none, listed_below-more}
 use Rattle.elf_place.proofs.relocations.list_sections.Goals as goal
@@ -21,7 +21,7 @@ loop-i-preserved c =
           (
           w.in_ok-push.ensures.items
           ∙ ap (λ (s : RelocationSection). c.loop-i.list.items ++ s ∷ []) (search rules)
-          ∙ ap (λ (xs : List RelocationSection). xs ++ listed f i ∷ []) c.loop-i.invariant
+          ∙ ap (λ (xs : List RelocationSection). xs ++ as_listed f i ∷ []) c.loop-i.invariant
           )
       | else-has_relocations w ↦
           let test : has_relocations f i ≡ false = sym c.has_relocations.ensures ∙ w.if-has_relocations.false in

@@ -2,7 +2,7 @@ use Rattle.std.proofs.Common.{◌≡◌, ℕ, List, length, Ok, sym, ap, subst, 
 use Rattle.std.proofs.lemmas.Result.{err_from_is_err_and}
 use Rattle.elf_read.specs.Room.{HasRoom}
 use Rattle.elf_place.specs.Relocations.{numbers_of, relocation_sections}
-use Rattle.elf_place.specs.Views.{file, placing}
+use Rattle.elf_place.specs.Views.{placed_file, placing}
 use Rattle.elf_reloc.specs.Reading.{rel_check, relocations_in}
 use Rattle.elf_reloc.proofs.Few.{few}
 use Rattle.elf_reloc.proofs.GoingOn.{object_is, object_refused, object_read}
@@ -22,7 +22,7 @@ returns c =
 
 pub read_sections-requires : goal.read_sections-requires
 read_sections-requires c =
-    let file = file c.args.placed.now in
+    let file = placed_file c.args.placed.now in
     let sections : numbers_of c.relocation_sections-sections.result.now ≡ relocation_sections file c.args.section = c.relocation_sections-sections.ensures in
     let checked : rel_check file (relocation_sections file c.args.section) ≡ Ok tt = sym (c.in_ok-check_rels.ensures ∙ ap (rel_check file) sections) in
     let count : length (relocations_in file (numbers_of c.relocation_sections-sections.result.now)) ≡ length (relocations_in file (relocation_sections file c.args.section)) = ap (λ (ns : List ℕ). length (relocations_in file ns)) sections in

@@ -1,7 +1,7 @@
 use Rattle.std.proofs.Common.{◌≡◌, ◌+◌, length, drop, ap, ◌∙◌, arith}
 use Rattle.std.proofs.lemmas.Result.{err_from_is_err_and}
 use Rattle.elf_place.specs.Relocations.{numbers_of}
-use Rattle.elf_place.specs.Views.{file, placing}
+use Rattle.elf_place.specs.Views.{placed_file, placing}
 use Rattle.elf_reloc.specs.Reading.{going_on, relocations_in}
 use Rattle.elf_reloc.proofs.GoingOn.{sections-first, sections-length, sections-none, fails_same}
 use Rattle.elf_reloc.proofs.reading.read_sections.Goals as goal
@@ -14,29 +14,29 @@ returns-in_err-read_entries c =
     (
     c.loop-it.invariant.0
     ∙ ap (going_on (placing c.args.placed.now) c.args.section c.loop-it.read)
-    (sections-first (file c.args.placed.now) c.args.sections.now c.loop-it.it-index record { target = 0; number = 0 } c.entry_count.result c.loop-it-test.true c.entry_count.ensures)
+    (sections-first (placed_file c.args.placed.now) c.args.sections.now c.loop-it.it-index record { target = 0; number = 0 } c.entry_count.result c.loop-it-test.true c.entry_count.ensures)
     )
-    (c.in_err-read_entries.ensures.exact (relocations_in (file c.args.placed.now) (numbers_of (drop (c.loop-it.it-index + 1) c.args.sections.now)))))
+    (c.in_err-read_entries.ensures.exact (relocations_in (placed_file c.args.placed.now) (numbers_of (drop (c.loop-it.it-index + 1) c.args.sections.now)))))
 
 left_at : (c : goal.In_ok-read_entries)
-    → length (relocations_in (file c.args.placed.now) (numbers_of (drop c.loop-it.it-index c.args.sections.now))) ≡ c.entry_count.result + length (relocations_in (file c.args.placed.now) (numbers_of (drop (c.loop-it.it-index + 1) c.args.sections.now)))
-left_at c = sections-length (file c.args.placed.now) c.args.sections.now c.loop-it.it-index record { target = 0; number = 0 } c.entry_count.result c.loop-it-test.true c.entry_count.ensures
+    → length (relocations_in (placed_file c.args.placed.now) (numbers_of (drop c.loop-it.it-index c.args.sections.now))) ≡ c.entry_count.result + length (relocations_in (placed_file c.args.placed.now) (numbers_of (drop (c.loop-it.it-index + 1) c.args.sections.now)))
+left_at c = sections-length (placed_file c.args.placed.now) c.args.sections.now c.loop-it.it-index record { target = 0; number = 0 } c.entry_count.result c.loop-it-test.true c.entry_count.ensures
 
 pub read_entries-requires : goal.read_entries-requires
 read_entries-requires c =
-    let here = sections-length (file c.args.placed.now) c.args.sections.now c.loop-it.it-index record { target = 0; number = 0 } c.entry_count.result c.loop-it-test.true c.entry_count.ensures in
+    let here = sections-length (placed_file c.args.placed.now) c.args.sections.now c.loop-it.it-index record { target = 0; number = 0 } c.entry_count.result c.loop-it-test.true c.entry_count.ensures in
     omega (arith, c.loop-it.invariant.1, here)
 
 pub loop-it-preserved : goal.loop-it-preserved
 loop-it-preserved c = (
   c.loop-it.invariant.0
       ∙ ap (going_on (placing c.args.placed.now) c.args.section c.loop-it.read)
-      (sections-first (file c.args.placed.now) c.args.sections.now c.loop-it.it-index record { target = 0; number = 0 } c.entry_count.result c.loop-it-test.true c.entry_count.ensures)
-      ∙ c.in_ok-read_entries.ensures.exact (relocations_in (file c.args.placed.now) (numbers_of (drop (c.loop-it.it-index + 1) c.args.sections.now))),
+      (sections-first (placed_file c.args.placed.now) c.args.sections.now c.loop-it.it-index record { target = 0; number = 0 } c.entry_count.result c.loop-it-test.true c.entry_count.ensures)
+      ∙ c.in_ok-read_entries.ensures.exact (relocations_in (placed_file c.args.placed.now) (numbers_of (drop (c.loop-it.it-index + 1) c.args.sections.now))),
   omega (arith, c.loop-it.invariant.1, c.in_ok-read_entries.ensures.next, left_at c),
 )
 
 pub returns : goal.returns
 returns c =
     c.loop-it.invariant.0
-    ∙ ap (going_on (placing c.args.placed.now) c.args.section c.loop-it.read) (sections-none (file c.args.placed.now) c.args.sections.now c.loop-it.it-index c.loop-it-test.false)
+    ∙ ap (going_on (placing c.args.placed.now) c.args.section c.loop-it.read) (sections-none (placed_file c.args.placed.now) c.args.sections.now c.loop-it.it-index c.loop-it-test.false)

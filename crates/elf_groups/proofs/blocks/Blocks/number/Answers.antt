@@ -2,7 +2,7 @@ use Rattle.std.specs.Option.{option_copied}
 use Rattle.std.proofs.Common.{◌≡◌, ◌∙◌, None, sym, ap, length, vec_len, rules}
 use Rattle.elf_groups.specs.declared.blocks.Blocks.{Blocks}
 use Rattle.elf_groups.specs.declared.blocks.Numbered.{Numbered}
-use Rattle.elf_groups.specs.Blocks.{number_at}
+use Rattle.elf_groups.specs.Blocks.{number_kept}
 use Rattle.elf_groups.proofs.WholeBlocks.{is_one_more, kept_number, one_more}
 use Rattle.elf_groups.proofs.blocks.Blocks.number.Goals as goal
 
@@ -14,7 +14,7 @@ pub returns-clause-blocks : goal.returns-clause-blocks
 returns-clause-blocks c = λ are follows.
     let new : Blocks = record { texts = c.push.new.self; numbers = c.insert.new.self } in
     let text : Numbered = record { rest = c.args.rest; bytes = c.args.text } in
-    let absent : number_at c.args.self.now c.args.rest c.split_at.result.0.now ≡ None = sym c.get.ensures.value ∙ ap option_copied c.in_default.is in
+    let absent : number_kept c.args.self.now c.args.rest c.split_at.result.0.now ≡ None = sym c.get.ensures.value ∙ ap option_copied c.in_default.is in
     let long : vec_len c.push.new.self ≡ length c.push.new.self.items = search rules in
     one_more c.args.self.now new c.args.rest c.args.text.now
     (is_one_more c.args.self.now new text c.split_at.result.0 c.len-number.result c.in_ok-push.ensures.items c.in_ok-insert.ensures.updates (c.len-number.ensures ∙ long) c.split_at.ensures.front absent)

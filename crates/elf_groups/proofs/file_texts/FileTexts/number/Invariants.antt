@@ -1,6 +1,6 @@
 use Rattle.std.proofs.Common.{◌≡◌, ℕ, ◌-◌, ◌*◌, List, drop}
 use Rattle.elf_read.specs.Number.{LiesAt}
-use Rattle.elf_groups.specs.Blocks.{AreBlocks, Grows, Numbers}
+use Rattle.elf_groups.specs.Blocks.{AreBlocks, KeepsNumbers, Numbers}
 use Rattle.elf_groups.specs.Seen.{AreKnown, HasTexts}
 use Rattle.elf_groups.proofs.file_texts.FileTexts.number.Given as goal
 
@@ -9,7 +9,7 @@ abbrev pub invariant-loop-index : goal.invariant-loop-index
 invariant-loop-index l = record {
   number : (file : List ℕ) → AreBlocks l.fn.blocks → HasTexts file l.fn.blocks l.fn.self → LiesAt l.place l.text file → Numbers l.blocks l.number (drop (l.left - l.index * 256) l.text);
   blocks : (file : List ℕ) → AreBlocks l.fn.blocks → HasTexts file l.fn.blocks l.fn.self → LiesAt l.place l.text file → AreBlocks l.blocks;
-  grows : Grows l.fn.blocks l.blocks;
+  grows : KeepsNumbers l.fn.blocks l.blocks;
   known : (file : List ℕ) → AreBlocks l.fn.blocks → HasTexts file l.fn.blocks l.fn.self → LiesAt l.place l.text file → AreKnown file l.blocks l.self;
   ends : l.self.ends ≡ l.fn.self.ends;
 }

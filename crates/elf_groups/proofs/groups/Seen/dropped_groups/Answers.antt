@@ -4,8 +4,8 @@ use Rattle.elf_read.specs.Sections.{section_count}
 use Rattle.elf_groups.specs.Groups.{seen_below}
 use Rattle.elf_read.specs.Views.{file}
 use Rattle.elf_groups.specs.Seen.{HasSeen}
-use Rattle.elf_groups.proofs.groups.Seen.gone_groups.Goals as goal
-use Rattle.elf_groups.proofs.groups.Seen.gone_groups.Goals.{then-branch+in_ok-push, else-branch}
+use Rattle.elf_groups.proofs.groups.Seen.dropped_groups.Goals as goal
+use Rattle.elf_groups.proofs.groups.Seen.dropped_groups.Goals.{then-branch+in_ok-push, else-branch}
 
 pub loop-i-init : goal.loop-i-init
 loop-i-init c = record {

@@ -1,12 +1,12 @@
 use Rattle.std.proofs.Common.{◌≡◌, ℕ, List}
 use Rattle.elf_read.specs.Views.{file}
-use Rattle.elf_groups.specs.Groups.{gone_below, seen_below}
+use Rattle.elf_groups.specs.Groups.{dropped_below, seen_below}
 use Rattle.elf_groups.specs.Seen.{HasSeen, HasTexts}
-use Rattle.elf_groups.proofs.groups.Seen.gone_groups.Given as goal
+use Rattle.elf_groups.proofs.groups.Seen.dropped_groups.Given as goal
 
 abbrev pub invariant-loop-i : goal.invariant-loop-i
 invariant-loop-i l = record {
-  gone : (seen : List (List ℕ)) → HasSeen l.fn.self seen → l.gone.items ≡ gone_below seen (file l.elf) l.i;
+  gone : (seen : List (List ℕ)) → HasSeen l.fn.self seen → l.gone.items ≡ dropped_below seen (file l.elf) l.i;
   seen : (seen : List (List ℕ)) → HasSeen l.fn.self seen → HasSeen l.self (seen_below seen (file l.elf) l.i);
   texts : (seen : List (List ℕ)) → HasSeen l.fn.self seen → HasTexts (file l.elf) l.self.blocks l.texts;
 }
