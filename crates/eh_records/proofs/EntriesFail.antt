@@ -13,11 +13,12 @@ use Rattle.eh_records.specs.declared.fault.RecordFault.{RecordFault}
 use Rattle.eh_records.specs.declared.fault.RecordFault.TheVariants as faults
 use Rattle.eh_records.specs.Augmentation.{AugmentationView, plain_augmentation, letters_at, data_at, form_at, personality_at, letter_at, augmentation_by}
 use Rattle.eh_records.specs.Cie.{Numbers, SharedView, column_at, numbers_at, passed_data, augmentation_at, cie_fields, cie_of}
-use Rattle.eh_records.specs.RawRecord.{RawRecordView, raw_record_at, record_of_length, whole, sized, named_place}
+use Rattle.eh_records.specs.RawRecord.{RawRecordView, raw_record_at, record_of_length, whole, of_length, named_place}
 use Rattle.eh_records.specs.Cutting.{with_common, start}
 use Rattle.eh_records.specs.Fde.{cie_at_place, lsda_in, lsda_at, entry_of, fde_of}
 use Rattle.eh_records.specs.Fields.{StringStands}
-use Rattle.eh_records.specs.Refused.{CutFails, SayingFails, SayingsFail, AugmentationFails, ColumnFails, CieFails, no_version, other_version, no_string, no_code, no_factor, no_column, no_data, FrameDataFails, FdeFails, NamesNone, FrameFails, EntryFails, FailsFrom, IsRefused}
+use Rattle.eh_records.specs.Refused.{CutFails, SayingFails, SayingsFail, AugmentationFails, CieFails, no_version, other_version, no_string, no_code, no_factor, no_column, no_data, FrameDataFails, FdeFails, FrameFails, FailsFrom, IsRefused}
+use Rattle.eh_records.proofs.FailParts.{ColumnFails, NamesNone, EntryFails}
 use Rattle.eh_records.specs.Section.{Cutting, EntryView, Common, Frame, cuts, cuts_of, entry_here, entry_at, place_among, shared_place, with_place, entries_in, entries_of}
 use Rattle.eh_records.specs.Step.{Step, ◌>>=◌, PointerField, number_field, uleb_field, sleb_field, part_field, pointer_field}
 use Rattle.eh_records.proofs.Cuts.{starts_with_record, stops, faults as cut_faults}
@@ -312,11 +313,11 @@ sized_by false false false len at rest e left ta tb tc h = elim (split (record_o
   | inr w ↦ absurd (not_both _ e w.2)
 ]
 
-front_by : (a : Bool) (at : Cursor) (e : RecordFault) → (length at.left == 0) ≡ a → cond {A = Front} a (Ok None) (number_field 4 at >>= λ len. sized at.place len.0 len.1) ≡ failed e → CutFails at e
+front_by : (a : Bool) (at : Cursor) (e : RecordFault) → (length at.left == 0) ≡ a → cond {A = Front} a (Ok None) (number_field 4 at >>= λ len. of_length at.place len.0 len.1) ≡ failed e → CutFails at e
 front_by true at e t h = absurd (not_both _ e h)
 front_by false at e t h = (
   λ none. eqb-false _ _ t (ap length none),
-  elim (split (number_field 4 at) (λ len. sized at.place len.0 len.1) e h) [
+  elim (split (number_field 4 at) (λ len. of_length at.place len.0 len.1) e h) [
     | inl one ↦ inl (number_lacks 4 at e one)
     | inr w ↦
         let word = number_read 4 at w.0 w.1 in

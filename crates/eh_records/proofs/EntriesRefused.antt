@@ -12,11 +12,12 @@ use Rattle.eh_records.specs.declared.fault.RecordFault.{RecordFault}
 use Rattle.eh_records.specs.declared.fault.RecordFault.TheVariants as faults
 use Rattle.eh_records.specs.Augmentation.{Form, AugmentationView, plain_augmentation, letters_at, data_at, letter_at, augmentation_by}
 use Rattle.eh_records.specs.Cie.{Numbers, SharedView, column_at, numbers_at, passed_data, augmentation_at, cie_with_form, cie_fields, cie_of}
-use Rattle.eh_records.specs.RawRecord.{RawRecordView, raw_record_at, record_of_length, whole, sized, named_place}
+use Rattle.eh_records.specs.RawRecord.{RawRecordView, raw_record_at, record_of_length, whole, of_length, named_place}
 use Rattle.eh_records.specs.Cutting.{with_common, start}
 use Rattle.eh_records.specs.Fde.{FdeView, cie_at_place, lsda_in, lsda_at, entry_of, fde_of}
 use Rattle.eh_records.specs.Fields.{with_saying, StringStands}
-use Rattle.eh_records.specs.Refused.{CutFails, SayingFails, SayingsFail, AugmentationFails, ColumnFails, CieFails, no_version, other_version, no_string, no_code, no_factor, no_column, no_data, FrameDataFails, FdeFails, NamesNone, EntryFails, FailsFrom, IsRefused, AreReadAs}
+use Rattle.eh_records.specs.Refused.{CutFails, SayingFails, SayingsFail, AugmentationFails, CieFails, no_version, other_version, no_string, no_code, no_factor, no_column, no_data, FrameDataFails, FdeFails, FailsFrom, IsRefused, AreReadAs}
+use Rattle.eh_records.proofs.FailParts.{ColumnFails, NamesNone, EntryFails}
 use Rattle.eh_records.specs.Section.{Cutting, EntryView, Common, Frame, cuts, entry_here, entry_at, place_among, shared_place, with_place, entries_in, entries_of}
 use Rattle.eh_records.specs.Step.{Step, ◌>>=◌, PointerField, number_field, uleb_field, sleb_field, pointer_field}
 use Rattle.eh_records.proofs.Cuts.{starts_with_record, faults as cut_faults}
@@ -222,7 +223,7 @@ abbrev Front : Type 0
 Front = Result (Option (RawRecordView × Cursor)) RecordFault
 
 abbrev front_by : Bool → Cursor → Front
-front_by empty at = if empty then Ok None else (number_field 4 at >>= λ len. sized at.place len.0 len.1)
+front_by empty at = if empty then Ok None else (number_field 4 at >>= λ len. of_length at.place len.0 len.1)
 
 abbrev sized_by : (a b c : Bool) → (place len : ℕ) → Cursor → Front
 sized_by a b c place len at =
@@ -235,7 +236,7 @@ not_empty : (xs : List ℕ) → xs ≢ [] → (length xs == 0) ≡ false
 not_empty [] some = absurd (some refl)
 not_empty (b ∷ bs) some = ne_eqb (length (b ∷ bs)) 0 (λ h. omega (arith, h))
 
-front_refused : (at : Cursor) (e : RecordFault) → at.left ≢ [] → (number_field 4 at >>= λ len. sized at.place len.0 len.1) ≡ failed e → raw_record_at at ≡ failed e
+front_refused : (at : Cursor) (e : RecordFault) → at.left ≢ [] → (number_field 4 at >>= λ len. of_length at.place len.0 len.1) ≡ failed e → raw_record_at at ≡ failed e
 unfolding raw_record_at
 front_refused at e some h = ap (λ (b : Bool). front_by b at) (not_empty at.left some) ∙ h
 
@@ -254,15 +255,15 @@ length_refused false len at e t four (inr long) is =
     let short : length (drop 4 at.left) < len = omega (arith, left, four, long) in
     ap (λ (r : Step RawRecordView). r >>= λ p. Ok (Some p)) (short_record at.place len (past 4 at) short) ∙ stopped {X = Option (RawRecordView × Cursor)} (sym is)
 
-word_refused : (at : Cursor) (e : RecordFault) → at.left ≢ [] → 4 ≤ length at.left → sized at.place (little_number 4 (take 4 at.left)) (past 4 at) ≡ failed e → raw_record_at at ≡ failed e
-word_refused at e some four h = front_refused at e some (ap (λ (r : Step ℕ). r >>= λ len. sized at.place len.0 len.1) (number_there 4 at four) ∙ h)
+word_refused : (at : Cursor) (e : RecordFault) → at.left ≢ [] → 4 ≤ length at.left → of_length at.place (little_number 4 (take 4 at.left)) (past 4 at) ≡ failed e → raw_record_at at ≡ failed e
+word_refused at e some four h = front_refused at e some (ap (λ (r : Step ℕ). r >>= λ len. of_length at.place len.0 len.1) (number_there 4 at four) ∙ h)
 
 extended_by : (a : Bool) (len : ℕ) (at rest : Cursor) (e : RecordFault) → (len == 0) ≡ a → len ≡ 4294967295 → e ≡ faults.Extended at.place → sized_by a (len == 4294967295) (nat_lt len 4) at.place len rest ≡ failed e
 extended_by true len at rest e t big is = let none : len ≡ 0 = eqb-true _ _ t in absurd (omega (arith, none, big))
 extended_by false len at rest e t big is = ap (λ (b : Bool). sized_by false b (nat_lt len 4) at.place len rest) (eq-eqb _ _ big) ∙ stopped {X = Option (RawRecordView × Cursor)} (sym is)
 
 cut_refused : (at : Cursor) (e : RecordFault) → CutFails at e → raw_record_at at ≡ failed e
-cut_refused at e (some, inl h) = front_refused at e some (ap (λ (r : Step ℕ). r >>= λ len. sized at.place len.0 len.1) (number_refused 4 at e h))
+cut_refused at e (some, inl h) = front_refused at e some (ap (λ (r : Step ℕ). r >>= λ len. of_length at.place len.0 len.1) (number_refused 4 at e h))
 cut_refused at e (some, inr (four, inl h)) =
     let len = little_number 4 (take 4 at.left) in
     word_refused at e some four (extended_by (len == 0) len at (past 4 at) e refl h.0 h.1)

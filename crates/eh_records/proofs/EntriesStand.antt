@@ -11,7 +11,7 @@ use Rattle.eh_records.specs.declared.fault.RecordFault.{RecordFault}
 use Rattle.eh_records.specs.declared.fault.RecordFault.TheVariants.{CiePointer}
 use Rattle.eh_records.specs.Cie.{SharedView, cie_of}
 use Rattle.eh_records.specs.RawRecord.{RawRecordView, raw_record_at, named_place}
-use Rattle.eh_records.specs.Cutting.{Stands, AreCut, AreRead, with_common, start}
+use Rattle.eh_records.specs.Cutting.{Stands, AreCut, AreEntriesOf, with_common, start}
 use Rattle.eh_records.specs.Fde.{FdeView, cie_in, cie_at_place, entry_of, fde_of}
 use Rattle.eh_records.specs.Fields.{CieStands, FdeStands, FrameStands, EntryStands}
 use Rattle.eh_records.specs.Section.{EntryView, Common, Frame, entry_here, entry_at, place_among, shared_place, with_place}
@@ -178,7 +178,7 @@ known_by arch section before at p after (Common c) is stands known s = All-push 
 known_by arch section before at p after (Frame f) is stands known s = known
 
 pub give : (arch : Arch) (section cies : List ℕ) (before : List SharedView) (ps : List RawRecordView) (es : List EntryView) (at : Cursor) → cies ≡ map place_of before → All (IsAgain arch section) before → IsAt section at → AreCut ps at
-    → AreRead arch before ps es → AreGiven arch section cies ps es
+    → AreEntriesOf arch before ps es → AreGiven arch section cies ps es
 give arch section cies before [] [] at is known here cut read = tt
 give arch section cies before [] (e ∷ es) at is known here cut read = absurd read
 give arch section cies before (p ∷ ps) [] at is known here cut read = absurd read
@@ -189,7 +189,7 @@ give arch section cies before (p ∷ ps) (e ∷ es) at is known here (after, sta
 )
 
 pub stand : (arch : Arch) (section cies : List ℕ) (before : List SharedView) (ps : List RawRecordView) (es : List EntryView) (at : Cursor) → cies ≡ map place_of before → All (IsAgain arch section) before → IsAt section at → AreCut ps at
-    → AreGiven arch section cies ps es → AreRead arch before ps es
+    → AreGiven arch section cies ps es → AreEntriesOf arch before ps es
 stand arch section cies before [] [] at is known here cut given = tt
 stand arch section cies before [] (e ∷ es) at is known here cut given = absurd given
 stand arch section cies before (p ∷ ps) [] at is known here cut given = absurd given

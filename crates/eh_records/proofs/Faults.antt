@@ -5,7 +5,7 @@ use Rattle.sf_bytes.specs.Cursor.{Cursor}
 use Rattle.sf_model.specs.declared.machine.Arch.{Arch}
 use Rattle.eh_records.specs.declared.fault.RecordFault.{RecordFault}
 use Rattle.eh_records.specs.RawRecord.{RawRecordView, raw_record_at}
-use Rattle.eh_records.specs.Section.{EntryView, Cutting, are_read, cuts, cuts_of, entry_here, entry_at, shared_place, with_place, entries_in, entries_of, entry_before, entries_before, fault_in}
+use Rattle.eh_records.specs.Section.{EntryView, Cutting, are_read, cuts, cuts_of, entry_here, entry_at, shared_place, with_place, entries_in, entries_of, entry_before, entries_before, fault_if_any}
 use Rattle.eh_records.specs.Step.{◌>>=◌}
 use Rattle.eh_records.proofs.RawRecords.{through, ok_same}
 use Rattle.eh_records.proofs.Cuts.{starts_with_record, stops, faults}
@@ -23,38 +23,38 @@ cons : (arch : Arch) (section cies : List ℕ) (p : RawRecordView) (others : Lis
 unfolding entries_in
 cons arch section cies p others = refl
 
-same_fault : (e : EntryView) (r : Result (List EntryView) RecordFault) → fault_in (r >>= λ es. Ok (e ∷ es)) ≡ fault_in r
+same_fault : (e : EntryView) (r : Result (List EntryView) RecordFault) → fault_if_any (r >>= λ es. Ok (e ∷ es)) ≡ fault_if_any r
 same_fault e (Ok es) = refl
 same_fault e (Err x) = refl
 
 -- the fault of what is left, from a cursor on
 abbrev pub fault_from : Arch → List ℕ → List ℕ → Cursor → Option RecordFault
-fault_from arch section cies at = fault_in (entries_in arch section cies (cuts at))
+fault_from arch section cies at = fault_if_any (entries_in arch section cies (cuts at))
 
 pub goes_on : (arch : Arch) (section cies : List ℕ) (at : Cursor) (p : RawRecordView) (after : Cursor) (e : EntryView) → raw_record_at at ≡ Ok (Some (p, after)) → entry_at arch section cies p ≡ Ok e
     → fault_from arch section cies at ≡ fault_from arch section (with_place cies p) after
 goes_on arch section cies at p after e h he =
     let rest = entries_in arch section (with_place cies p) (cuts after) in
-    ap (λ (xs : List Cutting). fault_in (entries_in arch section cies xs)) (starts_with_record at p after h)
-    ∙ ap fault_in (cons arch section cies p (cuts after))
-    ∙ ap (λ (r : Result EntryView RecordFault). fault_in (r >>= λ x. rest >>= λ es. Ok (x ∷ es))) he
+    ap (λ (xs : List Cutting). fault_if_any (entries_in arch section cies xs)) (starts_with_record at p after h)
+    ∙ ap fault_if_any (cons arch section cies p (cuts after))
+    ∙ ap (λ (r : Result EntryView RecordFault). fault_if_any (r >>= λ x. rest >>= λ es. Ok (x ∷ es))) he
     ∙ same_fault e rest
 
 pub refused : (arch : Arch) (section cies : List ℕ) (at : Cursor) (p : RawRecordView) (after : Cursor) (x : RecordFault) → raw_record_at at ≡ Ok (Some (p, after)) → entry_at arch section cies p ≡ Err x
     → fault_from arch section cies at ≡ Some x
 refused arch section cies at p after x h he =
     let rest = entries_in arch section (with_place cies p) (cuts after) in
-    ap (λ (xs : List Cutting). fault_in (entries_in arch section cies xs)) (starts_with_record at p after h)
-    ∙ ap fault_in (cons arch section cies p (cuts after))
-    ∙ ap (λ (r : Result EntryView RecordFault). fault_in (r >>= λ y. rest >>= λ es. Ok (y ∷ es))) he
+    ap (λ (xs : List Cutting). fault_if_any (entries_in arch section cies xs)) (starts_with_record at p after h)
+    ∙ ap fault_if_any (cons arch section cies p (cuts after))
+    ∙ ap (λ (r : Result EntryView RecordFault). fault_if_any (r >>= λ y. rest >>= λ es. Ok (y ∷ es))) he
 
 pub uncut : (arch : Arch) (section cies : List ℕ) (at : Cursor) (x : RecordFault) → raw_record_at at ≡ Err x → fault_from arch section cies at ≡ Some x
-uncut arch section cies at x h = ap (λ (xs : List Cutting). fault_in (entries_in arch section cies xs)) (faults at x h) ∙ ap fault_in (err arch section cies x [])
+uncut arch section cies at x h = ap (λ (xs : List Cutting). fault_if_any (entries_in arch section cies xs)) (faults at x h) ∙ ap fault_if_any (err arch section cies x [])
 
 pub ended : (arch : Arch) (section cies : List ℕ) (at : Cursor) → raw_record_at at ≡ Ok None → fault_from arch section cies at ≡ None
-ended arch section cies at h = ap (λ (xs : List Cutting). fault_in (entries_in arch section cies xs)) (stops at h) ∙ ap fault_in (nil arch section cies)
+ended arch section cies at h = ap (λ (xs : List Cutting). fault_if_any (entries_in arch section cies xs)) (stops at h) ∙ ap fault_if_any (nil arch section cies)
 
-pub begins : (arch : Arch) (section : List ℕ) → fault_from arch section [] (record { place = 0; left = section }) ≡ fault_in (entries_of arch section)
+pub begins : (arch : Arch) (section : List ℕ) → fault_from arch section [] (record { place = 0; left = section }) ≡ fault_if_any (entries_of arch section)
 unfolding entries_of
 begins arch section = refl
 
@@ -75,22 +75,22 @@ all arch section cies (Ok p ∷ others) es h =
     ∙ ap (λ (ys : List EntryView). first.first ∷ ys) others_are
     ∙ ok_same (first.first ∷ rest.first) es rest.rest
 
-ok_all : (arch : Arch) (section cies : List ℕ) (xs : List Cutting) (r : Result (List EntryView) RecordFault) → entries_in arch section cies xs ≡ r → fault_in r ≡ None → r ≡ Ok (entries_before arch section xs)
+ok_all : (arch : Arch) (section cies : List ℕ) (xs : List Cutting) (r : Result (List EntryView) RecordFault) → entries_in arch section cies xs ≡ r → fault_if_any r ≡ None → r ≡ Ok (entries_before arch section xs)
 ok_all arch section cies xs (Ok es) h none = ap (λ (ys : List EntryView). Ok ys) (sym (all arch section cies xs es h))
 ok_all arch section cies xs (Err x) h none = absurd cc
 
-pub whole : (arch : Arch) (section : List ℕ) → fault_in (entries_of arch section) ≡ None → entries_of arch section ≡ Ok (entries_before arch section (cuts_of section))
+pub whole : (arch : Arch) (section : List ℕ) → fault_if_any (entries_of arch section) ≡ None → entries_of arch section ≡ Ok (entries_before arch section (cuts_of section))
 unfolding entries_of
 whole arch section none = ok_all arch section [] (cuts_of section) (entries_in arch section [] (cuts_of section)) refl none
 
-pub fault_is : (r : Result (List EntryView) RecordFault) (x : RecordFault) → fault_in r ≡ Some x → r ≡ Err x
+pub fault_is : (r : Result (List EntryView) RecordFault) (x : RecordFault) → fault_if_any r ≡ Some x → r ≡ Err x
 fault_is (Ok es) x h = absurd cc
 fault_is (Err y) x h = cc
 
-pub is_whole : (arch : Arch) (section : List ℕ) → fault_in (entries_of arch section) ≡ None → is_ok (entries_of arch section) ≡ true
+pub is_whole : (arch : Arch) (section : List ℕ) → fault_if_any (entries_of arch section) ≡ None → is_ok (entries_of arch section) ≡ true
 is_whole arch section none = ap is_ok (whole arch section none)
 
-none_if_ok : (r : Result (List EntryView) RecordFault) → is_ok r ≡ true → fault_in r ≡ None
+none_if_ok : (r : Result (List EntryView) RecordFault) → is_ok r ≡ true → fault_if_any r ≡ None
 none_if_ok (Ok es) h = refl
 none_if_ok (Err x) h = absurd cc
 

@@ -20,7 +20,7 @@ use Rattle.eh_records.specs.declared.fault.RecordFault.{RecordFault}
 use Rattle.eh_records.specs.declared.fault.RecordFault.TheVariants as faults
 use Rattle.eh_records.specs.Augmentation.{Form, are_letters, letters_in, letters_at, data_at, form_of, form_at, personality_field, personality_in, personality_at, pointer_fault}
 use Rattle.eh_records.specs.Refused.{Lacks, LacksText, GoOn, IsLebFault, LacksUleb, LacksSleb, DataFails, StringFails, FormFails, PassedFails, PersonalityFails}
-use Rattle.eh_records.specs.Step.{Step, ◌>>=◌, fault_of, placed, PointerField, number_field, uleb_field, sleb_field, text_field, part_field, pointer_field}
+use Rattle.eh_records.specs.Step.{Step, ◌>>=◌, fault_of, at_field, PointerField, number_field, uleb_field, sleb_field, text_field, part_field, pointer_field}
 use Rattle.eh_records.proofs.FieldsStand.{number_stands, uleb_stands, uleb_read, sleb_read, text_stands, text_read}
 
 -- ---- a step that failed
@@ -42,7 +42,7 @@ split {A = A} {B = B} (Err d) f e h = inl (ap (λ (x : RecordFault). failed {X =
 
 -- ---- fields of fixed width
 lacks_by : {X : Type 0} (b : Bool) (n : ℕ) (at : Cursor) (x : X × Cursor) (e : RecordFault) → nat_lt (length at.left) n ≡ b
-    → placed at.place (cond {A = Read X} b (Err (bytes.Short at.place)) (Ok x)) ≡ failed e → Lacks n at e
+    → at_field at.place (cond {A = Read X} b (Err (bytes.Short at.place)) (Ok x)) ≡ failed e → Lacks n at e
 lacks_by {X = X} true n at x e t h = (ltb-true _ _ t, sym (fault_same {X = X × Cursor} (faults.Short at.place) e h))
 lacks_by false n at x e t h = absurd (not_both x e h)
 
@@ -62,7 +62,7 @@ pointer_lacks width at e h = elim (split (number_field width at) _ e h) [
 ]
 
 -- ---- texts
-text_short : (o : Option ℕ) (at : Cursor) (e : RecordFault) → placed at.place (text_upto o at) ≡ failed e → e ≡ faults.Short at.place
+text_short : (o : Option ℕ) (at : Cursor) (e : RecordFault) → at_field at.place (text_upto o at) ≡ failed e → e ≡ faults.Short at.place
 text_short None at e h = sym (fault_same {X = List ℕ × Cursor} (faults.Short at.place) e h)
 text_short (Some n) at e h = absurd (not_both _ e h)
 
@@ -119,7 +119,7 @@ leb_named at f e (inl h) named = inl (h.0, h.1, sym named ∙ ap (fault_of at.pl
 leb_named at f e (inr h) named = let long : 10 ≤ length at.left = h.0 in inr (λ g. long, sym named ∙ ap (fault_of at.place) h.1)
 
 -- a run that is there, whose number doesn't fit
-too_large : {X : Type 0} (b : Bool) (at : Cursor) (n : ℕ) (x : X × Cursor) (e : RecordFault) → Begins 10 n at.left → placed at.place (cond {A = Read X} b (Ok x) (Err (bytes.Leb at.place))) ≡ failed e → IsLebFault at e
+too_large : {X : Type 0} (b : Bool) (at : Cursor) (n : ℕ) (x : X × Cursor) (e : RecordFault) → Begins 10 n at.left → at_field at.place (cond {A = Read X} b (Ok x) (Err (bytes.Leb at.place))) ≡ failed e → IsLebFault at e
 too_large true at n x e begins h = absurd (not_both x e h)
 too_large {X = X} false at n x e begins h = inr (λ g. absurd (no_run (take n at.left) begins.ends (go_take n at.left g)), sym (fault_same {X = X × Cursor} (faults.Leb at.place) e h))
 
@@ -128,13 +128,13 @@ and_then (Ok n) f = f n
 and_then (Err d) f = Err d
 
 leb_fails : {X : Type 0} (at : Cursor) (r : Result ℕ ByteFault) (fits : ℕ → Bool) (value : ℕ → X) (e : RecordFault) → run_length at.place 10 at.left ≡ r
-    → placed at.place (and_then r (λ n. cond {A = Read X} (fits n) (Ok (value n, past n at)) (Err (bytes.Leb at.place)))) ≡ failed e → IsLebFault at e
+    → at_field at.place (and_then r (λ n. cond {A = Read X} (fits n) (Ok (value n, past n at)) (Err (bytes.Leb at.place)))) ≡ failed e → IsLebFault at e
 leb_fails at (Ok n) fits value e run h = too_large (fits n) at n (value n, past n at) e (run_takes at.place 10 at.left n run) h
 leb_fails {X = X} at (Err f) fits value e run h = leb_named at f e (run_fails at.place 10 at.left f run) (fault_same {X = X × Cursor} (fault_of at.place f) e h)
 
 bind_is : {X : Type 0} (at : Cursor) (r : Result ℕ ByteFault) (fits : ℕ → Bool) (value : ℕ → X) (e : RecordFault) (step : Read X) → run_length at.place 10 at.left ≡ r
-    → step ≡ and_then r (λ n. cond {A = Read X} (fits n) (Ok (value n, past n at)) (Err (bytes.Leb at.place))) → placed at.place step ≡ failed e → IsLebFault at e
-bind_is {X = X} at r fits value e step run is h = leb_fails at r fits value e run (sym (ap (λ (s : Read X). placed at.place s) is) ∙ h)
+    → step ≡ and_then r (λ n. cond {A = Read X} (fits n) (Ok (value n, past n at)) (Err (bytes.Leb at.place))) → at_field at.place step ≡ failed e → IsLebFault at e
+bind_is {X = X} at r fits value e step run is h = leb_fails at r fits value e run (sym (ap (λ (s : Read X). at_field at.place s) is) ∙ h)
 
 uleb_step : (at : Cursor) (r : Result ℕ ByteFault) → run_length at.place 10 at.left ≡ r → uleb_at at ≡ and_then r (λ n. cond {A = Read ℕ} (nat_lt (leb_sum (take n at.left)) (2 ^ 64)) (Ok (leb_sum (take n at.left), past n at)) (Err (bytes.Leb at.place)))
 unfolding uleb_at
@@ -236,15 +236,15 @@ no_field after = Ok (None, after)
 
 part_failed : (width : ℕ) (at : Cursor) (f : ByteFault) → part_at width at ≡ Err f → part_field width at ≡ failed (fault_of at.place f)
 unfolding part_field
-part_failed width at f read = ap (λ (r : Read Cursor). placed at.place r) read
+part_failed width at f read = ap (λ (r : Read Cursor). at_field at.place r) read
 
 uleb_failed : (at : Cursor) (f : ByteFault) → uleb_at at ≡ Err f → uleb_field at ≡ failed (fault_of at.place f)
 unfolding uleb_field
-uleb_failed at f read = ap (λ (r : Read ℕ). placed at.place r) read
+uleb_failed at f read = ap (λ (r : Read ℕ). at_field at.place r) read
 
 sleb_failed : (at : Cursor) (f : ByteFault) → sleb_at at ≡ Err f → sleb_field at ≡ failed (fault_of at.place f)
 unfolding sleb_field
-sleb_failed at f read = ap (λ (r : Read ℤ). placed at.place r) read
+sleb_failed at f read = ap (λ (r : Read ℤ). at_field at.place r) read
 
 -- the pointer is a field
 field_by : (width encoding_place encoding : ℕ) (at : Cursor) (r : Read Cursor) (e : RecordFault) → pointer_width encoding ≡ Some width → part_at width at ≡ r → personality_in encoding_place encoding at (passed r) ≡ personality_failed e → Lacks width at e

@@ -1,4 +1,5 @@
 -- Consecutive pointer fields between two places.
+use Rattle.std.specs.Prelude.{option_to_list}
 use Rattle.std.proofs.Common.{◌≡◌, ℕ, zero, suc, ◌+◌, ◌<◌, ◌≤◌, List, [], ◌∷◌, ◌++◌, length, map, None, get_or, sym, subst, ◌∙◌, arith}
 use Rattle.std.proofs.lemmas.List.{map-id}
 use Rattle.sf_bytes.specs.declared.field.Field.{Field}
@@ -6,7 +7,6 @@ use Rattle.sf_bytes.specs.Cursor.{Cursor}
 use Rattle.sf_bytes.specs.Rising.{AreRising, AreApart}
 use Rattle.sf_bytes.proofs.Inside.{end_of}
 use Rattle.eh_records.specs.Raw.{StandApart}
-use Rattle.eh_records.specs.Section.{optional}
 use Rattle.eh_records.specs.Step.{PointerField, pointer_view}
 use Rattle.eh_records.proofs.Parts.{IsPart, number_there, number_wider}
 
@@ -59,7 +59,7 @@ lie_wider inner outer fs p h = record {
   raw = raw_wider inner outer inner.place fs p (omega arith) h.between h.raw;
 }
 
-pub none_lies : (at : Cursor) → LieIn at (optional None)
+pub none_lies : (at : Cursor) → LieIn at (option_to_list None)
 none_lies at = record { between = omega arith; raw = tt }
 
 -- ---- apart, as they are defined and as they are returned

@@ -1,6 +1,6 @@
 -- The pointer fields of a record lie in it, consecutive, with their numbers.
 use Rattle.std.proofs.Common.{◌≡◌, ℕ, ◌+◌, ◌-◌, ◌≤◌, Bool, true, false, cond, List, [], ◌∷◌, Option, Some, None, Result, Ok, Err, refl, subst, arith}
-use Rattle.std.specs.Prelude.{◌==◌, ◌||◌}
+use Rattle.std.specs.Prelude.{◌==◌, ◌||◌, option_to_list}
 use Rattle.sf_bytes.specs.Cursor.{Cursor}
 use Rattle.sf_bytes.proofs.Inside.{end_of}
 use Rattle.sf_model.specs.declared.machine.Arch.{Arch}
@@ -14,7 +14,7 @@ use Rattle.eh_records.specs.Augmentation.{AugmentationView, Form, plain_augmenta
 use Rattle.eh_records.specs.Cie.{SharedView, column_at, numbers_at, Numbers, passed_data, augmentation_at, cie_fields, cie_of}
 use Rattle.eh_records.specs.RawRecord.{RawRecordView, named_place}
 use Rattle.eh_records.specs.Fde.{FdeView, read_there, lsda_of_width, lsda_in, lsda_at, entry_of, cie_at_place, fde_of}
-use Rattle.eh_records.specs.Section.{EntryView, Common, Frame, optional, entry_fields, entry_here}
+use Rattle.eh_records.specs.Section.{EntryView, Common, Frame, entry_fields, entry_here}
 use Rattle.eh_records.specs.Step.{Step, ◌>>=◌, PointerField, number_field, uleb_field, sleb_field, text_field, pointer_field}
 use Rattle.eh_records.proofs.FieldsInOrder.{LieIn, lower, higher, lie_wider, none_lies}
 use Rattle.eh_records.proofs.RawRecords.{through, ok_same}
@@ -35,35 +35,35 @@ then_lie at x fs p h =
       raw = (pointer_raw at x p, (lie_wider x.1 at fs p.on h).raw);
     }
 
-pointer_lies : (at : Cursor) (x : PointerField × Cursor) → Pointed at x → LieIn at (optional (Some x.0))
+pointer_lies : (at : Cursor) (x : PointerField × Cursor) → Pointed at x → LieIn at (option_to_list (Some x.0))
 pointer_lies at x p = then_lie at x [] p (none_lies x.1)
 
 -- ---- frame description entries
 
-there_lies : (at : Cursor) (s : Step PointerField) → ((x : PointerField × Cursor) → s ≡ Ok x → LieIn at (optional (Some x.0))) → LieIn at (optional (read_there s))
+there_lies : (at : Cursor) (s : Step PointerField) → ((x : PointerField × Cursor) → s ≡ Ok x → LieIn at (option_to_list (Some x.0))) → LieIn at (option_to_list (read_there s))
 there_lies at (Ok x) h = h x refl
 there_lies at (Err e) h = none_lies at
 
-width_lies : (o : Option ℕ) (at : Cursor) → LieIn at (optional (lsda_of_width o at))
+width_lies : (o : Option ℕ) (at : Cursor) → LieIn at (option_to_list (lsda_of_width o at))
 width_lies None at = none_lies at
 width_lies (Some width) at = there_lies at (pointer_field width at) (λ x e. pointer_lies at x (pointer_on width at x e))
 
-data_lies : (o : Option ℕ) (at : Cursor) → LieIn at (optional (lsda_in o at))
+data_lies : (o : Option ℕ) (at : Cursor) → LieIn at (option_to_list (lsda_in o at))
 data_lies None at = none_lies at
 data_lies (Some encoding) at = width_lies (pointer_width encoding) at
 
-lsda_if : (shared : SharedView) (at : Cursor) (x : Option PointerField × Cursor) (b : Bool) → cond b (data_at at >>= λ inner. Ok (lsda_in shared.lsda inner.0, inner.1)) (Ok (None, at)) ≡ Ok x → LieIn at (optional x.0)
+lsda_if : (shared : SharedView) (at : Cursor) (x : Option PointerField × Cursor) (b : Bool) → cond b (data_at at >>= λ inner. Ok (lsda_in shared.lsda inner.0, inner.1)) (Ok (None, at)) ≡ Ok x → LieIn at (option_to_list x.0)
 lsda_if shared at x true e =
     let t = through (data_at at) _ x e in
     let d = data_on at t.first t.read in
-    subst (λ (y : Option PointerField × Cursor). LieIn at (optional y.0)) (ok_same _ x t.rest) (lie_wider t.first.0 at (optional (lsda_in shared.lsda t.first.0)) d.0 (data_lies shared.lsda t.first.0))
-lsda_if shared at x false e = subst (λ (y : Option PointerField × Cursor). LieIn at (optional y.0)) (ok_same _ x e) (none_lies at)
+    subst (λ (y : Option PointerField × Cursor). LieIn at (option_to_list y.0)) (ok_same _ x t.rest) (lie_wider t.first.0 at (option_to_list (lsda_in shared.lsda t.first.0)) d.0 (data_lies shared.lsda t.first.0))
+lsda_if shared at x false e = subst (λ (y : Option PointerField × Cursor). LieIn at (option_to_list y.0)) (ok_same _ x e) (none_lies at)
 
-lsda_lies : (shared : SharedView) (at : Cursor) (x : Option PointerField × Cursor) → lsda_at shared at ≡ Ok x → LieIn at (optional x.0)
+lsda_lies : (shared : SharedView) (at : Cursor) (x : Option PointerField × Cursor) → lsda_at shared at ≡ Ok x → LieIn at (option_to_list x.0)
 unfolding lsda_at
 lsda_lies shared at x e = lsda_if shared at x shared.augmented e
 
-frame_lies : (shared : SharedView) (p : RawRecordView) (f : FdeView) → entry_of shared p ≡ Ok f → LieIn p.body (f.begin ∷ f.range ∷ optional f.lsda)
+frame_lies : (shared : SharedView) (p : RawRecordView) (f : FdeView) → entry_of shared p ≡ Ok f → LieIn p.body (f.begin ∷ f.range ∷ option_to_list f.lsda)
 unfolding entry_of
 frame_lies shared p f e =
     let t = through (pointer_field shared.width p.body) _ f e in
@@ -72,17 +72,17 @@ frame_lies shared p f e =
     let begin = pointer_on shared.width p.body t.first t.read in
     let range = pointer_on shared.width t.first.1 u.first u.read in
     let lsda = lsda_lies shared u.first.1 v.first v.read in
-    let all = then_lie p.body t.first (u.first.0 ∷ optional v.first.0) begin (then_lie t.first.1 u.first (optional v.first.0) range lsda) in
-    subst (λ (g : FdeView). LieIn p.body (g.begin ∷ g.range ∷ optional g.lsda)) (ok_same _ f v.rest) all
+    let all = then_lie p.body t.first (u.first.0 ∷ option_to_list v.first.0) begin (then_lie t.first.1 u.first (option_to_list v.first.0) range lsda) in
+    subst (λ (g : FdeView). LieIn p.body (g.begin ∷ g.range ∷ option_to_list g.lsda)) (ok_same _ f v.rest) all
 
 -- ---- common information entries
 
 -- what is left lies in a cursor's bytes, and so does the personality pointer
 abbrev AugmentationIn : Cursor → AugmentationView × Cursor → Type 0
-AugmentationIn outer x = IsPart x.1 outer × LieIn outer (optional x.0.personality)
+AugmentationIn outer x = IsPart x.1 outer × LieIn outer (option_to_list x.0.personality)
 
 abbrev FieldIn : Cursor → Option PointerField × Cursor → Type 0
-FieldIn outer x = IsPart x.1 outer × LieIn outer (optional x.0)
+FieldIn outer x = IsPart x.1 outer × LieIn outer (option_to_list x.0)
 
 form_in : (place encoding : ℕ) (o : Option ℕ) (at after : Cursor) (x : Form × Cursor) → IsPart after at → form_of place encoding o after ≡ Ok x → IsPart x.1 at
 form_in place encoding (Some width) at after x i e = subst (λ (y : Form × Cursor). IsPart y.1 at) (ok_same _ x e) i
@@ -106,7 +106,7 @@ passed_lies place encoding at (Ok after) x h e = field_lies (pointer_width encod
 passed_lies place encoding at (Err f) x h e = absurd cc
 
 wider : (inner outer : Cursor) (x : Option PointerField × Cursor) → IsPart inner outer → FieldIn inner x → FieldIn outer x
-wider inner outer x i h = (part-part x.1 inner outer h.0 i, lie_wider inner outer (optional x.0) i h.1)
+wider inner outer x i h = (part-part x.1 inner outer h.0 i, lie_wider inner outer (option_to_list x.0) i h.1)
 
 personality_if : (place : ℕ) (at : Cursor) (encoding : ℕ × Cursor) (x : Option PointerField × Cursor) (omitted : Bool) → IsPart encoding.1 at
     → cond omitted (Ok (None, encoding.1)) (personality_in place encoding.0 encoding.1 (pointer_passed encoding.0 encoding.1)) ≡ Ok x → FieldIn at x
@@ -120,7 +120,7 @@ personality_lies at x e =
     let t = through (number_field 1 at) _ x e in
     personality_if at.place at t.first x (t.first.0 == 255) (number_on 1 at t.first t.read) t.rest
 
-letter_if : (outer at : Cursor) (augmentation : AugmentationView) (x : AugmentationView × Cursor) (r p l s : Bool) → IsPart at outer → LieIn outer (optional augmentation.personality)
+letter_if : (outer at : Cursor) (augmentation : AugmentationView) (x : AugmentationView × Cursor) (r p l s : Bool) → IsPart at outer → LieIn outer (option_to_list augmentation.personality)
     → cond {A = Step AugmentationView} r (form_at at >>= λ f. Ok (record augmentation { pointers = f.0 }, f.1))
     (cond p (personality_at at >>= λ f. Ok (record augmentation { personality = f.0 }, f.1))
     (cond l (number_field 1 at >>= λ e. Ok (record augmentation { lsda = Some e.0 }, e.1))
@@ -138,25 +138,25 @@ letter_if outer at augmentation x false false true s i h e =
 letter_if outer at augmentation x false false false true i h e = subst (AugmentationIn outer) (ok_same _ x e) (i, h)
 letter_if outer at augmentation x false false false false i h e = subst (AugmentationIn outer) (ok_same _ x e) (i, h)
 
-letter_lies : (b : ℕ) (outer at : Cursor) (augmentation : AugmentationView) (x : AugmentationView × Cursor) → IsPart at outer → LieIn outer (optional augmentation.personality) → letter_at b augmentation at ≡ Ok x → AugmentationIn outer x
+letter_lies : (b : ℕ) (outer at : Cursor) (augmentation : AugmentationView) (x : AugmentationView × Cursor) → IsPart at outer → LieIn outer (option_to_list augmentation.personality) → letter_at b augmentation at ≡ Ok x → AugmentationIn outer x
 unfolding letter_at
 letter_lies b outer at augmentation x i h e = letter_if outer at augmentation x (b == 82) (b == 80) (b == 76) (b == 83) i h e
 
-letters_lie : (letters : List ℕ) (outer at : Cursor) (augmentation s : AugmentationView) → IsPart at outer → LieIn outer (optional augmentation.personality) → augmentation_by letters augmentation at ≡ Ok s → LieIn outer (optional s.personality)
+letters_lie : (letters : List ℕ) (outer at : Cursor) (augmentation s : AugmentationView) → IsPart at outer → LieIn outer (option_to_list augmentation.personality) → augmentation_by letters augmentation at ≡ Ok s → LieIn outer (option_to_list s.personality)
 unfolding augmentation_by
-letters_lie [] outer at augmentation s i h e = subst (λ (y : AugmentationView). LieIn outer (optional y.personality)) (ok_same augmentation s e) h
+letters_lie [] outer at augmentation s i h e = subst (λ (y : AugmentationView). LieIn outer (option_to_list y.personality)) (ok_same augmentation s e) h
 letters_lie (b ∷ bs) outer at augmentation s i h e =
     let t = through (letter_at b augmentation at) _ s e in
     let one = letter_lies b outer at augmentation t.first i h t.read in
     letters_lie bs outer t.first.1 t.first.0 s one.0 one.1 t.rest
 
-passed_augmentation : (outer after : Cursor) (r : Result AugmentationView RecordFault) (x : AugmentationView × Cursor) → ((s : AugmentationView) → r ≡ Ok s → LieIn outer (optional s.personality)) → passed_data after r ≡ Ok x → LieIn outer (optional x.0.personality)
-passed_augmentation outer after (Ok augmentation) x h e = subst (λ (y : AugmentationView × Cursor). LieIn outer (optional y.0.personality)) (ok_same _ x e) (h augmentation refl)
+passed_augmentation : (outer after : Cursor) (r : Result AugmentationView RecordFault) (x : AugmentationView × Cursor) → ((s : AugmentationView) → r ≡ Ok s → LieIn outer (option_to_list s.personality)) → passed_data after r ≡ Ok x → LieIn outer (option_to_list x.0.personality)
+passed_augmentation outer after (Ok augmentation) x h e = subst (λ (y : AugmentationView × Cursor). LieIn outer (option_to_list y.0.personality)) (ok_same _ x e) (h augmentation refl)
 passed_augmentation outer after (Err f) x h e = absurd cc
 
-augmentation_lies : (letters : Option (List ℕ)) (at : Cursor) (x : AugmentationView × Cursor) → augmentation_at letters at ≡ Ok x → LieIn at (optional x.0.personality)
+augmentation_lies : (letters : Option (List ℕ)) (at : Cursor) (x : AugmentationView × Cursor) → augmentation_at letters at ≡ Ok x → LieIn at (option_to_list x.0.personality)
 unfolding augmentation_at
-augmentation_lies None at x e = subst (λ (y : AugmentationView × Cursor). LieIn at (optional y.0.personality)) (ok_same _ x e) (none_lies at)
+augmentation_lies None at x e = subst (λ (y : AugmentationView × Cursor). LieIn at (option_to_list y.0.personality)) (ok_same _ x e) (none_lies at)
 augmentation_lies (Some letters) at x e =
     let t = through (data_at at) _ x e in
     let i : IsPart t.first.0 at = (data_on at t.first t.read).0 in
@@ -195,22 +195,22 @@ letters_on arch at x e =
     let t = through (text_field at) _ x e in
     letters_of arch at.place t.first.0 at t.first.1 x (text_on at t.first t.read) t.rest
 
-fields_lie : (arch : Arch) (place version : ℕ) (at : Cursor) (shared : SharedView) → cie_fields arch place version at ≡ Ok shared → LieIn at (optional shared.cie.personality)
+fields_lie : (arch : Arch) (place version : ℕ) (at : Cursor) (shared : SharedView) → cie_fields arch place version at ≡ Ok shared → LieIn at (option_to_list shared.cie.personality)
 unfolding cie_fields
 fields_lie arch place version at shared e =
     let t = through (letters_at arch at) _ shared e in
     let u = through (numbers_at version t.first.1) _ shared t.rest in
     let v = through (augmentation_at t.first.0 u.first.1) _ shared u.rest in
     let i = part-part u.first.1 t.first.1 at (numbers_on version t.first.1 u.first u.read) (letters_on arch at t.first t.read) in
-    let lies = lie_wider u.first.1 at (optional v.first.0.personality) i (augmentation_lies t.first.0 u.first.1 v.first v.read) in
-    subst (λ (s : SharedView). LieIn at (optional s.cie.personality)) (ok_same _ shared v.rest) lies
+    let lies = lie_wider u.first.1 at (option_to_list v.first.0.personality) i (augmentation_lies t.first.0 u.first.1 v.first v.read) in
+    subst (λ (s : SharedView). LieIn at (option_to_list s.cie.personality)) (ok_same _ shared v.rest) lies
 
 version_lies : (arch : Arch) (p : RawRecordView) (version : ℕ × Cursor) (shared : SharedView) (b : Bool) → IsPart version.1 p.body
-    → cond b (cie_fields arch p.place version.0 version.1) (Err (CieVersion p.body.place)) ≡ Ok shared → LieIn p.body (optional shared.cie.personality)
-version_lies arch p version shared true i e = lie_wider version.1 p.body (optional shared.cie.personality) i (fields_lie arch p.place version.0 version.1 shared e)
+    → cond b (cie_fields arch p.place version.0 version.1) (Err (CieVersion p.body.place)) ≡ Ok shared → LieIn p.body (option_to_list shared.cie.personality)
+version_lies arch p version shared true i e = lie_wider version.1 p.body (option_to_list shared.cie.personality) i (fields_lie arch p.place version.0 version.1 shared e)
 version_lies arch p version shared false i e = absurd cc
 
-common_lies : (arch : Arch) (p : RawRecordView) (shared : SharedView) → cie_of arch p ≡ Ok shared → LieIn p.body (optional shared.cie.personality)
+common_lies : (arch : Arch) (p : RawRecordView) (shared : SharedView) → cie_of arch p ≡ Ok shared → LieIn p.body (option_to_list shared.cie.personality)
 unfolding cie_of
 common_lies arch p shared e =
     let t = through (number_field 1 p.body) _ shared e in
@@ -218,7 +218,7 @@ common_lies arch p shared e =
 
 -- ---- entries of both kinds
 
-named_lies : (arch : Arch) (section : List ℕ) (p : RawRecordView) (f : FdeView) → fde_of arch section p ≡ Ok f → LieIn p.body (f.begin ∷ f.range ∷ optional f.lsda)
+named_lies : (arch : Arch) (section : List ℕ) (p : RawRecordView) (f : FdeView) → fde_of arch section p ≡ Ok f → LieIn p.body (f.begin ∷ f.range ∷ option_to_list f.lsda)
 unfolding fde_of
 named_lies arch section p f e =
     let t = through (named_place p) _ f e in

@@ -16,7 +16,7 @@ use Rattle.eh_records.specs.declared.fault.RecordFault.{RecordFault}
 use Rattle.eh_records.specs.declared.fault.RecordFault.TheVariants as faults
 use Rattle.eh_records.specs.Augmentation.{Form, are_letters, letters_in, letters_at, data_at, form_of, form_at, personality_in, personality_at, pointer_fault}
 use Rattle.eh_records.specs.Refused.{Lacks, LacksText, IsLebFault, LacksUleb, LacksSleb, DataFails, StringFails, FormFails, PassedFails, PersonalityFails}
-use Rattle.eh_records.specs.Step.{Step, ◌>>=◌, fault_of, placed, PointerField, number_field, uleb_field, sleb_field, text_field, part_field, pointer_field}
+use Rattle.eh_records.specs.Step.{Step, ◌>>=◌, fault_of, at_field, PointerField, number_field, uleb_field, sleb_field, text_field, part_field, pointer_field}
 use Rattle.eh_records.proofs.FieldsFail.{failed, fault_same, went, text_lacks, uleb_lacks, sleb_lacks}
 use Rattle.eh_records.proofs.FieldsStand.{number_read, uleb_stands, uleb_read, sleb_stands, text_stands, text_read}
 
@@ -25,7 +25,7 @@ stopped {X = X} h = ap (λ (x : RecordFault). failed {X = X} x) h
 
 -- ---- fields of fixed width
 lacking_by : {X : Type 0} (b : Bool) (n : ℕ) (at : Cursor) (x : X × Cursor) (e : RecordFault) → nat_lt (length at.left) n ≡ b → Lacks n at e
-    → placed at.place (cond {A = Read X} b (Err (bytes.Short at.place)) (Ok x)) ≡ failed e
+    → at_field at.place (cond {A = Read X} b (Err (bytes.Short at.place)) (Ok x)) ≡ failed e
 lacking_by {X = X} true n at x e t h = stopped {X = X × Cursor} (sym h.1)
 lacking_by false n at x e t h = let not : n ≤ length at.left = ltb-false _ _ t in let short : length at.left < n = h.0 in absurd (omega (arith, not, short))
 
@@ -110,7 +110,7 @@ named_alike encoding_place place (bytes.Short p) = refl
 named_alike encoding_place place (bytes.Leb p) = refl
 
 -- a read that stops, as the front of a pointer
-passed_by : {X : Type 0} (r : Read X) (encoding_place encoding : ℕ) (at : Cursor) (e : RecordFault) → placed at.place r ≡ failed e → personality_in encoding_place encoding at (passed r) ≡ failed e
+passed_by : {X : Type 0} (r : Read X) (encoding_place encoding : ℕ) (at : Cursor) (e : RecordFault) → at_field at.place r ≡ failed e → personality_in encoding_place encoding at (passed r) ≡ failed e
 passed_by {X = X} (Ok x) encoding_place encoding at e h = absurd (clash x e h)
   where
     clash : (x : X × Cursor) (e : RecordFault) → went x ≡ failed e → ⊥

@@ -19,21 +19,22 @@ use Rattle.eh_pointer.specs.Pointer.{pointer_width, usable_width, format_of, abo
 use Rattle.eh_pointer.specs.Skipping.{passed, passed_width, pointer_passed}
 use Rattle.eh_records.specs.declared.fault.RecordFault.{RecordFault}
 use Rattle.eh_records.specs.declared.fault.RecordFault.TheVariants as faults
-use Rattle.eh_records.specs.Augmentation.{Form, AugmentationView, plain_augmentation, has_key_letter, is_letter, is_new, are_letters, letters_in, letters_at, data_at, form_of, form_at, personality_field, personality_in, personality_at, letter_at, augmentation_by}
+use Rattle.eh_records.specs.Augmentation.{Form, AugmentationView, plain_augmentation, has_key_letter, is_letter, are_letters, letters_in, letters_at, data_at, form_of, form_at, personality_field, personality_in, personality_at, letter_at, augmentation_by}
+use Rattle.eh_records.proofs.LetterLoop.{is_new}
 use Rattle.eh_records.specs.Cie.{CieView, Numbers, SharedView, cie_with_form, column_at, numbers_at, passed_data, augmentation_at, cie_fields, cie_of}
 use Rattle.eh_records.specs.RawRecord.{RawRecordView}
 use Rattle.eh_records.specs.Fde.{FdeView, read_there, lsda_of_width, lsda_in, lsda_at, entry_of}
 use Rattle.eh_records.specs.Fields.{PointerStands, PassedStands, StringStands, Saying, pointers, personality, lsda, signal, key_b, PersonalityStands, SayingStands, SayingsStand, with_saying, with_sayings, DataStands, AugmentationStands, ColumnStands, CieStands, LsdaStands, FrameData, FrameDataStands, FdeStands}
-use Rattle.eh_records.specs.Step.{Step, ◌>>=◌, placed, PointerField, number_field, uleb_field, sleb_field, text_field, part_field, pointer_field}
+use Rattle.eh_records.specs.Step.{Step, ◌>>=◌, at_field, PointerField, number_field, uleb_field, sleb_field, text_field, part_field, pointer_field}
 use Rattle.eh_records.proofs.RawRecords.{through, ok_same}
 
 -- ---- one field
-placed_is : {X : Type 0} (place : ℕ) (r : Read X) (x : X × Cursor) → placed place r ≡ Ok x → r ≡ Ok x
+placed_is : {X : Type 0} (place : ℕ) (r : Read X) (x : X × Cursor) → at_field place r ≡ Ok x → r ≡ Ok x
 placed_is place (Ok y) x e = let same : y ≡ x = ok_same y x e in ap (λ z. Ok z) same
 placed_is place (Err f) x e = absurd cc
 
-placed_ok : {X : Type 0} (place : ℕ) (r : Read X) (x : X × Cursor) → r ≡ Ok x → placed place r ≡ Ok x
-placed_ok {X = X} place r x e = ap (λ (s : Read X). placed place s) e
+placed_ok : {X : Type 0} (place : ℕ) (r : Read X) (x : X × Cursor) → r ≡ Ok x → at_field place r ≡ Ok x
+placed_ok {X = X} place r x e = ap (λ (s : Read X). at_field place s) e
 
 pub number_stands : (n : ℕ) (at : Cursor) (x : ℕ × Cursor) → number_field n at ≡ Ok x → Stands (Number n) x.0 at x.1
 unfolding number_field
@@ -524,7 +525,7 @@ abbrev without_lsda : Cursor → Step (Option PointerField)
 without_lsda at = Ok (None, at)
 
 short_by : (b : Bool) (width : ℕ) (at : Cursor) (v : ℕ) → nat_lt (length at.left) width ≡ b → length at.left < width
-    → read_there (placed at.place (cond {A = Read ℕ} b (Err (byte_faults.Short at.place)) (Ok (v, past width at))) >>= with_raw width at) ≡ None
+    → read_there (at_field at.place (cond {A = Read ℕ} b (Err (byte_faults.Short at.place)) (Ok (v, past width at))) >>= with_raw width at) ≡ None
 short_by true width at v t h = refl
 short_by false width at v t h = let not : width ≤ length at.left = ltb-false _ _ t in absurd (omega (arith, not, h))
 
@@ -534,7 +535,7 @@ unfolding pointer_field number_field number_at
 short_none width at h = short_by (nat_lt (length at.left) width) width at (little_number width (take width at.left)) refl h
 
 failed_by : (b : Bool) (width : ℕ) (at : Cursor) (v : ℕ) (x : RecordFault) → nat_lt (length at.left) width ≡ b
-    → (placed at.place (cond {A = Read ℕ} b (Err (byte_faults.Short at.place)) (Ok (v, past width at))) >>= with_raw width at) ≡ Err x → length at.left < width
+    → (at_field at.place (cond {A = Read ℕ} b (Err (byte_faults.Short at.place)) (Ok (v, past width at))) >>= with_raw width at) ≡ Err x → length at.left < width
 failed_by true width at v x t e = ltb-true _ _ t
 failed_by false width at v x t e = absurd cc
 

@@ -94,15 +94,15 @@ passes_frame arch section at p after f read h frame is =
     let e : entry_here arch section p ≡ Ok (Frame f) = here_frame arch section p frame ∙ ap (λ (r : Result FdeView RecordFault). r >>= λ g. Ok (Frame g)) is in
     (ap frames (begins arch section at p after (Ok (Frame f)) h e), read_behind arch section at p after (Frame f) read h e)
 
-left_behind : (arch : Arch) (section : List ℕ) (at : Cursor) (p : RawRecordView) (after : Cursor) (r : Result FdeView RecordFault) → are_read arch section (cuts at) ≡ true → raw_record_at at ≡ Ok (Some (p, after))
+left_after : (arch : Arch) (section : List ℕ) (at : Cursor) (p : RawRecordView) (after : Cursor) (r : Result FdeView RecordFault) → are_read arch section (cuts at) ≡ true → raw_record_at at ≡ Ok (Some (p, after))
     → (p.id == 0) ≡ false → fde_of arch section p ≡ r → is_ok r ≡ true → are_read arch section (cuts after) ≡ true
-left_behind arch section at p after (Ok f) read h frame is ok = (passes_frame arch section at p after f read h frame is).1
-left_behind arch section at p after (Err x) read h frame is ok = absurd (cc)
+left_after arch section at p after (Ok f) read h frame is ok = (passes_frame arch section at p after f read h frame is).1
+left_after arch section at p after (Err x) read h frame is ok = absurd (cc)
 
 -- and the records after it are read
 pub behind_frame : (arch : Arch) (section : List ℕ) (at : Cursor) (p : RawRecordView) (after : Cursor) → are_read arch section (cuts at) ≡ true → raw_record_at at ≡ Ok (Some (p, after)) → (p.id == 0) ≡ false
     → are_read arch section (cuts after) ≡ true
-behind_frame arch section at p after read h frame = left_behind arch section at p after (fde_of arch section p) read h frame refl (frame_read arch section at p after read h frame)
+behind_frame arch section at p after read h frame = left_after arch section at p after (fde_of arch section p) read h frame refl (frame_read arch section at p after read h frame)
 
 cut_given : (arch : Arch) (section : List ℕ) (at : Cursor) (r : Result (Option (RawRecordView × Cursor)) RecordFault) → are_read arch section (cuts at) ≡ true → raw_record_at at ≡ r → is_ok r ≡ true
 cut_given arch section at (Ok x) read h = refl

@@ -10,7 +10,8 @@ use Rattle.sf_model.specs.declared.machine.Key.{Key}
 use Rattle.sf_model.specs.declared.machine.Key.TheVariants.{A, B}
 use Rattle.eh_records.specs.declared.fault.RecordFault.{RecordFault}
 use Rattle.eh_records.specs.declared.fault.RecordFault.TheVariants.{Augmentation, CieVersion}
-use Rattle.eh_records.specs.Augmentation.{AugmentationView, plain_augmentation, is_letter, is_new, are_letters, letters_in, letters_at, form_at, personality_at, letter_at, augmentation_by, data_at}
+use Rattle.eh_records.specs.Augmentation.{AugmentationView, plain_augmentation, is_letter, are_letters, letters_in, letters_at, form_at, personality_at, letter_at, augmentation_by, data_at}
+use Rattle.eh_records.proofs.LetterLoop.{is_new}
 use Rattle.eh_records.specs.Cie.{SharedView, CieView, cie_fields, cie_of, augmentation_at, passed_data, numbers_at}
 use Rattle.eh_records.specs.RawRecord.{RawRecordView, raw_record_at, named_place}
 use Rattle.eh_records.specs.Fde.{FdeView, fde_of, entry_of, cie_in, cie_at_place, lsda_at}

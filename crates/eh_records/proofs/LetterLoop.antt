@@ -1,9 +1,14 @@
 -- Testing letters in their order.
-use Rattle.std.proofs.Common.{◌≡◌, ℕ, suc, ◌+◌, ◌<◌, ◌≤◌, Bool, true, false, ◌&&◌, List, [], ◌∷◌, ◌++◌, length, get_or, take, drop, refl, sym, ap, ◌∙◌, arith, drop-cons}
+use Rattle.std.proofs.Common.{◌≡◌, ℕ, suc, ◌+◌, ◌<◌, ◌≤◌, Bool, true, false, ◌==◌, ◌&&◌, not, List, [], ◌∷◌, ◌++◌, length, get_or, take, drop, refl, sym, ap, ◌∙◌, arith, drop-cons}
+use Rattle.std.specs.List.{list_any}
 use Rattle.std.proofs.lemmas.Grind.{take_at_read}
 use Rattle.std.proofs.lemmas.List.{drop_all}
 use Rattle.sf_model.specs.declared.machine.Arch.{Arch}
-use Rattle.eh_records.specs.Augmentation.{is_new, are_letters}
+use Rattle.eh_records.specs.Augmentation.{is_letter, are_letters}
+
+-- a letter that is known and isn't among those before
+abbrev pub is_new : Arch → List ℕ → ℕ → Bool
+is_new arch before b = is_letter arch b && not (list_any (λ a. a == b) before)
 
 are_letters-cons : (arch : Arch) (before : List ℕ) (b : ℕ) (bs : List ℕ) → are_letters arch before (b ∷ bs) ≡ (is_new arch before b && are_letters arch (before ++ b ∷ []) bs)
 unfolding are_letters

@@ -19,6 +19,7 @@ pub mod Widths
 pub mod FieldsStand
 pub mod EntriesStand
 pub mod Given
+pub mod FailParts
 pub mod FieldsFail
 pub mod EntriesFail
 pub mod OfRecords

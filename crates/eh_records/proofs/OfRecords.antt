@@ -7,7 +7,8 @@ use Rattle.eh_records.specs.declared.fault.RecordFault.TheVariants.{Short, Exten
 use Rattle.eh_records.specs.Cie.{SharedView}
 use Rattle.eh_records.specs.RawRecord.{RawRecordView}
 use Rattle.eh_records.specs.Cutting.{start, with_common}
-use Rattle.eh_records.specs.Refused.{Lacks, IsLebFault, CutFails, DataFails, StringFails, FormFails, PassedFails, PersonalityFails, SayingFails, SayingsFail, AugmentationFails, ColumnFails, CieFails, no_version, other_version, no_string, no_code, no_factor, no_column, no_data, FrameDataFails, FdeFails, FrameFails, EntryFails, FailsFrom, IsRefused, IsOfRecords}
+use Rattle.eh_records.specs.Refused.{Lacks, IsLebFault, CutFails, DataFails, StringFails, FormFails, PassedFails, PersonalityFails, SayingFails, SayingsFail, AugmentationFails, CieFails, no_version, other_version, no_string, no_code, no_factor, no_column, no_data, FrameDataFails, FdeFails, FrameFails, FailsFrom, IsRefused, IsOfRecords}
+use Rattle.eh_records.proofs.FailParts.{ColumnFails, EntryFails}
 use Rattle.eh_records.specs.Fields.{PointerStands}
 use Rattle.eh_records.specs.Section.{EntryView}
 use Rattle.eh_records.specs.Step.{PointerField}

@@ -10,8 +10,8 @@ use Rattle.sf_bytes.specs.Cursor.{Cursor, Read, past, number_at, part_at}
 use Rattle.eh_records.specs.declared.fault.RecordFault.{RecordFault}
 use Rattle.eh_records.specs.declared.fault.RecordFault.TheVariants.{Short, Extended}
 use Rattle.eh_records.specs.Cutting.{Stands, EndsWithZero}
-use Rattle.eh_records.specs.RawRecord.{RawRecordView, raw_record_at, record_of_length, whole, sized}
-use Rattle.eh_records.specs.Step.{Step, ◌>>=◌, placed, number_field, part_field}
+use Rattle.eh_records.specs.RawRecord.{RawRecordView, raw_record_at, record_of_length, whole, of_length}
+use Rattle.eh_records.specs.Step.{Step, ◌>>=◌, at_field, number_field, part_field}
 
 -- a step that continued succeeded
 pub record Through {A B : Type 0} (r : Result A RecordFault) (f : A → Result B RecordFault) (b : B) : Type 0 where
@@ -36,7 +36,7 @@ pub record IsRead {X : Type 0} (n : ℕ) (at : Cursor) (v : X) (x : X × Cursor)
   pub after : x.1 ≡ past n at
 
 read_if : {X : Type 0} (n place : ℕ) (at : Cursor) (v : X) (x : X × Cursor) (b : Bool) → nat_lt (length at.left) n ≡ b
-    → placed place (cond {A = Read X} b (Err (byte_faults.Short at.place)) (Ok (v, past n at))) ≡ Ok x → IsRead n at v x
+    → at_field place (cond {A = Read X} b (Err (byte_faults.Short at.place)) (Ok (v, past n at))) ≡ Ok x → IsRead n at v x
 read_if n place at v x true t e = absurd cc
 read_if n place at v x false t e =
     let le : n ≤ length at.left = grind (arith, nat_tests) in
@@ -126,7 +126,7 @@ front_sized len at at1 word four e1 false false true ta tb tc = tt
 front_sized len at at1 word four e1 false false false ta tb tc =
     front_some len at at1 word (grind (arith, nat_tests)) (grind (arith, nat_tests)) four e1 (record_of_length at.place len at1) refl
 
-front_word : (at : Cursor) (r : Step ℕ) → number_field 4 at ≡ r → FrontIs at (r >>= λ len. sized at.place len.0 len.1)
+front_word : (at : Cursor) (r : Step ℕ) → number_field 4 at ≡ r → FrontIs at (r >>= λ len. of_length at.place len.0 len.1)
 front_word at (Ok len) e =
     let read = number_read 4 at len e in
     front_sized len.0 at len.1 (sym read.value) read.within read.after (len.0 == 0) (len.0 == 4294967295) (nat_lt len.0 4) refl refl refl
@@ -136,7 +136,7 @@ no_length : (xs : List ℕ) → (length xs == 0) ≡ true → xs ≡ []
 no_length [] h = refl
 no_length (x ∷ xs) h = absurd (grind (arith, nat_tests))
 
-front_if : (at : Cursor) (b : Bool) → (length at.left == 0) ≡ b → FrontIs at (cond b (Ok None) (number_field 4 at >>= λ len. sized at.place len.0 len.1))
+front_if : (at : Cursor) (b : Bool) → (length at.left == 0) ≡ b → FrontIs at (cond b (Ok None) (number_field 4 at >>= λ len. of_length at.place len.0 len.1))
 front_if at true h = inl (no_length at.left h)
 front_if at false h = front_word at (number_field 4 at) refl
 

@@ -9,16 +9,16 @@ use Rattle.sf_bytes.specs.declared.fault.ByteFault.TheVariants as byte_faults
 use Rattle.sf_bytes.specs.Cursor.{Cursor, Read, past, number_at, part_at}
 use Rattle.eh_records.specs.declared.fault.RecordFault.{RecordFault}
 use Rattle.eh_records.specs.declared.fault.RecordFault.TheVariants.{Short, Extended}
-use Rattle.eh_records.specs.RawRecord.{RawRecordView, raw_record_at, record_of_length, whole, sized}
+use Rattle.eh_records.specs.RawRecord.{RawRecordView, raw_record_at, record_of_length, whole, of_length}
 use Rattle.eh_records.specs.Cutting.{Stands, EndsWithZero, AreCut, all_cut}
 use Rattle.eh_records.specs.Section.{Cutting, cuts}
-use Rattle.eh_records.specs.Step.{Step, ◌>>=◌, placed, number_field, part_field}
+use Rattle.eh_records.specs.Step.{Step, ◌>>=◌, at_field, number_field, part_field}
 use Rattle.eh_records.proofs.Cuts.{starts_with_record, stops, faults}
 use Rattle.eh_records.proofs.RawRecords.{past-past, cut_is, end_is}
 
 -- a field that lies in the bytes is read
 there_if : {X : Type 0} (n place : ℕ) (at : Cursor) (v : X) (b : Bool) → nat_lt (length at.left) n ≡ b → n ≤ length at.left
-    → placed place (cond {A = Read X} b (Err (byte_faults.Short at.place)) (Ok (v, past n at))) ≡ Ok (v, past n at)
+    → at_field place (cond {A = Read X} b (Err (byte_faults.Short at.place)) (Ok (v, past n at))) ≡ Ok (v, past n at)
 there_if n place at v true t h = absurd (grind (arith, nat_tests))
 there_if n place at v false t h = refl
 
@@ -42,8 +42,8 @@ sized_some len at1 place x false true c ta tb tc enough short e = absurd (short 
 sized_some len at1 place x false false true ta tb tc enough short e = absurd (grind (arith, nat_tests))
 sized_some len at1 place x false false false ta tb tc enough short e = ap (λ (r : Step RawRecordView). r >>= λ p. Ok (Some p)) e
 
-front_if : (at : Cursor) (b : Bool) (r : Found) → (length at.left == 0) ≡ b → 4 ≤ length at.left → (number_field 4 at >>= λ len. sized at.place len.0 len.1) ≡ r
-    → cond {A = Found} b (Ok None) (number_field 4 at >>= λ len. sized at.place len.0 len.1) ≡ r
+front_if : (at : Cursor) (b : Bool) (r : Found) → (length at.left == 0) ≡ b → 4 ≤ length at.left → (number_field 4 at >>= λ len. of_length at.place len.0 len.1) ≡ r
+    → cond {A = Found} b (Ok None) (number_field 4 at >>= λ len. of_length at.place len.0 len.1) ≡ r
 front_if at true r t h e = absurd (grind (arith, nat_tests))
 front_if at false r t h e = e
 
@@ -78,13 +78,13 @@ stands_is at p after s =
     let read : number_field 4 at ≡ Ok (s.len, past 4 at) = number_there 4 at four ∙ ap (λ (n : ℕ). Ok (n, past 4 at)) s.word in
     let raw_record_view : record_of_length at.place s.len (past 4 at) ≡ Ok (p, after) =
     record_there s.len at s.enough s.within ∙ ap (λ (q : RawRecordView). Ok (q, past (4 + s.len) at)) (sym s.raw_record_view) ∙ ap (λ (c : Cursor). Ok (p, c)) (sym s.behind) in
-    let sized_is : sized at.place s.len (past 4 at) ≡ Ok (Some (p, after)) =
+    let sized_is : of_length at.place s.len (past 4 at) ≡ Ok (Some (p, after)) =
     sized_some s.len (past 4 at) at.place (p, after) (s.len == 0) (s.len == 4294967295) (nat_lt s.len 4) refl refl refl s.enough s.short raw_record_view in
-    front_if at (length at.left == 0) (Ok (Some (p, after))) refl four (ap (λ (r : Step ℕ). r >>= λ len. sized at.place len.0 len.1) read ∙ sized_is)
+    front_if at (length at.left == 0) (Ok (Some (p, after))) refl four (ap (λ (r : Step ℕ). r >>= λ len. of_length at.place len.0 len.1) read ∙ sized_is)
 
-end_if : (at : Cursor) (b : Bool) → number_field 4 at ≡ Ok (0, past 4 at) → cond {A = Found} b (Ok None) (number_field 4 at >>= λ len. sized at.place len.0 len.1) ≡ Ok None
+end_if : (at : Cursor) (b : Bool) → number_field 4 at ≡ Ok (0, past 4 at) → cond {A = Found} b (Ok None) (number_field 4 at >>= λ len. of_length at.place len.0 len.1) ≡ Ok None
 end_if at true e = refl
-end_if at false e = ap (λ (r : Step ℕ). r >>= λ len. sized at.place len.0 len.1) e
+end_if at false e = ap (λ (r : Step ℕ). r >>= λ len. of_length at.place len.0 len.1) e
 
 end_zero : (at : Cursor) → EndsWithZero at → raw_record_at at ≡ Ok None
 unfolding raw_record_at
@@ -94,7 +94,7 @@ end_nothing : (at : Cursor) → at.left ≡ [] → raw_record_at at ≡ Ok None
 unfolding raw_record_at
 end_nothing at e =
     let none : (length at.left == 0) ≡ true = ap (λ (xs : List ℕ). length xs == 0) e in
-    ap (λ (b : Bool). cond {A = Found} b (Ok None) (number_field 4 at >>= λ len. sized at.place len.0 len.1)) none
+    ap (λ (b : Bool). cond {A = Found} b (Ok None) (number_field 4 at >>= λ len. of_length at.place len.0 len.1)) none
 
 -- the records of a section are those that are split off
 pub cut_read : (ps : List RawRecordView) (at : Cursor) → AreCut ps at → cuts at ≡ all_cut ps

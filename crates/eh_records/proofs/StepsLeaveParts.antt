@@ -6,11 +6,11 @@ use Rattle.sf_bytes.specs.Cursor.{Cursor, Read, number_at, part_at}
 use Rattle.sf_bytes.specs.Leb.{uleb_at, sleb_at}
 use Rattle.sf_bytes.specs.Text.{text_at}
 use Rattle.eh_records.specs.Augmentation.{data_at}
-use Rattle.eh_records.specs.Step.{placed, PointerField, number_field, uleb_field, sleb_field, text_field, part_field, pointer_field}
+use Rattle.eh_records.specs.Step.{at_field, PointerField, number_field, uleb_field, sleb_field, text_field, part_field, pointer_field}
 use Rattle.eh_records.proofs.RawRecords.{through, ok_same, number_read}
 use Rattle.eh_records.proofs.Parts.{IsPart, part-part, number_part, uleb_part, sleb_part, text_part, both_parts}
 
-read_on : {X : Type 0} (place : ℕ) (r : Read X) (at : Cursor) (x : X × Cursor) → ((y : X) (c : Cursor) → r ≡ Ok (y, c) → IsPart c at) → placed place r ≡ Ok x → IsPart x.1 at
+read_on : {X : Type 0} (place : ℕ) (r : Read X) (at : Cursor) (x : X × Cursor) → ((y : X) (c : Cursor) → r ≡ Ok (y, c) → IsPart c at) → at_field place r ≡ Ok x → IsPart x.1 at
 read_on {X = X} place (Ok (y, c)) at x h e = subst (λ (z : X × Cursor). IsPart z.1 at) (ok_same (y, c) x e) (h y c refl)
 read_on place (Err f) at x h e = absurd cc
 
@@ -31,7 +31,7 @@ unfolding text_field
 text_on at x e = read_on at.place (text_at at) at x (text_part at) e
 
 -- both the part and what is after it
-part_of : (place n : ℕ) (r : Read Cursor) (at : Cursor) (x : Cursor × Cursor) → ((part c : Cursor) → r ≡ Ok (part, c) → IsPart part at × IsPart c at) → placed place r ≡ Ok x → IsPart x.0 at × IsPart x.1 at
+part_of : (place n : ℕ) (r : Read Cursor) (at : Cursor) (x : Cursor × Cursor) → ((part c : Cursor) → r ≡ Ok (part, c) → IsPart part at × IsPart c at) → at_field place r ≡ Ok x → IsPart x.0 at × IsPart x.1 at
 part_of place n (Ok (part, c)) at x h e = subst (λ (z : Cursor × Cursor). IsPart z.0 at × IsPart z.1 at) (ok_same (part, c) x e) (h part c refl)
 part_of place n (Err f) at x h e = absurd cc
 

@@ -49,14 +49,10 @@ has_key_letter Aarch64 = true
 abbrev pub is_letter : Arch → ℕ → Bool
 is_letter arch b = (b == 82) || (b == 80) || (b == 83) || (b == 76) || ((b == 66) && has_key_letter arch)
 
--- a letter that is known and isn't among those before
-abbrev pub is_new : Arch → List ℕ → ℕ → Bool
-is_new arch before b = is_letter arch b && not (list_any (λ a. a == b) before)
-
 -- each letter is known, and none is there twice or among those before
 unfoldable pub are_letters : Arch → List ℕ → List ℕ → Bool
 are_letters arch before [] = true
-are_letters arch before (b ∷ bs) = is_new arch before b && are_letters arch (before ++ b ∷ []) bs
+are_letters arch before (b ∷ bs) = (is_letter arch b && not (list_any (λ a. a == b) before)) && are_letters arch (before ++ b ∷ []) bs
 
 -- the letters after `z`, or none for the empty string; any other string is refused
 abbrev pub letters_in : Arch → ℕ → List ℕ → Cursor → Step (Option (List ℕ))

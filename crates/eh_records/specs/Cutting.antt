@@ -49,12 +49,12 @@ with_common before (Common c) = before ++ c ∷ []
 with_common before (Frame f) = before
 
 -- these are the entries of the records, field by field, if these common information entries come before them
-abbrev pub AreRead : Arch → (before : List SharedView) → List RawRecordView → List EntryView → Type 0
-AreRead arch before [] [] = Unit {0}
-AreRead arch before [] (e ∷ es) = ⊥
-AreRead arch before (p ∷ ps) [] = ⊥
-AreRead arch before (p ∷ ps) (e ∷ es) = EntryStands arch before p e × AreRead arch (with_common before e) ps es
+abbrev pub AreEntriesOf : Arch → (before : List SharedView) → List RawRecordView → List EntryView → Type 0
+AreEntriesOf arch before [] [] = Unit {0}
+AreEntriesOf arch before [] (e ∷ es) = ⊥
+AreEntriesOf arch before (p ∷ ps) [] = ⊥
+AreEntriesOf arch before (p ∷ ps) (e ∷ es) = EntryStands arch before p e × AreEntriesOf arch (with_common before e) ps es
 
 -- these are the entries of a section: those of its records
 abbrev pub AreEntries : Arch → List ℕ → List EntryView → Type 0
-AreEntries arch section es = (ps : List RawRecordView) × AreCut ps (start section) × AreRead arch [] ps es
+AreEntries arch section es = (ps : List RawRecordView) × AreCut ps (start section) × AreEntriesOf arch [] ps es

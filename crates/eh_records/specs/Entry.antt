@@ -12,6 +12,6 @@ entry_view (entries.Common shared) = Common (shared_view shared)
 entry_view (entries.Frame fde) = Frame (fde_view fde)
 
 -- none if no entry is left, before and after; else the first entry, and the others are left
-abbrev pub GivesFirst : Option Entry → List EntryView → List EntryView → Type 0
-GivesFirst None before after = (before ≡ []) × (after ≡ [])
-GivesFirst (Some e) before after = before ≡ entry_view e ∷ after
+abbrev pub GivesEntry : Option Entry → List EntryView → List EntryView → Type 0
+GivesEntry None before after = (before ≡ []) × (after ≡ [])
+GivesEntry (Some e) before after = before ≡ entry_view e ∷ after

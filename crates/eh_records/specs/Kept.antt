@@ -8,8 +8,8 @@ use Rattle.eh_records.specs.Cie.{SharedView, shared_view}
 use Rattle.eh_records.specs.Fde.{cie_at_place}
 
 -- an entry that is kept is the one at its place of the section
-abbrev pub IsKept : Arch → List ℕ → Option CommonAt → Type 0
-IsKept arch section kept = ForSome kept (λ (k : CommonAt). cie_at_place arch section k.place ≡ Ok (shared_view k.shared))
+abbrev pub IsKeptEntry : Arch → List ℕ → Option CommonAt → Type 0
+IsKeptEntry arch section kept = ForSome kept (λ (k : CommonAt). cie_at_place arch section k.place ≡ Ok (shared_view k.shared))
 
 -- a call that keeps an entry returned what reading the entry gives, and the entry that was read is kept
 abbrev pub Keeps : {U : Type 0} → Option CommonAt → Result U RecordFault → Result SharedView RecordFault → Type 0

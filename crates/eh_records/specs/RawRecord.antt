@@ -32,8 +32,8 @@ record_of_length place len at = do
   Ok (record { place = place; id_place = body.0.place; id = id.0; body = id.1 }, body.1)
 
 -- the record of this length, or none if the length is 0
-abbrev pub sized : ℕ → ℕ → Cursor → Result (Option (RawRecordView × Cursor)) RecordFault
-sized place len at =
+abbrev pub of_length : ℕ → ℕ → Cursor → Result (Option (RawRecordView × Cursor)) RecordFault
+of_length place len at =
     if len == 0 then Ok None
     else if len == 4294967295 then Err (Extended place)
     else if nat_lt len 4 then Err (Short place)
@@ -43,7 +43,7 @@ sized place len at =
 unfoldable pub raw_record_at : Cursor → Result (Option (RawRecordView × Cursor)) RecordFault
 raw_record_at at =
     if length at.left == 0 then Ok None
-    else (number_field 4 at >>= λ len. sized at.place len.0 len.1)
+    else (number_field 4 at >>= λ len. of_length at.place len.0 len.1)
 
 -- the place of the common information entry that a record names
 unfoldable pub named_place : RawRecordView → Result ℕ RecordFault

@@ -106,10 +106,6 @@ abbrev pub AugmentationFails : Option (List ℕ) → Cursor → RecordFault → 
 AugmentationFails None at e = ⊥
 AugmentationFails (Some letters) at e = DataFails at e ⊎ ((data_ : Cursor) × (to : Cursor) × DataStands data_ at to × SayingsFail letters data_ e)
 
--- the return address column isn't there
-abbrev pub ColumnFails : (version : ℕ) → Cursor → RecordFault → Type 0
-ColumnFails version at e = ((version ≡ 1) × Lacks 1 at e) ⊎ ((version ≡ 3) × LacksUleb at e)
-
 -- the first of the fields that isn't there: version, augmentation string, code and data alignment factors, column, augmentation data
 pub data CieFails (arch : Arch) (p : RawRecordView) (e : RecordFault) : Type 0 where
   no_version : Lacks 1 p.body e → CieFails arch p e
@@ -119,7 +115,7 @@ pub data CieFails (arch : Arch) (p : RawRecordView) (e : RecordFault) : Type 0 w
   no_factor : (version code : ℕ) (letters : Option (List ℕ)) (a1 a2 a3 : Cursor) → FieldStands (Number 1) version p.body a1 → (version ≡ 1) ⊎ (version ≡ 3) → StringStands arch letters a1 a2 → FieldStands Uleb code a2 a3
       → LacksSleb a3 e → CieFails arch p e
   no_column : (version code : ℕ) (factor : ℤ) (letters : Option (List ℕ)) (a1 a2 a3 a4 : Cursor) → FieldStands (Number 1) version p.body a1 → (version ≡ 1) ⊎ (version ≡ 3) → StringStands arch letters a1 a2
-      → FieldStands Uleb code a2 a3 → FieldStands Sleb factor a3 a4 → ColumnFails version a4 e → CieFails arch p e
+      → FieldStands Uleb code a2 a3 → FieldStands Sleb factor a3 a4 → ((version ≡ 1) × Lacks 1 a4 e) ⊎ ((version ≡ 3) × LacksUleb a4 e) → CieFails arch p e
   no_data : (version code column : ℕ) (factor : ℤ) (letters : Option (List ℕ)) (a1 a2 a3 a4 a5 : Cursor) → FieldStands (Number 1) version p.body a1 → (version ≡ 1) ⊎ (version ≡ 3) → StringStands arch letters a1 a2
       → FieldStands Uleb code a2 a3 → FieldStands Sleb factor a3 a4 → ColumnStands version column a4 a5 → AugmentationFails letters a5 e → CieFails arch p e
 
@@ -137,25 +133,18 @@ FdeFails shared p e =
     × (Lacks shared.width a1 e
     ⊎ ((range : PointerField) × (a2 : Cursor) × PointerStands shared.width range a1 a2 × FrameDataFails shared.augmented a2 e)))
 
--- no common information entry before the record is at the place that it names
-abbrev pub NamesNone : (before : List SharedView) → RawRecordView → Type 0
-NamesNone before p = (shared : SharedView) → Contains before shared → shared.cie.place + p.id ≢ p.id_place
-
--- no common information entry is named, or a field isn't there
+-- no common information entry before the record is at the place that it names, or a field isn't there
 abbrev pub FrameFails : (before : List SharedView) → RawRecordView → RecordFault → Type 0
 FrameFails before p e =
-    (NamesNone before p × (e ≡ CiePointer p.id_place))
+    (((shared : SharedView) → Contains before shared → shared.cie.place + p.id ≢ p.id_place) × (e ≡ CiePointer p.id_place))
     ⊎ ((shared : SharedView) × Contains before shared × (shared.cie.place + p.id ≡ p.id_place) × FdeFails shared p e)
 
 -- ---- sections
--- a field of a record's entry isn't there: a common information entry if the word after the length is 0, else a frame description
--- entry
-abbrev pub EntryFails : Arch → (before : List SharedView) → RawRecordView → RecordFault → Type 0
-EntryFails arch before p e = ((p.id ≡ 0) × CieFails arch p e) ⊎ ((p.id ≢ 0) × FrameFails before p e)
-
--- records and their entries from a cursor on, and then the fault of the next record
+-- Records and their entries from a cursor on, and then the fault of the next record: it isn't all there, or a field of its entry isn't. It
+-- is a common information entry if the word after the length is 0, else a frame description entry.
 abbrev pub FailsFrom : Arch → (before : List SharedView) → List RawRecordView → List EntryView → Cursor → RecordFault → Type 0
-FailsFrom arch before [] [] at e = CutFails at e ⊎ ((p : RawRecordView) × (after : Cursor) × Stands at p after × EntryFails arch before p e)
+FailsFrom arch before [] [] at e = CutFails at e ⊎ ((p : RawRecordView) × (after : Cursor) × Stands at p after
+    × (((p.id ≡ 0) × CieFails arch p e) ⊎ ((p.id ≢ 0) × FrameFails before p e)))
 FailsFrom arch before [] (v ∷ vs) at e = ⊥
 FailsFrom arch before (p ∷ ps) [] at e = ⊥
 FailsFrom arch before (p ∷ ps) (v ∷ vs) at e = (after : Cursor) × Stands at p after × EntryStands arch before p v × FailsFrom arch (with_common before v) ps vs after e

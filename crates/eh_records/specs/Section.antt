@@ -1,6 +1,6 @@
 -- A whole section (LSB Core, "The .eh_frame section"): consecutive records, up to the section's end or to a length word
 -- of 0. A frame description entry names a common information entry that comes before it.
-use Rattle.std.specs.Prelude.{ℕ, zero, suc, ◌+◌, ◌-◌, ◌==◌, ◌&&◌, Bool, true, false, is_ok, List, [], ◌∷◌, ◌++◌, length, Option, Some, None, Result, Ok, Err, if◌then◌else◌}
+use Rattle.std.specs.Prelude.{ℕ, zero, suc, ◌+◌, ◌-◌, ◌==◌, ◌&&◌, Bool, true, false, is_ok, List, [], ◌∷◌, ◌++◌, length, Option, Some, None, option_to_list, Result, Ok, Err, if◌then◌else◌}
 use Rattle.std.specs.List.{list_any}
 use Rattle.sf_bytes.specs.Cursor.{Cursor}
 use Rattle.sf_model.specs.declared.machine.Arch.{Arch}
@@ -20,16 +20,16 @@ abbrev pub Front : Type 0
 Front = Result (Option (RawRecordView × Cursor)) RecordFault
 
 -- how many bytes are left after the first record
-abbrev pub left_behind : Front → ℕ
-left_behind (Ok (Some (p, after))) = length after.left
-left_behind (Ok None) = 0
-left_behind (Err e) = 0
+abbrev pub bytes_after : Front → ℕ
+bytes_after (Ok (Some (p, after))) = length after.left
+bytes_after (Ok None) = 0
+bytes_after (Err e) = 0
 
 -- the first record and those after it
-abbrev pub front_of : Front → List Cutting → List Cutting
-front_of (Ok (Some (p, after))) others = Ok p ∷ others
-front_of (Ok None) others = []
-front_of (Err e) others = Err e ∷ []
+abbrev pub with_front : Front → List Cutting → List Cutting
+with_front (Ok (Some (p, after))) others = Ok p ∷ others
+with_front (Ok None) others = []
+with_front (Err e) others = Err e ∷ []
 
 -- the records after this many further bytes
 unfoldable pub cuts_after : (skipped place : ℕ) → List ℕ → List Cutting
@@ -37,7 +37,7 @@ cuts_after skipped place [] = []
 cuts_after (suc n) place (b ∷ bs) = cuts_after n (place + 1) bs
 cuts_after zero place (b ∷ bs) =
     let first = raw_record_at (record { place = place; left = b ∷ bs }) in
-    front_of first (cuts_after (length bs - left_behind first) (place + 1) bs)
+    with_front first (cuts_after (length bs - bytes_after first) (place + 1) bs)
 
 -- the records from a cursor on
 abbrev pub cuts : Cursor → List Cutting
@@ -89,15 +89,10 @@ frames [] = []
 frames (Common c ∷ es) = frames es
 frames (Frame f ∷ es) = f ∷ frames es
 
--- a pointer field, if there is one
-abbrev pub optional : Option PointerField → List PointerField
-optional None = []
-optional (Some f) = f ∷ []
-
 -- the pointer fields of an entry, from left to right
 abbrev pub entry_fields : EntryView → List PointerField
-entry_fields (Common c) = optional c.cie.personality
-entry_fields (Frame f) = f.begin ∷ f.range ∷ optional f.lsda
+entry_fields (Common c) = option_to_list c.cie.personality
+entry_fields (Frame f) = f.begin ∷ f.range ∷ option_to_list f.lsda
 
 -- the pointer fields of entries, from left to right
 abbrev pub pointer_fields : List EntryView → List PointerField
@@ -122,6 +117,6 @@ are_read arch section (Err e ∷ others) = false
 are_read arch section (Ok p ∷ others) = is_ok (entry_here arch section p) && are_read arch section others
 
 -- the fault of a section, if there is one
-abbrev pub fault_in : {X : Type 0} → Result X RecordFault → Option RecordFault
-fault_in (Ok x) = None
-fault_in (Err e) = Some e
+abbrev pub fault_if_any : {X : Type 0} → Result X RecordFault → Option RecordFault
+fault_if_any (Ok x) = None
+fault_if_any (Err e) = Some e

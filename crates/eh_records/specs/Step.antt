@@ -21,29 +21,29 @@ fault_of place (byte_faults.Short p) = Short place
 fault_of place (byte_faults.Leb p) = Leb place
 
 -- the read of a field, with the field's place in its fault
-abbrev pub placed : {X : Type 0} → ℕ → Read X → Step X
-placed place (Ok x) = Ok x
-placed place (Err e) = Err (fault_of place e)
+abbrev pub at_field : {X : Type 0} → ℕ → Read X → Step X
+at_field place (Ok x) = Ok x
+at_field place (Err e) = Err (fault_of place e)
 
 -- a number of n bytes
 unfoldable pub number_field : ℕ → Cursor → Step ℕ
-number_field n at = placed at.place (number_at n at)
+number_field n at = at_field at.place (number_at n at)
 
 -- an unsigned LEB128 number
 unfoldable pub uleb_field : Cursor → Step ℕ
-uleb_field at = placed at.place (uleb_at at)
+uleb_field at = at_field at.place (uleb_at at)
 
 -- a signed LEB128 number
 unfoldable pub sleb_field : Cursor → Step ℤ
-sleb_field at = placed at.place (sleb_at at)
+sleb_field at = at_field at.place (sleb_at at)
 
 -- a text
 unfoldable pub text_field : Cursor → Step (List ℕ)
-text_field at = placed at.place (text_at at)
+text_field at = at_field at.place (text_at at)
 
 -- n bytes as they are
 unfoldable pub part_field : ℕ → Cursor → Step Cursor
-part_field n at = placed at.place (part_at n at)
+part_field n at = at_field at.place (part_at n at)
 
 -- a pointer field: its place, its width in bytes and the number in it
 pub record PointerField : Type 0 where
@@ -62,8 +62,8 @@ pointer_field width at = do
   Ok (record { place = at.place; width = width; raw = raw.0 }, raw.1)
 
 -- what a call on a reader returned, seen through `view`, is what the step gives, and the reader is what the step leaves
-abbrev pub Answers : {X Y : Type 0} → (X → Y) → Reader → Result X RecordFault → Step Y → Type 0
-Answers view new result step = Reads view new.part result step
+abbrev pub StepGives : {X Y : Type 0} → (X → Y) → Reader → Result X RecordFault → Step Y → Type 0
+StepGives view new result step = Reads view new.part result step
 
 -- the cursor of a reader
 abbrev pub reader_cursor : Reader → Cursor

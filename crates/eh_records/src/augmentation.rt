@@ -26,7 +26,7 @@ pub struct Augmentation {
     pub lsda: Option<u8>,
     /// The personality pointer, if its width is fixed.
     pub personality: Option<Field>,
-    /// Whether the frame is a signal frame's.
+    /// True if the frame is a signal frame's.
     pub signal: bool,
     /// The key of signed return addresses.
     pub key: Key,

@@ -4,7 +4,7 @@ ghost use Rattle.std.specs.Prelude.{◌≡◌, ◌<◌};
 ghost use Rattle.std.specs.Option.{option_map};
 ghost use Rattle.sf_bytes.specs.Answers.{Is};
 ghost use Rattle.eh_records.specs.Augmentation.{form_view, augmentation_view, plain_augmentation, augmentation_by, data_at, form_at, personality_at, letter_at};
-ghost use Rattle.eh_records.specs.Step.{Answers, reader_cursor, pointer_view};
+ghost use Rattle.eh_records.specs.Step.{StepGives, reader_cursor, pointer_view};
 
 use crate::augmentation::{Augmentation, PointerForm};
 use crate::fault::RecordFault;
@@ -18,7 +18,7 @@ use sf_model::Key;
 /// Reads the augmentation data after its length.
 #[tactic(auto, unfolding(crate::specs::Augmentation::data_at))]
 pub fn read_data<'a>(body: &mut Reader<'a>) -> Result<Reader<'a>, RecordFault>
-    ensures { Answers reader_cursor body.new result (data_at (reader_cursor body.old)) }
+    ensures { StepGives reader_cursor body.new result (data_at (reader_cursor body.old)) }
 {
     let len = body.uleb()?;
     body.sub(len)
@@ -27,7 +27,7 @@ pub fn read_data<'a>(body: &mut Reader<'a>) -> Result<Reader<'a>, RecordFault>
 // Reads the form of function pointers from its encoding.
 #[tactic(auto, unfolding(crate::specs::Augmentation::form_at))]
 fn read_form(left: &mut Reader<'_>) -> Result<PointerForm, RecordFault>
-    ensures { Answers form_view left.new result (form_at (reader_cursor left.old)) }
+    ensures { StepGives form_view left.new result (form_at (reader_cursor left.old)) }
 {
     let place = left.place();
     let encoding = left.byte()?;
@@ -40,7 +40,7 @@ fn read_form(left: &mut Reader<'_>) -> Result<PointerForm, RecordFault>
 // Passes a personality pointer, and returns it if its width is fixed.
 #[tactic(auto, unfolding(crate::specs::Augmentation::personality_at))]
 fn read_personality(left: &mut Reader<'_>) -> Result<Option<Field>, RecordFault>
-    ensures { Answers (λ field. option_map pointer_view field) left.new result (personality_at (reader_cursor left.old)) }
+    ensures { StepGives (λ field. option_map pointer_view field) left.new result (personality_at (reader_cursor left.old)) }
 {
     let encoding_place = left.place();
     let encoding = left.byte()?;
@@ -70,7 +70,7 @@ fn read_letter(
     augmentation: Augmentation,
     left: &mut Reader<'_>,
 ) -> Result<Augmentation, RecordFault>
-    ensures { Answers augmentation_view left.new result (letter_at letter (augmentation_view augmentation) (reader_cursor left.old)) }
+    ensures { StepGives augmentation_view left.new result (letter_at letter (augmentation_view augmentation) (reader_cursor left.old)) }
 {
     match letter {
         b'R' => {

@@ -20,7 +20,7 @@ pub struct Cie<'a> {
     pub column: u64,
     /// The encoding of function pointers.
     pub encoding: u8,
-    /// Whether the frame is a signal frame's.
+    /// True if the frame is a signal frame's.
     pub signal: bool,
     /// The key of signed return addresses.
     pub key: Key,
@@ -47,7 +47,7 @@ pub struct CieWithForm<'a> {
     pub cie: Cie<'a>,
     /// How many bytes a function pointer has.
     pub width: u8,
-    /// Whether the entries have augmentation data.
+    /// True if the entries have augmentation data.
     pub augmented: bool,
     /// The encoding of the pointer to a language-specific data area.
     pub lsda: Option<u8>,

@@ -8,7 +8,7 @@ ghost use Rattle.eh_records.specs.Augmentation.{augmentation_view};
 ghost use Rattle.eh_records.specs.Cie.{shared_view, cie_with_form, numbers_view, numbers_at, column_at, augmentation_at, cie_fields, cie_of};
 ghost use Rattle.eh_records.specs.RawRecord.{raw_record_view};
 ghost use Rattle.eh_records.specs.Fde.{cie_at_place};
-ghost use Rattle.eh_records.specs.Step.{Answers, reader_cursor};
+ghost use Rattle.eh_records.specs.Step.{StepGives, reader_cursor};
 
 use crate::augmentation::Augmentation;
 use crate::augmentation_data::{plain, read_augmentation_data, read_data};
@@ -23,7 +23,7 @@ use sf_model::Arch;
 // Reads the return address column: a byte in version 1, a LEB128 number in version 3.
 #[tactic(auto, unfolding(crate::specs::Cie::column_at))]
 fn read_column(version: u8, body: &mut Reader<'_>) -> Result<u64, RecordFault>
-    ensures { Answers (λ x. x) body.new result (column_at version (reader_cursor body.old)) }
+    ensures { StepGives (λ x. x) body.new result (column_at version (reader_cursor body.old)) }
 {
     if version == 1 {
         let column = body.byte()?;
@@ -36,7 +36,7 @@ fn read_column(version: u8, body: &mut Reader<'_>) -> Result<u64, RecordFault>
 // Reads the alignment factors and the return address column.
 #[tactic(auto, unfolding(crate::specs::Cie::numbers_at))]
 fn read_numbers(version: u8, body: &mut Reader<'_>) -> Result<NumberFields, RecordFault>
-    ensures { Answers numbers_view body.new result (numbers_at version (reader_cursor body.old)) }
+    ensures { StepGives numbers_view body.new result (numbers_at version (reader_cursor body.old)) }
 {
     let code = body.uleb()?;
     let factor = body.sleb()?;
@@ -54,7 +54,7 @@ fn read_augmentation(
     letters: Option<&[u8]>,
     body: &mut Reader<'_>,
 ) -> Result<Augmentation, RecordFault>
-    ensures { Answers augmentation_view body.new result (augmentation_at (option_map (λ text. text.now) letters.entry) (reader_cursor body.old)) }
+    ensures { StepGives augmentation_view body.new result (augmentation_at (option_map (λ text. text.now) letters.entry) (reader_cursor body.old)) }
 {
     match letters {
         Some(letters) => {

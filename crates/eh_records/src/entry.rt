@@ -3,8 +3,8 @@
 ghost use Rattle.std.specs.Prelude.{◌≡◌, ◌<◌, ◌^◌, length, true};
 ghost use Rattle.sf_bytes.specs.Answers.{Is};
 ghost use Rattle.eh_records.specs.RawRecord.{raw_record_view};
-ghost use Rattle.eh_records.specs.Entry.{entry_view, GivesFirst};
-ghost use Rattle.eh_records.specs.Kept.{IsKept};
+ghost use Rattle.eh_records.specs.Entry.{entry_view, GivesEntry};
+ghost use Rattle.eh_records.specs.Kept.{IsKeptEntry};
 ghost use Rattle.eh_records.specs.Places.{IsRising};
 ghost use Rattle.eh_records.specs.Section.{are_read, cuts, entries_before, entry_here, entry_at};
 ghost use Rattle.eh_records.specs.Step.{reader_cursor};
@@ -39,9 +39,9 @@ fn read_here<'a>(
     arch: Arch,
 ) -> Result<Entry<'a>, RecordFault>
     requires small { length section.now < 2 ^ 32 }
-    requires kept { IsKept arch section.now kept.old }
+    requires kept { IsKeptEntry arch section.now kept.old }
     ensures is { Is entry_view result (entry_here arch section.now (raw_record_view cut.now)) }
-    ensures kept { IsKept arch section.now kept.new }
+    ensures kept { IsKeptEntry arch section.now kept.new }
 {
     if cut.is_cie() {
         let shared = read_cie(cut, arch)?;
@@ -64,8 +64,8 @@ pub fn read_after<'a>(
 ) -> Result<Entry<'a>, RecordFault>
     requires small { length section.now < 2 ^ 32 }
     requires rising { IsRising places.now }
-    requires kept { IsKept arch section.now kept.old }
-    ensures kept { IsKept arch section.now kept.new }
+    requires kept { IsKeptEntry arch section.now kept.old }
+    ensures kept { IsKeptEntry arch section.now kept.new }
     ensures is { Is entry_view result (entry_at arch section.now places.now (raw_record_view cut.now)) }
 {
     place_of_shared(cut, places)?;
@@ -81,11 +81,11 @@ pub fn next_entry<'a>(
     rest: &mut Reader<'a>,
 ) -> Option<Entry<'a>>
     requires small { length section.now < 2 ^ 32 }
-    requires kept { IsKept arch section.now kept.old }
+    requires kept { IsKeptEntry arch section.now kept.old }
     requires read { are_read arch section.now (cuts (reader_cursor rest.old)) ≡ true }
-    ensures kept { IsKept arch section.now kept.new }
+    ensures kept { IsKeptEntry arch section.now kept.new }
     ensures read { are_read arch section.now (cuts (reader_cursor rest.new)) ≡ true }
-    ensures gives { GivesFirst result (entries_before arch section.now (cuts (reader_cursor rest.old))) (entries_before arch section.now (cuts (reader_cursor rest.new))) }
+    ensures gives { GivesEntry result (entries_before arch section.now (cuts (reader_cursor rest.old))) (entries_before arch section.now (cuts (reader_cursor rest.new))) }
 {
     let mut after = *rest;
     match next_record(&mut after) {

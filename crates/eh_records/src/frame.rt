@@ -6,8 +6,8 @@ ghost use Rattle.sf_bytes.specs.Answers.{Is};
 ghost use Rattle.eh_records.specs.Cie.{shared_view};
 ghost use Rattle.eh_records.specs.RawRecord.{raw_record_view};
 ghost use Rattle.eh_records.specs.Fde.{fde_view, lsda_in, lsda_at, entry_of, fde_of};
-ghost use Rattle.eh_records.specs.Kept.{IsKept};
-ghost use Rattle.eh_records.specs.Step.{Answers, pointer_view, reader_cursor};
+ghost use Rattle.eh_records.specs.Kept.{IsKeptEntry};
+ghost use Rattle.eh_records.specs.Step.{StepGives, pointer_view, reader_cursor};
 
 use crate::augmentation_data::read_data;
 use crate::cie::CieWithForm;
@@ -34,7 +34,7 @@ fn lsda_of(encoding: Option<u8>, mut left: Reader<'_>) -> Option<Field>
 #[tactic(auto, unfolding(crate::specs::Fde::lsda_at))]
 #[inline(always)]
 fn read_lsda(shared: &CieWithForm<'_>, body: &mut Reader<'_>) -> Result<Option<Field>, RecordFault>
-    ensures { Answers (λ field. option_map pointer_view field) body.new result (lsda_at (shared_view shared.now) (reader_cursor body.old)) }
+    ensures { StepGives (λ field. option_map pointer_view field) body.new result (lsda_at (shared_view shared.now) (reader_cursor body.old)) }
 {
     if !shared.augmented {
         return Ok(None);
@@ -74,9 +74,9 @@ pub fn read_fde<'a>(
     arch: Arch,
 ) -> Result<Fde<'a>, RecordFault>
     requires small { length section.now < 2 ^ 32 }
-    requires kept { IsKept arch section.now kept.old }
+    requires kept { IsKeptEntry arch section.now kept.old }
     ensures is { Is fde_view result (fde_of arch section.now (raw_record_view cut.now)) }
-    ensures kept { IsKept arch section.now kept.new }
+    ensures kept { IsKeptEntry arch section.now kept.new }
 {
     let place = cut.cie_place()?;
     CommonAt::keep(kept, section, place, arch)?;

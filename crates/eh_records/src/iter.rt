@@ -3,7 +3,7 @@
 ghost use Rattle.std.specs.Prelude.{◌<◌, ◌^◌, ◌≡◌, Ok, OnSome, is_ok, length, true};
 ghost use Rattle.eh_records.specs.Fde.{fde_of};
 ghost use Rattle.eh_records.specs.Iter.{GivesCut, GivesFrameRecord, GivesRead};
-ghost use Rattle.eh_records.specs.Kept.{IsKept};
+ghost use Rattle.eh_records.specs.Kept.{IsKeptEntry};
 ghost use Rattle.eh_records.specs.RawRecord.{raw_record_at, raw_record_view};
 ghost use Rattle.eh_records.specs.Section.{are_read, cuts, cuts_of, entries_before, entries_of, frames};
 ghost use Rattle.eh_records.specs.Step.{reader_cursor};
@@ -24,7 +24,7 @@ pub struct FdeIter<'a> {
     rest: Reader<'a>,
     kept: Option<CommonAt<'a>>,
     ghost small: { length section.now < 2 ^ 32 },
-    ghost same: { IsKept arch section.now kept },
+    ghost same: { IsKeptEntry arch section.now kept },
     ghost read: { are_read arch section.now (cuts (reader_cursor rest)) ≡ true },
 }
 
@@ -89,9 +89,9 @@ fn frame_of<'a>(
     cut: &RawRecord<'a>,
 ) -> Option<Fde<'a>>
     requires small { length section.now < 2 ^ 32 }
-    requires kept { IsKept arch section.now kept.old }
+    requires kept { IsKeptEntry arch section.now kept.old }
     requires read { is_ok (fde_of arch section.now (raw_record_view cut.now)) ≡ true }
-    ensures kept { IsKept arch section.now kept.new }
+    ensures kept { IsKeptEntry arch section.now kept.new }
     ensures is { GivesRead result (fde_of arch section.now (raw_record_view cut.now)) }
 {
     let Ok(place) = cut.cie_place() else {

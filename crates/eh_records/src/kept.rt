@@ -16,7 +16,7 @@ pub struct CommonAt<'a> {
 
 impl<'a> CommonAt<'a> {
     ghost use Rattle.eh_records.specs.Fde.{cie_at_place};
-    ghost use Rattle.eh_records.specs.Kept.{IsKept, Keeps};
+    ghost use Rattle.eh_records.specs.Kept.{IsKeptEntry, Keeps};
 
     /// Keeps the common information entry at a place of the section. The entry is read unless it is kept
     /// already. That costs little, however long the entry is: what is read of an entry that isn't refused has
@@ -29,9 +29,9 @@ impl<'a> CommonAt<'a> {
         arch: Arch,
     ) -> Result<(), RecordFault>
         requires small { length section.now < 2 ^ 32 }
-        requires kept { IsKept arch section.now kept.old }
+        requires kept { IsKeptEntry arch section.now kept.old }
         ensures keeps { Keeps kept.new result (cie_at_place arch section.now place) }
-        ensures kept { IsKept arch section.now kept.new }
+        ensures kept { IsKeptEntry arch section.now kept.new }
     {
         if let Some(last) = kept {
             if last.place == place {
@@ -50,9 +50,9 @@ impl<'a> CommonAt<'a> {
         arch: Arch,
     ) -> Result<(), RecordFault>
         requires small { length section.now < 2 ^ 32 }
-        requires kept { IsKept arch section.now kept.old }
+        requires kept { IsKeptEntry arch section.now kept.old }
         ensures keeps { Keeps kept.new result (cie_at_place arch section.now place) }
-        ensures kept { IsKept arch section.now kept.new }
+        ensures kept { IsKeptEntry arch section.now kept.new }
     {
         let shared = cie_at(section, place, arch)?;
         *kept = Some(CommonAt { place, shared });

@@ -1,9 +1,10 @@
 //! The augmentation string of a common information entry.
 
-ghost use Rattle.std.specs.Prelude.{◌≡◌, ◌<◌, []};
+ghost use Rattle.std.specs.Prelude.{◌≡◌, ◌<◌, ◌==◌, ◌&&◌, ℕ, not, []};
+ghost use Rattle.std.specs.List.{list_any};
 ghost use Rattle.std.specs.Option.{option_map};
-ghost use Rattle.eh_records.specs.Augmentation.{is_letter, is_new, are_letters, letters_at};
-ghost use Rattle.eh_records.specs.Step.{Answers, reader_cursor};
+ghost use Rattle.eh_records.specs.Augmentation.{is_letter, are_letters, letters_at};
+ghost use Rattle.eh_records.specs.Step.{StepGives, reader_cursor};
 
 use crate::fault::RecordFault;
 use crate::reader::Reader;
@@ -22,7 +23,7 @@ fn may_stand(letter: u8, arch: Arch) -> bool
 
 // Returns whether a letter may follow the `z` and those read before it.
 fn is_new_letter(letter: u8, before: &[u8], arch: Arch) -> bool
-    ensures { result ≡ is_new arch before.now letter }
+    ensures { result ≡ (is_letter arch letter && not (list_any (λ (a : ℕ). a == letter) before.now)) }
 {
     may_stand(letter, arch) && !before.contains(&letter)
 }
@@ -43,7 +44,7 @@ fn letters_are_known(letters: &[u8], arch: Arch) -> bool
 /// Reads the augmentation string, and returns the letters after its `z`, or none if the string is empty.
 #[tactic(auto, unfolding(crate::specs::Augmentation::letters_at))]
 pub fn read_letters<'a>(body: &mut Reader<'a>, arch: Arch) -> Result<Option<&'a [u8]>, RecordFault>
-    ensures { Answers (λ letters. option_map (λ text. text.now) letters) body.new result (letters_at arch (reader_cursor body.old)) }
+    ensures { StepGives (λ letters. option_map (λ text. text.now) letters) body.new result (letters_at arch (reader_cursor body.old)) }
 {
     let place = body.place();
     match body.text()? {

@@ -17,7 +17,7 @@ impl<'a> Reader<'a> {
     ghost use Rattle.sf_bytes.specs.Cursor.{EndStays, cursor};
     ghost use Rattle.sf_bytes.specs.Field.{is_field_width};
     ghost use Rattle.sf_bytes.specs.Steps.{named};
-    ghost use Rattle.eh_records.specs.Step.{Answers, reader_cursor, fault_of, number_field, uleb_field, sleb_field, text_field, part_field, pointer_field, pointer_view};
+    ghost use Rattle.eh_records.specs.Step.{StepGives, reader_cursor, fault_of, number_field, uleb_field, sleb_field, text_field, part_field, pointer_field, pointer_view};
 
     // Returns the fault of a field at a place.
     #[inline(always)]
@@ -75,7 +75,7 @@ impl<'a> Reader<'a> {
     #[tactic(auto, unfolding(crate::specs::Step::number_field))]
     #[inline(always)]
     pub fn byte(&mut self) -> Result<u8, RecordFault>
-        ensures exact { Answers (λ x. x) self.new result (number_field 1 (reader_cursor self.old)) }
+        ensures exact { StepGives (λ x. x) self.new result (number_field 1 (reader_cursor self.old)) }
     {
         let mut part = self.part;
         let read = part.get_u8();
@@ -86,7 +86,7 @@ impl<'a> Reader<'a> {
     #[tactic(auto, unfolding(crate::specs::Step::number_field))]
     #[inline(always)]
     pub fn half(&mut self) -> Result<u16, RecordFault>
-        ensures exact { Answers (λ x. x) self.new result (number_field 2 (reader_cursor self.old)) }
+        ensures exact { StepGives (λ x. x) self.new result (number_field 2 (reader_cursor self.old)) }
     {
         let mut part = self.part;
         let read = part.get_u16();
@@ -97,7 +97,7 @@ impl<'a> Reader<'a> {
     #[tactic(auto, unfolding(crate::specs::Step::number_field, sf_bytes::specs::Cursor::number_at))]
     #[inline(always)]
     pub fn word(&mut self) -> Result<u32, RecordFault>
-        ensures exact { Answers (λ x. x) self.new result (number_field 4 (reader_cursor self.old)) }
+        ensures exact { StepGives (λ x. x) self.new result (number_field 4 (reader_cursor self.old)) }
         ensures left { OnOk result (length self.new.part.bytes.now + 4 ≡ length self.old.part.bytes.now) }
     {
         let mut part = self.part;
@@ -109,7 +109,7 @@ impl<'a> Reader<'a> {
     #[tactic(auto, unfolding(crate::specs::Step::number_field))]
     #[inline(always)]
     pub fn double(&mut self) -> Result<u64, RecordFault>
-        ensures exact { Answers (λ x. x) self.new result (number_field 8 (reader_cursor self.old)) }
+        ensures exact { StepGives (λ x. x) self.new result (number_field 8 (reader_cursor self.old)) }
     {
         let mut part = self.part;
         let read = part.get_u64();
@@ -120,7 +120,7 @@ impl<'a> Reader<'a> {
     #[tactic(auto, unfolding(crate::specs::Step::uleb_field))]
     #[inline(always)]
     pub fn uleb(&mut self) -> Result<u64, RecordFault>
-        ensures exact { Answers (λ x. x) self.new result (uleb_field (reader_cursor self.old)) }
+        ensures exact { StepGives (λ x. x) self.new result (uleb_field (reader_cursor self.old)) }
     {
         let mut part = self.part;
         let read = part.uleb();
@@ -131,7 +131,7 @@ impl<'a> Reader<'a> {
     #[tactic(auto, unfolding(crate::specs::Step::sleb_field))]
     #[inline(always)]
     pub fn sleb(&mut self) -> Result<i64, RecordFault>
-        ensures exact { Answers (λ x. x) self.new result (sleb_field (reader_cursor self.old)) }
+        ensures exact { StepGives (λ x. x) self.new result (sleb_field (reader_cursor self.old)) }
     {
         let mut part = self.part;
         let read = part.sleb();
@@ -142,7 +142,7 @@ impl<'a> Reader<'a> {
     #[tactic(auto, unfolding(crate::specs::Step::text_field))]
     #[inline(always)]
     pub fn text(&mut self) -> Result<&'a [u8], RecordFault>
-        ensures exact { Answers (λ text. text.now) self.new result (text_field (reader_cursor self.old)) }
+        ensures exact { StepGives (λ text. text.now) self.new result (text_field (reader_cursor self.old)) }
     {
         let mut part = self.part;
         let read = part.text0();
@@ -153,7 +153,7 @@ impl<'a> Reader<'a> {
     #[tactic(auto, unfolding(crate::specs::Step::part_field, sf_bytes::specs::Cursor::part_at))]
     #[inline(always)]
     pub fn sub(&mut self, len: u64) -> Result<Reader<'a>, RecordFault>
-        ensures exact { Answers (reader_cursor) self.new result (part_field len (reader_cursor self.old)) }
+        ensures exact { StepGives (reader_cursor) self.new result (part_field len (reader_cursor self.old)) }
         ensures left { OnOk result (length self.new.part.bytes.now + len ≡ length self.old.part.bytes.now) }
     {
         let mut part = self.part;
@@ -166,7 +166,7 @@ impl<'a> Reader<'a> {
     #[inline(always)]
     pub fn number(&mut self, width: u8) -> Result<u64, RecordFault>
         requires { IsTrue (is_field_width width) }
-        ensures exact { Answers (λ x. x) self.new result (number_field width (reader_cursor self.old)) }
+        ensures exact { StepGives (λ x. x) self.new result (number_field width (reader_cursor self.old)) }
         ensures fits { IfOk result (λ raw. raw < 256 ^ width) }
     {
         match width {
@@ -187,7 +187,7 @@ impl<'a> Reader<'a> {
     #[inline(always)]
     pub fn pointer(&mut self, width: u8) -> Result<Field, RecordFault>
         requires { IsTrue (is_field_width width) }
-        ensures exact { Answers pointer_view self.new result (pointer_field width (reader_cursor self.old)) }
+        ensures exact { StepGives pointer_view self.new result (pointer_field width (reader_cursor self.old)) }
         ensures width { IfOk result (λ field. field.width ≡ width) }
         ensures place { IfOk result (λ field. field.place < 2 ^ 32) }
     {

@@ -1,9 +1,9 @@
 //! The records of a section.
 
-ghost use Rattle.std.specs.Prelude.{◌<◌, ◌+◌, ◌^◌, ◌≡◌, ◌++◌, OnOk, is_ok, length, map, true};
+ghost use Rattle.std.specs.Prelude.{◌<◌, ◌+◌, ◌^◌, ◌≡◌, ◌++◌, OnOk, is_ok, length, map, option_to_list, true};
 ghost use Rattle.std.specs.Option.{option_map};
 ghost use Rattle.eh_records.specs.Entry.{entry_view};
-ghost use Rattle.eh_records.specs.Section.{optional, entry_fields, entries_of};
+ghost use Rattle.eh_records.specs.Section.{entry_fields, entries_of};
 ghost use Rattle.eh_records.specs.Step.{pointer_view};
 
 use crate::cut::next_record;
@@ -17,7 +17,7 @@ use sf_bytes::Field;
 use sf_model::Arch;
 use std::alloc::Global;
 
-/// A section's records, all of which were read. It lends the section's bytes.
+/// A section's records. All were read. It lends the section's bytes.
 #[derive(Clone, Copy)]
 pub struct Records<'a> {
     bytes: &'a [u8],
@@ -28,7 +28,7 @@ pub struct Records<'a> {
 
 // Appends a field, if there is one.
 fn push_optional(fields: &mut Vec<Field>, field: Option<Field>) -> Result<(), NoMemory>
-    ensures { OnOk result (map pointer_view fields.new.items ≡ map pointer_view fields.old.items ++ optional (option_map pointer_view field)) }
+    ensures { OnOk result (map pointer_view fields.new.items ≡ map pointer_view fields.old.items ++ option_to_list (option_map pointer_view field)) }
 {
     if let Some(field) = field {
         fields.push(field)?;

@@ -24,7 +24,7 @@ use Rattle.eh_records.specs.declared.fault.RecordFault.TheVariants as record_fau
 use Rattle.eh_records.specs.Fde.{FdeView}
 use Rattle.eh_records.specs.Refused.{IsOfRecords}
 use Rattle.eh_records.specs.Section.{EntryView, entries_of, frames, pointer_fields}
-use Rattle.eh_records.specs.Span.{span_of, start_of}
+use Rattle.eh_records.specs.Span.{span_of}
 use Rattle.eh_records.proofs.EntriesFail.{is_refused}
 use Rattle.eh_records.proofs.OfRecords.{of_records}
 use Rattle.eh_pointer.specs.Pointer.{pointer_bits}
@@ -47,7 +47,7 @@ use Rattle.elf_reloc.specs.declared.table.Range.{Range}
 use Rattle.elf_reloc.specs.declared.target.Target.{Target}
 use Rattle.elf_reloc.specs.declared.target.Target.TheVariants.{Address, Unresolved, Dropped}
 use Rattle.elf_reloc.specs.Order.{overlap_check}
-use Rattle.elf_reloc.specs.Reading.{Relocation, aimed, all_fixes, applied, entry_fix, fixes_from, has_addends, inside, object_fixes, rel_check, relocations_in, section_state, written}
+use Rattle.elf_reloc.specs.Reading.{Relocation, aimed, applied, entry_fix, fixes_from, has_addends, inside, object_fixes, rel_check, relocations_in, section_fixes, written}
 use Rattle.elf_reloc.specs.Table.{fits, width_of}
 use Rattle.sf_asm.specs.declared.entry.Entry.{Entry}
 use Rattle.sf_asm.specs.declared.fault.AsmFault.{AsmFault}
@@ -185,14 +185,12 @@ unfolding rel_check has_addends
 with_addends file [] = tt
 with_addends file (i ∷ sections) = either is_reloc_refusal (has_addends file i) _ _ (with_addends file sections) refl
 
-reading : (p : Placing) (section : ℕ) → FaultIs is_reloc_refusal (section_state p section)
-unfolding section_state object_fixes
+reading : (p : Placing) (section : ℕ) → FaultIs is_reloc_refusal (section_fixes p section)
+unfolding section_fixes object_fixes
 reading p section =
     either is_reloc_refusal (is_rel p.file) _ _
-    (in_turn is_reloc_refusal (object_fixes p section) all_fixes
     (in_turn is_reloc_refusal (rel_check p.file (relocation_sections p.file section)) _ (with_addends p.file (relocation_sections p.file section))
     (λ x. entries p section 0 (relocations_in p.file (relocation_sections p.file section))))
-    (λ fixes. tt))
     tt
 
 not_twice : (end : ℕ) (fixes : List RelocatedField) → FaultIs is_reloc_refusal (overlap_check end fixes)
@@ -203,8 +201,8 @@ not_twice end (f ∷ fs) = either is_reloc_refusal (nat_lt f.place end) _ _ refl
 relocating : (p : Placing) (section : ℕ) → FaultIs is_reloc_refusal (relocations_of p section)
 unfolding relocations_of
 relocating p section =
-    in_turn is_reloc_refusal (section_state p section) _ (reading p section)
-    (λ state. in_turn is_reloc_refusal (overlap_check 0 (by_place state.fixes)) _ (not_twice 0 (by_place state.fixes)) (λ x. tt))
+    in_turn is_reloc_refusal (section_fixes p section) _ (reading p section)
+    (λ fixes. in_turn is_reloc_refusal (overlap_check 0 (by_place fixes)) _ (not_twice 0 (by_place fixes)) (λ x. tt))
 
 on_slots : (slots : List Slot) (fixes : List RelocatedField) → FaultIs is_reloc_refusal (slot_check slots fixes)
 unfolding slot_check
@@ -233,7 +231,7 @@ records arch section = records_from arch section (entries_of arch section) refl
 
 spans : (encoding place address shift : ℕ) (begin range : Option ℕ) → FaultIs is_record_refusal (span_of encoding place address shift begin range)
 spans encoding place address shift (Some begin) (Some range) =
-    either is_record_refusal (nat_lt (2 ^ 64) (start_of encoding place address shift begin + pointer_bits encoding range)) _ _ refl tt
+    either is_record_refusal (nat_lt (2 ^ 64) ((pointer_value encoding begin ((address + place) % 2 ^ 64) + shift) % 2 ^ 64 + pointer_bits encoding range)) _ _ refl tt
 spans encoding place address shift (Some begin) None = refl
 spans encoding place address shift None range = refl
 

@@ -1,5 +1,5 @@
 -- The values that are laid over the fields as they are read are the numbers of a patched copy.
-use Rattle.std.specs.Prelude.{◌↔◌, ◌==◌, ◌&&◌, is_none}
+use Rattle.std.specs.Prelude.{◌↔◌, ◌==◌, ◌&&◌, is_none, option_to_list}
 use Rattle.std.specs.List.{All, Contains, list_any}
 use Rattle.std.proofs.Common.{◌≡◌, ℕ, ◌+◌, ◌≤◌, Bool, true, false, cond, List, [], ◌∷◌, ◌++◌, length, get_or, drop, map, Option, Some, None, Result, Ok, Err, refl, sym, ap, subst, ◌∙◌, inl, inr, arith, eq-eqb}
 use Rattle.std.proofs.lemmas.Bool.{eqb-true}
@@ -12,7 +12,7 @@ use Rattle.sf_model.specs.declared.machine.Arch.{Arch}
 use Rattle.eh_records.specs.declared.fault.RecordFault.{RecordFault}
 use Rattle.eh_records.specs.Fde.{FdeView}
 use Rattle.eh_records.specs.Raw.{HoldsRaw, HoldRaw}
-use Rattle.eh_records.specs.Section.{EntryView, Common, Frame, optional, entries_of, frames, pointer_fields}
+use Rattle.eh_records.specs.Section.{EntryView, Common, Frame, entries_of, frames, pointer_fields}
 use Rattle.eh_records.specs.Span.{span_of}
 use Rattle.eh_records.specs.Step.{PointerField, pointer_view}
 use Rattle.eh_records.proofs.Rising.{fields_raw}
@@ -23,7 +23,7 @@ use Rattle.elf_reloc.specs.declared.fix.RelocatedField.{RelocatedField}
 use Rattle.elf_reloc.specs.Fields.{bits_in, is_dropped_in}
 use Rattle.elf_reloc.specs.Order.{first_at, has_width, lies_on, place_check}
 use Rattle.elf_reloc.specs.Patched.{patched, AreInside, AreRaw, IsUnresolved, IsDropped, Holds}
-use Rattle.elf_reloc.specs.Reading.{section_state}
+use Rattle.elf_reloc.specs.Reading.{section_fixes}
 use Rattle.elf_reloc.specs.Table.{width_of}
 use Rattle.elf_reloc.specs.Views.{Reads}
 use Rattle.elf_reloc.proofs.Checked.{hold, reads_drop}
@@ -61,13 +61,13 @@ All-right P (x ∷ xs) ys h = All-right P xs ys (All-tail P x (xs ++ ys) h)
 
 functions_same : (arch : Arch) (item : ℕ) (section : CallFrames) (v w : Values) (es : List EntryView) → All (SameOn v w) (pointer_fields es) → functions_in arch item section v (frames es) ≡ functions_in arch item section w (frames es)
 functions_same arch item section v w [] h = refl
-functions_same arch item section v w (Common c ∷ es) h = functions_same arch item section v w es (All-right (SameOn v w) (optional c.cie.personality) (pointer_fields es) h)
+functions_same arch item section v w (Common c ∷ es) h = functions_same arch item section v w es (All-right (SameOn v w) (option_to_list c.cie.personality) (pointer_fields es) h)
 functions_same arch item section v w (Frame f ∷ es) h =
-    let begin : SameOn v w f.begin = All-head (SameOn v w) f.begin (f.range ∷ (optional f.lsda ++ pointer_fields es)) h in
-    let behind : All (SameOn v w) (f.range ∷ (optional f.lsda ++ pointer_fields es)) = All-tail (SameOn v w) f.begin (f.range ∷ (optional f.lsda ++ pointer_fields es)) h in
-    let range : SameOn v w f.range = All-head (SameOn v w) f.range (optional f.lsda ++ pointer_fields es) behind in
-    let others : All (SameOn v w) (optional f.lsda ++ pointer_fields es) = All-tail (SameOn v w) f.range (optional f.lsda ++ pointer_fields es) behind in
-    let rest = functions_same arch item section v w es (All-right (SameOn v w) (optional f.lsda) (pointer_fields es) others) in
+    let begin : SameOn v w f.begin = All-head (SameOn v w) f.begin (f.range ∷ (option_to_list f.lsda ++ pointer_fields es)) h in
+    let behind : All (SameOn v w) (f.range ∷ (option_to_list f.lsda ++ pointer_fields es)) = All-tail (SameOn v w) f.begin (f.range ∷ (option_to_list f.lsda ++ pointer_fields es)) h in
+    let range : SameOn v w f.range = All-head (SameOn v w) f.range (option_to_list f.lsda ++ pointer_fields es) behind in
+    let others : All (SameOn v w) (option_to_list f.lsda ++ pointer_fields es) = All-tail (SameOn v w) f.range (option_to_list f.lsda ++ pointer_fields es) behind in
+    let rest = functions_same arch item section v w es (All-right (SameOn v w) (option_to_list f.lsda) (pointer_fields es) others) in
     ap (λ (b : Bool). one_and b (function_in arch item section v f) (functions_in arch item section v (frames es))) begin.dropped
     ∙ ap (λ (one : Result Function AsmFault). one_and (w.dropped f.begin) one (functions_in arch item section v (frames es))) (function_same arch item section v w f begin.bits range.bits)
     ∙ ap (λ (gs : Result (List Function) AsmFault). one_and (w.dropped f.begin) (function_in arch item section w f) gs) rest
@@ -179,13 +179,13 @@ of_map {Y = Y} P view (y ∷ ys) h = All-cons (λ (z : Y). P (view z)) y ys (All
 abbrev Same : List RelocatedField → List ℕ → PointerField → Type 0
 Same fixes section g = SameOn (overlaid fixes) (patched_values fixes section) g
 
-lie_same : (p : Placing) (number : ℕ) (section : List ℕ) (pointers : List PointerField) (fixes : List RelocatedField) → Reads (section_state p number) fixes → LieOn pointers fixes → HoldRaw section pointers → All (Same fixes section) pointers
+lie_same : (p : Placing) (number : ℕ) (section : List ℕ) (pointers : List PointerField) (fixes : List RelocatedField) → Reads (section_fixes p number) fixes → LieOn pointers fixes → HoldRaw section pointers → All (Same fixes section) pointers
 lie_same p number section pointers fixes reads lie raw =
     let held : All (λ (g : Field). HoldsRaw section (pointer_view g)) lie.fields = of_map (HoldsRaw section) pointer_view lie.fields (subst (HoldRaw section) (sym lie.viewed) raw) in
     let within : All (Within (length section)) lie.fields = λ k d lt. (held k d lt).within in
     let numbers : AreRaw section lie.fields = λ k d lt. (held k d lt).raw in
     let inside : AreInside (length section) fixes = all_inside (length section) lie.fields fixes within lie.lie in
-    let small = reads_small p number reads.state fixes reads.read reads.order.moved in
+    let small = reads_small p number reads.fixes fixes reads.read reads.order.moved in
     let holds = hold fixes section lie.fields reads.apart inside small lie.apart numbers lie.lie in
     let drops = reads_drop p number fixes lie.fields reads lie.apart lie.lie in
     let each : All (λ (g : Field). Same fixes section (pointer_view g)) lie.fields = λ k d lt.

@@ -32,7 +32,7 @@ use Rattle.eh_records.specs.declared.fault.RecordFault.{RecordFault}
 use Rattle.eh_records.specs.declared.fault.RecordFault.TheVariants as record_fault
 use Rattle.eh_records.specs.Fde.{FdeView}
 use Rattle.eh_records.specs.Section.{EntryView, cuts_of, entries_before, entries_of, frames, pointer_fields}
-use Rattle.eh_records.specs.Span.{bounded, span_of}
+use Rattle.eh_records.specs.Span.{span_of}
 use Rattle.eh_records.proofs.Faults.{read_again}
 use Rattle.eh_records.proofs.Keys.{keys_fit}
 use Rattle.cfa_machine.specs.Registers.{return_address}
@@ -74,7 +74,7 @@ pub record IsRead (arch : Arch) (f : Function) : Type 0 where
   pub key : IsTrue (key_fits f.arch f.key)
   pub runs : first_fault f.arch f.factor f.initial f.own ≡ None
 
-bounded_ends : (place start size : ℕ) (span : ℕ × ℕ) → bounded place start size ≡ Ok span → span.0 + span.1 ≤ 2 ^ 64
+bounded_ends : (place start size : ℕ) (span : ℕ × ℕ) → cond {A = Result (ℕ × ℕ) RecordFault} (nat_lt (2 ^ 64) (start + size)) (Err (record_fault.FunctionEnd place)) (Ok (start, size)) ≡ Ok span → span.0 + span.1 ≤ 2 ^ 64
 bounded_ends place start size span e = at_test (nat_lt (2 ^ 64) (start + size)) refl e
   where
     at_test : (b : Bool) → nat_lt (2 ^ 64) (start + size) ≡ b → cond {A = Result (ℕ × ℕ) RecordFault} b (Err (record_fault.FunctionEnd place)) (Ok (start, size)) ≡ Ok span → span.0 + span.1 ≤ 2 ^ 64

@@ -1,6 +1,5 @@
 use Rattle.std.proofs.Common.{◌≡◌, true, false, take, get_or, sym, ◌∙◌, arith}
-use Rattle.eh_records.specs.Augmentation.{is_new}
-use Rattle.eh_records.proofs.LetterLoop.{goes_on, stops, ends}
+use Rattle.eh_records.proofs.LetterLoop.{is_new, goes_on, stops, ends}
 use Rattle.eh_records.proofs.letters.letters_are_known.Goals as goal
 
 pub returns-then-not-is_new_letter : goal.returns-then-not-is_new_letter

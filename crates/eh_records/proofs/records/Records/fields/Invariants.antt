@@ -1,5 +1,5 @@
 use Rattle.std.proofs.Common.{◌≡◌, ◌++◌, length, map, true}
-use Rattle.eh_records.specs.Kept.{IsKept}
+use Rattle.eh_records.specs.Kept.{IsKeptEntry}
 use Rattle.eh_records.specs.Section.{are_read, cuts, cuts_of, entries_before, pointer_fields}
 use Rattle.eh_records.specs.Step.{reader_cursor, pointer_view}
 use Rattle.eh_records.proofs.records.Records.fields.Given as goal
@@ -8,7 +8,7 @@ abbrev pub invariant-loop-entry : goal.invariant-loop-entry
 invariant-loop-entry l = record {
   same : map pointer_view l.fields.items ++ pointer_fields (entries_before l.self.arch l.self.bytes.now (cuts (reader_cursor l.rest)))
       ≡ pointer_fields (entries_before l.self.arch l.self.bytes.now (cuts_of l.self.bytes.now));
-  kept : IsKept l.self.arch l.self.bytes.now l.kept;
+  kept : IsKeptEntry l.self.arch l.self.bytes.now l.kept;
   read : are_read l.self.arch l.self.bytes.now (cuts (reader_cursor l.rest)) ≡ true;
 }
 

@@ -5,7 +5,7 @@ use Rattle.sf_bytes.specs.Cursor.{Cursor}
 use Rattle.eh_records.specs.Cutting.{Stands}
 use Rattle.eh_records.specs.RawRecord.{RawRecordView, raw_record_view}
 use Rattle.eh_records.specs.Places.{IsRising, IsBefore}
-use Rattle.eh_records.specs.Section.{entries_of, fault_in, with_place}
+use Rattle.eh_records.specs.Section.{entries_of, fault_if_any, with_place}
 use Rattle.eh_records.specs.Step.{reader_cursor}
 use Rattle.eh_records.proofs.RisingPlaces.{rising_with, before_with}
 use Rattle.eh_records.proofs.Faults.{fault_from, begins, goes_on, refused, uncut, ended, whole, is_whole, fault_is}
@@ -23,7 +23,7 @@ loop-places-init c = record {
 pub returns-in_err-cut-clause-exact : goal.returns-in_err-cut-clause-exact
 returns-in_err-cut-clause-exact c =
     let p = err_from_is_err_and c.from_residual.result c.from_residual.ensures.1 in
-    let fault : fault_in (entries_of c.args.arch c.args.bytes.now) ≡ Some c.in_err-cut.field-0.0 =
+    let fault : fault_if_any (entries_of c.args.arch c.args.bytes.now) ≡ Some c.in_err-cut.field-0.0 =
     sym c.loop-places.invariant.fault ∙ uncut c.args.arch c.args.bytes.now c.loop-places.places.items (reader_cursor c.loop-places.rest) c.in_err-cut.field-0.0 c.in_err-cut.ensures.exact in
     rw (p.1, p.2) (inr (fault_is _ _ fault))
 
@@ -32,7 +32,7 @@ returns-in_err-read_after-clause-exact c =
     let p = err_from_is_err_and c.from_residual-in_err-read_after.result c.from_residual-in_err-read_after.ensures.1 in
     let cut_read = rw c.in-Some.is at c.in_ok-cut.ensures.exact in
     let read = rw c.as_slice.ensures.value at c.in_err-read_after.ensures.is in
-    let fault : fault_in (entries_of c.args.arch c.args.bytes.now) ≡ Some c.in_err-read_after.field-0.0 =
+    let fault : fault_if_any (entries_of c.args.arch c.args.bytes.now) ≡ Some c.in_err-read_after.field-0.0 =
     sym c.loop-places.invariant.fault ∙ refused c.args.arch c.args.bytes.now c.loop-places.places.items (reader_cursor c.loop-places.rest) (raw_record_view c.in-Some.cut) (reader_cursor c.next_record.new.rest) c.in_err-read_after.field-0.0 cut_read read in
     rw (p.1, p.2) (inr (fault_is _ _ fault))
 
@@ -56,13 +56,13 @@ loop-places-preserved c =
 pub returns-clause-exact : goal.returns-clause-exact
 returns-clause-exact c =
     let cut_read = rw c.in_default.is at c.in_ok-cut.ensures.exact in
-    let none : fault_in (entries_of c.args.arch c.args.bytes.now) ≡ None =
+    let none : fault_if_any (entries_of c.args.arch c.args.bytes.now) ≡ None =
     sym c.loop-places.invariant.fault ∙ ended c.args.arch c.args.bytes.now c.loop-places.places.items (reader_cursor c.loop-places.rest) cut_read in
     whole c.args.arch c.args.bytes.now none
 
 pub invariant_of-result-clause-whole : goal.invariant_of-result-clause-whole
 invariant_of-result-clause-whole c =
     let cut_read = rw c.in_default.is at c.in_ok-cut.ensures.exact in
-    let none : fault_in (entries_of c.args.arch c.args.bytes.now) ≡ None =
+    let none : fault_if_any (entries_of c.args.arch c.args.bytes.now) ≡ None =
     sym c.loop-places.invariant.fault ∙ ended c.args.arch c.args.bytes.now c.loop-places.places.items (reader_cursor c.loop-places.rest) cut_read in
     is_whole c.args.arch c.args.bytes.now none

@@ -1,16 +1,16 @@
 use Rattle.std.proofs.Common.{◌≡◌, length}
-use Rattle.eh_records.specs.Kept.{IsKept}
+use Rattle.eh_records.specs.Kept.{IsKeptEntry}
 use Rattle.eh_records.specs.Places.{IsRising, IsBefore}
-use Rattle.eh_records.specs.Section.{entries_of, fault_in}
+use Rattle.eh_records.specs.Section.{entries_of, fault_if_any}
 use Rattle.eh_records.specs.Step.{reader_cursor}
 use Rattle.eh_records.proofs.Faults.{fault_from}
 use Rattle.eh_records.proofs.records.Records.parse.Given as goal
 
 abbrev pub invariant-loop-places : goal.invariant-loop-places
 invariant-loop-places l = record {
-  fault : fault_from l.arch l.bytes l.places.items (reader_cursor l.rest) ≡ fault_in (entries_of l.arch l.bytes);
+  fault : fault_from l.arch l.bytes l.places.items (reader_cursor l.rest) ≡ fault_if_any (entries_of l.arch l.bytes);
   rising : IsRising l.places.items;
-  kept : IsKept l.arch l.bytes l.kept;
+  kept : IsKeptEntry l.arch l.bytes l.kept;
   before : IsBefore l.rest.part.place l.places.items;
 }
 
