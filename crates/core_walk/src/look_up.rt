@@ -5,7 +5,7 @@ ghost use Rattle.std.specs.Option.{option_map};
 ghost use Rattle.sf_model.specs.Content.{content_fits};
 ghost use Rattle.sf_model.specs.Lookup.{FoundRow, found_at};
 ghost use Rattle.sf_decode.specs.View.{table_of};
-ghost use Rattle.sf_lookup.specs.Indexed.{table_in};
+ghost use Rattle.sf_lookup.specs.Indexed.{indexed_table};
 ghost use Rattle.sf_lookup.specs.Lookup.{shown};
 
 use sf_decode::View;
@@ -35,7 +35,7 @@ impl<'a> LookUp for View<'a> {
 
 /// The rows of a section that was put in order.
 impl<'a> LookUp for Indexed<'a> {
-    ghost found_at = { λ indexed. found_at (table_in indexed).functions };
+    ghost found_at = { λ indexed. found_at (indexed_table indexed).functions };
 
     fn look_up(&self, pc: u64) -> Option<(Arch, Found)> {
         let found = self.find(pc)?;

@@ -13,7 +13,7 @@ use Rattle.std.proofs.lemmas.List.{get_or_default, take_all}
 use Rattle.std.proofs.lemmas.List.Elements.{All-cons, All-contains, All-from_recursion, All-head, All-push, All-tail, All-weaker, Contains-append_left, Contains-append_right, Contains-push}
 use Rattle.std.proofs.lemmas.List.Sorted.{All-permutation, Contains-permutation}
 use Rattle.sf_lookup.specs.declared.span.Span.{Span}
-use Rattle.sf_lookup.specs.Begins.{AreInOrder, start_of}
+use Rattle.sf_lookup.specs.Begins.{AreByStart, start_of}
 use Rattle.sf_lookup.specs.Span.{answer_of, covers}
 use Rattle.sf_lookup.specs.Sweep.{HasBegun, IsAtPoint, IsKept, last_first}
 use Rattle.sf_lookup.proofs.Covering.{covered}
@@ -51,7 +51,7 @@ one_number n numbers new grown h = subst (AreNumbers (n + 1)) (sym grown) (recor
     upto k (inl before) within = Contains-append_left numbers (n ∷ []) k (h.all k before)
     upto k (inr from) within = let here : n ≡ k = omega (from, within, arith) in subst (Contains (numbers ++ n ∷ [])) here (Contains-push numbers n)
 
-pub put_in_order : {A : Type 0} (spans : List (Span A)) (n : ℕ) (numbers new : List ℕ) → n ≡ length spans → AreNumbers n numbers → IsPermutation numbers new → IsNonDecreasingBy (start_of spans) new → AreInOrder spans new
+pub put_in_order : {A : Type 0} (spans : List (Span A)) (n : ℕ) (numbers new : List ℕ) → n ≡ length spans → AreNumbers n numbers → IsPermutation numbers new → IsNonDecreasingBy (start_of spans) new → AreByStart spans new
 put_in_order spans n numbers new all h moved rise = record {
   rise = rise;
   each = All-weaker (λ (k : ℕ). k < n) (λ (k : ℕ). k < length spans) (λ k lt. omega (lt, all, arith)) new (All-permutation (λ (k : ℕ). k < n) numbers new moved h.each);

@@ -11,7 +11,7 @@ start_of (s ∷ spans) zero = s.start
 start_of (s ∷ spans) (suc number) = start_of spans number
 
 -- these are the numbers of the spans, in the order in which the spans begin
-pub record AreInOrder {A : Type 0} (spans : List (Span A)) (numbers : List ℕ) : Type 0 where
+pub record AreByStart {A : Type 0} (spans : List (Span A)) (numbers : List ℕ) : Type 0 where
   pub rise : IsNonDecreasingBy (start_of spans) numbers
   pub each : All (λ (k : ℕ). k < length spans) numbers
   pub all : (k : ℕ) → k < length spans → Contains numbers k

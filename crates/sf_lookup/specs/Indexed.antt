@@ -9,5 +9,5 @@ abbrev pub view_in : Indexed → View
 view_in indexed = indexed.view
 
 -- the section's table
-abbrev pub table_in : Indexed → Table
-table_in indexed = table_of indexed.view
+abbrev pub indexed_table : Indexed → Table
+indexed_table indexed = table_of indexed.view

@@ -53,7 +53,7 @@ impl<'a> Indexed<'a> {
     ghost use Rattle.sf_model.specs.Content.{content_fits};
     ghost use Rattle.sf_model.specs.Lookup.{contains, found_at};
     ghost use Rattle.sf_decode.specs.View.{function_of};
-    ghost use Rattle.sf_lookup.specs.Indexed.{table_in, view_in};
+    ghost use Rattle.sf_lookup.specs.Indexed.{indexed_table, view_in};
     ghost use Rattle.sf_lookup.specs.Lookup.{shown};
     ghost use Rattle.sf_lookup.specs.Steps.{AreFew, IsWithinDigits};
 
@@ -88,10 +88,10 @@ impl<'a> Indexed<'a> {
 
     // Finds the number of the first function that contains the address.
     fn first_containing<L: Ledger>(&self, pc: u64, steps: &mut Steps<L>) -> Option<u32>
-        ensures within { IfSome result (λ i. i < length (table_in self.now).functions) }
-        ensures first { option_map (function_of (view_in self.now)) result ≡ find (contains pc) (table_in self.now).functions }
+        ensures within { IfSome result (λ i. i < length (indexed_table self.now).functions) }
+        ensures first { option_map (function_of (view_in self.now)) result ≡ find (contains pc) (indexed_table self.now).functions }
         ensures counted { steps.old ≤ steps.new }
-        ensures cost { IsWithinDigits (steps.new - steps.old) (2 * length (table_in self.now).functions) }
+        ensures cost { IsWithinDigits (steps.new - steps.old) (2 * length (indexed_table self.now).functions) }
     {
         functions_are_numbered(&self.view);
         match &self.spans {
@@ -104,11 +104,11 @@ impl<'a> Indexed<'a> {
     /// Each start or end of a function that is looked at is a step, each marked row that is looked at, and each row
     /// that is read.
     pub fn find_counted<L: Ledger>(&self, pc: u64, steps: &mut Steps<L>) -> Option<Found>
-        ensures found { result ≡ option_map shown (found_at (table_in self.now).functions pc) }
-        ensures fits { IfSome result (λ found. IsTrue (content_fits (table_in self.now).arch found.row.content)) }
+        ensures found { result ≡ option_map shown (found_at (indexed_table self.now).functions pc) }
+        ensures fits { IfSome result (λ found. IsTrue (content_fits (indexed_table self.now).arch found.row.content)) }
         ensures counted { steps.old ≤ steps.new }
         // At most the binary digits of the number of functions' starts and ends, those of the number of rows, and 64.
-        ensures cost { AreFew (table_in self.now).functions (steps.new - steps.old) }
+        ensures cost { AreFew (indexed_table self.now).functions (steps.new - steps.old) }
     {
         let i = self.first_containing(pc, steps)?;
         let func = self.view.func(i);
@@ -122,8 +122,8 @@ impl<'a> Indexed<'a> {
         requires name { blank.name ≡ L.name }
         requires parts { blank.parts ≡ L.parts }
         requires some { 0 < blank.parts }
-        ensures found { result ≡ option_map shown (found_at (table_in self.now).functions pc) }
-        ensures fits { IfSome result (λ found. IsTrue (content_fits (table_in self.now).arch found.row.content)) }
+        ensures found { result ≡ option_map shown (found_at (indexed_table self.now).functions pc) }
+        ensures fits { IfSome result (λ found. IsTrue (content_fits (indexed_table self.now).arch found.row.content)) }
     {
         self.find_counted(pc, &mut Steps::<L>::new(blank))
     }
@@ -131,8 +131,8 @@ impl<'a> Indexed<'a> {
     /// Finds the function and the row that hold at an address: those that [`find`](crate::find) finds in the section,
     /// in the steps of [`Indexed::find_counted`].
     pub fn find(&self, pc: u64) -> Option<Found>
-        ensures found { result ≡ option_map shown (found_at (table_in self.now).functions pc) }
-        ensures fits { IfSome result (λ found. IsTrue (content_fits (table_in self.now).arch found.row.content)) }
+        ensures found { result ≡ option_map shown (found_at (indexed_table self.now).functions pc) }
+        ensures fits { IfSome result (λ found. IsTrue (content_fits (indexed_table self.now).arch found.row.content)) }
     {
         self.find_uncounted::<Brand>(pc, Blank::new(1))
     }

@@ -1,7 +1,7 @@
 //! A scan of spans from the least address up.
 
 ghost use Rattle.std.specs.Prelude.{◌≡◌, IfOk};
-ghost use Rattle.sf_lookup.specs.Begins.{AreInOrder, start_of};
+ghost use Rattle.sf_lookup.specs.Begins.{AreByStart, start_of};
 
 use crate::span::{Span, covers};
 use std::alloc::{AllocError, Global};
@@ -22,7 +22,7 @@ fn start_of<A>(spans: &[Span<A>], number: u32) -> u64
 ///
 /// `AllocError` where memory ran out, and for 2^32 spans or more.
 pub fn numbers_of<A>(alloc: Global, spans: &[Span<A>]) -> Result<Vec<u32>, AllocError>
-    ensures { IfOk result (λ numbers. AreInOrder spans.now numbers.items) }
+    ensures { IfOk result (λ numbers. AreByStart spans.now numbers.items) }
 {
     let Ok(count) = u32::try_from(spans.len()) else {
         return Err(AllocError);
@@ -55,7 +55,7 @@ impl<'a, A: Copy> Sweep<'a, A> {
         spans: &'a [Span<A>],
         numbers: &'a [u32],
     ) -> Result<Sweep<'a, A>, AllocError>
-        requires { AreInOrder spans.now numbers.now }
+        requires { AreByStart spans.now numbers.now }
         ensures at { IfOk result (λ sweep. (point : ℕ) → IsAt point sweep) }
         ensures spans { IfOk result (λ sweep. sweep.spans.now ≡ spans.now) }
     {

@@ -1,7 +1,7 @@
 //! The modules of a process, put in order once for all walks.
 
 ghost use Rattle.std.specs.Prelude.{◌≡◌, IfOk, map};
-ghost use Rattle.sf_lookup.specs.Indexed.{table_in};
+ghost use Rattle.sf_lookup.specs.Indexed.{indexed_table};
 ghost use Rattle.sf_lookup.specs.Spans.{InOrder};
 ghost use Rattle.core_walk.specs.Walk.{listing, thread_state};
 ghost use Rattle.sf_modules.specs.Entry.{entry_view};
@@ -29,12 +29,12 @@ pub struct Modules<'m> {
     spans: Spans<Option<u32>>,
     sections: Vec<Indexed<'m>>,
     ghost ordered: { InOrder spans (map (span_of (map module_view modules.now)) (map entry_view entries.now)) },
-    ghost indexed: { map table_in sections.items ≡ tables_of (map module_view modules.now) },
+    ghost indexed: { map indexed_table sections.items ≡ tables_of (map module_view modules.now) },
 }
 
 // The modules' sections, put in order.
 fn sections_of<'a>(alloc: Global, modules: &[Module<'_, 'a>]) -> Result<Vec<Indexed<'a>>, NoMemory>
-    ensures { IfOk result (λ sections. map table_in sections.items ≡ tables_of (map module_view modules.now)) }
+    ensures { IfOk result (λ sections. map indexed_table sections.items ≡ tables_of (map module_view modules.now)) }
 {
     let mut sections = Vec::new(alloc);
     for item in modules {
