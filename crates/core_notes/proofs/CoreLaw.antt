@@ -13,11 +13,11 @@ use Rattle.elf_read.specs.Parsing.{file_check}
 use Rattle.elf_read.specs.Sections.{segment_count}
 use Rattle.core_notes.specs.declared.fault.CoreFault.{CoreFault}
 use Rattle.core_notes.specs.declared.fault.CoreFault.TheVariants.{NotCore, Note, NoThread, StatusSize, TooManyThreads}
-use Rattle.core_notes.specs.Checks.{Check, core_check, core_part, count_check, elf_part, file_threads, is_core_kind, items_check, note_check, through_status}
+use Rattle.core_notes.specs.Checks.{Check, core_check, core_part, thread_count_check, elf_part, file_threads, is_core_kind, items_check, note_check, through_status}
 use Rattle.core_notes.specs.Core.{IsCore, after_first_status, mask_fits, status_fits}
 use Rattle.core_notes.specs.Listing.{Item, items_of, whole_notes}
 use Rattle.core_notes.specs.Note.{NoteView}
-use Rattle.core_notes.specs.Room.{room_check}
+use Rattle.core_notes.specs.Room.{note_room_check}
 use Rattle.core_notes.specs.Segment.{segments}
 use Rattle.core_notes.specs.Thread.{is_mask_note, is_status, status_size, threads_in}
 use Rattle.core_notes.proofs.Checked.{all_through}
@@ -149,12 +149,12 @@ is_zero_false : (n : ℕ) → not (n == 0) ≡ true → 1 ≤ n
 is_zero_false zero h = absurd (let differ : false ≡ true = h in cc)
 is_zero_false (suc n) h = omega arith
 
-count_fits : (n : ℕ) → count_check n ≡ Ok tt → (1 ≤ n) × (n ≤ 4096)
+count_fits : (n : ℕ) → thread_count_check n ≡ Ok tt → (1 ≤ n) × (n ≤ 4096)
 count_fits n h =
     let p = both_fine (unless (not (n == 0)) NoThread) (unless (nat_le n 4096) TooManyThreads) h in
     (is_zero_false n (unless_true (not (n == 0)) NoThread p.0), leb-true n 4096 (unless_true (nat_le n 4096) TooManyThreads p.1))
 
-fits_count : (n : ℕ) → 1 ≤ n → n ≤ 4096 → count_check n ≡ Ok tt
+fits_count : (n : ℕ) → 1 ≤ n → n ≤ 4096 → thread_count_check n ≡ Ok tt
 fits_count n some most =
     fine_then (unless (not (n == 0)) NoThread) (unless (nat_le n 4096) TooManyThreads)
     (true_unless (not (n == 0)) NoThread (ap not (ne_eqb n 0 (λ e. omega (e, some, arith))))) (true_unless (nat_le n 4096) TooManyThreads (le-leb n 4096 most))
@@ -165,9 +165,9 @@ checked_is_core file h =
     let arch = arch_of file in
     let elf = both_fine (elf_part (file_check file)) (core_part file) h in
     let kind = unless (is_core_kind (kind_of file)) NotCore in
-    let room = elf_part (each_below (segment_count file) (room_check file)) in
+    let room = elf_part (each_below (segment_count file) (note_room_check file)) in
     let notes = items_check arch false (through_status 4097 (items_of file)) in
-    let counted = both_fine (kind >> room >> notes) (count_check (length (file_threads file))) elf.1 in
+    let counted = both_fine (kind >> room >> notes) (thread_count_check (length (file_threads file))) elf.1 in
     let parts = both_fine (kind >> room) notes counted.0 in
     let first = both_fine kind room parts.0 in
     let count = count_fits (length (file_threads file)) counted.1 in
@@ -176,7 +176,7 @@ checked_is_core file h =
     record {
       elf = elf_fine (file_check file) elf.0;
       kind = kind_is (kind_of file) (unless_true (is_core_kind (kind_of file)) NotCore first.0);
-      room = checked_has_room file (elf_fine (each_below (segment_count file) (room_check file)) first.1);
+      room = checked_has_room file (elf_fine (each_below (segment_count file) (note_room_check file)) first.1);
       notes_are = read_are_notes (segments file) sized.0;
       statuses = sized.1.statuses;
       masks = sized.1.masks;
@@ -194,14 +194,14 @@ core_is_checked file notes c =
     let few : length (file_threads file) < 4097 = let same = ap (λ (ns : List NoteView). length (threads_in arch ns)) read in omega (same, c.most, arith) in
     let checked : items_check arch false (through_status 4097 (items_of file)) ≡ Ok tt =
     ap (items_check arch false) (all_through arch 4097 (items_of file) few ∙ items) ∙ sized_items arch false notes sized in
-    let room : elf_part (each_below (segment_count file) (room_check file)) ≡ Ok tt = ap elf_part (room_is_checked file c.room) in
-    let count : count_check (length (file_threads file)) ≡ Ok tt = ap (λ (ns : List NoteView). count_check (length (threads_in arch ns))) read ∙ fits_count (length (threads_in arch notes)) c.some c.most in
+    let room : elf_part (each_below (segment_count file) (note_room_check file)) ≡ Ok tt = ap elf_part (room_is_checked file c.room) in
+    let count : thread_count_check (length (file_threads file)) ≡ Ok tt = ap (λ (ns : List NoteView). thread_count_check (length (threads_in arch ns))) read ∙ fits_count (length (threads_in arch notes)) c.some c.most in
     let kind : unless (is_core_kind (kind_of file)) NotCore ≡ Ok tt = ap (λ (k : Kind). unless (is_core_kind k) NotCore) c.kind in (
       fine_then (elf_part (file_check file)) (core_part file) (ap elf_part c.elf)
-          (fine_then (unless (is_core_kind (kind_of file)) NotCore >> elf_part (each_below (segment_count file) (room_check file)) >> items_check arch false (through_status 4097 (items_of file)))
-          (count_check (length (file_threads file)))
-          (fine_then (unless (is_core_kind (kind_of file)) NotCore >> elf_part (each_below (segment_count file) (room_check file))) (items_check arch false (through_status 4097 (items_of file)))
-          (fine_then (unless (is_core_kind (kind_of file)) NotCore) (elf_part (each_below (segment_count file) (room_check file))) kind room) checked) count),
+          (fine_then (unless (is_core_kind (kind_of file)) NotCore >> elf_part (each_below (segment_count file) (note_room_check file)) >> items_check arch false (through_status 4097 (items_of file)))
+          (thread_count_check (length (file_threads file)))
+          (fine_then (unless (is_core_kind (kind_of file)) NotCore >> elf_part (each_below (segment_count file) (note_room_check file))) (items_check arch false (through_status 4097 (items_of file)))
+          (fine_then (unless (is_core_kind (kind_of file)) NotCore) (elf_part (each_below (segment_count file) (note_room_check file))) kind room) checked) count),
       read,
     )
 

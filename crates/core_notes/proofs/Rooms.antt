@@ -15,7 +15,7 @@ use Rattle.elf_read.specs.Sections.{segment_count, segment_total}
 use Rattle.elf_read.specs.Views.{file}
 use Rattle.elf_read.proofs.Each.{both_fine, each_below-at}
 use Rattle.elf_read.proofs.Rules.{file_check_is}
-use Rattle.core_notes.specs.Room.{HasRoom, note_size, note_size_below, room_check}
+use Rattle.core_notes.specs.Room.{HasNoteRoom, note_size, note_size_below, note_room_check}
 use Rattle.core_notes.specs.Segment.{segment_of}
 
 -- ---- one segment after the other
@@ -31,15 +31,15 @@ pub note_size_below-more : (file : List ℕ) (i : ℕ) → note_size_below file 
 note_size_below-more file i = let next : i + 1 ≡ suc i = omega arith in ap (note_size_below file) next ∙ after_suc file i
 
 -- the check of a segment, by what those up to it have together
-pub room-holds : (file : List ℕ) (i taken : ℕ) → taken ≡ note_size_below file (i + 1) → taken ≤ length file → room_check file i ≡ Ok tt
-unfolding room_check
+pub room-holds : (file : List ℕ) (i taken : ℕ) → taken ≡ note_size_below file (i + 1) → taken ≤ length file → note_room_check file i ≡ Ok tt
+unfolding note_room_check
 room-holds file i taken is fits =
     let next : i + 1 ≡ suc i = omega arith in
     let same : taken ≡ note_size_below file (suc i) = is ∙ ap (note_size_below file) next in
     ap (λ (b : Bool). unless b (OutOfFile (program_header file i))) (ap (λ (n : ℕ). nat_le n (length file)) (sym same) ∙ le-leb taken (length file) fits)
 
-pub room-fails : (file : List ℕ) (i taken : ℕ) → taken ≡ note_size_below file (i + 1) → length file < taken → room_check file i ≡ Err (OutOfFile (program_header file i))
-unfolding room_check
+pub room-fails : (file : List ℕ) (i taken : ℕ) → taken ≡ note_size_below file (i + 1) → length file < taken → note_room_check file i ≡ Err (OutOfFile (program_header file i))
+unfolding note_room_check
 room-fails file i taken is over =
     let next : i + 1 ≡ suc i = omega arith in
     let same : taken ≡ note_size_below file (suc i) = is ∙ ap (note_size_below file) next in
@@ -50,21 +50,21 @@ passes : (test : Bool) (e : ElfFault) → unless test e ≡ Ok tt → test ≡ t
 passes true e h = refl
 passes false e h = absurd (let differ : Err e ≡ Ok tt = h in cc)
 
-room_upto : (file : List ℕ) (i : ℕ) → room_check file i ≡ Ok tt → note_size_below file (suc i) ≤ length file
-unfolding room_check
+room_upto : (file : List ℕ) (i : ℕ) → note_room_check file i ≡ Ok tt → note_size_below file (suc i) ≤ length file
+unfolding note_room_check
 room_upto file i h = leb-true (note_size_below file (suc i)) (length file) (passes (nat_le (note_size_below file (suc i)) (length file)) (OutOfFile (program_header file i)) h)
 
-pub checked_has_room : (file : List ℕ) → each_below (segment_count file) (room_check file) ≡ Ok tt → HasRoom file
+pub checked_has_room : (file : List ℕ) → each_below (segment_count file) (note_room_check file) ≡ Ok tt → HasNoteRoom file
 checked_has_room file h zero upto = let none = note_size_below-none file in omega (none, arith)
-checked_has_room file h (suc i) upto = room_upto file i (each_below-at (segment_count file) i (room_check file) (omega (upto, arith)) h)
+checked_has_room file h (suc i) upto = room_upto file i (each_below-at (segment_count file) i (note_room_check file) (omega (upto, arith)) h)
 
 each_fine : {E : Type 0} (n : ℕ) (check : ℕ → Result (Unit {0}) E) → ((i : ℕ) → i < n → check i ≡ Ok tt) → each_below n check ≡ Ok tt
 unfolding each_below
 each_fine zero check h = refl
 each_fine (suc n) check h = ap (λ (c : Result (Unit {0}) _). c >> check n) (each_fine n check (λ i lt. h i (omega (lt, arith)))) ∙ h n (omega arith)
 
-pub room_is_checked : (file : List ℕ) → HasRoom file → each_below (segment_count file) (room_check file) ≡ Ok tt
-room_is_checked file h = each_fine (segment_count file) (room_check file) (λ i lt. room-holds file i (note_size_below file (i + 1)) refl (h (i + 1) (omega (lt, arith))))
+pub room_is_checked : (file : List ℕ) → HasNoteRoom file → each_below (segment_count file) (note_room_check file) ≡ Ok tt
+room_is_checked file h = each_fine (segment_count file) (note_room_check file) (λ i lt. room-holds file i (note_size_below file (i + 1)) refl (h (i + 1) (omega (lt, arith))))
 
 -- ---- the program headers are in the file
 headers_by : (file : List ℕ) (i : ℕ) → core_check file ≡ Ok tt → i < segment_total file → (header_fields file).e_phoff + 56 * i < length file

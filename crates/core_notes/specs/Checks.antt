@@ -13,9 +13,10 @@ use Rattle.core_notes.specs.declared.fault.CoreFault.TheVariants.{Elf, NotCore, 
 use Rattle.core_notes.specs.declared.status.Thread.{Thread}
 use Rattle.core_notes.specs.Note.{NoteView}
 use Rattle.core_notes.specs.Listing.{Item, items_of, whole_notes}
-use Rattle.core_notes.specs.Room.{room_check}
+use Rattle.core_notes.specs.Room.{note_room_check}
 use Rattle.core_notes.specs.Thread.{is_mask_note, is_status, status_size, threads_in}
 
+-- what a check of a core file comes to: it passes, or has a fault
 abbrev pub Check : Type 0
 Check = Result (Unit {0}) CoreFault
 
@@ -25,7 +26,7 @@ note_check arch after_thread n =
     where_so (is_status n) (unless (length n.descriptor.left == status_size arch) (StatusSize n.place))
     >> where_so (after_thread && is_mask_note arch n) (unless (length n.descriptor.left == 16) (Note n.place))
 
--- each note in order; one that is cut is a fault
+-- each note in order; one that ends after its segment is a fault
 unfoldable pub items_check : Arch → (after_thread : Bool) → List Item → Check
 items_check arch after_thread [] = Ok tt
 items_check arch after_thread (Err place ∷ items) = Err (Note place)
@@ -38,7 +39,7 @@ through_status (suc n) [] = []
 through_status (suc n) (Err place ∷ items) = Err place ∷ through_status (suc n) items
 through_status (suc n) (Ok x ∷ items) = Ok x ∷ through_status (if is_status x then n else suc n) items
 
--- checks of the ELF file
+-- a check of the ELF file, whose fault is the core file's
 abbrev pub elf_part : Result (Unit {0}) ElfFault → Check
 elf_part (Ok x) = Ok tt
 elf_part (Err fault) = Err (Elf fault)
@@ -47,11 +48,11 @@ elf_part (Err fault) = Err (Elf fault)
 abbrev pub file_threads : List ℕ → List Thread
 file_threads file = threads_in (arch_of file) (whole_notes (items_of file))
 
--- at least one thread, and at most 4096
-abbrev pub count_check : (threads : ℕ) → Check
-count_check threads = unless (not (threads == 0)) NoThread >> unless (nat_le threads 4096) TooManyThreads
+-- there are at least one thread and at most 4096
+abbrev pub thread_count_check : (threads : ℕ) → Check
+thread_count_check threads = unless (not (threads == 0)) NoThread >> unless (nat_le threads 4096) TooManyThreads
 
--- ET_CORE
+-- the file is a core file: ET_CORE
 abbrev pub is_core_kind : Kind → Bool
 is_core_kind Rel = false
 is_core_kind Exec = false
@@ -63,9 +64,9 @@ is_core_kind Core = true
 unfoldable pub core_part : List ℕ → Check
 core_part file =
     unless (is_core_kind (kind_of file)) NotCore
-    >> elf_part (each_below (segment_count file) (room_check file))
+    >> elf_part (each_below (segment_count file) (note_room_check file))
     >> items_check (arch_of file) false (through_status 4097 (items_of file))
-    >> count_check (length (file_threads file))
+    >> thread_count_check (length (file_threads file))
 
 -- all checks: the first that fails is the file's fault
 abbrev pub core_check : List ℕ → Check

@@ -8,7 +8,7 @@ use Rattle.elf_read.specs.Header.{arch_of, kind_of}
 use Rattle.elf_read.specs.Parsing.{file_check}
 use Rattle.core_notes.specs.Note.{NoteView}
 use Rattle.core_notes.specs.Listing.{AreNotes}
-use Rattle.core_notes.specs.Room.{HasRoom}
+use Rattle.core_notes.specs.Room.{HasNoteRoom}
 use Rattle.core_notes.specs.Segment.{segments}
 use Rattle.core_notes.specs.Thread.{is_mask_note, is_status, status_size, threads_in}
 
@@ -29,7 +29,7 @@ after_first_status (n ∷ ns) = if is_status n then ns else after_first_status n
 pub record IsCore (file : List ℕ) (notes : List NoteView) : Type 0 where
   pub elf : file_check file ≡ Ok tt
   pub kind : kind_of file ≡ kinds.Core
-  pub room : HasRoom file
+  pub room : HasNoteRoom file
   pub notes_are : AreNotes (segments file) notes
   pub statuses : IsTrue (list_all (status_fits (arch_of file)) notes)
   pub masks : IsTrue (list_all (mask_fits (arch_of file)) (after_first_status notes))

@@ -34,12 +34,12 @@ abbrev pub AreNotes : List SegmentView → List NoteView → Type 0
 AreNotes [] notes = notes ≡ []
 AreNotes (s ∷ ss) notes = (here later : List NoteView) × (notes ≡ here ++ later) × AreSegmentNotes (holds_notes s) s here × AreNotes ss later
 
--- ---- the same as a list that ends at a note that is cut
--- a note, or the place of one that is cut
+-- ---- the notes as a list, which ends at a note that ends after its segment
+-- a note, or the place of one that ends after its segment
 abbrev pub Item : Type 0
 Item = Result NoteView ℕ
 
--- how many bytes are left after the note
+-- the number of bytes after the note
 abbrev pub left_after : Read NoteView → ℕ
 left_after (Ok (n, after)) = length after.left
 left_after (Err e) = 0
@@ -49,7 +49,7 @@ abbrev pub front_of : (place : ℕ) → Read NoteView → List Item → List Ite
 front_of place (Ok (n, after)) others = Ok n ∷ others
 front_of place (Err e) others = Err place ∷ []
 
--- the notes after this many further bytes of a note that was read
+-- the notes after this number of bytes, which are of a note that was read
 unfoldable pub notes_after : (skipped place : ℕ) → List ℕ → List Item
 notes_after skipped place [] = []
 notes_after (suc n) place (b ∷ bs) = notes_after n (place + 1) bs
@@ -61,6 +61,7 @@ notes_after zero place (b ∷ bs) =
 abbrev pub notes_from : Cursor → List Item
 notes_from at = notes_after 0 at.place at.left
 
+-- the notes of a segment
 abbrev pub segment_items : SegmentView → List Item
 segment_items s = if holds_notes s then notes_from (segment_cursor s) else []
 
@@ -68,17 +69,18 @@ segment_items s = if holds_notes s then notes_from (segment_cursor s) else []
 abbrev pub items_of : List ℕ → List Item
 items_of bytes = flat_map segment_items (segments bytes)
 
--- the notes without those that are cut
+-- the notes that end in their segments
 unfoldable pub whole_notes : List Item → List NoteView
 whole_notes [] = []
 whole_notes (Ok n ∷ items) = n ∷ whole_notes items
 whole_notes (Err place ∷ items) = whole_notes items
 
--- ---- what an iterator has left
+-- ---- an iterator
+-- the notes that an iterator has left
 abbrev pub items_left : Notes → List Item
 items_left notes = notes_from (cursor notes.rest) ++ flat_map segment_items (drop notes.segment (segments (file notes.elf)))
 
--- what an item as it is lent stands for
+-- an item as the code has it
 abbrev pub item : Result Note ℕ → Item
 item (Ok n) = Ok (note_view n)
 item (Err place) = Err place

@@ -5,13 +5,15 @@ use Rattle.sf_model.specs.Memory.{Region, holds_eight}
 use Rattle.sf_lookup.specs.declared.span.Span.{Span}
 use Rattle.core_notes.specs.Segment.{SegmentView, is_load, segments}
 
+-- a segment's bytes at its address
 abbrev pub region_of : SegmentView → Region
 region_of s = record { start = s.vaddr; bytes = s.bytes }
 
--- the regions of segments, and of a file, in the order of their headers
+-- the memory of segments, in the order of their headers
 abbrev pub regions_in : List SegmentView → List Region
 regions_in ss = map region_of (filter is_load ss)
 
+-- the memory of a file
 abbrev pub file_regions : List ℕ → List Region
 file_regions file = regions_in (segments file)
 

@@ -1,4 +1,4 @@
--- What a core file's memory has at an address (ELF64 gABI, "Program Header"): bytes of any number, and whether they may be executed.
+-- What a core file's memory has at an address (ELF64 gABI, "Program Header"): any number of bytes, and whether they may be executed.
 use Rattle.std.specs.Prelude.{ℕ, ◌+◌, ◌-◌, ◌==◌, Bool, ◌&&◌, nat_le, nat_lt, List, length, map, take, drop, Option, if◌then◌else◌}
 use Rattle.std.specs.List.{find, range_with_len}
 use Rattle.std.specs.Option.{option_map}
@@ -39,5 +39,6 @@ is_bytes_holder address len s = is_load s && holds_bytes address len (region_of 
 abbrev pub load_span : List ℕ → (i : ℕ) → Span Bool
 load_span file i = record { start = p_vaddr file i; size = (if p_type file i == 1 then p_memsz file i else 0); leads_to = is_executable file i }
 
+-- the addresses of all segments
 abbrev pub load_spans : List ℕ → List (Span Bool)
 load_spans file = map (load_span file) (range_with_len 0 (segment_count file))

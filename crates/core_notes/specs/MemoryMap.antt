@@ -1,4 +1,4 @@
--- The memory of a core file that was put in order for questions of what an address has.
+-- The memory of a core file that was put in order to find what is at an address.
 use Rattle.std.specs.Prelude.{ℕ, List}
 use Rattle.core_notes.specs.declared.memory_map.MemoryMap.{MemoryMap}
 use Rattle.core_notes.specs.CoreMemory.{bytes_in}

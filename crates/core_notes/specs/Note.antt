@@ -12,14 +12,15 @@ pub record NoteView : Type 0 where
   pub kind : ℕ
   pub descriptor : Cursor
 
+-- a note as the code has it
 abbrev pub note_view : Note → NoteView
 note_view n = record { place = n.place; name = n.name.now; kind = n.kind; descriptor = cursor n.descriptor }
 
--- how many bytes bring a size to a multiple of 4
+-- the number of bytes that bring a size to a multiple of 4
 abbrev pub padding : ℕ → ℕ
 padding size = (4 - size % 4) % 4
 
--- between two cursors is the padding after a field, or what is left of it
+-- between two cursors is the padding after a field, or the part of it before the segment's end
 pub record PaddingStands (size : ℕ) (from to : Cursor) : Type 0 where
   pub run : List ℕ
   pub width : length run ≡ min (padding size) (length from.left)

@@ -12,18 +12,18 @@ use Rattle.core_notes.specs.Segment.{SegmentView, holds_notes, segment_of}
 abbrev pub note_size : SegmentView → ℕ
 note_size s = if holds_notes s then length s.bytes else 0
 
--- the first n segments together
+-- how many bytes of notes the first n segments have together
 unfoldable pub note_size_below : List ℕ → ℕ → ℕ
 note_size_below file zero = 0
 note_size_below file (suc n) = note_size_below file n + note_size (segment_of file n)
 
--- there is room in the file for those up to this one
-unfoldable pub room_check : List ℕ → ℕ → ElfCheck
-room_check file i = unless (nat_le (note_size_below file (suc i)) (length file)) (OutOfFile (program_header file i))
+-- the file has room for the notes of the segments up to this one
+unfoldable pub note_room_check : List ℕ → ℕ → ElfCheck
+note_room_check file i = unless (nat_le (note_size_below file (suc i)) (length file)) (OutOfFile (program_header file i))
 
--- there is room for all of them, up to any
-abbrev pub HasRoom : List ℕ → Type 0
-HasRoom file = (n : ℕ) → n ≤ segment_count file → note_size_below file n ≤ length file
+-- the file has room for the notes of each number of its first segments
+abbrev pub HasNoteRoom : List ℕ → Type 0
+HasNoteRoom file = (n : ℕ) → n ≤ segment_count file → note_size_below file n ≤ length file
 
 -- the first n program headers begin in the file
 abbrev pub HeadersLie : List ℕ → ℕ → Type 0

@@ -13,6 +13,7 @@ pub record SegmentView : Type 0 where
   pub place : ℕ
   pub bytes : List ℕ
 
+-- a segment as the code has it
 abbrev pub segment_view : Segment → SegmentView
 segment_view s = record { kind = s.kind; vaddr = s.vaddr; place = s.place; bytes = s.bytes.now }
 
@@ -24,10 +25,10 @@ segment_of file i = record { kind = p_type file i; vaddr = p_vaddr file i; place
 unfoldable pub segments : List ℕ → List SegmentView
 segments file = map (segment_of file) (range_with_len 0 (segment_count file))
 
--- PT_LOAD 1
+-- the segment is loaded: PT_LOAD 1
 abbrev pub is_load : SegmentView → Bool
 is_load s = s.kind == 1
 
--- PT_NOTE 4
+-- the segment has notes: PT_NOTE 4
 abbrev pub holds_notes : SegmentView → Bool
 holds_notes s = s.kind == 4

@@ -8,34 +8,36 @@ use Rattle.elf_read.specs.Number.{field_at}
 use Rattle.core_notes.specs.declared.status.Thread.{Thread}
 use Rattle.core_notes.specs.Note.{NoteView}
 
--- "CORE" and "LINUX", each with its zero byte
+-- "CORE" and its zero byte
 abbrev pub core_name : List ℕ
 core_name = 67 ∷ 79 ∷ 82 ∷ 69 ∷ 0 ∷ []
 
+-- "LINUX" and its zero byte
 abbrev pub linux_name : List ℕ
 linux_name = 76 ∷ 73 ∷ 78 ∷ 85 ∷ 88 ∷ 0 ∷ []
 
--- a note of this name and type
+-- the note has this name and type
 unfoldable pub has_name_and_type : (name : List ℕ) → (kind : ℕ) → NoteView → Bool
 has_name_and_type name kind n = (n.kind == kind) && pointwise (λ (a b : ℕ). a == b) n.name name
 
--- NT_PRSTATUS 1
+-- the note is a thread's status: NT_PRSTATUS 1
 abbrev pub is_status : NoteView → Bool
 is_status n = has_name_and_type core_name 1 n
 
--- NT_FILE 0x46494c45
+-- the note lists the mapped files: NT_FILE 0x46494c45
 abbrev pub is_file_note : NoteView → Bool
 is_file_note n = has_name_and_type core_name 0x46494c45 n
 
+-- the machine is AArch64
 abbrev pub is_aarch64 : Arch → Bool
 is_aarch64 Amd64 = false
 is_aarch64 Aarch64 = true
 
--- NT_ARM_PAC_MASK 0x406, of AArch64 alone
+-- the note has a thread's masks, which AArch64 alone has: NT_ARM_PAC_MASK 0x406
 abbrev pub is_mask_note : Arch → NoteView → Bool
 is_mask_note arch n = is_aarch64 arch && has_name_and_type linux_name 0x406 n
 
--- how many bytes a status has
+-- the size of a status
 abbrev pub status_size : Arch → ℕ
 status_size Amd64 = 336
 status_size Aarch64 = 392
@@ -59,7 +61,7 @@ thread_of Aarch64 status mask = record {
 abbrev pub mask_in : NoteView → ℕ
 mask_in n = field_at 8 8 n.descriptor.left
 
--- a later mask, or else that of this note, if it is a mask's
+-- a later mask, or else the mask of this note, if it has one
 abbrev pub mask_or : Arch → NoteView → (later : Option ℕ) → Option ℕ
 mask_or arch n (Some mask) = Some mask
 mask_or arch n None = if is_mask_note arch n then Some (mask_in n) else None

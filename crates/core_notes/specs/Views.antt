@@ -15,13 +15,15 @@ use Rattle.core_notes.specs.Memory.{file_regions}
 abbrev pub core_bytes : Core → List ℕ
 core_bytes core = file core.elf
 
--- its notes, its threads and its memory
+-- its notes
 abbrev pub notes_of : Core → List NoteView
 notes_of core = whole_notes (items_of (core_bytes core))
 
+-- its threads
 abbrev pub threads_of : Core → List Thread
 threads_of core = threads_in (arch_of (core_bytes core)) (notes_of core)
 
+-- its memory
 abbrev pub memory_of : Core → List Region
 memory_of core = file_regions (core_bytes core)
 

@@ -3,7 +3,7 @@
 ghost use Rattle.std.specs.Prelude.{◌≡◌, ℕ, IfOk};
 ghost use Rattle.elf_read.specs.Views.{file};
 ghost use Rattle.core_notes.specs.Memory.{holding, holdings};
-ghost use Rattle.core_notes.specs.Put.{AreInOrder};
+ghost use Rattle.core_notes.specs.Put.{ArePut};
 ghost use Rattle.core_notes.specs.Segment.{segment_view, segments};
 
 use crate::layout::PT_LOAD;
@@ -22,10 +22,10 @@ use std::alloc::{AllocError, Global};
 pub struct CoreMemory<'a> {
     pub(crate) core: Core<'a>,
     spans: Option<Spans<u32>>,
-    ghost ordered: { AreInOrder spans (segments (file core.elf)) },
+    ghost ordered: { ArePut spans (segments (file core.elf)) },
 }
 
-// From how many addresses on a segment holds eight bytes.
+// Returns the number of addresses from which on a segment holds eight bytes.
 fn holding_size(segment: &Segment<'_>) -> u64
     ensures { (number : ℕ) → result ≡ (holding number (segment_view segment.now)).size }
 {
@@ -36,7 +36,7 @@ fn holding_size(segment: &Segment<'_>) -> u64
     }
 }
 
-// The segments as spans of the addresses from which on they hold eight bytes, each with its number.
+// Returns the segments as spans of the addresses from which on they hold eight bytes, each with its number.
 fn holdings_of(alloc: Global, elf: &Elf<'_>) -> Result<Vec<Span<u32>>, AllocError>
     ensures { IfOk result (λ spans. spans.items ≡ holdings 0 (segments (file elf.now))) }
 {
@@ -58,9 +58,9 @@ impl<'a> CoreMemory<'a> {
     ghost use Rattle.core_notes.specs.MemoryBytes as held;
     ghost use Rattle.core_notes.specs.Views.{core_bytes, memory_of};
 
-    /// The memory of a core file. Where the segments' addresses rise, as kernels write them, nothing is allocated.
+    /// Puts the memory of a core file in order. If the segments' addresses rise, as kernels write them, it allocates nothing.
     ///
-    /// `AllocError` where memory ran out.
+    /// `AllocError` if out of memory.
     pub fn new(alloc: Global, core: &Core<'a>) -> Result<CoreMemory<'a>, AllocError>
         ensures memory { IfOk result (λ memory. memory_in memory ≡ memory_of core.now) }
         ensures bytes { IfOk result (λ memory. bytes_in memory ≡ core_bytes core.now) }
@@ -78,7 +78,7 @@ impl<'a> CoreMemory<'a> {
         })
     }
 
-    /// `len` bytes from an address on, by the first segment that holds them all.
+    /// Finds `len` bytes from an address on, by the first segment that holds them all.
     pub fn bytes_at(&self, address: u64, len: u64) -> Option<&'a [u8]>
         ensures { option_map (λ b. b.now) result ≡ held.bytes_at (memory_in self.now) address len }
     {

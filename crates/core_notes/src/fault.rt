@@ -9,7 +9,7 @@ pub enum CoreFault {
     Elf(ElfFault),
     /// The ELF file is no core file.
     NotCore,
-    /// A note is cut, or a mask of return addresses has another size than two numbers of eight bytes.
+    /// A note ends after its segment, or a mask of return addresses has another size than two numbers of eight bytes.
     Note(u64),
     /// A status has another size than the machine's.
     StatusSize(u64),

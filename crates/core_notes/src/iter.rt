@@ -1,4 +1,4 @@
-//! The threads of a core file, one after the other.
+//! The threads of a core file, in order.
 
 ghost use Rattle.std.specs.Prelude.{◌≡◌};
 ghost use Rattle.sf_model.specs.declared.machine.Arch.{Arch as machine};
@@ -22,7 +22,7 @@ impl<'a> ThreadIter<'a> {
     ghost use Rattle.core_notes.specs.Thread.{threads_in};
     ghost use Rattle.core_notes.specs.Views.{threads_left};
 
-    /// The threads of these notes.
+    /// Returns the iterator over the threads of these notes.
     pub(crate) fn new(arch: Arch, notes: Notes<'a>) -> ThreadIter<'a>
         ensures { threads_left result ≡ threads_in arch (whole_notes (items_left notes.entry)) }
     {
@@ -30,7 +30,7 @@ impl<'a> ThreadIter<'a> {
     }
 }
 
-// The next status. Notes before it are of no thread, or of the one before.
+// Takes the next status. Notes before it are of no thread, or of the one before.
 fn next_status<'a>(notes: &mut Notes<'a>) -> Option<Note<'a>>
     ensures { (arch : machine) → GivesStatus arch result (whole_notes (items_left notes.old)) (whole_notes (items_left notes.new)) }
 {
@@ -44,7 +44,7 @@ fn next_status<'a>(notes: &mut Notes<'a>) -> Option<Note<'a>>
     None
 }
 
-// The last mask before the next status.
+// Returns the last mask before the next status.
 fn own_mask(arch: Arch, notes: Notes<'_>) -> Option<u64>
     ensures { result ≡ own_mask arch (whole_notes (items_left notes.entry)) }
 {

@@ -17,7 +17,7 @@ use crate::segment::segment_at;
 use elf_read::{Elf, Segment, u64_at};
 use sf_lookup::Spans;
 
-/// Whether a segment is memory that holds all of `len` bytes from an address on.
+/// Returns whether a segment is memory that holds all of `len` bytes from an address on.
 #[inline(always)]
 pub fn is_holder(segment: &Segment<'_>, address: u64, len: u64) -> bool
     ensures { result ≡ is_bytes_holder address len (segment_view segment.now) }
@@ -28,7 +28,7 @@ pub fn is_holder(segment: &Segment<'_>, address: u64, len: u64) -> bool
             <= u128::from(segment.vaddr) + segment.bytes.len() as u128
 }
 
-/// Where the memory of a segment ends.
+/// Returns where the memory of a segment ends.
 fn memory_end(segment: &Segment<'_>) -> u128
     ensures { result ≡ spec.memory_end (segment_view segment.now) }
 {
@@ -39,7 +39,7 @@ fn memory_end(segment: &Segment<'_>) -> u128
     }
 }
 
-/// Whether each segment has its address where the memory before it ends, or after.
+/// Returns whether each segment has its address where the memory before it ends, or after.
 pub fn rise(elf: &Elf<'_>) -> bool
     ensures { result ≡ spec.rise_from 0 (segments (file elf.now)) }
 {
@@ -54,7 +54,7 @@ pub fn rise(elf: &Elf<'_>) -> bool
     true
 }
 
-/// The first segment that holds the bytes, in whatever order the segments are.
+/// Finds the first segment that holds the bytes, in whatever order the segments are.
 pub fn by_scan<'a>(elf: &Elf<'a>, address: u64, len: u64) -> Option<Segment<'a>>
     ensures { option_map segment_view result ≡ find (is_bytes_holder address len) (segments (file elf.now)) }
 {
@@ -67,7 +67,7 @@ pub fn by_scan<'a>(elf: &Elf<'a>, address: u64, len: u64) -> Option<Segment<'a>>
     None
 }
 
-/// How many segments have an address that is not above this one. The addresses rise.
+/// Returns how many segments have an address that is not above this one. The addresses rise.
 fn count_upto(elf: &Elf<'_>, address: u64) -> u32
     requires { spec.rise_from 0 (segments (file elf.now)) ≡ true }
     ensures { spec.IsCountUpto address (segments (file elf.now)) result }
@@ -86,8 +86,8 @@ fn count_upto(elf: &Elf<'_>, address: u64) -> u32
     low
 }
 
-/// The first segment that holds the bytes, of which there is one at least, where the addresses rise: the memory of an
-/// earlier one than the last that has been reached ends before.
+/// Finds the first segment that holds the bytes, at least one, where the addresses rise: only the last segment whose
+/// address is not above can hold them, since the memory of each earlier one ends before.
 pub fn by_halves<'a>(elf: &Elf<'a>, address: u64, len: u64) -> Option<Segment<'a>>
     requires rise { spec.rise_from 0 (segments (file elf.now)) ≡ true }
     requires some { 0 < len }
@@ -98,7 +98,7 @@ pub fn by_halves<'a>(elf: &Elf<'a>, address: u64, len: u64) -> Option<Segment<'a
     is_holder(&segment, address, len).then_some(segment)
 }
 
-/// The first segment that holds the eight bytes from an address on, by the order in which the segments were put.
+/// Finds the first segment that holds the eight bytes from an address on, by the order in which the segments were put.
 pub fn by_spans<'a>(elf: &Elf<'a>, spans: &Spans<u32>, address: u64) -> Option<Segment<'a>>
     requires { InOrder spans.now (spec.holdings 0 (segments (file elf.now))) }
     ensures { option_map segment_view result ≡ find (is_holder address) (segments (file elf.now)) }
@@ -118,7 +118,7 @@ pub enum Order<'a> {
     Put(&'a Spans<u32>),
 }
 
-/// The first segment that holds the eight bytes from an address on.
+/// Finds the first segment that holds the eight bytes from an address on.
 fn holder<'a>(elf: &Elf<'a>, order: Order<'_>, address: u64) -> Option<Segment<'a>>
     requires { IsOrder order (segments (file elf.now)) }
     ensures { option_map segment_view result ≡ find (is_holder address) (segments (file elf.now)) }
@@ -130,7 +130,7 @@ fn holder<'a>(elf: &Elf<'a>, order: Order<'_>, address: u64) -> Option<Segment<'
     }
 }
 
-/// The number in the eight bytes from an address on.
+/// Reads the number in the eight bytes from an address on.
 pub fn read_eight(elf: &Elf<'_>, order: Order<'_>, address: u64) -> Option<u64>
     requires { IsOrder order (segments (file elf.now)) }
     ensures { result ≡ read_eight (file_regions (file elf.now)) address }

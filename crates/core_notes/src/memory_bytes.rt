@@ -1,4 +1,4 @@
-//! The bytes that a core file's memory has at an address.
+//! The bytes of a core file's memory at an address.
 
 ghost use Rattle.std.specs.Prelude.{◌≡◌, ◌≤◌};
 ghost use Rattle.std.specs.List.{find};
@@ -14,8 +14,8 @@ use crate::memory::{Order, by_halves, by_scan, by_spans, is_holder};
 use elf_read::{Elf, Segment};
 use sf_lookup::Spans;
 
-// The first segment that holds all of eight bytes or more, by the order in which the segments were put: mostly it is the first
-// that holds eight of them.
+// Finds the first segment that holds all of eight bytes or more, by the order in which the segments were put: mostly it is
+// the first that holds eight of them.
 fn by_eight<'a>(elf: &Elf<'a>, spans: &Spans<u32>, address: u64, len: u64) -> Option<Segment<'a>>
     requires put { InOrder spans.now (holdings 0 (segments (file elf.now))) }
     requires eight { 8 ≤ len }
@@ -28,7 +28,7 @@ fn by_eight<'a>(elf: &Elf<'a>, spans: &Spans<u32>, address: u64, len: u64) -> Op
     by_scan(elf, address, len)
 }
 
-// The first segment that holds all of `len` bytes from an address on.
+// Finds the first segment that holds all of `len` bytes from an address on.
 fn holder<'a>(elf: &Elf<'a>, order: Order<'_>, address: u64, len: u64) -> Option<Segment<'a>>
     requires { IsOrder order (segments (file elf.now)) }
     ensures { option_map segment_view result ≡ find (spec.is_bytes_holder address len) (segments (file elf.now)) }
@@ -40,7 +40,7 @@ fn holder<'a>(elf: &Elf<'a>, order: Order<'_>, address: u64, len: u64) -> Option
     }
 }
 
-/// `len` bytes from an address on, by the first segment that holds them all.
+/// Finds `len` bytes from an address on, by the first segment that holds them all.
 pub fn bytes_at<'a>(elf: &Elf<'a>, order: Order<'_>, address: u64, len: u64) -> Option<&'a [u8]>
     requires { IsOrder order (segments (file elf.now)) }
     ensures { option_map (λ b. b.now) result ≡ spec.bytes_at (file_regions (file elf.now)) address len }

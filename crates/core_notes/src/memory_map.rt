@@ -1,4 +1,4 @@
-//! The memory of a core file, put in order for questions of what an address has.
+//! The memory of a core file, put in order to find what is at an address.
 
 ghost use Rattle.std.specs.Prelude.{◌≡◌, IfOk};
 ghost use Rattle.elf_read.specs.Views.{file};
@@ -12,8 +12,8 @@ use elf_read::Elf;
 use sf_lookup::{Span, Spans};
 use std::alloc::{AllocError, Global};
 
-/// The memory of a core file, in which what an address has is found by halves: bytes of any number, and whether they may be
-/// executed.
+/// The memory of a core file, in which what is at an address is found by halves: any number of bytes, and whether they may
+/// be executed.
 #[derive(Drop)]
 pub struct MemoryMap<'a> {
     memory: CoreMemory<'a>,
@@ -21,7 +21,7 @@ pub struct MemoryMap<'a> {
     ghost ordered: { InOrder executable (held.load_spans (file memory.core.elf)) },
 }
 
-// The addresses that a segment has in memory, which lead to whether it is executable.
+// Returns the addresses that a segment has in memory, which lead to whether it is executable.
 fn load_span(elf: &Elf<'_>, i: u32) -> Span<bool>
     ensures { result ≡ held.load_span (file elf.now) i }
 {
@@ -38,7 +38,7 @@ fn load_span(elf: &Elf<'_>, i: u32) -> Span<bool>
     }
 }
 
-// Those of all segments.
+// Returns the addresses of all segments.
 fn load_spans(alloc: Global, elf: &Elf<'_>) -> Result<Vec<Span<bool>>, AllocError>
     ensures { IfOk result (λ spans. spans.items ≡ held.load_spans (file elf.now)) }
 {
@@ -55,9 +55,9 @@ impl<'a> MemoryMap<'a> {
     ghost use Rattle.core_notes.specs.MemoryMap.{core_in};
     ghost use Rattle.core_notes.specs.Views.{core_bytes};
 
-    /// The memory of a core file.
+    /// Puts the memory of a core file in order.
     ///
-    /// `AllocError` where memory ran out.
+    /// `AllocError` if out of memory.
     pub fn new(alloc: Global, core: &Core<'a>) -> Result<MemoryMap<'a>, AllocError>
         ensures { IfOk result (λ m. core_in m ≡ core_bytes core.now) }
     {
@@ -66,14 +66,14 @@ impl<'a> MemoryMap<'a> {
         Ok(MemoryMap { memory, executable })
     }
 
-    /// `len` bytes from an address on, by the first segment that holds them all.
+    /// Finds `len` bytes from an address on, by the first segment that holds them all.
     pub fn bytes_at(&self, address: u64, len: u64) -> Option<&'a [u8]>
         ensures { option_map (λ b. b.now) result ≡ held.bytes_at (file_regions (core_in self.now)) address len }
     {
         self.memory.bytes_at(address, len)
     }
 
-    /// Whether the first load segment that has an address is executable, if one has it.
+    /// Returns whether the first load segment that has an address is executable, or `None` if no load segment has it.
     pub fn executable_at(&self, address: u64) -> Option<bool>
         ensures { result ≡ held.executable_at (core_in self.now) address }
     {

@@ -7,7 +7,7 @@ ghost use Rattle.core_notes.specs.Note.{note_at, note_view, padded_at, padding};
 use crate::layout::NOTE_ALIGN;
 use sf_bytes::{ByteFault, Part};
 
-/// A note of a core file.
+/// A note.
 #[derive(Clone, Copy)]
 pub struct Note<'a> {
     /// Its place in the file.
@@ -30,7 +30,7 @@ fn pass_padding(rest: &mut Part<'_>, size: u32)
     *rest = Part::new(left, rest.place + count as u64);
 }
 
-// A field and the padding after it.
+// Takes a field, and passes the padding after it.
 #[tactic(auto, unfolding(crate::specs::Note::padded_at))]
 fn padded<'a>(rest: &mut Part<'a>, size: u32) -> Result<Part<'a>, ByteFault>
     ensures { Reads cursor rest.new result (padded_at size (cursor rest.old)) }
@@ -40,7 +40,7 @@ fn padded<'a>(rest: &mut Part<'a>, size: u32) -> Result<Part<'a>, ByteFault>
     Ok(field)
 }
 
-/// The note at the front. On a fault what is left of the part isn't said.
+/// Takes the note at the front. What is left of the part after a fault is not specified.
 #[tactic(auto, unfolding(crate::specs::Note::note_at))]
 pub fn take_note<'a>(rest: &mut Part<'a>) -> Result<Note<'a>, ByteFault>
     ensures { Reads note_view rest.new result (note_at (cursor rest.old)) }

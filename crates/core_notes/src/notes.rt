@@ -1,4 +1,4 @@
-//! The notes of a core file, one after the other.
+//! The notes of a core file, in order.
 
 ghost use Rattle.std.specs.Prelude.{◌<◌, ◌^◌, length};
 ghost use Rattle.elf_read.specs.Views.{file};
@@ -8,8 +8,8 @@ use crate::segment::note_bytes;
 use elf_read::Elf;
 use sf_bytes::Part;
 
-/// An iterator over the notes of all PT_NOTE segments. A note that is cut is an error with its place, and the last of
-/// its segment.
+/// An iterator over the notes of all PT_NOTE segments. A note that ends after its segment is an error with its place, and
+/// the last of its segment.
 #[derive(Clone, Copy)]
 pub struct Notes<'a> {
     elf: Elf<'a>,
@@ -24,7 +24,7 @@ impl<'a> Notes<'a> {
     ghost use Rattle.std.specs.Iterator.{YieldsFirstBy};
     ghost use Rattle.core_notes.specs.Listing.{item, items_left, items_of};
 
-    /// The notes of a file.
+    /// Returns the iterator over the notes of a file.
     pub fn new(elf: &Elf<'a>) -> Notes<'a>
         requires { length (file elf.now) < 2 ^ 32 }
         ensures { items_left result ≡ items_of (file elf.now) }
@@ -36,7 +36,7 @@ impl<'a> Notes<'a> {
         }
     }
 
-    // Goes on to the next segment that has notes, where none is left of this one.
+    // Goes on to the next segment that has notes if this one has no note left.
     fn go_on(&mut self)
         ensures same { items_left self.new ≡ items_left self.old }
         ensures all { length self.new.rest.bytes.now ≡ 0 → items_left self.new ≡ [] }
@@ -47,7 +47,7 @@ impl<'a> Notes<'a> {
         }
     }
 
-    // The next note, or the place of one that is cut.
+    // Takes the next note, or the place of one that ends after its segment.
     fn take_item(&mut self) -> Option<Result<Note<'a>, u64>>
         ensures { YieldsFirstBy item items_left self.old result self.new }
     {

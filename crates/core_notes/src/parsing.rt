@@ -17,7 +17,7 @@ use crate::status::{is_mask_note, is_status, status_size};
 use elf_read::{Elf, Kind};
 use sf_model::Arch;
 
-// The size of a status, and of a mask after a thread.
+// Checks the size of a status, and of a mask after a thread.
 #[tactic(auto, unfolding(crate::specs::Checks::note_check))]
 fn check_note(arch: Arch, after_thread: bool, note: &Note<'_>) -> Result<(), CoreFault>
     ensures { result ≡ spec.note_check arch after_thread (note_view note.now) }
@@ -32,7 +32,7 @@ fn check_note(arch: Arch, after_thread: bool, note: &Note<'_>) -> Result<(), Cor
     Ok(())
 }
 
-// Whether a file is a core file.
+// Returns whether a file is a core file.
 fn is_core(kind: Kind) -> bool
     ensures { result ≡ spec.is_core_kind kind }
 {
@@ -61,9 +61,9 @@ fn count_threads(arch: Arch, notes: Notes<'_>) -> Result<u32, CoreFault>
     Ok(threads)
 }
 
-// There is a thread, and there are not too many.
+// Checks that there is a thread, and that there are not too many.
 fn check_count(threads: u32) -> Result<(), CoreFault>
-    ensures check { result ≡ spec.count_check threads }
+    ensures check { result ≡ spec.thread_count_check threads }
     ensures most { OnOk result (threads ≤ 4096) }
 {
     if threads == 0 {
@@ -75,8 +75,8 @@ fn check_count(threads: u32) -> Result<(), CoreFault>
     Ok(())
 }
 
-/// The checks after those of the ELF file: its kind, the room for its notes, the notes, and how many threads it has, which is
-/// returned.
+/// Makes the checks after those of the ELF file: its kind, the room for its notes, the notes, and how many threads it has.
+/// Returns the number of threads.
 #[tactic(auto, unfolding(crate::specs::Checks::core_part))]
 pub fn check_core(bytes: &[u8], elf: &Elf<'_>) -> Result<u32, CoreFault>
     requires small { length (file elf.now) < 2 ^ 32 }

@@ -1,4 +1,4 @@
-//! Check that the PT_NOTE segments, which are read whole, have room in the file.
+//! The check that the PT_NOTE segments, which are read whole, have room in the file.
 
 ghost use Rattle.std.specs.Prelude.{◌≡◌, ◌<◌, ◌≤◌, ◌^◌, length};
 ghost use Rattle.elf_read.specs.Checking.{each_below};
@@ -12,7 +12,7 @@ use crate::segment::segment_at;
 use elf_read::layout::{E_PHOFF, PROGRAM_HEADER_LEN};
 use elf_read::{Elf, ElfFault, u64_at};
 
-// The place of a program header.
+// Returns the place of a program header.
 fn header_place(bytes: &[u8], elf: &Elf<'_>, i: u32) -> u64
     requires small { length (file elf.now) < 2 ^ 32 }
     requires same { bytes.now ≡ file elf.now }
@@ -22,7 +22,7 @@ fn header_place(bytes: &[u8], elf: &Elf<'_>, i: u32) -> u64
     u64_at(bytes, E_PHOFF) + PROGRAM_HEADER_LEN * u64::from(i)
 }
 
-// How many bytes of notes a segment has.
+// Returns how many bytes of notes a segment has.
 fn note_size(elf: &Elf<'_>, i: u32) -> u64
     ensures value { result ≡ spec.note_size (segment_of (file elf.now) i) }
     ensures small { result ≤ length (file elf.now) }
@@ -35,13 +35,13 @@ fn note_size(elf: &Elf<'_>, i: u32) -> u64
     }
 }
 
-/// The room in the file for each PT_NOTE segment, after those before it: of the first `count` program headers, which lie in
-/// the file.
+/// Checks that the file has room for each PT_NOTE segment and those before it together: for the first `count` program
+/// headers, which lie in the file.
 pub fn check_room(bytes: &[u8], elf: &Elf<'_>, count: u32) -> Result<(), ElfFault>
     requires small { length (file elf.now) < 2 ^ 32 }
     requires same { bytes.now ≡ file elf.now }
     requires lie { spec.HeadersLie (file elf.now) count }
-    ensures { result ≡ each_below count (spec.room_check (file elf.now)) }
+    ensures { result ≡ each_below count (spec.note_room_check (file elf.now)) }
 {
     let mut taken = 0;
     for i in 0..count {

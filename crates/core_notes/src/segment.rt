@@ -10,14 +10,14 @@ use crate::layout::PT_NOTE;
 use elf_read::{Elf, Segment};
 use sf_bytes::Part;
 
-/// The segment of a program header's number.
+/// Returns the segment of a program header's number.
 pub fn segment_at<'a>(elf: &Elf<'a>, i: u32) -> Segment<'a>
     ensures { segment_view result ≡ segment_of (file elf.now) i }
 {
     elf.segment(i)
 }
 
-/// The bytes of a segment's notes. One that is no PT_NOTE has none.
+/// Returns the bytes of a segment's notes. A segment that is no PT_NOTE has none.
 pub fn note_bytes<'a>(elf: &Elf<'a>, i: u32) -> Part<'a>
     requires { length (file elf.now) < 2 ^ 32 }
     ensures { notes_from (cursor result) ≡ segment_items (segment_of (file elf.now) i) }

@@ -5,7 +5,7 @@ use crate::segment::note_bytes;
 use elf_read::Elf;
 use sf_bytes::Part;
 
-/// An iterator over the notes of a segment, up to one that is cut.
+/// An iterator over the notes of a segment, up to one that ends after the segment.
 #[derive(Clone, Copy)]
 pub struct SegmentNotes<'a> {
     rest: Part<'a>,
@@ -18,7 +18,8 @@ impl<'a> SegmentNotes<'a> {
     ghost use Rattle.core_notes.specs.Note.{note_view};
     ghost use Rattle.core_notes.specs.SegmentNotes.{notes_left, segment_notes};
 
-    /// The notes of the segment of a program header's number. One that is no PT_NOTE has none.
+    /// Returns the iterator over the notes of the segment of a program header's number. A segment that is no PT_NOTE has
+    /// none.
     pub fn new(elf: &Elf<'a>, i: u32) -> SegmentNotes<'a>
         requires { length (file elf.now) < 2 ^ 32 }
         ensures { notes_left result ≡ segment_notes (file elf.now) i }
@@ -28,7 +29,7 @@ impl<'a> SegmentNotes<'a> {
         }
     }
 
-    // The next note.
+    // Takes the next note.
     fn take_next(&mut self) -> Option<Note<'a>>
         ensures { YieldsFirstBy note_view notes_left self.old result self.new }
     {

@@ -1,4 +1,4 @@
-//! What the notes of a thread say (Linux core files: NT_PRSTATUS, NT_ARM_PAC_MASK; psABIs for the registers).
+//! The content of a thread's notes (Linux core files: NT_PRSTATUS, NT_ARM_PAC_MASK; psABIs for the registers).
 
 ghost use Rattle.std.specs.Prelude.{◌≡◌};
 ghost use Rattle.core_notes.specs.Note.{note_view};
@@ -22,11 +22,11 @@ pub struct Thread {
     pub pc: u64,
     /// The registers that a walk of its stack starts with; the link register is 0 on AMD64.
     pub regs: Regs,
-    /// The bits of a return address that hold its signature, None without a note that says so.
+    /// The bits of a return address that hold its signature, or `None` without a note of them.
     pub mask: Option<u64>,
 }
 
-// Whether a note has this name and type.
+// Returns whether a note has this name and type.
 #[tactic(auto, unfolding(crate::specs::Thread::has_name_and_type))]
 fn has_name_and_type(note: &Note<'_>, name: &[u8], kind: u32) -> bool
     ensures { result ≡ spec.has_name_and_type name.now kind (note_view note.now) }
@@ -34,28 +34,28 @@ fn has_name_and_type(note: &Note<'_>, name: &[u8], kind: u32) -> bool
     note.kind == kind && note.name == name
 }
 
-/// Whether a note is the status of a thread.
+/// Returns whether a note is the status of a thread.
 pub fn is_status(note: &Note<'_>) -> bool
     ensures { result ≡ spec.is_status (note_view note.now) }
 {
     has_name_and_type(note, CORE, NT_PRSTATUS)
 }
 
-/// Whether a note lists the mapped files.
+/// Returns whether a note lists the mapped files.
 pub fn is_file_note(note: &Note<'_>) -> bool
     ensures { result ≡ spec.is_file_note (note_view note.now) }
 {
     has_name_and_type(note, CORE, NT_FILE)
 }
 
-/// Whether a note has the masks of a thread's addresses.
+/// Returns whether a note has the masks of a thread's addresses.
 pub fn is_mask_note(arch: Arch, note: &Note<'_>) -> bool
     ensures { result ≡ spec.is_mask_note arch (note_view note.now) }
 {
     arch == Arch::Aarch64 && has_name_and_type(note, LINUX, NT_ARM_PAC_MASK)
 }
 
-/// How many bytes a status has.
+/// Returns the size of a status.
 pub fn status_size(arch: Arch) -> u64
     ensures { result ≡ spec.status_size arch }
 {
@@ -65,7 +65,7 @@ pub fn status_size(arch: Arch) -> u64
     }
 }
 
-/// The thread of a status, with its mask.
+/// Returns the thread of a status, with its mask.
 #[tactic(auto, unfolding(crate::specs::Thread::thread_of))]
 pub fn thread_of(arch: Arch, status: &[u8], mask: Option<u64>) -> Thread
     ensures { result ≡ spec.thread_of arch status.now mask }
@@ -95,7 +95,7 @@ pub fn thread_of(arch: Arch, status: &[u8], mask: Option<u64>) -> Thread
     }
 }
 
-/// The mask of instruction addresses of a mask note.
+/// Returns the mask of instruction addresses of a mask note.
 pub fn mask_of(note: &Note<'_>) -> u64
     ensures { result ≡ spec.mask_in (note_view note.now) }
 {

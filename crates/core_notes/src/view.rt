@@ -23,7 +23,7 @@ use sf_model::{Arch, Memory};
 pub struct Core<'a> {
     pub(crate) elf: Elf<'a>,
     threads: u32,
-    // Whether a read may halve the segments.
+    // Whether a read may find its segment by halves.
     pub(crate) rises: bool,
     ghost small: { length (file elf) < 2 ^ 32 },
     ghost checked: { IsTrue (is_ok (core_check (file elf))) },
@@ -60,7 +60,7 @@ impl<'a> Core<'a> {
         Self::checked(bytes)
     }
 
-    // The same by the checks alone.
+    // Makes the checks, and counts the threads.
     fn checked(bytes: &'a [u8]) -> Result<Core<'a>, CoreFault>
         requires { length bytes.now < 2 ^ 32 }
         ensures exact { verdict result ≡ core_check bytes.now }
@@ -76,14 +76,14 @@ impl<'a> Core<'a> {
         })
     }
 
-    /// For which machine it is.
+    /// Returns the machine that the file is for.
     pub fn arch(&self) -> Arch
         ensures { result ≡ arch_of (core_bytes self.now) }
     {
         self.elf.arch()
     }
 
-    /// How many threads it has.
+    /// Returns the number of threads.
     pub fn threads(&self) -> u32
         ensures value { result ≡ length (threads_of self.now) }
         ensures some { 1 ≤ result }
@@ -92,14 +92,14 @@ impl<'a> Core<'a> {
         self.threads
     }
 
-    /// The threads, in the order of their notes.
+    /// Returns the iterator over the threads, in the order of their notes.
     pub fn threads_iter(&self) -> ThreadIter<'a>
         ensures { threads_left result ≡ threads_of self.now }
     {
         ThreadIter::new(self.elf.arch(), Notes::new(&self.elf))
     }
 
-    /// The thread of a number. To go over all threads take `threads_iter`.
+    /// Returns the thread of a number. To go over all threads, use `threads_iter`.
     pub fn thread(&self, i: u32) -> Thread
         requires { i < length (threads_of self.now) }
         ensures { (d : thread) → slice_index_or (threads_of self.now) i d ≡ result }
@@ -114,7 +114,7 @@ impl<'a> Core<'a> {
         }
     }
 
-    /// The descriptor of the first note that lists the mapped files, if there is one.
+    /// Returns the descriptor of the first note that lists the mapped files, if there is one.
     pub fn file_note(&self) -> Option<Part<'a>>
         ensures { option_map cursor result ≡ option_map (λ (n : NoteView). n.descriptor) (find spec.is_file_note (notes_of self.now)) }
     {
@@ -128,7 +128,7 @@ impl<'a> Core<'a> {
         None
     }
 
-    // What is known of the order of its segments.
+    // Returns what is known of the order of its segments.
     fn order(&self) -> Order<'a>
         ensures { IsOrder result (segments (file self.now.elf)) }
     {
@@ -139,7 +139,7 @@ impl<'a> Core<'a> {
         }
     }
 
-    /// `len` bytes of its memory from an address on, by the first segment that holds them all.
+    /// Finds `len` bytes of its memory from an address on, by the first segment that holds them all.
     pub fn bytes_at(&self, address: u64, len: u64) -> Option<&'a [u8]>
         ensures { option_map (λ b. b.now) result ≡ held.bytes_at (memory_of self.now) address len }
     {

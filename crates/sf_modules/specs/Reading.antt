@@ -7,7 +7,7 @@ use Rattle.elf_read.specs.Checks.{program_headers_check}
 use Rattle.elf_read.specs.Header.{kind_of}
 use Rattle.elf_read.specs.Parsing.{file_check}
 use Rattle.elf_read.specs.Sections.{is_compressed, section_bytes, section_header, segment_total}
-use Rattle.core_notes.specs.Room.{room_check}
+use Rattle.core_notes.specs.Room.{note_room_check}
 use Rattle.sf_decode.specs.declared.fault.DecodeFault.{DecodeFault}
 use Rattle.sf_decode.specs.Decoding.{section_check}
 use Rattle.sf_modules.specs.declared.fault.ModuleFault.TheVariants.{Elf, NoSection, Segments, NotMapped, Mapping, Ambiguous, Build, Section}
@@ -45,7 +45,7 @@ segments_part file = headers_part (program_headers_check file) >> unless (is_som
 
 -- there is room in it for its PT_NOTE segments together, which are read whole
 abbrev pub room_part : List ℕ → Check
-room_part file = elf_part (each_below (segment_total file) (room_check file))
+room_part file = elf_part (each_below (segment_total file) (note_room_check file))
 
 -- an entry has its last part; it fits at a nearest one, and at those of one name alone
 abbrev pub match_part : ProcessView → (word file : List ℕ) → (load : ℕ) → Option EntryView → Check
