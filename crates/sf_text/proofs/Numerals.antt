@@ -1,9 +1,9 @@
 -- Digits from the lowest up, in front of those that are there.
 use Rattle.std.proofs.Common.{◌≡◌, ℕ, zero, suc, ◌+◌, ◌-◌, ◌*◌, ◌/◌, ◌%◌, ◌^◌, ◌<◌, ◌≤◌, true, false, List, [], ◌∷◌, nat_eq, refl, sym, ap, subst, ◌∙◌, arith, drop, set, length}
 use Rattle.std.specs.Fmt.{decimal, digits, digits_onto, digit_glyph}
-use Rattle.std.proofs.Math.Nat.{div-lt_iff_lt-mul, div-eq_of_lt, pow-suc, pow-zero, mod-eq_of_lt, lt-div-mul-add}
+use Rattle.std.proofs.Math.Nat.{div-div-eq-div-mul, div-lt_iff_lt-mul, div-eq_of_lt, pow-suc, pow-zero, mod-eq_of_lt, lt-div-mul-add}
 use Rattle.std.proofs.lemmas.Bool.{ne_eqb}
-use Rattle.std.proofs.lemmas.List.{drop-set}
+use Rattle.std.proofs.lemmas.List.{drop-set, length-set}
 
 -- the digits of what is left, with `places` places free, in front of those that are there
 unfoldable pub digits_before : (places base left : ℕ) → List ℕ → List ℕ
@@ -73,6 +73,56 @@ digit_in_front bytes start digit some within =
     let inside : start - 1 < length bytes = omega arith in
     let e : start - 1 + 1 ≡ start = omega arith in
     drop-set bytes (start - 1) digit inside ∙ ap (λ n. digit ∷ drop n bytes) e
+
+-- ---- two decimal digits at a time
+-- a number of three digits or more has three places left
+pub three_places : (left start : ℕ) → 100 ≤ left → left < 10 ^ start → 1 ≤ start → 3 ≤ start
+three_places left start high fits some =
+    let two : 2 ≤ start = two_places 10 left start (omega (arith, high)) fits some in
+    let tens : 10 ≤ left / 10 = omega (arith, high) in
+    let more : 2 ≤ start - 1 = two_places 10 (left / 10) (start - 1) tens (quotient_fits 10 left start (omega arith) some fits) (omega (arith, two)) in
+    omega (arith, more)
+
+-- without its two lowest digits it has two places fewer
+pub pair_fits : (left start : ℕ) → 100 ≤ left → 3 ≤ start → left < 10 ^ start → left / 100 < 10 ^ (start - 2)
+pair_fits left start high places fits =
+    let one : left / 10 < 10 ^ (start - 1) = quotient_fits 10 left start (omega arith) (omega (arith, places)) fits in
+    let two : left / 10 / 10 < 10 ^ (start - 1 - 1) = quotient_fits 10 (left / 10) (start - 1) (omega arith) (omega (arith, places)) one in
+    let e : start - 1 - 1 ≡ start - 2 = omega arith in
+    subst (λ n. left / 100 < 10 ^ n) e (subst (λ q. q < 10 ^ (start - 1 - 1)) (div-div-eq-div-mul left 10 10) two)
+
+-- two digits that are not the last
+pub two_more : (places left : ℕ) (after : List ℕ) → 100 ≤ left → 3 ≤ places
+    → digits_before (places - 2) 10 (left / 100) (digit_glyph false (left / 10 % 10) ∷ digit_glyph false (left % 10) ∷ after) ≡ digits_before places 10 left after
+two_more places left after high room =
+    let lowest : List ℕ = digit_glyph false (left % 10) ∷ after in
+    let both : List ℕ = digit_glyph false (left / 10 % 10) ∷ lowest in
+    let e : places - 2 ≡ places - 1 - 1 = omega arith in
+    let tens : 10 ≤ left / 10 = omega (arith, high) in
+    ap (λ n. digits_before n 10 (left / 100) both) e
+    ∙ (ap (λ q. digits_before (places - 1 - 1) 10 q both) (sym (div-div-eq-div-mul left 10 10))
+    ∙ (more_digits (places - 1) 10 (left / 10) lowest (omega arith) tens (omega (arith, room))
+    ∙ more_digits places 10 left after (omega arith) (omega (arith, high)) (omega (arith, room))))
+
+-- the last two digits
+pub last_two : (places left : ℕ) (after : List ℕ) → 10 ≤ left → left < 100 → 2 ≤ places
+    → digit_glyph false (left / 10) ∷ digit_glyph false (left % 10) ∷ after ≡ digits_before places 10 left after
+last_two places left after high low room =
+    last_digit (places - 1) 10 (left / 10) (digit_glyph false (left % 10) ∷ after) (omega (arith, low)) (omega (arith, room))
+    ∙ more_digits places 10 left after (omega arith) high (omega (arith, room))
+
+-- two digits in front of those that are there
+pub pair_in_front : (bytes : List ℕ) (start digit lower : ℕ) → 2 ≤ start → start ≤ length bytes
+    → drop (start - 2) (set (set bytes (start - 2 + 1) lower) (start - 2) digit) ≡ digit ∷ lower ∷ drop start bytes
+pair_in_front bytes start digit lower some within =
+    let second : start - 2 + 1 ≡ start - 1 = omega (arith, some) in
+    let first : start - 2 ≡ start - 1 - 1 = omega arith in
+    let one : List ℕ = set bytes (start - 1) lower in
+    let long : length one ≡ length bytes = length-set bytes (start - 1) lower in
+    ap (λ n. drop (start - 2) (set (set bytes n lower) (start - 2) digit)) second
+    ∙ (ap (λ n. drop n (set one n digit)) first
+    ∙ (digit_in_front one (start - 1) digit (omega (arith, some)) (omega (arith, long, within))
+    ∙ ap (λ xs. digit ∷ xs) (digit_in_front bytes start lower (omega (arith, some)) within)))
 
 -- ---- numbers of one to three digits
 pub one_digit : (n : ℕ) → n < 10 → decimal n ≡ digit_glyph false n ∷ []

@@ -1,15 +1,14 @@
 //! Text in a buffer of its own, without allocation, and in pieces to a sink.
 
-ghost use Rattle.std.specs.Prelude.{◌≡◌, ◌≤◌, ◌+◌, ◌++◌, ◌∷◌, [], length, OnOk, OnErr};
+ghost use Rattle.std.specs.Prelude.{◌≡◌, ◌≤◌, ◌+◌, ◌++◌, [], length, OnOk, OnErr};
 ghost use Rattle.std.specs.Fmt.{decimal};
 ghost use Rattle.arrayvec.specs.ArrayVec.{array_vec_len};
 ghost use Rattle.sf_base.specs.Written.{AppendsPrefix};
 ghost use Rattle.sf_base.specs.Faults.{Cause};
-ghost use Rattle.sf_text.specs.Content.{sign_text, signed_text};
 ghost use Rattle.sf_text.specs.Gathered.{Gathers};
 ghost use Rattle.sf_text.specs.Number.{hexadecimal};
 
-use crate::digits::{digits_in, glyph};
+use crate::digits::{decimal_digits, digits_in, glyph};
 use arrayvec::ArrayVec;
 use sf_base::{Failed, Sink, put_all};
 
@@ -79,7 +78,7 @@ fn push_long_decimal(buffer: &mut Buffer, number: u64)
     ensures items { buffer.new.items ≡ buffer.old.items ++ decimal number }
     ensures len { array_vec_len buffer.new ≤ array_vec_len buffer.old + 20 }
 {
-    push_text(buffer, digits_in(10, number).as_bytes());
+    push_text(buffer, decimal_digits(number).as_bytes());
 }
 
 /// Appends a number as `0x` and lower-case digits of base 16.
@@ -91,24 +90,4 @@ pub(crate) fn push_hexadecimal(buffer: &mut Buffer, number: u64)
 {
     push_text(buffer, b"0x");
     push_text(buffer, digits_in(16, number).as_bytes());
-}
-
-/// Appends a number with its sign, a plus included.
-#[tactic(auto, unfolding(crate::specs::Content::signed_text))]
-#[inline(always)]
-pub(crate) fn push_signed(buffer: &mut Buffer, number: i32)
-    requires { array_vec_len buffer.old + 21 ≤ 8192 }
-    ensures items { buffer.new.items ≡ buffer.old.items ++ signed_text number }
-    ensures len { array_vec_len buffer.new ≤ array_vec_len buffer.old + 21 }
-{
-    push_text(buffer, &[sign_of(number)]);
-    push_decimal(buffer, u64::from(number.unsigned_abs()));
-}
-
-/// Returns the sign of a number, a plus for 0.
-#[inline(always)]
-fn sign_of(number: i32) -> u8
-    ensures { sign_text number ≡ result ∷ [] }
-{
-    if number < 0 { b'-' } else { b'+' }
 }

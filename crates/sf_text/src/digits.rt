@@ -1,7 +1,7 @@
 //! The digits of a number, without allocation.
 
 ghost use Rattle.std.specs.Prelude.{◌≡◌, ◌≤◌, ◌<◌, ◌^◌, false, length, drop};
-ghost use Rattle.std.specs.Fmt.{digits, digit_glyph};
+ghost use Rattle.std.specs.Fmt.{decimal, digits, digit_glyph};
 
 /// The most digits that are asked for.
 const MOST: usize = 20;
@@ -43,6 +43,32 @@ pub(crate) fn digits_in(base: u64, number: u64) -> Digits
     }
     start -= 1;
     bytes[start] = glyph(left);
+    Digits { bytes, start }
+}
+
+/// Returns the decimal digits of a number, without leading zeros. Two digits are taken at a time, so that half as many
+/// divisions wait for one another.
+#[inline(always)]
+pub(crate) fn decimal_digits(number: u64) -> Digits
+    ensures { drop result.start result.bytes ≡ decimal number }
+{
+    let mut bytes = [0; MOST];
+    let mut start = MOST;
+    let mut left = number;
+    while left >= 100 {
+        start -= 2;
+        bytes[start + 1] = glyph(left % 10);
+        bytes[start] = glyph(left / 10 % 10);
+        left /= 100;
+    }
+    if left < 10 {
+        start -= 1;
+        bytes[start] = glyph(left);
+        return Digits { bytes, start };
+    }
+    start -= 2;
+    bytes[start + 1] = glyph(left % 10);
+    bytes[start] = glyph(left / 10);
     Digits { bytes, start }
 }
 

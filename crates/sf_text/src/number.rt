@@ -4,14 +4,14 @@ ghost use Rattle.std.specs.Prelude.{◌≡◌, ◌++◌, OnOk};
 ghost use Rattle.std.specs.Fmt.{decimal};
 ghost use Rattle.sf_text.specs.Number.{hexadecimal};
 
-use crate::digits::digits_in;
+use crate::digits::{decimal_digits, digits_in};
 use std::alloc::AllocError;
 
 /// Appends a number in decimal digits.
 pub(crate) fn push_decimal(text: &mut Vec<u8>, number: u64) -> Result<(), AllocError>
     ensures { OnOk result (text.new.items ≡ text.old.items ++ decimal number) }
 {
-    text.extend_from_slice(digits_in(10, number).as_bytes())
+    text.extend_from_slice(decimal_digits(number).as_bytes())
 }
 
 /// Appends a number as `0x` and lower-case digits of base 16.

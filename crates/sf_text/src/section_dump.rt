@@ -162,13 +162,12 @@ fn put_rows<S: Sink>(sink: &mut S, buffer: &mut Buffer, rows: RowIter<'_>) -> Re
 }
 
 /// Appends a row's line.
-#[tactic(auto, unfolding(crate::specs::Dump::row_line))]
+#[tactic(auto, unfolding(crate::specs::Dump::row_line, crate::specs::Content::row_text))]
 fn push_line(buffer: &mut Buffer, row: &Row)
     requires { array_vec_len buffer.old + 160 ≤ 8192 }
     ensures { buffer.new.items ≡ buffer.old.items ++ row_line row.now }
 {
-    push_text(buffer, b"  ");
-    push_row(buffer, row);
+    push_row(buffer, b"  +", row);
     push_text(buffer, b"\n");
 }
 
