@@ -1,26 +1,24 @@
-"""Makes the page of clauses from the sources: each crate's front page, and the contract of each public function.
+"""Makes the page of clauses from the sources: the contract of each public function, by crate and file.
 
     ./x clauses             prints the made part
     ./x clauses --write     writes it into docs/clauses.md, between the marks
-    ./x clauses --check     fails if docs/clauses.md differs, or if a cell has more than 200 characters
+    ./x clauses --check     fails if docs/clauses.md differs
 
-A crate's front page is the text at the front of its lib.rt. A function is public if the crate exports it or its type.
-What it does is the first sentence of its comment. A clause is shown by its name, or by its text if it has no name and
-is short.
+A crate has the first sentence of its front page. A function is public if the crate exports it or its type. What it does
+is the first sentence of its comment. A clause is shown by its name, or by its text if it has no name and is short.
 """
 
 import collections
 import glob
 import os
 import re
-import sys
 
 from kiblawen import closure, definitions
 from kiblawen.common import TOP
 from kiblawen.definitions import lines_of
 
-# The most characters of a cell, and of the text of a clause.
-CELL, TEXT = 200, 90
+# The most characters of the text of a clause.
+TEXT = 90
 FUNCTION = re.compile(r"( *)(pub )?(?:const )?(?:unsafe )?(extern \"C\" )?fn (\w+)")
 BLOCK = re.compile(r"(?:pub )?(?:unsafe )?(impl|trait)\b(?:<[^{]*?>)? ?(.*?) *\{?$")
 CLAUSE = re.compile(r"ensures(?: (\w+))? \{ ?(.*)$")
@@ -122,38 +120,24 @@ def clauses(lines, indent):
             return
 
 
-def cell(text):
-    return text.replace("|", "\\|")
-
-
-def cut(text):
-    """A text that fits a cell. Of a longer one its front, up to where a part of the sentence ends."""
-    if len(text) <= CELL:
-        return text
-    return re.match(r"(.*)[,;:] ", text[: CELL - 3])[1] + " .."
-
-
 def shown(clause):
     name, text = clause
-    return f"`{name}`" if name else f"`{text}`" if len(text) <= TEXT else "one without a name"
+    return f"`{name}`" if name else f"`{text}`" if len(text) <= TEXT else "one clause without a name"
 
 
-def rows(functions):
-    for it in functions:
-        named = [shown(clause) for clause in it.clauses]
-        yield f"[`{it.name}`]({it.path})", cut(it.does), ", ".join(named)
+def item(function):
+    named = ", ".join(shown(clause) for clause in function.clauses)
+    return f"- `{function.name}` ({named}): {function.does}"
 
 
 def section(crate):
     names = exported(crate)
     sources = [Source(path, names) for path in sorted(glob.glob(f"{TOP}/crates/{crate}/src/*.rt"))]
-    functions = [it for source in sources for it in source.functions if it.clauses]
-    yield from [f"## `{crate}`", "", definitions.front_page(crate), ""]
-    if functions:
-        yield from ["| function | what it does | its clauses |", "|---|---|---|"]
-        for row in rows(functions):
-            yield "| " + " | ".join(map(cell, row)) + " |"
-        yield ""
+    yield from [f"## `{crate}`", "", definitions.first_sentence(definitions.front_page(crate)), ""]
+    for source in sources:
+        functions = [it for it in source.functions if it.clauses]
+        if functions:
+            yield from [f"[{crate}/{os.path.basename(source.path)}]({functions[0].path})", "", *map(item, functions), ""]
     kept = sorted({it for source in sources for it in source.kept if it[1] in TRAITS})
     if kept:
         yield "Keep a trait's clauses: " + ", ".join(f"`{kind}` those of `{trait}`" for kind, trait in kept) + "."
@@ -171,9 +155,6 @@ TRAITS = traits()
 
 def made():
     lines = [line for crate in definitions.crates() for line in section(crate)]
-    for line in lines:
-        if line.startswith("|") and max(len(it) for it in re.split(r" (?<!\\)\| ", line)) > CELL:
-            sys.exit(f"./x clauses: a cell has more than {CELL} characters: {line}")
     return "\n".join(lines).rstrip("\n")
 
 

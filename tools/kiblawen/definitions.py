@@ -6,9 +6,9 @@
 
 Crates are in the order of crates.txt, files in that of specs/Lib.antt, definitions in that of their file. A comment before
 a definition says what it is. It also covers the definitions after it that have no comment of their own. A comment
-`-- ---- text` is a heading. What a contract of a public function names is shown with the first sentence of its comment.
-What is only below such a definition is only named. What no such contract reaches is listed separately
-(./x closure --unreached).
+`-- ---- text` is a heading. A definition is shown with the first sentence of its comment if a contract of a public function
+names it and a run rests on it. Of the others only names are shown: those that a run rests on ("below"), and those that other
+contracts name ("inner"). Those that no contract of a public function names are not on the page.
 """
 
 import os
@@ -90,25 +90,29 @@ class File:
             self.groups.append(([], comment))
         self.groups[-1][0].append(name)
 
-    def shown(self, cited, unreached):
-        crate, name = self.module
-        yield f"### [{crate}/{name}.antt](../crates/{crate}/specs/{name}.antt)"
+    def names(self, wanted):
+        """The names of the file that are among these definitions."""
+        return [it for names, _ in self.groups for it in names or () if (*self.module, it) in wanted]
+
+    def shown(self, trusted, cited):
+        yield f"### {self.link()}"
         yield ""
         yield plain([first_sentence(" ".join(self.head))])
         yield ""
-        below, inside = [], []
         for names, comment in self.groups:
-            named = [it for it in names or () if (*self.module, it) in cited]
-            below += [it for it in names or () if (*self.module, it) not in cited | unreached]
-            inside += [it for it in names or () if (*self.module, it) in unreached]
+            named = [it for it in names or () if (*self.module, it) in trusted & cited]
             if named:
                 yield f"- {listed(named)}" + (f": {said(comment)}" if comment else "")
+        below, inner = self.names(trusted - cited), self.names(cited - trusted)
         if below:
             yield f"- below: {listed(below)}"
-        if inside:
-            yield f"- in no public contract: {listed(inside)}"
-        if below or inside or self.groups:
-            yield ""
+        if inner:
+            yield f"- inner: {listed(inner)}"
+        yield ""
+
+    def link(self):
+        crate, name = self.module
+        return f"[{crate}/{name}](../crates/{crate}/specs/{name}.antt)"
 
 
 def said(comment):
@@ -122,18 +126,17 @@ def listed(names):
 
 def made():
     found = closure.Definitions()
-    unreached = set(closure.unreached(found))
-    trusted = found.below(closure.rows(found)["a run of any command"])
-    cited = closure.cited(found)
-    lines = []
-    shown = [(crate, files(crate)) for crate in crates()]
-    shown = [(crate, names) for crate, names in shown if names]
-    lines += [f"{len(found.lines):,} definitions: contracts of public functions name {len(cited):,}, the clauses of a run rest on {len(trusted):,}, and {len(unreached):,} are in no public contract. The crates, from below upward:"]
-    lines += [", ".join(f"[`{crate}`](#{crate})" for crate, _ in shown) + ".", ""]
-    for crate, names in shown:
-        lines += [f"## `{crate}`", "", first_sentence(front_page(crate)), ""]
-        for name in names:
-            lines += File(crate, name).shown(cited, unreached)
+    trusted, cited = found.below(closure.rows(found)["a run of any command"]), closure.cited(found)
+    counts = f"{len(trusted):,} of {len(found.lines):,} definitions are those that the clauses of a run rest on"
+    lines = [f"{counts}, {len(cited - trusted):,} are inner ones, and the others are not on this page."]
+    for crate in crates():
+        read = [File(crate, name) for name in files(crate)]
+        outer = [it for it in read if it.names(trusted)]
+        inner = [f"{it.link()}: {listed(it.names(cited))}" for it in read if it not in outer and it.names(cited)]
+        if outer or inner:
+            lines += ["", f"## `{crate}`", ""]
+        lines += [line for it in outer for line in it.shown(trusted, cited)]
+        lines += [f"- inner, {line}" for line in inner]
     return "\n".join(lines).rstrip("\n")
 
 
