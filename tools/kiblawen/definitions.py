@@ -8,7 +8,7 @@ Crates are in the order of crates.txt, files in that of specs/Lib.antt, definiti
 a definition says what it is. It also covers the definitions after it that have no comment of their own. A comment
 `-- ---- text` is a heading. A definition is shown with the first sentence of its comment if a contract of a public function
 names it and a run rests on it. Of the others only names are shown: those that a run rests on ("below"), and those that other
-contracts name ("inner"). Those that no contract of a public function names are not on the page.
+contracts name ("inner"). A file with only such names is a line. What no run rests on and no contract names is not on the page.
 """
 
 import os
@@ -131,12 +131,13 @@ def made():
     lines = [f"{counts}, {len(cited - trusted):,} are inner ones, and the others are not on this page."]
     for crate in crates():
         read = [File(crate, name) for name in files(crate)]
-        outer = [it for it in read if it.names(trusted)]
-        inner = [f"{it.link()}: {listed(it.names(cited))}" for it in read if it not in outer and it.names(cited)]
-        if outer or inner:
+        outer = [it for it in read if it.names(trusted & cited)]
+        others = [it for it in read if it not in outer and it.names(trusted | cited)]
+        if outer or others:
             lines += ["", f"## `{crate}`", ""]
         lines += [line for it in outer for line in it.shown(trusted, cited)]
-        lines += [f"- inner, {line}" for line in inner]
+        for kind, wanted in (("below", trusted), ("inner", cited - trusted)):
+            lines += [f"- {kind}, {it.link()}: {listed(it.names(wanted))}" for it in others if it.names(wanted)]
     return "\n".join(lines).rstrip("\n")
 
 
