@@ -4,8 +4,8 @@
     ./x clauses --write     writes it into docs/clauses.md, between the marks
     ./x clauses --check     fails if docs/clauses.md differs
 
-A crate has the first sentence of its front page. A function is public if the crate exports it or its type. What it does
-is the first sentence of its comment. A clause is shown by its name, or by its text if it has no name and is short.
+A function is public if the crate exports it or its type. What it does is the first sentence of its comment. A clause is
+shown by its name, or by its text if it has no name and is short.
 """
 
 import collections
@@ -133,7 +133,7 @@ def item(function):
 def section(crate):
     names = exported(crate)
     sources = [Source(path, names) for path in sorted(glob.glob(f"{TOP}/crates/{crate}/src/*.rt"))]
-    yield from [f"## `{crate}`", "", definitions.first_sentence(definitions.front_page(crate)), ""]
+    yield from [f"## `{crate}`", ""]
     for source in sources:
         functions = [it for it in source.functions if it.clauses]
         if functions:

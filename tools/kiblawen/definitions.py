@@ -29,14 +29,6 @@ def crates():
     return [it.name for it in crate_list.listed()]
 
 
-def front_page(crate):
-    """The paragraphs and lists of a crate's front page."""
-    folder = f"{TOP}/crates/{crate}/src"
-    root = next(it for it in (f"{folder}/lib.rt", f"{folder}/main.rt") if os.path.isfile(it))
-    text = "\n".join(line[4:] for line in lines_of(root) if line.startswith("//!"))
-    return unlinked(text)
-
-
 def unlinked(text):
     """A text whose links to items of the sources are their names."""
     return re.sub(r"\[(`[^`]+`)\](?:\([\w:]+\))?", r"\1", text)
