@@ -118,13 +118,10 @@ def rows(found):
 
 
 def table(found):
-    lines = ["| what is trusted below | definitions | lines | most of them in |", "|---|---|---|---|"]
+    lines = ["| what is trusted below | definitions | lines |", "|---|---|---|"]
     for title, roots in rows(found).items():
         reached = found.below(roots)
-        crates = collections.Counter(it[0] for it in reached)
-        most = sorted(crates, key=lambda it: (-crates[it], it))[:4]
-        crates = ", ".join(f"`{it}` {crates[it]}" for it in most)
-        lines.append(f"| {title} | {len(reached):,} | {found.count(reached):,} | {crates} |")
+        lines.append(f"| {title} | {len(reached):,} | {found.count(reached):,} |")
     return "\n".join(lines)
 
 
