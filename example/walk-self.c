@@ -5,7 +5,8 @@
  *
  * FOLDER has a section FILE.sframe for a loaded file of that name, as `sf_tool link FILE.sframe@AT FILE@0x0` makes it,
  * where AT is the page after the file's last loaded byte. With SAMPLES the registers and the copy of the stack are
- * written there, for walks-a-second. Ends with 1 where the two disagree.
+ * written there, for walks-a-second. The status is 1 if the two disagree, and 2 if the stack's end isn't known: glibc reads
+ * it from /proc/self/maps.
  */
 #define _GNU_SOURCE
 #include <execinfo.h>
@@ -58,13 +59,17 @@ static int by_start(const void *a, const void *b)
     return (one->start > other->start) - (one->start < other->start);
 }
 
-/* The address after this thread's stack. */
+/* Returns the address after this thread's stack, or 0 if it isn't known. */
 static uint64_t stack_end(void)
 {
     pthread_attr_t attributes;
     void *base = NULL;
     size_t size = 0;
-    pthread_getattr_np(pthread_self(), &attributes);
+    int fault = pthread_getattr_np(pthread_self(), &attributes);
+    if (fault) {
+        fprintf(stderr, "walk-self: the stack's end is not known: %s\n", strerror(fault));
+        return 0;
+    }
     pthread_attr_getstack(&attributes, &base, &size);
     pthread_attr_destroy(&attributes);
     return (uint64_t)base + size;
@@ -97,6 +102,9 @@ static __attribute__((noinline)) int here(void)
     void *traced[MOST_FRAMES];
     ucontext_t context;
     volatile int differ = 0;
+    uint64_t end = stack_end();
+    if (end == 0)
+        return 2;
     getcontext(&context);
 #if defined(__x86_64__)
     sample.pc = (uint64_t)context.uc_mcontext.gregs[REG_RIP];
@@ -109,7 +117,7 @@ static __attribute__((noinline)) int here(void)
     sample.lr = context.uc_mcontext.regs[30];
 #endif
     sample.stack_start = sample.sp;
-    sample.stack_len = stack_end() - sample.sp;
+    sample.stack_len = end - sample.sp;
     if (sample.stack_len > sizeof copy)
         sample.stack_len = sizeof copy;
     memcpy(copy, (const void *)sample.sp, sample.stack_len);
