@@ -2,7 +2,8 @@
  * kiblawen: SFrame Version 2 sections, for programs that walk stacks.
  *
  * Open the bytes of a section once. Then look up addresses, recover a caller's frame, or walk a sample: registers and
- * a copy of part of the stack. Link with libkiblawen.a (pkg-config --cflags --libs kiblawen). C11 and C++.
+ * a copy of part of the stack. Link with libkiblawen.so or libkiblawen.a (pkg-config --cflags --libs kiblawen). C11 and
+ * C++11.
  *
  * Nothing allocates and no function calls itself. What each call returns and writes is proved, for all sections,
  * registers and memory, provided the caller meets the conditions stated at each call, and these four:
@@ -26,6 +27,12 @@
 #include <stddef.h>
 #include <stdint.h>
 
+/* The version of this header. KIBLAWEN_VERSION, below, is a fault. */
+#define KIBLAWEN_VERSION_MAJOR 0
+#define KIBLAWEN_VERSION_MINOR 1
+#define KIBLAWEN_VERSION_PATCH 0
+#define KIBLAWEN_VERSION_STRING "0.1.0"
+
 #if defined(__GNUC__)
 #define KIBLAWEN_NONNULL __attribute__((nonnull))
 #else
@@ -37,7 +44,11 @@ extern "C" {
 #endif
 
 /* A pointer to no bytes. */
+#ifdef __cplusplus
+#define KIBLAWEN_NOTHING (reinterpret_cast<const uint8_t *>(""))
+#else
 #define KIBLAWEN_NOTHING ((const uint8_t *) "")
+#endif
 
 /* A section. While it is closed it has no functions. */
 struct kiblawen_section {
