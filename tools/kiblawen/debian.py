@@ -7,11 +7,13 @@ import shutil
 import subprocess
 import time
 
-from kiblawen import common, staging
+from kiblawen import common, shared, staging
 
 MAINTAINER = "Kiblawen maintainers <maintainers@users.noreply.kiblawen.example>"
 # A package's version is that of the release, and this number of its packaging.
 REVISION = "1"
+# The first version that has the shared library.
+FIRST_SHARED = "0.1.0"
 # dpkg's names for the two machines, and the folders of their libraries below /usr/lib.
 ARCHITECTURES = {"amd64": ("amd64", "x86_64-linux-gnu"), "aarch64": ("arm64", "aarch64-linux-gnu")}
 LICENSES = ("LICENSE-MIT", "LICENSE-APACHE")
@@ -44,6 +46,9 @@ kiblawen: unstripped-binary-or-object *
 # The pages refer to it by this name.
 kiblawen: wrong-name-for-upstream-changelog *
 """
+SHARED_OVERRIDES = """# It allocates nothing and calls nothing, the C library included.
+libkiblawen0: shared-library-lacks-prerequisites *
+"""
 TOOL = """Package: kiblawen
 Section: devel
 Multi-Arch: foreign
@@ -59,21 +64,37 @@ Description: proved tool for SFrame Version 2 stack trace tables
  sf_tool also merges, shortens, prints, searches and verifies tables, and
  walks the threads of core files with them.
 """
-LIBRARY = """Package: libkiblawen-dev
-Section: libdevel
-Multi-Arch: same
-Suggests: kiblawen
-Description: look-ups and walks with SFrame stack trace tables, for C and C++
- The library checks an SFrame Version 2 section once. Then it looks up
+ABOUT = """ The library checks an SFrame Version 2 section once. Then it looks up
  addresses, recovers a caller's frame, and walks samples: registers and a
  copy of part of the stack. It allocates nothing.
  .
  It is proved what each call returns and writes, for all sections, registers
- and memory, if the caller meets the header's conditions. The package has the
- static library, the header and the pkg-config file.
+ and memory, if the caller meets the header's conditions.
 """
+SHARED = f"""Package: libkiblawen0
+Section: libs
+Multi-Arch: same
+Description: look-ups and walks with SFrame stack trace tables
+{ABOUT} This package has the shared library.
+"""
+LIBRARY = f"""Package: libkiblawen-dev
+Section: libdevel
+Multi-Arch: same
+Depends: libkiblawen0 (= {{version}})
+Suggests: kiblawen
+Description: look-ups and walks with SFrame stack trace tables, for C and C++
+{ABOUT} This package has the static library, the header and the pkg-config
+ file.
+"""
+# What dpkg-shlibdeps writes for a program that is linked with the shared library, and what ldconfig is run for.
+SHLIBS = "libkiblawen 0 libkiblawen0 (>= {version})\n"
+TRIGGERS = "activate-noawait ldconfig\n"
 # Each has its fields, and the files that it takes of those that no earlier one took.
-PACKAGES = ((LIBRARY, re.compile("usr/(include|lib)/")), (TOOL, re.compile("")))
+PACKAGES = (
+    (SHARED, re.compile(rf"usr/lib/.*/{re.escape(shared.NAME)}$")),
+    (LIBRARY, re.compile("usr/(include|lib)/")),
+    (TOOL, re.compile("")),
+)
 
 
 def pack(path):
@@ -128,8 +149,7 @@ class Package:
         staging.write_packed(os.path.join(documents, "changelog.Debian.gz"), self.changelog().encode())
         staging.write(os.path.join(documents, "copyright"), copyright_text())
         staging.write(os.path.join(documents, "RELEASE.txt"), note)
-        has_tool = os.path.exists(os.path.join(self.root, "usr/bin/sf_tool"))
-        overrides = OVERRIDES.format(name=self.name) + (TOOL_OVERRIDES if has_tool else "")
+        overrides = OVERRIDES.format(name=self.name) + {"kiblawen": TOOL_OVERRIDES, "libkiblawen0": SHARED_OVERRIDES}.get(self.name, "")
         staging.write(os.path.join(self.root, "usr/share/lintian/overrides", self.name), overrides)
 
     def follow_policy(self):
@@ -140,14 +160,22 @@ class Package:
             elif re.match(r"usr/share/man/.*[0-9]$", name):
                 pack(os.path.join(self.root, name))
 
+    def add_shared(self):
+        """Adds what dpkg wants to know of a package with a shared library: its names, since which version they are there."""
+        version, names = shared.exports()
+        symbols = "".join(f" {name}@{version} {FIRST_SHARED}\n" for name in [version, *names])
+        staging.write(os.path.join(self.root, "DEBIAN/symbols"), f"{shared.NAME} {self.name} #MINVER#\n{symbols}")
+        staging.write(os.path.join(self.root, "DEBIAN/shlibs"), SHLIBS.format(version=FIRST_SHARED))
+        staging.write(os.path.join(self.root, "DEBIAN/triggers"), TRIGGERS)
+
     def add_control(self):
-        names = staging.names_below(self.root)
+        names = [it for it in staging.names_below(self.root) if not os.path.islink(os.path.join(self.root, it))]
         paths = [os.path.join(self.root, name) for name in names]
         sums = "".join(f"{staging.digest(path, hashlib.md5)}  {name}\n" for path, name in zip(paths, names))
         size = sum(-(-os.path.getsize(path) // 1024) for path in paths)
         first, rest = self.fields.split("\n", 1)
         own = f"Version: {self.version}\nArchitecture: {self.architecture}\nMaintainer: {MAINTAINER}\nInstalled-Size: {size}\nPriority: optional\n"
-        rest = rest.replace("{needs}", self.needs() if "{needs}" in rest else "")
+        rest = rest.replace("{needs}", self.needs() if "{needs}" in rest else "").replace("{version}", self.version)
         staging.write(os.path.join(self.root, "DEBIAN/md5sums"), sums)
         staging.write(os.path.join(self.root, "DEBIAN/control"), f"{first}\n{own}{rest}")
 
@@ -176,6 +204,8 @@ def make_all(release, note, room, to):
         package.follow_policy()
         package.add_documents(note)
         package.add_control()
+        if fields is SHARED:
+            package.add_shared()
         made.append(package.make(to))
     return made
 

@@ -1,17 +1,19 @@
-"""Puts the program, `kiblawen-add`, man pages, the C library, its header and pkg-config file, and the documents under a prefix.
+"""Puts the program, `kiblawen-add`, the C library with its header, man pages and documents under a prefix.
 
     ./x install [PREFIX]                               by default /usr/local
     LIBDIR=lib/x86_64-linux-gnu ./x install /usr       the folder of the C library, by default PREFIX/lib
     DESTDIR=/tmp/root ./x install /usr                 the files go below /tmp/root, for use below /usr
 
 PREFIX and DESTDIR are relative to the folder where the script is started, LIBDIR to PREFIX. DESTDIR is for packages: no installed
-file names it. First build program and library with `sh demo/run`. Nothing else is needed, and nothing outside the prefix changes.
+file names it. First build program and library with `sh demo/run`. The shared library is made from the archive by a C compiler ($CC, or cc);
+without one it is omitted, and a line says so. Nothing else is needed, and nothing outside the prefix changes.
 """
 
 import os
 import shutil
+import tempfile
 
-from kiblawen import common, program
+from kiblawen import common, program, shared
 
 DOCUMENTS = ["README.md", "CHANGELOG.md", "CONTRIBUTING.md", "SECURITY.md", "VERSION", "LICENSE-MIT", "LICENSE-APACHE"]
 # The modules of kiblawen-add.
@@ -54,6 +56,9 @@ class Installation:
         """A copy of a file in a folder."""
         os.makedirs(self.root + folder, exist_ok=True)
         to = f"{self.root}{folder}/{name or os.path.basename(path)}"
+        # An older file that a running program has mapped keeps its bytes.
+        if os.path.lexists(to):
+            os.remove(to)
         shutil.copyfile(path, to)
         os.chmod(to, mode)
 
@@ -65,6 +70,8 @@ class Installation:
         for name in ("sf_tool.1", "kiblawen-add.1"):
             self.put(0o644, common.at_top("man", name), f"{self.prefix}/share/man/man1")
         self.put(0o644, program.LIBRARY, self.libdir, "libkiblawen.a")
+        if shared.compiler():
+            self.put_shared()
         self.put(0o644, common.at_top("include", "kiblawen.h"), f"{self.prefix}/include")
         documents = f"{self.prefix}/share/doc/kiblawen"
         for name in DOCUMENTS:
@@ -73,6 +80,16 @@ class Installation:
             if name.endswith(".md"):
                 self.put(0o644, common.at_top("docs", name), f"{documents}/docs")
         self.put_pkg_config(version)
+
+    def put_shared(self):
+        """Makes the shared library, and the link that `-lkiblawen` finds."""
+        with tempfile.TemporaryDirectory() as room:
+            shared.make(__name__, os.path.join(room, shared.NAME))
+            self.put(0o644, os.path.join(room, shared.NAME), self.libdir)
+        link = f"{self.root}{self.libdir}/{shared.LINK}"
+        if os.path.lexists(link):
+            os.remove(link)
+        os.symlink(shared.NAME, link)
 
     def put_pkg_config(self, version):
         folder = f"{self.root}{self.libdir}/pkgconfig"
@@ -106,5 +123,7 @@ def main(words):
         to.put_all(version)
     except OSError as fault:
         common.fail(__name__, str(fault))
+    if not shared.compiler():
+        print(f"{shared.NAME} is omitted: there is no C compiler, which makes it")
     print(f"kiblawen {version} for {to.prefix} is installed{f' under {to.root}' if to.root else ''}")
     return 0

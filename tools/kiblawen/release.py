@@ -2,8 +2,9 @@
 
     ./x release
 
-The files are in dist/, which is emptied first: kiblawen-VERSION-linux-MACHINE.tar.gz, the packages kiblawen and libkiblawen-dev,
-kiblawen-VERSION.txt, which is the note, and SHA256SUMS. First run the gate, or `sh demo/run`. The tree has to be as it was committed.
+The files are in dist/, which is emptied first: kiblawen-VERSION-linux-MACHINE.tar.gz, the packages kiblawen, libkiblawen0 and
+libkiblawen-dev, kiblawen-VERSION.txt, which is the note, and SHA256SUMS. First run the gate, or `sh demo/run`. The tree has to be as it
+was committed. A C compiler makes the shared library.
 
 A commit that has the tag vVERSION is that version. Any other one is VERSION+gitDATE.COMMIT. All bytes come from the commit and from what
 was built: times are the commit's, the owner is root, names are in order. Packages need dpkg-deb. Without it they are omitted.
@@ -17,7 +18,7 @@ import shutil
 import tempfile
 import time
 
-from kiblawen import clauses, closure, common, debian, definitions, elf, program, staging
+from kiblawen import clauses, closure, common, debian, definitions, elf, program, shared, staging
 
 DIST = common.at_top("dist")
 # The toolchain's line, as README has it, and the digits of the logic in it.
@@ -123,6 +124,8 @@ def check_built():
         with open(path, "rb") as file:
             if f"rattle logic={logic}".encode() not in file.read():
                 common.fail(__name__, f"{path} was not made by the toolchain that README.md names (logic {logic})")
+    if not shared.compiler():
+        common.fail(__name__, f"there is no C compiler, which makes {shared.NAME}")
 
 
 def make_tarball(release, text, room):

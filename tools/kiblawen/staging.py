@@ -32,7 +32,7 @@ def settle(root, date):
     """Gives the folders below a root their mode, and all files and folders this time."""
     for folder, _, names in os.walk(root, topdown=False):
         for name in names:
-            os.utime(os.path.join(folder, name), (date, date))
+            os.utime(os.path.join(folder, name), (date, date), follow_symlinks=False)
         os.chmod(folder, 0o755)
         os.utime(folder, (date, date))
 

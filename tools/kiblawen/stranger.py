@@ -8,7 +8,8 @@ to its files, in a temporary folder beside it, so they take little room. ROOT ge
 
 The package kiblawen: README's example, kiblawen-add on its program, and procwalk on a core file that is copied in, beside gdb; then it is
 removed.
-The package libkiblawen-dev: the program of docs/library.md, built by pkg-config, walks a sample with a table that is copied in.
+The packages libkiblawen0 and libkiblawen-dev: the program of docs/library.md, built by pkg-config, walks a sample with a table that is
+copied in: with the archive, and with the shared library, also after libkiblawen-dev is removed.
 The tarball: README's example, kiblawen-add, and example/walk-self.c, built by pkg-config, walks its own stack beside backtrace().
 At last a clone in another folder makes the same release from the same program and library: the checksums are the same.
 
@@ -23,7 +24,7 @@ import subprocess
 import sys
 import tempfile
 
-from kiblawen import common, processes, program, release, staging
+from kiblawen import common, processes, program, release, shared, staging
 
 SUITE = "bookworm"
 DEBOOTSTRAP = ["debootstrap", "--variant=minbase", "--include=gcc,libc6-dev,binutils,pkgconf,python3", SUITE]
@@ -199,16 +200,24 @@ def try_tool(tries, root, path, room):
     tries.check("kiblawen: nothing is left after it is removed", *root.ends_well(removed))
 
 
-def try_library(tries, root, path, tables):
-    name = os.path.basename(path)
-    root.copy(path, *filter(os.path.exists, (f"{tables}/echo.sframe", f"{tables}/at")))
+def try_library(tries, root, paths, tables):
+    names = " ".join(os.path.basename(path) for path in paths)
+    root.copy(*paths, *filter(os.path.exists, (f"{tables}/echo.sframe", f"{tables}/at")))
     tries.check("libkiblawen-dev: no toolchain is there", not root.has_toolchain())
-    tries.check(f"libkiblawen-dev: {name} is installed, and its files are whole", *root.ends_well(f"dpkg -i {name} && dpkg --verify libkiblawen-dev"))
+    installs = f"dpkg -i {names} && dpkg --verify libkiblawen0 libkiblawen-dev"
+    tries.check(f"libkiblawen-dev: {names} are installed, and their files are whole", *root.ends_well(installs))
     staging.write(f"{root.room}/walks.c", "\n".join(block("docs/library.md", "### A program", "c")) + WALKS)
-    build = "cc -std=c11 -Wall -Wextra -Werror $(pkg-config --cflags kiblawen) walks.c $(pkg-config --libs kiblawen) -o walks"
-    status, said = root.run(f"{build}\n./walks echo.sframe $(cat at) 0x1139 0x4242")
-    passed = (status, said) == (0, "0x1139\n0x4242\n")
-    tries.check("libkiblawen-dev: a program built by pkg-config walks a sample", passed, f"status {status}\n{said}")
+    build = "cc -std=c11 -Wall -Wextra -Werror $(pkg-config --cflags kiblawen) walks.c -o walks"
+    walk = "./walks echo.sframe $(cat at) 0x1139 0x4242"
+    is_shared = f"readelf -d walks | grep -c '{shared.NAME}' || true"
+    for what, script, count in (
+        ("a program with the archive walks a sample", f"{build} -l:libkiblawen.a\n{walk}\n{is_shared}", 0),
+        ("a program built by pkg-config walks a sample", f"{build} $(pkg-config --libs kiblawen)\n{walk}\n{is_shared}", 1),
+        ("that program walks without it, by libkiblawen0", f"dpkg -P libkiblawen-dev >removed\n{walk}\n{is_shared}", 1),
+    ):
+        status, said = root.run(script)
+        passed = (status, said) == (0, f"0x1139\n0x4242\n{count}\n")
+        tries.check(f"libkiblawen-dev: {what}", passed, f"status {status}\n{said}")
 
 
 def try_tarball(tries, root, path):
@@ -216,7 +225,7 @@ def try_tarball(tries, root, path):
     root.copy(path, common.at_top("example", "walk-self.c"))
     tries.check("tarball: no toolchain is there", not root.has_toolchain())
     tries.check(f"tarball: {name} is unpacked", *root.ends_well(f"tar xf {name} && mv {name[: -len('.tar.gz')]} kiblawen"))
-    root.environment.update(PATH=f"{TARBALL}/bin:{PATH}", PKG_CONFIG_PATH=f"{TARBALL}/lib/pkgconfig")
+    root.environment.update(PATH=f"{TARBALL}/bin:{PATH}", PKG_CONFIG_PATH=f"{TARBALL}/lib/pkgconfig", LD_LIBRARY_PATH=f"{TARBALL}/lib")
     try_example(tries, root, "tarball")
     try_add(tries, root, "tarball")
     walks = "tarball: a program built by pkg-config walks its own stack as backtrace() does"
@@ -265,7 +274,8 @@ def main(words):
     parser = common.parser(__name__, __doc__)
     parser.add_argument("root", nargs="?", metavar="ROOT")
     given = parser.parse_args(words)
-    tool, library, tarball = one("kiblawen_*.deb"), one("libkiblawen-dev_*.deb"), one("kiblawen-*.tar.gz")
+    tool, tarball = one("kiblawen_*.deb"), one("kiblawen-*.tar.gz")
+    library = [one("libkiblawen0_*.deb"), one("libkiblawen-dev_*.deb")]
     if os.geteuid() != 0:
         common.fail(__name__, "chroot needs the rights of root")
     tries = Tries()
