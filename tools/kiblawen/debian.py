@@ -86,12 +86,24 @@ Description: look-ups and walks with SFrame stack trace tables, for C and C++
 {ABOUT} This package has the static library, the header and the pkg-config
  file.
 """
+PYTHON = f"""Package: python3-kiblawen
+Section: python
+Architecture: all
+Depends: python3 (>= 3.8), libkiblawen0 (>= {FIRST_SHARED})
+Suggests: kiblawen
+Description: look-ups and walks with SFrame stack trace tables, for Python
+{ABOUT} This package has a module that calls the library. The module is tested
+ and not proved.
+"""
+# Where the stage has the Python module, and where Debian has such modules.
+MODULE, DEBIAN_MODULE = "usr/share/kiblawen/python/kiblawen.py", "usr/lib/python3/dist-packages/kiblawen.py"
 # What dpkg-shlibdeps writes for a program that is linked with the shared library, and what ldconfig is run for.
 SHLIBS = "libkiblawen 0 libkiblawen0 (>= {version})\n"
 TRIGGERS = "activate-noawait ldconfig\n"
 # Each has its fields, and the files that it takes of those that no earlier one took.
 PACKAGES = (
     (SHARED, re.compile(rf"usr/lib/.*/{re.escape(shared.NAME)}$")),
+    (PYTHON, re.compile(re.escape(DEBIAN_MODULE))),
     (LIBRARY, re.compile("usr/(include|lib)/")),
     (TOOL, re.compile("")),
 )
@@ -120,10 +132,13 @@ class Package:
     """A package that is made in a folder: its files, what dpkg wants to know of them, and the note of the release."""
 
     def __init__(self, release, fields, root):
-        self.release, self.fields, self.root = release, fields, root
+        self.release, self.root = release, root
         self.name = re.match(r"Package: (\S+)", fields)[1]
         self.version = f"{release.version}-{REVISION}"
-        self.architecture = ARCHITECTURES[release.machine][0]
+        # A package of scripts names its architecture itself.
+        named = re.search(r"(?m)^Architecture: (\S+)\n", fields)
+        self.architecture = named[1] if named else ARCHITECTURES[release.machine][0]
+        self.fields = fields.replace(named[0], "") if named else fields
 
     def take(self, stage, wanted):
         """Moves the files that it takes from the folder where all are."""
@@ -197,6 +212,7 @@ def make_all(release, note, room, to):
         return []
     stage = os.path.join(room, "stage")
     staging.installed(stage, "/usr", f"lib/{ARCHITECTURES[release.machine][1]}")
+    os.renames(os.path.join(stage, MODULE), os.path.join(stage, DEBIAN_MODULE))
     made = []
     for fields, wanted in PACKAGES:
         package = Package(release, fields, os.path.join(room, "packages", str(len(made))))

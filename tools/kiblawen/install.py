@@ -1,4 +1,4 @@
-"""Puts the program, `kiblawen-add`, the C library with its header, man pages and documents under a prefix.
+"""Puts the program, `kiblawen-add`, the C library with its header, a Python module, man pages and documents under a prefix.
 
     ./x install [PREFIX]                               by default /usr/local
     LIBDIR=lib/x86_64-linux-gnu ./x install /usr       the folder of the C library, by default PREFIX/lib
@@ -73,6 +73,7 @@ class Installation:
         if shared.compiler():
             self.put_shared()
         self.put(0o644, common.at_top("include", "kiblawen.h"), f"{self.prefix}/include")
+        self.put(0o644, common.at_top("python", "kiblawen.py"), f"{self.prefix}/share/kiblawen/python")
         documents = f"{self.prefix}/share/doc/kiblawen"
         for name in DOCUMENTS:
             self.put(0o644, common.at_top(name), documents)

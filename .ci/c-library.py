@@ -1,0 +1,147 @@
+"""Tries the Python module of the C library: on a made section, and on the stack of a core file beside `sf_tool walk`.
+
+    PYTHONPATH=python KIBLAWEN_LIBRARY=LIBRARY python3 .ci/c-library.py SF_TOOL
+
+Prints what was wrong, and a line with the counts. `.ci/c-library` runs it. The core file needs a C compiler and gdb.
+"""
+
+import os
+import re
+import shutil
+import struct
+import subprocess
+import sys
+import tempfile
+
+import kiblawen
+from kiblawen import Base, Fault, Frame, Key, Module, Modules, Refused, Sample, Section, Stop
+
+# An AMD64 function at 0x1000 that pushes its frame pointer, for a section at 0x3000: as in c-library.c.
+PUSHING = bytes.fromhex(
+    "e2de02050300f80001000000040000000f0000000000000014000000e4dfffff060000000000000004000000000000000003080105"
+    "10f0040410f0050508f0"
+)
+# Two frames of it at 0x7000: a saved frame pointer and a return address, and then zeros.
+STACK = struct.pack("<QQQQ", 0x7010, 0x1005, 0, 0)
+SAMPLE = Sample(pc=0x1004, sp=0x6FF0, fp=0x7000, stack=STACK, stack_start=0x7000)
+FRAMES = [Frame(0x1004, 0x7010), Frame(0x1005, 0x7020), Frame(0, 0)]
+DEEP = """
+#include <stdlib.h>
+static __attribute__((noinline)) int deep(int n)
+{
+    volatile char room[n % 8 + 1];
+    room[n % 8] = 1;
+    if (n == 0)
+        abort();
+    return deep(n - 1) + room[n % 8];
+}
+int main(void) { return deep(20); }
+"""
+NT_PRSTATUS, PT_LOAD, PT_NOTE = 1, 1, 4
+# Where the registers of AMD64 are in NT_PRSTATUS, and which of them are rbp, rip and rsp.
+REGISTERS, RBP, RIP, RSP = 112, 4, 16, 19
+
+tried = wrong = 0
+
+
+def check(what, passed):
+    global tried, wrong
+    tried += 1
+    if not passed:
+        wrong += 1
+        print(f"c-library: the Python module: {what}")
+
+
+def refusal(content, at):
+    try:
+        Section(content, at)
+    except Refused as refused:
+        return refused.fault, refused.place
+    return None
+
+
+def try_made():
+    section = Section(PUSHING, 0x3000)
+    row = section.find(0x1004)
+    check("a row", row == (0x1000, 6, 0, 4, Base.FP, 16, -8, -16, Key.UNSIGNED) and row.cfa_offset == 16)
+    check("no row", section.find(0xFFF) is None and section.find(0x1006) is None and section.most_rows() == 4)
+    check("a caller", section.recover(SAMPLE) == (0x7010, 0x1005, 0x7010, Key.UNSIGNED))
+    check("a caller that can't be read", section.recover(SAMPLE._replace(stack=b"")) == (0x7010, None, None, Key.UNSIGNED))
+    check("no caller", section.recover(SAMPLE._replace(pc=0x2000)) is None)
+    check("a walk", section.walk(SAMPLE) == (FRAMES, Stop.OUTSIDE, 2**64 - 1))
+    check("a walk of two frames", section.walk(SAMPLE, 2) == (FRAMES[:2], Stop.ROOM, 0))
+    check("a walk of no frames", section.walk(SAMPLE, 0) == ([], Stop.ROOM, 0))
+    check("a short stack", section.walk(SAMPLE._replace(stack=STACK[:15])) == (FRAMES[:1], Stop.UNREADABLE, 0x7008))
+    check("faults", refusal(b"", 0) == (Fault.SHORT, 0) and refusal(PUSHING[:2] + b"\1" + PUSHING[3:], 0x3000) == (Fault.VERSION, 2))
+    modules = Modules([Module(0x2000, 0x1000, None), Module(0x1000, 0x1000, section)])
+    check("modules", modules.walk(SAMPLE) == (FRAMES, Stop.OUTSIDE, 2**64 - 1))
+    check("a module without a section", modules.walk(SAMPLE._replace(pc=0x2000)) == ([Frame(0x2000, 0)], Stop.OUTSIDE, 0x2000))
+    check("no modules", Modules([]).walk(SAMPLE) == ([Frame(0x1004, 0)], Stop.OUTSIDE, 0x1004))
+    try:
+        Modules([Module(0x1000, 0x1001, section), Module(0x2000, 1, section)])
+        check("modules that overlap", False)
+    except ValueError:
+        check("modules that overlap", True)
+    with section:
+        pass
+    check("a closed section", section.find(0x1004) is None and section.most_rows() == 0)
+
+
+def read_core(path):
+    """The sample of a core file's thread on AMD64, with its stack."""
+    with open(path, "rb") as file:
+        content = file.read()
+    place, count = struct.unpack_from("<Q", content, 32)[0], struct.unpack_from("<H", content, 56)[0]
+    headers = [struct.unpack_from("<IIQQQQQQ", content, place + 56 * it) for it in range(count)]
+    at, kind = next(offset for kind, _, offset, *_ in headers if kind == PT_NOTE), None
+    while kind != NT_PRSTATUS:
+        name, length, kind = struct.unpack_from("<III", content, at)
+        note = at + 12 + (name + 3 & -4)
+        at = note + (length + 3 & -4)
+    registers = struct.unpack_from("<27Q", content, note + REGISTERS)
+    sp = registers[RSP]
+    for kind, _, offset, start, _, length, _, _ in headers:
+        if kind == PT_LOAD and start <= sp < start + length:
+            return Sample(registers[RIP], sp, registers[RBP], content[offset + sp - start : offset + length])
+    return None
+
+
+def try_core(tool, room):
+    source, program, core = (os.path.join(room, it) for it in ("deep.c", "deep", "core"))
+    with open(source, "w", encoding="utf-8") as file:
+        file.write(DEEP)
+    quiet = {"stdin": subprocess.DEVNULL, "stdout": subprocess.DEVNULL, "stderr": subprocess.DEVNULL}
+    cc = (os.environ.get("CC") or "cc").split()
+    if os.uname().machine == "x86_64" and shutil.which("gdb"):
+        subprocess.run([*cc, "-O1", "-static", "-no-pie", "-o", program, source], check=False, **quiet)
+        words = ["set confirm off", "run", f"generate-core-file {core}"]
+        subprocess.run(["gdb", "-nx", "-batch", *(it for word in words for it in ("-ex", word)), program], check=False, **quiet)
+    if not os.path.exists(core):
+        print("c-library: the Python module is not tried on a core file: that needs AMD64, gdb, a C compiler and a static C library")
+        return
+    section = kiblawen.link(program, tool=tool)
+    check("the report of link", re.search(r"kept \d+ omitted \d+", section.report))
+    walk = section.walk(read_core(core))
+    table = os.path.join(room, "table")
+    module = kiblawen.module(program, 0, tool=tool)
+    said = subprocess.run([tool, "link", f"{table}@{module.size:#x}", f"{program}@0x0"], stdout=subprocess.DEVNULL, check=False).returncode
+    shown = subprocess.run([tool, "walk", f"{table}@{module.size:#x}", core, "64"], stdout=subprocess.PIPE, check=False).stdout.decode()
+    expected = [int(it, 16) for it in re.findall(r"#\d+ pc (0x\w+)", shown)]
+    check("the frames of `sf_tool walk`", said == 0 and len(expected) > 20 and [it.pc for it in walk.frames] == expected)
+    check("the stop of `sf_tool walk`", f"stop {walk.stop.name.lower()} {walk.value:#x}" in shown)
+    try:
+        kiblawen.link(source, tool=tool)
+        check("a file that is no program", False)
+    except ValueError:
+        check("a file that is no program", True)
+
+
+def main():
+    try_made()
+    with tempfile.TemporaryDirectory() as room:
+        try_core(os.path.abspath(sys.argv[1]), room)
+    print(f"c-library: the Python module: {tried} tried, {wrong} wrong")
+    return int(wrong > 0)
+
+
+sys.exit(main())

@@ -1,0 +1,261 @@
+"""SFrame Version 2 sections in Python: checks them, looks up addresses, and walks samples, by the C library libkiblawen.so.0.
+
+    import kiblawen
+    section = kiblawen.link("/usr/bin/prog", load=0x555555554000)    makes the section of a file, and opens it
+    section = kiblawen.Section(content, at)                          opens a section's bytes
+    section.find(pc)                                                 a Row, or None
+    section.walk(kiblawen.Sample(pc, sp, fp, stack))                 a Walk: its frames, and why it stopped
+    modules = kiblawen.Modules([kiblawen.Module(start, size, section), ..])
+    modules.walk(sample)                                             the same with the sections of a process
+
+The library is $KIBLAWEN_LIBRARY, or the one that is installed with this file, or the one that the dynamic linker finds. `link` is the only
+call that starts a process: the program `sf_tool`. kiblawen.h describes each call of the library. What these return is proved; this file is
+tested, and not proved. Several threads may use one section, while none closes it.
+"""
+
+import collections
+import ctypes
+import enum
+import os
+import struct
+import subprocess
+import tempfile
+
+__all__ = ["Base", "Caller", "Fault", "Frame", "Key", "Module", "Modules", "Refused", "Row", "Sample", "Section", "Stop", "Walk", "link", "module"]
+
+NAME = "libkiblawen.so.0"
+PAGE, PT_LOAD = 4096, 1
+
+
+class Fault(enum.IntEnum):
+    """Why a section is refused, by the names of kiblawen.h."""
+
+    SHORT = 1
+    MAGIC = 2
+    VERSION = 3
+    FLAGS = 4
+    ABI = 5
+    FIXED_OFFSET = 6
+    LAYOUT = 7
+    COUNT = 8
+    ROW_TYPE = 9
+    RESERVED = 10
+    REPEAT_ZERO = 11
+    OFFSET_COUNT = 12
+    OFFSET_SIZE = 13
+    ROW_ORDER = 14
+    UNSORTED = 15
+    OVERLAP = 16
+    ADDRESS_RANGE = 17
+    TOO_MANY_FUNCTIONS = 18
+    TOO_MANY_ROWS = 19
+
+
+class Refused(ValueError):
+    """A section that is refused, with its first fault and the fault's place."""
+
+    def __init__(self, fault, place):
+        super().__init__(f"{fault.name} at {place:#x}")
+        self.fault, self.place = fault, place
+
+
+class Base(enum.IntEnum):
+    """The register that a canonical frame address counts from."""
+
+    FP = 0
+    SP = 1
+
+
+class Key(enum.IntEnum):
+    """The key that signs a return address."""
+
+    UNSIGNED = 0
+    A = 1
+    B = 2
+
+
+class Stop(enum.IntEnum):
+    """Why a walk stopped."""
+
+    ROOM = 0
+    OUTSIDE = 1
+    UNREADABLE = 2
+    SIGNED = 3
+
+
+# A function and its row. `ra_offset` is None if the return address is in the link register, `fp_offset` if the frame pointer is unchanged.
+Row = collections.namedtuple("Row", "function_start function_size block_size row_start base cfa_offset ra_offset fp_offset key")
+# A caller's frame. `ra` and `fp` are None if they can't be read.
+Caller = collections.namedtuple("Caller", "cfa ra fp key")
+# A frame of a walk. `cfa` is 0 if no row holds.
+Frame = collections.namedtuple("Frame", "pc cfa")
+# The frames of a walk, why it stopped, and the value that this names.
+Walk = collections.namedtuple("Walk", "frames stop value")
+# A file of a process: its addresses, and its section or None.
+Module = collections.namedtuple("Module", "start size section")
+# A stopped thread. `stack` is a copy of its stack from `stack_start` on, or from `sp` on if that is None. `mask` is None if it isn't known.
+Sample = collections.namedtuple("Sample", "pc sp fp stack stack_start lr mask", defaults=(b"", None, 0, None))
+
+
+def _struct(name, **fields):
+    return type(name, (ctypes.Structure,), {"_fields_": list(fields.items())})
+
+
+_u32, _i32, _u64, _size = ctypes.c_uint32, ctypes.c_int32, ctypes.c_uint64, ctypes.c_size_t
+_bytes = ctypes.POINTER(ctypes.c_uint8)
+_Section = _struct("kiblawen_section", bytes=_bytes, len=_size, at=_u64, is_open=ctypes.c_bool)
+_Row = _struct(
+    "kiblawen_row", function_start=_u64, function_size=_u32, block_size=_u32, row_start=_u32, base=_u32, cfa_offset=_i32,
+    ra_saved=_u32, ra_offset=_i32, fp_saved=_u32, fp_offset=_i32, key=_u32,
+)
+_Sample = _struct(
+    "kiblawen_sample", pc=_u64, sp=_u64, fp=_u64, lr=_u64, mask=_u64, has_mask=_u32, stack=_bytes, stack_len=_size, stack_start=_u64
+)
+_Caller = _struct("kiblawen_caller", cfa=_u64, ra=_u64, fp=_u64, ra_known=_u32, fp_known=_u32, key=_u32)
+_Frame = _struct("kiblawen_frame", pc=_u64, cfa=_u64)
+_Stop = _struct("kiblawen_stop", kind=_u32, value=_u64)
+_Module = _struct("kiblawen_module", start=_u64, size=_u64, section=_Section)
+_to = ctypes.POINTER
+_CALLS = {
+    "kiblawen_open": (_u32, _to(_Section), _bytes, _size, _u64, _to(_u64)),
+    "kiblawen_close": (None, _to(_Section)),
+    "kiblawen_most_rows": (_u32, _to(_Section)),
+    "kiblawen_find": (ctypes.c_bool, _to(_Section), _u64, _to(_Row)),
+    "kiblawen_recover": (ctypes.c_bool, _to(_Section), _to(_Sample), _to(_Caller)),
+    "kiblawen_walk": (_size, _to(_Section), _to(_Sample), _to(_Frame), _size, _to(_Stop)),
+    "kiblawen_in_order": (ctypes.c_bool, _to(_Module), _size),
+    "kiblawen_walk_modules": (_size, _to(_Module), _size, _to(_Sample), _to(_Frame), _size, _to(_Stop)),
+}
+
+
+def _load():
+    beside = os.path.join(os.path.dirname(os.path.abspath(__file__)), "..", "..", "..", "lib", NAME)
+    named = os.environ.get("KIBLAWEN_LIBRARY") or (beside if os.path.exists(beside) else NAME)
+    library = ctypes.CDLL(named)
+    for name, (result, *arguments) in _CALLS.items():
+        call = getattr(library, name)
+        call.restype, call.argtypes = result, arguments
+    return library
+
+
+_library = _load()
+
+
+def _copy(content):
+    """A copy of some bytes that C can read, which is never null."""
+    return (ctypes.c_uint8 * (len(content) + 1)).from_buffer_copy(bytes(content) + b"\0")
+
+
+def _sample(given):
+    """A sample as C has it. It refers to the copy of the stack, which ctypes keeps."""
+    start = given.sp if given.stack_start is None else given.stack_start
+    copy = ctypes.cast(_copy(given.stack), _bytes)
+    return _Sample(given.pc, given.sp, given.fp, given.lr, given.mask or 0, given.mask is not None, copy, len(given.stack), start)
+
+
+def _walk(call, sample, room):
+    frames, stop = (_Frame * max(room, 1))(), _Stop()
+    count = call(ctypes.byref(_sample(sample)), frames, room, ctypes.byref(stop))
+    return Walk([Frame(it.pc, it.cfa) for it in frames[:count]], Stop(stop.kind), stop.value)
+
+
+class Section:
+    """An open section. It keeps a copy of the bytes."""
+
+    def __init__(self, content, at):
+        """Opens the bytes of a section that is at this address, or would be. Raises Refused with the first fault."""
+        self._copy, place = _copy(content), _u64()
+        self._section = _Section(self._copy, 0, 0, False)
+        fault = _library.kiblawen_open(ctypes.byref(self._section), self._copy, len(content), at, ctypes.byref(place))
+        if fault:
+            raise Refused(Fault(fault), place.value)
+        # What `link` printed of the file.
+        self.report = ""
+
+    def close(self):
+        """Closes the section. It has no functions from now on."""
+        _library.kiblawen_close(ctypes.byref(self._section))
+
+    def __enter__(self):
+        return self
+
+    def __exit__(self, *_):
+        self.close()
+
+    def most_rows(self):
+        """Returns the largest number of rows of any function."""
+        return _library.kiblawen_most_rows(ctypes.byref(self._section))
+
+    def find(self, pc):
+        """Returns the function and row that hold at an address, or None."""
+        it = _Row()
+        if not _library.kiblawen_find(ctypes.byref(self._section), pc, ctypes.byref(it)):
+            return None
+        ra, fp = it.ra_offset if it.ra_saved else None, it.fp_offset if it.fp_saved else None
+        return Row(it.function_start, it.function_size, it.block_size, it.row_start, Base(it.base), it.cfa_offset, ra, fp, Key(it.key))
+
+    def recover(self, sample):
+        """Returns the caller's frame of a sample, or None if no row holds."""
+        it = _Caller()
+        if not _library.kiblawen_recover(ctypes.byref(self._section), ctypes.byref(_sample(sample)), ctypes.byref(it)):
+            return None
+        return Caller(it.cfa, it.ra if it.ra_known else None, it.fp if it.fp_known else None, Key(it.key))
+
+    def walk(self, sample, room=64):
+        """Walks a sample, and returns at most `room` frames."""
+        return _walk(lambda *rest: _library.kiblawen_walk(ctypes.byref(self._section), *rest), sample, room)
+
+
+class Modules:
+    """The files of a process."""
+
+    def __init__(self, modules):
+        """Takes modules in any order. Raises ValueError if two overlap."""
+        self._kept = sorted(modules, key=lambda it: it.start)
+        self._nothing = _copy(b"")
+        closed = _Section(self._nothing, 0, 0, False)
+        found = [_Module(it.start, it.size, it.section._section if it.section else closed) for it in self._kept]
+        self._modules, self._count = (_Module * max(len(found), 1))(*found), len(found)
+        if not _library.kiblawen_in_order(self._modules, self._count):
+            raise ValueError("two modules overlap")
+
+    def walk(self, sample, room=64):
+        """Walks a sample. Each frame is looked up in the section of the module that has its address."""
+        return _walk(lambda *rest: _library.kiblawen_walk_modules(self._modules, self._count, *rest), sample, room)
+
+
+def _page_after(path):
+    """Returns the first page after the last loaded byte of a 64-bit little-endian ELF file."""
+    with open(path, "rb") as file:
+        head = file.read(64)
+        if len(head) < 64 or head[:6] != b"\x7fELF\x02\x01":
+            raise ValueError(f"{path} is no 64-bit little-endian ELF file")
+        (place,), (entry, count) = struct.unpack_from("<Q", head, 32), struct.unpack_from("<HH", head, 54)
+        file.seek(place)
+        headers = file.read(entry * count)
+    found = (struct.unpack_from("<IIQQQQQQ", headers, at) for at in range(0, len(headers) - 55, max(entry, 56)))
+    last = max((start + size for kind, _, _, start, _, _, size, _ in found if kind == PT_LOAD), default=0)
+    return -(-last // PAGE) * PAGE
+
+
+def link(path, load=0, command="link", tool="sf_tool"):
+    """Makes the section of a program or shared object by the program `sf_tool`, and opens it for the address at which the file is loaded.
+
+    The section's `report` is what `sf_tool` prints. With the command `linkplt` plain lazy .plts have rows as well.
+    """
+    at = _page_after(path)
+    with tempfile.TemporaryDirectory() as room:
+        out = os.path.join(room, "sframe")
+        words = [tool, command, f"{out}@{at:#x}", f"{path}@0x0"]
+        ran = subprocess.run(words, stdin=subprocess.DEVNULL, stdout=subprocess.PIPE, stderr=subprocess.PIPE, check=False)
+        if ran.returncode:
+            raise ValueError(f"{path}: {ran.stderr.decode(errors='replace').strip()}")
+        with open(out, "rb") as file:
+            section = Section(file.read(), load + at)
+    section.report = ran.stdout.decode()
+    return section
+
+
+def module(path, load, command="link", tool="sf_tool"):
+    """Makes the section of a file that is loaded at this address. Returns the file as a module."""
+    return Module(load, _page_after(path), link(path, load, command, tool))
