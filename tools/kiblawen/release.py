@@ -2,9 +2,9 @@
 
     ./x release
 
-The files are in dist/, which is emptied first: kiblawen-VERSION-linux-MACHINE.tar.gz, the packages kiblawen, libkiblawen0 and
-libkiblawen-dev, kiblawen-VERSION.txt, which is the note, and SHA256SUMS. First run the gate, or `sh demo/run`. The tree has to be as it
-was committed. A C compiler makes the shared library.
+The files are in dist/, which is emptied first: kiblawen-VERSION-linux-MACHINE.tar.gz, the packages kiblawen, libkiblawen0,
+libkiblawen-dev and python3-kiblawen, kiblawen-VERSION.txt, which is the note, and SHA256SUMS. First run the gate, or `sh demo/run`. The
+tree has to be as it was committed. A C compiler makes the shared library.
 
 A commit that has the tag vVERSION is that version. Any other one is VERSION+gitDATE.COMMIT. All bytes come from the commit and from what
 was built: times are the commit's, the owner is root, names are in order. Packages need dpkg-deb. Without it they are omitted.

@@ -10,6 +10,7 @@ The package kiblawen: README's example, kiblawen-add on its program, and procwal
 removed.
 The packages libkiblawen0 and libkiblawen-dev: the program of docs/library.md, built by pkg-config, walks a sample with a table that is
 copied in: with the archive, and with the shared library, also after libkiblawen-dev is removed.
+The package python3-kiblawen: the same walk in Python.
 The tarball: README's example, kiblawen-add, and example/walk-self.c, built by pkg-config, walks its own stack beside backtrace().
 At last a clone in another folder makes the same release from the same program and library: the checksums are the same.
 
@@ -72,6 +73,12 @@ int main(int argc, char **argv)
     print_frames(bytes, len, strtoull(argv[2], NULL, 0), &sample);
     return 0;
 }
+"""
+WALKS_IN_PYTHON = """
+import kiblawen, sys
+section = kiblawen.Section(open("echo.sframe", "rb").read(), int(sys.argv[1], 16))
+walk = section.walk(kiblawen.Sample(0x1139, 0x1000, 0, (0x4242).to_bytes(8, "little")))
+print("\\n".join(hex(it.pc) for it in walk.frames))
 """
 WALK_SELF = """
 cc -std=gnu11 -O1 $(pkg-config --cflags kiblawen) -o walk-self walk-self.c $(pkg-config --libs kiblawen)
@@ -220,6 +227,16 @@ def try_library(tries, root, paths, tables):
         tries.check(f"libkiblawen-dev: {what}", passed, f"status {status}\n{said}")
 
 
+def try_python(tries, root, path):
+    """The walk of the C program, in the root where libkiblawen0 is left."""
+    name = os.path.basename(path)
+    root.copy(path)
+    tries.check(f"python3-kiblawen: {name} is installed", *root.ends_well(f"dpkg -i {name} && dpkg --verify python3-kiblawen"))
+    status, said = root.run(f"python3 -c '{WALKS_IN_PYTHON}' $(cat at)")
+    passed = (status, said) == (0, "0x1139\n0x4242\n")
+    tries.check("python3-kiblawen: a walk of the same sample in Python", passed, f"status {status}\n{said}")
+
+
 def try_tarball(tries, root, path):
     name = os.path.basename(path)
     root.copy(path, common.at_top("example", "walk-self.c"))
@@ -275,7 +292,7 @@ def main(words):
     parser.add_argument("root", nargs="?", metavar="ROOT")
     given = parser.parse_args(words)
     tool, tarball = one("kiblawen_*.deb"), one("kiblawen-*.tar.gz")
-    library = [one("libkiblawen0_*.deb"), one("libkiblawen-dev_*.deb")]
+    library, python = [one("libkiblawen0_*.deb"), one("libkiblawen-dev_*.deb")], one("python3-kiblawen_*.deb")
     if os.geteuid() != 0:
         common.fail(__name__, "chroot needs the rights of root")
     tries = Tries()
@@ -287,6 +304,7 @@ def main(words):
         roots = [Root(base, f"{room}/{name}") for name in ("tool", "library", "tarball")]
         try_tool(tries, roots[0], tool, room)
         try_library(tries, roots[1], library, roots[0].room)
+        try_python(tries, roots[1], python)
         try_tarball(tries, roots[2], tarball)
         try_again(tries, room)
     print(f"{tries.passed} passed, {tries.failed} failed, {tries.skipped} skipped")
