@@ -2,7 +2,7 @@
 -- its own, is all that a call returns.
 use Rattle.std.specs.Prelude.{IfErr, IfSome, IsTrue, nat_lt}
 use Rattle.std.specs.Option.{option_map}
-use Rattle.std.proofs.Common.{◌≡◌, ℕ, zero, suc, ◌+◌, ◌^◌, ℤ, Bool, true, false, cond, List, [], ◌∷◌, ◌++◌, ◌==◌, length, map, sum_by, Option, Some, None, Result, Ok, Err, refl, sym, subst, inl, inr}
+use Rattle.std.proofs.Common.{◌≡◌, ℕ, zero, suc, ◌+◌, ◌%◌, ◌^◌, ℤ, Bool, true, false, cond, List, [], ◌∷◌, ◌++◌, ◌==◌, length, map, sum_by, Option, Some, None, Result, Ok, Err, refl, sym, subst, inl, inr}
 use Rattle.sf_model.specs.declared.machine.Arch.{Arch}
 use Rattle.sf_model.specs.declared.machine.Arch.TheVariants.{Amd64, Aarch64}
 use Rattle.sf_model.specs.declared.form.Form.{Form}
@@ -27,7 +27,7 @@ use Rattle.eh_records.specs.Section.{EntryView, entries_of, frames, pointer_fiel
 use Rattle.eh_records.specs.Span.{span_of}
 use Rattle.eh_records.proofs.EntriesFail.{is_refused}
 use Rattle.eh_records.proofs.OfRecords.{of_records}
-use Rattle.eh_pointer.specs.Pointer.{pointer_bits}
+use Rattle.eh_pointer.specs.Pointer.{pointer_bits, pointer_value}
 use Rattle.elf_read.specs.Checking.{each_below}
 use Rattle.elf_read.specs.declared.kind.Kind.{Kind}
 use Rattle.elf_read.specs.declared.kind.Kind.TheVariants as kinds

@@ -20,9 +20,9 @@ use Rattle.elf_place.specs.Views.{Placing}
 use Rattle.elf_reloc.specs.declared.fault.RelocFault.{RelocFault}
 use Rattle.elf_reloc.specs.declared.fault.RelocFault.TheVariants as faults
 use Rattle.elf_reloc.specs.declared.fix.RelocatedField.{RelocatedField}
-use Rattle.elf_reloc.specs.Fields.{bits_in, is_dropped_in}
+use Rattle.elf_reloc.specs.Fields.{bits_in, is_dropped_field}
 use Rattle.elf_reloc.specs.Order.{first_at, has_width, lies_on, place_check}
-use Rattle.elf_reloc.specs.Patched.{patched, AreInside, AreRaw, IsUnresolved, IsDropped, Holds}
+use Rattle.elf_reloc.specs.Patched.{patched, AreInside, AreRaw, IsUnresolved, IsDropped, FieldHolds}
 use Rattle.elf_reloc.specs.Reading.{section_fixes}
 use Rattle.elf_reloc.specs.Table.{width_of}
 use Rattle.elf_reloc.specs.Views.{Reads}
@@ -119,7 +119,7 @@ resolved_there fixes g h = none_passes (has_no_value g.place) fixes (λ f among 
 abbrev number_in : List RelocatedField → List ℕ → Field → ℕ
 number_in fixes section g = little_number g.width (drop g.place (patched fixes section))
 
-bits_same : (fixes : List RelocatedField) (section : List ℕ) (g : Field) (o : Option ℕ) → Holds fixes section g o → o ≡ (patched_values fixes section).bits (pointer_view g)
+bits_same : (fixes : List RelocatedField) (section : List ℕ) (g : Field) (o : Option ℕ) → FieldHolds fixes section g o → o ≡ (patched_values fixes section).bits (pointer_view g)
 bits_same fixes section g None u = ap (λ (b : Bool). cond b None (Some (number_in fixes section g))) (sym (unresolved_there fixes g u))
 bits_same fixes section g (Some bits) h =
     ap (λ (n : ℕ). Some n) (sym h.1) ∙ ap (λ (b : Bool). cond b None (Some (number_in fixes section g))) (sym (resolved_there fixes g h.0))
@@ -192,7 +192,7 @@ lie_same p number section pointers fixes reads lie raw =
     let g = get_or lie.fields k d in
     record {
       bits = bits_same fixes section (get_or lie.fields k d) (bits_in fixes g.place g.width g.raw) (holds k d lt);
-      dropped = dropped_same fixes (get_or lie.fields k d) (is_dropped_in fixes g.place g.width) (drops k d lt);
+      dropped = dropped_same fixes (get_or lie.fields k d) (is_dropped_field fixes g.place g.width) (drops k d lt);
     } in
     subst (All (Same fixes section)) lie.viewed (All-map (Same fixes section) pointer_view lie.fields each)
 

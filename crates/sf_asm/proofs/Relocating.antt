@@ -11,7 +11,7 @@ use Rattle.elf_reloc.specs.declared.fault.RelocFault.TheVariants as faults
 use Rattle.elf_reloc.specs.declared.fix.RelocatedField.{RelocatedField}
 use Rattle.elf_reloc.specs.declared.relocs.Relocs.{Relocs}
 use Rattle.elf_reloc.specs.Applied.{Slot, slot_check, slot_of}
-use Rattle.elf_reloc.specs.Fields.{bits_in, is_dropped_in}
+use Rattle.elf_reloc.specs.Fields.{bits_in, is_dropped_field}
 use Rattle.elf_reloc.specs.Order.{first_at, place_check}
 use Rattle.elf_reloc.specs.Reading.{section_fixes}
 use Rattle.elf_reloc.specs.Views.{Reads, Overlaps, Refuses, Relocated, fixes_in}
@@ -99,7 +99,7 @@ pub unchanged_bits : (place width raw : ℕ) → bits_in [] place width raw ≡ 
 unfolding first_at
 unchanged_bits place width raw = refl
 
-pub nothing_dropped : (place width : ℕ) → is_dropped_in [] place width ≡ false
+pub nothing_dropped : (place width : ℕ) → is_dropped_field [] place width ≡ false
 unfolding first_at
 nothing_dropped place width = refl
 

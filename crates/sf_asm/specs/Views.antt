@@ -6,7 +6,7 @@ use Rattle.eh_records.specs.Step.{PointerField, pointer_view}
 use Rattle.elf_place.specs.Views.{Placing}
 use Rattle.elf_reloc.specs.declared.fault.RelocFault.{RelocFault}
 use Rattle.elf_reloc.specs.declared.fix.RelocatedField.{RelocatedField}
-use Rattle.elf_reloc.specs.Fields.{bits_in, is_dropped_in}
+use Rattle.elf_reloc.specs.Fields.{bits_in, is_dropped_field}
 use Rattle.elf_reloc.specs.Order.{place_check}
 use Rattle.elf_reloc.specs.Reading.{section_fixes}
 use Rattle.elf_reloc.specs.Views.{Reads, fixes_in}
@@ -25,7 +25,7 @@ written_by (Relocated relocs) = fixes_in relocs
 abbrev pub overlaid : List RelocatedField → Values
 overlaid fixes = record {
   bits = λ g. bits_in fixes g.place g.width g.raw;
-  dropped = λ g. is_dropped_in fixes g.place g.width;
+  dropped = λ g. is_dropped_field fixes g.place g.width;
 }
 
 -- what is written over a section of a file, or of none

@@ -4,7 +4,7 @@ ghost use Rattle.std.specs.Prelude.{◌≡◌, ◌⊎◌, Ok, Err, IfErr, IfOk, 
 ghost use Rattle.std.specs.Option.{option_map};
 ghost use Rattle.elf_place.specs.Views.{placing};
 ghost use Rattle.elf_reloc.specs.declared.fault.RelocFault.TheVariants.{NoMemory};
-ghost use Rattle.elf_reloc.specs.Fields.{bits_in, is_dropped_in};
+ghost use Rattle.elf_reloc.specs.Fields.{bits_in, is_dropped_field};
 ghost use Rattle.elf_reloc.specs.Reading.{section_fixes};
 ghost use Rattle.eh_records.specs.Section.{pointer_fields};
 ghost use Rattle.eh_records.specs.View.{entries};
@@ -88,7 +88,7 @@ impl Overlay {
     /// Whether a field's relocation names a symbol in a section that is dropped.
     #[inline(always)]
     pub fn dropped(&self, field: Field) -> bool
-        ensures { result ≡ is_dropped_in (written_by self.now) field.place field.width }
+        ensures { result ≡ is_dropped_field (written_by self.now) field.place field.width }
     {
         match self {
             Overlay::Unchanged => false,
