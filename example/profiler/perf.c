@@ -18,7 +18,7 @@
 
 #include "profiler.h"
 
-enum { RING_PAGES = 512, PAGE = 4096, STACK_BYTES = 32768, MOST_RECORD = 1 << 16 };
+enum { PAGE = 4096, STACK_BYTES = 32768, MOST_RECORD = 1 << 16 };
 
 /* The registers of a sample come in the order of their numbers. */
 #if defined(__x86_64__)
@@ -32,6 +32,7 @@ static const uint64_t REGISTERS = 1ull << FP | 1ull << LR | 1ull << SP | 1ull <<
 /* The records of one processor. */
 struct ring {
     struct perf_event_mmap_page *page;
+    size_t size;
     int event;
     uint64_t head;
 };
@@ -76,7 +77,9 @@ static bool open_ring(struct ring *ring, pid_t thread, int processor, unsigned h
         return false;
     if (ring->page)
         return ioctl(event, PERF_EVENT_IOC_SET_OUTPUT, ring->event) == 0;
-    void *page = mmap(NULL, (1 + RING_PAGES) * PAGE, PROT_READ | PROT_WRITE, MAP_SHARED, event, 0);
+    /* Without the rights of root, a process may have 512 KiB and a page for each processor. */
+    ring->size = geteuid() == 0 ? 1 << 24 : 1 << 19;
+    void *page = mmap(NULL, PAGE + ring->size, PROT_READ | PROT_WRITE, MAP_SHARED, event, 0);
     ring->event = event;
     ring->page = page == MAP_FAILED ? NULL : page;
     return ring->page != NULL;
@@ -102,11 +105,10 @@ static const struct perf_event_header *record_at(const struct ring *ring, uint64
 {
     const uint8_t *bytes = (const uint8_t *)ring->page + PAGE;
     struct perf_event_header header;
-    size_t size = (size_t)RING_PAGES * PAGE;
     for (size_t i = 0; i < sizeof header; i++)
-        ((uint8_t *)&header)[i] = bytes[(place + i) % size];
+        ((uint8_t *)&header)[i] = bytes[(place + i) % ring->size];
     for (size_t i = 0; i < header.size; i++)
-        room[i] = bytes[(place + i) % size];
+        room[i] = bytes[(place + i) % ring->size];
     return (const struct perf_event_header *)room;
 }
 
@@ -209,7 +211,7 @@ static uint64_t take_until_end(struct process *process, const struct options *op
         process->has_ended = kill(process->pid, 0) != 0 || waitpid(process->pid, NULL, WNOHANG) == process->pid;
         is_over = process->has_ended || is_stopped || (options->seconds > 0 && now() - start >= options->seconds);
         lost += take_all(process, rings, count);
-        poll(NULL, 0, is_over ? 0 : 20);
+        poll(NULL, 0, is_over ? 0 : 5);
     }
     return lost;
 }
