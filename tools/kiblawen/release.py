@@ -3,8 +3,9 @@
     ./x release
 
 The files are in dist/, which is emptied first: kiblawen-VERSION-linux-MACHINE.tar.gz, the packages kiblawen, libkiblawen0,
-libkiblawen-dev and python3-kiblawen, kiblawen-VERSION.txt, which is the note, and SHA256SUMS. First run the gate, or `sh demo/run`. The
-tree has to be as it was committed. A C compiler makes the shared library.
+libkiblawen-dev and python3-kiblawen, kiblawen-VERSION-llvm.tar.gz with the LLVM modules (see `./x help module`),
+kiblawen-VERSION-static-MACHINE.tar.gz with a program that needs no C library, kiblawen-VERSION.txt, which is the note, and SHA256SUMS.
+First run the gate, or `sh demo/run`. The tree has to be as it was committed. A C compiler makes the shared library.
 
 A commit that has the tag vVERSION is that version. Any other one is VERSION+gitDATE.COMMIT. All bytes come from the commit and from what
 was built: times are the commit's, the owner is root, names are in order. Packages need dpkg-deb. Without it they are omitted.
@@ -18,7 +19,7 @@ import shutil
 import tempfile
 import time
 
-from kiblawen import clauses, closure, common, debian, definitions, elf, program, shared, staging
+from kiblawen import clauses, closure, common, debian, definitions, elf, module, program, shared, staging, static
 
 DIST = common.at_top("dist")
 # The toolchain's line, as README has it, and the digits of the logic in it.
@@ -137,6 +138,17 @@ def make_tarball(release, text, room):
     staging.write_tar(os.path.join(DIST, f"{name}.tar.gz"), root, name, release.date)
 
 
+def make_buildable(release, text, room):
+    """Makes the tarballs of the LLVM modules and of the program that is linked from them. If there are none, a line says why."""
+    try:
+        module.make_all()
+    except module.NotMade as why:
+        print(f"release: no LLVM modules were made, and no static program: {why}")
+        return
+    module.make_tarball(release, text, room, DIST)
+    static.make_tarball(release, text, room, DIST)
+
+
 def write_sums():
     lines = [f"{staging.digest(os.path.join(DIST, name))}  {name}\n" for name in staging.names_below(DIST)]
     staging.write(os.path.join(DIST, "SHA256SUMS"), "".join(lines))
@@ -153,6 +165,7 @@ def main(words):
     with tempfile.TemporaryDirectory() as room:
         make_tarball(release, text, room)
         packages = debian.make_all(release, text, room, DIST)
+        make_buildable(release, text, room)
     staging.write(os.path.join(DIST, f"kiblawen-{release.version}.txt"), text)
     write_sums()
     for name in staging.names_below(DIST):

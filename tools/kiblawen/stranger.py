@@ -1,6 +1,6 @@
 """Installs each file of dist/ in a Debian root of its own, without a Rattle toolchain, and uses it there as a stranger would.
 
-    ./x stranger            the root is made by debootstrap, with a C compiler, binutils, pkg-config and Python
+    ./x stranger            the root is made by debootstrap, with C compilers, binutils, pkg-config and Python
     ./x stranger ROOT       the root is a copy of this one, such as debootstrap made; tried with Debian 12 and 13
 
 First run `./x release`. It needs the rights of root for chroot, and gdb and a C compiler for a core file. The copies of a root are links
@@ -12,7 +12,9 @@ The packages libkiblawen0 and libkiblawen-dev: the program of docs/library.md, b
 copied in: with the archive, and with the shared library, also after libkiblawen-dev is removed.
 The package python3-kiblawen: the same walk in Python.
 The tarball: README's example, kiblawen-add, and example/walk-self.c, built by pkg-config, walks its own stack beside backtrace().
-At last a clone in another folder makes the same release from the same program and library: the checksums are the same.
+The LLVM modules: the newest clang of the root builds program and library, and README's example runs. The static program: it runs in a
+folder in which there is no other file.
+At last a clone in another folder makes the same release from the same program, library and modules: the checksums are the same.
 
 The last line is `N passed, M failed, K skipped`. The status is 1 if a part failed.
 """
@@ -25,10 +27,10 @@ import subprocess
 import sys
 import tempfile
 
-from kiblawen import common, processes, program, release, shared, staging
+from kiblawen import common, module, processes, program, release, shared, staging
 
 SUITE = "bookworm"
-DEBOOTSTRAP = ["debootstrap", "--variant=minbase", "--include=gcc,libc6-dev,binutils,pkgconf,python3", SUITE]
+DEBOOTSTRAP = ["debootstrap", "--variant=minbase", "--include=gcc,libc6-dev,binutils,pkgconf,python3,clang-19", SUITE]
 PATH = "/usr/sbin:/usr/bin:/sbin:/bin"
 # Where the tarball is unpacked, in a root.
 TARBALL = "/try/kiblawen"
@@ -252,8 +254,43 @@ def try_tarball(tries, root, path):
         tries.skip(walks, "/proc cannot be mounted, in which it finds the end of its stack")
 
 
+def newest_clang(root):
+    """The number of the newest clang of a root, or None."""
+    names = glob.glob(f"{root.path}/usr/bin/clang-[0-9]*")
+    numbers = [int(it) for it in (name.rpartition("-")[2] for name in names) if it.isdigit()]
+    return max(numbers, default=None)
+
+
+def try_modules(tries, root, path):
+    number = newest_clang(root)
+    if number is None:
+        tries.skip("LLVM modules", "there is no clang in the root")
+        return
+    name, clang = os.path.basename(path), f"clang-{number}"
+    root.copy(path)
+    tries.check("LLVM modules: no toolchain is there", not root.has_toolchain())
+    build = f"tar xf {name} && mv {name[: -len('.tar.gz')]} llvm && CLANG={clang} sh llvm/build.sh"
+    tries.check(f"LLVM modules: {clang} builds program and library", *root.ends_well(build))
+    root.environment.update(PATH=f"/try/llvm:{PATH}")
+    try_example(tries, root, "LLVM modules")
+    if root.ends_well(f'grep -F "version $({clang} -dumpversion)," llvm/RELEASE.txt')[0]:
+        same = "awk '/^(sf_tool.o|libkiblawen.a) / { print $3 \"  \" $1 }' RELEASE.txt | sha256sum -c"
+        tries.check(f"LLVM modules: {clang} makes the bytes that the gate built", *root.ends_well(f"cd llvm\n{same}"))
+
+
+def try_static(tries, room, path):
+    """Runs the static program in a folder of its own."""
+    empty = os.path.join(room, "empty")
+    os.makedirs(empty)
+    common.output("tar", "xf", path, "-C", empty, "--strip-components=1")
+    words = ["/bin/sf_tool", "gen", "1"]
+    said = common.output("chroot", empty, *words)
+    passed = said is not None and said == common.output(program.BUILT, *words[1:])
+    tries.check("static program: it runs where there is no other file, and prints the same", passed, said or "")
+
+
 def try_again(tries, room):
-    """Makes the release in another folder, of the same commit, program and library."""
+    """Makes the release in another folder, of the same commit, program, library and modules."""
     clone = os.path.join(room, "another folder")
     if common.status_of(["git", "clone", "-q", common.TOP, clone]):
         tries.skip("another folder", "the repository cannot be cloned")
@@ -262,10 +299,12 @@ def try_again(tries, room):
         to = os.path.join(clone, os.path.relpath(path, common.TOP))
         os.makedirs(os.path.dirname(to))
         shutil.copy(path, to)
+    for folder in (it.folder for it in module.MODULES):
+        shutil.copytree(folder, os.path.join(clone, os.path.relpath(folder, common.TOP)))
     common.output(sys.executable, os.path.join(clone, "x"), "release", status=(0, 1))
     sums = [os.path.join(top, "dist", "SHA256SUMS") for top in (common.TOP, clone)]
     passed = os.path.exists(sums[1]) and len({staging.digest(path) for path in sums}) == 1
-    tries.check("another folder: the same commit, program and library give the same bytes", passed)
+    tries.check("another folder: the same commit, program, library and modules give the same bytes", passed)
 
 
 def one(pattern):
@@ -291,8 +330,9 @@ def main(words):
     parser = common.parser(__name__, __doc__)
     parser.add_argument("root", nargs="?", metavar="ROOT")
     given = parser.parse_args(words)
-    tool, tarball = one("kiblawen_*.deb"), one("kiblawen-*.tar.gz")
+    tool, tarball = one("kiblawen_*.deb"), one("kiblawen-*-linux-*.tar.gz")
     library, python = [one("libkiblawen0_*.deb"), one("libkiblawen-dev_*.deb")], one("python3-kiblawen_*.deb")
+    modules, static = one("kiblawen-*-llvm.tar.gz"), one("kiblawen-*-static-*.tar.gz")
     if os.geteuid() != 0:
         common.fail(__name__, "chroot needs the rights of root")
     tries = Tries()
@@ -301,11 +341,13 @@ def main(words):
     beside = os.path.dirname(os.path.abspath(given.root)) if given.root else None
     with tempfile.TemporaryDirectory(dir=beside, prefix="stranger-") as room:
         base = base_root(given.root, room)
-        roots = [Root(base, f"{room}/{name}") for name in ("tool", "library", "tarball")]
+        roots = [Root(base, f"{room}/{name}") for name in ("tool", "library", "tarball", "modules")]
         try_tool(tries, roots[0], tool, room)
         try_library(tries, roots[1], library, roots[0].room)
         try_python(tries, roots[1], python)
         try_tarball(tries, roots[2], tarball)
+        try_modules(tries, roots[3], modules)
+        try_static(tries, room, static)
         try_again(tries, room)
     print(f"{tries.passed} passed, {tries.failed} failed, {tries.skipped} skipped")
     return int(tries.failed > 0)
