@@ -8,7 +8,7 @@ use Rattle.sf_model.specs.Walk.{recover_by_rows, section_walk}
 use Rattle.sf_decode.specs.declared.kept.LentSection.{LentSection}
 use Rattle.sf_decode.specs.Kept.{functions_lent}
 use Rattle.sf_c.specs.declared.sample.KiblawenSample.{KiblawenSample}
-use Rattle.sf_c.specs.Sample.{memory_of, thread_of}
+use Rattle.sf_c.specs.Sample.{stack_memory, sample_thread}
 use Rattle.sf_c.specs.Section.{section_row}
 use Rattle.sf_c.specs.Walk.{sample_walk}
 
@@ -18,6 +18,6 @@ nothing_recovered functions memory asked regs e = ap (λ (fs : List Func). recov
 
 -- the walk by the rows of one section
 pub section_walked : (section : LentSection) (sample : KiblawenSample) (room : ℕ)
-    → sample_walk (section_row section) sample room ≡ section_walk (functions_lent section) (thread_of sample) (memory_of sample) room
+    → sample_walk (section_row section) sample room ≡ section_walk (functions_lent section) (sample_thread sample) (stack_memory sample) room
 unfolding section_walk
 section_walked section sample room = refl

@@ -13,7 +13,7 @@ use Rattle.core_walk.specs.Step.{Steps}
 use Rattle.core_walk.proofs.Frames.{IsWalk, after_frames, ends, goes_on, stops, whole_list}
 use Rattle.sf_c.specs.declared.walking.KiblawenFrame.{KiblawenFrame}
 use Rattle.sf_c.specs.declared.sample.KiblawenSample.{KiblawenSample}
-use Rattle.sf_c.specs.Sample.{mask_of, memory_of}
+use Rattle.sf_c.specs.Sample.{mask_of, stack_memory}
 use Rattle.sf_c.specs.Walk.{frame_shown, listed}
 
 -- the frames so far are in the room from its first place on, and what comes after them is as it was
@@ -70,19 +70,19 @@ begins recovering thread before regs same = record {
 
 -- a step by what a sample is read as
 of_sample : (look_up : LookUp) (sample : KiblawenSample) (memory : List Region) (mask : Option ℕ) (asked : ℕ) (at : Caller) (frame : Frame) (next so : Result Caller Stop)
-    → memory ≡ memory_of sample → mask ≡ mask_of sample → next ≡ so → Steps (recover_by look_up memory) mask asked at frame next
-    → Steps (recover_by look_up (memory_of sample)) (mask_of sample) asked at frame so
+    → memory ≡ stack_memory sample → mask ≡ mask_of sample → next ≡ so → Steps (recover_by look_up memory) mask asked at frame next
+    → Steps (recover_by look_up (stack_memory sample)) (mask_of sample) asked at frame so
 of_sample look_up sample memory mask asked at frame next so m k e step =
-    subst (λ (n : Result Caller Stop). Steps (recover_by look_up (memory_of sample)) (mask_of sample) asked at frame n) e
-    (subst (λ (o : Option ℕ). Steps (recover_by look_up (memory_of sample)) o asked at frame next) k
+    subst (λ (n : Result Caller Stop). Steps (recover_by look_up (stack_memory sample)) (mask_of sample) asked at frame n) e
+    (subst (λ (o : Option ℕ). Steps (recover_by look_up (stack_memory sample)) o asked at frame next) k
     (subst (λ (r : List Region). Steps (recover_by look_up r) mask asked at frame next) m step))
 
 pub goes : (look_up : LookUp) (sample : KiblawenSample) {memory : List Region} {mask : Option ℕ} {count asked next : ℕ} {at caller : Caller} {now before : List KiblawenFrame} {frame : Frame} {x : KiblawenFrame} {so : Result Caller Stop} {whole : Listing}
-    → count < length before → next ≡ address_before caller.pc → memory ≡ memory_of sample → mask ≡ mask_of sample → so ≡ Ok caller → Steps (recover_by look_up memory) mask asked at frame so → x ≡ frame_shown frame
-    → Listed (recover_by look_up (memory_of sample)) (mask_of sample) count asked at now before whole
-    → Listed (recover_by look_up (memory_of sample)) (mask_of sample) (count + 1) next caller (set now count x) before whole
+    → count < length before → next ≡ address_before caller.pc → memory ≡ stack_memory sample → mask ≡ mask_of sample → so ≡ Ok caller → Steps (recover_by look_up memory) mask asked at frame so → x ≡ frame_shown frame
+    → Listed (recover_by look_up (stack_memory sample)) (mask_of sample) count asked at now before whole
+    → Listed (recover_by look_up (stack_memory sample)) (mask_of sample) (count + 1) next caller (set now count x) before whole
 goes look_up sample {memory} {mask} {count} {asked} {next} {at} {caller} {now} {before} {frame} {x} {so} {whole} lt before_it m k is step e h =
-    let recovering = recover_by look_up (memory_of sample) in
+    let recovering = recover_by look_up (stack_memory sample) in
     let taken = of_sample look_up sample memory mask asked at frame so (Ok caller) m k is step in
     subst (λ (n : ℕ). Listed recovering (mask_of sample) (count + 1) n caller (set now count x) before whole) (sym before_it) (record {
       frames = h.frames ++ frame ∷ [];
@@ -107,11 +107,11 @@ stopped_with frames stop count now before whole e h =
     }
 
 pub halts : (look_up : LookUp) (sample : KiblawenSample) {memory : List Region} {mask : Option ℕ} {count asked : ℕ} {at : Caller} {now before : List KiblawenFrame} {frame : Frame} {x : KiblawenFrame} {so : Result Caller Stop} {stop : Stop} {whole : Listing}
-    → count < length before → memory ≡ memory_of sample → mask ≡ mask_of sample → so ≡ Err stop → Steps (recover_by look_up memory) mask asked at frame so → x ≡ frame_shown frame
-    → Listed (recover_by look_up (memory_of sample)) (mask_of sample) count asked at now before whole
+    → count < length before → memory ≡ stack_memory sample → mask ≡ mask_of sample → so ≡ Err stop → Steps (recover_by look_up memory) mask asked at frame so → x ≡ frame_shown frame
+    → Listed (recover_by look_up (stack_memory sample)) (mask_of sample) count asked at now before whole
     → Stopped stop (count + 1) (set now count x) before whole
 halts look_up sample {memory} {mask} {count} {asked} {at} {now} {before} {frame} {x} {so} {stop} {whole} lt m k is step e h =
-    let recovering = recover_by look_up (memory_of sample) in
+    let recovering = recover_by look_up (stack_memory sample) in
     let taken = of_sample look_up sample memory mask asked at frame so (Err stop) m k is step in
     stopped_with (h.frames ++ frame ∷ []) stop (count + 1) (set now count x) before whole
     (stops recovering (mask_of sample) (length before) count asked at h.frames (h.frames ++ frame ∷ []) frame stop whole lt taken refl h.walk)

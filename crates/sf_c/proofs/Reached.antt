@@ -10,10 +10,10 @@ use Rattle.sf_decode.specs.declared.view.View.{View}
 use Rattle.sf_decode.specs.Kept.{functions_lent, functions_shown}
 use Rattle.sf_lookup.proofs.Numbered.{first_passes, none_passes}
 use Rattle.sf_c.specs.declared.modules.KiblawenModule.{KiblawenModule}
-use Rattle.sf_c.specs.Modules.{AreInOrder, functions_if_found, holds}
+use Rattle.sf_c.specs.Modules.{ModulesRise, functions_if_found, holds}
 
 -- the modules that start by an address are the first ones
-pub starts_parted : (modules : List KiblawenModule) (address : ℕ) → AreInOrder modules → IsPartitionedBy (λ (m : KiblawenModule). nat_le m.start address) modules
+pub starts_parted : (modules : List KiblawenModule) (address : ℕ) → ModulesRise modules → IsPartitionedBy (λ (m : KiblawenModule). nat_le m.start address) modules
 starts_parted modules address order =
     IsPartitionedBy-leb (λ (m : KiblawenModule). m.start) modules address
     (IsNonDecreasingBy-from_all_adjacent (λ (m : KiblawenModule). m.start) modules (λ k d lt. let one = order k d lt in omega (one, arith)))
@@ -24,7 +24,7 @@ Reaches modules address reached =
     IsPartitionPoint (λ (m : KiblawenModule). nat_le m.start address ≡ true) (λ (m : KiblawenModule). nat_le m.start address ≡ false) modules reached
 
 -- a module ends where a later one starts, or before
-ends_before : (modules : List KiblawenModule) → AreInOrder modules → (i j : ℕ) (d : KiblawenModule) → i < j → j < length modules
+ends_before : (modules : List KiblawenModule) → ModulesRise modules → (i j : ℕ) (d : KiblawenModule) → i < j → j < length modules
     → (get_or modules i d).start + (get_or modules i d).size ≤ (get_or modules j d).start
 ends_before modules order i j d lt within =
     let one = order i d (omega (lt, within, arith)) in
@@ -46,7 +46,7 @@ pub none_starts : (modules : List KiblawenModule) (address : ℕ) → Reaches mo
 none_starts modules address point = none_passes (holds address) modules (λ k d lt. starts_after address (get_or modules k d) (point.1 k d (omega arith) lt))
 
 -- the last module that starts by the address is the one that has it, or none does
-last_has : (modules : List KiblawenModule) (address reached : ℕ) (m : KiblawenModule) → AreInOrder modules → Reaches modules address reached → 0 < reached → reached ≤ length modules
+last_has : (modules : List KiblawenModule) (address reached : ℕ) (m : KiblawenModule) → ModulesRise modules → Reaches modules address reached → 0 < reached → reached ≤ length modules
     → get_or modules (reached - 1) m ≡ m → holds address m ≡ true → find (holds address) modules ≡ Some m
 last_has modules address reached m order point some within at t =
     first_passes (holds address) modules (reached - 1) m (omega (some, within, arith)) (λ k e before.
@@ -54,7 +54,7 @@ last_has modules address reached m order point some within at t =
     let begun = point.0 (reached - 1) e (omega arith) (omega (some, arith)) in
     ends_by address (get_or modules k e) (omega (ends, leb-true _ _ begun, arith))) (ap (holds address) at ∙ t) ∙ ap Some at
 
-last_has_not : (modules : List KiblawenModule) (address reached : ℕ) (m : KiblawenModule) → AreInOrder modules → Reaches modules address reached → 0 < reached → reached ≤ length modules
+last_has_not : (modules : List KiblawenModule) (address reached : ℕ) (m : KiblawenModule) → ModulesRise modules → Reaches modules address reached → 0 < reached → reached ≤ length modules
     → get_or modules (reached - 1) m ≡ m → holds address m ≡ false → find (holds address) modules ≡ None
 last_has_not modules address reached m order point some within at t = none_passes (holds address) modules (λ k d lt. by_place k d lt (cases_lt k reached))
   where
@@ -81,14 +81,14 @@ answers_none modules address reached point none =
 at_itself : (modules : List KiblawenModule) (i : ℕ) (d : KiblawenModule) → i < length modules → get_or modules i (get_or modules i d) ≡ get_or modules i d
 at_itself modules i d lt = get_or_default modules i (get_or modules i d) d lt
 
-pub answers_last : (modules : List KiblawenModule) (address reached : ℕ) (d : KiblawenModule) (v : Option View) → AreInOrder modules → Reaches modules address reached → 0 < reached
+pub answers_last : (modules : List KiblawenModule) (address reached : ℕ) (d : KiblawenModule) (v : Option View) → ModulesRise modules → Reaches modules address reached → 0 < reached
     → reached ≤ length modules → holds address (get_or modules (reached - 1) d) ≡ true → functions_shown v ≡ functions_lent (get_or modules (reached - 1) d).section
     → functions_shown v ≡ functions_if_found (find (holds address) modules)
 answers_last modules address reached d v order point some within t e =
     let at = at_itself modules (reached - 1) d (omega (some, within, arith)) in
     e ∙ ap functions_if_found (sym (last_has modules address reached (get_or modules (reached - 1) d) order point some within at t))
 
-pub answers_not : (modules : List KiblawenModule) (address reached : ℕ) (d : KiblawenModule) → AreInOrder modules → Reaches modules address reached → 0 < reached
+pub answers_not : (modules : List KiblawenModule) (address reached : ℕ) (d : KiblawenModule) → ModulesRise modules → Reaches modules address reached → 0 < reached
     → reached ≤ length modules → holds address (get_or modules (reached - 1) d) ≡ false → functions_shown None ≡ functions_if_found (find (holds address) modules)
 answers_not modules address reached d order point some within t =
     let at = at_itself modules (reached - 1) d (omega (some, within, arith)) in

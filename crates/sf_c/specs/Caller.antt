@@ -2,7 +2,7 @@
 use Rattle.std.specs.Prelude.{Option, Some, None, is_some, unwrap_or}
 use Rattle.sf_model.specs.declared.recovery.Recovered.{Recovered}
 use Rattle.sf_c.specs.declared.recovering.KiblawenCaller.{KiblawenCaller}
-use Rattle.sf_c.specs.Row.{flag, key_number}
+use Rattle.sf_c.specs.Row.{flag, key_code}
 
 -- what was recovered; a value that can't be read is 0, and is not known
 abbrev pub caller_shown : Recovered → KiblawenCaller
@@ -12,10 +12,10 @@ caller_shown r = record {
   fp = unwrap_or r.fp 0;
   ra_known = flag (is_some r.ra);
   fp_known = flag (is_some r.fp);
-  key = key_number r.signed;
+  key = key_code r.signed;
 }
 
--- what was recovered, or what `caller` was before where nothing was recovered
+-- what was recovered, or else what `caller` was before
 abbrev pub caller_or : (before : KiblawenCaller) → Option Recovered → KiblawenCaller
 caller_or before (Some r) = caller_shown r
 caller_or before None = before

@@ -11,8 +11,8 @@ abbrev pub holds : (address : ℕ) → KiblawenModule → Bool
 holds address m = nat_le m.start address && nat_lt address (m.start + m.size)
 
 -- each module ends where the next one starts, or before
-abbrev pub AreInOrder : List KiblawenModule → Type 0
-AreInOrder modules = AllAdjacentBelow (λ (m : KiblawenModule) (n : KiblawenModule). m.start + m.size ≤ n.start) modules (length modules)
+abbrev pub ModulesRise : List KiblawenModule → Type 0
+ModulesRise modules = AllAdjacentBelow (λ (m : KiblawenModule) (n : KiblawenModule). m.start + m.size ≤ n.start) modules (length modules)
 
 -- the functions of a module's section, if there is a module
 abbrev pub functions_if_found : Option KiblawenModule → List Func
@@ -23,6 +23,6 @@ functions_if_found None = []
 abbrev pub functions_at : List KiblawenModule → (address : ℕ) → List Func
 functions_at modules address = functions_if_found (find (holds address) modules)
 
--- the row that holds at an address by those functions
+-- the row that holds at an address, by the functions of its module's section
 abbrev pub module_row : List KiblawenModule → (address : ℕ) → Option FoundRow
 module_row modules address = found_at (functions_at modules address) address

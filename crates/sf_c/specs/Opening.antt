@@ -5,23 +5,22 @@ use Rattle.sf_decode.specs.Checking.{Check}
 use Rattle.sf_decode.specs.Decoding.{table_in}
 use Rattle.sf_decode.specs.Fault.{number_and_place}
 
--- the number of a fault, 0 where nothing is wrong
+-- the number of a fault, 0 if there is no fault
 abbrev pub fault_number : Check → ℕ
 fault_number (Ok x) = 0
 fault_number (Err fault) = (number_and_place fault).0
 
--- a fault's place in the section, 0 where nothing is wrong
+-- a fault's place in the section, 0 if there is no fault
 abbrev pub fault_place : Check → ℕ
 fault_place (Ok x) = 0
 fault_place (Err fault) = (number_and_place fault).1
 
--- the table of bytes at an address, where nothing is wrong with them
+-- the table of bytes at an address, if there is no fault
 abbrev pub table_if_sound : Check → List ℕ → (at : ℕ) → Option Table
 table_if_sound (Ok x) bytes at = Some (table_in bytes at)
 table_if_sound (Err fault) bytes at = None
 
--- the bytes that are lent to a section from then on: those that were checked where nothing is wrong with them, else
--- none
+-- the bytes that are lent to a section from then on: those that were checked, or no bytes if there is a fault
 abbrev pub bytes_if_sound : Check → List ℕ → List ℕ
 bytes_if_sound (Ok x) bytes = bytes
 bytes_if_sound (Err fault) bytes = []

@@ -18,45 +18,44 @@ flag false = 0
 flag true = 1
 
 -- the header's number of the base of the canonical frame address
-abbrev pub base_number : Base → ℕ
-base_number Fp = 0
-base_number Sp = 1
+abbrev pub base_code : Base → ℕ
+base_code Fp = 0
+base_code Sp = 1
 
--- the header's number of the key of a signed return address, 0 where it is unsigned
-abbrev pub key_number : Option Key → ℕ
-key_number None = 0
-key_number (Some A) = 1
-key_number (Some B) = 2
+-- the header's number of the key of a signed return address, 0 if it is unsigned
+abbrev pub key_code : Option Key → ℕ
+key_code None = 0
+key_code (Some A) = 1
+key_code (Some B) = 2
 
--- the bytes after which a function's rows repeat, 0 where they don't
+-- the number of bytes after which a function's rows repeat, 0 if they don't
 abbrev pub block_size : Shape → ℕ
 block_size Plain = 0
 block_size (Repeat size) = size
 
--- the offset from the canonical frame address at which the return address is saved, or none where it is in the link
--- register
-abbrev pub return_offset : Ra → Option ℤ
-return_offset Fixed = Some (negsuc 7)
-return_offset Link = None
-return_offset (At offset) = Some offset
+-- the offset from the canonical frame address at which the return address is saved, if it is not in the link register
+abbrev pub saved_return : Ra → Option ℤ
+saved_return Fixed = Some (negsuc 7)
+saved_return Link = None
+saved_return (At offset) = Some offset
 
--- a function and its row
+-- a function and its row, as C has them
 abbrev pub row_shown : Found → KiblawenRow
 row_shown found = let content = found.row.content in record {
   function_start = found.func.start;
   function_size = found.func.size;
   block_size = block_size found.func.shape;
   row_start = found.row.start;
-  base = base_number content.base;
+  base = base_code content.base;
   cfa_offset = content.cfa;
-  ra_saved = flag (is_some (return_offset content.ra));
-  ra_offset = unwrap_or (return_offset content.ra) (pos zero);
+  ra_saved = flag (is_some (saved_return content.ra));
+  ra_offset = unwrap_or (saved_return content.ra) (pos zero);
   fp_saved = flag (is_some content.fp);
   fp_offset = unwrap_or content.fp (pos zero);
-  key = key_number (then_some content.signed found.func.key);
+  key = key_code (then_some content.signed found.func.key);
 }
 
--- the row that was found, or what `row` was before where none was found
+-- the row that was found, or else what `row` was before
 abbrev pub row_or : (before : KiblawenRow) → Option Found → KiblawenRow
 row_or before (Some found) = row_shown found
 row_or before None = before

@@ -11,18 +11,18 @@ use Rattle.sf_c.specs.declared.sample.Stack.{Stack}
 abbrev pub registers_of : KiblawenSample → Regs
 registers_of sample = record { sp = sample.sp; fp = sample.fp; lr = sample.lr }
 
--- the mask, where `has_mask` isn't 0
+-- the mask, if `has_mask` isn't 0
 abbrev pub mask_of : KiblawenSample → Option ℕ
 mask_of sample = if sample.has_mask == 0 then None else Some sample.mask
 
 -- the sample's thread
-abbrev pub thread_of : KiblawenSample → ThreadState
-thread_of sample = record { pc = sample.pc; regs = registers_of sample; mask = mask_of sample }
+abbrev pub sample_thread : KiblawenSample → ThreadState
+sample_thread sample = record { pc = sample.pc; regs = registers_of sample; mask = mask_of sample }
 
 -- the memory of a copied stack is one run of bytes
 abbrev pub one_region : Stack → List Region
 one_region stack = record { start = stack.start; bytes = stack.bytes.now } ∷ []
 
 -- the memory of a sample is the one run of bytes of its stack
-abbrev pub memory_of : KiblawenSample → List Region
-memory_of sample = record { start = sample.stack_start; bytes = sample.stack.now } ∷ []
+abbrev pub stack_memory : KiblawenSample → List Region
+stack_memory sample = record { start = sample.stack_start; bytes = sample.stack.now } ∷ []

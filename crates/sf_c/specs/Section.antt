@@ -4,6 +4,6 @@ use Rattle.sf_model.specs.Lookup.{FoundRow, found_at}
 use Rattle.sf_decode.specs.declared.kept.LentSection.{LentSection}
 use Rattle.sf_decode.specs.Kept.{functions_lent}
 
--- a closed section has no functions, so that no row holds
+-- the row that holds at an address; a closed section has no functions, so that no row holds
 abbrev pub section_row : LentSection → (address : ℕ) → Option FoundRow
 section_row section address = found_at (functions_lent section) address

@@ -8,11 +8,11 @@ use Rattle.sf_model.specs.Walk.{Listing, LookUp, look_up_walk}
 use Rattle.sf_c.specs.declared.sample.KiblawenSample.{KiblawenSample}
 use Rattle.sf_c.specs.declared.walking.KiblawenFrame.{KiblawenFrame}
 use Rattle.sf_c.specs.declared.walking.KiblawenStop.{KiblawenStop}
-use Rattle.sf_c.specs.Sample.{memory_of, thread_of}
+use Rattle.sf_c.specs.Sample.{stack_memory, sample_thread}
 
 -- the walk of a sample by the rows that are found, of at most `room` frames
 abbrev pub sample_walk : LookUp → KiblawenSample → (room : ℕ) → Listing
-sample_walk look_up sample room = look_up_walk look_up (thread_of sample) (memory_of sample) room
+sample_walk look_up sample room = look_up_walk look_up (sample_thread sample) (stack_memory sample) room
 
 -- a frame as C has it; one without a row, which is the last, has 0 for the canonical frame address
 abbrev pub frame_shown : Frame → KiblawenFrame
@@ -25,7 +25,7 @@ stop_number (Outside address) = 1
 stop_number (Unreadable address) = 2
 stop_number (Signed address) = 3
 
--- the address that the stop names, 0 where the room is full
+-- the address that the stop names, 0 if the room is full
 abbrev pub stop_value : Stop → ℕ
 stop_value Depth = 0
 stop_value (Outside address) = address

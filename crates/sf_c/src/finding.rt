@@ -21,7 +21,7 @@ pub struct KiblawenRow {
     pub function_start: u64,
     /// The function's size in bytes.
     pub function_size: u32,
-    /// The bytes after which the function's rows repeat, 0 where they don't.
+    /// The number of bytes after which the function's rows repeat, 0 if they don't.
     pub block_size: u32,
     /// The first offset that the row covers, from the start of the function or of a block.
     pub row_start: u32,
@@ -29,15 +29,15 @@ pub struct KiblawenRow {
     pub base: u32,
     /// The canonical frame address's offset from that register, in bytes.
     pub cfa_offset: i32,
-    /// 1 where the return address is saved, 0 where it is in the link register.
+    /// 1 if the return address is saved, 0 if it is in the link register.
     pub ra_saved: u32,
-    /// The return address's offset from the canonical frame address where it is saved, else 0.
+    /// The return address's offset from the canonical frame address if it is saved, else 0.
     pub ra_offset: i32,
-    /// 1 where the frame pointer is saved, 0 where it still has its value.
+    /// 1 if the frame pointer is saved, 0 if it still has its value.
     pub fp_saved: u32,
-    /// The frame pointer's offset from the canonical frame address where it is saved, else 0.
+    /// The frame pointer's offset from the canonical frame address if it is saved, else 0.
     pub fp_offset: i32,
-    /// 0 where the return address is unsigned, 1 where it is signed by key A, 2 by key B.
+    /// 0 if the return address is unsigned, 1 if it is signed by key A, 2 by key B.
     pub key: u32,
 }
 
@@ -50,7 +50,7 @@ pub fn flag(is: bool) -> u32
 
 /// Returns the number of the key of a signed return address.
 pub fn key_number(key: Option<Key>) -> u32
-    ensures { result ≡ spec.key_number key }
+    ensures { result ≡ spec.key_code key }
 {
     match key {
         None => 0,
@@ -59,8 +59,9 @@ pub fn key_number(key: Option<Key>) -> u32
     }
 }
 
+/// Returns the number of the base of the canonical frame address.
 fn base_number(base: Base) -> u32
-    ensures { result ≡ spec.base_number base }
+    ensures { result ≡ spec.base_code base }
 {
     match base {
         Base::Fp => 0,
@@ -68,6 +69,7 @@ fn base_number(base: Base) -> u32
     }
 }
 
+/// Returns the number of bytes after which a function's rows repeat, 0 if they don't.
 fn block_size(shape: Shape) -> u32
     ensures { result ≡ spec.block_size shape }
 {
@@ -77,8 +79,9 @@ fn block_size(shape: Shape) -> u32
     }
 }
 
+/// Returns the offset at which the return address is saved, or `None` if it is in the link register.
 fn return_offset(ra: Ra) -> Option<i32>
-    ensures { result ≡ spec.return_offset ra }
+    ensures { result ≡ spec.saved_return ra }
 {
     match ra {
         Ra::Fixed => Some(-8),
@@ -108,8 +111,8 @@ fn row_shown(found: &Found) -> KiblawenRow
     }
 }
 
-/// Looks an address up, and returns whether a row holds there: then the function and the row are written to `row`.
-/// Where none holds, as in a closed section, `row` stays as it was.
+/// Looks an address up, and returns whether a row holds there. If one does, the function and the row are written to `row`.
+/// If none does, as in a closed section, `row` stays as it was.
 #[unsafe(no_mangle)]
 pub extern "C" fn kiblawen_find(section: &LentSection<'_>, pc: u64, row: &mut KiblawenRow) -> bool
     ensures found { result ≡ is_some (found_at (functions_lent section.now) pc) }

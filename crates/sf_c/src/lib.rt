@@ -2,7 +2,7 @@
 //! `include/kiblawen.h` declares them, and says what its callers keep.
 //!
 //! [`opening`] checks the bytes of a section once, and closes it. The other exports lend its view without checking
-//! again, and take a closed section for one that has no functions. [`finding`] looks an address up, [`recovering`]
+//! again, and treat a closed section as one that has no functions. [`finding`] looks an address up, [`recovering`]
 //! recovers the caller's frame of a sample, and [`walking`] lists the frames of a sample, into an array of the
 //! caller's, by one section or by the sections of a process's [`modules`].
 //!

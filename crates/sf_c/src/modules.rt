@@ -2,7 +2,7 @@
 
 ghost use Rattle.std.specs.Prelude.{◌≡◌, ◌↔◌, IsTrue};
 ghost use Rattle.sf_c.specs.Modules as spec;
-ghost use Rattle.sf_c.specs.Modules.{AreInOrder};
+ghost use Rattle.sf_c.specs.Modules.{ModulesRise};
 
 use core_walk::LookUp;
 use sf_decode::{LentSection, View};
@@ -15,7 +15,7 @@ use sf_model::Arch;
 pub struct KiblawenModule<'a> {
     /// The module's first address.
     pub start: u64,
-    /// How many addresses the module has.
+    /// The number of the module's addresses.
     pub size: u64,
     /// The module's section, open or closed.
     pub section: LentSection<'a>,
@@ -32,7 +32,7 @@ fn holds(range: &KiblawenModule<'_>, address: u64) -> bool
 #[derive(Clone, Copy)]
 pub struct Modules<'m, 'a> {
     pub modules: &'m [KiblawenModule<'a>],
-    ghost in_order: { AreInOrder modules.now },
+    ghost in_order: { ModulesRise modules.now },
 }
 
 impl<'m, 'a> Modules<'m, 'a> {
@@ -40,8 +40,8 @@ impl<'m, 'a> Modules<'m, 'a> {
     ghost use Rattle.sf_decode.specs.Kept.{functions_shown};
     ghost use Rattle.sf_c.specs.Modules.{functions_at};
 
-    // Returns the view of the section of the module that has the address in its range. None where there is no such
-    // module, or its section is closed.
+    // Returns the view of the section of the module that has the address in its range, or `None` if there is no such
+    // module or its section is closed.
     fn view_at(&self, address: u64) -> Option<View<'a>>
         ensures { functions_shown result ≡ functions_at self.now.modules.now address }
     {
@@ -79,7 +79,7 @@ impl<'m, 'a> LookUp for Modules<'m, 'a> {
 /// that.
 #[unsafe(no_mangle)]
 pub extern "C" fn kiblawen_in_order(modules: &[KiblawenModule<'_>]) -> bool
-    ensures { IsTrue result ↔ spec.AreInOrder modules.now }
+    ensures { IsTrue result ↔ spec.ModulesRise modules.now }
 {
     for i in 1..modules.len() {
         let before = &modules[i - 1];

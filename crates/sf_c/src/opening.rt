@@ -7,9 +7,8 @@ ghost use Rattle.sf_c.specs.Opening.{bytes_if_sound, fault_number, fault_place, 
 
 use sf_decode::LentSection;
 
-/// Checks bytes at an address, and opens the section where nothing is wrong. Returns 0 then. Otherwise it returns the
-/// number of the first fault, writes the fault's place, in bytes from the section's start, to `place`, and closes the
-/// section.
+/// Checks bytes at an address. If there is no fault, it opens the section and returns 0. Otherwise it returns the number of
+/// the first fault, writes the fault's place, in bytes from the section's start, to `place`, and closes the section.
 #[unsafe(no_mangle)]
 pub extern "C" fn kiblawen_open<'a>(
     section: &mut LentSection<'a>,

@@ -6,7 +6,7 @@ ghost use Rattle.sf_model.specs.Recovery.{recovered};
 ghost use Rattle.sf_model.specs.Walk.{recover_by_rows};
 ghost use Rattle.sf_decode.specs.Kept.{functions_lent};
 ghost use Rattle.sf_c.specs.Caller as spec;
-ghost use Rattle.sf_c.specs.Sample.{memory_of, registers_of};
+ghost use Rattle.sf_c.specs.Sample.{stack_memory, registers_of};
 
 use crate::finding::{flag, key_number};
 use crate::sample::KiblawenSample;
@@ -20,15 +20,15 @@ use sf_model::Recovered;
 pub struct KiblawenCaller {
     /// The canonical frame address, which is the caller's stack pointer.
     pub cfa: u64,
-    /// The return address with its signature, 0 where it can't be read.
+    /// The return address with its signature, 0 if it can't be read.
     pub ra: u64,
-    /// The caller's frame pointer, 0 where it can't be read.
+    /// The caller's frame pointer, 0 if it can't be read.
     pub fp: u64,
-    /// 1 where the return address is known, else 0.
+    /// 1 if the return address is known, else 0.
     pub ra_known: u32,
-    /// 1 where the frame pointer is known, else 0.
+    /// 1 if the frame pointer is known, else 0.
     pub fp_known: u32,
-    /// 0 where the return address is unsigned, 1 where it is signed by key A, 2 by key B.
+    /// 0 if the return address is unsigned, 1 if it is signed by key A, 2 by key B.
     pub key: u32,
 }
 
@@ -48,7 +48,7 @@ fn caller_shown(recovered: &Recovered) -> KiblawenCaller
 
 // Returns what the functions of a section recover of a sample.
 fn recovered_in(section: &LentSection<'_>, sample: &KiblawenSample<'_>) -> Option<Recovered>
-    ensures { result ≡ option_map recovered (recover_by_rows (functions_lent section.now) (memory_of sample.now) sample.now.pc (registers_of sample.now)) }
+    ensures { result ≡ option_map recovered (recover_by_rows (functions_lent section.now) (stack_memory sample.now) sample.now.pc (registers_of sample.now)) }
 {
     match section.view() {
         Some(view) => recover_at(&view, sample.pc, &sample.registers(), &sample.memory()),
@@ -57,15 +57,15 @@ fn recovered_in(section: &LentSection<'_>, sample: &KiblawenSample<'_>) -> Optio
 }
 
 /// Recovers the caller's frame by the row that holds at a sample's program counter, and returns whether a row holds
-/// there. Where none holds, as in a closed section, `caller` stays as it was.
+/// there. If none does, as in a closed section, `caller` stays as it was.
 #[unsafe(no_mangle)]
 pub extern "C" fn kiblawen_recover(
     section: &LentSection<'_>,
     sample: &KiblawenSample<'_>,
     caller: &mut KiblawenCaller,
 ) -> bool
-    ensures found { result ≡ is_some (recover_by_rows (functions_lent section.now) (memory_of sample.now) sample.now.pc (registers_of sample.now)) }
-    ensures caller { caller.new ≡ spec.caller_or caller.old (option_map recovered (recover_by_rows (functions_lent section.now) (memory_of sample.now) sample.now.pc (registers_of sample.now))) }
+    ensures found { result ≡ is_some (recover_by_rows (functions_lent section.now) (stack_memory sample.now) sample.now.pc (registers_of sample.now)) }
+    ensures caller { caller.new ≡ spec.caller_or caller.old (option_map recovered (recover_by_rows (functions_lent section.now) (stack_memory sample.now) sample.now.pc (registers_of sample.now))) }
 {
     match recovered_in(section, sample) {
         Some(recovered) => {

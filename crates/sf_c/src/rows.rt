@@ -19,8 +19,7 @@ fn most_rows(view: &View<'_>) -> u32
     most
 }
 
-/// Returns how many rows the function with most rows has. 0 where there is no function, as in a closed
-/// section.
+/// Returns how many rows the function with most rows has, 0 if there is no function, as in a closed section.
 #[unsafe(no_mangle)]
 pub extern "C" fn kiblawen_most_rows(section: &LentSection<'_>) -> u32
     ensures { result ≡ most_rows (functions_lent section.now) }

@@ -17,9 +17,9 @@ pub struct KiblawenSample<'a> {
     pub fp: u64,
     /// The link register x30 on AArch64. On AMD64 nothing reads it.
     pub lr: u64,
-    /// The bits of a return address that hold its signature, where `has_mask` isn't 0.
+    /// The bits of a return address that hold its signature, if `has_mask` isn't 0.
     pub mask: u64,
-    /// 0 where the mask isn't known, as on AMD64.
+    /// 0 if the mask isn't known, as on AMD64.
     pub has_mask: u32,
     /// The bytes that were copied from the stack.
     pub stack: &'a [u8],
@@ -39,7 +39,7 @@ impl<'a> KiblawenSample<'a> {
         }
     }
 
-    /// Returns the mask of return addresses, where it is known.
+    /// Returns the mask of return addresses, if it is known.
     pub fn known_mask(&self) -> Option<u64>
         ensures { result ≡ spec.mask_of self.now }
     {
@@ -52,7 +52,7 @@ impl<'a> KiblawenSample<'a> {
 
     /// Returns the memory that a walk reads.
     pub fn memory(&self) -> Stack<'a>
-        ensures { spec.one_region result ≡ spec.memory_of self.now }
+        ensures { spec.one_region result ≡ spec.stack_memory self.now }
     {
         Stack {
             bytes: self.stack,

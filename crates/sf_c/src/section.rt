@@ -10,7 +10,7 @@ use sf_decode::LentSection;
 use sf_lookup::{Found, find};
 use sf_model::Arch;
 
-/// Returns the row that holds at an address, with its function. None in a closed section.
+/// Returns the row that holds at an address, with its function, or `None` if no row holds, as in a closed section.
 #[tactic(auto, unfolding(sf_model::specs::Lookup::found_at))]
 pub fn row_in(section: &LentSection<'_>, address: u64) -> Option<Found>
     ensures { result ≡ option_map shown (section_row section.now address) }

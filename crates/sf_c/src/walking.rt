@@ -3,8 +3,8 @@
 ghost use Rattle.std.specs.Prelude.{◌≡◌, length};
 ghost use Rattle.sf_decode.specs.Kept.{functions_lent};
 ghost use Rattle.sf_model.specs.Walk.{section_walk};
-ghost use Rattle.sf_c.specs.Modules.{AreInOrder, module_row};
-ghost use Rattle.sf_c.specs.Sample.{memory_of, thread_of};
+ghost use Rattle.sf_c.specs.Modules.{ModulesRise, module_row};
+ghost use Rattle.sf_c.specs.Sample.{stack_memory, sample_thread};
 ghost use Rattle.sf_c.specs.Walk as spec;
 
 use crate::modules::{KiblawenModule, Modules};
@@ -21,8 +21,7 @@ use sf_model::{Frame, Stop};
 pub struct KiblawenFrame {
     /// The frame's program counter.
     pub pc: u64,
-    /// The frame's canonical frame address, 0 where no row holds: then it is the last frame, and the walk stopped
-    /// outside.
+    /// The frame's canonical frame address, 0 if no row holds. Then the frame is the last, and the walk stopped outside.
     pub cfa: u64,
 }
 
@@ -33,7 +32,7 @@ pub struct KiblawenStop {
     /// 0: the room is full. 1: no row holds at an address. 2: a value can't be read. 3: a return address is signed, and
     /// the sample has no mask.
     pub kind: u32,
-    /// The address at which no row holds, the address of the value, or the return address; 0 where the room is full.
+    /// The address at which no row holds, the address of the value, or the return address; 0 if the room is full.
     pub value: u64,
 }
 
@@ -103,9 +102,9 @@ pub extern "C" fn kiblawen_walk(
     frames: &mut [KiblawenFrame],
     stop: &mut KiblawenStop,
 ) -> usize
-    ensures frames { frames.new ≡ spec.listed (section_walk (functions_lent section.now) (thread_of sample.now) (memory_of sample.now) (length frames.old)).frames frames.old }
-    ensures count { result ≡ length (section_walk (functions_lent section.now) (thread_of sample.now) (memory_of sample.now) (length frames.old)).frames }
-    ensures stop { stop.new ≡ spec.stop_shown (section_walk (functions_lent section.now) (thread_of sample.now) (memory_of sample.now) (length frames.old)).stop }
+    ensures frames { frames.new ≡ spec.listed (section_walk (functions_lent section.now) (sample_thread sample.now) (stack_memory sample.now) (length frames.old)).frames frames.old }
+    ensures count { result ≡ length (section_walk (functions_lent section.now) (sample_thread sample.now) (stack_memory sample.now) (length frames.old)).frames }
+    ensures stop { stop.new ≡ spec.stop_shown (section_walk (functions_lent section.now) (sample_thread sample.now) (stack_memory sample.now) (length frames.old)).stop }
 {
     walk_into(&OneSection { section }, sample, frames, stop)
 }
@@ -119,7 +118,7 @@ pub extern "C" fn kiblawen_walk_modules(
     frames: &mut [KiblawenFrame],
     stop: &mut KiblawenStop,
 ) -> usize
-    requires { AreInOrder modules.now }
+    requires { ModulesRise modules.now }
     ensures frames { frames.new ≡ spec.listed (spec.sample_walk (module_row modules.now) sample.now (length frames.old)).frames frames.old }
     ensures count { result ≡ length (spec.sample_walk (module_row modules.now) sample.now (length frames.old)).frames }
     ensures stop { stop.new ≡ spec.stop_shown (spec.sample_walk (module_row modules.now) sample.now (length frames.old)).stop }

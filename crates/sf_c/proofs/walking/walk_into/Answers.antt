@@ -1,5 +1,5 @@
 use Rattle.std.proofs.Common.{ap, ◌∙◌}
-use Rattle.sf_c.specs.Sample.{memory_of, thread_of}
+use Rattle.sf_c.specs.Sample.{stack_memory, sample_thread}
 use Rattle.sf_model.specs.Walk.{recover_by}
 use Rattle.sf_c.specs.Walk.{stop_shown}
 use Rattle.sf_c.proofs.Listed.{begins, fills, goes, halts}
@@ -7,7 +7,7 @@ use Rattle.sf_c.proofs.walking.walk_into.Goals as goal
 
 pub loop-count-init : goal.loop-count-init
 loop-count-init g c =
-    begins (recover_by (g.L.LookUp.found_at c.args.rows.now) (memory_of c.args.sample.now)) (thread_of c.args.sample.now) c.args.frames.now c.registers.result c.registers.ensures
+    begins (recover_by (g.L.LookUp.found_at c.args.rows.now) (stack_memory c.args.sample.now)) (sample_thread c.args.sample.now) c.args.frames.now c.registers.result c.registers.ensures
 
 pub returns-in-Err-clause-frames : goal.returns-in-Err-clause-frames
 returns-in-Err-clause-frames g c = (halts (g.L.LookUp.found_at c.args.rows.now) c.args.sample.now c.loop-count-test.true c.memory-stack.ensures c.known_mask-mask.ensures c.in-Err.is c.step-next.ensures c.frame_shown.ensures c.loop-count.invariant).room
