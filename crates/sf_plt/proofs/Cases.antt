@@ -17,7 +17,7 @@ use Rattle.sf_asm.specs.Entry.{kept_in, kept_of}
 use Rattle.sf_asm.specs.Functions.{Function}
 use Rattle.sf_asm.specs.Kept.{entry_of, facts_of, is_kept, kept_functions, omitted_functions, outcome_by, says_of}
 use Rattle.sf_plt.specs.Plt.{initial_content, is_plt, plt_functions}
-use Rattle.sf_plt.specs.Written.{first_entry, later_entries, pair_by, plt_pair, written_by, written_functions}
+use Rattle.sf_plt.specs.Written.{first_entry, later_entries, pair_by, plt_pair, written_as, written_functions}
 use Rattle.sf_plt.proofs.Form.{plt_form}
 
 -- a kept function as it is expressed
@@ -102,7 +102,7 @@ kept_by o fs = cons_option (kept_in o) (kept_of (map entry_of fs))
 
 pub kept_lists : (f : Function) (fs : List Function) → IsKept f → Lists f fs (expressed_of f ∷ written_functions fs) (expressed_of f ∷ kept_of (map entry_of fs)) (f ∷ kept_functions fs) (plt_functions fs)
 kept_lists f fs h = record {
-  written_is = ap (λ (o : Outcome). written_by f o ++ written_functions fs) h.outcome_is;
+  written_is = ap (λ (o : Outcome). written_as f o ++ written_functions fs) h.outcome_is;
   kept_is = ap (λ (o : Outcome). kept_by o fs) h.outcome_is;
   kept_functions_are = ap (λ (b : Bool). cond b (f ∷ kept_functions fs) (kept_functions fs)) h.kept;
   tables_are = ap (λ (b : Bool). filter is_plt (cond (not b) (f ∷ omitted_functions fs) (omitted_functions fs))) h.kept;
@@ -110,7 +110,7 @@ kept_lists f fs h = record {
 
 pub table_lists : (f : Function) (fs : List Function) (h : IsTable f) → Lists f fs (first_entry f h.content ∷ later_entries f h.content ∷ written_functions fs) (kept_of (map entry_of fs)) (kept_functions fs) (f ∷ plt_functions fs)
 table_lists f fs h = record {
-  written_is = ap (λ (o : Outcome). written_by f o ++ written_functions fs) h.outcome_is ∙ ap (λ (b : Bool). cond b (plt_pair f) [] ++ written_functions fs) h.table
+  written_is = ap (λ (o : Outcome). written_as f o ++ written_functions fs) h.outcome_is ∙ ap (λ (b : Bool). cond b (plt_pair f) [] ++ written_functions fs) h.table
       ∙ ap (λ (x : Option Content). pair_by f x ++ written_functions fs) h.content_is;
   kept_is = ap (λ (o : Outcome). kept_by o fs) h.outcome_is;
   kept_functions_are = ap (λ (b : Bool). cond b (f ∷ kept_functions fs) (kept_functions fs)) h.kept;
@@ -120,7 +120,7 @@ table_lists f fs h = record {
 
 pub other_lists : (f : Function) (fs : List Function) → IsOther f → Lists f fs (written_functions fs) (kept_of (map entry_of fs)) (kept_functions fs) (plt_functions fs)
 other_lists f fs h = record {
-  written_is = ap (λ (o : Outcome). written_by f o ++ written_functions fs) h.outcome_is ∙ ap (λ (b : Bool). cond b (plt_pair f) [] ++ written_functions fs) h.table;
+  written_is = ap (λ (o : Outcome). written_as f o ++ written_functions fs) h.outcome_is ∙ ap (λ (b : Bool). cond b (plt_pair f) [] ++ written_functions fs) h.table;
   kept_is = ap (λ (o : Outcome). kept_by o fs) h.outcome_is;
   kept_functions_are = ap (λ (b : Bool). cond b (f ∷ kept_functions fs) (kept_functions fs)) h.kept;
   tables_are = ap (λ (b : Bool). filter is_plt (cond (not b) (f ∷ omitted_functions fs) (omitted_functions fs))) h.kept

@@ -45,7 +45,7 @@ use Rattle.sf_asm.proofs.Limits.{few_functions}
 use Rattle.sf_asm.proofs.OneMachine.{machine_of_functions}
 use Rattle.sf_model.proofs.StableOrder.{one_order_of}
 use Rattle.sf_asm.specs.Sources.{function_start}
-use Rattle.sf_plt.specs.Answers.{IsFirstPltLinked, IsPltLinked, others_in, span_of}
+use Rattle.sf_plt.specs.Answers.{IsFirstPltLinked, IsPltLinked, others_in, plt_span}
 use Rattle.sf_plt.specs.Linking.{LinksPlts, LinksPltsFrom, further_fault, plt_link_fault, plts_fault, unless_fault, wraps_gathering}
 use Rattle.sf_plt.specs.Plt.{is_plt, plt_functions}
 use Rattle.sf_plt.specs.Sorting.{func_start}
@@ -289,7 +289,7 @@ accepted_by at sorted checked few near =
 -- ---- the section
 pub plt_linked : (before : Option Arch) (objects : List Object) (at : ℕ) (section : List ℕ) (count : ℕ) (omitted : List Omitted) (plts : List Span) (arch : Arch) (kept : List Func) (gathered : List Omitted) (lent : List Function)
     → (g : AreWithSources before objects arch kept gathered lent) → HaveMachine before objects arch → (written : List Func) → written ≡ written_functions g.sorted → plts_fault g.sorted ≡ None → Section section at (table_of arch written)
-    → Tight section at (table_of arch written) → Narrow section (table_of arch written) → first_out_of_reach at 0 written ≡ None → count ≡ length kept → omitted ≡ omitted_of (map entry_of (others_in lent)) → plts ≡ map span_of (filter is_plt lent)
+    → Tight section at (table_of arch written) → Narrow section (table_of arch written) → first_out_of_reach at 0 written ≡ None → count ≡ length kept → omitted ≡ omitted_of (map entry_of (others_in lent)) → plts ≡ map plt_span (filter is_plt lent)
     → IsPltLinked before objects at section count omitted plts
 plt_linked before objects at section count omitted plts arch kept gathered lent g machine written is few section_is tight narrow near count_is omitted_are plts_are =
     let h = ready before objects arch kept gathered lent g in
@@ -309,7 +309,7 @@ plt_linked before objects at section count omitted plts arch kept gathered lent 
       narrow = subst (λ (gs : List Func). Narrow section (table_of arch gs)) is narrow;
       kept_is = count_is ∙ ap length g.kept_are ∙ sym c.kept;
       omitted_are = omitted_are ∙ ap (λ (fs : List Function). omitted_of (map entry_of (others_in fs))) g.sources_are;
-      plts_are = plts_are ∙ ap (λ (fs : List Function). map span_of (filter is_plt fs)) g.sources_are;
+      plts_are = plts_are ∙ ap (λ (fs : List Function). map plt_span (filter is_plt fs)) g.sources_are;
     }
 
 -- ---- one result
@@ -345,8 +345,8 @@ first_gathered before objects at (gather.MixedArch one other) (inr first) = inr 
 first_gathered before objects at (gather.Overlap s i t j) (inr first) = inr (not_gathered before objects at (gather.Overlap s i t j) first)
 
 -- ---- what was counted and made
-pub tables_counted : (n : ℕ) (plts : List Span) (fs : List Function) → n ≡ length plts → plts ≡ map span_of (filter is_plt fs) → n ≡ length (filter is_plt fs)
-tables_counted n plts fs e is = e ∙ ap length is ∙ length-map (filter is_plt fs) span_of
+pub tables_counted : (n : ℕ) (plts : List Span) (fs : List Function) → n ≡ length plts → plts ≡ map plt_span (filter is_plt fs) → n ≡ length (filter is_plt fs)
+tables_counted n plts fs e is = e ∙ ap length is ∙ length-map (filter is_plt fs) plt_span
 
 pub record Made (arch : Arch) (sorted : List Function) (ordered : List Func) : Type 0 where
   pub is : ordered ≡ written_functions sorted

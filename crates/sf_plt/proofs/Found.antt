@@ -1,6 +1,6 @@
 -- What is written of functions recovers at each address what it should.
 use Rattle.std.specs.Prelude.{nat_le, nat_lt, not}
-use Rattle.std.specs.Option.{option_map}
+use Rattle.std.specs.Option.{option_map, option_or}
 use Rattle.std.specs.List.{filter, find}
 use Rattle.std.specs.List.Sorted.{IsPermutation}
 use Rattle.std.proofs.Common.{◌≡◌, ℕ, ◌+◌, ◌<◌, ◌≤◌, Bool, true, false, cond, ◌&&◌, List, [], ◌∷◌, map, Option, Some, None, refl, sym, ap, subst, ◌∙◌, arith, inl, inr}
@@ -22,7 +22,7 @@ use Rattle.sf_model.proofs.Unions.{Member, OnePasses}
 use Rattle.sf_asm.proofs.Finding.{found_alike}
 use Rattle.sf_plt.specs.Answers.{RecoversWithPlts}
 use Rattle.sf_plt.specs.Plt.{is_plt, plt_functions, recovered_in_plt}
-use Rattle.sf_plt.specs.Written.{first_entry, later_entries, or_else, pair_by, recovered_with_plts, written_functions}
+use Rattle.sf_plt.specs.Written.{first_entry, later_entries, pair_by, recovered_with_plts, written_functions}
 use Rattle.sf_plt.proofs.Apart.{later_of, sized_goes}
 use Rattle.sf_plt.proofs.Cases.{Case, IsKept, IsTable, Lists, kept_case, table_case, other_case, case_of, expressed_of, kept_lists, table_lists, other_lists}
 use Rattle.sf_plt.proofs.Form.{both, plt_form}
@@ -101,7 +101,7 @@ recovered_of gs pc regs memory = recovered_by regs memory (row_in_first pc (find
 
 abbrev by_functions : List Function → (tables : List Function) → (pc : ℕ) → Regs → List Region → Option RuleRecovery
 by_functions kept tables pc regs memory =
-    or_else (option_map (recovered_in memory pc regs) (find (holds_address pc) kept)) (option_map (recovered_in_plt memory pc regs) (find (holds_address pc) tables))
+    option_or (option_map (recovered_in memory pc regs) (find (holds_address pc) kept)) (option_map (recovered_in_plt memory pc regs) (find (holds_address pc) tables))
 
 -- the two functions at the front
 found_front : (pc : ℕ) (regs : Regs) (memory : List Region) (a b : Func) (gs : List Func) (r : RuleRecovery) → recovered_of (a ∷ b ∷ []) pc regs memory ≡ Some r → recovered_of (a ∷ b ∷ gs) pc regs memory ≡ Some r
@@ -140,11 +140,11 @@ written_recovers end (f ∷ fs) h pc regs memory = at_case (case_of f) (λ least
     of_kept k true t rest =
         ap (λ (b : Bool). recovered_by regs memory (row_in_first pc (cond b (Some (expressed_of f)) (find (contains pc) (written_functions fs))))) t
         ∙ function_recovers f pc regs memory k.kept t
-        ∙ sym (ap (λ (b : Bool). or_else (option_map (recovered_in memory pc regs) (cond b (Some f) (find (holds_address pc) (kept_functions fs)))) (option_map (recovered_in_plt memory pc regs) (find (holds_address pc) (plt_functions fs)))) t)
+        ∙ sym (ap (λ (b : Bool). option_or (option_map (recovered_in memory pc regs) (cond b (Some f) (find (holds_address pc) (kept_functions fs)))) (option_map (recovered_in_plt memory pc regs) (find (holds_address pc) (plt_functions fs)))) t)
     of_kept k false t rest =
         ap (λ (b : Bool). recovered_by regs memory (row_in_first pc (cond b (Some (expressed_of f)) (find (contains pc) (written_functions fs))))) t
         ∙ rest
-        ∙ sym (ap (λ (b : Bool). or_else (option_map (recovered_in memory pc regs) (cond b (Some f) (find (holds_address pc) (kept_functions fs)))) (option_map (recovered_in_plt memory pc regs) (find (holds_address pc) (plt_functions fs)))) t)
+        ∙ sym (ap (λ (b : Bool). option_or (option_map (recovered_in memory pc regs) (cond b (Some f) (find (holds_address pc) (kept_functions fs)))) (option_map (recovered_in_plt memory pc regs) (find (holds_address pc) (plt_functions fs)))) t)
 
     of_table : (t : IsTable f) → 16 < f.size → are_apart (f.start + f.size) (map entry_of fs) ≡ true → (b : Bool) → holds_address pc f ≡ b → recovered_of (written_functions fs) pc regs memory ≡ by_functions (kept_functions fs) (plt_functions fs) pc regs memory
         → recovered_of (first_entry f t.content ∷ later_entries f t.content ∷ written_functions fs) pc regs memory ≡ by_functions (kept_functions fs) (f ∷ plt_functions fs) pc regs memory
@@ -153,11 +153,11 @@ written_recovers end (f ∷ fs) h pc regs memory = at_case (case_of f) (λ least
         let pair = ap (λ (x : Option Content). recovered_of (pair_by f x) pc regs memory) (sym t.content_is) ∙ table_recovers f pc regs memory t.table holds in
         let none = no_member (holds_address pc) fs (λ x m s. none_holds pc (f.start + f.size) fs w.1 on x m s) is_kept in
         found_front pc regs memory (first_entry f t.content) (later_entries f t.content) (written_functions fs) (recovered_in_plt memory pc regs f) pair
-        ∙ sym (ap (λ (k : Option Function). or_else (option_map (recovered_in memory pc regs) k) (option_map (recovered_in_plt memory pc regs) (find (holds_address pc) (f ∷ plt_functions fs)))) none
+        ∙ sym (ap (λ (k : Option Function). option_or (option_map (recovered_in memory pc regs) k) (option_map (recovered_in_plt memory pc regs) (find (holds_address pc) (f ∷ plt_functions fs)))) none
         ∙ ap (λ (b : Bool). option_map (recovered_in_plt memory pc regs) (cond b (Some f) (find (holds_address pc) (plt_functions fs)))) holds)
     of_table t above on false out rest =
         not_front pc regs memory f t.content (written_functions fs) above out ∙ rest
-        ∙ sym (ap (λ (b : Bool). or_else (option_map (recovered_in memory pc regs) (find (holds_address pc) (kept_functions fs))) (option_map (recovered_in_plt memory pc regs) (cond b (Some f) (find (holds_address pc) (plt_functions fs))))) out)
+        ∙ sym (ap (λ (b : Bool). option_or (option_map (recovered_in memory pc regs) (find (holds_address pc) (kept_functions fs))) (option_map (recovered_in_plt memory pc regs) (cond b (Some f) (find (holds_address pc) (plt_functions fs))))) out)
 
     at_case : Case f → ((least : ℕ) → are_apart least (map entry_of fs) ≡ true → recovered_of (written_functions fs) pc regs memory ≡ by_functions (kept_functions fs) (plt_functions fs) pc regs memory)
         → recovered_of (written_functions (f ∷ fs)) pc regs memory ≡ by_functions (kept_functions (f ∷ fs)) (plt_functions (f ∷ fs)) pc regs memory
@@ -178,5 +178,5 @@ unfolding recover_by_rows found_at recovered_at recovered_with_plts
 recovers_with_plts functions sorted same apart address regs memory =
     let one = one_holds address 0 sorted apart in
     written_recovers 0 sorted apart address regs memory
-    ∙ sym (ap (λ (k : Option Function). or_else (option_map (recovered_in memory address regs) k) (option_map (recovered_in_plt memory address regs) (find (holds_address address) (plt_functions functions)))) (found_filtered (holds_address address) is_kept functions sorted same one)
-    ∙ ap (λ (t : Option Function). or_else (option_map (recovered_in memory address regs) (find (holds_address address) (kept_functions sorted))) (option_map (recovered_in_plt memory address regs) t)) (found_twice (holds_address address) is_plt (λ (f : Function). not (is_kept f)) functions sorted same one))
+    ∙ sym (ap (λ (k : Option Function). option_or (option_map (recovered_in memory address regs) k) (option_map (recovered_in_plt memory address regs) (find (holds_address address) (plt_functions functions)))) (found_filtered (holds_address address) is_kept functions sorted same one)
+    ∙ ap (λ (t : Option Function). option_or (option_map (recovered_in memory address regs) (find (holds_address address) (kept_functions sorted))) (option_map (recovered_in_plt memory address regs) t)) (found_twice (holds_address address) is_plt (λ (f : Function). not (is_kept f)) functions sorted same one))

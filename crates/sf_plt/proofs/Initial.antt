@@ -23,11 +23,14 @@ use Rattle.sf_express.specs.Expressed.{reason_of, same_base}
 use Rattle.sf_express.specs.Rules.{content_of}
 use Rattle.sf_asm.specs.Functions.{Function}
 use Rattle.sf_asm.specs.Kept.{facts_of}
-use Rattle.sf_plt.specs.Plt.{content_before, content_unless, counts_from_stack, initial_content, is_amd64, is_plt, is_plt_text, without_nops}
+use Rattle.sf_plt.specs.Plt.{content_unless, counts_from_stack, initial_content, is_amd64, is_plt, is_plt_text, without_nops}
 
 -- ---- the row
 abbrev said_there : Arch → (code : ℕ) → (factor : ℤ) → List Item → Result Content Reason
 said_there arch code factor initial = content_of arch (row_from 0 (columns_of arch (row_at_offset code factor initial [] 0)))
+
+abbrev content_before : Arch → (code : ℕ) → (factor : ℤ) → List Item → Option Content
+content_before arch code factor initial = content_unless (first_fault arch factor initial []) (said_there arch code factor initial)
 
 content_anywhere : (arch : Arch) (a b : ℕ) (columns : Columns) → content_of arch (row_from a columns) ≡ content_of arch (row_from b columns)
 unfolding content_of
@@ -43,7 +46,7 @@ unless_none (Ok content) = refl
 unless_none (Err reason) = refl
 
 pub initial_said : (arch : Arch) (code : ℕ) (factor : ℤ) (initial : List Item) (row : Columns) (given : Result Content Reason) → IsInitial arch factor initial row → given ≡ content_of arch (row_from 0 row) → result_ok given ≡ content_before arch code factor initial
-unfolding content_before rows_from
+unfolding rows_from
 initial_said arch code factor initial row given is content =
     let rows = row_from 0 row ∷ [] in
     let by_pass : rows_by arch code factor 1 initial [] ≡ Ok rows =

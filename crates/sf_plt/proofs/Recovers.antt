@@ -36,7 +36,7 @@ use Rattle.sf_express.proofs.Writable.{made}
 use Rattle.sf_asm.specs.Faithful.{holds_address}
 use Rattle.sf_asm.specs.Functions.{Function}
 use Rattle.sf_asm.specs.Kept.{facts_of, full_row}
-use Rattle.sf_plt.specs.Plt.{content_before, content_unless, initial_content, is_plt, plt_frame_address, plt_recovery, recovered_in_plt}
+use Rattle.sf_plt.specs.Plt.{content_unless, initial_content, is_plt, plt_frame_address, recovered_in_plt}
 use Rattle.sf_plt.specs.Written.{first_entry, later_entries, pair_by, plt_pair, row_saying}
 use Rattle.sf_plt.specs.Expression.{expression_value}
 use Rattle.sf_plt.proofs.Form.{PltForm, both, plt_form}
@@ -116,7 +116,7 @@ abbrev with_rule : CfaRule → Columns → Columns
 with_rule rule c = record c { cfa = rule }
 
 pub said_before : (f : Function) (content : Content) → initial_content f ≡ Some content → content_of f.arch (row_from 0 (columns f)) ≡ Ok content
-unfolding initial_content content_before
+unfolding initial_content
 said_before f content e =
     ap (λ (row : FullRow). content_of f.arch (row_from 0 (columns_of f.arch row))) (sym (row_before f))
     ∙ content_is (first_fault f.arch f.factor f.initial []) (content_of f.arch (row_from 0 (columns_of f.arch (row_at_offset f.code f.factor f.initial [] 0)))) content e
@@ -164,8 +164,10 @@ by_distance f content own h n small regs memory =
     ∙ alike.alike f.key regs memory
 
 -- by the row there
+abbrev plt_recovery : Function → (offset : ℕ) → Regs → List Region → RuleRecovery
+plt_recovery f offset regs memory = recovery_from f.arch f.column (full_row f offset) f.key regs memory (plt_frame_address f offset regs (full_row f offset).cfa)
+
 at_row : (f : Function) (o : ℕ) (rule : CfaRule) (regs : Regs) (memory : List Region) → full_row f o ≡ with_cfa rule (initial_row f) → plt_recovery f o regs memory ≡ recovery_from f.arch f.column (initial_row f) f.key regs memory (plt_frame_address f o regs rule)
-unfolding plt_recovery
 at_row f o rule regs memory e = ap (λ (row : FullRow). recovery_from f.arch f.column row f.key regs memory (plt_frame_address f o regs row.cfa)) e
 
 by_register : (f : Function) (content : Content) (h : Says f content) (o n : ℕ) (regs : Regs) → plt_frame_address f o regs (cfa.Reg h.register (pos n)) ≡ Some (moved regs.sp (pos n))
@@ -262,6 +264,7 @@ row_recovered g regs memory found = recovered_by regs memory (option_map (λ (ro
 
 -- at an address of the function
 by_entry : (f : Function) (content : Content) → PltForm f → Says f content → (pc : ℕ) (regs : Regs) (memory : List Region) → f.start ≤ pc → pc < f.start + f.size → found_in f content pc regs memory ≡ Some (recovered_in_plt memory pc regs f)
+unfolding recovered_in_plt
 by_entry f content form h pc regs memory le lt =
     let o = pc - f.start in
     elim (cases_lt o 16) [

@@ -15,7 +15,7 @@ use Rattle.cfa_machine.specs.FullRow.{FullRow, no_row, cfa_offset}
 use Rattle.sf_asm.specs.Functions.{Function}
 use Rattle.sf_asm.specs.Kept.{full_row}
 use Rattle.sf_plt.specs.Plt.{is_nop, is_plt_text, without_nops}
-use Rattle.sf_plt.specs.Text.{follows, is_advance, is_at, is_cfa_offset, is_expression}
+use Rattle.sf_plt.specs.Text.{follows, is_advance, is_text_at, is_cfa_offset, is_expression}
 use Rattle.sf_plt.proofs.Form.{both}
 use Rattle.sf_plt.proofs.TextFollows.{text_follows}
 
@@ -42,13 +42,13 @@ record Begins (place : ℕ) (items : List Item) : Type 0 where
   first : Instruction
   others : List Item
   is : items ≡ Ok (at, first) ∷ others
-  here : is_at place first ≡ true
+  here : is_text_at place first ≡ true
   go_on : follows (suc place) others ≡ true
 
 begins : (place : ℕ) (items : List Item) → eqb place 5 ≡ false → follows place items ≡ true → Begins place items
 begins place [] other e = let is = sym other ∙ e in cc
 begins place (Ok (p, i) ∷ items) other e =
-    let two = both (is_at place i) (follows (suc place) items) e in
+    let two = both (is_text_at place i) (follows (suc place) items) e in
     record { at = p; first = i; others = items; is = refl; here = two.0; go_on = two.1 }
 begins place (Err fault ∷ items) other e = cc
 

@@ -31,10 +31,10 @@ use Rattle.sf_asm.proofs.ByStart.{are_by_start, sorted_functions}
 use Rattle.sf_asm.proofs.Described.{describe}
 use Rattle.sf_asm.proofs.GatheredInputs.{parts_of}
 use Rattle.sf_asm.proofs.Kept.{not_overlapping_apart}
-use Rattle.sf_plt.specs.Answers.{IsPltLinked, others_in, span_of}
+use Rattle.sf_plt.specs.Answers.{IsPltLinked, others_in, plt_span}
 use Rattle.sf_plt.specs.Linking.{LinksPlts, LinksPltsFrom, plt_link_fault, plts_fault, unless_fault}
 use Rattle.sf_plt.specs.Plt.{is_plt, plt_functions}
-use Rattle.sf_plt.specs.Written.{first_entry, later_entries, pair_by, plt_pair, row_saying, written_by, written_functions, written_of}
+use Rattle.sf_plt.specs.Written.{first_entry, later_entries, pair_by, plt_pair, row_saying, written_as, written_functions, written_of}
 use Rattle.sf_plt.proofs.Cases.{Case, IsKept, IsTable, case_of, expressed_of, kept_case, other_case, table_case}
 use Rattle.sf_plt.proofs.Described.{from_links, to_links}
 use Rattle.sf_plt.proofs.Faults.{accepted_by, apart_from, are_writable}
@@ -103,14 +103,14 @@ pub all_of : (P : Func → Type 0) (f : Function) → (IsKept f → P (expressed
 all_of P f kept table = at_case (case_of f)
   where
     at_case : Case f → All P (written_of f)
-    at_case (kept_case k) = subst (All P) (sym (ap (written_by f) k.outcome_is)) (All-from_recursion P (expressed_of f ∷ []) (kept k, tt))
+    at_case (kept_case k) = subst (All P) (sym (ap (written_as f) k.outcome_is)) (All-from_recursion P (expressed_of f ∷ []) (kept k, tt))
     at_case (table_case t) =
         let pair = table t in
         let is : written_of f ≡ first_entry f t.content ∷ later_entries f t.content ∷ [] =
-        ap (written_by f) t.outcome_is ∙ ap (λ (b : Bool). cond b (plt_pair f) []) t.table ∙ ap (pair_by f) t.content_is in
+        ap (written_as f) t.outcome_is ∙ ap (λ (b : Bool). cond b (plt_pair f) []) t.table ∙ ap (pair_by f) t.content_is in
         subst (All P) (sym is) (All-from_recursion P (first_entry f t.content ∷ later_entries f t.content ∷ []) (pair.0, (pair.1, tt)))
     at_case (other_case o) =
-        let is : written_of f ≡ [] = ap (written_by f) o.outcome_is ∙ ap (λ (b : Bool). cond b (plt_pair f) []) o.table in
+        let is : written_of f ≡ [] = ap (written_as f) o.outcome_is ∙ ap (λ (b : Bool). cond b (plt_pair f) []) o.table in
         subst (All P) (sym is) (All-nil P)
 
 pub all_written : (P : Func → Type 0) (fs : List Function) → All (λ (f : Function). All P (written_of f)) fs → All P (written_functions fs)
@@ -169,7 +169,7 @@ some_plt_section before objects at sorted arch h machine writable fit =
       section = section_bytes arch at (written_functions sorted);
       kept = length (kept_functions sorted);
       omitted = omitted_of (map entry_of (others_in (omitted_functions sorted)));
-      plts = map span_of (plt_functions sorted);
+      plts = map plt_span (plt_functions sorted);
       are_bytes = made.0;
       linked = record {
         functions = h.functions;

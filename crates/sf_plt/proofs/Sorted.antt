@@ -16,7 +16,7 @@ use Rattle.sf_asm.specs.declared.entry.Outcome.{Outcome}
 use Rattle.sf_asm.specs.Entry.{omitted_in, omitted_of}
 use Rattle.sf_asm.specs.Functions.{Function}
 use Rattle.sf_asm.specs.Kept.{entry_of, is_kept, omitted_functions}
-use Rattle.sf_plt.specs.Answers.{others_in, span_of}
+use Rattle.sf_plt.specs.Answers.{others_in, plt_span}
 use Rattle.sf_plt.specs.Plt.{is_plt, initial_content}
 use Rattle.sf_plt.specs.Sorting.{AreOmitted}
 use Rattle.sf_plt.specs.Written.{plt_pair}
@@ -90,9 +90,9 @@ pairs_more fs f e =
     ap (flat_map plt_pair) (filter-append is_plt fs (f ∷ []) ∙ ap (λ (b : Bool). filter is_plt fs ++ cond b (f ∷ []) []) e)
     ∙ flat_map-append plt_pair (filter is_plt fs) (f ∷ []) ∙ ap (λ (gs : List Func). flat_map plt_pair (filter is_plt fs) ++ gs) (append-nil (plt_pair f))
 
-pub spans_more : (fs : List Function) (f : Function) → is_plt f ≡ true → map span_of (filter is_plt (fs ++ f ∷ [])) ≡ map span_of (filter is_plt fs) ++ span_of f ∷ []
+pub spans_more : (fs : List Function) (f : Function) → is_plt f ≡ true → map plt_span (filter is_plt (fs ++ f ∷ [])) ≡ map plt_span (filter is_plt fs) ++ plt_span f ∷ []
 spans_more fs f e =
-    ap (map span_of) (filter-append is_plt fs (f ∷ []) ∙ ap (λ (b : Bool). filter is_plt fs ++ cond b (f ∷ []) []) e) ∙ map-append span_of (filter is_plt fs) (f ∷ [])
+    ap (map plt_span) (filter-append is_plt fs (f ∷ []) ∙ ap (λ (b : Bool). filter is_plt fs ++ cond b (f ∷ []) []) e) ∙ map-append plt_span (filter is_plt fs) (f ∷ [])
 
 pub others_same : (fs : List Function) (f : Function) → is_plt f ≡ true → others_in (fs ++ f ∷ []) ≡ others_in fs
 others_same fs f e =
@@ -147,11 +147,11 @@ written_on kept before after fs gs f on t e is =
 pub written_stays : (kept before : List Func) (fs gs : List Function) (f : Function) → gs ≡ fs ++ f ∷ [] → is_plt f ≡ false → before ≡ kept ++ flat_map plt_pair (filter is_plt fs) → before ≡ kept ++ flat_map plt_pair (filter is_plt gs)
 written_stays kept before fs gs f on t is = is ∙ ap (λ (hs : List Function). kept ++ flat_map plt_pair hs) (sym (tables_same fs f t) ∙ sym (ap (filter is_plt) on))
 
-pub plts_on : (before after : List Span) (fs gs : List Function) (f : Function) → gs ≡ fs ++ f ∷ [] → is_plt f ≡ true → after ≡ before ++ span_of f ∷ [] → before ≡ map span_of (filter is_plt fs) → after ≡ map span_of (filter is_plt gs)
-plts_on before after fs gs f on t e is = e ∙ ap (λ (l : List Span). l ++ span_of f ∷ []) is ∙ sym (spans_more fs f t) ∙ sym (ap (λ (hs : List Function). map span_of (filter is_plt hs)) on)
+pub plts_on : (before after : List Span) (fs gs : List Function) (f : Function) → gs ≡ fs ++ f ∷ [] → is_plt f ≡ true → after ≡ before ++ plt_span f ∷ [] → before ≡ map plt_span (filter is_plt fs) → after ≡ map plt_span (filter is_plt gs)
+plts_on before after fs gs f on t e is = e ∙ ap (λ (l : List Span). l ++ plt_span f ∷ []) is ∙ sym (spans_more fs f t) ∙ sym (ap (λ (hs : List Function). map plt_span (filter is_plt hs)) on)
 
-pub plts_stay : (before : List Span) (fs gs : List Function) (f : Function) → gs ≡ fs ++ f ∷ [] → is_plt f ≡ false → before ≡ map span_of (filter is_plt fs) → before ≡ map span_of (filter is_plt gs)
-plts_stay before fs gs f on t is = is ∙ ap (map span_of) (sym (tables_same fs f t) ∙ sym (ap (filter is_plt) on))
+pub plts_stay : (before : List Span) (fs gs : List Function) (f : Function) → gs ≡ fs ++ f ∷ [] → is_plt f ≡ false → before ≡ map plt_span (filter is_plt fs) → before ≡ map plt_span (filter is_plt gs)
+plts_stay before fs gs f on t is = is ∙ ap (map plt_span) (sym (tables_same fs f t) ∙ sym (ap (filter is_plt) on))
 
 pub omitted_on : (before after : List Omitted) (line : Omitted) (fs gs : List Function) (f : Function) → gs ≡ fs ++ f ∷ [] → is_plt f ≡ false → after ≡ before ++ line ∷ [] → omitted_of (map entry_of (f ∷ [])) ≡ line ∷ [] → before ≡ omitted_of (map entry_of (others_in fs)) → after ≡ omitted_of (map entry_of (others_in gs))
 omitted_on before after line fs gs f on t e one is =

@@ -25,7 +25,7 @@ use Rattle.cfa_machine.specs.FirstFault.{define_fault, first_fault, initial_faul
 use Rattle.cfa_machine.specs.FullRow.{FullRow, no_row}
 use Rattle.sf_express.specs.Rules.{cfa_content, content_of, frame_pointer_content, is_minus_8, return_address_content, sign_state_check, stack_pointer_check}
 use Rattle.sf_asm.specs.Functions.{Function}
-use Rattle.sf_plt.specs.Plt.{content_before, content_unless, initial_content, is_plt}
+use Rattle.sf_plt.specs.Plt.{content_unless, initial_content, is_plt}
 use Rattle.sf_plt.specs.Written.{first_entry, later_entries, row_saying}
 use Rattle.sf_plt.proofs.Form.{plt_form}
 use Rattle.sf_plt.proofs.Recovers.{columns, other_cfa, said_before}
@@ -76,7 +76,7 @@ no_fault None said content e = refl
 no_fault (Some fault) said content e = cc
 
 row_unsigned : (f : Function) (content : Content) → f.arch ≡ Amd64 → initial_content f ≡ Some content → (initial_row f).signed ≡ false
-unfolding initial_content content_before
+unfolding initial_content
 row_unsigned f content arch e =
     let none = no_fault (first_fault f.arch f.factor f.initial []) _ content e in
     let on_amd64 : first_fault Amd64 f.factor f.initial [] ≡ None = ap (λ (a : Arch). first_fault a f.factor f.initial []) (sym arch) ∙ none in

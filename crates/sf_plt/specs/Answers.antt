@@ -1,4 +1,5 @@
--- What linking with procedure linkage tables answers, by the definitions of what it comes to.
+-- The section that linking with procedure linkage tables returns, or its fault (GNU SFrame specification, Version 2; DWARF 5, section
+-- 6.4).
 use Rattle.std.specs.Prelude.{◌≡◌, ◌⊎◌, ℕ, not, List, length, map, Option, None, Ok, Err}
 use Rattle.std.specs.Option.{option_map}
 use Rattle.std.specs.List.{filter}
@@ -25,8 +26,8 @@ use Rattle.sf_plt.specs.Linking.{LinksPlts, plt_link_fault}
 use Rattle.sf_plt.specs.Plt.{is_plt, plt_functions}
 use Rattle.sf_plt.specs.Written.{recovered_with_plts, walk_with_plts, written_functions}
 
--- At each address, with all registers and all memory, these functions recover what is recovered with procedure linkage tables, where what
--- can't be read has the same address.
+-- At each address, with all registers and all memory, these functions recover what is recovered with procedure linkage tables; also the
+-- address of a value that can't be read is the same.
 abbrev pub RecoversWithPlts : List Func → List Function → Type 0
 RecoversWithPlts written functions = (address : ℕ) (regs : Regs) (memory : List Region)
     → option_map defined (recover_by_rows written memory address regs) ≡ recovered_with_plts functions memory address regs
@@ -36,17 +37,18 @@ abbrev pub WalksWithPlts : List Func → List Function → Type 0
 WalksWithPlts written functions = (thread : ThreadState) (memory : List Region) (depth : ℕ)
     → section_walk written thread memory depth ≡ walk_with_plts functions thread memory depth
 
-abbrev pub span_of : Function → Span
-span_of f = record { start = f.start; size = f.size; origin = f.origin }
+-- the function's start, size and origin
+abbrev pub plt_span : Function → Span
+plt_span f = record { start = f.start; size = f.size; origin = f.origin }
 
--- those that are no procedure linkage tables
+-- the functions that are no procedure linkage tables
 abbrev pub others_in : List Function → List Function
 others_in functions = filter (λ (f : Function). not (is_plt f)) functions
 
--- These bytes are the section of inputs after an item of this machine or of none: the inputs describe functions, none of them is refused,
--- all items have one machine, the bytes are a section of what is written of the functions by rising start, without gaps and with the least
--- widths, which recovers what it should and is walked as it should be, this number of functions is kept, these are omitted, and these are
--- procedure linkage tables.
+-- These bytes are the section of inputs after an item of this machine, or of inputs alone. The inputs describe functions, nothing is
+-- refused, and all items have one machine. The bytes are a section of the functions that are written, by rising start, without gaps and
+-- with the least widths. It recovers what is recovered with procedure linkage tables, and it is walked alike. This number of functions
+-- is kept, these are omitted, and these are procedure linkage tables.
 pub record IsPltLinked (before : Option Arch) (objects : List Object) (at : ℕ) (section : List ℕ) (kept : ℕ) (omitted : List Omitted) (plts : List Span) : Type 0 where
   pub functions : List Function
   pub are : Describe (first_item before) objects (Ok functions)
@@ -62,8 +64,8 @@ pub record IsPltLinked (before : Option Arch) (objects : List Object) (at : ℕ)
   pub narrow : Narrow section (table_of arch (written_functions sorted))
   pub kept_is : kept ≡ length (kept_functions sorted)
   pub omitted_are : omitted ≡ omitted_of (map entry_of (others_in (omitted_functions sorted)))
-  pub plts_are : plts ≡ map span_of (plt_functions sorted)
+  pub plts_are : plts ≡ map plt_span (plt_functions sorted)
 
--- a fault is the first one, or memory ran out
+-- the fault is the first one, or memory ran out
 abbrev pub IsFirstPltLinked : (before : Option Arch) → List Object → (at : ℕ) → LinkFault → Type 0
 IsFirstPltLinked before objects at fault = (fault ≡ NoMemory) ⊎ LinksPlts before objects at (Err fault)

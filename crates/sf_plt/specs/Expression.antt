@@ -1,11 +1,12 @@
--- The expression for the canonical frame address in a plain lazy procedure linkage table of AMD64, and its value: operations on a stack
--- of numbers of 64 bits, which is empty at first (DWARF 5, sections 2.5.1 and 7.7.1). This is the one expression that has a value here.
-use Rattle.std.specs.Prelude.{◌+◌, ◌-◌, ◌*◌, ◌%◌, ◌^◌, ◌==◌, ◌&&◌, ℕ, ℤ, pos, negsuc, nat_le, nat_lt, bit_and, int_le, List, [], ◌∷◌, Option, Some, None, if◌then◌else◌}
+-- The expression for the canonical frame address in a plain lazy procedure linkage table of AMD64, and its value (DWARF 5, sections
+-- 2.5.1 and 7.7.1). Its operations work on a stack of numbers of 64 bits, which is empty at first. No other expression has a value
+-- here.
+use Rattle.std.specs.Prelude.{◌+◌, ◌-◌, ◌*◌, ◌%◌, ◌^◌, ◌==◌, ◌&&◌, ℕ, ℤ, pos, negsuc, nat_le, nat_lt, bit_and, int_le, slice_get, List, [], ◌∷◌, Option, Some, None, if◌then◌else◌}
 use Rattle.std.specs.Option.{option_and_then}
 use Rattle.sf_model.specs.Recovery.{moved}
 
--- DW_OP_breg7 8, DW_OP_breg16 0, DW_OP_lit15, DW_OP_and, DW_OP_lit11, DW_OP_ge, DW_OP_lit3, DW_OP_shl, DW_OP_plus: the stack pointer
--- plus 8, and 8 more where the program counter's last four bits are 11 or more
+-- The expression: DW_OP_breg7 8, DW_OP_breg16 0, DW_OP_lit15, DW_OP_and, DW_OP_lit11, DW_OP_ge, DW_OP_lit3, DW_OP_shl, DW_OP_plus.
+-- It is the stack pointer plus 8, and 8 more if the program counter's last four bits are 11 or more.
 abbrev pub plt_expression : List ℕ
 plt_expression = 0x77 ∷ 0x08 ∷ 0x80 ∷ 0x00 ∷ 0x3f ∷ 0x1a ∷ 0x3b ∷ 0x2a ∷ 0x33 ∷ 0x24 ∷ 0x22 ∷ []
 
@@ -32,8 +33,8 @@ done_alone operation stack =
     if operation == 0x2a then on_two (λ a b. if int_le (as_signed b) (as_signed a) then 1 else 0) stack else
     if nat_le 0x30 operation && nat_le operation 0x4f then Some ((operation - 0x30) ∷ stack) else None
 
--- The stack after the operations of these bytes. DW_OP_breg7 and DW_OP_breg16 push what the stack pointer and the program counter are
--- (System V AMD64 psABI, "DWARF Register Number Mapping": registers 7 and RA), plus an operand.
+-- The stack after the operations of these bytes. DW_OP_breg7 and DW_OP_breg16 push the stack pointer and the program counter plus an
+-- operand (System V AMD64 psABI, "DWARF Register Number Mapping": registers 7 and RA).
 abbrev pub stack_after : (stack_pointer program_counter : ℕ) → List ℕ → (bytes : List ℕ) → Option (List ℕ)
 stack_after stack_pointer program_counter stack [] = Some stack
 stack_after stack_pointer program_counter stack (operation ∷ []) = done_alone operation stack
@@ -42,11 +43,6 @@ stack_after stack_pointer program_counter stack (operation ∷ n ∷ bytes) =
     if operation == 0x80 then stack_after stack_pointer program_counter (moved program_counter (one_byte n) ∷ stack) bytes else
     option_and_then (λ (next : List ℕ). stack_after stack_pointer program_counter next (n ∷ bytes)) (done_alone operation stack)
 
--- the topmost number
-abbrev pub top : List ℕ → Option ℕ
-top [] = None
-top (n ∷ stack) = Some n
-
--- the value of the expression
+-- the value of the expression: the topmost number after its operations
 unfoldable pub expression_value : (stack_pointer program_counter : ℕ) → Option ℕ
-expression_value stack_pointer program_counter = option_and_then top (stack_after stack_pointer program_counter [] plt_expression)
+expression_value stack_pointer program_counter = option_and_then (λ (stack : List ℕ). slice_get stack 0) (stack_after stack_pointer program_counter [] plt_expression)

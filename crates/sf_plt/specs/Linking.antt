@@ -1,4 +1,5 @@
--- What linking comes to where procedure linkage tables are written: the functions in order, or the first fault.
+-- The result of linking if procedure linkage tables are written: the functions in order, or the first fault (GNU SFrame specification,
+-- Version 2).
 use Rattle.std.specs.Prelude.{◌≡◌, ◌+◌, ◌*◌, ◌^◌, ℕ, nat_lt, List, length, map, sum_by, Option, Some, None, Result, Ok, Err, if◌then◌else◌}
 use Rattle.std.specs.Option.{option_map}
 use Rattle.sf_model.specs.declared.machine.Arch.{Arch}
@@ -17,34 +18,36 @@ use Rattle.sf_plt.specs.Plt.{plt_functions}
 use Rattle.sf_plt.specs.Written.{written_functions}
 pub use Rattle.sf_model.specs.Firsts.{unless_fault}
 
--- the most functions and rows, where each procedure linkage table counts as one function more and as 4 rows
+-- the fault of too many functions, or else of too many rows; each procedure linkage table counts as one more function and as 4 rows
 abbrev pub further_fault : (most_functions most_rows functions rows plts : ℕ) → Option GatherFault
 further_fault most_functions most_rows functions rows plts =
     if nat_lt most_functions (functions + plts) then Some TooManyFunctions else
     if nat_lt most_rows (rows + 4 * plts) then Some TooManyRows else None
 
--- at most 2^21 functions, omitted ones included, and 2^24 rows
+-- the fault of more than 2^21 functions, omitted ones included, or else of more than 2^24 rows
 unfoldable pub plts_fault : List Function → Option GatherFault
 plts_fault sorted = further_fault (2 ^ 21) (2 ^ 24) (length sorted) (sum_by entry_rows (map entry_of sorted)) (length (plt_functions sorted))
 
--- of functions by rising start: what is tried in all links; then the same limits with procedure linkage tables; then a function that is
--- written out of reach
+-- the first fault of functions by rising start: the faults of all links; then the limits with procedure linkage tables; then a function
+-- that is written out of reach
 abbrev pub plt_link_fault : (at : ℕ) → List Function → Option LinkFault
 plt_link_fault at sorted =
     or_later (option_map Gather (or_later (functions_fault (map entry_of sorted)) (plts_fault sorted)))
     (option_map OutOfReach (first_out_of_reach at 0 (written_functions sorted)))
 
+-- linking the functions that the inputs describe, or their fault, for this address has this result
 abbrev pub LinksPltsFrom : (at : ℕ) → Result (List Function) GatherFault → Result (List Function) LinkFault → Type 0
 LinksPltsFrom at (Ok functions) result = (sorted : List Function) × AreByStart functions sorted × (result ≡ unless_fault (plt_link_fault at sorted) sorted)
 LinksPltsFrom at (Err fault) result = result ≡ Err (Gather fault)
 
--- linking inputs, after an item of this machine or of none, for this address comes to this
+-- linking inputs after an item of this machine, or inputs alone, for this address has this result
 pub record LinksPlts (before : Option Arch) (objects : List Object) (at : ℕ) (result : Result (List Function) LinkFault) : Type 0 where
   pub given : Result (List Function) GatherFault
   pub described : DescribeTogether before objects given
   pub comes : LinksPltsFrom at given result
 
--- a fault of gathering, where out of memory stands alone
+-- ---- Inside the crate
+-- a fault of gathering as one of linking, in which out of memory has a fault of its own
 abbrev pub wraps_gathering : GatherFault → LinkFault
 wraps_gathering GatherNoMemory = NoMemory
 wraps_gathering fault = Gather fault

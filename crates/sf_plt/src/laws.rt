@@ -20,7 +20,7 @@ pub fn tables_recover_alike()
     ensures { (f : Function) (address : ℕ) (regs : registers) (memory : List Region) → is_plt f ≡ true → holds_address address f ≡ true → option_map defined (recover_by_rows (plt_pair f) memory address regs) ≡ Some (recovered_in_plt memory address regs f) }
 {}
 
-/// Linking inputs with procedure linkage tables comes to one result: the functions in order, or the first fault.
+/// Linking inputs with procedure linkage tables has at most one result: the functions in order, or the first fault.
 pub fn linking_tables_comes_to_one_result()
     ensures { (before : Option machine) (objects : List Object) (at : ℕ) (one other : Result (List Function) link_fault) → LinksPlts before objects at one → LinksPlts before objects at other → one ≡ other }
 {}

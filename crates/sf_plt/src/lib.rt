@@ -1,16 +1,18 @@
 //! From inputs to one SFrame section that also has plain lazy procedure linkage tables.
 //!
 //! [`link_plt`] links 1 to 512 inputs as `sf_link::link` does, and also writes each function that is a plain lazy
-//! procedure linkage table of AMD64 (`is_plt` of `specs/Plt.antt`), whose canonical frame address an expression
-//! gives from its second entry on. Such a function becomes two: a plain one of its first 16 bytes, and one of
-//! repeated blocks of 16 bytes from there to its end (`specs/Written.antt`). The expression's value is that of a
-//! stack machine over its eleven bytes (`specs/Expression.antt`); every other expression stays omitted.
+//! procedure linkage table of AMD64 (`is_plt` of `specs/Plt.antt`). From the second entry of such a function on,
+//! its canonical frame address is the value of an expression. The function becomes two: a plain one of its first
+//! 16 bytes, and one of repeated blocks of 16 bytes from there to its end (`specs/Written.antt`). The expression's
+//! value is that of a stack machine over its eleven bytes (`specs/Expression.antt`). A function with another
+//! expression is omitted.
 //!
-//! [`tables_recover_alike`] is a law: at each address of such a function the two recover what its rules and the
-//! expression recover, for all registers and memory. [`linking_tables_comes_to_one_result`] is one too.
+//! Laws: at each address of a procedure linkage table the two functions recover what its rules and the expression
+//! recover, for all registers and memory ([`tables_recover_alike`]); and linking has at most one result
+//! ([`linking_tables_comes_to_one_result`]).
 //!
-//! The caller owes that there are 1 to 512 inputs, each of fewer than 2^32 bytes. Memory is taken for the
-//! functions and the section; no input is copied.
+//! The caller owes 1 to 512 inputs, each of fewer than 2^32 bytes. The functions and the section are allocated; no
+//! input is copied.
 #![tactic(auto)]
 
 mod laws;

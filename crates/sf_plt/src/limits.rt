@@ -15,7 +15,7 @@ pub struct Limits {
     pub rows: usize,
 }
 
-/// How many functions, rows of those that are kept, and procedure linkage tables there are.
+/// The numbers of functions, of rows of those that are kept, and of procedure linkage tables.
 #[derive(Clone, Copy)]
 pub struct Counts {
     pub functions: usize,
@@ -23,10 +23,10 @@ pub struct Counts {
     pub tables: usize,
 }
 
-/// The rows that a procedure linkage table adds.
+/// The number of rows that a procedure linkage table adds.
 const TABLE_ROWS: usize = 4;
 
-/// Tries the limits, where each table counts as one function more and as 4 rows: functions first, then rows.
+/// Checks the limits: functions first, then rows. Each table counts as one more function and as 4 rows.
 pub fn check_tables(limits: Limits, counts: Counts) -> Result<(), GatherFault>
     requires { (counts.functions ≤ 2 ^ 32) × (counts.rows ≤ 2 ^ 32) × (counts.tables ≤ 2 ^ 32) }
     ensures { result ≡ unless (further_fault limits.functions limits.rows counts.functions counts.rows counts.tables) }
@@ -40,7 +40,7 @@ pub fn check_tables(limits: Limits, counts: Counts) -> Result<(), GatherFault>
     Ok(())
 }
 
-/// The number of all rows.
+/// Counts the rows of the functions.
 pub fn count_rows(functions: &[Func]) -> usize
     requires { row_count functions.now ≤ 2 ^ 24 }
     ensures { result ≡ row_count functions.now }

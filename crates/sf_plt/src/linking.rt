@@ -29,15 +29,15 @@ const LIMITS: Limits = Limits {
 pub struct PltLinked {
     /// The section's bytes.
     pub section: Vec<u8>,
-    /// How many functions are kept as they are.
+    /// The number of functions that are kept as they are.
     pub kept: u32,
     /// The functions that are omitted, by start and then origin.
     pub omitted: Vec<Omitted>,
-    /// The procedure linkage tables, by start and then origin: each is two functions of the section.
+    /// The procedure linkage tables, by start and then origin. Each is two functions of the section.
     pub plts: Vec<Span>,
 }
 
-/// A fault of gathering, where out of memory stands alone.
+/// Converts a fault of gathering to one of linking. Out of memory has a fault of its own.
 fn not_gathered(fault: GatherFault) -> LinkFault
     ensures { result ≡ wraps_gathering fault }
 {
@@ -47,7 +47,7 @@ fn not_gathered(fault: GatherFault) -> LinkFault
     }
 }
 
-/// Brings functions into order by their starts.
+/// Sorts functions by their starts.
 fn order(functions: &mut Vec<Func>) -> Result<(), NoMemory>
     ensures rising { OnOk result (IsNonDecreasingBy func_start functions.new.items) }
     ensures stable { OnOk result (IsStableByKey func_start nat_cmp functions.old.items functions.new.items) }
@@ -58,14 +58,14 @@ fn order(functions: &mut Vec<Func>) -> Result<(), NoMemory>
 }
 
 /// Makes the SFrame section of 1 to 512 inputs, for the address `at`, as `sf_link::link` does, with two functions
-/// for each plain lazy procedure linkage table. `before` is the machine of an item that stands before the inputs;
-/// they are numbered from 1 on then, and else from 0 on.
+/// for each plain lazy procedure linkage table. `before` is the machine of an item before the inputs. If there is
+/// one, the inputs are numbered from 1 on, and otherwise from 0 on.
 ///
 /// # Errors
 ///
 /// The first fault of the first faulty input; then two machines, the limits of functions and rows, two functions
-/// that share an address, the limits with each table as one function more and as 4 rows, and a function that is
-/// written too far from the section, in this order; out of memory at any time.
+/// that share an address, the limits with each table as one more function and as 4 rows, and a function that is
+/// written too far from the section, in this order; memory may run out at any time.
 pub fn link_plt(
     alloc: Global,
     inputs: &[Input<'_>],

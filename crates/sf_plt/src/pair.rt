@@ -9,11 +9,11 @@ use sf_base::NoMemory;
 use sf_model::{Content, Func, Row, Rows, Shape};
 use std::alloc::Global;
 
-/// The bytes of an entry.
+/// The number of bytes of an entry.
 const ENTRY_LEN: u8 = 16;
 
-/// Two rows that say what the content says, the canonical frame address `first` bytes from the stack pointer,
-/// and from the offset `next` on `second` bytes.
+/// Makes two rows of this content, at 0 and at the offset `next`. Their canonical frame addresses are `first` and
+/// `second` bytes from the stack pointer.
 fn two_rows(
     alloc: Global,
     content: Content,
@@ -41,7 +41,7 @@ fn two_rows(
     Ok(rows)
 }
 
-/// The function of the first entry, whose rows are those of a table with this content.
+/// Makes the function of the first entry of a table with this content.
 pub fn first_entry(alloc: Global, source: &Source<'_>, content: Content) -> Result<Func, NoMemory>
     ensures { IfOk result (λ func. func ≡ written.first_entry (source_function source.now) content) }
 {
@@ -54,7 +54,7 @@ pub fn first_entry(alloc: Global, source: &Source<'_>, content: Content) -> Resu
     })
 }
 
-/// The function of the entries after it, each a block of 16 bytes.
+/// Makes the function of the entries after the first one, each a block of 16 bytes.
 pub fn later_entries(alloc: Global, source: &Source<'_>, content: Content) -> Result<Func, NoMemory>
     requires { (16 < source.now.facts.size) × (source.now.facts.size < 2 ^ 32) }
     ensures { IfOk result (λ func. func ≡ written.later_entries (source_function source.now) content) }

@@ -1,4 +1,4 @@
-//! Omitted functions sorted out: procedure linkage tables, and the others.
+//! The procedure linkage tables among omitted functions, and the others.
 
 ghost use Rattle.std.specs.Prelude.{◌≡◌, ◌++◌, ◌∷◌, [], All, Some, true, map, IfOk, OnOk};
 ghost use Rattle.std.specs.List.{filter, flat_map};
@@ -6,7 +6,7 @@ ghost use Rattle.sf_model.specs.Function.{IsWritable};
 ghost use Rattle.sf_asm.specs.Entry.{omitted_of};
 ghost use Rattle.sf_asm.specs.Kept.{entry_of};
 ghost use Rattle.sf_asm.specs.Sources.{source_function};
-ghost use Rattle.sf_plt.specs.Answers.{others_in, span_of};
+ghost use Rattle.sf_plt.specs.Answers.{others_in, plt_span};
 ghost use Rattle.sf_plt.specs.Plt.{initial_content, is_plt};
 ghost use Rattle.sf_plt.specs.Sorting.{AreOmitted};
 ghost use Rattle.sf_plt.specs.Written.{plt_pair};
@@ -18,7 +18,7 @@ use sf_base::NoMemory;
 use sf_model::{Arch, Content, Func, Omitted, Span};
 use std::alloc::Global;
 
-/// Functions that are written, and omitted functions sorted out.
+/// Functions that are written, and omitted functions: procedure linkage tables, and the others.
 #[derive(Drop)]
 pub struct Sorted {
     /// The functions that are written.
@@ -43,7 +43,7 @@ impl Sorted {
         requires machine { source.now.arch ≡ arch }
         requires sound { All (IsWritable arch) self.old.written.items }
         ensures written { OnOk result (self.new.written.items ≡ self.old.written.items ++ plt_pair (source_function source.now)) }
-        ensures plts { OnOk result (self.new.plts.items ≡ self.old.plts.items ++ span_of (source_function source.now) ∷ []) }
+        ensures plts { OnOk result (self.new.plts.items ≡ self.old.plts.items ++ plt_span (source_function source.now) ∷ []) }
         ensures omitted { OnOk result (self.new.omitted ≡ self.old.omitted) }
         ensures sound { OnOk result (All (IsWritable arch) self.new.written.items) }
     {
@@ -59,8 +59,8 @@ impl Sorted {
     }
 }
 
-/// Adds the omitted functions, of which these are the sources, to those that are written: two functions of each
-/// procedure linkage table.
+/// Adds two functions for each procedure linkage table among the omitted functions to those that are written. These
+/// are the sources of the omitted functions.
 pub fn sort_out(
     alloc: Global,
     arch: Arch,
@@ -73,7 +73,7 @@ pub fn sort_out(
     requires machine { All (λ f. f.arch ≡ arch) sources.now.functions }
     requires sound { All (IsWritable arch) kept.items }
     ensures written { IfOk result (λ sorted. sorted.written.items ≡ kept.items ++ flat_map plt_pair (filter is_plt sources.now.functions)) }
-    ensures plts { IfOk result (λ sorted. sorted.plts.items ≡ map span_of (filter is_plt sources.now.functions)) }
+    ensures plts { IfOk result (λ sorted. sorted.plts.items ≡ map plt_span (filter is_plt sources.now.functions)) }
     ensures omitted { IfOk result (λ sorted. sorted.omitted.items ≡ omitted_of (map entry_of (others_in sources.now.functions))) }
     ensures sound { IfOk result (λ sorted. All (IsWritable arch) sorted.written.items) }
 {

@@ -1,4 +1,4 @@
-//! Which functions are plain lazy procedure linkage tables.
+//! The check that a function is a plain lazy procedure linkage table.
 
 ghost use Rattle.std.specs.Prelude.{◌≡◌, ◌==◌, ◌%◌, ◌&&◌, nat_lt, is_none, None, if◌then◌else◌};
 ghost use Rattle.sf_express.specs.Expressed.{reason_of};
@@ -11,24 +11,24 @@ use sf_asm::Source;
 use sf_express::content_at;
 use sf_model::{Arch, Base, Content};
 
-/// The bytes of an entry.
+/// The number of bytes of an entry.
 const ENTRY_LEN: u64 = 16;
 
 /// The column of the return address on AMD64.
 const RETURN_COLUMN: u64 = 16;
 
-/// A function's size is below this.
+/// The limit of a function's size: the first number that is too large.
 const SIZE_LIMIT: u64 = 1 << 32;
 
-/// What SFrame says of the row before a function's own instructions, if it can.
+/// Returns the content of the row before a function's own instructions, if SFrame can express it.
 fn initial_content(source: &Source<'_>) -> Option<Content>
     ensures { result ≡ plt.initial_content (source_function source.now) }
 {
     content_at(source.arch, &source.row).ok()
 }
 
-/// Whether the function is of AMD64, has no reason against it as a whole, begins at a multiple of 16, has more
-/// than 16 bytes, and advances by bytes.
+/// Returns whether a function is of AMD64, has no reason against it as a whole, begins at a multiple of 16, has
+/// more than 16 bytes, and advances by bytes.
 fn has_form(source: &Source<'_>) -> bool
     ensures { let f = source_function source.now in result ≡ (plt.is_amd64 f.arch && is_none (reason_of f.arch (facts_of f)) && (f.start % 16 == 0) && nat_lt 16 f.size && (f.code == 1)) }
 {
@@ -46,8 +46,8 @@ fn has_form(source: &Source<'_>) -> bool
     }
 }
 
-/// What SFrame says of the row before the own instructions of a plain lazy procedure linkage table. None of any
-/// other function.
+/// Returns the content of the row before a function's own instructions, if the function is a plain lazy procedure
+/// linkage table.
 pub fn table_content(source: &Source<'_>) -> Option<Content>
     ensures { result ≡ (if plt.is_plt (source_function source.now) then plt.initial_content (source_function source.now) else None) }
 {

@@ -28,7 +28,7 @@ use Rattle.sf_asm.specs.Linking.{InOrder}
 use Rattle.sf_asm.specs.Sources.{AreByStart}
 use Rattle.sf_asm.proofs.Described.{described}
 use Rattle.sf_asm.proofs.OneOrder.{one_order, one_result}
-use Rattle.sf_plt.specs.Answers.{IsPltLinked, others_in, span_of}
+use Rattle.sf_plt.specs.Answers.{IsPltLinked, others_in, plt_span}
 use Rattle.sf_plt.specs.Plt.{plt_functions}
 use Rattle.sf_plt.specs.Written.{written_functions}
 use Rattle.sf_plt.proofs.Faults.{one_sorted, one_result as one_plt_result}
@@ -215,7 +215,7 @@ one_plt_linked objects at s t j k m n u v some x y p q =
       tight_one s t at (table_of q.arch (written_functions q.sorted)) x y (subst (Tight s at) table p.tight) q.tight (subst (Narrow s) table p.narrow) q.narrow,
       p.kept_is ∙ ap (λ (fs : List Function). length (kept_functions fs)) sorted ∙ sym q.kept_is,
       p.omitted_are ∙ ap (λ (fs : List Function). omitted_of (map entry_of (others_in (omitted_functions fs)))) sorted ∙ sym q.omitted_are,
-      p.plts_are ∙ ap (λ (fs : List Function). map span_of (plt_functions fs)) sorted ∙ sym q.plts_are,
+      p.plts_are ∙ ap (λ (fs : List Function). map plt_span (plt_functions fs)) sorted ∙ sym q.plts_are,
     )
 
 one_plt_made : (objects : List Object) (at : ℕ) (c d : Coming) → 0 < length objects → MakesPltLinked objects at c → MakesPltLinked objects at d → c ≡ d

@@ -7,7 +7,7 @@ use Rattle.sf_asm.specs.Entry.{omitted_of}
 use Rattle.sf_asm.specs.Functions.{Function, object_of}
 use Rattle.sf_asm.specs.Kept.{entry_of}
 use Rattle.sf_asm.proofs.FaithfulSections.{reach_refused}
-use Rattle.sf_plt.specs.Answers.{IsFirstPltLinked, others_in, span_of}
+use Rattle.sf_plt.specs.Answers.{IsFirstPltLinked, others_in, plt_span}
 use Rattle.sf_plt.specs.Plt.{is_plt}
 use Rattle.sf_plt.specs.Sorting.{AreOmitted}
 use Rattle.sf_plt.specs.Written.{plt_pair, written_functions}
@@ -52,7 +52,7 @@ functions c =
 rows : (c : After-len-tables) → c.count_rows-rows.result ≡ row_count c.in-Ok.gathered.kept.items
 rows c = c.count_rows-rows.ensures ∙ ap row_count c.deref.ensures.value
 
-plts : (c : After-len-tables) → c.in-Ok-sort_out.sorted.plts.items ≡ map span_of (filter is_plt (lent c))
+plts : (c : After-len-tables) → c.in-Ok-sort_out.sorted.plts.items ≡ map plt_span (filter is_plt (lent c))
 plts c = c.in-Ok-sort_out.ensures.plts
 
 tables : (c : After-len-tables) → c.len-tables.result ≡ length (filter is_plt (lent c))

@@ -6,7 +6,7 @@ use Rattle.sf_asm.specs.Functions.{Function}
 use Rattle.sf_asm.specs.Kept.{entry_of}
 use Rattle.sf_asm.specs.Sources.{source_function}
 use Rattle.sf_plt.specs.declared.sorting.Sorted.{Sorted}
-use Rattle.sf_plt.specs.Answers.{others_in, span_of}
+use Rattle.sf_plt.specs.Answers.{others_in, plt_span}
 use Rattle.sf_plt.specs.Plt.{is_plt}
 use Rattle.sf_plt.specs.Written.{plt_pair}
 use Rattle.sf_plt.proofs.Sorted.{lent_arch, lent_omitted, lent_step, none_chosen, omitted_count, omitted_on, omitted_stay, past, plts_on, plts_stay, table_chosen, within, written_on, written_stays}
@@ -67,7 +67,7 @@ returns-clause-written c =
 pub returns-clause-plts : goal.returns-clause-plts
 returns-clause-plts c =
     let all = past c.args.sources.now.functions c.args.omitted.now c.loop-number.number c.requires.left c.requires.omitted c.loop-number-test.false in
-    c.loop-number.invariant.plts ∙ ap (λ (fs : List Function). map span_of (filter is_plt fs)) all
+    c.loop-number.invariant.plts ∙ ap (λ (fs : List Function). map plt_span (filter is_plt fs)) all
 
 pub returns-clause-omitted : goal.returns-clause-omitted
 returns-clause-omitted c =

@@ -3,7 +3,7 @@ use Rattle.std.specs.List.{filter, flat_map}
 use Rattle.sf_model.specs.Function.{IsWritable}
 use Rattle.sf_asm.specs.Entry.{omitted_of}
 use Rattle.sf_asm.specs.Kept.{entry_of}
-use Rattle.sf_plt.specs.Answers.{others_in, span_of}
+use Rattle.sf_plt.specs.Answers.{others_in, plt_span}
 use Rattle.sf_plt.specs.Plt.{is_plt}
 use Rattle.sf_plt.specs.Written.{plt_pair}
 use Rattle.sf_plt.proofs.sorting.sort_out.Given as goal
@@ -11,7 +11,7 @@ use Rattle.sf_plt.proofs.sorting.sort_out.Given as goal
 abbrev pub invariant-loop-number : goal.invariant-loop-number
 invariant-loop-number l = record {
   written : l.sorted.written.items ≡ l.fn.kept.items ++ flat_map plt_pair (filter is_plt (take l.number l.sources.functions));
-  plts : l.sorted.plts.items ≡ map span_of (filter is_plt (take l.number l.sources.functions));
+  plts : l.sorted.plts.items ≡ map plt_span (filter is_plt (take l.number l.sources.functions));
   omitted : l.sorted.omitted.items ≡ omitted_of (map entry_of (others_in (take l.number l.sources.functions)));
   sound : All (IsWritable l.arch) l.sorted.written.items;
 }

@@ -4,7 +4,7 @@ use Rattle.cfa_insn.specs.Listing.{listing}
 use Rattle.cfa_insn.specs.Remaining.{items_left}
 use Rattle.sf_plt.specs.Plt.{without_nops}
 use Rattle.sf_plt.specs.Text.{follows}
-use Rattle.sf_plt.proofs.text.is_plt_text.Given as goal
+use Rattle.sf_plt.proofs.text.follows.Given as goal
 
 abbrev pub invariant-loop-item : goal.invariant-loop-item
 invariant-loop-item l = record {
