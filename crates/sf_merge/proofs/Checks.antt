@@ -14,7 +14,7 @@ use Rattle.sf_decode.specs.View.{table_of}
 use Rattle.sf_merge.specs.declared.fault.MergeFault.{MergeFault}
 use Rattle.sf_merge.specs.declared.fault.MergeFault.TheVariants as merge
 use Rattle.sf_merge.specs.declared.located.Located.{Located}
-use Rattle.sf_merge.specs.Merging.{same_arch, is_other, mixed_with_first, mixed_fault, functions_in_all, rows_in_all, limits_fault, overlap, overlap_fault}
+use Rattle.sf_merge.specs.Merging.{same_arch, is_other, mixed_with_first, other_machine_fault, functions_in_all, rows_in_all, limits_fault_in_all, functions_overlap, shared_address_fault}
 
 -- the tables of the sections from a number on
 pub tables_more : (views : List View) (i : ℕ) (v : View) → i < length views → v ≡ get_or views i v → map table_of (drop i views) ≡ table_of v ∷ map table_of (drop (i + 1) views)
@@ -29,7 +29,7 @@ tables_so_far views i v lt is =
 abbrev pub mixed_from : Arch → (item : ℕ) → List Table → Option MergeFault
 mixed_from arch item tables = option_map mixed_with_first (find (is_other arch) (enumerate_from item tables))
 
-pub mixed_begins : (views : List View) (d : View) → 0 < length views → mixed_fault (map table_of views) ≡ mixed_from (table_of (get_or views 0 d)).arch 0 (map table_of views)
+pub mixed_begins : (views : List View) (d : View) → 0 < length views → other_machine_fault (map table_of views) ≡ mixed_from (table_of (get_or views 0 d)).arch 0 (map table_of views)
 mixed_begins [] d lt = absurd (omega (lt, arith))
 mixed_begins (v ∷ views) d lt = refl
 
@@ -49,30 +49,30 @@ one_machine Aarch64 Aarch64 e = refl
 abbrev by_tests : (functions rows : Bool) → Option MergeFault
 by_tests functions rows = cond functions (Some merge.TooManyFunctions) (cond rows (Some merge.TooManyRows) None)
 
-tested : (tables : List Table) (functions rows : Bool) → nat_lt (2 ^ 21) (functions_in_all tables) ≡ functions → nat_lt (2 ^ 24) (rows_in_all tables) ≡ rows → limits_fault tables ≡ by_tests functions rows
+tested : (tables : List Table) (functions rows : Bool) → nat_lt (2 ^ 21) (functions_in_all tables) ≡ functions → nat_lt (2 ^ 24) (rows_in_all tables) ≡ rows → limits_fault_in_all tables ≡ by_tests functions rows
 tested tables functions rows p q = rw (p, q) refl
 
-pub too_many_functions : (tables : List Table) → 2 ^ 21 < functions_in_all tables → limits_fault tables ≡ Some merge.TooManyFunctions
+pub too_many_functions : (tables : List Table) → 2 ^ 21 < functions_in_all tables → limits_fault_in_all tables ≡ Some merge.TooManyFunctions
 too_many_functions tables many = tested tables true (nat_lt (2 ^ 24) (rows_in_all tables)) (lt-ltb (2 ^ 21) (functions_in_all tables) many) refl
 
-pub too_many_rows : (tables : List Table) → functions_in_all tables ≤ 2 ^ 21 → 2 ^ 24 < rows_in_all tables → limits_fault tables ≡ Some merge.TooManyRows
+pub too_many_rows : (tables : List Table) → functions_in_all tables ≤ 2 ^ 21 → 2 ^ 24 < rows_in_all tables → limits_fault_in_all tables ≡ Some merge.TooManyRows
 too_many_rows tables few many = tested tables false true (le-ltb (2 ^ 21) (functions_in_all tables) few) (lt-ltb (2 ^ 24) (rows_in_all tables) many)
 
-pub within_limits : (tables : List Table) → functions_in_all tables ≤ 2 ^ 21 → rows_in_all tables ≤ 2 ^ 24 → limits_fault tables ≡ None
+pub within_limits : (tables : List Table) → functions_in_all tables ≤ 2 ^ 21 → rows_in_all tables ≤ 2 ^ 24 → limits_fault_in_all tables ≡ None
 within_limits tables few small = tested tables false false (le-ltb (2 ^ 21) (functions_in_all tables) few) (le-ltb (2 ^ 24) (rows_in_all tables) small)
 
-functions_within : (tables : List Table) (b : Bool) → nat_lt (2 ^ 21) (functions_in_all tables) ≡ b → limits_fault tables ≡ None → b ≡ false
+functions_within : (tables : List Table) (b : Bool) → nat_lt (2 ^ 21) (functions_in_all tables) ≡ b → limits_fault_in_all tables ≡ None → b ≡ false
 functions_within tables false p h = refl
 functions_within tables true p h = let is = sym (tested tables true (nat_lt (2 ^ 24) (rows_in_all tables)) p refl) ∙ h in cc
 
-rows_within : (tables : List Table) (b : Bool) → nat_lt (2 ^ 24) (rows_in_all tables) ≡ b → limits_fault tables ≡ None → b ≡ false
+rows_within : (tables : List Table) (b : Bool) → nat_lt (2 ^ 24) (rows_in_all tables) ≡ b → limits_fault_in_all tables ≡ None → b ≡ false
 rows_within tables false p h = refl
 rows_within tables true p h = let is = sym (tested tables false true (functions_within tables (nat_lt (2 ^ 21) (functions_in_all tables)) refl h) p) ∙ h in cc
 
-pub few_functions : (tables : List Table) → limits_fault tables ≡ None → functions_in_all tables ≤ 2 ^ 21
+pub few_functions : (tables : List Table) → limits_fault_in_all tables ≡ None → functions_in_all tables ≤ 2 ^ 21
 few_functions tables h = ltb-false (2 ^ 21) (functions_in_all tables) (functions_within tables (nat_lt (2 ^ 21) (functions_in_all tables)) refl h)
 
-pub few_rows : (tables : List Table) → limits_fault tables ≡ None → rows_in_all tables ≤ 2 ^ 24
+pub few_rows : (tables : List Table) → limits_fault_in_all tables ≡ None → rows_in_all tables ≤ 2 ^ 24
 few_rows tables h = ltb-false (2 ^ 24) (rows_in_all tables) (rows_within tables (nat_lt (2 ^ 24) (rows_in_all tables)) refl h)
 
 -- the sums so far
@@ -93,14 +93,14 @@ pub no_tables_left : (views : List View) (i : ℕ) → length views ≤ i → ma
 no_tables_left views i le = ap (map table_of) (drop_all i views le)
 
 -- ---- overlaps
-pub overlap_goes_on : (before l : Located) (later : List Located) → overlap (before, l) ≡ false → overlap_fault (before ∷ l ∷ later) ≡ overlap_fault (l ∷ later)
-unfolding overlap_fault
+pub overlap_goes_on : (before l : Located) (later : List Located) → functions_overlap (before, l) ≡ false → shared_address_fault (before ∷ l ∷ later) ≡ shared_address_fault (l ∷ later)
+unfolding shared_address_fault
 overlap_goes_on before l later e = rw e refl
 
-pub one_alone : (l : Located) → overlap_fault (l ∷ []) ≡ None
-unfolding overlap_fault
+pub one_alone : (l : Located) → shared_address_fault (l ∷ []) ≡ None
+unfolding shared_address_fault
 one_alone l = refl
 
-pub none_at_all : overlap_fault [] ≡ None
-unfolding overlap_fault
+pub none_at_all : shared_address_fault [] ≡ None
+unfolding shared_address_fault
 none_at_all = refl

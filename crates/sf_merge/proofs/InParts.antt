@@ -17,7 +17,7 @@ use Rattle.sf_model.proofs.TightOne.{tight_one}
 use Rattle.sf_write.specs.Section.{table_of}
 use Rattle.sf_merge.specs.Answers.{IsMerged}
 use Rattle.sf_merge.specs.Joining.{RisesStrictly}
-use Rattle.sf_merge.specs.Parts.{AreMerged, AreMergedInParts, Part, SomeAreMerged, tables_of}
+use Rattle.sf_merge.specs.Parts.{AreMerged, AreMergedInParts, Part, SomeAreMerged, part_tables}
 use Rattle.sf_merge.proofs.OneRising.{one_rising}
 use Rattle.sf_merge.proofs.Permutations.{filter_permuted, flat_map_permuted}
 
@@ -72,10 +72,10 @@ of_merged tables whole count rows h = record {
 -- ---- one step
 module _ (sections next : List Part) (step : SomeAreMerged sections next) where
   abbrev pub some : List Table
-  some = tables_of step.some
+  some = part_tables step.some
 
   abbrev pub others : List Table
-  others = tables_of step.others
+  others = part_tables step.others
 
   abbrev pub merged : IsMerged some step.whole.at step.whole.bytes step.merged.count step.merged.rows
   merged = step.merged.is
@@ -83,41 +83,41 @@ module _ (sections next : List Part) (step : SomeAreMerged sections next) where
   pub said : step.whole.table ≡ table_of merged.arch merged.functions
   said = table_same step.whole.bytes step.whole.at step.whole.table (table_of merged.arch merged.functions) step.whole.says merged.tight.section
 
-  pub next_tables : tables_of next ≡ step.whole.table ∷ others
-  next_tables = ap tables_of step.left
+  pub next_tables : part_tables next ≡ step.whole.table ∷ others
+  next_tables = ap part_tables step.left
 
-  pub chosen : IsPermutation (tables_of sections) (some ++ others)
+  pub chosen : IsPermutation (part_tables sections) (some ++ others)
   chosen =
-      subst (IsPermutation (tables_of sections)) (map-append (λ (part : Part). part.table) step.some step.others)
+      subst (IsPermutation (part_tables sections)) (map-append (λ (part : Part). part.table) step.some step.others)
       (IsPermutation-map (λ (part : Part). part.table) sections (step.some ++ step.others) step.chosen)
 
   -- the functions of use are the same
-  pub used_stay : IsPermutation (used (tables_of sections)) (used (tables_of next))
+  pub used_stay : IsPermutation (used (part_tables sections)) (used (part_tables next))
   used_stay =
-      let before : IsPermutation (used (tables_of sections)) (used some ++ used others) =
-      subst (IsPermutation (used (tables_of sections))) (used_append some others) (used_permuted (tables_of sections) (some ++ others) chosen) in
+      let before : IsPermutation (used (part_tables sections)) (used some ++ used others) =
+      subst (IsPermutation (used (part_tables sections))) (used_append some others) (used_permuted (part_tables sections) (some ++ others) chosen) in
       let over : IsPermutation (used some ++ used others) (merged.functions ++ used others) =
       IsPermutation-append_left (used others) (used some) merged.functions merged.union.taken in
-      let whole : used (tables_of next) ≡ merged.functions ++ used others =
+      let whole : used (part_tables next) ≡ merged.functions ++ used others =
       ap used next_tables ∙ used_of_whole merged.functions some others step.whole.table merged.union.taken (ap (λ (t : Table). t.functions) said) in
-      subst (IsPermutation (used (tables_of sections))) (sym whole) (IsPermutation-trans (used (tables_of sections)) (used some ++ used others) (merged.functions ++ used others) before over)
+      subst (IsPermutation (used (part_tables sections))) (sym whole) (IsPermutation-trans (used (part_tables sections)) (used some ++ used others) (merged.functions ++ used others) before over)
 
   -- the machine is the same, where all that are there after the step have one
-  machines_before : (arch : Arch) → All (λ (table : Table). table.arch ≡ arch) (tables_of next) → All (λ (table : Table). table.arch ≡ arch) (tables_of sections)
+  machines_before : (arch : Arch) → All (λ (table : Table). table.arch ≡ arch) (part_tables next) → All (λ (table : Table). table.arch ≡ arch) (part_tables sections)
   machines_before arch machines =
       let Has : Table → Type 0 = λ (table : Table). table.arch ≡ arch in
       let after : All Has (step.whole.table ∷ others) = subst (All Has) next_tables machines in
       let machine : merged.arch ≡ arch = sym (ap (λ (t : Table). t.arch) said) ∙ All-head Has step.whole.table others after in
       let of_some : All Has some = All-weaker (λ (table : Table). table.arch ≡ merged.arch) Has (λ table e. e ∙ machine) some merged.union.one_machine in
-      All-permutation Has (some ++ others) (tables_of sections) (IsPermutation-sym (tables_of sections) (some ++ others) chosen)
+      All-permutation Has (some ++ others) (part_tables sections) (IsPermutation-sym (part_tables sections) (some ++ others) chosen)
       (All-append Has some others of_some (All-tail Has step.whole.table others after))
 
-  stepped : (last : Part) → IsOf (tables_of next) last → IsOf (tables_of sections) last
+  stepped : (last : Part) → IsOf (part_tables next) last → IsOf (part_tables sections) last
   stepped last later = record {
     arch = later.arch;
     functions = later.functions;
     machines = machines_before later.arch later.machines;
-    taken = IsPermutation-trans (used (tables_of sections)) (used (tables_of next)) later.functions used_stay later.taken;
+    taken = IsPermutation-trans (used (part_tables sections)) (used (part_tables next)) later.functions used_stay later.taken;
     rising = later.rising;
     tight = later.tight;
     narrow = later.narrow;
@@ -131,14 +131,14 @@ no_others whole last others e = cc
 same_whole : (whole last : Part) (others : List Part) → last ∷ [] ≡ whole ∷ others → whole ≡ last
 same_whole whole last others e = cc
 
-last_step : (sections : List Part) (last : Part) → SomeAreMerged sections (last ∷ []) → IsOf (tables_of sections) last
+last_step : (sections : List Part) (last : Part) → SomeAreMerged sections (last ∷ []) → IsOf (part_tables sections) last
 last_step sections last step =
     let whole : step.whole ≡ last = same_whole step.whole last step.others step.left in
-    let of_some : IsOf (tables_of step.some) step.whole = of_merged (tables_of step.some) step.whole step.merged.count step.merged.rows step.merged.is in
-    let of_last : IsOf (tables_of step.some) last = subst (IsOf (tables_of step.some)) whole of_some in
+    let of_some : IsOf (part_tables step.some) step.whole = of_merged (part_tables step.some) step.whole step.merged.count step.merged.rows step.merged.is in
+    let of_last : IsOf (part_tables step.some) last = subst (IsOf (part_tables step.some)) whole of_some in
     let chosen : IsPermutation sections (step.some ++ []) = subst (λ (os : List Part). IsPermutation sections (step.some ++ os)) (no_others step.whole last step.others step.left) step.chosen in
-    of_permuted (tables_of step.some) (tables_of sections) last (IsPermutation-sym (tables_of sections) (tables_of step.some)
-    (subst (λ (ps : List Part). IsPermutation (tables_of sections) (tables_of ps)) (append-nil step.some) (IsPermutation-map (λ (part : Part). part.table) sections (step.some ++ []) chosen))) of_last
+    of_permuted (part_tables step.some) (part_tables sections) last (IsPermutation-sym (part_tables sections) (part_tables step.some)
+    (subst (λ (ps : List Part). IsPermutation (part_tables sections) (part_tables ps)) (append-nil step.some) (IsPermutation-map (λ (part : Part). part.table) sections (step.some ++ []) chosen))) of_last
   where
     of_permuted : (xs ys : List Table) (last : Part) → IsPermutation xs ys → IsOf xs last → IsOf ys last
     of_permuted xs ys last moved h = record {
@@ -152,7 +152,7 @@ last_step sections last step =
       are_bytes = h.are_bytes;
     }
 
-of_parts : (steps : List (List Part)) (sections : List Part) (last : Part) → 0 < length steps → AreMergedInParts steps sections (last ∷ []) → IsOf (tables_of sections) last
+of_parts : (steps : List (List Part)) (sections : List Part) (last : Part) → 0 < length steps → AreMergedInParts steps sections (last ∷ []) → IsOf (part_tables sections) last
 of_parts [] sections last some h = absurd (omega (some, arith))
 of_parts (next ∷ []) sections last some (step, is) = last_step sections last (subst (SomeAreMerged sections) is step)
 of_parts (next ∷ after ∷ later) sections last some (step, steps) = stepped sections next step last (of_parts (after ∷ later) next last (omega arith) steps)
@@ -171,5 +171,5 @@ one_section (table ∷ tables) one other some at h k =
 
 pub in_parts : (sections : List Part) (steps : List (List Part)) (once parts : Part) → 0 < length sections → 0 < length steps → once.at ≡ parts.at → AreMerged sections once → AreMergedInParts steps sections (parts ∷ []) → once.bytes ≡ parts.bytes
 in_parts sections steps once parts some any at h k =
-    let count : length (tables_of sections) ≡ length sections = length-map sections (λ (part : Part). part.table) in
-    one_section (tables_of sections) once parts (omega (some, count, arith)) at (of_merged (tables_of sections) once h.count h.rows h.is) (of_parts steps sections parts any k)
+    let count : length (part_tables sections) ≡ length sections = length-map sections (λ (part : Part). part.table) in
+    one_section (part_tables sections) once parts (omega (some, count, arith)) at (of_merged (part_tables sections) once h.count h.rows h.is) (of_parts steps sections parts any k)

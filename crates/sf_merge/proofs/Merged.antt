@@ -22,8 +22,8 @@ use Rattle.sf_merge.specs.declared.fault.MergeFault.{MergeFault}
 use Rattle.sf_merge.specs.declared.fault.MergeFault.TheVariants as merge
 use Rattle.sf_merge.specs.declared.located.Located.{Located}
 use Rattle.sf_merge.specs.Answers.{FindAlike, IsMerged}
-use Rattle.sf_merge.specs.Located.{sized, InOrder}
-use Rattle.sf_merge.specs.Merging.{rows_in_all, mixed_fault, limits_fault, overlap_fault, reach_fault, or_later, unless, unless_fault, written, Merges, MergesUnless}
+use Rattle.sf_merge.specs.Located.{sized_in_all, AreByRank}
+use Rattle.sf_merge.specs.Merging.{rows_in_all, other_machine_fault, limits_fault_in_all, shared_address_fault, reach_fault, or_later, unless, unless_fault, merged_functions, Merges, MergesUnless}
 use Rattle.sf_merge.proofs.Apart.{EndsBy, adjacent, useful, written_apart}
 use Rattle.sf_merge.proofs.Checks.{few_functions, few_rows}
 use Rattle.sf_merge.proofs.Sound.{IsSound}
@@ -58,20 +58,20 @@ rows_in_tables (t ∷ ts) =
     let rest = rows_in_tables ts in
     split ∙ omega (here, rest, arith)
 
-pub are_writable : (arch : Arch) (tables : List Table) (ordered : List Located) → All (IsSound arch) (all_functions tables) → InOrder (sized tables) ordered → overlap_fault ordered ≡ None → limits_fault tables ≡ None
-    → AreWritable arch (written ordered)
+pub are_writable : (arch : Arch) (tables : List Table) (ordered : List Located) → All (IsSound arch) (all_functions tables) → AreByRank (sized_in_all tables) ordered → shared_address_fault ordered ≡ None → limits_fault_in_all tables ≡ None
+    → AreWritable arch (merged_functions ordered)
 are_writable arch tables ordered sound order e limits =
     let moved = taken tables ordered order in
     let used = filter is_of_use (all_functions tables) in
-    let long = length_permutation used (written ordered) moved in
+    let long = length_permutation used (merged_functions ordered) moved in
     let fewer = few_in_filter is_of_use (all_functions tables) in
     let all = length-flat_map (λ (table : Table). table.functions) tables in
-    let rows = sum_by-IsPermutation (λ (f : Func). length f.rows) used (written ordered) moved in
+    let rows = sum_by-IsPermutation (λ (f : Func). length f.rows) used (merged_functions ordered) moved in
     let fewer_rows = few_rows_in_filter is_of_use (all_functions tables) in
     let all_rows = rows_in_tables tables in
     record {
-      each = All-permutation (IsWritable arch) used (written ordered) moved (all_writable arch (all_functions tables) sound);
-      apart = adjacent EndsBy (written ordered) (written_apart ordered e);
+      each = All-permutation (IsWritable arch) used (merged_functions ordered) moved (all_writable arch (all_functions tables) sound);
+      apart = adjacent EndsBy (merged_functions ordered) (written_apart ordered e);
       count = omega (long, fewer, all, few_functions tables limits, arith);
       row_count = omega (rows, fewer_rows, all_rows, few_rows tables limits, arith);
     }
@@ -84,25 +84,25 @@ no_fault x (Some fault) e = cc
 none_later : (one other : Option MergeFault) → one ≡ None → other ≡ None → or_later one other ≡ None
 none_later one other e f = ap (λ o. or_later o other) e ∙ f
 
-pub comes_to : (tables : List Table) (at : ℕ) (ordered : List Located) → mixed_fault tables ≡ None → limits_fault tables ≡ None → InOrder (sized tables) ordered → overlap_fault ordered ≡ None
-    → first_out_of_reach at 0 (written ordered) ≡ None → Merges tables at (Ok (written ordered))
+pub comes_to : (tables : List Table) (at : ℕ) (ordered : List Located) → other_machine_fault tables ≡ None → limits_fault_in_all tables ≡ None → AreByRank (sized_in_all tables) ordered → shared_address_fault ordered ≡ None
+    → first_out_of_reach at 0 (merged_functions ordered) ≡ None → Merges tables at (Ok (merged_functions ordered))
 comes_to tables at ordered mixed limits order overlaps reach =
-    let none = none_later (overlap_fault ordered) (reach_fault at (written ordered)) overlaps (ap (option_map merge.OutOfReach) reach) in
-    subst (λ (o : Option MergeFault). MergesUnless o tables at (Ok (written ordered))) (sym (none_later (mixed_fault tables) (limits_fault tables) mixed limits))
-    (ordered, order, sym (ap (λ (o : Option MergeFault). unless_fault o (written ordered)) none))
+    let none = none_later (shared_address_fault ordered) (reach_fault at (merged_functions ordered)) overlaps (ap (option_map merge.OutOfReach) reach) in
+    subst (λ (o : Option MergeFault). MergesUnless o tables at (Ok (merged_functions ordered))) (sym (none_later (other_machine_fault tables) (limits_fault_in_all tables) mixed limits))
+    (ordered, order, sym (ap (λ (o : Option MergeFault). unless_fault o (merged_functions ordered)) none))
 
 find_alike : (arch : Arch) (tables : List Table) (functions : List Func) → IsUnion arch tables functions → FindAlike tables functions
 find_alike arch tables functions union = record { found = answered arch tables functions union; none = unanswered arch tables functions union }
 
-pub merged : (arch : Arch) (tables : List Table) (at : ℕ) (section : List ℕ) (ordered : List Located) → All (λ (table : Table). table.arch ≡ arch) tables → mixed_fault tables ≡ None → limits_fault tables ≡ None
-    → InOrder (sized tables) ordered → overlap_fault ordered ≡ None → first_out_of_reach at 0 (written ordered) ≡ None → Tight section at (table_of arch (written ordered)) → Narrow section (table_of arch (written ordered))
-    → AreBytes section → IsMerged tables at section (length (written ordered)) (row_count (written ordered))
+pub merged : (arch : Arch) (tables : List Table) (at : ℕ) (section : List ℕ) (ordered : List Located) → All (λ (table : Table). table.arch ≡ arch) tables → other_machine_fault tables ≡ None → limits_fault_in_all tables ≡ None
+    → AreByRank (sized_in_all tables) ordered → shared_address_fault ordered ≡ None → first_out_of_reach at 0 (merged_functions ordered) ≡ None → Tight section at (table_of arch (merged_functions ordered)) → Narrow section (table_of arch (merged_functions ordered))
+    → AreBytes section → IsMerged tables at section (length (merged_functions ordered)) (row_count (merged_functions ordered))
 merged arch tables at section ordered machines mixed limits order overlaps reach tight narrow bytes = record {
   arch = arch;
-  functions = written ordered;
+  functions = merged_functions ordered;
   are = comes_to tables at ordered mixed limits order overlaps reach;
   union = united arch tables ordered machines order overlaps;
-  finds = find_alike arch tables (written ordered) (united arch tables ordered machines order overlaps);
+  finds = find_alike arch tables (merged_functions ordered) (united arch tables ordered machines order overlaps);
   tight = tight;
   narrow = narrow;
   are_bytes = bytes;

@@ -19,8 +19,8 @@ use Rattle.sf_model.specs.declared.function.Shape.TheVariants.{Plain}
 use Rattle.sf_model.specs.Table.{Table}
 use Rattle.sf_merge.specs.declared.fault.MergeFault.{MergeFault}
 use Rattle.sf_merge.specs.declared.located.Located.{Located}
-use Rattle.sf_merge.specs.Located.{before, at_entry, located, all_located, has_bytes, sized, compared, InOrder}
-use Rattle.sf_merge.specs.Merging.{functions_fault, sections_fault, unless_fault, written, Merges, MergesUnless}
+use Rattle.sf_merge.specs.Located.{before, at_entry, located, all_located, is_sized, sized_in_all, compared, AreByRank}
+use Rattle.sf_merge.specs.Merging.{ordered_fault, sections_fault, unless_fault, merged_functions, Merges, MergesUnless}
 use Rattle.sf_merge.proofs.Ranked.{order, first_least, rest_sorted}
 use Rattle.sf_merge.proofs.Permutations.{along}
 
@@ -192,18 +192,18 @@ one_order_of sections (e ∷ es) (f ∷ fs) up up' p q h =
     at_tests false true s t later = absurd (not_first f e fs es t up (sym (h f)))
     at_tests false false s t later = rest (same_function sections e f (All-head (IsPlaced sections) e es p) (All-head (IsPlaced sections) f fs q) (same_place e f s t)) later
 
-pub one_order : (tables : List Table) (es fs : List Located) → InOrder (sized tables) es → InOrder (sized tables) fs → es ≡ fs
+pub one_order : (tables : List Table) (es fs : List Located) → AreByRank (sized_in_all tables) es → AreByRank (sized_in_all tables) fs → es ≡ fs
 one_order tables es fs a b =
     let sections = sections_of tables in
-    let placed = All-filter has_bytes (IsPlaced sections) (all_located tables) (all_placed tables) in
-    one_order_of sections es fs a.rising b.rising (All-permutation (IsPlaced sections) (sized tables) es a.moved placed) (All-permutation (IsPlaced sections) (sized tables) fs b.moved placed)
-    (λ x. sym (same_count (sized tables) es a.moved x) ∙ same_count (sized tables) fs b.moved x)
+    let placed = All-filter is_sized (IsPlaced sections) (all_located tables) (all_placed tables) in
+    one_order_of sections es fs a.rising b.rising (All-permutation (IsPlaced sections) (sized_in_all tables) es a.moved placed) (All-permutation (IsPlaced sections) (sized_in_all tables) fs b.moved placed)
+    (λ x. sym (same_count (sized_in_all tables) es a.moved x) ∙ same_count (sized_in_all tables) fs b.moved x)
 
 -- ---- one result
 result_from : (tables : List Table) (at : ℕ) (fault : Option MergeFault) (r r' : Result (List Func) MergeFault) → MergesUnless fault tables at r → MergesUnless fault tables at r' → r ≡ r'
 result_from tables at (Some fault) r r' e e' = e ∙ sym e'
 result_from tables at None r r' (es, order, e) (fs, order', e') =
-    e ∙ ap (λ (ls : List Located). unless_fault (functions_fault at ls) (written ls)) (one_order tables es fs order order') ∙ sym e'
+    e ∙ ap (λ (ls : List Located). unless_fault (ordered_fault at ls) (merged_functions ls)) (one_order tables es fs order order') ∙ sym e'
 
 pub one_result : (tables : List Table) (at : ℕ) (r r' : Result (List Func) MergeFault) → Merges tables at r → Merges tables at r' → r ≡ r'
 one_result tables at r r' h h' = result_from tables at (sections_fault tables) r r' h h'

@@ -10,33 +10,33 @@ use Rattle.sf_decode.specs.declared.view.View.{View}
 use Rattle.sf_decode.specs.View.{table_of}
 use Rattle.sf_merge.specs.declared.located.Located.{Located}
 use Rattle.sf_merge.specs.Located as sections
-use Rattle.sf_merge.specs.Located.{InOrder, has_bytes, located}
-use Rattle.sf_merge.specs.Merging.{neighbours, overlap, overlap_fault, shared_by}
-use Rattle.sf_merge.specs.OneSection.{later_entry, shared_entry, sized}
-use Rattle.sf_merge.specs.Views.{IsRead}
+use Rattle.sf_merge.specs.Located.{AreByRank, is_sized, located}
+use Rattle.sf_merge.specs.Merging.{each_with_next, functions_overlap, shared_address_fault, shared_by}
+use Rattle.sf_merge.specs.OneSection.{later_entry, shared_entry, sized_in}
+use Rattle.sf_merge.specs.Views.{IsViewOfSection}
 use Rattle.sf_merge.proofs.Apart.{all_back, function_of}
 use Rattle.sf_merge.proofs.Sound.{IsSound, view_sound}
 use Rattle.sf_merge.proofs.United.{functions_are}
 
 -- as the one section of a list
-pub in_tables : (table : Table) (ordered : List Located) → InOrder (sized table) ordered → InOrder (sections.sized (table ∷ [])) ordered
-in_tables table ordered order = subst (λ (ls : List Located). InOrder (filter has_bytes ls) ordered) (sym (append-nil (located 0 table))) order
+pub in_tables : (table : Table) (ordered : List Located) → AreByRank (sized_in table) ordered → AreByRank (sections.sized_in_all (table ∷ [])) ordered
+in_tables table ordered order = subst (λ (ls : List Located). AreByRank (filter is_sized ls) ordered) (sym (append-nil (located 0 table))) order
 
 pub located_functions : (table : Table) → map function_of (located 0 table) ≡ table.functions
 located_functions table =
     ap (map function_of) (sym (append-nil (located 0 table))) ∙ functions_are (table ∷ []) ∙ append-nil table.functions
 
 -- ---- the functions are sound
-pub located_sound : (view : View) → IsRead view → All (λ (l : Located). IsSound (table_of view).arch l.func) (located 0 (table_of view))
+pub located_sound : (view : View) → IsViewOfSection view → All (λ (l : Located). IsSound (table_of view).arch l.func) (located 0 (table_of view))
 located_sound view read =
     let table = table_of view in
     all_back (IsSound table.arch) function_of (located 0 table) (subst (All (IsSound table.arch)) (sym (located_functions table)) (view_sound view read))
 
-pub ordered_sound : (view : View) (ordered : List Located) → IsRead view → InOrder (sized (table_of view)) ordered → All (λ (l : Located). IsSound (table_of view).arch l.func) ordered
+pub ordered_sound : (view : View) (ordered : List Located) → IsViewOfSection view → AreByRank (sized_in (table_of view)) ordered → All (λ (l : Located). IsSound (table_of view).arch l.func) ordered
 ordered_sound view ordered read order =
     let table = table_of view in
-    let sound = All-filter has_bytes (λ (l : Located). IsSound table.arch l.func) (located 0 table) (located_sound view read) in
-    All-permutation (λ (l : Located). IsSound table.arch l.func) (sized table) ordered order.moved sound
+    let sound = All-filter is_sized (λ (l : Located). IsSound table.arch l.func) (located 0 table) (located_sound view read) in
+    All-permutation (λ (l : Located). IsSound table.arch l.func) (sized_in table) ordered order.moved sound
 
 -- ---- the functions share no address where no entry is named
 none_found : {F : Type 0} (fault : ℕ → F) (bytes : List ℕ) (o : Option (Located × Located)) → option_map fault (option_map (later_entry bytes) o) ≡ None → option_map shared_by o ≡ None
@@ -44,6 +44,6 @@ none_found fault bytes None e = refl
 none_found fault bytes (Some pair) e = cc
 
 -- with the fault that a caller makes of the entry's place
-pub none_shared : {F : Type 0} (fault : ℕ → F) (bytes : List ℕ) (ls : List Located) → option_map fault (shared_entry bytes ls) ≡ None → overlap_fault ls ≡ None
-unfolding shared_entry overlap_fault
-none_shared fault bytes ls e = none_found fault bytes (find overlap (neighbours ls)) e
+pub none_shared : {F : Type 0} (fault : ℕ → F) (bytes : List ℕ) (ls : List Located) → option_map fault (shared_entry bytes ls) ≡ None → shared_address_fault ls ≡ None
+unfolding shared_entry shared_address_fault
+none_shared fault bytes ls e = none_found fault bytes (find functions_overlap (each_with_next ls)) e

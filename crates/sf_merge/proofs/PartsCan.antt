@@ -27,9 +27,9 @@ use Rattle.sf_write.specs.Section.{table_of}
 use Rattle.sf_merge.specs.declared.fault.MergeFault.{MergeFault}
 use Rattle.sf_merge.specs.declared.fault.MergeFault.TheVariants.{OutOfReach}
 use Rattle.sf_merge.specs.declared.located.Located.{Located}
-use Rattle.sf_merge.specs.Located.{InOrder, all_located, before, compared, has_bytes, sized}
-use Rattle.sf_merge.specs.Merging.{Merges, MergesUnless, functions_fault, functions_in_all, is_other, limits_fault, mixed_fault, mixed_with_first, or_later, overlap_fault, reach_fault, rows_in_all, same_arch, sections_fault, unless_fault, written}
-use Rattle.sf_merge.specs.Parts.{AreMerged, AreMergedInParts, IsTooFar, Part, SomeAreMerged, tables_of}
+use Rattle.sf_merge.specs.Located.{AreByRank, all_located, before, compared, is_sized, sized_in_all}
+use Rattle.sf_merge.specs.Merging.{Merges, MergesUnless, ordered_fault, functions_in_all, is_other, limits_fault_in_all, other_machine_fault, mixed_with_first, or_later, shared_address_fault, reach_fault, rows_in_all, same_arch, sections_fault, unless_fault, merged_functions}
+use Rattle.sf_merge.specs.Parts.{AreMerged, AreMergedInParts, IsTooFar, Part, SomeAreMerged, part_tables}
 use Rattle.sf_merge.proofs.Apart.{all_back, function_of, pairs_none, turned}
 use Rattle.sf_merge.proofs.Checks.{few_functions, few_rows, none_at_all, one_alone, overlap_goes_on, within_limits}
 use Rattle.sf_merge.proofs.InParts.{chosen, merged, next_tables, others, said, some, used, used_stay}
@@ -88,10 +88,10 @@ no_sections_fault : (fault : Option MergeFault) (tables : List Table) (at : ℕ)
 no_sections_fault None tables at functions h = refl
 no_sections_fault (Some fault) tables at functions h = cc
 
-at_once : (sections : List Part) (once : Part) → (h : AreMerged sections once) → CanBe h.is.arch (tables_of sections)
+at_once : (sections : List Part) (once : Part) → (h : AreMerged sections once) → CanBe h.is.arch (part_tables sections)
 at_once sections once h =
-    let tables = tables_of sections in
-    let limits = (both_none (mixed_fault tables) (limits_fault tables) (no_sections_fault (sections_fault tables) tables once.at h.is.functions h.is.are)).1 in
+    let tables = part_tables sections in
+    let limits = (both_none (other_machine_fault tables) (limits_fault_in_all tables) (no_sections_fault (sections_fault tables) tables once.at h.is.functions h.is.are)).1 in
     record { machines = h.is.union.one_machine; few = few_functions tables limits; small = few_rows tables limits; apart = h.is.union.apart }
 
 permuted : (arch : Arch) (xs ys : List Table) → IsPermutation xs ys → CanBe arch xs → CanBe arch ys
@@ -145,26 +145,26 @@ one_for_some arch made fs xs ys is taken h =
       apart = pairs_permuted IsApart (λ f g. turned f g) (used xs ++ all_functions ys) (fs ++ all_functions ys) (IsPermutation-append_left (all_functions ys) (used xs) fs taken) apart;
     }
 
-after_step : (arch : Arch) (sections next : List Part) → SomeAreMerged sections next → CanBe arch (tables_of sections) → CanBe arch (tables_of next)
+after_step : (arch : Arch) (sections next : List Part) → SomeAreMerged sections next → CanBe arch (part_tables sections) → CanBe arch (part_tables next)
 after_step arch sections next step h =
     let xs = some sections next step in
     let ys = others sections next step in
     let made = merged sections next step in
-    let there = permuted arch (tables_of sections) (xs ++ ys) (chosen sections next step) h in
+    let there = permuted arch (part_tables sections) (xs ++ ys) (chosen sections next step) h in
     let count : length xs ≡ length step.some = length-map step.some (λ (part : Part). part.table) in
     let any : 0 < length xs = omega (count, step.any, arith) in
     let machine : made.arch ≡ arch = same_machine made.arch arch xs any made.union.one_machine (all_left (Has arch) xs ys there.machines) in
     let new = one_for_some arch made.arch made.functions xs ys machine made.union.taken there in
     subst (CanBe arch) (sym (next_tables sections next step ∙ ap (λ (t : Table). t ∷ ys) (said sections next step))) new
 
-after_steps : (arch : Arch) (steps : List (List Part)) (sections left : List Part) → AreMergedInParts steps sections left → CanBe arch (tables_of sections) → CanBe arch (tables_of left)
-after_steps arch [] sections left is h = subst (λ (ps : List Part). CanBe arch (tables_of ps)) is h
+after_steps : (arch : Arch) (steps : List (List Part)) (sections left : List Part) → AreMergedInParts steps sections left → CanBe arch (part_tables sections) → CanBe arch (part_tables left)
+after_steps arch [] sections left is h = subst (λ (ps : List Part). CanBe arch (part_tables ps)) is h
 after_steps arch (next ∷ later) sections left (step, steps) h = after_steps arch later next left steps (after_step arch sections next step h)
 
-used_left : (steps : List (List Part)) (sections left : List Part) → AreMergedInParts steps sections left → IsPermutation (used (tables_of sections)) (used (tables_of left))
-used_left [] sections left is = subst (λ (ps : List Part). IsPermutation (used (tables_of sections)) (used (tables_of ps))) is (IsPermutation-refl (used (tables_of sections)))
+used_left : (steps : List (List Part)) (sections left : List Part) → AreMergedInParts steps sections left → IsPermutation (used (part_tables sections)) (used (part_tables left))
+used_left [] sections left is = subst (λ (ps : List Part). IsPermutation (used (part_tables sections)) (used (part_tables ps))) is (IsPermutation-refl (used (part_tables sections)))
 used_left (next ∷ later) sections left (step, steps) =
-    IsPermutation-trans (used (tables_of sections)) (used (tables_of next)) (used (tables_of left)) (used_stay sections next step) (used_left later next left steps)
+    IsPermutation-trans (used (part_tables sections)) (used (part_tables next)) (used (part_tables left)) (used_stay sections next step) (used_left later next left steps)
 
 -- ---- the result of merging them
 one_arch : (a b : Arch) → b ≡ a → same_arch a b ≡ true
@@ -180,7 +180,7 @@ none_mixed arch first item (t ∷ ts) is h =
     ap (λ (b : Bool). option_map mixed_with_first (cond (not b) (Some (item, t)) (find (is_other first) (enumerate_from (item + 1) ts)))) same
     ∙ none_mixed arch first (item + 1) ts is (All-tail (Has arch) t ts h)
 
-no_mixed : (arch : Arch) (tables : List Table) → All (Has arch) tables → mixed_fault tables ≡ None
+no_mixed : (arch : Arch) (tables : List Table) → All (Has arch) tables → other_machine_fault tables ≡ None
 no_mixed arch [] h = refl
 no_mixed arch (t ∷ ts) h = none_mixed arch t.arch 0 (t ∷ ts) (All-head (Has arch) t ts h) h
 
@@ -191,12 +191,12 @@ starts_rise l m e = elim (cases_lt m.func.start l.func.start) [
 ]
 
 abbrev Holds : Located → Type 0
-Holds l = has_bytes l ≡ true
+Holds l = is_sized l ≡ true
 
 abbrev AreApart : Located → Located → Type 0
 AreApart l m = IsApart l.func m.func
 
-no_overlap : (ordered : List Located) → IsSorted compared ordered → All Holds ordered → AllPairs AreApart ordered → overlap_fault ordered ≡ None
+no_overlap : (ordered : List Located) → IsSorted compared ordered → All Holds ordered → AllPairs AreApart ordered → shared_address_fault ordered ≡ None
 no_overlap [] up sizes apart = none_at_all
 no_overlap (l ∷ []) up sizes apart = one_alone l
 no_overlap (l ∷ m ∷ ls) up sizes apart =
@@ -206,47 +206,47 @@ no_overlap (l ∷ m ∷ ls) up sizes apart =
     (All-head (AreApart l) m ls (pairs_head AreApart l (m ∷ ls) apart)) in
     overlap_goes_on l m ls (le-ltb m.func.start (l.func.start + l.func.size) ends) ∙ no_overlap (m ∷ ls) (rest_sorted l (m ∷ ls) up) rest (pairs_tail AreApart l (m ∷ ls) apart)
 
-none_overlap : (arch : Arch) (tables : List Table) (ordered : List Located) → CanBe arch tables → InOrder (sized tables) ordered → overlap_fault ordered ≡ None
+none_overlap : (arch : Arch) (tables : List Table) (ordered : List Located) → CanBe arch tables → AreByRank (sized_in_all tables) ordered → shared_address_fault ordered ≡ None
 none_overlap arch tables ordered h order =
     let of_all : AllPairs AreApart (all_located tables) = pairs_back IsApart function_of (all_located tables) (subst (AllPairs IsApart) (sym (functions_are tables)) h.apart) in
-    let of_sized = AllPairs-filter AreApart has_bytes (all_located tables) of_all in
-    no_overlap ordered order.rising (All-permutation Holds (sized tables) ordered order.moved (filter_passes has_bytes (all_located tables)))
-    (pairs_permuted AreApart (λ l m apart. turned l.func m.func apart) (sized tables) ordered order.moved of_sized)
+    let of_sized = AllPairs-filter AreApart is_sized (all_located tables) of_all in
+    no_overlap ordered order.rising (All-permutation Holds (sized_in_all tables) ordered order.moved (filter_passes is_sized (all_located tables)))
+    (pairs_permuted AreApart (λ l m apart. turned l.func m.func apart) (sized_in_all tables) ordered order.moved of_sized)
 
 -- their fault is a function that is too far
 record IsReach (tables : List Table) (at : ℕ) (fault : MergeFault) : Type 0 where
   ordered : List Located
-  order : InOrder (sized tables) ordered
-  clear : overlap_fault ordered ≡ None
+  order : AreByRank (sized_in_all tables) ordered
+  clear : shared_address_fault ordered ≡ None
   start : ℕ
-  far : first_out_of_reach at 0 (written ordered) ≡ Some start
+  far : first_out_of_reach at 0 (merged_functions ordered) ≡ Some start
   is : fault ≡ OutOfReach start
 
-by_reach : (tables : List Table) (at : ℕ) (ordered : List Located) (fault : MergeFault) (far : Option ℕ) → InOrder (sized tables) ordered → overlap_fault ordered ≡ None → first_out_of_reach at 0 (written ordered) ≡ far
-    → Err fault ≡ unless_fault (option_map OutOfReach far) (written ordered) → IsReach tables at fault
+by_reach : (tables : List Table) (at : ℕ) (ordered : List Located) (fault : MergeFault) (far : Option ℕ) → AreByRank (sized_in_all tables) ordered → shared_address_fault ordered ≡ None → first_out_of_reach at 0 (merged_functions ordered) ≡ far
+    → Err fault ≡ unless_fault (option_map OutOfReach far) (merged_functions ordered) → IsReach tables at fault
 by_reach tables at ordered fault None order clear e h = cc
 by_reach tables at ordered fault (Some start) order clear e h = record { ordered = ordered; order = order; clear = clear; start = start; far = e; is = cc }
 
 reach_alone : (arch : Arch) (tables : List Table) (at : ℕ) (fault : MergeFault) → CanBe arch tables → Merges tables at (Err fault) → IsReach tables at fault
 reach_alone arch tables at fault h merges =
     let none : sections_fault tables ≡ None =
-    ap (λ (o : Option MergeFault). or_later o (limits_fault tables)) (no_mixed arch tables h.machines) ∙ within_limits tables h.few h.small in
+    ap (λ (o : Option MergeFault). or_later o (limits_fault_in_all tables)) (no_mixed arch tables h.machines) ∙ within_limits tables h.few h.small in
     from_order (subst (λ (o : Option MergeFault). MergesUnless o tables at (Err fault)) none merges)
   where
     from_order : MergesUnless None tables at (Err fault) → IsReach tables at fault
     from_order (ordered, order, e) =
         let clear = none_overlap arch tables ordered h order in
-        by_reach tables at ordered fault (first_out_of_reach at 0 (written ordered)) order clear refl
-        (e ∙ ap (λ (o : Option MergeFault). unless_fault (or_later o (reach_fault at (written ordered))) (written ordered)) clear)
+        by_reach tables at ordered fault (first_out_of_reach at 0 (merged_functions ordered)) order clear refl
+        (e ∙ ap (λ (o : Option MergeFault). unless_fault (or_later o (reach_fault at (merged_functions ordered))) (merged_functions ordered)) clear)
 
 pub only_too_far : (sections left chosen others : List Part) (steps : List (List Part)) (once : Part) → AreMerged sections once → AreMergedInParts steps sections left → IsPermutation left (chosen ++ others)
-    → (at : ℕ) (fault : MergeFault) → Merges (tables_of chosen) at (Err fault) → IsTooFar fault
+    → (at : ℕ) (fault : MergeFault) → Merges (part_tables chosen) at (Err fault) → IsTooFar fault
 only_too_far sections left chosen others steps once h parts moved at fault merges =
     let arch = h.is.arch in
     let can = after_steps arch steps sections left parts (at_once sections once h) in
-    let both = subst (IsPermutation (tables_of left)) (map-append (λ (part : Part). part.table) chosen others) (IsPermutation-map (λ (part : Part). part.table) left (chosen ++ others) moved) in
-    let of_some = some_can arch (tables_of chosen) (tables_of others) (permuted arch (tables_of left) (tables_of chosen ++ tables_of others) both can) in
-    let reach = reach_alone arch (tables_of chosen) at fault of_some merges in
+    let both = subst (IsPermutation (part_tables left)) (map-append (λ (part : Part). part.table) chosen others) (IsPermutation-map (λ (part : Part). part.table) left (chosen ++ others) moved) in
+    let of_some = some_can arch (part_tables chosen) (part_tables others) (permuted arch (part_tables left) (part_tables chosen ++ part_tables others) both can) in
+    let reach = reach_alone arch (part_tables chosen) at fault of_some merges in
     (reach.start, reach.is)
 
 -- ---- the whole
@@ -261,19 +261,19 @@ accepted (Some fault) functions all e = cc
 near_from : (fault : Option MergeFault) (tables : List Table) (at : ℕ) (functions : List Func) → MergesUnless fault tables at (Ok functions) → first_out_of_reach at 0 functions ≡ None
 near_from (Some fault) tables at functions h = cc
 near_from None tables at functions (ordered, order, e) =
-    let two = accepted (functions_fault at ordered) functions (written ordered) e in
-    let reach = (both_none (overlap_fault ordered) (reach_fault at (written ordered)) two.0).1 in
-    subst (λ (fs : List Func). first_out_of_reach at 0 fs ≡ None) two.1 (none_far at (written ordered) (first_out_of_reach at 0 (written ordered)) reach)
+    let two = accepted (ordered_fault at ordered) functions (merged_functions ordered) e in
+    let reach = (both_none (shared_address_fault ordered) (reach_fault at (merged_functions ordered)) two.0).1 in
+    subst (λ (fs : List Func). first_out_of_reach at 0 fs ≡ None) two.1 (none_far at (merged_functions ordered) (first_out_of_reach at 0 (merged_functions ordered)) reach)
 
-pub none_for_the_whole : (sections left : List Part) (steps : List (List Part)) (once : Part) → AreMerged sections once → AreMergedInParts steps sections left → (fault : MergeFault) → Merges (tables_of left) once.at (Err fault) → ⊥
+pub none_for_the_whole : (sections left : List Part) (steps : List (List Part)) (once : Part) → AreMerged sections once → AreMergedInParts steps sections left → (fault : MergeFault) → Merges (part_tables left) once.at (Err fault) → ⊥
 none_for_the_whole sections left steps once h parts fault merges =
     let arch = h.is.arch in
     let can = after_steps arch steps sections left parts (at_once sections once h) in
-    let reach = reach_alone arch (tables_of left) once.at fault can merges in
-    let union = united arch (tables_of left) reach.ordered can.machines reach.order reach.clear in
-    let moved = IsPermutation-trans (written reach.ordered) (used (tables_of left)) h.is.functions (IsPermutation-sym (used (tables_of left)) (written reach.ordered) union.taken)
-    (IsPermutation-trans (used (tables_of left)) (used (tables_of sections)) h.is.functions (IsPermutation-sym (used (tables_of sections)) (used (tables_of left)) (used_left steps sections left parts)) h.is.union.taken) in
-    let same : written reach.ordered ≡ h.is.functions = one_rising (written reach.ordered) h.is.functions moved union.rising h.is.union.rising in
-    let near = near_from (sections_fault (tables_of sections)) (tables_of sections) once.at h.is.functions h.is.are in
+    let reach = reach_alone arch (part_tables left) once.at fault can merges in
+    let union = united arch (part_tables left) reach.ordered can.machines reach.order reach.clear in
+    let moved = IsPermutation-trans (merged_functions reach.ordered) (used (part_tables left)) h.is.functions (IsPermutation-sym (used (part_tables left)) (merged_functions reach.ordered) union.taken)
+    (IsPermutation-trans (used (part_tables left)) (used (part_tables sections)) h.is.functions (IsPermutation-sym (used (part_tables sections)) (used (part_tables left)) (used_left steps sections left parts)) h.is.union.taken) in
+    let same : merged_functions reach.ordered ≡ h.is.functions = one_rising (merged_functions reach.ordered) h.is.functions moved union.rising h.is.union.rising in
+    let near = near_from (sections_fault (part_tables sections)) (part_tables sections) once.at h.is.functions h.is.are in
     let far : first_out_of_reach once.at 0 h.is.functions ≡ Some reach.start = subst (λ (fs : List Func). first_out_of_reach once.at 0 fs ≡ Some reach.start) same reach.far in
     cc

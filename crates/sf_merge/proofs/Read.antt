@@ -12,7 +12,7 @@ use Rattle.sf_model.specs.Table.{Table}
 use Rattle.sf_decode.specs.declared.view.View.{View}
 use Rattle.sf_decode.specs.View.{table_of, head_of}
 use Rattle.sf_merge.specs.declared.located.Located.{Located}
-use Rattle.sf_merge.specs.Located.{at_entry, located, has_bytes}
+use Rattle.sf_merge.specs.Located.{at_entry, located, is_sized}
 use Rattle.sf_merge.proofs.Checks.{tables_more, no_tables_left}
 
 -- ---- a function
@@ -24,7 +24,7 @@ function_is f head rows h r = ap (λ (x : FuncHead). with_rows x rows) h ∙ ap 
 
 -- ---- a section: the functions from an entry on
 abbrev pub left_in : (item number : ℕ) → List Func → List Located
-left_in item number functions = filter has_bytes (map (at_entry item) (enumerate_from number functions))
+left_in item number functions = filter is_sized (map (at_entry item) (enumerate_from number functions))
 
 left_more : (item number : ℕ) (functions : List Func) (f : Func) → number < length functions → get_or functions number f ≡ f
     → left_in item number (drop number functions) ≡ cond (nat_lt 0 f.size) (at_entry item (number, f) ∷ left_in item (number + 1) (drop (number + 1) functions)) (left_in item (number + 1) (drop (number + 1) functions))
@@ -50,13 +50,13 @@ left_none all so_far item number functions le e =
 
 -- ---- all sections: the functions from a section on
 abbrev pub sized_from : (item : ℕ) → List Table → List Located
-sized_from item tables = filter has_bytes (flat_map (λ (section : ℕ × Table). located section.0 section.1) (enumerate_from item tables))
+sized_from item tables = filter is_sized (flat_map (λ (section : ℕ × Table). located section.0 section.1) (enumerate_from item tables))
 
 pub section_left : (item : ℕ) (views : List View) (i : ℕ) (v : View) → i < length views → v ≡ get_or views i v
-    → sized_from item (map table_of (drop i views)) ≡ filter has_bytes (located item (table_of v)) ++ sized_from (item + 1) (map table_of (drop (i + 1) views))
+    → sized_from item (map table_of (drop i views)) ≡ filter is_sized (located item (table_of v)) ++ sized_from (item + 1) (map table_of (drop (i + 1) views))
 section_left item views i v lt is =
     ap (sized_from item) (tables_more views i v lt is)
-    ∙ filter-append has_bytes (located item (table_of v)) (flat_map (λ (section : ℕ × Table). located section.0 section.1) (enumerate_from (item + 1) (map table_of (drop (i + 1) views))))
+    ∙ filter-append is_sized (located item (table_of v)) (flat_map (λ (section : ℕ × Table). located section.0 section.1) (enumerate_from (item + 1) (map table_of (drop (i + 1) views))))
 
 pub none_left : (all so_far : List Located) (item : ℕ) (views : List View) (i : ℕ) → length views ≤ i → all ≡ so_far ++ sized_from item (map table_of (drop i views)) → all ≡ so_far
 none_left all so_far item views i le h = h ∙ ap (λ ts. so_far ++ sized_from item ts) (no_tables_left views i le) ∙ append-nil so_far

@@ -4,17 +4,17 @@ use Rattle.sf_model.specs.declared.function.Func.{Func}
 use Rattle.sf_model.specs.Table.{Table}
 use Rattle.sf_merge.specs.declared.fault.MergeFault.{MergeFault}
 use Rattle.sf_merge.specs.declared.located.Located.{Located}
-use Rattle.sf_merge.specs.Located.{before, sized, InOrder}
-use Rattle.sf_merge.specs.Merging.{Merges, MergesUnless, functions_fault, sections_fault, unless_fault, written}
+use Rattle.sf_merge.specs.Located.{before, sized_in_all, AreByRank}
+use Rattle.sf_merge.specs.Merging.{Merges, MergesUnless, ordered_fault, sections_fault, unless_fault, merged_functions}
 use Rattle.sf_merge.proofs.Insertion.{moved, ordered, sorted}
 use Rattle.sf_merge.proofs.Ranked.{order}
 
-pub some_order : (all : List Located) → (ordered : List Located) × InOrder all ordered
+pub some_order : (all : List Located) → (ordered : List Located) × AreByRank all ordered
 some_order all = (ordered before order all, record { moved = moved before order all; rising = sorted before order all })
 
 some_from : (tables : List Table) (at : ℕ) (fault : Option MergeFault) → (result : Result (List Func) MergeFault) × MergesUnless fault tables at result
 some_from tables at (Some fault) = (Err fault, refl)
-some_from tables at None = let some = some_order (sized tables) in (unless_fault (functions_fault at some.0) (written some.0), (some.0, some.1, refl))
+some_from tables at None = let some = some_order (sized_in_all tables) in (unless_fault (ordered_fault at some.0) (merged_functions some.0), (some.0, some.1, refl))
 
 pub some_result : (tables : List Table) (at : ℕ) → (result : Result (List Func) MergeFault) × Merges tables at result
 some_result tables at = some_from tables at (sections_fault tables)

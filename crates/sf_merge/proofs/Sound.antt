@@ -16,7 +16,7 @@ use Rattle.sf_decode.specs.declared.view.View.{View}
 use Rattle.sf_decode.specs.View.{table_of}
 use Rattle.sf_decode.proofs.Holds.{not_eq}
 use Rattle.sf_merge.specs.Heads.{IsStorable}
-use Rattle.sf_merge.specs.Views.{IsRead}
+use Rattle.sf_merge.specs.Views.{IsViewOfSection}
 
 -- the contents of a function's rows are those of its machine
 abbrev pub RowsFit : Arch → List Row → Type 0
@@ -53,20 +53,20 @@ functions_sound arch bytes flags at place [] h = All-nil (IsSound arch)
 functions_sound arch bytes flags at place (f ∷ functions) (entry, rows, later) =
     All-cons (IsSound arch) f functions (entry_sound arch bytes _ place f entry rows) (functions_sound arch bytes flags at (place + 20) functions later)
 
-pub view_sound : (view : View) → IsRead view → All (IsSound (table_of view).arch) (table_of view).functions
+pub view_sound : (view : View) → IsViewOfSection view → All (IsSound (table_of view).arch) (table_of view).functions
 view_sound view h = functions_sound (table_of view).arch _ (table_of view).flags _ _ (table_of view).functions h.functions
 
 -- the functions of all sections of one machine
-pub all_sound : (arch : Arch) (views : List View) → All IsRead views → All (λ (table : Table). table.arch ≡ arch) (map table_of views) → All (IsSound arch) (all_functions (map table_of views))
+pub all_sound : (arch : Arch) (views : List View) → All IsViewOfSection views → All (λ (table : Table). table.arch ≡ arch) (map table_of views) → All (IsSound arch) (all_functions (map table_of views))
 all_sound arch [] read machines = All-nil (IsSound arch)
 all_sound arch (v ∷ views) read machines =
     let machine = All-head (λ (table : Table). table.arch ≡ arch) (table_of v) (map table_of views) machines in
     All-append (IsSound arch) (table_of v).functions (all_functions (map table_of views))
-    (subst (λ (a : Arch). All (IsSound a) (table_of v).functions) machine (view_sound v (All-head IsRead v views read)))
-    (all_sound arch views (All-tail IsRead v views read) (All-tail (λ (table : Table). table.arch ≡ arch) (table_of v) (map table_of views) machines))
+    (subst (λ (a : Arch). All (IsSound a) (table_of v).functions) machine (view_sound v (All-head IsViewOfSection v views read)))
+    (all_sound arch views (All-tail IsViewOfSection v views read) (All-tail (λ (table : Table). table.arch ≡ arch) (table_of v) (map table_of views) machines))
 
 -- a function of a section can be stored
-pub storable : (view : View) (number : ℕ) (arch : Arch) (f : Func) → IsRead view → arch ≡ (table_of view).arch → number < length (table_of view).functions → get_or (table_of view).functions number f ≡ f → 0 < f.size
+pub storable : (view : View) (number : ℕ) (arch : Arch) (f : Func) → IsViewOfSection view → arch ≡ (table_of view).arch → number < length (table_of view).functions → get_or (table_of view).functions number f ≡ f → 0 < f.size
     → IsStorable arch f
 storable view number arch f read machine lt is size rows =
     let sound = subst (IsSound (table_of view).arch) is (view_sound view read number f lt) in

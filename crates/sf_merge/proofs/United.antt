@@ -13,8 +13,8 @@ use Rattle.sf_model.specs.declared.function.Func.{Func}
 use Rattle.sf_model.specs.Table.{Table}
 use Rattle.sf_model.specs.Union.{is_of_use, all_functions, IsApart, IsUnion}
 use Rattle.sf_merge.specs.declared.located.Located.{Located}
-use Rattle.sf_merge.specs.Located.{at_entry, located, all_located, has_bytes, sized, InOrder}
-use Rattle.sf_merge.specs.Merging.{overlap_fault, written}
+use Rattle.sf_merge.specs.Located.{at_entry, located, all_located, is_sized, sized_in_all, AreByRank}
+use Rattle.sf_merge.specs.Merging.{shared_address_fault, merged_functions}
 use Rattle.sf_merge.proofs.Apart.{EndsBy, function_of, none_share, pairs_map, pairs_none, pairs_weaker, written_apart, adjacent, rises, turned, useful}
 use Rattle.sf_merge.proofs.Permutations.{filter_permuted, pairs_permuted}
 use Rattle.sf_model.proofs.Unions.{pairs_head, pairs_tail}
@@ -34,62 +34,62 @@ pub functions_are : (tables : List Table) → map function_of (all_located table
 functions_are tables = sections_functions 0 tables
 
 -- ---- those without bytes are of no use
-use_sized : (ls : List Located) → filter is_of_use (map function_of (filter has_bytes ls)) ≡ filter is_of_use (map function_of ls)
+use_sized : (ls : List Located) → filter is_of_use (map function_of (filter is_sized ls)) ≡ filter is_of_use (map function_of ls)
 use_sized [] = refl
 use_sized (l ∷ ls) = at_size (nat_lt 0 l.func.size) refl (use_sized ls)
   where
     rest : List Func
     rest = filter is_of_use (map function_of ls)
 
-    at_size : (b : Bool) → nat_lt 0 l.func.size ≡ b → filter is_of_use (map function_of (filter has_bytes ls)) ≡ rest
-        → filter is_of_use (map function_of (cond b (l ∷ filter has_bytes ls) (filter has_bytes ls))) ≡ cond (is_of_use l.func) (l.func ∷ rest) rest
+    at_size : (b : Bool) → nat_lt 0 l.func.size ≡ b → filter is_of_use (map function_of (filter is_sized ls)) ≡ rest
+        → filter is_of_use (map function_of (cond b (l ∷ filter is_sized ls) (filter is_sized ls))) ≡ cond (is_of_use l.func) (l.func ∷ rest) rest
     at_size true e others = ap (λ fs. cond (is_of_use l.func) (l.func ∷ fs) fs) others
     at_size false e others = others ∙ sym (ap (λ (b : Bool). cond (b && nat_lt 0 (length l.func.rows)) (l.func ∷ rest) rest) e)
 
-pub taken : (tables : List Table) (ordered : List Located) → InOrder (sized tables) ordered → IsPermutation (filter is_of_use (all_functions tables)) (written ordered)
+pub taken : (tables : List Table) (ordered : List Located) → AreByRank (sized_in_all tables) ordered → IsPermutation (filter is_of_use (all_functions tables)) (merged_functions ordered)
 taken tables ordered order =
-    subst (λ fs. IsPermutation fs (written ordered)) (use_sized (all_located tables) ∙ ap (filter is_of_use) (functions_are tables))
-    (filter_permuted is_of_use (map function_of (sized tables)) (map function_of ordered) (IsPermutation-map function_of (sized tables) ordered order.moved))
+    subst (λ fs. IsPermutation fs (merged_functions ordered)) (use_sized (all_located tables) ∙ ap (filter is_of_use) (functions_are tables))
+    (filter_permuted is_of_use (map function_of (sized_in_all tables)) (map function_of ordered) (IsPermutation-map function_of (sized_in_all tables) ordered order.moved))
 
 -- ---- no two share an address, those without rows among them
 abbrev AreApart : Located → Located → Type 0
 AreApart l m = IsApart l.func m.func
 
-no_bytes : (l : Located) → has_bytes l ≡ false → l.func.size ≡ 0
+no_bytes : (l : Located) → is_sized l ≡ false → l.func.size ≡ 0
 no_bytes l e = let le = ltb-false 0 l.func.size e in omega (le, arith)
 
-all_apart : (l : Located) (ls : List Located) → All (AreApart l) (filter has_bytes ls) → All (AreApart l) ls
+all_apart : (l : Located) (ls : List Located) → All (AreApart l) (filter is_sized ls) → All (AreApart l) ls
 all_apart l [] h = All-nil (AreApart l)
-all_apart l (m ∷ ls) h = at_size (has_bytes m) refl h (all_apart l ls)
+all_apart l (m ∷ ls) h = at_size (is_sized m) refl h (all_apart l ls)
   where
-    at_size : (b : Bool) → has_bytes m ≡ b → All (AreApart l) (cond b (m ∷ filter has_bytes ls) (filter has_bytes ls)) → (All (AreApart l) (filter has_bytes ls) → All (AreApart l) ls) → All (AreApart l) (m ∷ ls)
-    at_size true e h others = All-cons (AreApart l) m ls (All-head (AreApart l) m (filter has_bytes ls) h) (others (All-tail (AreApart l) m (filter has_bytes ls) h))
+    at_size : (b : Bool) → is_sized m ≡ b → All (AreApart l) (cond b (m ∷ filter is_sized ls) (filter is_sized ls)) → (All (AreApart l) (filter is_sized ls) → All (AreApart l) ls) → All (AreApart l) (m ∷ ls)
+    at_size true e h others = All-cons (AreApart l) m ls (All-head (AreApart l) m (filter is_sized ls) h) (others (All-tail (AreApart l) m (filter is_sized ls) h))
     at_size false e h others = All-cons (AreApart l) m ls (inr (inl (no_bytes m e))) (others h)
 
-pairs_apart : (ls : List Located) → AllPairs AreApart (filter has_bytes ls) → AllPairs AreApart ls
+pairs_apart : (ls : List Located) → AllPairs AreApart (filter is_sized ls) → AllPairs AreApart ls
 pairs_apart [] h = pairs_none AreApart
-pairs_apart (l ∷ ls) h = at_size (has_bytes l) refl h (pairs_apart ls)
+pairs_apart (l ∷ ls) h = at_size (is_sized l) refl h (pairs_apart ls)
   where
-    at_size : (b : Bool) → has_bytes l ≡ b → AllPairs AreApart (cond b (l ∷ filter has_bytes ls) (filter has_bytes ls)) → (AllPairs AreApart (filter has_bytes ls) → AllPairs AreApart ls) → AllPairs AreApart (l ∷ ls)
+    at_size : (b : Bool) → is_sized l ≡ b → AllPairs AreApart (cond b (l ∷ filter is_sized ls) (filter is_sized ls)) → (AllPairs AreApart (filter is_sized ls) → AllPairs AreApart ls) → AllPairs AreApart (l ∷ ls)
     at_size true e h others =
-        AllPairs-cons AreApart l ls (all_apart l ls (pairs_head AreApart l (filter has_bytes ls) h)) (others (pairs_tail AreApart l (filter has_bytes ls) h))
+        AllPairs-cons AreApart l ls (all_apart l ls (pairs_head AreApart l (filter is_sized ls) h)) (others (pairs_tail AreApart l (filter is_sized ls) h))
     at_size false e h others = AllPairs-cons AreApart l ls (λ k d lt. inl (no_bytes l e)) (others h)
 
-pub apart : (tables : List Table) (ordered : List Located) → InOrder (sized tables) ordered → overlap_fault ordered ≡ None → AllPairs IsApart (all_functions tables)
+pub apart : (tables : List Table) (ordered : List Located) → AreByRank (sized_in_all tables) ordered → shared_address_fault ordered ≡ None → AllPairs IsApart (all_functions tables)
 apart tables ordered order e =
     let in_order = pairs_weaker (λ (l : Located) (m : Located). EndsBy l.func m.func) AreApart (λ l m h. inr (inr (inl h))) ordered (none_share ordered e) in
-    let of_sized = pairs_permuted AreApart (λ l m h. turned l.func m.func h) ordered (sized tables) (IsPermutation-sym (sized tables) ordered order.moved) in_order in
+    let of_sized = pairs_permuted AreApart (λ l m h. turned l.func m.func h) ordered (sized_in_all tables) (IsPermutation-sym (sized_in_all tables) ordered order.moved) in_order in
     subst (AllPairs IsApart) (functions_are tables) (pairs_map IsApart function_of (all_located tables) (pairs_apart (all_located tables) of_sized))
 
 -- ---- the union
-pub written_sizes : (ls : List Located) → All (λ (f : Func). 0 < f.size) (written ls)
-written_sizes ls = All-weaker (λ (f : Func). is_of_use f ≡ true) (λ (f : Func). 0 < f.size) (λ f e. (useful f e).size) (written ls) (filter_passes is_of_use (map function_of ls))
+pub written_sizes : (ls : List Located) → All (λ (f : Func). 0 < f.size) (merged_functions ls)
+written_sizes ls = All-weaker (λ (f : Func). is_of_use f ≡ true) (λ (f : Func). 0 < f.size) (λ f e. (useful f e).size) (merged_functions ls) (filter_passes is_of_use (map function_of ls))
 
-pub united : (arch : Arch) (tables : List Table) (ordered : List Located) → All (λ (table : Table). table.arch ≡ arch) tables → InOrder (sized tables) ordered → overlap_fault ordered ≡ None
-    → IsUnion arch tables (written ordered)
+pub united : (arch : Arch) (tables : List Table) (ordered : List Located) → All (λ (table : Table). table.arch ≡ arch) tables → AreByRank (sized_in_all tables) ordered → shared_address_fault ordered ≡ None
+    → IsUnion arch tables (merged_functions ordered)
 united arch tables ordered machines order e = record {
   one_machine = machines;
   apart = apart tables ordered order e;
   taken = taken tables ordered order;
-  rising = rises (written ordered) (written_sizes ordered) (adjacent EndsBy (written ordered) (written_apart ordered e));
+  rising = rises (merged_functions ordered) (written_sizes ordered) (adjacent EndsBy (merged_functions ordered) (written_apart ordered e));
 }

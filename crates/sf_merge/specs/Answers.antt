@@ -1,4 +1,4 @@
--- The result of merging, by its definition.
+-- The section that merging returns, or its fault (GNU SFrame specification, Version 2).
 use Rattle.std.specs.Prelude.{◌≡◌, ◌⊎◌, ℕ, List, All, length, Some, None, Ok, Err}
 use Rattle.std.specs.List.{Contains}
 use Rattle.sf_model.specs.declared.machine.Arch.{Arch}
@@ -13,7 +13,7 @@ use Rattle.sf_merge.specs.declared.fault.MergeFault.{MergeFault}
 use Rattle.sf_merge.specs.declared.fault.MergeFault.TheVariants.{NoMemory}
 use Rattle.sf_merge.specs.Merging.{Merges}
 
--- At each address the functions have the row of the table that has one there, and none where no table has one.
+-- At each address the functions have the row that a table has there. Where no table has one, they have no row.
 pub record FindAlike (tables : List Table) (functions : List Func) : Type 0 where
   pub found : (pc : ℕ) (table : Table) (row : FoundRow) → Contains tables table → found_at table.functions pc ≡ Some row → found_at functions pc ≡ Some row
   pub none : (pc : ℕ) → All (λ (table : Table). found_at table.functions pc ≡ None) tables → found_at functions pc ≡ None
@@ -34,5 +34,5 @@ pub record IsMerged (tables : List Table) (at : ℕ) (section : List ℕ) (count
   pub rows_are : rows ≡ row_count functions
 
 -- the fault is the first one, or memory ran out
-abbrev pub IsFirstFault : List Table → (at : ℕ) → MergeFault → Type 0
-IsFirstFault tables at fault = (fault ≡ NoMemory) ⊎ Merges tables at (Err fault)
+abbrev pub IsFirstMergeFault : List Table → (at : ℕ) → MergeFault → Type 0
+IsFirstMergeFault tables at fault = (fault ≡ NoMemory) ⊎ Merges tables at (Err fault)

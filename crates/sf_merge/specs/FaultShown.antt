@@ -9,8 +9,8 @@ use Rattle.sf_merge.specs.declared.fault.MergeFault.TheVariants as merge
 abbrev pub shown_of_link : Option ℕ → (number : ℕ) → List ℕ → FaultShown
 shown_of_link item number values = record { item = item; group = group.Link; number = number; values = values }
 
--- two sections of different machines, two functions with their sections, a start; the limits and out of memory have no
--- line
+-- what the line of a fault of merging prints: two sections of different machines, two functions with their sections, or a
+-- start; the limits and out of memory have no line
 abbrev pub shown_of_merging : Option ℕ → MergeFault → FaultShown
 shown_of_merging item (merge.MixedArch first other) = shown_of_link item 1 (first ∷ other ∷ [])
 shown_of_merging item (merge.Overlap start first other second) = shown_of_link item 2 (start ∷ first ∷ other ∷ second ∷ [])

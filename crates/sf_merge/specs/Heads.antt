@@ -30,26 +30,26 @@ abbrev pub head_rank : LocatedHead → Rank
 head_rank h = record { start = (plain_head h.head).start; item = h.item; number = h.number }
 
 -- the function with its rows
-abbrev pub function_in : StoredRows → FunctionHead → Func
-function_in rows (WithRows f) = stored_in rows f
-function_in rows (WithoutRows head) = record { start = head.start; size = head.size; shape = head.shape; key = head.key; rows = [] }
+abbrev pub function_of_head : StoredRows → FunctionHead → Func
+function_of_head rows (WithRows f) = stored_in rows f
+function_of_head rows (WithoutRows head) = record { start = head.start; size = head.size; shape = head.shape; key = head.key; rows = [] }
 
 -- the function with its rows, its section and its entry
 abbrev pub located_in : StoredRows → LocatedHead → Located
-located_in rows h = record { func = function_in rows h.head; item = h.item; number = h.number }
+located_in rows h = record { func = function_of_head rows h.head; item = h.item; number = h.number }
 
 -- all functions with their rows
 abbrev pub all_in : StoredRows → List LocatedHead → List Located
 all_in rows heads = map (located_in rows) heads
 
--- the rows of the function are stored, and it holds an address; or it has no rows
-abbrev pub HasRows : StoredRows → FunctionHead → Type 0
-HasRows rows (WithRows f) = IsStored rows f × (is_of_use (stored_in rows f) ≡ true)
-HasRows rows (WithoutRows head) = Unit {0}
+-- the function has no rows; or its rows are stored, and it holds an address
+abbrev pub RowsAreStored : StoredRows → FunctionHead → Type 0
+RowsAreStored rows (WithRows f) = IsStored rows f × (is_of_use (stored_in rows f) ≡ true)
+RowsAreStored rows (WithoutRows head) = Unit {0}
 
--- each of the functions has its rows stored, or has none
-abbrev pub HaveRows : StoredRows → List LocatedHead → Type 0
-HaveRows rows heads = All (λ (h : LocatedHead). HasRows rows h.head) heads
+-- the same holds for each of the functions
+abbrev pub AllRowsAreStored : StoredRows → List LocatedHead → Type 0
+AllRowsAreStored rows heads = All (λ (h : LocatedHead). RowsAreStored rows h.head) heads
 
 -- where the function has rows, a section of this machine can hold it
 abbrev pub IsStorable : Arch → Func → Type 0
@@ -61,17 +61,17 @@ pub record AreHeads (heads : List LocatedHead) (ordered : List Located) : Type 0
   pub are : ordered ≡ all_in rows heads
 
 -- the stored function of a head, if it has rows
-abbrev pub stored_at : FunctionHead → Option StoredFunction
-stored_at (WithRows f) = Some f
-stored_at (WithoutRows head) = None
+abbrev pub stored_head : FunctionHead → Option StoredFunction
+stored_head (WithRows f) = Some f
+stored_head (WithoutRows head) = None
 
 -- the stored functions of those heads that have rows, in order
-abbrev pub stored_of : List LocatedHead → List StoredFunction
-stored_of heads = filter_map (λ (h : LocatedHead). stored_at h.head) heads
+abbrev pub stored_heads : List LocatedHead → List StoredFunction
+stored_heads heads = filter_map (λ (h : LocatedHead). stored_head h.head) heads
 
 -- the function has rows
 abbrev pub is_with_rows : LocatedHead → Bool
-is_with_rows h = is_some (stored_at h.head)
+is_with_rows h = is_some (stored_head h.head)
 
 -- each of the functions has rows
 abbrev pub AreWithRows : List LocatedHead → Type 0

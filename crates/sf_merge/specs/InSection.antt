@@ -23,7 +23,7 @@ pub record IsEntry (view : View) (e : SectionEntry) : Type 0 where
   pub size : e.size ≡ (function_of view e.number).size
 
 -- these are the entries of these functions
-pub record AreEntries (entries : List SectionEntry) (functions : List Located) : Type 0 where
+pub record AreSectionEntries (entries : List SectionEntry) (functions : List Located) : Type 0 where
   pub view : View
   pub are : functions ≡ all_at view entries
   pub each : All (IsEntry view) entries
@@ -32,6 +32,6 @@ pub record AreEntries (entries : List SectionEntry) (functions : List Located) :
 abbrev pub entry_rank : SectionEntry → Rank
 entry_rank e = record { start = e.start; item = 0; number = e.number }
 
--- the second function begins before the end of the first
+-- the function of the second entry begins before the end of that of the first
 abbrev pub entries_overlap : SectionEntry × SectionEntry → Bool
 entries_overlap = overlap_by (λ (e : SectionEntry). e.start) (λ (e : SectionEntry). e.size)

@@ -14,21 +14,25 @@ use Rattle.sf_merge.specs.declared.located.Rank.{Rank}
 abbrev pub at_entry : (item : ℕ) → ℕ × Func → Located
 at_entry item entry = record { func = entry.1; item = item; number = entry.0 }
 
--- the functions of a section
+-- the functions of a section, in the order of its entries
 abbrev pub located : (item : ℕ) → Table → List Located
 located item table = map (at_entry item) (enumerate_from 0 table.functions)
 
--- the functions of all sections
+-- the functions of all sections, in the order of sections and entries
 abbrev pub all_located : List Table → List Located
 all_located tables = flat_map (λ (section : ℕ × Table). located section.0 section.1) (enumerate_from 0 tables)
 
--- the function holds an address
-abbrev pub has_bytes : Located → Bool
-has_bytes l = nat_lt 0 l.func.size
+-- the function holds an address: its size isn't 0
+abbrev pub is_sized : Located → Bool
+is_sized l = nat_lt 0 l.func.size
 
--- the functions that hold an address
-abbrev pub sized : List Table → List Located
-sized tables = filter has_bytes (all_located tables)
+-- the functions of all sections that hold an address
+abbrev pub sized_in_all : List Table → List Located
+sized_in_all tables = filter is_sized (all_located tables)
+
+-- the functions alone
+abbrev pub located_functions : List Located → List Func
+located_functions ordered = map (λ (l : Located). l.func) ordered
 
 -- the order of functions: by start, then by section, then by entry
 abbrev pub compared_ranks : Rank → Rank → Ordering
@@ -46,7 +50,7 @@ compared a b = compared_ranks (rank_of a) (rank_of b)
 abbrev pub before : Located → Located → Bool
 before a b = is_lt (compared a b)
 
--- the same functions, sorted by the order of functions
-pub record InOrder (all ordered : List Located) : Type 0 where
+-- the second list has the functions of the first one, sorted by the order of functions
+pub record AreByRank (all ordered : List Located) : Type 0 where
   pub moved : IsPermutation all ordered
   pub rising : IsSorted compared ordered

@@ -1,6 +1,6 @@
--- Sections merged as a linker does it (GNU SFrame specification, Version 2): the functions that are written, and why
--- there may be none. The faults are checked in the order in which they are here.
-use Rattle.std.specs.Prelude.{◌≡◌, ◌+◌, ◌^◌, ℕ, Bool, true, false, not, nat_lt, List, [], ◌∷◌, map, length, drop, sum_by, Option, Some, None, Result, Err, if◌then◌else◌}
+-- Sections merged as a linker does it (GNU SFrame specification, Version 2): the functions that are written, or the first
+-- fault. The faults are checked in the order in which they are here.
+use Rattle.std.specs.Prelude.{◌≡◌, ◌+◌, ◌^◌, ℕ, Bool, true, false, not, nat_lt, List, [], ◌∷◌, length, drop, sum_by, Option, Some, None, Result, Err, if◌then◌else◌}
 use Rattle.std.specs.Option.{option_map}
 use Rattle.std.specs.List.{enumerate_from, filter, find, zip}
 use Rattle.sf_model.specs.declared.machine.Arch.{Arch}
@@ -12,7 +12,7 @@ use Rattle.sf_write.specs.Reach.{first_out_of_reach}
 use Rattle.sf_merge.specs.declared.located.Located.{Located}
 use Rattle.sf_merge.specs.declared.fault.MergeFault.{MergeFault}
 use Rattle.sf_merge.specs.declared.fault.MergeFault.TheVariants.{MixedArch, TooManyFunctions, TooManyRows, Overlap, OutOfReach}
-use Rattle.sf_merge.specs.Located.{sized, InOrder}
+use Rattle.sf_merge.specs.Located.{AreByRank, located_functions, sized_in_all}
 pub use Rattle.sf_model.specs.Firsts.{or_later, unless_fault, unless}
 
 -- ---- machines
@@ -30,10 +30,10 @@ is_other arch section = not (same_arch arch section.1.arch)
 abbrev pub mixed_with_first : ℕ × Table → MergeFault
 mixed_with_first section = MixedArch 0 section.0
 
--- the first section whose machine isn't that of section 0
-abbrev pub mixed_fault : List Table → Option MergeFault
-mixed_fault [] = None
-mixed_fault (first ∷ later) = option_map mixed_with_first (find (is_other first.arch) (enumerate_from 0 (first ∷ later)))
+-- the fault of the first section whose machine isn't that of section 0
+abbrev pub other_machine_fault : List Table → Option MergeFault
+other_machine_fault [] = None
+other_machine_fault (first ∷ later) = option_map mixed_with_first (find (is_other first.arch) (enumerate_from 0 (first ∷ later)))
 
 -- ---- limits
 -- the number of functions of all sections together
@@ -44,37 +44,37 @@ functions_in_all tables = sum_by (λ (table : Table). length table.functions) ta
 abbrev pub rows_in_all : List Table → ℕ
 rows_in_all tables = sum_by (λ (table : Table). row_count table.functions) tables
 
--- more than 2^21 functions, or more than 2^24 rows, in all sections together
-abbrev pub limits_fault : List Table → Option MergeFault
-limits_fault tables =
+-- the fault of more than 2^21 functions in all sections together, or else of more than 2^24 rows
+abbrev pub limits_fault_in_all : List Table → Option MergeFault
+limits_fault_in_all tables =
     if nat_lt (2 ^ 21) (functions_in_all tables) then Some TooManyFunctions else
     if nat_lt (2 ^ 24) (rows_in_all tables) then Some TooManyRows else None
 
 -- ---- overlaps
 -- each element but the last, with the one after it
-abbrev pub neighbours : {X : Type 0} → List X → List (X × X)
-neighbours ordered = zip ordered (drop 1 ordered)
+abbrev pub each_with_next : {X : Type 0} → List X → List (X × X)
+each_with_next ordered = zip ordered (drop 1 ordered)
 
 -- by these starts and sizes, the second begins before the end of the first
 abbrev pub overlap_by : {X : Type 0} (start size : X → ℕ) → X × X → Bool
 overlap_by start size pair = nat_lt (start pair.1) (start pair.0 + size pair.0)
 
 -- the second function begins before the end of the first
-abbrev pub overlap : Located × Located → Bool
-overlap = overlap_by (λ (l : Located). l.func.start) (λ (l : Located). l.func.size)
+abbrev pub functions_overlap : Located × Located → Bool
+functions_overlap = overlap_by (λ (l : Located). l.func.start) (λ (l : Located). l.func.size)
 
 -- the fault of two functions that share an address
 abbrev pub shared_by : Located × Located → MergeFault
 shared_by pair = Overlap pair.0.func.start pair.0.item pair.1.func.start pair.1.item
 
--- the fault of the first two neighbours that share an address
-unfoldable pub overlap_fault : List Located → Option MergeFault
-overlap_fault ordered = option_map shared_by (find overlap (neighbours ordered))
+-- the fault of the first two neighbours that share an address, of functions in order
+unfoldable pub shared_address_fault : List Located → Option MergeFault
+shared_address_fault ordered = option_map shared_by (find functions_overlap (each_with_next ordered))
 
 -- ---- reach
 -- the functions that are written: those that hold an address and have a row
-abbrev pub written : List Located → List Func
-written ordered = filter is_of_use (map (λ (l : Located). l.func) ordered)
+abbrev pub merged_functions : List Located → List Func
+merged_functions ordered = filter is_of_use (located_functions ordered)
 
 -- the fault of the first function that lies too far from its start field, in a section at this address
 abbrev pub reach_fault : (at : ℕ) → List Func → Option MergeFault
@@ -83,18 +83,18 @@ reach_fault at functions = option_map OutOfReach (first_out_of_reach at 0 functi
 -- ---- the first fault
 -- the first fault of sections: their machines, and then the limits
 abbrev pub sections_fault : List Table → Option MergeFault
-sections_fault tables = or_later (mixed_fault tables) (limits_fault tables)
+sections_fault tables = or_later (other_machine_fault tables) (limits_fault_in_all tables)
 
 -- the first fault of the functions that hold an address, in order: overlaps, and then the reach
-abbrev pub functions_fault : (at : ℕ) → List Located → Option MergeFault
-functions_fault at ordered = or_later (overlap_fault ordered) (reach_fault at (written ordered))
+abbrev pub ordered_fault : (at : ℕ) → List Located → Option MergeFault
+ordered_fault at ordered = or_later (shared_address_fault ordered) (reach_fault at (merged_functions ordered))
 
 -- ---- the result of merging: the functions that are written, or the first fault
 -- the result, by the fault of the sections if there is one
 abbrev pub MergesUnless : Option MergeFault → List Table → (at : ℕ) → Result (List Func) MergeFault → Type 0
 MergesUnless (Some fault) tables at result = result ≡ Err fault
 MergesUnless None tables at result =
-    (ordered : List Located) × InOrder (sized tables) ordered × (result ≡ unless_fault (functions_fault at ordered) (written ordered))
+    (ordered : List Located) × AreByRank (sized_in_all tables) ordered × (result ≡ unless_fault (ordered_fault at ordered) (merged_functions ordered))
 
 -- merging these sections into one at this address has this result
 abbrev pub Merges : List Table → (at : ℕ) → Result (List Func) MergeFault → Type 0

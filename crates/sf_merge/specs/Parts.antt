@@ -1,5 +1,5 @@
--- Sections that are merged in parts, as several machines do it (GNU SFrame specification, Version 2): some of the sections are merged into one,
--- which takes their place, again and again.
+-- Sections that are merged in parts, as several machines do it (GNU SFrame specification, Version 2). In each step
+-- some of the sections are merged into one, which takes their place.
 use Rattle.std.specs.Prelude.{◌≡◌, ◌<◌, ◌++◌, ℕ, List, [], ◌∷◌, length, map}
 use Rattle.std.specs.List.Sorted.{IsPermutation}
 use Rattle.sf_model.specs.Section.{Section}
@@ -16,14 +16,14 @@ pub record Part : Type 0 where
   pub says : Section bytes at table
 
 -- the tables of sections
-abbrev pub tables_of : List Part → List Table
-tables_of parts = map (λ (part : Part). part.table) parts
+abbrev pub part_tables : List Part → List Table
+part_tables parts = map (λ (part : Part). part.table) parts
 
 -- this section is those sections merged, for its address
 pub record AreMerged (parts : List Part) (whole : Part) : Type 0 where
   pub count : ℕ
   pub rows : ℕ
-  pub is : IsMerged (tables_of parts) whole.at whole.bytes count rows
+  pub is : IsMerged (part_tables parts) whole.at whole.bytes count rows
 
 -- some of the sections, one at least and in any order, are merged into one; the result takes their place beside the
 -- others
@@ -36,7 +36,7 @@ pub record SomeAreMerged (sections next : List Part) : Type 0 where
   pub merged : AreMerged some whole
   pub left : next ≡ whole ∷ others
 
--- step by step, each step with the sections that there are after it; these remain after the last one
+-- the sections are merged step by step; each step has the sections that there are after it, and these are left in the end
 abbrev pub AreMergedInParts : (steps : List (List Part)) → (sections left : List Part) → Type 0
 AreMergedInParts [] sections left = sections ≡ left
 AreMergedInParts (next ∷ later) sections left = SomeAreMerged sections next × AreMergedInParts later next left

@@ -6,7 +6,7 @@ ghost use Rattle.std.specs.Option.{option_map};
 ghost use Rattle.sf_model.specs.Table.{Table as table_fact};
 ghost use Rattle.sf_decode.specs.View.{table_of};
 ghost use Rattle.sf_merge.specs.Heads.{heads_overlap, shared_by_heads};
-ghost use Rattle.sf_merge.specs.Merging.{neighbours, same_arch, mixed_fault, limits_fault, overlap_fault, unless};
+ghost use Rattle.sf_merge.specs.Merging.{each_with_next, same_arch, other_machine_fault, limits_fault_in_all, shared_address_fault, unless};
 
 use crate::fault::MergeFault;
 use crate::functions::LocatedFunctions;
@@ -21,7 +21,7 @@ const FUNCTION_LIMIT: u64 = 1 << 21;
 /// The most rows of all sections together.
 const ROW_LIMIT: u64 = 1 << 24;
 
-/// Returns whether two machines are one.
+/// Returns whether two machines are the same.
 fn same_arch(one: Arch, other: Arch) -> bool
     ensures { result ≡ same_arch one other }
 {
@@ -33,8 +33,8 @@ pub fn check_machines(views: &[View<'_>]) -> Result<Arch, MergeFault>
     requires some { 0 < length views.now }
     requires few { length views.now ≤ 512 }
     ensures one { IfOk result (λ arch. All (λ (table : table_fact). table.arch ≡ arch) (map table_of views.now)) }
-    ensures none { OnOk result (mixed_fault (map table_of views.now) ≡ None) }
-    ensures fault { IfErr result (λ fault. mixed_fault (map table_of views.now) ≡ Some fault) }
+    ensures none { OnOk result (other_machine_fault (map table_of views.now) ≡ None) }
+    ensures fault { IfErr result (λ fault. other_machine_fault (map table_of views.now) ≡ Some fault) }
 {
     let arch = views[0].arch();
     let mut item = 0;
@@ -50,7 +50,7 @@ pub fn check_machines(views: &[View<'_>]) -> Result<Arch, MergeFault>
 /// Checks the limits: functions first, then rows.
 pub fn check_limits(views: &[View<'_>]) -> Result<(), MergeFault>
     requires { length views.now ≤ 512 }
-    ensures { result ≡ unless (limits_fault (map table_of views.now)) }
+    ensures { result ≡ unless (limits_fault_in_all (map table_of views.now)) }
 {
     let mut functions = 0;
     let mut rows = 0;
@@ -69,7 +69,7 @@ pub fn check_limits(views: &[View<'_>]) -> Result<(), MergeFault>
 
 /// Checks the head of each function against the one before it.
 fn check_heads(heads: &[LocatedHead]) -> Result<(), MergeFault>
-    ensures { result ≡ unless (option_map shared_by_heads (find heads_overlap (neighbours heads.now))) }
+    ensures { result ≡ unless (option_map shared_by_heads (find heads_overlap (each_with_next heads.now))) }
 {
     match first_overlap(heads) {
         Some((before, function)) => Err(MergeFault::Overlap(
@@ -84,7 +84,7 @@ fn check_heads(heads: &[LocatedHead]) -> Result<(), MergeFault>
 
 /// Checks that no function shares an address with the one before it.
 pub fn check_overlap(ordered: &LocatedFunctions) -> Result<(), MergeFault>
-    ensures { result ≡ unless (overlap_fault ordered.now) }
+    ensures { result ≡ unless (shared_address_fault ordered.now) }
 {
     check_heads(ordered.heads())
 }

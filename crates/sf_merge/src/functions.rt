@@ -1,8 +1,8 @@
 //! Functions of several sections. Their rows are stored in one list.
 
 ghost use Rattle.std.specs.Prelude.{◌≡◌, ◌++◌, [], ◌∷◌, IfOk, OnOk};
-ghost use Rattle.sf_merge.specs.Heads.{AreHeads, HasRows, HaveRows, IsStorable, all_in, function_in};
-ghost use Rattle.sf_merge.specs.Located.{InOrder};
+ghost use Rattle.sf_merge.specs.Heads.{AreHeads, RowsAreStored, AllRowsAreStored, IsStorable, all_in, function_of_head};
+ghost use Rattle.sf_merge.specs.Located.{AreByRank};
 ghost use Rattle.sf_write.specs.declared.stored.StoredFunction.{StoredFunction as stored_fact};
 ghost use Rattle.sf_write.specs.Stored.{IsStored, stored_in};
 
@@ -24,20 +24,20 @@ pub struct LocatedFunctions {
 impl Model for LocatedFunctions {
     ghost use Rattle.std.specs.Prelude.{List};
     ghost use Rattle.sf_merge.specs.declared.located.Located.{Located as located};
-    ghost use Rattle.sf_merge.specs.Heads.{HaveRows, all_in};
+    ghost use Rattle.sf_merge.specs.Heads.{AllRowsAreStored, all_in};
 
     ghost Value = { List located };
 
     ghost view = { λ f. all_in f.rows f.heads.items };
 
-    ghost invariant = { λ f. HaveRows f.rows f.heads.items };
+    ghost invariant = { λ f. AllRowsAreStored f.rows f.heads.items };
 }
 
 /// Stores the rows of a function that has bytes, if it has any rows.
 #[inline(always)]
 fn store(rows: &mut StoredRows, arch: Arch, func: &Func) -> Result<FunctionHead, AllocError>
     requires { IsStorable arch func.now }
-    ensures stored { IfOk result (λ head. HasRows rows.new head × (function_in rows.new head ≡ func.now)) }
+    ensures stored { IfOk result (λ head. RowsAreStored rows.new head × (function_of_head rows.new head ≡ func.now)) }
     ensures keeps { (f : stored_fact) → IsStored rows.old f → IsStored rows.new f × (stored_in rows.new f ≡ stored_in rows.old f) }
 {
     if func.rows.as_slice().is_empty() {
@@ -74,9 +74,9 @@ impl LocatedFunctions {
         Ok(())
     }
 
-    /// Sorts the functions. Where they are in order already, it costs one pass.
+    /// Sorts the functions by rank. If they are in order already, this takes one pass.
     pub fn order(&mut self) -> Result<(), NoMemory>
-        ensures { OnOk result (InOrder self.old self.new) }
+        ensures { OnOk result (AreByRank self.old self.new) }
     {
         self.heads.sort_by_key(|head| head.rank())?;
         Ok(())
@@ -92,7 +92,7 @@ impl LocatedFunctions {
     /// Returns the functions without their rows, and the rows of all.
     pub fn into_parts(self) -> (Vec<LocatedHead>, StoredRows)
         ensures are { self ≡ all_in result.1 result.0.items }
-        ensures stored { HaveRows result.1 result.0.items }
+        ensures stored { AllRowsAreStored result.1 result.0.items }
     {
         let LocatedFunctions { heads, rows } = self;
         (heads, rows)

@@ -2,7 +2,7 @@
 
 ghost use Rattle.std.specs.Prelude.{◌≡◌, ◌<◌, length, get_or};
 ghost use Rattle.sf_decode.specs.View.{head_of, rows_left};
-ghost use Rattle.sf_merge.specs.InSection.{AreEntries, IsEntry, all_at, entry_rank};
+ghost use Rattle.sf_merge.specs.InSection.{AreSectionEntries, IsEntry, all_at, entry_rank};
 ghost use Rattle.sf_merge.specs.declared.located.Located.{Located as located_fact};
 
 use crate::located::Rank;
@@ -108,7 +108,7 @@ impl<'a> SectionFunctions<'a> {
 
     /// Returns the entries of the functions.
     pub fn entries(&self) -> &[SectionEntry]
-        ensures { AreEntries result.now self.now }
+        ensures { AreSectionEntries result.now self.now }
     {
         self.entries.as_slice()
     }

@@ -6,7 +6,7 @@ ghost use Rattle.sf_model.specs.declared.function.Func.{Func};
 ghost use Rattle.sf_model.specs.Table.{Table};
 ghost use Rattle.sf_merge.specs.declared.fault.MergeFault.{MergeFault};
 ghost use Rattle.sf_merge.specs.Merging.{Merges};
-ghost use Rattle.sf_merge.specs.Parts.{AreMerged, AreMergedInParts, IsTooFar, Part, tables_of};
+ghost use Rattle.sf_merge.specs.Parts.{AreMerged, AreMergedInParts, IsTooFar, Part, part_tables};
 
 /// Merging sections has at most one result: the functions that are written, or the first fault.
 pub fn merging_comes_to_one_result()
@@ -25,6 +25,6 @@ pub fn merging_comes_to_a_result()
 /// partial section; and all that remain can be merged, for the address of the whole.
 pub fn merging_in_parts()
     ensures same { (sections : List Part) (steps : List (List Part)) (once parts : Part) → 0 < length sections → 0 < length steps → once.at ≡ parts.at → AreMerged sections once → AreMergedInParts steps sections (parts ∷ []) → once.bytes ≡ parts.bytes }
-    ensures partial { (sections left some others : List Part) (steps : List (List Part)) (once : Part) → AreMerged sections once → AreMergedInParts steps sections left → IsPermutation left (some ++ others) → (at : ℕ) (fault : MergeFault) → Merges (tables_of some) at (Err fault) → IsTooFar fault }
-    ensures whole { (sections left : List Part) (steps : List (List Part)) (once : Part) → AreMerged sections once → AreMergedInParts steps sections left → (fault : MergeFault) → Merges (tables_of left) once.at (Err fault) → ⊥ }
+    ensures partial { (sections left some others : List Part) (steps : List (List Part)) (once : Part) → AreMerged sections once → AreMergedInParts steps sections left → IsPermutation left (some ++ others) → (at : ℕ) (fault : MergeFault) → Merges (part_tables some) at (Err fault) → IsTooFar fault }
+    ensures whole { (sections left : List Part) (steps : List (List Part)) (once : Part) → AreMerged sections once → AreMergedInParts steps sections left → (fault : MergeFault) → Merges (part_tables left) once.at (Err fault) → ⊥ }
 {}

@@ -3,8 +3,8 @@
 ghost use Rattle.std.specs.Prelude.{◌≡◌, ◌<◌, ◌≤◌, ◌^◌, All, map, length, IfOk, IfErr};
 ghost use Rattle.sf_decode.specs.View.{table_of};
 ghost use Rattle.sf_write.specs.Stored.{IsStored, stored_count, stored_in};
-ghost use Rattle.sf_merge.specs.Answers.{IsMerged, IsFirstFault};
-ghost use Rattle.sf_merge.specs.Merging.{written};
+ghost use Rattle.sf_merge.specs.Answers.{IsMerged, IsFirstMergeFault};
+ghost use Rattle.sf_merge.specs.Merging.{merged_functions};
 
 use crate::checking::{check_limits, check_machines, check_overlap};
 use crate::fault::{MergeFault, write_fault};
@@ -18,7 +18,7 @@ use std::alloc::Global;
 /// Returns the functions that hold an address and have a row, and their rows.
 fn written(ordered: LocatedFunctions) -> (FunctionsWithRows, StoredRows)
     ensures stored { All (IsStored result.1) result.0 }
-    ensures written { map (stored_in result.1) result.0 ≡ written ordered }
+    ensures written { map (stored_in result.1) result.0 ≡ merged_functions ordered }
 {
     let (heads, rows) = ordered.into_parts();
     (FunctionsWithRows::of(heads), rows)
@@ -58,7 +58,7 @@ pub fn merge(alloc: Global, views: &[View<'_>], at: u64) -> Result<MergedSection
     // The section is that of the union.
     ensures merged { IfOk result (λ merged. IsMerged (map table_of views.now) at merged.section.items merged.functions merged.rows) }
     // A fault is the first one.
-    ensures fault { IfErr result (IsFirstFault (map table_of views.now) at) }
+    ensures fault { IfErr result (IsFirstMergeFault (map table_of views.now) at) }
 {
     let arch = check_machines(views)?;
     check_limits(views)?;

@@ -2,7 +2,7 @@
 
 ghost use Rattle.std.specs.Prelude.{◌≡◌, ◌∷◌, [], IsTrue};
 ghost use Rattle.sf_model.specs.Notice.{HasLine};
-ghost use Rattle.sf_merge.specs.Fault.{is_refusal};
+ghost use Rattle.sf_merge.specs.Fault.{is_merge_refusal};
 ghost use Rattle.sf_model.specs.FaultShown.{shown_by};
 ghost use Rattle.sf_merge.specs.FaultShown.{shown_of_merging};
 
@@ -45,7 +45,7 @@ impl MergeFault {
     /// Returns the notice of this fault, as its line prints it. The caller owes that the fault is
     /// no limit and not `NoMemory`.
     pub fn notice(&self, item: Option<u32>) -> Notice
-        requires { IsTrue (is_refusal self.now) }
+        requires { IsTrue (is_merge_refusal self.now) }
         ensures shown { shown_by result ≡ shown_of_merging item self.now }
         ensures line { HasLine result }
     {

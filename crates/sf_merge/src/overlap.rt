@@ -4,7 +4,7 @@ ghost use Rattle.std.specs.Prelude.{◌≡◌};
 ghost use Rattle.std.specs.Option.{option_map};
 ghost use Rattle.std.specs.List.{find};
 ghost use Rattle.sf_decode.specs.View.{section_bytes};
-ghost use Rattle.sf_merge.specs.Merging.{neighbours, overlap_by};
+ghost use Rattle.sf_merge.specs.Merging.{each_with_next, overlap_by};
 ghost use Rattle.sf_merge.specs.OneSection as spec;
 
 use crate::in_section::SectionFunctions;
@@ -37,7 +37,7 @@ fn shares_address<F: HasAddresses>(before: &F, function: &F) -> bool
 
 /// Finds the first two neighbours that share an address.
 pub fn first_overlap<F: HasAddresses>(ordered: &[F]) -> Option<(&F, &F)>
-    ensures { option_map (λ pair. (pair.0.now, pair.1.now)) result ≡ find (overlap_by F.first_address F.size_of) (neighbours ordered.now) }
+    ensures { option_map (λ pair. (pair.0.now, pair.1.now)) result ≡ find (overlap_by F.first_address F.size_of) (each_with_next ordered.now) }
 {
     let (first, later) = ordered.split_first()?;
     let mut before = first;

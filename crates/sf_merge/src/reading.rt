@@ -4,9 +4,9 @@ ghost use Rattle.std.specs.Prelude.{◌≡◌, ◌<◌, ◌≤◌, ◌++◌, len
 ghost use Rattle.std.specs.List.{filter};
 ghost use Rattle.sf_decode.specs.View.{table_of, function_of};
 ghost use Rattle.sf_merge.specs.InSection.{IsEntry, all_at};
-ghost use Rattle.sf_merge.specs.Located.{has_bytes, located, sized, InOrder};
-ghost use Rattle.sf_merge.specs.OneSection.{sized as sized_in};
-ghost use Rattle.sf_merge.specs.Views.{IsRead};
+ghost use Rattle.sf_merge.specs.Located.{is_sized, located, sized_in_all, AreByRank};
+ghost use Rattle.sf_merge.specs.OneSection.{sized_in};
+ghost use Rattle.sf_merge.specs.Views.{IsViewOfSection};
 
 use crate::functions::LocatedFunctions;
 use crate::in_section::{SectionEntry, SectionFunctions};
@@ -73,15 +73,15 @@ fn entries_of(alloc: Global, view: &View<'_>) -> Result<Vec<SectionEntry>, NoMem
     Ok(entries)
 }
 
-/// Lists the functions of a section that hold an address, by start and then by entry. Where the section has
-/// them in order, sorting costs one pass.
+/// Lists the functions of a section that hold an address, by start and then by entry. If the section has
+/// them in order, sorting takes one pass.
 ///
 /// # Errors
 ///
 /// `NoMemory` alone.
 pub fn in_order<'a>(alloc: Global, view: &View<'a>) -> Result<SectionFunctions<'a>, NoMemory>
-    ensures order { IfOk result (λ functions. InOrder (sized_in (table_of view.now)) functions) }
-    ensures read { IsRead view.now }
+    ensures order { IfOk result (λ functions. AreByRank (sized_in (table_of view.now)) functions) }
+    ensures read { IsViewOfSection view.now }
 {
     view_is_a_section(view);
     let mut entries = entries_of(alloc, view)?;
@@ -99,8 +99,8 @@ fn store_functions(
     view: &View<'_>,
     spare: &mut Func,
 ) -> Result<(), NoMemory>
-    ensures all { OnOk result (all.new ≡ all.old ++ filter has_bytes (located item (table_of view.now))) }
-    ensures read { IsRead view.now }
+    ensures all { OnOk result (all.new ≡ all.old ++ filter is_sized (located item (table_of view.now))) }
+    ensures read { IsViewOfSection view.now }
 {
     view_is_a_section(view);
     functions_are_numbered(view);
@@ -124,12 +124,12 @@ fn count_functions(views: &[View<'_>]) -> usize
     functions
 }
 
-/// Reads those functions of all sections that have bytes, and sorts them once. Where they are in order
-/// already, that costs one pass.
+/// Reads those functions of all sections that have bytes, and sorts them once. If they are in order already,
+/// sorting takes one pass.
 pub fn all_in_order(alloc: Global, views: &[View<'_>]) -> Result<LocatedFunctions, NoMemory>
     requires { length views.now ≤ 512 }
-    ensures order { IfOk result (λ all. InOrder (sized (map table_of views.now)) all) }
-    ensures read { OnOk result (All IsRead views.now) }
+    ensures order { IfOk result (λ all. AreByRank (sized_in_all (map table_of views.now)) all) }
+    ensures read { OnOk result (All IsViewOfSection views.now) }
 {
     let mut all = LocatedFunctions::with_capacity(alloc, count_functions(views))?;
     let mut spare = empty_function(alloc, 0)?;

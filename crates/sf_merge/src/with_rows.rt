@@ -1,7 +1,7 @@
 //! The functions that have rows.
 
 ghost use Rattle.std.specs.Prelude.{◌≡◌};
-ghost use Rattle.sf_merge.specs.Heads.{stored_of};
+ghost use Rattle.sf_merge.specs.Heads.{stored_heads};
 
 use crate::head::{FunctionHead, LocatedHead};
 use sf_write::{StoredFunction, StoredList};
@@ -16,11 +16,11 @@ pub struct FunctionsWithRows {
 impl Model for FunctionsWithRows {
     ghost use Rattle.std.specs.Prelude.{List};
     ghost use Rattle.sf_write.specs.declared.stored.StoredFunction.{StoredFunction as stored_fact};
-    ghost use Rattle.sf_merge.specs.Heads.{AreWithRows, stored_of};
+    ghost use Rattle.sf_merge.specs.Heads.{AreWithRows, stored_heads};
 
     ghost Value = { List stored_fact };
 
-    ghost view = { λ functions. stored_of functions.heads.items };
+    ghost view = { λ functions. stored_heads functions.heads.items };
 
     ghost invariant = { λ functions. AreWithRows functions.heads.items };
 }
@@ -28,7 +28,7 @@ impl Model for FunctionsWithRows {
 impl FunctionsWithRows {
     /// Keeps those of these functions that have rows. They stay in the memory of the list.
     pub fn of(mut heads: Vec<LocatedHead>) -> FunctionsWithRows
-        ensures { result ≡ stored_of heads.items }
+        ensures { result ≡ stored_heads heads.items }
     {
         heads.retain(|located| matches!(located.head, FunctionHead::WithRows(_)));
         FunctionsWithRows { heads }

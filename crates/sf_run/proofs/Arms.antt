@@ -21,7 +21,7 @@ use Rattle.sf_asm.proofs.Machines.{one_is_unmixed}
 use Rattle.sf_run.specs.Linked.{LinkedComes, Makings}
 use Rattle.sf_merge.specs.declared.fault.MergeFault.{MergeFault}
 use Rattle.sf_merge.specs.declared.fault.MergeFault.TheVariants as merge
-use Rattle.sf_merge.specs.Answers.{IsFirstFault, IsMerged}
+use Rattle.sf_merge.specs.Answers.{IsFirstMergeFault, IsMerged}
 use Rattle.sf_slim.specs.declared.fault.SlimFault.{SlimFault}
 use Rattle.sf_slim.specs.declared.fault.SlimFault.TheVariants as slim_fault
 use Rattle.sf_slim.specs.Answers as slim
@@ -78,7 +78,7 @@ merged_comes at items tables section text count rows checked are h text_is =
     }
 
 pub unmerged_comes : (at : ℕ) (items : List Item) (tables : List Table) (fault : MergeFault) (refused : Refusal) → sections_fault items ≡ None → AllZip IsSectionOf items tables
-    → IsFirstFault tables at fault → (fault ≡ merge.NoMemory → refused ≡ refusal.Memory) → ComesAs (λ (c : Coming). c ≡ coming_of_merging fault) refused → ComesAs (λ (c : Coming). MergeComesAt at items (sections_fault items) c) refused
+    → IsFirstMergeFault tables at fault → (fault ≡ merge.NoMemory → refused ≡ refusal.Memory) → ComesAs (λ (c : Coming). c ≡ coming_of_merging fault) refused → ComesAs (λ (c : Coming). MergeComesAt at items (sections_fault items) c) refused
 unmerged_comes at items tables fault refused checked are (inl none) memory tells = memory_comes (λ (c : Coming). MergeComesAt at items (sections_fault items) c) refused (memory none)
 unmerged_comes at items tables fault refused checked are (inr first) memory tells =
     comes_as (λ (c : Coming). c ≡ coming_of_merging fault) (λ (c : Coming). MergeComesAt at items (sections_fault items) c)
@@ -98,7 +98,7 @@ slimmed_comes from at bytes read table section text count rows same checked of_b
     }
 
 pub unslimmed_comes : (from at : ℕ) (bytes read : List ℕ) (table : Table) (fault : SlimFault) (refused : Refusal) → read ≡ bytes → section_check bytes from ≡ Ok tt → Section bytes from table
-    → slim.IsFirstFault read table at fault → (fault ≡ slim_fault.NoMemory → refused ≡ refusal.Memory) → ComesAs (λ (c : Coming). c ≡ Refused (shown_of_slimming (Some 0) fault)) refused
+    → slim.IsFirstSlimFault read table at fault → (fault ≡ slim_fault.NoMemory → refused ≡ refusal.Memory) → ComesAs (λ (c : Coming). c ≡ Refused (shown_of_slimming (Some 0) fault)) refused
     → ComesAs (SlimComesFrom from bytes at (section_check bytes from)) refused
 unslimmed_comes from at bytes read table fault refused same checked of_bytes (inl none) memory tells = memory_comes (SlimComesFrom from bytes at (section_check bytes from)) refused (memory none)
 unslimmed_comes from at bytes read table fault refused same checked of_bytes (inr first) memory tells =

@@ -33,8 +33,8 @@ use Rattle.sf_merge.specs.declared.fault.MergeFault.{MergeFault}
 use Rattle.sf_merge.specs.declared.fault.MergeFault.TheVariants.{OutOfReach}
 use Rattle.sf_merge.specs.declared.located.Located.{Located}
 use Rattle.sf_merge.specs.Answers.{IsMerged}
-use Rattle.sf_merge.specs.Located.{InOrder, at_entry, has_bytes, located, sized}
-use Rattle.sf_merge.specs.Merging.{Merges, MergesUnless, functions_fault, is_other, limits_fault, mixed_fault, mixed_with_first, or_later, overlap_fault, reach_fault, same_arch, sections_fault, unless_fault, written}
+use Rattle.sf_merge.specs.Located.{AreByRank, at_entry, is_sized, located, sized_in_all}
+use Rattle.sf_merge.specs.Merging.{Merges, MergesUnless, ordered_fault, is_other, limits_fault_in_all, other_machine_fault, mixed_with_first, or_later, shared_address_fault, reach_fault, same_arch, sections_fault, unless_fault, merged_functions}
 use Rattle.sf_merge.proofs.Apart.{function_of}
 use Rattle.sf_merge.proofs.Checks.{one_machine}
 use Rattle.sf_merge.proofs.Merged.{are_writable, merged}
@@ -43,7 +43,7 @@ use Rattle.sf_merge.proofs.United.{taken}
 use Rattle.sf_slim.specs.declared.fault.SlimFault.{SlimFault}
 use Rattle.sf_slim.specs.declared.fault.SlimFault.TheVariants as slim_fault
 use Rattle.sf_slim.specs.Answers.{IsSlimmed}
-use Rattle.sf_slim.specs.Pass.{answers, is_kept, kept, kept_function, kept_of}
+use Rattle.sf_slim.specs.Pass.{has_row, is_needed, kept, kept_function, needed_rows}
 use Rattle.sf_slim.specs.Slimming as slim
 use Rattle.sf_slim.specs.Slimming.{Slims}
 use Rattle.sf_slim.proofs.Needed.{needed, ordered_sound, slimmed_is}
@@ -123,7 +123,7 @@ none_other arch item (t ∷ ts) e = at_test (same_arch arch t.arch) refl e (none
     at_test true s e others = All-cons (Has arch) t ts (one_machine arch t.arch s) (others (rw s at e))
     at_test false s e others = let no = rw s at e in cc
 
-one_arch : (tables : List Table) → mixed_fault tables ≡ None → (arch : Arch) × All (Has arch) tables
+one_arch : (tables : List Table) → other_machine_fault tables ≡ None → (arch : Arch) × All (Has arch) tables
 one_arch [] e = (Amd64, All-nil (Has Amd64))
 one_arch (t ∷ ts) e = (t.arch, none_other t.arch 0 (t ∷ ts) e)
 
@@ -142,27 +142,27 @@ accepted None functions all e = refl
 accepted (Some fault) functions all e = cc
 
 -- the section of functions in order
-from_order : (tables : List Table) (at : ℕ) (ordered : List Located) → All IsSaid tables → sections_fault tables ≡ None → InOrder (sized tables) ordered → functions_fault at ordered ≡ None
+from_order : (tables : List Table) (at : ℕ) (ordered : List Located) → All IsSaid tables → sections_fault tables ≡ None → AreByRank (sized_in_all tables) ordered → ordered_fault at ordered ≡ None
     → (section : List ℕ) × (count : ℕ) × (rows : ℕ) × IsMerged tables at section count rows
 from_order tables at ordered said none order clear =
-    let sections = both_none (mixed_fault tables) (limits_fault tables) none in
-    let functions = both_none (overlap_fault ordered) (reach_fault at (written ordered)) clear in
-    let near : first_out_of_reach at 0 (written ordered) ≡ None = none_far (first_out_of_reach at 0 (written ordered)) functions.1 in
+    let sections = both_none (other_machine_fault tables) (limits_fault_in_all tables) none in
+    let functions = both_none (shared_address_fault ordered) (reach_fault at (merged_functions ordered)) clear in
+    let near : first_out_of_reach at 0 (merged_functions ordered) ≡ None = none_far (first_out_of_reach at 0 (merged_functions ordered)) functions.1 in
     let machine = one_arch tables sections.0 in
     let writable = are_writable machine.0 tables ordered (all_sound machine.0 tables said machine.1) order functions.0 sections.1 in
-    let fit = All-permutation NumbersFit (filter is_of_use (all_functions tables)) (written ordered) (taken tables ordered order)
+    let fit = All-permutation NumbersFit (filter is_of_use (all_functions tables)) (merged_functions ordered) (taken tables ordered order)
     (All-filter is_of_use NumbersFit (all_functions tables) (all_fit tables said)) in
-    let is = some_section machine.0 at (written ordered) writable fit near in (
-      section_bytes machine.0 at (written ordered),
-      length (written ordered),
-      row_count (written ordered),
-      merged machine.0 tables at (section_bytes machine.0 at (written ordered)) ordered machine.1 sections.0 sections.1 order functions.0 near is.1 is.2 is.0,
+    let is = some_section machine.0 at (merged_functions ordered) writable fit near in (
+      section_bytes machine.0 at (merged_functions ordered),
+      length (merged_functions ordered),
+      row_count (merged_functions ordered),
+      merged machine.0 tables at (section_bytes machine.0 at (merged_functions ordered)) ordered machine.1 sections.0 sections.1 order functions.0 near is.1 is.2 is.0,
     )
 
 from_result : (tables : List Table) (at : ℕ) (functions : List Func) → All IsSaid tables → (fault : Option MergeFault) → sections_fault tables ≡ fault → MergesUnless fault tables at (Ok functions)
     → (section : List ℕ) × (count : ℕ) × (rows : ℕ) × IsMerged tables at section count rows
 from_result tables at functions said (Some fault) e h = cc
-from_result tables at functions said None e (ordered, order, is) = from_order tables at ordered said e order (accepted (functions_fault at ordered) functions (written ordered) is)
+from_result tables at functions said None e (ordered, order, is) = from_order tables at ordered said e order (accepted (ordered_fault at ordered) functions (merged_functions ordered) is)
 
 -- sections that can be merged have a merged section
 pub some_merged : (tables : List Table) (at : ℕ) (functions : List Func) → All IsSaid tables → Merges tables at (Ok functions) → (section : List ℕ) × (count : ℕ) × (rows : ℕ) × IsMerged tables at section count rows
@@ -173,13 +173,13 @@ kept_all : (P : Row → Type 0) (last : Option Content) (size : ℕ) (rows : Lis
 kept_all P last size [] h = h
 kept_all P last size (r ∷ rows) h =
     let rest = All-tail P r rows h in
-    at_test (is_kept last size r) (All-cons P r (kept (Some r.content) size rows) (All-head P r rows h) (kept_all P (Some r.content) size rows rest)) (kept_all P last size rows rest)
+    at_test (is_needed last size r) (All-cons P r (kept (Some r.content) size rows) (All-head P r rows h) (kept_all P (Some r.content) size rows rest)) (kept_all P last size rows rest)
   where
     at_test : (b : Bool) → All P (r ∷ kept (Some r.content) size rows) → All P (kept last size rows) → All P (cond b (r ∷ kept (Some r.content) size rows) (kept last size rows))
     at_test true new old = new
     at_test false new old = old
 
-kept_of_all : (P : Row → Type 0) (shape : Shape) (size : ℕ) (rows : List Row) → All P rows → All P (kept_of shape size rows)
+kept_of_all : (P : Row → Type 0) (shape : Shape) (size : ℕ) (rows : List Row) → All P rows → All P (needed_rows shape size rows)
 kept_of_all P Plain size rows h = kept_all P None size rows h
 kept_of_all P (Repeat block) size rows h = h
 
@@ -193,7 +193,7 @@ kept_fits f h = record {
 
 needed_fit : (functions : List Func) → All NumbersFit functions → All NumbersFit (needed functions)
 needed_fit functions h =
-    All-map NumbersFit kept_function (filter answers functions) (All-weaker NumbersFit (λ (f : Func). NumbersFit (kept_function f)) kept_fits (filter answers functions) (All-filter answers NumbersFit functions h))
+    All-map NumbersFit kept_function (filter has_row functions) (All-weaker NumbersFit (λ (f : Func). NumbersFit (kept_function f)) kept_fits (filter has_row functions) (All-filter has_row NumbersFit functions h))
 
 -- a section that was checked, as a view of it
 abbrev view_of : (bytes : List ℕ) → (from : ℕ) → section_check bytes from ≡ Ok tt → View
@@ -214,10 +214,10 @@ entries_all P item number (f ∷ functions) h =
     All-cons (λ (l : Located). P (function_of l)) (at_entry item (number, f)) (map (at_entry item) (enumerate_from (number + 1) functions)) (All-head P f functions h)
     (entries_all P item (number + 1) functions (All-tail P f functions h))
 
-ordered_fit : (table : Table) (ordered : List Located) → InOrder (slim.sized table) ordered → All NumbersFit table.functions → All NumbersFit (map function_of ordered)
+ordered_fit : (table : Table) (ordered : List Located) → AreByRank (slim.sized_in table) ordered → All NumbersFit table.functions → All NumbersFit (map function_of ordered)
 ordered_fit table ordered order h =
-    All-map NumbersFit function_of ordered (All-permutation (λ (l : Located). NumbersFit (function_of l)) (slim.sized table) ordered order.moved
-    (All-filter has_bytes (λ (l : Located). NumbersFit (function_of l)) (located 0 table) (entries_all NumbersFit 0 0 table.functions h)))
+    All-map NumbersFit function_of ordered (All-permutation (λ (l : Located). NumbersFit (function_of l)) (slim.sized_in table) ordered order.moved
+    (All-filter is_sized (λ (l : Located). NumbersFit (function_of l)) (located 0 table) (entries_all NumbersFit 0 0 table.functions h)))
 
 -- a section that can be slimmed has a slimmed section
 pub some_slimmed : (bytes : List ℕ) (from at : ℕ) (functions : List Func) → AreBytes bytes → section_check bytes from ≡ Ok tt → Slims bytes (table_in bytes from) at (Ok functions)
@@ -226,10 +226,10 @@ some_slimmed bytes from at functions all passed (ordered, order, result) =
     let view = view_of bytes from passed in
     let is : Section bytes from (table_in bytes from) = section_stands bytes from all passed in
     let table = table_in bytes from in
-    let clear = no_slim_fault (slim.overlap_fault bytes ordered) (slim.reach_fault at (slim.slimmed ordered)) functions (slim.slimmed ordered) result in
+    let clear = no_slim_fault (slim.slim_overlap_fault bytes ordered) (slim.slim_reach_fault at (slim.slimmed ordered)) functions (slim.slimmed ordered) result in
     let taken = needed (map function_of ordered) in
     let same : slim.slimmed ordered ≡ taken = slimmed_is table.arch ordered (ordered_sound view ordered is order) in
-    let near : first_out_of_reach at 0 taken ≡ None = none_far_of (first_out_of_reach at 0 taken) (sym (ap (slim.reach_fault at) same) ∙ clear.1) in
+    let near : first_out_of_reach at 0 taken ≡ None = none_far_of (first_out_of_reach at 0 taken) (sym (ap (slim.slim_reach_fault at) same) ∙ clear.1) in
     let writable = needed_writable view ordered is order clear.0 in
     let of_table = functions_fit table.arch bytes table.flags from (functions_place bytes) table.functions all is.functions in
     let fit = needed_fit (map function_of ordered) (ordered_fit table ordered order of_table) in

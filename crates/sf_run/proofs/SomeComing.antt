@@ -150,8 +150,8 @@ some_slim : (from at : ℕ) (bytes : List ℕ) → AreBytes bytes → (check : R
 some_slim from at bytes are (Err fault) e = (coming_of_decoding 0 fault, refl)
 some_slim from at bytes are (Ok tt) e =
     let table = table_in bytes from in
-    let order = some_order (slim.sized table) in
-    let result = slim.unless_fault (slim.or_later (slim.overlap_fault bytes order.0) (slim.reach_fault at (slim.slimmed order.0))) (slim.slimmed order.0) in
+    let order = some_order (slim.sized_in table) in
+    let result = slim.unless_fault (slim.or_later (slim.slim_overlap_fault bytes order.0) (slim.slim_reach_fault at (slim.slimmed order.0))) (slim.slimmed order.0) in
     let slims : Slims bytes table at result = (order.0, order.1, refl) in
     let comes = some_slimming from at bytes are e result slims in
     (comes.0, record { table = table; of_bytes = section_stands bytes from are e; result = result; slims = slims; comes = comes.1 })

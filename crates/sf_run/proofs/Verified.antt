@@ -11,7 +11,7 @@ use Rattle.sf_asm.specs.declared.input.Input.{Input}
 use Rattle.sf_asm.specs.Functions.{Object, object_of}
 use Rattle.sf_verify.specs.declared.fault.VerifyFault.{VerifyFault}
 use Rattle.sf_verify.specs.declared.fault.VerifyFault.TheVariants as verify_fault
-use Rattle.sf_verify.specs.Verifying.{IsFirstFault, Verifies}
+use Rattle.sf_verify.specs.Verifying.{IsFirstVerifyFault, Verifies}
 use Rattle.sf_text.specs.Verdict.{verdict_text}
 use Rattle.sf_words.specs.declared.refusal.Refusal.{Refusal}
 use Rattle.sf_words.specs.declared.refusal.Refusal.TheVariants as refusal
@@ -43,7 +43,7 @@ memory_comes : (P : Coming → Type 0) (refused : Refusal) → refused ≡ refus
 memory_comes P refused e = subst (ComesAs P) (sym e) tt
 
 pub unverified_comes : (at : ℕ) (bytes read : List ℕ) (objects : List Object) (table : Table) (fault : VerifyFault) (refused : Refusal) → read ≡ bytes → section_check bytes at ≡ Ok tt → Section bytes at table
-    → IsFirstFault read table objects fault → (fault ≡ verify_fault.NoMemory → refused ≡ refusal.Memory) → ComesAs (λ (c : Coming). c ≡ coming_of_verifying fault) refused
+    → IsFirstVerifyFault read table objects fault → (fault ≡ verify_fault.NoMemory → refused ≡ refusal.Memory) → ComesAs (λ (c : Coming). c ≡ coming_of_verifying fault) refused
     → ComesAs (VerifyComesFrom at bytes objects (section_check bytes at)) refused
 unverified_comes at bytes read objects table fault refused same checked of_bytes (inl none) memory tells = memory_comes (VerifyComesFrom at bytes objects (section_check bytes at)) refused (memory none)
 unverified_comes at bytes read objects table fault refused same checked of_bytes (inr first) memory tells =

@@ -2,7 +2,7 @@
 
 ghost use Rattle.std.specs.Prelude.{◌≡◌, ◌<◌, ◌≤◌, ◌∷◌, None, IsTrue, length, map};
 ghost use Rattle.sf_decode.specs.Decoding.{section_check};
-ghost use Rattle.sf_verify.specs.FaultShown.{is_answered};
+ghost use Rattle.sf_verify.specs.FaultShown.{is_returned};
 ghost use Rattle.sf_words.specs.Loading.{bytes_limit, of_kinds};
 ghost use Rattle.sf_words.specs.declared.item.ItemKind.{ItemKind as kind};
 ghost use Rattle.sf_words.specs.Items.{input_item};
@@ -26,7 +26,7 @@ use std::alloc::Global;
 
 /// Returns why a section was not verified, as a refusal of the run. The section is item 0.
 fn unverified<'a>(fault: &VerifyFault) -> Refusal<'a>
-    requires { IsTrue (is_answered fault.now) }
+    requires { IsTrue (is_returned fault.now) }
     ensures memory { (fault.now ≡ VerifyFault.NoMemory) → (result ≡ Refusal.Memory) }
     ensures is { ComesAs (λ (coming : Coming). coming ≡ coming_of_verifying fault.now) result }
 {

@@ -18,7 +18,7 @@ use Rattle.sf_model.specs.Recovery.{Recovery, recovery}
 use Rattle.sf_model.specs.Table.{Table}
 use Rattle.sf_model.specs.Walk.{recover_by_rows}
 use Rattle.sf_model.proofs.Unions.{IsFound, Member, OnePasses, found, found_alone, found_by, from_filter, in_filter, moved, one_contains, some_found, within}
-use Rattle.sf_slim.specs.Slim.{answers_at, content_at, is_live, slim_function, slim_rows_of, IsSlim}
+use Rattle.sf_slim.specs.Slim.{has_row_at, content_at, is_live, slim_function, slim_rows_of, AreNeeded}
 use Rattle.sf_slim.proofs.Live.{some_offset}
 use Rattle.sf_slim.proofs.Sweep.{slim_says}
 
@@ -74,14 +74,14 @@ unfolding is_live
 no_row pc f t dead =
     let w = within pc f t in
     by_row (row_at (offset_in_block f.shape (pc - f.start)) f.rows) refl
-    (some_offset (answers_at f) f.size (pc - f.start) (omega (w.from, w.to, arith)))
+    (some_offset (has_row_at f) f.size (pc - f.start) (omega (w.from, w.to, arith)))
   where
-    by_row : (o : Option Row) → row_at (offset_in_block f.shape (pc - f.start)) f.rows ≡ o → (answers_at f (pc - f.start) ≡ true → list_any (answers_at f) (range_with_len 0 f.size) ≡ true) → row_in pc f ≡ None
+    by_row : (o : Option Row) → row_at (offset_in_block f.shape (pc - f.start)) f.rows ≡ o → (has_row_at f (pc - f.start) ≡ true → list_any (has_row_at f) (range_with_len 0 f.size) ≡ true) → row_in pc f ≡ None
     by_row None e live = ap (option_map (λ (row : Row). record { func = f; row = row })) e
     by_row (Some r) e live = let yes = live (ap is_some e) in cc
 
 -- ---- the functions
-module _ (table : Table) (functions : List Func) (rise : All (λ (f : Func). RowsRise f.rows) table.functions) (slim : IsSlim table functions) (pc : ℕ) where
+module _ (table : Table) (functions : List Func) (rise : All (λ (f : Func). RowsRise f.rows) table.functions) (slim : AreNeeded table functions) (pc : ℕ) where
   pub one : OnePasses (contains pc) table.functions
   one = one_contains pc table.functions slim.apart
 
@@ -135,7 +135,7 @@ module _ (table : Table) (functions : List Func) (rise : All (λ (f : Func). Row
           let h = found (contains pc) table.functions f e in
           by_live f h (is_live f) refl ∙ ap (recovers regs memory) (sym (found_by table.functions pc (Some f) e))
 
-pub alike : (table : Table) (functions : List Func) → All (λ (f : Func). RowsRise f.rows) table.functions → IsSlim table functions → (pc : ℕ) (regs : Regs) (memory : List Region)
+pub alike : (table : Table) (functions : List Func) → All (λ (f : Func). RowsRise f.rows) table.functions → AreNeeded table functions → (pc : ℕ) (regs : Regs) (memory : List Region)
     → recover_by_rows functions memory pc regs ≡ recover_by_rows table.functions memory pc regs
 unfolding recover_by_rows
 alike table functions rise slim pc regs memory = alike_at table functions rise slim pc regs memory

@@ -18,7 +18,7 @@ use Rattle.sf_model.proofs.TightOne.{zero_held}
 use Rattle.sf_sizes.specs.RowLength.{row_len}
 use Rattle.sf_sizes.specs.Width.{least_width}
 use Rattle.sf_express.proofs.Changes.{content_itself}
-use Rattle.sf_slim.specs.Slim.{Answers, begins, content_at, row_there, rows_among, slim_rows}
+use Rattle.sf_slim.specs.Slim.{ContentByOffset, content_begins, content_at, row_with, rows_beginning, slim_rows}
 use Rattle.sf_slim.specs.Shortest.{HoldsStarts, StandsFor, row_bytes}
 use Rattle.sf_write.specs.Row.{rows_len, start_width}
 
@@ -104,7 +104,7 @@ some_row : (x : Option Row) (c : Content) → option_map (λ (r : Row). r.conten
 some_row None c e = cc
 some_row (Some r) c e = (r, refl, cc)
 
-begins_one : (rows : List Row) (o : ℕ) (c : Content) → content_at rows o ≡ Some c → begins (content_at rows) o ≡ true → BeginsOne o c rows
+begins_one : (rows : List Row) (o : ℕ) (c : Content) → content_at rows o ≡ Some c → content_begins (content_at rows) o ≡ true → BeginsOne o c rows
 begins_one rows zero c e b =
     let found = some_row (row_at 0 rows) c e in
     let first = first_row found.0 rows found.1 in
@@ -116,7 +116,7 @@ begins_one rows (suc o) c e b =
       | inl here ↦ (found.0, next.0, here, found.2)
       | inr before ↦
           let was : content_at rows o ≡ Some c = ap (option_map (λ (r : Row). r.content)) before ∙ ap (λ (x : Content). Some x) found.2 in
-          let unchanged : begins (content_at rows) (suc o) ≡ false = rw (was, e, content_itself c) refl in
+          let unchanged : content_begins (content_at rows) (suc o) ≡ false = rw (was, e, content_itself c) refl in
           let no : true ≡ false = sym b ∙ unchanged in cc
     ]
 
@@ -157,39 +157,39 @@ with_one g a r (x ∷ rows) (inr later) is = at_test (nat_le (a + 1) x.start) re
     at_test false e false f rest = rw (e, f) rest
 
 -- ---- one offset of the shortest rows
-pub skips : (says : Answers) (a n : ℕ) → begins says a ≡ false → rows_among says (range_with_len a (suc n)) ≡ rows_among says (range_with_len (a + 1) n)
-skips says a n e = ap (λ (b : Bool). filter_map (λ (o : ℕ). row_there o (says o)) (cond b (a ∷ filter (begins says) (range_with_len (a + 1) n)) (filter (begins says) (range_with_len (a + 1) n)))) e
+pub skips : (says : ContentByOffset) (a n : ℕ) → content_begins says a ≡ false → rows_beginning says (range_with_len a (suc n)) ≡ rows_beginning says (range_with_len (a + 1) n)
+skips says a n e = ap (λ (b : Bool). filter_map (λ (o : ℕ). row_with o (says o)) (cond b (a ∷ filter (content_begins says) (range_with_len (a + 1) n)) (filter (content_begins says) (range_with_len (a + 1) n)))) e
 
-pub nothing : (says : Answers) (a n : ℕ) → says a ≡ None → rows_among says (range_with_len a (suc n)) ≡ rows_among says (range_with_len (a + 1) n)
-nothing says a n h = at_test (begins says a)
+pub nothing : (says : ContentByOffset) (a n : ℕ) → says a ≡ None → rows_beginning says (range_with_len a (suc n)) ≡ rows_beginning says (range_with_len (a + 1) n)
+nothing says a n h = at_test (content_begins says a)
   where
-    at_test : (b : Bool) → filter_map (λ (o : ℕ). row_there o (says o)) (cond b (a ∷ filter (begins says) (range_with_len (a + 1) n)) (filter (begins says) (range_with_len (a + 1) n))) ≡ rows_among says (range_with_len (a + 1) n)
+    at_test : (b : Bool) → filter_map (λ (o : ℕ). row_with o (says o)) (cond b (a ∷ filter (content_begins says) (range_with_len (a + 1) n)) (filter (content_begins says) (range_with_len (a + 1) n))) ≡ rows_beginning says (range_with_len (a + 1) n)
     at_test true = rw h refl
     at_test false = refl
 
-pub takes : (says : Answers) (a n : ℕ) (c : Content) → begins says a ≡ true → says a ≡ Some c → rows_among says (range_with_len a (suc n)) ≡ record { start = a; content = c } ∷ rows_among says (range_with_len (a + 1) n)
+pub takes : (says : ContentByOffset) (a n : ℕ) (c : Content) → content_begins says a ≡ true → says a ≡ Some c → rows_beginning says (range_with_len a (suc n)) ≡ record { start = a; content = c } ∷ rows_beginning says (range_with_len (a + 1) n)
 takes says a n c e h =
-    ap (λ (b : Bool). filter_map (λ (o : ℕ). row_there o (says o)) (cond b (a ∷ filter (begins says) (range_with_len (a + 1) n)) (filter (begins says) (range_with_len (a + 1) n)))) e
+    ap (λ (b : Bool). filter_map (λ (o : ℕ). row_with o (says o)) (cond b (a ∷ filter (content_begins says) (range_with_len (a + 1) n)) (filter (content_begins says) (range_with_len (a + 1) n)))) e
     ∙ rw h refl
 
 -- what holds of the rest, and of a row that begins in the list, holds here
-one_offset : (P : List Row → Type 0) (rows : List Row) (a n : ℕ) → P (rows_among (content_at rows) (range_with_len (a + 1) n))
-    → ((c : Content) → BeginsOne a c rows → P (record { start = a; content = c } ∷ rows_among (content_at rows) (range_with_len (a + 1) n)))
-    → P (rows_among (content_at rows) (range_with_len a (suc n)))
-one_offset P rows a n rest more = at_test (begins (content_at rows) a) refl (content_at rows a) refl
+one_offset : (P : List Row → Type 0) (rows : List Row) (a n : ℕ) → P (rows_beginning (content_at rows) (range_with_len (a + 1) n))
+    → ((c : Content) → BeginsOne a c rows → P (record { start = a; content = c } ∷ rows_beginning (content_at rows) (range_with_len (a + 1) n)))
+    → P (rows_beginning (content_at rows) (range_with_len a (suc n)))
+one_offset P rows a n rest more = at_test (content_begins (content_at rows) a) refl (content_at rows a) refl
   where
-    at_test : (b : Bool) → begins (content_at rows) a ≡ b → (x : Option Content) → content_at rows a ≡ x → P (rows_among (content_at rows) (range_with_len a (suc n)))
+    at_test : (b : Bool) → content_begins (content_at rows) a ≡ b → (x : Option Content) → content_at rows a ≡ x → P (rows_beginning (content_at rows) (range_with_len a (suc n)))
     at_test b e None h = subst P (sym (nothing (content_at rows) a n h)) rest
     at_test true e (Some c) h = subst P (sym (takes (content_at rows) a n c e h)) (more c (begins_one rows a c h e))
     at_test false e (Some c) h = subst P (sym (skips (content_at rows) a n e)) rest
 
 -- ---- all of them
-least_from : (g : Content → ℕ) (rows : List Row) (a n : ℕ) → sized g (rows_among (content_at rows) (range_with_len a n)) ≤ sized g (from a rows)
+least_from : (g : Content → ℕ) (rows : List Row) (a n : ℕ) → sized g (rows_beginning (content_at rows) (range_with_len a n)) ≤ sized g (from a rows)
 least_from g rows a zero = omega arith
 least_from g rows a (suc n) =
-    let rest : sized g (rows_among (content_at rows) (range_with_len (a + 1) n)) ≤ sized g (from (a + 1) rows) = least_from g rows (a + 1) n in
+    let rest : sized g (rows_beginning (content_at rows) (range_with_len (a + 1) n)) ≤ sized g (from (a + 1) rows) = least_from g rows (a + 1) n in
     one_offset (λ (xs : List Row). sized g xs ≤ sized g (from a rows)) rows a n (omega (arith, rest, fewer_later g a rows))
-    (λ c one. rw (sized_more g (record { start = a; content = c }) (rows_among (content_at rows) (range_with_len (a + 1) n)))
+    (λ c one. rw (sized_more g (record { start = a; content = c }) (rows_beginning (content_at rows) (range_with_len (a + 1) n)))
     (let size : g one.0.content ≡ g c = ap g one.3 in omega (arith, rest, size, with_one g a one.0 rows one.1 one.2)))
 
 all_from : (rows : List Row) → from 0 rows ≡ rows
@@ -202,12 +202,12 @@ held_one width r [] h one = absurd one
 held_one width r (x ∷ rows) h (inl here) = subst (λ (y : Row). IsTrue (holds_unsigned y.start width)) (sym here) (All-head (λ (r : Row). IsTrue (holds_unsigned r.start width)) x rows h)
 held_one width r (x ∷ rows) h (inr later) = held_one width r rows (All-tail (λ (r : Row). IsTrue (holds_unsigned r.start width)) x rows h) later
 
-held_from : (width : ℕ) (rows : List Row) → HoldsStarts width rows → (a n : ℕ) → HoldsStarts width (rows_among (content_at rows) (range_with_len a n))
+held_from : (width : ℕ) (rows : List Row) → HoldsStarts width rows → (a n : ℕ) → HoldsStarts width (rows_beginning (content_at rows) (range_with_len a n))
 held_from width rows h a zero = All-nil (λ (r : Row). IsTrue (holds_unsigned r.start width))
 held_from width rows h a (suc n) =
-    let rest : HoldsStarts width (rows_among (content_at rows) (range_with_len (a + 1) n)) = held_from width rows h (a + 1) n in
+    let rest : HoldsStarts width (rows_beginning (content_at rows) (range_with_len (a + 1) n)) = held_from width rows h (a + 1) n in
     one_offset (HoldsStarts width) rows a n rest
-    (λ c one. All-cons (λ (r : Row). IsTrue (holds_unsigned r.start width)) (record { start = a; content = c }) (rows_among (content_at rows) (range_with_len (a + 1) n))
+    (λ c one. All-cons (λ (r : Row). IsTrue (holds_unsigned r.start width)) (record { start = a; content = c }) (rows_beginning (content_at rows) (range_with_len (a + 1) n))
     (subst (λ (k : ℕ). IsTrue (holds_unsigned k width)) one.2 (held_one width one.0 rows h one.1)) rest)
 
 last_held : (width : ℕ) (rows : List Row) → width ≤ 2 → HoldsStarts width rows → IsTrue (holds_unsigned (last_start rows) width)
@@ -242,20 +242,20 @@ row_wider : (a b : ℕ) (rows : List Row) → width_len a ≤ width_len b → ro
 row_wider a b rows le = sum_by-le-sum_by (λ (r : Row). row_len a r.content) (λ (r : Row). row_len b r.content) rows (λ r. omega (arith, le))
 
 -- ---- the same answers below the size
-begins_alike : (s t : Answers) (o : ℕ) → ((p : ℕ) → p < o + 1 → s p ≡ t p) → begins s o ≡ begins t o
+begins_alike : (s t : ContentByOffset) (o : ℕ) → ((p : ℕ) → p < o + 1 → s p ≡ t p) → content_begins s o ≡ content_begins t o
 begins_alike s t zero h = refl
 begins_alike s t (suc o) h =
     let here : s (suc o) ≡ t (suc o) = h (suc o) (omega arith) in
     let before : s o ≡ t o = h o (omega arith) in
     rw (here, before) refl
 
-pub rows_alike : (s t : Answers) (a n : ℕ) → ((p : ℕ) → p < a + n → s p ≡ t p) → rows_among s (range_with_len a n) ≡ rows_among t (range_with_len a n)
+pub rows_alike : (s t : ContentByOffset) (a n : ℕ) → ((p : ℕ) → p < a + n → s p ≡ t p) → rows_beginning s (range_with_len a n) ≡ rows_beginning t (range_with_len a n)
 rows_alike s t a zero h = refl
 rows_alike s t a (suc n) h =
-    let rest : rows_among s (range_with_len (a + 1) n) ≡ rows_among t (range_with_len (a + 1) n) = rows_alike s t (a + 1) n (λ p lt. h p (omega (arith, lt))) in
-    at_test (begins t a) (begins_alike s t a (λ p lt. h p (omega (arith, lt)))) refl (s a) refl (sym (h a (omega arith))) rest
+    let rest : rows_beginning s (range_with_len (a + 1) n) ≡ rows_beginning t (range_with_len (a + 1) n) = rows_alike s t (a + 1) n (λ p lt. h p (omega (arith, lt))) in
+    at_test (content_begins t a) (begins_alike s t a (λ p lt. h p (omega (arith, lt)))) refl (s a) refl (sym (h a (omega arith))) rest
   where
-    at_test : (b : Bool) → begins s a ≡ begins t a → begins t a ≡ b → (x : Option Content) → s a ≡ x → t a ≡ s a → rows_among s (range_with_len (a + 1) n) ≡ rows_among t (range_with_len (a + 1) n) → rows_among s (range_with_len a (suc n)) ≡ rows_among t (range_with_len a (suc n))
+    at_test : (b : Bool) → content_begins s a ≡ content_begins t a → content_begins t a ≡ b → (x : Option Content) → s a ≡ x → t a ≡ s a → rows_beginning s (range_with_len (a + 1) n) ≡ rows_beginning t (range_with_len (a + 1) n) → rows_beginning s (range_with_len a (suc n)) ≡ rows_beginning t (range_with_len a (suc n))
     at_test b e f None hs ht rest = nothing s a n hs ∙ rest ∙ sym (nothing t a n (ht ∙ hs))
     at_test true e f (Some c) hs ht rest = takes s a n c (e ∙ f) hs ∙ ap (λ (xs : List Row). record { start = a; content = c } ∷ xs) rest ∙ sym (takes t a n c f (ht ∙ hs))
     at_test false e f (Some c) hs ht rest = skips s a n (e ∙ f) ∙ rest ∙ sym (skips t a n f)
@@ -263,8 +263,8 @@ rows_alike s t a (suc n) h =
 pub none_is_shorter : (arch : Arch) (f : Func) (rows : List Row) (width : ℕ) → StandsFor arch f rows → width ≤ 2 → HoldsStarts width rows → rows_len (slim_rows f.size f.rows) ≤ row_bytes width rows
 unfolding slim_rows rows_len
 none_is_shorter arch f rows width stands le held =
-    let own = rows_among (content_at f.rows) (range_with_len 0 f.size) in
-    let theirs = rows_among (content_at rows) (range_with_len 0 f.size) in
+    let own = rows_beginning (content_at f.rows) (range_with_len 0 f.size) in
+    let theirs = rows_beginning (content_at rows) (range_with_len 0 f.size) in
     let alike : theirs ≡ own = rows_alike (content_at rows) (content_at f.rows) 0 f.size (λ p lt. stands.same p (omega (arith, lt))) in
     let own_held : HoldsStarts width own = subst (HoldsStarts width) alike (held_from width rows held 0 f.size) in
     let least : start_width own ≤ width = least_is_least (holds_unsigned (last_start own)) width le (last_held width own le own_held) in

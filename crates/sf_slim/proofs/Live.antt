@@ -14,8 +14,8 @@ use Rattle.sf_model.specs.declared.rows.Row.{Row}
 use Rattle.sf_model.specs.Function.{RowsRise, shape_fits}
 use Rattle.sf_model.specs.Lookup.{offset_in_block, row_at}
 use Rattle.sf_lookup.proofs.Rows.{latest, latest_holds}
-use Rattle.sf_slim.specs.Slim.{answers_at, is_live}
-use Rattle.sf_slim.specs.Pass.{answers, first_holds, is_in_block}
+use Rattle.sf_slim.specs.Slim.{has_row_at, is_live}
+use Rattle.sf_slim.specs.Pass.{has_row, first_holds, is_in_block}
 
 -- ---- rows at an offset
 some_stays : (o : ℕ) (r : Row) (rows : List Row) → is_some (latest o (Some r) rows) ≡ true
@@ -68,28 +68,28 @@ before_block_ends (Repeat (suc k)) start o fits e = let le = ltb-false start (su
 
 -- ---- the function
 module _ (f : Func) (r : Row) (rows : List Row) (is : f.rows ≡ r ∷ rows) (rise : RowsRise f.rows) (fits : IsTrue (shape_fits f.shape)) where
-  at_offset : (o : ℕ) → answers_at f o ≡ nat_le r.start (offset_in_block f.shape o)
+  at_offset : (o : ℕ) → has_row_at f o ≡ nat_le r.start (offset_in_block f.shape o)
   at_offset o =
       ap (λ rs. is_some (row_at (offset_in_block f.shape o) rs)) is
       ∙ has_first (offset_in_block f.shape o) r rows (subst RowsRise is rise)
 
-  live_first : (within in_block : Bool) → nat_lt r.start f.size ≡ within → is_in_block f.shape r.start ≡ in_block → list_any (answers_at f) (range_with_len 0 f.size) ≡ (within && in_block)
+  live_first : (within in_block : Bool) → nat_lt r.start f.size ≡ within → is_in_block f.shape r.start ≡ in_block → list_any (has_row_at f) (range_with_len 0 f.size) ≡ (within && in_block)
   live_first true true t u =
       let same = in_first_block f.shape r.start u in
-      some_offset (answers_at f) f.size r.start (ltb-true r.start f.size t) (at_offset r.start ∙ le-leb r.start (offset_in_block f.shape r.start) (omega (same, arith)))
+      some_offset (has_row_at f) f.size r.start (ltb-true r.start f.size t) (at_offset r.start ∙ le-leb r.start (offset_in_block f.shape r.start) (omega (same, arith)))
   live_first true false t u =
-      no_offset (answers_at f) f.size (λ o lt. at_offset o ∙ lt-leb r.start (offset_in_block f.shape o) (before_block_ends f.shape r.start o fits u))
+      no_offset (has_row_at f) f.size (λ o lt. at_offset o ∙ lt-leb r.start (offset_in_block f.shape o) (before_block_ends f.shape r.start o fits u))
   live_first false b t u =
       let past = ltb-false r.start f.size t in
-      no_offset (answers_at f) f.size (λ o lt. let le = at_most f.shape o in at_offset o ∙ lt-leb r.start (offset_in_block f.shape o) (omega (le, lt, past, arith)))
+      no_offset (has_row_at f) f.size (λ o lt. let le = at_most f.shape o in at_offset o ∙ lt-leb r.start (offset_in_block f.shape o) (omega (le, lt, past, arith)))
 
-pub live_is : (f : Func) → RowsRise f.rows → IsTrue (shape_fits f.shape) → is_live f ≡ answers f
+pub live_is : (f : Func) → RowsRise f.rows → IsTrue (shape_fits f.shape) → is_live f ≡ has_row f
 unfolding is_live
 live_is f rise fits = by_rows f.rows refl
   where
-    by_rows : (rows : List Row) → f.rows ≡ rows → list_any (answers_at f) (range_with_len 0 f.size) ≡ first_holds f.shape f.size f.rows
+    by_rows : (rows : List Row) → f.rows ≡ rows → list_any (has_row_at f) (range_with_len 0 f.size) ≡ first_holds f.shape f.size f.rows
     by_rows [] is =
-        no_offset (answers_at f) f.size (λ o lt. ap (λ rs. is_some (row_at (offset_in_block f.shape o) rs)) is ∙ has_none (offset_in_block f.shape o))
+        no_offset (has_row_at f) f.size (λ o lt. ap (λ rs. is_some (row_at (offset_in_block f.shape o) rs)) is ∙ has_none (offset_in_block f.shape o))
         ∙ sym (ap (first_holds f.shape f.size) is)
     by_rows (r ∷ rows) is =
         live_first f r rows is rise fits (nat_lt r.start f.size) (is_in_block f.shape r.start) refl refl ∙ sym (ap (first_holds f.shape f.size) is)

@@ -34,7 +34,7 @@ use Rattle.sf_write.specs.Section.{row_section_len, section_len}
 use Rattle.sf_merge.proofs.Apart.{EndsBy, pairs_none, pairs_weaker}
 use Rattle.sf_model.proofs.Unions.{Member, found_alone, found_by, member, one_contains}
 use Rattle.sf_merge.proofs.Sound.{IsSound, functions_sound}
-use Rattle.sf_slim.specs.Slim.{content_at, slim_function, slim_rows, slim_rows_of, IsSlim}
+use Rattle.sf_slim.specs.Slim.{content_at, slim_function, slim_rows, slim_rows_of, AreNeeded}
 use Rattle.sf_slim.specs.Shortest.{HasLeastRows, HoldsStarts, IsPlain, SaysTheSame, StandsFor, row_bytes, span}
 use Rattle.sf_slim.proofs.Alike.{all_member, by_content, from_table, one, recovers}
 use Rattle.sf_slim.proofs.Least.{IsOne, found_one, least_is_least, none_is_shorter, of_filter, rows_alike, wider}
@@ -155,7 +155,7 @@ table_rises bytes at given is_section =
     All-weaker (IsSound given.arch) (λ (f : Func). RowsRise f.rows) (λ f s. s.rise) given.functions (functions_sound given.arch bytes given.flags at _ given.functions is_section.functions)
 
 -- the own rows of a function that is needed are those that are needed
-own_needed : (given : Table) (functions : List Func) → All (λ (f : Func). RowsRise f.rows) given.functions → IsSlim given functions → (f : Func) → Member functions f → IsPlain f → slim_rows f.size f.rows ≡ f.rows
+own_needed : (given : Table) (functions : List Func) → All (λ (f : Func). RowsRise f.rows) given.functions → AreNeeded given functions → (f : Func) → Member functions f → IsPlain f → slim_rows f.size f.rows ≡ f.rows
 own_needed given functions rise slim f m plain =
     let back = from_table given functions rise slim 0 f m in
     let f0 = back.0 in
@@ -166,7 +166,7 @@ own_needed given functions rise slim f m plain =
     let rows : f.rows ≡ slim_rows f0.size f0.rows = sym (ap (λ (x : Func). x.rows) is) ∙ plain_rows f0.shape f0.size f0.rows p in
     ap (λ (k : ℕ). slim_rows k f.rows) (sym size) ∙ (ap (slim_rows f0.size) rows ∙ (slim_again f0.size f0.rows rising ∙ sym rows))
 
-pub rows_least : (bytes : List ℕ) (at : ℕ) (given : Table) (functions : List Func) → Section bytes at given → IsSlim given functions → All (λ (f : Func). IsPlain f → HasLeastRows given.arch f) functions
+pub rows_least : (bytes : List ℕ) (at : ℕ) (given : Table) (functions : List Func) → Section bytes at given → AreNeeded given functions → All (λ (f : Func). IsPlain f → HasLeastRows given.arch f) functions
 rows_least bytes at given functions is_section slim k d lt plain rows width stands le held =
     let f : Func = get_or functions k d in
     let m : Member functions f = member functions f (k, lt, get_or_default functions k f d lt) in
@@ -174,7 +174,7 @@ rows_least bytes at given functions is_section slim k d lt plain rows width stan
     let fewer = none_is_shorter given.arch f rows width stands le held in
     omega (own, fewer, arith)
 
-module _ (bytes : List ℕ) (at : ℕ) (given : Table) (functions : List Func) (is_section : Section bytes at given) (slim : IsSlim given functions) (plain : All IsPlain functions)
+module _ (bytes : List ℕ) (at : ℕ) (given : Table) (functions : List Func) (is_section : Section bytes at given) (slim : AreNeeded given functions) (plain : All IsPlain functions)
     (place : ℕ) (other : List ℕ) (table : Table) (says : SaysTheSame given functions place other table) where
   rise : All (λ (f : Func). RowsRise f.rows) given.functions
   rise = table_rises bytes at given is_section
@@ -262,6 +262,6 @@ module _ (bytes : List ℕ) (at : ℕ) (given : Table) (functions : List Func) (
       let two = length-map functions span in
       omega (rows, says.tight.nothing_besides, counts, one, two, arith)
 
-pub none_is_shorter_than : (bytes : List ℕ) (at : ℕ) (given : Table) (functions : List Func) → Section bytes at given → IsSlim given functions → All IsPlain functions
+pub none_is_shorter_than : (bytes : List ℕ) (at : ℕ) (given : Table) (functions : List Func) → Section bytes at given → AreNeeded given functions → All IsPlain functions
     → (place : ℕ) (other : List ℕ) (table : Table) → SaysTheSame given functions place other table → section_len functions ≤ length other
 none_is_shorter_than bytes at given functions is_section slim plain place other table says = not_shorter bytes at given functions is_section slim plain place other table says

@@ -11,39 +11,39 @@ use Rattle.sf_write.specs.Section.{section_len, table_of}
 use Rattle.sf_decode.specs.declared.view.View.{View}
 use Rattle.sf_decode.specs.View as view
 use Rattle.sf_merge.specs.declared.located.Located.{Located}
-use Rattle.sf_merge.specs.Located.{compared, InOrder}
-use Rattle.sf_merge.specs.Views.{IsRead}
+use Rattle.sf_merge.specs.Located.{compared, AreByRank}
+use Rattle.sf_merge.specs.Views.{IsViewOfSection}
 use Rattle.sf_merge.proofs.Apart.{function_of}
 use Rattle.sf_slim.specs.declared.fault.SlimFault.{SlimFault}
 use Rattle.sf_slim.specs.declared.fault.SlimFault.TheVariants.{OutOfReach}
 use Rattle.sf_slim.specs.Answers.{IsSlimmed}
-use Rattle.sf_slim.specs.Slimming.{or_later, overlap_fault, reach_fault, sized, slimmed, unless_fault, Slims}
+use Rattle.sf_slim.specs.Slimming.{or_later, slim_overlap_fault, slim_reach_fault, sized_in, slimmed, unless_fault, Slims}
 use Rattle.sf_slim.proofs.Alike.{alike}
 use Rattle.sf_slim.proofs.Needed.{is_slim, needed, ordered_sound, slimmed_is}
 use Rattle.sf_slim.proofs.Shorter.{none_is_shorter_than, rows_least, table_rises}
 
-pub in_order : (given : View) (ordered : List Located) → IsPermutation (sized (view.table_of given)) ordered → IsSorted compared ordered → InOrder (sized (view.table_of given)) ordered
+pub in_order : (given : View) (ordered : List Located) → IsPermutation (sized_in (view.table_of given)) ordered → IsSorted compared ordered → AreByRank (sized_in (view.table_of given)) ordered
 in_order given ordered moved rising = record { moved = moved; rising = rising }
 
 -- a function is out of reach
-pub is_far : (given : View) (at start : ℕ) (ordered : List Located) → IsRead given → InOrder (sized (view.table_of given)) ordered → overlap_fault (view.section_bytes given) ordered ≡ None
+pub is_far : (given : View) (at start : ℕ) (ordered : List Located) → IsViewOfSection given → AreByRank (sized_in (view.table_of given)) ordered → slim_overlap_fault (view.section_bytes given) ordered ≡ None
     → first_out_of_reach at 0 (needed (map function_of ordered)) ≡ Some start → Slims (view.section_bytes given) (view.table_of given) at (Err (OutOfReach start))
 is_far given at start ordered read order apart far =
     let written = slimmed_is (view.table_of given).arch ordered (ordered_sound given ordered read order) in
-    let fault : or_later (overlap_fault (view.section_bytes given) ordered) (reach_fault at (slimmed ordered)) ≡ Some (OutOfReach start) =
-    ap (λ o. or_later o (reach_fault at (slimmed ordered))) apart ∙ ap (λ (fs : List Func). reach_fault at fs) written ∙ ap (option_map OutOfReach) far in
+    let fault : or_later (slim_overlap_fault (view.section_bytes given) ordered) (slim_reach_fault at (slimmed ordered)) ≡ Some (OutOfReach start) =
+    ap (λ o. or_later o (slim_reach_fault at (slimmed ordered))) apart ∙ ap (λ (fs : List Func). slim_reach_fault at fs) written ∙ ap (option_map OutOfReach) far in
     (ordered, order, sym (ap (λ (o : Option SlimFault). unless_fault o (slimmed ordered)) fault))
 
 -- there is no fault
-pub is_slimmed : (given : View) (at : ℕ) (section : List ℕ) (functions rows : ℕ) (ordered : List Located) → IsRead given → InOrder (sized (view.table_of given)) ordered
-    → overlap_fault (view.section_bytes given) ordered ≡ None → first_out_of_reach at 0 (needed (map function_of ordered)) ≡ None
+pub is_slimmed : (given : View) (at : ℕ) (section : List ℕ) (functions rows : ℕ) (ordered : List Located) → IsViewOfSection given → AreByRank (sized_in (view.table_of given)) ordered
+    → slim_overlap_fault (view.section_bytes given) ordered ≡ None → first_out_of_reach at 0 (needed (map function_of ordered)) ≡ None
     → Tight section at (table_of (view.table_of given).arch (needed (map function_of ordered))) → Narrow section (table_of (view.table_of given).arch (needed (map function_of ordered)))
     → length section ≡ section_len (needed (map function_of ordered)) → functions ≡ length (needed (map function_of ordered)) → rows ≡ row_count (needed (map function_of ordered))
     → AreBytes section → IsSlimmed (view.section_bytes given) (view.table_of given) at section functions rows
 is_slimmed given at section functions rows ordered read order apart reach tight narrow len count row_number bytes =
     let written = slimmed_is (view.table_of given).arch ordered (ordered_sound given ordered read order) in
-    let none : or_later (overlap_fault (view.section_bytes given) ordered) (reach_fault at (slimmed ordered)) ≡ None =
-    ap (λ o. or_later o (reach_fault at (slimmed ordered))) apart ∙ ap (λ (fs : List Func). reach_fault at fs) written ∙ ap (option_map OutOfReach) reach in
+    let none : or_later (slim_overlap_fault (view.section_bytes given) ordered) (slim_reach_fault at (slimmed ordered)) ≡ None =
+    ap (λ o. or_later o (slim_reach_fault at (slimmed ordered))) apart ∙ ap (λ (fs : List Func). slim_reach_fault at fs) written ∙ ap (option_map OutOfReach) reach in
     record {
       needed = needed (map function_of ordered);
       are = (ordered, order, sym (ap (λ (o : Option SlimFault). unless_fault o (slimmed ordered)) none ∙ ap (λ (fs : List Func). Ok fs) written));

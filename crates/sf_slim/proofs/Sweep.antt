@@ -11,8 +11,8 @@ use Rattle.sf_express.specs.Expressed.{repeats}
 use Rattle.sf_express.proofs.Changes.{content_itself}
 use Rattle.sf_express.proofs.Same.{repeated_is}
 use Rattle.sf_lookup.proofs.Rows.{Rise, all_rise, latest, latest_begun, latest_holds, latest_stays, latest_stops, rise_lower, rises}
-use Rattle.sf_slim.specs.Slim.{Answers, begins, content_at, rows_among, same_answer, slim_rows}
-use Rattle.sf_slim.specs.Pass.{is_kept, kept}
+use Rattle.sf_slim.specs.Slim.{ContentByOffset, content_begins, content_at, rows_beginning, have_same_content, slim_rows}
+use Rattle.sf_slim.specs.Pass.{is_needed, kept}
 use Rattle.sf_slim.proofs.Least.{skips, nothing, takes}
 
 abbrev pub contents : Option Row → Option Content
@@ -37,33 +37,33 @@ kept_again last size r rows lt e =
 
 -- ---- offset by offset
 -- the answer just before an offset
-abbrev Before : Answers → (offset : ℕ) → Option Content → Type 0
+abbrev Before : ContentByOffset → (offset : ℕ) → Option Content → Type 0
 Before says zero found = found ≡ None
 Before says (suc offset) found = says offset ≡ found
 
-next : (says : Answers) (a : ℕ) (found : Option Content) → says a ≡ found → Before says (a + 1) found
+next : (says : ContentByOffset) (a : ℕ) (found : Option Content) → says a ≡ found → Before says (a + 1) found
 next says a found e = let more : suc a ≡ a + 1 = omega arith in subst (λ k. Before says k found) more e
 
 -- nothing changes at this offset
-quiet : (says : Answers) (a n : ℕ) (found : Option Content) → Before says a found → says a ≡ found → rows_among says (range_with_len a (suc n)) ≡ rows_among says (range_with_len (a + 1) n)
+quiet : (says : ContentByOffset) (a n : ℕ) (found : Option Content) → Before says a found → says a ≡ found → rows_beginning says (range_with_len a (suc n)) ≡ rows_beginning says (range_with_len (a + 1) n)
 quiet says a n None before e = nothing says a n e
 quiet says zero n (Some c) before e = let no : Some c ≡ None = before in cc
 quiet says (suc p) n (Some c) before e =
-    let unchanged : begins says (suc p) ≡ false = rw (before, e, content_itself c) refl in
+    let unchanged : content_begins says (suc p) ≡ false = rw (before, e, content_itself c) refl in
     skips says (suc p) n unchanged
 
-same_as_repeats : (found : Option Content) (c : Content) → same_answer found (Some c) ≡ repeats found c
+same_as_repeats : (found : Option Content) (c : Content) → have_same_content found (Some c) ≡ repeats found c
 same_as_repeats None c = refl
 same_as_repeats (Some d) c = refl
 
-begins_is : (says : Answers) (a : ℕ) (found : Option Content) (c : Content) → Before says a found → says a ≡ Some c → begins says a ≡ not (repeats found c)
+begins_is : (says : ContentByOffset) (a : ℕ) (found : Option Content) (c : Content) → Before says a found → says a ≡ Some c → content_begins says a ≡ not (repeats found c)
 begins_is says zero found c before e = let none : found ≡ None = before in rw none refl
 begins_is says (suc p) found c before e =
     let was : says p ≡ found = before in
     rw (was, e, same_as_repeats found c) refl
 
-swept : (says : Answers) (size n a : ℕ) (found : Option Row) (rest : List Row) → a + n ≡ size → Rise a rest → Before says a (contents found)
-    → ((o : ℕ) → a ≤ o → says o ≡ contents (latest o found rest)) → rows_among says (range_with_len a n) ≡ kept (contents found) size rest
+swept : (says : ContentByOffset) (size n a : ℕ) (found : Option Row) (rest : List Row) → a + n ≡ size → Rise a rest → Before says a (contents found)
+    → ((o : ℕ) → a ≤ o → says o ≡ contents (latest o found rest)) → rows_beginning says (range_with_len a n) ≡ kept (contents found) size rest
 swept says size zero a found rest e rise before at = sym (none_kept (contents found) size a rest (omega (e, arith)) rise)
 swept says size (suc n) a found [] e rise before at =
     let here : says a ≡ contents found = at a (omega arith) in
@@ -77,20 +77,20 @@ swept says size (suc n) a found (r ∷ rows) e rise before at = elim (cases_lt a
   | inr not_ahead ↦
       let is : r.start ≡ a = omega (not_ahead, rise.0, arith) in
       let here : says a ≡ Some r.content = at a (omega arith) ∙ ap contents (latest_begun a found r rows (omega (is, arith)) ∙ latest_stays a (r.start + 1) (Some r) rows (omega (is, arith)) rise.1) in
-      let later : rows_among says (range_with_len (a + 1) n) ≡ kept (Some r.content) size rows =
+      let later : rows_beginning says (range_with_len (a + 1) n) ≡ kept (Some r.content) size rows =
       swept says size n (a + 1) (Some r) rows (omega (e, arith)) (rise_lower (a + 1) (r.start + 1) rows (omega (is, arith)) rise.1) (next says a (Some r.content) here)
       (λ o le. at o (omega (le, arith)) ∙ ap contents (latest_begun o found r rows (omega (is, le, arith)))) in
       let within : r.start < size = omega (is, e, arith) in
       at_test (repeats (contents found) r.content) refl is here later within
 ]
   where
-    at_test : (b : Bool) → repeats (contents found) r.content ≡ b → r.start ≡ a → says a ≡ Some r.content → rows_among says (range_with_len (a + 1) n) ≡ kept (Some r.content) size rows → r.start < size
-        → rows_among says (range_with_len a (suc n)) ≡ kept (contents found) size (r ∷ rows)
+    at_test : (b : Bool) → repeats (contents found) r.content ≡ b → r.start ≡ a → says a ≡ Some r.content → rows_beginning says (range_with_len (a + 1) n) ≡ kept (Some r.content) size rows → r.start < size
+        → rows_beginning says (range_with_len a (suc n)) ≡ kept (contents found) size (r ∷ rows)
     at_test true t is here later within =
         skips says a n (begins_is says a (contents found) r.content before here ∙ ap not t) ∙ later ∙ sym (kept_again (contents found) size r rows within t)
     at_test false t is here later within =
         takes says a n r.content (begins_is says a (contents found) r.content before here ∙ ap not t) here
-        ∙ ap (λ (k : ℕ). record { start = k; content = r.content } ∷ rows_among says (range_with_len (a + 1) n)) (sym is)
+        ∙ ap (λ (k : ℕ). record { start = k; content = r.content } ∷ rows_beginning says (range_with_len (a + 1) n)) (sym is)
         ∙ ap (λ (rs : List Row). r ∷ rs) later
         ∙ sym (kept_new (contents found) size r rows within t)
 
@@ -101,7 +101,7 @@ slim_is_kept size rows h = swept (content_at rows) size size 0 None rows (omega 
 -- ---- the answers of the kept rows
 kept_rise : (last : Option Content) (size least : ℕ) (rows : List Row) → Rise least rows → Rise least (kept last size rows)
 kept_rise last size least [] h = tt
-kept_rise last size least (r ∷ rows) h = at_test (is_kept last size r) (kept_rise (Some r.content) size (r.start + 1) rows h.1) (kept_rise last size (r.start + 1) rows h.1)
+kept_rise last size least (r ∷ rows) h = at_test (is_needed last size r) (kept_rise (Some r.content) size (r.start + 1) rows h.1) (kept_rise last size (r.start + 1) rows h.1)
   where
     at_test : (b : Bool) → Rise (r.start + 1) (kept (Some r.content) size rows) → Rise (r.start + 1) (kept last size rows) → Rise least (cond b (r ∷ kept (Some r.content) size rows) (kept last size rows))
     at_test true new old = (h.0, new)

@@ -1,5 +1,5 @@
--- What the line of a fault prints: two functions that share an address are a fault of the section, as in a section
--- whose flag says that it is sorted, and a start out of reach is a fault of linking.
+-- What the line of a fault prints. Two functions that share an address are a fault of the section, as in a section with the
+-- flag SFRAME_F_FDE_SORTED, and a start out of reach is a fault of linking.
 use Rattle.std.specs.Prelude.{ℕ, Bool, true, false, [], ◌∷◌, Option, None}
 use Rattle.sf_model.specs.declared.notice.Group.TheVariants as group
 use Rattle.sf_model.specs.FaultShown.{FaultShown}
@@ -10,14 +10,15 @@ use Rattle.sf_merge.specs.FaultShown.{shown_of_merging}
 use Rattle.sf_slim.specs.declared.fault.SlimFault.{SlimFault}
 use Rattle.sf_slim.specs.declared.fault.SlimFault.TheVariants.{Overlap, OutOfReach, NoMemory}
 
--- the item and the entry's place; the start, without an item; out of memory has no line
+-- what the line of a fault of slimming prints: the item and the entry's place, or the start without an item; out of memory
+-- has no line
 abbrev pub shown_of_slimming : Option ℕ → SlimFault → FaultShown
 shown_of_slimming item (Overlap place) = record { item = item; group = group.Section; number = (number_and_place (decode.Overlap place)).0; values = place ∷ [] }
 shown_of_slimming item (OutOfReach start) = shown_of_merging None (merge.OutOfReach start)
 shown_of_slimming item NoMemory = shown_of_merging None merge.NoMemory
 
--- all faults but out of memory
-abbrev pub is_refusal : SlimFault → Bool
-is_refusal (Overlap place) = true
-is_refusal (OutOfReach start) = true
-is_refusal NoMemory = false
+-- the fault is not out of memory
+abbrev pub is_slim_refusal : SlimFault → Bool
+is_slim_refusal (Overlap place) = true
+is_slim_refusal (OutOfReach start) = true
+is_slim_refusal NoMemory = false

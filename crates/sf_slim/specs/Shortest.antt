@@ -25,21 +25,21 @@ row_bytes start_width rows = sum_by (λ (r : Row). row_len start_width r.content
 abbrev pub HoldsStarts : (start_width : ℕ) → List Row → Type 0
 HoldsStarts start_width rows = All (λ (r : Row). IsTrue (holds_unsigned r.start start_width)) rows
 
--- The starts strictly rise, the contents fit, and at each offset below the function's size the rows have the content that the
--- function's own rows have there, or none.
+-- The rows stand for the function: their starts strictly rise, their contents fit, and at each offset below the function's size
+-- they have the content that the function's own rows have there, or none.
 pub record StandsFor (arch : Arch) (f : Func) (rows : List Row) : Type 0 where
   pub rise : RowsRise rows
   pub fit : All (λ (r : Row). IsTrue (content_fits arch r.content)) rows
   pub same : (offset : ℕ) → offset < f.size → content_at rows offset ≡ content_at f.rows offset
 
--- no rows that stand for the function take fewer bytes than its own
+-- the function's own rows take the fewest bytes of all rows that stand for it
 abbrev pub HasLeastRows : Arch → Func → Type 0
 HasLeastRows arch f = (rows : List Row) (width : ℕ) → StandsFor arch f rows → width ≤ 2 → HoldsStarts width rows → rows_len f.rows ≤ row_bytes width rows
 
 -- ---- whole sections
--- at every address both recover the same, for all registers and any memory, or neither recovers anything
-abbrev pub RecoverAlike : (functions others : List Func) → Type 0
-RecoverAlike functions others = (pc : ℕ) (regs : Regs) (memory : List Region) → recover_by_rows functions memory pc regs ≡ recover_by_rows others memory pc regs
+-- at every address both recover the same for all registers and any memory, or both recover nothing
+abbrev pub RecoverTheSame : (functions others : List Func) → Type 0
+RecoverTheSame functions others = (pc : ℕ) (regs : Regs) (memory : List Region) → recover_by_rows functions memory pc regs ≡ recover_by_rows others memory pc regs
 
 -- a function's start and size
 abbrev pub span : Func → ℕ × ℕ
@@ -56,7 +56,7 @@ pub record SaysTheSame (given : Table) (functions : List Func) (at : ℕ) (bytes
   pub machine : table.arch ≡ given.arch
   pub plain : All IsPlain table.functions
   pub spans : map span table.functions ≡ map span functions
-  pub alike : RecoverAlike table.functions given.functions
+  pub alike : RecoverTheSame table.functions given.functions
 
 -- no section of plain functions that recovers the same is shorter
 abbrev pub IsLeast : (given : Table) → (functions : List Func) → (len : ℕ) → Type 0

@@ -3,7 +3,7 @@
 ghost use Rattle.std.specs.Prelude.{◌≡◌, IsSome, IsTrue};
 ghost use Rattle.sf_model.specs.Notice.{HasLine};
 ghost use Rattle.sf_model.specs.FaultShown.{shown_by};
-ghost use Rattle.sf_slim.specs.FaultShown.{is_refusal, shown_of_slimming};
+ghost use Rattle.sf_slim.specs.FaultShown.{is_slim_refusal, shown_of_slimming};
 
 use crate::fault::SlimFault;
 use sf_decode::DecodeFault;
@@ -14,7 +14,7 @@ impl SlimFault {
     /// Returns the notice of this fault for this item's section, as its line prints it. The caller owes
     /// that the fault is not `NoMemory`.
     pub fn notice(&self, item: Option<u32>) -> Notice
-        requires { IsTrue (is_refusal self.now) }
+        requires { IsTrue (is_slim_refusal self.now) }
         ensures shown { shown_by result ≡ shown_of_slimming item self.now }
         ensures line { IsSome item → HasLine result }
     {

@@ -10,10 +10,10 @@ use sf_express::is_repeated;
 use sf_model::{Content, Func, FuncHead, Key, Row, Rows, Shape};
 use std::alloc::Global;
 
-/// Returns whether a row begins within the function and has other content than the last one that was kept.
+/// Returns whether a row begins within the function, and its content isn't that of the last row that was kept.
 #[inline(always)]
-fn is_kept(last: Option<Content>, size: u32, row: &Row) -> bool
-    ensures { result ≡ spec.is_kept last size row.now }
+fn is_needed(last: Option<Content>, size: u32, row: &Row) -> bool
+    ensures { result ≡ spec.is_needed last size row.now }
 {
     row.start < size && !is_repeated(last, row.content)
 }
@@ -25,7 +25,7 @@ fn keep_rows(size: u32, rows: RowIter<'_>, kept: &mut Rows) -> Result<(), NoMemo
     kept.clear();
     let mut last = None;
     for row in rows {
-        if is_kept(last, size, &row) {
+        if is_needed(last, size, &row) {
             kept.push(row)?;
             last = Some(row.content);
         }
@@ -48,7 +48,7 @@ fn all_rows(rows: RowIter<'_>, all: &mut Rows) -> Result<(), NoMemory>
 /// blocks keeps its rows.
 #[inline(always)]
 fn needed_rows(head: &FuncHead, rows: RowIter<'_>, kept: &mut Rows) -> Result<(), NoMemory>
-    ensures { OnOk result (kept.new ≡ spec.kept_of head.now.shape head.now.size (rows_left rows.entry)) }
+    ensures { OnOk result (kept.new ≡ spec.needed_rows head.now.shape head.now.size (rows_left rows.entry)) }
 {
     match head.shape {
         Shape::Repeat(_) => all_rows(rows, kept),
@@ -63,7 +63,7 @@ pub(crate) fn keep_function(
     rows: RowIter<'_>,
     kept: &mut Func,
 ) -> Result<(), NoMemory>
-    ensures { OnOk result (kept.new ≡ spec.kept_function (spec.with_rows head.now (rows_left rows.entry))) }
+    ensures { OnOk result (kept.new ≡ spec.kept_function (spec.head_with_rows head.now (rows_left rows.entry))) }
 {
     kept.start = head.start;
     kept.size = head.size;
@@ -83,7 +83,7 @@ pub(crate) fn empty_function(alloc: Global) -> Func {
     }
 }
 
-/// Returns whether an offset lies within a block of repeated rows.
+/// Returns whether an offset is within a block.
 #[inline(always)]
 fn is_in_block(shape: Shape, offset: u32) -> bool
     ensures { result ≡ spec.is_in_block shape offset }
@@ -96,8 +96,8 @@ fn is_in_block(shape: Shape, offset: u32) -> bool
 
 /// Returns whether a function has a row at some address: its first row begins within it.
 #[inline(always)]
-pub(crate) fn answers(head: &FuncHead, rows: RowIter<'_>) -> bool
-    ensures { result ≡ spec.answers (spec.with_rows head.now (rows_left rows.entry)) }
+pub(crate) fn has_row(head: &FuncHead, rows: RowIter<'_>) -> bool
+    ensures { result ≡ spec.has_row (spec.head_with_rows head.now (rows_left rows.entry)) }
 {
     let mut rows = rows;
     match rows.next() {

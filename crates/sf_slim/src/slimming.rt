@@ -6,12 +6,12 @@ ghost use Rattle.sf_model.specs.Function.{IsWritable};
 ghost use Rattle.sf_decode.specs.View.{section_bytes, table_of};
 ghost use Rattle.sf_write.specs.Stored.{IsStored, stored_count, stored_in};
 ghost use Rattle.sf_merge.specs.declared.located.Located.{Located as located};
-ghost use Rattle.sf_slim.specs.Answers.{IsFirstFault, IsSlimmed};
+ghost use Rattle.sf_slim.specs.Answers.{IsFirstSlimFault, IsSlimmed};
 ghost use Rattle.sf_slim.specs.Pass as pass;
 
 use crate::fault::SlimFault;
 use crate::overlap::check_overlap;
-use crate::passing::{answers, empty_function, keep_function};
+use crate::passing::{empty_function, has_row, keep_function};
 use sf_base::NoMemory;
 use sf_decode::View;
 use sf_merge::{SectionFunctions, in_order};
@@ -40,16 +40,16 @@ struct Written {
 /// Stores the functions that have a row at some address, each with the rows that are needed. One function at a
 /// time is read.
 fn needed(alloc: Global, arch: Arch, ordered: &SectionFunctions<'_>) -> Result<Written, NoMemory>
-    requires { All (λ (l : located). pass.answers l.func ≡ true → IsWritable arch (pass.kept_function l.func)) ordered.now }
+    requires { All (λ (l : located). pass.has_row l.func ≡ true → IsWritable arch (pass.kept_function l.func)) ordered.now }
     ensures stored { IfOk result (λ needed. All (IsStored needed.rows) needed.functions.items) }
-    ensures needed { IfOk result (λ needed. map (stored_in needed.rows) needed.functions.items ≡ map pass.kept_function (filter pass.answers (map (λ (l : located). l.func) ordered.now))) }
+    ensures needed { IfOk result (λ needed. map (stored_in needed.rows) needed.functions.items ≡ map pass.kept_function (filter pass.has_row (map (λ (l : located). l.func) ordered.now))) }
 {
     let mut rows = StoredRows::new(alloc);
     let mut functions = Vec::with_capacity(alloc, ordered.len())?;
     let mut kept = empty_function(alloc);
     for place in 0..ordered.len() {
         let head = ordered.head(place);
-        if answers(&head, ordered.rows(place)) {
+        if has_row(&head, ordered.rows(place)) {
             keep_function(&head, ordered.rows(place), &mut kept)?;
             functions.push(rows.push(arch, &kept)?)?;
         }
@@ -81,7 +81,7 @@ pub fn slim(alloc: Global, view: &View<'_>, at: u64) -> Result<Slimmed, SlimFaul
     // The section is that of what is needed.
     ensures slimmed { IfOk result (λ made. IsSlimmed (section_bytes view.now) (table_of view.now) at made.section.items made.functions made.rows) }
     // A fault is the first one.
-    ensures fault { IfErr result (IsFirstFault (section_bytes view.now) (table_of view.now) at) }
+    ensures fault { IfErr result (IsFirstSlimFault (section_bytes view.now) (table_of view.now) at) }
 {
     let arch = view.arch();
     let ordered = in_order(alloc, view)?;

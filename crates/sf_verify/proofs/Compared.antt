@@ -16,8 +16,8 @@ use Rattle.sf_verify.specs.declared.dwarf.Dwarf.{Dwarf}
 use Rattle.sf_verify.specs.declared.dwarf.Known.{Known}
 use Rattle.sf_asm.specs.declared.said.Said.{Said}
 use Rattle.sf_verify.specs.declared.sweep.Difference.{Difference}
-use Rattle.sf_verify.specs.Agreement.{Agree, RecoverAlike, content_said, is_plain, is_plain_shape}
-use Rattle.sf_verify.specs.Asking.{IsKnown, IsReady, IsSame, Knows}
+use Rattle.sf_verify.specs.Agreement.{Agree, RecoverSameFrame, content_said, is_plain, is_plain_shape}
+use Rattle.sf_verify.specs.Asking.{IsKnownUpTo, IsReady, IsSame, Knows}
 use Rattle.sf_verify.specs.Comparing.{Compares, edge, edge_of, func_says}
 use Rattle.sf_asm.specs.Said.{Answers, with_key}
 use Rattle.sf_verify.proofs.Holding.{plain_says}
@@ -85,14 +85,14 @@ nothing_there said dwarf from end pc le lt h none =
     differ_here (λ p. Some said) dwarf from end pc said.content None le lt h refl (ap content_said none) (λ agree. subst (Agree (Some said)) none agree)
 
 -- something else is known there
-pub other_there : (arch : Arch) (said : Said) (known : Known) (dwarf : Answers) (from end pc : ℕ) → from ≤ pc → pc < end → Compares (λ p. Some said) dwarf from pc None → IsKnown arch dwarf pc known → (RecoverAlike said known.said → ⊥)
+pub other_there : (arch : Arch) (said : Said) (known : Known) (dwarf : Answers) (from end pc : ℕ) → from ≤ pc → pc < end → Compares (λ p. Some said) dwarf from pc None → IsKnownUpTo arch dwarf pc known → (RecoverSameFrame said known.said → ⊥)
     → Compares (λ p. Some said) dwarf from end (Some (record { pc = pc; section = said.content; dwarf = Some known.said.content }))
 other_there arch said known dwarf from end pc le lt h there differ =
     let here : dwarf pc ≡ Some known.said = there.steady pc (omega arith) there.from_here in
     differ_here (λ p. Some said) dwarf from end pc said.content (Some known.said.content) le lt h refl (ap content_said here) (λ agree. differ (subst (Agree (Some said)) here agree))
 
 -- what is known there recovers alike, up to where it goes
-pub alike_on : (arch : Arch) (said : Said) (known : Known) (dwarf : Answers) (from pc end : ℕ) → end ≤ known.last + 1 → Compares (λ p. Some said) dwarf from pc None → IsKnown arch dwarf pc known → RecoverAlike said known.said → Compares (λ p. Some said) dwarf from end None
+pub alike_on : (arch : Arch) (said : Said) (known : Known) (dwarf : Answers) (from pc end : ℕ) → end ≤ known.last + 1 → Compares (λ p. Some said) dwarf from pc None → IsKnownUpTo arch dwarf pc known → RecoverSameFrame said known.said → Compares (λ p. Some said) dwarf from end None
 alike_on arch said known dwarf from pc end short h there alike = λ p low high. elim (cases_lt p pc) [
   | inl before ↦ h p low before
   | inr not_before ↦ subst (Agree (Some said)) (sym (there.steady p (omega (arith, not_before)) (omega (arith, high, short)))) alike
@@ -183,7 +183,7 @@ row_says f place from end row plain rise lt is from_is end_is some = λ pc low h
     sym (plain_says f pc plain ∙ ap (λ (o : Option Row). option_map (with_key f.key) (option_map (λ (r : Row). r.content) o)) found ∙ ap (λ (r : Row). Some (with_key f.key r.content)) (sym is))
 
 -- ---- results
-pub known_some : (arch : Arch) (answers : Answers) (pc : ℕ) (result : Option Known) (known : Known) → result ≡ Some known → Knows arch answers pc result → IsKnown arch answers pc known
+pub known_some : (arch : Arch) (answers : Answers) (pc : ℕ) (result : Option Known) (known : Known) → result ≡ Some known → Knows arch answers pc result → IsKnownUpTo arch answers pc known
 known_some arch answers pc result known is h = subst (Knows arch answers pc) is h
 
 -- the run of a row, as the function says it

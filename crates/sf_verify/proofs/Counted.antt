@@ -12,52 +12,52 @@ use Rattle.sf_merge.specs.declared.located.Located.{Located}
 use Rattle.sf_merge.proofs.Permutations.{filter_permuted}
 use Rattle.sf_asm.specs.Functions.{Function}
 use Rattle.sf_asm.specs.Kept.{is_kept, kept_functions}
-use Rattle.sf_verify.specs.Agreement.{is_missing, is_plain, stands_for}
-use Rattle.sf_verify.specs.Comparing.{functions_in}
-use Rattle.sf_verify.specs.Counting.{StartBefore, StartsRise, covers, is_absent}
+use Rattle.sf_verify.specs.Agreement.{is_missing, is_plain, represents}
+use Rattle.sf_merge.specs.Located.{located_functions}
+use Rattle.sf_verify.specs.Counting.{StartBefore, StartsRise, represents_kept, is_absent}
 use Rattle.sf_verify.proofs.Gathered.{expressed_of}
 
 -- ---- one kept function, among functions by rising start
-covered_start : (kept g : Func) → covers kept g ≡ true → g.start ≡ kept.start
+covered_start : (kept g : Func) → represents_kept kept g ≡ true → g.start ≡ kept.start
 covered_start kept g e =
     let two = and_parts (is_plain g && (g.start == kept.start)) (g.size == kept.size) e in
     let one = and_parts (is_plain g) (g.start == kept.start) two.0 in
     eqb-true g.start kept.start one.1
 
-other_start : (kept g : Func) (b : Bool) → covers kept g ≡ b → (g.start ≡ kept.start → ⊥) → b ≡ false
+other_start : (kept g : Func) (b : Bool) → represents_kept kept g ≡ b → (g.start ≡ kept.start → ⊥) → b ≡ false
 other_start kept g true e never = absurd (never (covered_start kept g e))
 other_start kept g false e never = refl
 
-none_covers : (kept : Func) (functions : List Located) → ((i : ℕ) (d : Located) → i < length functions → covers kept (get_or functions i d).func ≡ false) → list_any (covers kept) (functions_in functions) ≡ false
+none_covers : (kept : Func) (functions : List Located) → ((i : ℕ) (d : Located) → i < length functions → represents_kept kept (get_or functions i d).func ≡ false) → list_any (represents_kept kept) (located_functions functions) ≡ false
 none_covers kept [] h = refl
 none_covers kept (l ∷ functions) h = rw (h 0 l (omega arith)) (none_covers kept functions (λ i d lt. h (suc i) d (omega (arith, lt))))
 
-one_covers : (kept : Func) (functions : List Located) (place : ℕ) (d : Located) → place < length functions → covers kept (get_or functions place d).func ≡ true → list_any (covers kept) (functions_in functions) ≡ true
+one_covers : (kept : Func) (functions : List Located) (place : ℕ) (d : Located) → place < length functions → represents_kept kept (get_or functions place d).func ≡ true → list_any (represents_kept kept) (located_functions functions) ≡ true
 one_covers kept [] place d lt e = absurd (omega (arith, lt))
 one_covers kept (l ∷ functions) zero d lt e = rw e refl
 one_covers kept (l ∷ functions) (suc place) d lt e =
-    ap (λ (b : Bool). covers kept l.func || b) (one_covers kept functions place d (omega (arith, lt)) e) ∙ or_true (covers kept l.func)
+    ap (λ (b : Bool). represents_kept kept l.func || b) (one_covers kept functions place d (omega (arith, lt)) e) ∙ or_true (represents_kept kept l.func)
   where
     or_true : (b : Bool) → (b || true) ≡ true
     or_true true = refl
     or_true false = refl
 
 pub there_is : (kept : Func) (functions : List Located) (place : ℕ) (d : Located) (b : Bool) → StartsRise functions → StartBefore functions place kept.start → (place < length functions → kept.start ≤ (get_or functions place d).func.start)
-    → (b ≡ true → place < length functions) → (place < length functions → b ≡ covers kept (get_or functions place d).func) → list_any (covers kept) (functions_in functions) ≡ b
+    → (b ≡ true → place < length functions) → (place < length functions → b ≡ represents_kept kept (get_or functions place d).func) → list_any (represents_kept kept) (located_functions functions) ≡ b
 there_is kept functions place d true rise before after within is = let lt = within refl in one_covers kept functions place d lt (sym (is lt))
 there_is kept functions place d false rise before after within is = none_covers kept functions
     (λ i e lt. elim (cases_lt i place) [
-      | inl less ↦ let start = before i e less lt in other_start kept (get_or functions i e).func (covers kept (get_or functions i e).func) refl (λ same. omega (arith, start, same))
+      | inl less ↦ let start = before i e less lt in other_start kept (get_or functions i e).func (represents_kept kept (get_or functions i e).func) refl (λ same. omega (arith, start, same))
       | inr not_less ↦ elim (cases_lt place i) [
         | inl more ↦
             let here : place < length functions = omega (arith, more, lt) in
             let up = rise place i e more lt in
             let first = subst (λ (l : Located). kept.start ≤ l.func.start) (get_or_default functions place d e here) (after here) in
-            other_start kept (get_or functions i e).func (covers kept (get_or functions i e).func) refl (λ same. omega (arith, up, first, same))
+            other_start kept (get_or functions i e).func (represents_kept kept (get_or functions i e).func) refl (λ same. omega (arith, up, first, same))
         | inr not_more ↦
             let same : i ≡ place = omega (arith, not_less, not_more) in
             let here : place < length functions = subst (λ (k : ℕ). k < length functions) same lt in
-            ap (λ (l : Located). covers kept l.func) (ap (λ (k : ℕ). get_or functions k e) same ∙ get_or_default functions place e d here) ∙ sym (is here)
+            ap (λ (l : Located). represents_kept kept l.func) (ap (λ (k : ℕ). get_or functions k e) same ∙ get_or_default functions place e d here) ∙ sym (is here)
       ]
     ])
 
@@ -86,7 +86,7 @@ pub later_before : (functions : List Located) (place start more : ℕ) → Start
 later_before functions place start more h le i d less lt = let s = h i d less lt in omega (arith, s, le)
 
 -- what is missing by the definition
-missing_one : (section : List Func) (ordered : List Func) → ((f : Function) → is_kept f ≡ true → list_any (covers (expressed_of f)) ordered ≡ list_any (stands_for f) section)
+missing_one : (section : List Func) (ordered : List Func) → ((f : Function) → is_kept f ≡ true → list_any (represents_kept (expressed_of f)) ordered ≡ list_any (represents f) section)
     → (fs : List Function) → length (filter (is_absent ordered) (map expressed_of (filter is_kept fs))) ≡ length (filter (is_missing section) (filter is_kept fs))
 missing_one section ordered same [] = refl
 missing_one section ordered same (f ∷ fs) = at_kept (is_kept f) refl (missing_one section ordered same fs)
@@ -99,10 +99,10 @@ missing_one section ordered same (f ∷ fs) = at_kept (is_kept f) refl (missing_
 
     at_kept : (b : Bool) → is_kept f ≡ b → length (filter (is_absent ordered) (map expressed_of (filter is_kept fs))) ≡ length (filter (is_missing section) (filter is_kept fs))
         → length (filter (is_absent ordered) (map expressed_of (cond b (f ∷ filter is_kept fs) (filter is_kept fs)))) ≡ length (filter (is_missing section) (cond b (f ∷ filter is_kept fs) (filter is_kept fs)))
-    at_kept true e others = at_any (list_any (covers (expressed_of f)) ordered) (list_any (stands_for f) section) (same f e) (filter (is_absent ordered) (map expressed_of (filter is_kept fs))) (filter (is_missing section) (filter is_kept fs)) others
+    at_kept true e others = at_any (list_any (represents_kept (expressed_of f)) ordered) (list_any (represents f) section) (same f e) (filter (is_absent ordered) (map expressed_of (filter is_kept fs))) (filter (is_missing section) (filter is_kept fs)) others
     at_kept false e others = others
 
-pub missing_are : (section ordered : List Func) (functions sorted : List Function) → IsPermutation functions sorted → ((f : Function) → is_kept f ≡ true → list_any (covers (expressed_of f)) ordered ≡ list_any (stands_for f) section)
+pub missing_are : (section ordered : List Func) (functions sorted : List Function) → IsPermutation functions sorted → ((f : Function) → is_kept f ≡ true → list_any (represents_kept (expressed_of f)) ordered ≡ list_any (represents f) section)
     → length (filter (is_absent ordered) (map expressed_of (filter is_kept sorted))) ≡ length (filter (is_missing section) (kept_functions functions))
 missing_are section ordered functions sorted moved same =
     missing_one section ordered same sorted

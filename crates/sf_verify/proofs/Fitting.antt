@@ -21,7 +21,7 @@ use Rattle.sf_asm.specs.Functions.{Function}
 use Rattle.sf_asm.specs.Kept.{says_of}
 use Rattle.sf_asm.specs.Said.{dwarf_at, has_form, said_in, with_key}
 use Rattle.sf_verify.specs.Agreement.{IsFitting}
-use Rattle.sf_verify.specs.Said.{by_row, section_at, unless_repeated}
+use Rattle.sf_verify.specs.Said.{by_row, section_at, unless_in_blocks}
 use Rattle.sf_verify.proofs.Signs.{signs_fit}
 
 -- what is found has what all have
@@ -49,7 +49,7 @@ row_says : (arch : Arch) (f : Func) (found : Option Row) → IfSome found (RowFi
 row_says arch f None h = tt
 row_says arch f (Some r) h = by_shape f.shape
   where
-    by_shape : (shape : Shape) → IfSome (unless_repeated shape (with_key f.key r.content)) (IsFitting arch)
+    by_shape : (shape : Shape) → IfSome (unless_in_blocks shape (with_key f.key r.content)) (IsFitting arch)
     by_shape Plain = record { fits = h.fits; in_range = h.in_range }
     by_shape (Repeat size) = tt
 

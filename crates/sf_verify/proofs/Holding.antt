@@ -17,7 +17,7 @@ use Rattle.sf_express.specs.Pieces.{ArePieces, PiecesSay, said_by}
 use Rattle.sf_asm.specs.Functions.{Function}
 use Rattle.sf_verify.specs.declared.dwarf.Held.{Held}
 use Rattle.sf_asm.specs.Said.{AllFit, Answers, IfFits, form_content, said_in, with_key}
-use Rattle.sf_verify.specs.Asking.{AreHolders, IsHeld, IsKnown, IsRowed, KeptPassed, OmittedPassed}
+use Rattle.sf_verify.specs.Asking.{AreHolders, IsHeld, IsKnownUpTo, IsRowed, KeptPassed, OmittedPassed}
 use Rattle.sf_verify.specs.Comparing.{func_says}
 use Rattle.sf_verify.specs.Said.{by_row}
 use Rattle.sf_verify.proofs.Rows.{as_pieces, as_pieces_are, as_pieces_fit, content_of_row, pieces_as_rows}
@@ -36,7 +36,7 @@ said_fits arch o found (p ∷ pieces) content before h e =
 
 pub known_is : (arch : Arch) (answers : Answers) (h : Held) (pc last : ℕ) (content : Content) → IsHeld arch answers h → h.start ≤ pc → pc < h.start + h.size → pc - h.start ≤ last → last < h.size
     → ((o : ℕ) → pc - h.start ≤ o → o ≤ last → said_by o None h.pieces.items ≡ Some (Some content))
-    → IsKnown arch answers pc (record { said = record { content = content; key = h.key }; last = h.start + last })
+    → IsKnownUpTo arch answers pc (record { said = record { content = content; key = h.key }; last = h.start + last })
 known_is arch answers h pc last content held from to low within said = record {
   from_here = omega (arith, from, low);
   steady = λ p le high.

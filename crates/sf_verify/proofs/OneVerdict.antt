@@ -21,7 +21,7 @@ use Rattle.sf_verify.specs.declared.fault.VerifyFault.{VerifyFault}
 use Rattle.sf_verify.specs.Agreement.{DifferFirst, IsVerdict, content_said}
 use Rattle.sf_asm.specs.Said.{dwarf_at}
 use Rattle.sf_verify.specs.Said.{section_at}
-use Rattle.sf_verify.specs.Verifying.{Verifies, VerdictUnless, first_fault, section_fault}
+use Rattle.sf_verify.specs.Verifying.{Verifies, VerdictUnless, first_verify_fault, section_fault}
 
 -- ---- the inputs
 gathered_one : (given : Result (List Function) GatherFault) (r r' : Result (List Entry) GatherFault) → GathersFrom given r → GathersFrom given r' → r ≡ r'
@@ -67,5 +67,5 @@ pub one_result : (bytes : List ℕ) (table : Table) (objects : List Object) (r r
 one_result bytes table objects r r' (inputs, gathers, ordered, order, p) (inputs', gathers', ordered', order', q) =
     let same = gathered_one (all_functions (Some table.arch) objects) inputs inputs' (from_gathers (Some table.arch) objects inputs gathers) (from_gathers (Some table.arch) objects inputs' gathers') in
     let one = one_section_order (table ∷ []) ordered ordered' (in_tables table ordered order) (in_tables table ordered' order') in
-    let moved = subst (λ (i : Result (List Entry) GatherFault). VerdictUnless (first_fault i (section_fault bytes ordered)) table objects r) same p in
-    unless_one (first_fault inputs' (section_fault bytes ordered')) table objects r r' (subst (λ (ls : List Located). VerdictUnless (first_fault inputs' (section_fault bytes ls)) table objects r) one moved) q
+    let moved = subst (λ (i : Result (List Entry) GatherFault). VerdictUnless (first_verify_fault i (section_fault bytes ordered)) table objects r) same p in
+    unless_one (first_verify_fault inputs' (section_fault bytes ordered')) table objects r r' (subst (λ (ls : List Located). VerdictUnless (first_verify_fault inputs' (section_fault bytes ls)) table objects r) one moved) q

@@ -12,51 +12,51 @@ use Rattle.sf_model.specs.Table.{Table}
 use Rattle.sf_decode.specs.declared.view.View.{View}
 use Rattle.sf_decode.specs.View.{section_bytes, table_of}
 use Rattle.sf_merge.specs.declared.located.Located.{Located}
-use Rattle.sf_merge.specs.Located.{InOrder, has_bytes, located}
-use Rattle.sf_merge.specs.Merging.{overlap_fault}
-use Rattle.sf_merge.specs.Views.{IsRead}
+use Rattle.sf_merge.specs.Located.{AreByRank, is_sized, located, located_functions}
+use Rattle.sf_merge.specs.Merging.{shared_address_fault}
+use Rattle.sf_merge.specs.Views.{IsViewOfSection}
 use Rattle.sf_merge.proofs.Apart.{none_share}
 use Rattle.sf_merge.proofs.OneSection as section
-use Rattle.sf_merge.proofs.OneSection.{located_functions, ordered_sound}
+use Rattle.sf_merge.proofs.OneSection.{located_functions as located_are, ordered_sound}
 use Rattle.sf_model.proofs.Unions.{IsWithin, OnePasses, within}
 use Rattle.sf_asm.proofs.Finding.{found_alike}
 use Rattle.sf_verify.specs.declared.fault.VerifyFault.TheVariants.{Overlap}
-use Rattle.sf_verify.specs.Comparing.{AreComparable, functions_in}
+use Rattle.sf_verify.specs.Comparing.{AreComparable}
 use Rattle.sf_verify.specs.Counting.{StartsRise}
 use Rattle.sf_verify.specs.Said.{by_row, section_at}
-use Rattle.sf_verify.specs.Verifying.{section_fault, sized}
+use Rattle.sf_verify.specs.Verifying.{section_fault, sized_in}
 use Rattle.sf_asm.proofs.Members.{placed}
 use Rattle.sf_verify.proofs.Gathered.{mapped}
 
 -- ---- they have bytes
-ordered_bytes : (table : Table) (ordered : List Located) → InOrder (sized table) ordered → All (λ (l : Located). has_bytes l ≡ true) ordered
-ordered_bytes table ordered order = All-permutation (λ (l : Located). has_bytes l ≡ true) (sized table) ordered order.moved (filter_passes has_bytes (located 0 table))
+ordered_bytes : (table : Table) (ordered : List Located) → AreByRank (sized_in table) ordered → All (λ (l : Located). is_sized l ≡ true) ordered
+ordered_bytes table ordered order = All-permutation (λ (l : Located). is_sized l ≡ true) (sized_in table) ordered order.moved (filter_passes is_sized (located 0 table))
 
 -- ---- they share no address
-none_shared : (bytes : List ℕ) (ls : List Located) → section_fault bytes ls ≡ None → overlap_fault ls ≡ None
+none_shared : (bytes : List ℕ) (ls : List Located) → section_fault bytes ls ≡ None → shared_address_fault ls ≡ None
 unfolding section_fault
 none_shared bytes ls e = section.none_shared Overlap bytes ls e
 
 apart : (bytes : List ℕ) (ls : List Located) → section_fault bytes ls ≡ None → (i j : ℕ) (d : Located) → i < j → j < length ls → (get_or ls i d).func.start + (get_or ls i d).func.size ≤ (get_or ls j d).func.start
 apart bytes ls e = none_share ls (none_shared bytes ls e)
 
-pub comparable : (view : View) (ordered : List Located) → IsRead view → InOrder (sized (table_of view)) ordered → section_fault (section_bytes view) ordered ≡ None → AreComparable (table_of view).arch ordered
+pub comparable : (view : View) (ordered : List Located) → IsViewOfSection view → AreByRank (sized_in (table_of view)) ordered → section_fault (section_bytes view) ordered ≡ None → AreComparable (table_of view).arch ordered
 comparable view ordered read order e = record {
   each = λ k d lt. let s = ordered_sound view ordered read order k d lt in record { end = s.end; rise = s.rise; fits = s.fits };
   apart = apart (section_bytes view) ordered e;
 }
 
-pub starts_rise : (bytes : List ℕ) (table : Table) (ordered : List Located) → InOrder (sized table) ordered → section_fault bytes ordered ≡ None → StartsRise ordered
+pub starts_rise : (bytes : List ℕ) (table : Table) (ordered : List Located) → AreByRank (sized_in table) ordered → section_fault bytes ordered ≡ None → StartsRise ordered
 starts_rise bytes table ordered order e i j d lt within =
     let ends = apart bytes ordered e i j d lt within in
     let some = ltb-true 0 (get_or ordered i d).func.size (ordered_bytes table ordered order i d (omega (arith, lt, within))) in
     omega (arith, ends, some)
 
 -- ---- look-ups
-one_contains : (pc : ℕ) (ls : List Located) → ((i j : ℕ) (d : Located) → i < j → j < length ls → (get_or ls i d).func.start + (get_or ls i d).func.size ≤ (get_or ls j d).func.start) → OnePasses (contains pc) (functions_in ls)
+one_contains : (pc : ℕ) (ls : List Located) → ((i j : ℕ) (d : Located) → i < j → j < length ls → (get_or ls i d).func.start + (get_or ls i d).func.size ≤ (get_or ls j d).func.start) → OnePasses (contains pc) (located_functions ls)
 one_contains pc ls h = λ x y m n s t.
-    let p = placed (functions_in ls) x m in
-    let q = placed (functions_in ls) y n in
+    let p = placed (located_functions ls) x m in
+    let q = placed (located_functions ls) y n in
     let d : Located = record { func = x; item = 0; number = 0 } in
     let p_lt : p.place < length ls = subst (λ (k : ℕ). p.place < k) (length_in ls) p.within in
     let q_lt : q.place < length ls = subst (λ (k : ℕ). q.place < k) (length_in ls) q.within in
@@ -64,7 +64,7 @@ one_contains pc ls h = λ x y m n s t.
     let y_is : (get_or ls q.place d).func ≡ y = sym (mapped (λ (l : Located). l.func) ls q.place x d q_lt) ∙ q.is x in
     by_places x y d p.place q.place p_lt q_lt x_is y_is (within pc x s) (within pc y t)
   where
-    length_in : (ls : List Located) → length (functions_in ls) ≡ length ls
+    length_in : (ls : List Located) → length (located_functions ls) ≡ length ls
     length_in [] = refl
     length_in (l ∷ ls) = ap suc (length_in ls)
 
@@ -81,43 +81,43 @@ one_contains pc ls h = λ x y m n s t.
     ]
 
 -- functions without bytes have no address
-find_sized : (pc : ℕ) (ls : List Located) → find (contains pc) (functions_in (filter has_bytes ls)) ≡ find (contains pc) (functions_in ls)
+find_sized : (pc : ℕ) (ls : List Located) → find (contains pc) (located_functions (filter is_sized ls)) ≡ find (contains pc) (located_functions ls)
 find_sized pc [] = refl
-find_sized pc (l ∷ ls) = at_size (has_bytes l) refl (find_sized pc ls)
+find_sized pc (l ∷ ls) = at_size (is_sized l) refl (find_sized pc ls)
   where
-    not_there : (b : Bool) → contains pc l.func ≡ b → has_bytes l ≡ false → b ≡ false
+    not_there : (b : Bool) → contains pc l.func ≡ b → is_sized l ≡ false → b ≡ false
     not_there true e none = let has = within pc l.func e in let some = lt-ltb 0 l.func.size (omega (arith, has.from, has.to)) in cc
     not_there false e none = refl
 
-    at_size : (b : Bool) → has_bytes l ≡ b → find (contains pc) (functions_in (filter has_bytes ls)) ≡ find (contains pc) (functions_in ls)
-        → find (contains pc) (functions_in (cond b (l ∷ filter has_bytes ls) (filter has_bytes ls))) ≡ find (contains pc) (functions_in (l ∷ ls))
+    at_size : (b : Bool) → is_sized l ≡ b → find (contains pc) (located_functions (filter is_sized ls)) ≡ find (contains pc) (located_functions ls)
+        → find (contains pc) (located_functions (cond b (l ∷ filter is_sized ls) (filter is_sized ls))) ≡ find (contains pc) (located_functions (l ∷ ls))
     at_size true e others = ap (λ o. cond (contains pc l.func) (Some l.func) o) others
-    at_size false e others = others ∙ sym (ap (λ (b : Bool). cond b (Some l.func) (find (contains pc) (functions_in ls))) (not_there (contains pc l.func) refl e))
+    at_size false e others = others ∙ sym (ap (λ (b : Bool). cond b (Some l.func) (find (contains pc) (located_functions ls))) (not_there (contains pc l.func) refl e))
 
 -- what the section says, by its functions in order
-pub section_says : (bytes : List ℕ) (table : Table) (ordered : List Located) → InOrder (sized table) ordered → section_fault bytes ordered ≡ None → (pc : ℕ) → section_at (functions_in ordered) pc ≡ section_at table.functions pc
+pub section_says : (bytes : List ℕ) (table : Table) (ordered : List Located) → AreByRank (sized_in table) ordered → section_fault bytes ordered ≡ None → (pc : ℕ) → section_at (located_functions ordered) pc ≡ section_at table.functions pc
 unfolding section_at found_at
 section_says bytes table ordered order e pc =
-    let found : find (contains pc) table.functions ≡ find (contains pc) (functions_in ordered) =
-    ap (find (contains pc)) (sym (located_functions table)) ∙ sym (find_sized pc (located 0 table))
-    ∙ found_alike (contains pc) (functions_in (sized table)) (functions_in ordered) (IsPermutation-map (λ (l : Located). l.func) (sized table) ordered order.moved) (one_contains pc ordered (apart bytes ordered e)) in
+    let found : find (contains pc) table.functions ≡ find (contains pc) (located_functions ordered) =
+    ap (find (contains pc)) (sym (located_are table)) ∙ sym (find_sized pc (located 0 table))
+    ∙ found_alike (contains pc) (located_functions (sized_in table)) (located_functions ordered) (IsPermutation-map (λ (l : Located). l.func) (sized_in table) ordered order.moved) (one_contains pc ordered (apart bytes ordered e)) in
     sym (ap (λ (f : Option Func). option_and_then by_row (row_in_first pc f)) found)
 
 -- a test that only functions with bytes pass
-pub any_sized : (p : Func → Bool) (table : Table) (ordered : List Located) → InOrder (sized table) ordered → ((f : Func) → p f ≡ true → 0 < f.size) → list_any p (functions_in ordered) ≡ list_any p table.functions
+pub any_sized : (p : Func → Bool) (table : Table) (ordered : List Located) → AreByRank (sized_in table) ordered → ((f : Func) → p f ≡ true → 0 < f.size) → list_any p (located_functions ordered) ≡ list_any p table.functions
 any_sized p table ordered order some =
-    sym (list_any-IsPermutation p (functions_in (sized table)) (functions_in ordered) (IsPermutation-map (λ (l : Located). l.func) (sized table) ordered order.moved))
-    ∙ any_of (located 0 table) ∙ ap (list_any p) (located_functions table)
+    sym (list_any-IsPermutation p (located_functions (sized_in table)) (located_functions ordered) (IsPermutation-map (λ (l : Located). l.func) (sized_in table) ordered order.moved))
+    ∙ any_of (located 0 table) ∙ ap (list_any p) (located_are table)
   where
-    not_there : (l : Located) (b : Bool) → p l.func ≡ b → has_bytes l ≡ false → b ≡ false
+    not_there : (l : Located) (b : Bool) → p l.func ≡ b → is_sized l ≡ false → b ≡ false
     not_there l true e none = let there = lt-ltb 0 l.func.size (some l.func e) in cc
     not_there l false e none = refl
 
-    any_of : (ls : List Located) → list_any p (functions_in (filter has_bytes ls)) ≡ list_any p (functions_in ls)
+    any_of : (ls : List Located) → list_any p (located_functions (filter is_sized ls)) ≡ list_any p (located_functions ls)
     any_of [] = refl
-    any_of (l ∷ ls) = at_size (has_bytes l) refl (any_of ls)
+    any_of (l ∷ ls) = at_size (is_sized l) refl (any_of ls)
       where
-        at_size : (b : Bool) → has_bytes l ≡ b → list_any p (functions_in (filter has_bytes ls)) ≡ list_any p (functions_in ls)
-            → list_any p (functions_in (cond b (l ∷ filter has_bytes ls) (filter has_bytes ls))) ≡ list_any p (functions_in (l ∷ ls))
+        at_size : (b : Bool) → is_sized l ≡ b → list_any p (located_functions (filter is_sized ls)) ≡ list_any p (located_functions ls)
+            → list_any p (located_functions (cond b (l ∷ filter is_sized ls) (filter is_sized ls))) ≡ list_any p (located_functions (l ∷ ls))
         at_size true e others = ap (λ (b : Bool). p l.func || b) others
-        at_size false e others = others ∙ sym (ap (λ (b : Bool). b || list_any p (functions_in ls)) (not_there l (p l.func) refl e))
+        at_size false e others = others ∙ sym (ap (λ (b : Bool). b || list_any p (located_functions ls)) (not_there l (p l.func) refl e))

@@ -29,7 +29,7 @@ use Rattle.sf_asm.proofs.GatheredInputs.{are_read}
 use Rattle.sf_verify.specs.declared.fault.VerifyFault.{VerifyFault}
 use Rattle.sf_verify.specs.Agreement.{Agree, DifferFirst, IsFitting, IsVerdict, agree, content_said, is_missing, is_plain}
 use Rattle.sf_verify.specs.Said.{by_row, section_at}
-use Rattle.sf_verify.specs.Verifying.{Verifies, VerdictUnless, first_fault, refused, section_fault, sized}
+use Rattle.sf_verify.specs.Verifying.{Verifies, VerdictUnless, first_verify_fault, refused, section_fault, sized_in}
 use Rattle.sf_verify.proofs.Test.{alike, says_agree}
 
 -- ---- at one address they agree or don't
@@ -130,7 +130,7 @@ abbrev pub InputsFit : Arch → List Object → Type 0
 InputsFit arch objects = (functions : List Function) → functions_of 1 objects ≡ Ok functions → All (λ (machine : Arch). machine ≡ arch) (map machine_of objects) → (pc : ℕ) → IfSome (dwarf_at functions pc) (IsFitting arch)
 
 some_unless : (table : Table) (objects : List Object) (inputs : Result (List Entry) GatherFault) (section : Option VerifyFault) → Gathers (Some table.arch) objects inputs → ((pc : ℕ) → IfSome (section_at table.functions pc) (IsFitting table.arch)) → InputsFit table.arch objects
-    → (result : Result Verdict VerifyFault) × VerdictUnless (first_fault inputs section) table objects result
+    → (result : Result Verdict VerifyFault) × VerdictUnless (first_verify_fault inputs section) table objects result
 some_unless table objects (Err fault) section gathers f g = (Err (refused section fault), refl)
 some_unless table objects (Ok entries) (Some fault) gathers f g = (Err fault, refl)
 some_unless table objects (Ok entries) None gathers f g =
@@ -144,6 +144,6 @@ some_unless table objects (Ok entries) None gathers f g =
 pub some_result : (bytes : List ℕ) (table : Table) (objects : List Object) → ((pc : ℕ) → IfSome (section_at table.functions pc) (IsFitting table.arch)) → InputsFit table.arch objects → (result : Result Verdict VerifyFault) × Verifies bytes table objects result
 some_result bytes table objects f g =
     let inputs = some_gathering (Some table.arch) objects in
-    let order = some_order (sized table) in
+    let order = some_order (sized_in table) in
     let unless = some_unless table objects inputs.0 (section_fault bytes order.0) inputs.1 f g in
     (unless.0, (inputs.0, inputs.1, order.0, order.1, unless.1))

@@ -15,7 +15,8 @@ use Rattle.sf_merge.specs.declared.located.Located.{Located}
 use Rattle.sf_asm.specs.declared.said.Said.{Said}
 use Rattle.sf_verify.specs.declared.sweep.Difference.{Difference}
 use Rattle.sf_verify.specs.Agreement.{Agree, DifferFirst, is_plain, is_plain_shape}
-use Rattle.sf_verify.specs.Comparing.{Compares, ComparesAll, DifferWithin, func_says, functions_in}
+use Rattle.sf_merge.specs.Located.{located_functions}
+use Rattle.sf_verify.specs.Comparing.{Compares, ComparesAll, DifferWithin, func_says}
 use Rattle.sf_asm.specs.Said.{Answers}
 use Rattle.sf_verify.specs.Said.{by_row, section_at}
 use Rattle.sf_verify.proofs.Compared.{compare_alike}
@@ -34,11 +35,11 @@ record IsFirst (pc : ℕ) (functions : List Located) (found : Func) : Type 0 whe
   is : (d : Located) → (get_or functions place d).func ≡ found
   has : contains pc found ≡ true
 
-found_first : (pc : ℕ) (functions : List Located) (f : Func) → find (contains pc) (functions_in functions) ≡ Some f → IsFirst pc functions f
+found_first : (pc : ℕ) (functions : List Located) (f : Func) → find (contains pc) (located_functions functions) ≡ Some f → IsFirst pc functions f
 found_first pc [] f e = cc
 found_first pc (l ∷ functions) f e = at_test (contains pc l.func) refl e (found_first pc functions f)
   where
-    at_test : (b : Bool) → contains pc l.func ≡ b → cond b (Some l.func) (find (contains pc) (functions_in functions)) ≡ Some f → (find (contains pc) (functions_in functions) ≡ Some f → IsFirst pc functions f) → IsFirst pc (l ∷ functions) f
+    at_test : (b : Bool) → contains pc l.func ≡ b → cond b (Some l.func) (find (contains pc) (located_functions functions)) ≡ Some f → (find (contains pc) (located_functions functions) ≡ Some f → IsFirst pc functions f) → IsFirst pc (l ∷ functions) f
     at_test true t e later = let is : l.func ≡ f = cc in record { place = 0; within = omega arith; is = λ d. is; has = ap (contains pc) (sym is) ∙ t }
     at_test false t e later =
         let h = later e in
@@ -46,7 +47,7 @@ found_first pc (l ∷ functions) f e = at_test (contains pc l.func) refl e (foun
 
 -- the one that has it is found
 find_at : (pc : ℕ) (functions : List Located) (place : ℕ) (d : Located) → place < length functions → contains pc (get_or functions place d).func ≡ true
-    → ((i : ℕ) → i < place → contains pc (get_or functions i d).func ≡ false) → find (contains pc) (functions_in functions) ≡ Some (get_or functions place d).func
+    → ((i : ℕ) → i < place → contains pc (get_or functions i d).func ≡ false) → find (contains pc) (located_functions functions) ≡ Some (get_or functions place d).func
 find_at pc [] place d lt t before = absurd (omega (arith, lt))
 find_at pc (l ∷ functions) zero d lt t before = rw t refl
 find_at pc (l ∷ functions) (suc place) d lt t before = rw (before 0 (omega arith)) (find_at pc functions place d (omega (arith, lt)) t (λ i less. before (suc i) (omega (arith, less))))
@@ -57,7 +58,7 @@ not_contained pc f false e never = refl
 
 -- what the section says at an address of a function
 pub says_there : (functions : List Located) (place : ℕ) (d : Located) (pc : ℕ) → ((i j : ℕ) (d : Located) → i < j → j < length functions → (get_or functions i d).func.start + (get_or functions i d).func.size ≤ (get_or functions j d).func.start)
-    → place < length functions → (get_or functions place d).func.start ≤ pc → pc < (get_or functions place d).func.start + (get_or functions place d).func.size → func_says (get_or functions place d).func pc ≡ section_at (functions_in functions) pc
+    → place < length functions → (get_or functions place d).func.start ≤ pc → pc < (get_or functions place d).func.start + (get_or functions place d).func.size → func_says (get_or functions place d).func pc ≡ section_at (located_functions functions) pc
 unfolding section_at found_at
 says_there functions place d pc apart lt low high =
     let has = is_contained pc (get_or functions place d).func low high in
@@ -65,7 +66,7 @@ says_there functions place d pc apart lt low high =
     sym (ap (λ (f : Option Func). option_and_then by_row (row_in_first pc f)) found)
 
 -- where no function has an address the section says nothing there
-pub says_nothing : (functions : List Located) (pc : ℕ) → find (contains pc) (functions_in functions) ≡ None → section_at (functions_in functions) pc ≡ None
+pub says_nothing : (functions : List Located) (pc : ℕ) → find (contains pc) (located_functions functions) ≡ None → section_at (located_functions functions) pc ≡ None
 unfolding section_at found_at
 says_nothing functions pc e = ap (λ (f : Option Func). option_and_then by_row (row_in_first pc f)) e
 
@@ -73,12 +74,12 @@ says_nothing functions pc e = ap (λ (f : Option Func). option_and_then by_row (
 agree_if : (section : Option Said) (dwarf : Option Said) → section ≡ None → Agree section dwarf
 agree_if section dwarf e = subst (λ x. Agree x dwarf) (sym e) tt
 
-pub agree_below : (functions : List Located) (dwarf : Answers) (place end : ℕ) → ((i : ℕ) (d : Located) → i < place → i < length functions → AgreeOver (section_at (functions_in functions)) dwarf (get_or functions i d).func)
-    → ((i : ℕ) (d : Located) → place ≤ i → i < length functions → end ≤ (get_or functions i d).func.start) → (pc : ℕ) → pc < end → Agree (section_at (functions_in functions) pc) (dwarf pc)
-agree_below functions dwarf place end over above pc lt = at_found (find (contains pc) (functions_in functions)) refl
+pub agree_below : (functions : List Located) (dwarf : Answers) (place end : ℕ) → ((i : ℕ) (d : Located) → i < place → i < length functions → AgreeOver (section_at (located_functions functions)) dwarf (get_or functions i d).func)
+    → ((i : ℕ) (d : Located) → place ≤ i → i < length functions → end ≤ (get_or functions i d).func.start) → (pc : ℕ) → pc < end → Agree (section_at (located_functions functions) pc) (dwarf pc)
+agree_below functions dwarf place end over above pc lt = at_found (find (contains pc) (located_functions functions)) refl
   where
-    at_found : (o : Option Func) → find (contains pc) (functions_in functions) ≡ o → Agree (section_at (functions_in functions) pc) (dwarf pc)
-    at_found None e = agree_if (section_at (functions_in functions) pc) (dwarf pc) (says_nothing functions pc e)
+    at_found : (o : Option Func) → find (contains pc) (located_functions functions) ≡ o → Agree (section_at (located_functions functions) pc) (dwarf pc)
+    at_found None e = agree_if (section_at (located_functions functions) pc) (dwarf pc) (says_nothing functions pc e)
     at_found (Some f) e =
         let first = found_first pc functions f e in
         let d : Located = record { func = f; item = 0; number = 0 } in
@@ -91,18 +92,18 @@ agree_below functions dwarf place end over above pc lt = at_found (find (contain
               absurd (omega (arith, up, has.from, lt))
         ]
 
-pub agree_everywhere : (functions : List Located) (dwarf : Answers) (place : ℕ) → length functions ≤ place → ((i : ℕ) (d : Located) → i < place → i < length functions → AgreeOver (section_at (functions_in functions)) dwarf (get_or functions i d).func)
-    → (pc : ℕ) → Agree (section_at (functions_in functions) pc) (dwarf pc)
+pub agree_everywhere : (functions : List Located) (dwarf : Answers) (place : ℕ) → length functions ≤ place → ((i : ℕ) (d : Located) → i < place → i < length functions → AgreeOver (section_at (located_functions functions)) dwarf (get_or functions i d).func)
+    → (pc : ℕ) → Agree (section_at (located_functions functions) pc) (dwarf pc)
 agree_everywhere functions dwarf place all over pc = agree_below functions dwarf place (pc + 1) over (λ i d low lt. absurd (omega (arith, all, low, lt))) pc (omega arith)
 
 -- a function in which they differ
 pub differ_at : (functions : List Located) (dwarf : Answers) (place : ℕ) (l : Located) (result : Option Difference) (d : Difference) → ((i j : ℕ) (d : Located) → i < j → j < length functions → (get_or functions i d).func.start + (get_or functions i d).func.size ≤ (get_or functions j d).func.start)
-    → place < length functions → l ≡ get_or functions place l → ((i : ℕ) (d : Located) → i < place → i < length functions → AgreeOver (section_at (functions_in functions)) dwarf (get_or functions i d).func)
-    → result ≡ Some d → Compares (func_says l.func) dwarf l.func.start (l.func.start + l.func.size) result → DifferFirst (section_at (functions_in functions)) dwarf d.pc d.section d.dwarf
+    → place < length functions → l ≡ get_or functions place l → ((i : ℕ) (d : Located) → i < place → i < length functions → AgreeOver (section_at (located_functions functions)) dwarf (get_or functions i d).func)
+    → result ≡ Some d → Compares (func_says l.func) dwarf l.func.start (l.func.start + l.func.size) result → DifferFirst (section_at (located_functions functions)) dwarf d.pc d.section d.dwarf
 differ_at functions dwarf place l result d apart lt is over result_is h =
     let here = subst (λ (r : Option Difference). Compares (func_says l.func) dwarf l.func.start (l.func.start + l.func.size) r) result_is h in
-    let there : DifferWithin (section_at (functions_in functions)) dwarf l.func.start (l.func.start + l.func.size) d = compare_alike (func_says l.func) (section_at (functions_in functions)) dwarf l.func.start (l.func.start + l.func.size) (Some d)
-    (λ pc low high. subst (λ (g : Located). g.func.start ≤ pc → pc < g.func.start + g.func.size → func_says g.func pc ≡ section_at (functions_in functions) pc) (sym is) (says_there functions place l pc apart lt) low high) here in
+    let there : DifferWithin (section_at (located_functions functions)) dwarf l.func.start (l.func.start + l.func.size) d = compare_alike (func_says l.func) (section_at (located_functions functions)) dwarf l.func.start (l.func.start + l.func.size) (Some d)
+    (λ pc low high. subst (λ (g : Located). g.func.start ≤ pc → pc < g.func.start + g.func.size → func_says g.func pc ≡ section_at (located_functions functions) pc) (sym is) (says_there functions place l pc apart lt) low high) here in
     record {
       section_says = there.section_says;
       dwarf_says = there.dwarf_says;
@@ -128,10 +129,10 @@ differ_at functions dwarf place l result d apart lt is over result_is h =
 
 -- a function over which they agree
 pub agree_at : (functions : List Located) (dwarf : Answers) (place : ℕ) (l : Located) (result : Option Difference) → ((i j : ℕ) (d : Located) → i < j → j < length functions → (get_or functions i d).func.start + (get_or functions i d).func.size ≤ (get_or functions j d).func.start)
-    → place < length functions → l ≡ get_or functions place l → result ≡ None → Compares (func_says l.func) dwarf l.func.start (l.func.start + l.func.size) result → AgreeOver (section_at (functions_in functions)) dwarf l.func
+    → place < length functions → l ≡ get_or functions place l → result ≡ None → Compares (func_says l.func) dwarf l.func.start (l.func.start + l.func.size) result → AgreeOver (section_at (located_functions functions)) dwarf l.func
 agree_at functions dwarf place l result apart lt is none h =
     let here = subst (λ (r : Option Difference). Compares (func_says l.func) dwarf l.func.start (l.func.start + l.func.size) r) none h in
-    λ pc low high. subst (λ x. Agree x (dwarf pc)) (subst (λ (g : Located). g.func.start ≤ pc → pc < g.func.start + g.func.size → func_says g.func pc ≡ section_at (functions_in functions) pc) (sym is) (says_there functions place l pc apart lt) low high) (here pc low high)
+    λ pc low high. subst (λ x. Agree x (dwarf pc)) (subst (λ (g : Located). g.func.start ≤ pc → pc < g.func.start + g.func.size → func_says g.func pc ≡ section_at (located_functions functions) pc) (sym is) (says_there functions place l pc apart lt) low high) (here pc low high)
 
 -- a function of repeated blocks is not compared
 repeated_says : (f : Func) (shape : Shape) (found : Option Row) → f.shape ≡ shape → is_plain_shape shape ≡ false → option_and_then by_row (option_map (λ (row : Row). record { func = f; row = row }) found) ≡ None
@@ -140,15 +141,15 @@ repeated_says f (Repeat size) None is h = refl
 repeated_says f (Repeat size) (Some r) is h = rw is refl
 
 pub repeated_over : (functions : List Located) (dwarf : Answers) (place : ℕ) (l : Located) → ((i j : ℕ) (d : Located) → i < j → j < length functions → (get_or functions i d).func.start + (get_or functions i d).func.size ≤ (get_or functions j d).func.start)
-    → place < length functions → l ≡ get_or functions place l → is_plain l.func ≡ false → AgreeOver (section_at (functions_in functions)) dwarf l.func
+    → place < length functions → l ≡ get_or functions place l → is_plain l.func ≡ false → AgreeOver (section_at (located_functions functions)) dwarf l.func
 repeated_over functions dwarf place l apart lt is repeated = λ pc low high.
-    let same = subst (λ (g : Located). g.func.start ≤ pc → pc < g.func.start + g.func.size → func_says g.func pc ≡ section_at (functions_in functions) pc) (sym is) (says_there functions place l pc apart lt) low high in
-    agree_if (section_at (functions_in functions) pc) (dwarf pc) (sym same ∙ repeated_says l.func l.func.shape (row_at (offset_in_block l.func.shape (pc - l.func.start)) l.func.rows) refl repeated)
+    let same = subst (λ (g : Located). g.func.start ≤ pc → pc < g.func.start + g.func.size → func_says g.func pc ≡ section_at (located_functions functions) pc) (sym is) (says_there functions place l pc apart lt) low high in
+    agree_if (section_at (located_functions functions) pc) (dwarf pc) (sym same ∙ repeated_says l.func l.func.shape (row_at (offset_in_block l.func.shape (pc - l.func.start)) l.func.rows) refl repeated)
 
 -- ---- the loop
 pub differ_found : (functions : List Located) (dwarf : Answers) (place : ℕ) (l : Located) (result : Option Difference) → is_some result ≡ true → ((i j : ℕ) (d : Located) → i < j → j < length functions → (get_or functions i d).func.start + (get_or functions i d).func.size ≤ (get_or functions j d).func.start)
-    → place < length functions → l ≡ get_or functions place l → ((i : ℕ) (d : Located) → i < place → i < length functions → AgreeOver (section_at (functions_in functions)) dwarf (get_or functions i d).func)
-    → Compares (func_says l.func) dwarf l.func.start (l.func.start + l.func.size) result → ComparesAll (section_at (functions_in functions)) dwarf result
+    → place < length functions → l ≡ get_or functions place l → ((i : ℕ) (d : Located) → i < place → i < length functions → AgreeOver (section_at (located_functions functions)) dwarf (get_or functions i d).func)
+    → Compares (func_says l.func) dwarf l.func.start (l.func.start + l.func.size) result → ComparesAll (section_at (located_functions functions)) dwarf result
 differ_found functions dwarf place l None t apart lt is over h = cc
 differ_found functions dwarf place l (Some d) t apart lt is over h = differ_at functions dwarf place l (Some d) d apart lt is over refl h
 

@@ -14,8 +14,8 @@ use Rattle.sf_model.specs.Function.{AreWritable}
 use Rattle.sf_decode.specs.declared.view.View.{View}
 use Rattle.sf_decode.specs.View.{section_bytes, table_of}
 use Rattle.sf_merge.specs.declared.located.Located.{Located}
-use Rattle.sf_merge.specs.Located.{InOrder, compared}
-use Rattle.sf_merge.specs.Views.{IsRead}
+use Rattle.sf_merge.specs.Located.{AreByRank, compared, located_functions}
+use Rattle.sf_merge.specs.Views.{IsViewOfSection}
 use Rattle.sf_asm.specs.declared.fault.GatherFault.{GatherFault}
 use Rattle.sf_asm.specs.declared.fault.GatherFault.TheVariants as gather
 use Rattle.sf_asm.specs.Answers.{IsFirstGathered}
@@ -28,14 +28,14 @@ use Rattle.sf_asm.proofs.Holding.{gathered_apart, kept_size}
 use Rattle.sf_asm.proofs.OneMachine.{machine_of_functions}
 use Rattle.sf_verify.specs.declared.fault.VerifyFault.{VerifyFault}
 use Rattle.sf_verify.specs.declared.fault.VerifyFault.TheVariants as verify
-use Rattle.sf_verify.specs.Agreement.{Agree, DifferFirst, IsVerdict, content_said, is_plain, stands_for}
+use Rattle.sf_verify.specs.Agreement.{Agree, DifferFirst, IsVerdict, content_said, is_plain, represents}
 use Rattle.sf_verify.specs.Asking.{AreHolders, answers_of}
-use Rattle.sf_verify.specs.Comparing.{AreComparable, functions_in}
+use Rattle.sf_verify.specs.Comparing.{AreComparable}
 use Rattle.sf_verify.specs.Concluding.{IsVerdictBy}
-use Rattle.sf_verify.specs.Counting.{KeptRise, StartsRise, covers, is_absent}
+use Rattle.sf_verify.specs.Counting.{KeptRise, StartsRise, represents_kept, is_absent}
 use Rattle.sf_asm.specs.Said.{Answers, dwarf_at}
 use Rattle.sf_verify.specs.Said.{section_at}
-use Rattle.sf_verify.specs.Verifying.{IsFirstFault, Verifies, VerdictUnless, refused, section_fault, sized}
+use Rattle.sf_verify.specs.Verifying.{IsFirstVerifyFault, Verifies, VerdictUnless, refused, section_fault, sized_in}
 use Rattle.sf_verify.proofs.Counted.{missing_are}
 use Rattle.sf_verify.proofs.Gathered.{expressed_of, holders, holders_of_both, kept_are, same_answers}
 use Rattle.sf_verify.proofs.Sections.{any_sized, comparable, section_says, starts_rise}
@@ -53,7 +53,7 @@ first_alike section other dwarf real pc ours theirs p q h = record {
 }
 
 verdict_is : (section ordered kept : List Func) (functions sorted : List Function) (answers : Answers) (verdict : Verdict) → ((pc : ℕ) → section_at ordered pc ≡ section_at section pc) → ((pc : ℕ) → answers pc ≡ dwarf_at functions pc)
-    → kept ≡ map expressed_of (filter is_kept sorted) → IsPermutation functions sorted → ((f : Function) → is_kept f ≡ true → list_any (covers (expressed_of f)) ordered ≡ list_any (stands_for f) section)
+    → kept ≡ map expressed_of (filter is_kept sorted) → IsPermutation functions sorted → ((f : Function) → is_kept f ≡ true → list_any (represents_kept (expressed_of f)) ordered ≡ list_any (represents f) section)
     → IsVerdictBy section ordered kept answers verdict → IsVerdict section functions verdict
 verdict_is section ordered kept functions sorted answers (Agrees checked missing repeats) p q kept_is moved same h = record {
   agree = λ pc. agree_alike (section_at ordered pc) (section_at section pc) (answers pc) (dwarf_at functions pc) (p pc) (q pc) (h.agree pc);
@@ -95,25 +95,25 @@ pub same_machine : (before arch : Arch) (objects : List Object) → HaveMachine 
 same_machine before arch objects machine = All-head (λ (m : Arch). m ≡ arch) before (map machine_of objects) machine
 
 -- a function that is covered holds an address
-covered_size : (f : Function) (g : Func) → is_kept f ≡ true → 0 < f.size → covers (expressed_of f) g ≡ true → 0 < g.size
+covered_size : (f : Function) (g : Func) → is_kept f ≡ true → 0 < f.size → represents_kept (expressed_of f) g ≡ true → 0 < g.size
 covered_size f g kept some e =
     let two = and_parts (is_plain g && (g.start == f.start)) (g.size == f.size) e in
     let same = eqb-true g.size f.size two.1 in
     omega (arith, same, some)
 
 pub is_verified : (view : View) (objects : List Object) (arch : Arch) (kept : List Func) (omitted : List Omitted) (sources : List Function) (ordered : List Located) (verdict : Verdict)
-    → (h : AreWithSources (Some (table_of view).arch) objects arch kept omitted sources) → HaveMachine (Some (table_of view).arch) objects arch → InOrder (sized (table_of view)) ordered → section_fault (section_bytes view) ordered ≡ None
-    → IsVerdictBy (table_of view).functions (functions_in ordered) kept (answers_of kept sources) verdict → Verifies (section_bytes view) (table_of view) objects (Ok verdict)
+    → (h : AreWithSources (Some (table_of view).arch) objects arch kept omitted sources) → HaveMachine (Some (table_of view).arch) objects arch → AreByRank (sized_in (table_of view)) ordered → section_fault (section_bytes view) ordered ≡ None
+    → IsVerdictBy (table_of view).functions (located_functions ordered) kept (answers_of kept sources) verdict → Verifies (section_bytes view) (table_of view) objects (Ok verdict)
 is_verified view objects arch kept omitted sources ordered verdict h machine order none is =
     let table = table_of view in
     let hold = have_holders table.arch objects arch kept omitted sources h machine in
-    let verdict' = verdict_is table.functions (functions_in ordered) kept h.functions h.sorted (answers_of kept sources) verdict
+    let verdict' = verdict_is table.functions (located_functions ordered) kept h.functions h.sorted (answers_of kept sources) verdict
     (section_says (section_bytes view) table ordered order none) (same_answers arch (dwarf_at h.functions) kept sources hold) (h.kept_are ∙ kept_are h.sorted) h.by_start.moved
-    (λ f k. any_sized (covers (expressed_of f)) table ordered order (λ g e. covered_size f g k (kept_size f k) e)) is in
+    (λ f k. any_sized (represents_kept (expressed_of f)) table ordered order (λ g e. covered_size f g k (kept_size f k) e)) is in
     (Ok (map entry_of h.sorted), h.is, ordered, order, subst (λ (fault : Option VerifyFault). VerdictUnless fault table objects (Ok verdict)) (sym none) (h.functions, h.are, verdict, verdict', refl))
 
-pub is_refused : (view : View) (objects : List Object) (ordered : List Located) (fault : GatherFault) → InOrder (sized (table_of view)) ordered → IsFirstGathered (Some (table_of view).arch) objects fault
-    → IsFirstFault (section_bytes view) (table_of view) objects (refused (section_fault (section_bytes view) ordered) fault)
+pub is_refused : (view : View) (objects : List Object) (ordered : List Located) (fault : GatherFault) → AreByRank (sized_in (table_of view)) ordered → IsFirstGathered (Some (table_of view).arch) objects fault
+    → IsFirstVerifyFault (section_bytes view) (table_of view) objects (refused (section_fault (section_bytes view) ordered) fault)
 is_refused view objects ordered fault order (inl none) = inl (subst (λ (f : GatherFault). refused (section_fault (section_bytes view) ordered) f ≡ verify.NoMemory) (sym none) (no_memory (section_fault (section_bytes view) ordered)))
   where
     no_memory : (section : Option VerifyFault) → refused section gather.NoMemory ≡ verify.NoMemory
@@ -121,15 +121,15 @@ is_refused view objects ordered fault order (inl none) = inl (subst (λ (f : Gat
     no_memory (Some fault) = refl
 is_refused view objects ordered fault order (inr is) = inr (Err fault, is, ordered, order, refl)
 
-pub is_shared : (view : View) (objects : List Object) (arch : Arch) (kept : List Func) (omitted : List Omitted) (sources : List Function) (ordered : List Located) (fault : VerifyFault) → AreWithSources (Some (table_of view).arch) objects arch kept omitted sources → InOrder (sized (table_of view)) ordered
-    → section_fault (section_bytes view) ordered ≡ Some fault → IsFirstFault (section_bytes view) (table_of view) objects fault
+pub is_shared : (view : View) (objects : List Object) (arch : Arch) (kept : List Func) (omitted : List Omitted) (sources : List Function) (ordered : List Located) (fault : VerifyFault) → AreWithSources (Some (table_of view).arch) objects arch kept omitted sources → AreByRank (sized_in (table_of view)) ordered
+    → section_fault (section_bytes view) ordered ≡ Some fault → IsFirstVerifyFault (section_bytes view) (table_of view) objects fault
 is_shared view objects arch kept omitted sources ordered fault h order is =
     inr (Ok (map entry_of h.sorted), h.is, ordered, order, subst (λ (f : Option VerifyFault). VerdictUnless f (table_of view) objects (Err fault)) (sym is) refl)
 
 -- ---- what the comparison asks for
 pub record ArePrepared (view : View) (arch : Arch) (kept : List Func) (sources : List Function) (ordered : List Located) : Type 0 where
   pub machine : arch ≡ (table_of view).arch
-  pub order : InOrder (sized (table_of view)) ordered
+  pub order : AreByRank (sized_in (table_of view)) ordered
   pub none : section_fault (section_bytes view) ordered ≡ None
   pub comparable : AreComparable arch ordered
   pub rise : StartsRise ordered
@@ -137,10 +137,10 @@ pub record ArePrepared (view : View) (arch : Arch) (kept : List Func) (sources :
   pub kept_rises : KeptRise kept
 
 pub prepared : (view : View) (objects : List Object) (before arch : Arch) (kept : List Func) (omitted : List Omitted) (sources : List Function) (ordered asked : List Located) (shared : Option VerifyFault) → before ≡ (table_of view).arch
-    → AreWithSources (Some before) objects arch kept omitted sources → HaveMachine (Some before) objects arch → IsRead view → IsPermutation (sized (table_of view)) ordered → IsSorted compared ordered
+    → AreWithSources (Some before) objects arch kept omitted sources → HaveMachine (Some before) objects arch → IsViewOfSection view → IsPermutation (sized_in (table_of view)) ordered → IsSorted compared ordered
     → asked ≡ ordered → shared ≡ section_fault (section_bytes view) asked → shared ≡ None → ArePrepared view arch kept sources ordered
 prepared view objects before arch kept omitted sources ordered asked shared before_is h machine read moved sorted asked_is shared_is none =
-    let order : InOrder (sized (table_of view)) ordered = record { moved = moved; rising = sorted } in
+    let order : AreByRank (sized_in (table_of view)) ordered = record { moved = moved; rising = sorted } in
     let no_fault : section_fault (section_bytes view) ordered ≡ None = subst (λ (ls : List Located). section_fault (section_bytes view) ls ≡ None) asked_is (sym shared_is ∙ none) in
     let arch_is : arch ≡ (table_of view).arch = sym (same_machine before arch objects machine) ∙ before_is in
     record {
@@ -155,8 +155,8 @@ prepared view objects before arch kept omitted sources ordered asked shared befo
 
 pub has_verdict : (view : View) (objects : List Object) (before arch : Arch) (kept : List Func) (omitted : List Omitted) (sources : List Function) (ordered asked : List Located) (verdict : Verdict) → before ≡ (table_of view).arch
     → AreWithSources (Some before) objects arch kept omitted sources → HaveMachine (Some before) objects arch → ArePrepared view arch kept sources ordered → asked ≡ ordered
-    → IsVerdictBy (table_of view).functions (functions_in asked) kept (answers_of kept sources) verdict → Verifies (section_bytes view) (table_of view) objects (Ok verdict)
+    → IsVerdictBy (table_of view).functions (located_functions asked) kept (answers_of kept sources) verdict → Verifies (section_bytes view) (table_of view) objects (Ok verdict)
 has_verdict view objects before arch kept omitted sources ordered asked verdict before_is h machine p asked_is is =
     is_verified view objects arch kept omitted sources ordered verdict
     (subst (λ (a : Arch). AreWithSources (Some a) objects arch kept omitted sources) before_is h) (subst (λ (a : Arch). HaveMachine (Some a) objects arch) before_is machine) p.order p.none
-    (subst (λ (ls : List Located). IsVerdictBy (table_of view).functions (functions_in ls) kept (answers_of kept sources) verdict) asked_is is)
+    (subst (λ (ls : List Located). IsVerdictBy (table_of view).functions (located_functions ls) kept (answers_of kept sources) verdict) asked_is is)

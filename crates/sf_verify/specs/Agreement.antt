@@ -1,8 +1,8 @@
--- A section against call frame information: whether both recover the same caller's frame, and the verdict.
-use Rattle.std.specs.Prelude.{◌≡◌, ◌<◌, ◌&&◌, ◌||◌, ℕ, Bool, true, false, not, IsTrue, List, length, Option, Some, None, ⊤}
+-- A section compared with call frame information: the contents that recover the same caller's frame, and the verdict (GNU SFrame
+-- specification, Version 2; DWARF 5, section 6.4).
+use Rattle.std.specs.Prelude.{◌≡◌, ◌<◌, ◌&&◌, ◌||◌, ◌==◌, ℕ, Bool, true, false, not, IsTrue, List, length, Option, Some, None, ⊤}
 use Rattle.std.specs.List.{filter, list_any}
 use Rattle.std.specs.Option.{option_map}
-use Rattle.std.specs.Prelude.{◌==◌}
 use Rattle.sf_model.specs.declared.content.Content.{Content}
 use Rattle.sf_model.specs.declared.function.Func.{Func}
 use Rattle.sf_model.specs.declared.function.Shape.{Shape}
@@ -23,20 +23,21 @@ use Rattle.sf_asm.specs.declared.said.Said.{Said}
 use Rattle.sf_asm.specs.Said.{Answers, dwarf_at}
 use Rattle.sf_verify.specs.Said.{section_at}
 
--- both recover the same caller's frame, for all registers and memory
-abbrev pub RecoverAlike : Said → Said → Type 0
-RecoverAlike s d = (regs : Regs) (memory : List Region) → recovery s.content s.key regs memory ≡ recovery d.content d.key regs memory
+-- two contents with their keys recover the same caller's frame, for all registers and memory
+abbrev pub RecoverSameFrame : Said → Said → Type 0
+RecoverSameFrame s d = (regs : Regs) (memory : List Region) → recovery s.content s.key regs memory ≡ recovery d.content d.key regs memory
 
--- where the section says something, the call frame information says something that recovers alike
+-- if the section has a content, the call frame information has one that recovers the same
 abbrev pub Agree : (section dwarf : Option Said) → Type 0
 Agree None dwarf = ⊤
 Agree (Some s) None = ⊥
-Agree (Some s) (Some d) = RecoverAlike s d
+Agree (Some s) (Some d) = RecoverSameFrame s d
 
+-- the content without its key
 abbrev pub content_said : Option Said → Option Content
 content_said said = option_map (λ (s : Said). s.content) said
 
--- this is the least address at which they don't agree, and these are the contents there
+-- this is the least address at which section and call frame information don't agree, and these are their contents there
 pub record DifferFirst (section dwarf : Answers) (pc : ℕ) (ours : Content) (theirs : Option Content) : Type 0 where
   pub section_says : content_said (section pc) ≡ Some ours
   pub dwarf_says : content_said (dwarf pc) ≡ theirs
@@ -44,24 +45,26 @@ pub record DifferFirst (section dwarf : Answers) (pc : ℕ) (ours : Content) (th
   pub before : (least : ℕ) → least < pc → Agree (section least) (dwarf least)
 
 -- ---- counts
+-- rows are looked up by the offset
 abbrev pub is_plain_shape : Shape → Bool
 is_plain_shape Plain = true
 is_plain_shape (Repeat size) = false
 
+-- the function's rows are looked up by the offset
 abbrev pub is_plain : Func → Bool
 is_plain f = is_plain_shape f.shape
 
 -- the section's function is a plain one with the start and size of this function of the inputs
-abbrev pub stands_for : Function → Func → Bool
-stands_for f g = is_plain g && (g.start == f.start) && (g.size == f.size)
+abbrev pub represents : Function → Func → Bool
+represents f g = is_plain g && (g.start == f.start) && (g.size == f.size)
 
--- no function of the section stands for it
+-- no function of the section is a plain one with the start and size of this function of the inputs
 abbrev pub is_missing : List Func → Function → Bool
-is_missing section f = not (list_any (stands_for f) section)
+is_missing section f = not (list_any (represents f) section)
 
 -- ---- the verdict
--- they agree at every address, and these are the numbers of the section's plain functions, of the kept functions of the inputs that
--- it lacks, and of its functions of repeated blocks
+-- Section and call frame information agree at every address. These are the numbers of the section's plain functions, of the kept
+-- functions of the inputs that it lacks, and of its functions of repeated blocks.
 pub record AgreeEverywhere (section : List Func) (functions : List Function) (checked missing repeats : ℕ) : Type 0 where
   pub agree : (pc : ℕ) → Agree (section_at section pc) (dwarf_at functions pc)
   pub checked_are : checked ≡ length (filter is_plain section)
@@ -74,17 +77,18 @@ IsVerdict section functions (Agrees checked missing repeats) = AgreeEverywhere s
 IsVerdict section functions (Differs pc ours theirs) = DifferFirst (section_at section) (dwarf_at functions) pc ours theirs
 
 -- ---- the test
+-- two keys are the same
 abbrev pub same_key : Key → Key → Bool
 same_key A A = true
 same_key A B = false
 same_key B A = false
 same_key B B = true
 
--- contents are equal, and where they are signed the keys too
+-- the contents are equal, and also the keys if the contents are signed
 abbrev pub agree : Said → Said → Bool
 agree s d = same_content s.content d.content && (not s.content.signed || same_key s.key d.key)
 
--- what is said fits the machine, with offsets of 32 signed bits
+-- the content fits the machine, and its offsets have 32 signed bits
 pub record IsFitting (arch : Arch) (said : Said) : Type 0 where
   pub fits : IsTrue (content_fits arch said.content)
   pub in_range : OffsetsInRange said.content

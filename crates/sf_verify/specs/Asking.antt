@@ -1,4 +1,4 @@
--- Call frame information from the two lists in which the functions of the inputs are gathered, asked by rising address.
+-- Inside the crate: the contents of call frame information, from the two lists in which the functions of the inputs are gathered.
 use Rattle.std.specs.Prelude.{◌≡◌, ◌<◌, ◌≤◌, ◌+◌, ◌-◌, ◌^◌, ℕ, Bool, true, false, List, [], ◌∷◌, length, get_or, IsTrue, Option, Some, None}
 use Rattle.std.specs.List.{All, find}
 use Rattle.std.specs.Option.{option_and_then, option_map}
@@ -20,15 +20,17 @@ use Rattle.sf_verify.specs.declared.dwarf.Held.{Held}
 use Rattle.sf_verify.specs.declared.dwarf.Known.{Known}
 use Rattle.sf_verify.specs.Comparing.{func_says}
 
--- ---- what both lists say
+-- ---- the contents by both lists
+-- the content at an address by the kept function that contains it, or else by the omitted one
 abbrev pub by_holder : (pc : ℕ) → (kept : Option Func) → (omitted : Option Function) → Option Said
 by_holder pc (Some f) omitted = func_says f pc
 by_holder pc None omitted = option_and_then (said_in pc) omitted
 
--- the kept function that has the address decides, or the omitted one
+-- the content at each address, by kept and omitted functions
 unfoldable pub answers_of : (kept : List Func) → (omitted : List Function) → Answers
 answers_of kept omitted pc = by_holder pc (find (contains pc) kept) (find (holds_address pc) omitted)
 
+-- the content at each address, by the lists that are held
 abbrev pub says : Dwarf → Answers
 says d = answers_of d.kept.now d.omitted.now.functions
 
@@ -37,7 +39,7 @@ abbrev pub RowsBegin : List Row → Type 0
 RowsBegin [] = ⊥
 RowsBegin (r ∷ rows) = r.start ≡ 0
 
--- a kept function, as it is gathered: it has a row from its first address on, and its rows rise
+-- the kept function is as it was gathered: plain, with a row from its first address on, and its rows rise
 pub record IsRowed (arch : Arch) (f : Func) : Type 0 where
   pub plain : f.shape ≡ Plain
   pub end : f.start + f.size ≤ 2 ^ 64
@@ -46,7 +48,7 @@ pub record IsRowed (arch : Arch) (f : Func) : Type 0 where
   pub rise : RowsRise f.rows
   pub fits : All (λ (r : Row). IsTrue (content_fits arch r.content)) f.rows
 
--- What the two lists say, where at most one of their functions has an address.
+-- these are the contents by the two lists, in which at most one function contains an address
 pub record AreHolders (arch : Arch) (answers : Answers) (kept : List Func) (omitted : List Function) : Type 0 where
   pub kept_says : (i : ℕ) (d : Func) → i < length kept → (pc : ℕ) → (get_or kept i d).start ≤ pc → pc < (get_or kept i d).start + (get_or kept i d).size → answers pc ≡ func_says (get_or kept i d) pc
   pub omitted_says : (i : ℕ) (d : Function) → i < length omitted → (pc : ℕ) → (get_or omitted i d).start ≤ pc → pc < (get_or omitted i d).start + (get_or omitted i d).size → answers pc ≡ said_in pc (get_or omitted i d)
@@ -59,7 +61,7 @@ pub record AreHolders (arch : Arch) (answers : Answers) (kept : List Func) (omit
   pub omitted_here : All (λ (f : Function). f.arch ≡ arch) omitted
 
 -- ---- the function that was found last
--- its pieces say at each of its addresses what is answered there
+-- the function's pieces have at each of its addresses the content that is there
 pub record IsHeld (arch : Arch) (answers : Answers) (h : Held) : Type 0 where
   pub end : h.start + h.size ≤ 2 ^ 64
   pub pieces : 0 < h.size → ArePieces h.size h.pieces.items
@@ -67,47 +69,50 @@ pub record IsHeld (arch : Arch) (answers : Answers) (h : Held) : Type 0 where
       → answers pc ≡ option_map (with_key h.key) content
   pub fits : AllFit arch h.pieces.items
 
--- functions before a place end by an address
+-- the kept functions before a place end at an address or below it
 abbrev pub KeptPassed : List Func → (next pc : ℕ) → Type 0
 KeptPassed kept next pc = (i : ℕ) (d : Func) → i < next → i < length kept → (get_or kept i d).start + (get_or kept i d).size ≤ pc
 
+-- the omitted functions before a place end at an address or below it
 abbrev pub OmittedPassed : List Function → (next pc : ℕ) → Type 0
 OmittedPassed omitted next pc = (i : ℕ) (d : Function) → i < next → i < length omitted → (get_or omitted i d).start + (get_or omitted i d).size ≤ pc
 
--- what is asked from an address on is found
+-- the content at each address from this one on can be found
 pub record IsReady (d : Dwarf) (pc : ℕ) : Type 0 where
   pub holders : AreHolders d.arch (says d) d.kept.now d.omitted.now.functions
   pub held : IsHeld d.arch (says d) d.held
   pub kept_passed : KeptPassed d.kept.now d.next_kept pc
   pub omitted_passed : OmittedPassed d.omitted.now.functions d.next_omitted pc
 
--- the same lists are asked
+-- both have the same lists, machine and contents
 pub record IsSame (d e : Dwarf) : Type 0 where
   pub arch : e.arch ≡ d.arch
   pub kept : e.kept.now ≡ d.kept.now
   pub omitted : e.omitted.now ≡ d.omitted.now
   pub says : says e ≡ says d
 
--- the function that is held has the address, or none of the list has it
+-- the function that is held contains the address, or no kept function does
 abbrev pub FindsKept : Dwarf → (pc : ℕ) → Bool → Type 0
 FindsKept d pc true = (d.held.start ≤ pc) × (pc < d.held.start + d.held.size)
 FindsKept d pc false = (i : ℕ) (f : Func) → i < length d.kept.now → (get_or d.kept.now i f).start ≤ pc → pc < (get_or d.kept.now i f).start + (get_or d.kept.now i f).size → ⊥
 
+-- the function that is held contains the address, or no omitted function does
 abbrev pub FindsOmitted : Dwarf → (pc : ℕ) → Bool → Type 0
 FindsOmitted d pc true = (d.held.start ≤ pc) × (pc < d.held.start + d.held.size)
 FindsOmitted d pc false = (i : ℕ) (f : Function) → i < length d.omitted.now.functions → (get_or d.omitted.now.functions i f).start ≤ pc → pc < (get_or d.omitted.now.functions i f).start + (get_or d.omitted.now.functions i f).size → ⊥
 
--- the function that is held has the address, or nothing is said there
+-- the function that is held contains the address, or there is no content
 abbrev pub Finds : Dwarf → (pc : ℕ) → Bool → Type 0
 Finds d pc true = (d.held.start ≤ pc) × (pc < d.held.start + d.held.size)
 Finds d pc false = says d pc ≡ None
 
--- what is known at an address is what is answered there, and up to the last address to which it goes
-pub record IsKnown (arch : Arch) (answers : Answers) (pc : ℕ) (known : Known) : Type 0 where
+-- the content that is known at an address is the content there, and up to the last address to which it is known
+pub record IsKnownUpTo (arch : Arch) (answers : Answers) (pc : ℕ) (known : Known) : Type 0 where
   pub from_here : pc ≤ known.last
   pub steady : (p : ℕ) → pc ≤ p → p ≤ known.last → answers p ≡ Some known.said
   pub fits : IsTrue (content_fits arch known.said.content)
 
+-- the content at an address is known, and up to which address, or there is none
 abbrev pub Knows : Arch → Answers → (pc : ℕ) → Option Known → Type 0
 Knows arch answers pc None = answers pc ≡ None
-Knows arch answers pc (Some known) = IsKnown arch answers pc known
+Knows arch answers pc (Some known) = IsKnownUpTo arch answers pc known

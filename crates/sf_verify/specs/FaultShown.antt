@@ -1,4 +1,4 @@
--- What the line of a fault shows, and which faults are refusals.
+-- What the line of a fault of verifying prints, and which faults have one.
 use Rattle.std.specs.Prelude.{ℕ, Bool, true, false, [], ◌∷◌, Option, None}
 use Rattle.sf_model.specs.declared.notice.Group.TheVariants as group
 use Rattle.sf_model.specs.FaultShown.{FaultShown}
@@ -9,20 +9,21 @@ use Rattle.sf_asm.specs.FaultShown.{shown_of_gathering, not_shown}
 use Rattle.sf_verify.specs.declared.fault.VerifyFault.{VerifyFault}
 use Rattle.sf_verify.specs.declared.fault.VerifyFault.TheVariants.{Gather, Overlap, NoMemory}
 
--- an overlap in the section is a fault of the section, as where one that says to be sorted has it; out of memory has no line
+-- what the line prints: a fault of the inputs as in linking, and two functions of the section that share an address as a fault of
+-- the section, as in a section with the flag SFRAME_F_FDE_SORTED; out of memory has no line
 abbrev pub shown_of_verifying : Option ℕ → VerifyFault → FaultShown
 shown_of_verifying item (Gather fault) = shown_of_gathering None fault
 shown_of_verifying item (Overlap place) = record { item = item; group = group.Section; number = (number_and_place (decode.Overlap place)).0; values = place ∷ [] }
 shown_of_verifying item NoMemory = not_shown item
 
--- a refusal, which has a line
-abbrev pub is_refusal : VerifyFault → Bool
-is_refusal (Gather fault) = is_gather_refusal fault
-is_refusal (Overlap place) = true
-is_refusal NoMemory = false
+-- the fault has a line: it is not a limit and not out of memory
+abbrev pub is_verify_refusal : VerifyFault → Bool
+is_verify_refusal (Gather fault) = is_gather_refusal fault
+is_verify_refusal (Overlap place) = true
+is_verify_refusal NoMemory = false
 
--- what the call returns: a refusal, a limit, or that memory ran out
-abbrev pub is_answered : VerifyFault → Bool
-is_answered (Gather fault) = is_wrapped_answered fault
-is_answered (Overlap place) = true
-is_answered NoMemory = true
+-- the call can return the fault: a refusal, a limit, or out of memory
+abbrev pub is_returned : VerifyFault → Bool
+is_returned (Gather fault) = is_wrapped_answered fault
+is_returned (Overlap place) = true
+is_returned NoMemory = true

@@ -1,16 +1,16 @@
-//! Whether a section and call frame information recover the same caller's frame.
+//! The test whether a section and call frame information recover the same caller's frame.
 
 ghost use Rattle.std.specs.Prelude.{◌≡◌, IsTrue, FitsSigned, false};
 ghost use Rattle.std.specs.Int.{w32};
 ghost use Rattle.sf_model.specs.Content.{OffsetsInRange, PointerInRange, ReturnInRange, content_fits};
 ghost use Rattle.sf_verify.specs.Agreement as spec;
-ghost use Rattle.sf_verify.specs.Agreement.{RecoverAlike};
+ghost use Rattle.sf_verify.specs.Agreement.{RecoverSameFrame};
 
 use sf_asm::Said;
 use sf_express::is_same;
 use sf_model::{Arch, Content, Key, Ra};
 
-/// Whether two keys are the same.
+/// Returns whether two keys are the same.
 #[inline(always)]
 fn same_key(ours: Key, theirs: Key) -> bool
     ensures { result ≡ spec.same_key ours theirs }
@@ -27,7 +27,7 @@ fn same_key(ours: Key, theirs: Key) -> bool
     }
 }
 
-/// Whether the contents are the same, and the keys too where the return address is signed.
+/// Returns whether the contents are the same, and also the keys if the return address is signed.
 #[inline(always)]
 fn agree(ours: Said, theirs: Said) -> bool
     ensures { result ≡ spec.agree ours theirs }
@@ -36,13 +36,13 @@ fn agree(ours: Said, theirs: Said) -> bool
         && (!ours.content.signed || same_key(ours.key, theirs.key))
 }
 
-/// An offset is a number of 32 signed bits.
+/// Shows that an offset has 32 signed bits.
 #[inline(always)]
 fn number_in_range(_number: i32)
     ensures { FitsSigned w32 _number }
 {}
 
-/// So is that of a return address.
+/// Shows that the offset of a return address has 32 signed bits.
 #[inline(always)]
 fn return_in_range(ra: Ra)
     ensures { ReturnInRange ra }
@@ -54,7 +54,7 @@ fn return_in_range(ra: Ra)
     }
 }
 
-/// So is that of a frame pointer.
+/// Shows that the offset of a frame pointer has 32 signed bits.
 #[inline(always)]
 fn pointer_in_range(fp: Option<i32>)
     ensures { PointerInRange fp }
@@ -65,7 +65,7 @@ fn pointer_in_range(fp: Option<i32>)
     }
 }
 
-/// All offsets are.
+/// Shows that all offsets of a content have 32 signed bits.
 #[inline(always)]
 fn offsets_in_range(content: &Content)
     ensures { OffsetsInRange content.now }
@@ -75,12 +75,12 @@ fn offsets_in_range(content: &Content)
     pointer_in_range(content.fp);
 }
 
-/// Whether both recover the same caller's frame, for all registers and memory.
+/// Returns whether two contents with their keys recover the same caller's frame, for all registers and memory.
 pub fn recover_alike(arch: Arch, ours: Said, theirs: Said) -> bool
     requires ours { IsTrue (content_fits arch ours.content) }
     requires theirs { IsTrue (content_fits arch theirs.content) }
-    ensures alike { IsTrue result → RecoverAlike ours theirs }
-    ensures differ { result ≡ false → RecoverAlike ours theirs → ⊥ }
+    ensures alike { IsTrue result → RecoverSameFrame ours theirs }
+    ensures differ { result ≡ false → RecoverSameFrame ours theirs → ⊥ }
 {
     offsets_in_range(&ours.content);
     offsets_in_range(&theirs.content);

@@ -1,20 +1,20 @@
-//! How many functions are compared, and how many a section lacks.
+//! The number of functions that are compared, and of those that a section lacks.
 
 ghost use Rattle.std.specs.Prelude.{◌≡◌, ◌≤◌, ◌<◌, ◌^◌, ◌&&◌, ◌==◌, ℕ, IsTrue, get_or, length, map, false};
 ghost use Rattle.std.specs.List.{filter};
 ghost use Rattle.sf_model.specs.declared.function.Func.{Func as func};
 ghost use Rattle.sf_decode.specs.View.{head_of, table_of};
 ghost use Rattle.sf_merge.specs.declared.located.Located.{Located as located};
-ghost use Rattle.sf_verify.specs.Comparing.{functions_in};
+ghost use Rattle.sf_merge.specs.Located.{located_functions};
 ghost use Rattle.sf_verify.specs.Agreement as spec;
-ghost use Rattle.sf_verify.specs.Counting.{KeptRise, StartBefore, StartsRise, covers, is_absent};
+ghost use Rattle.sf_verify.specs.Counting.{KeptRise, StartBefore, StartsRise, represents_kept, is_absent};
 
 use crate::sweep::is_plain_shape;
 use sf_decode::{View, functions_are_numbered};
 use sf_merge::SectionFunctions;
 use sf_model::{Func, FuncHead};
 
-/// The number of plain functions of a section.
+/// Counts the plain functions of a section.
 pub fn count_plain(view: &View<'_>) -> u32
     ensures { result ≡ length (filter spec.is_plain (table_of view.now).functions) }
 {
@@ -28,7 +28,7 @@ pub fn count_plain(view: &View<'_>) -> u32
     count
 }
 
-/// The place of the first function from a place on that doesn't start before an address.
+/// Returns the place of the first function, from a place on, that doesn't start before an address.
 fn pass(functions: &SectionFunctions<'_>, passed: usize, start: u64) -> usize
     requires { StartBefore functions.now passed start }
     ensures passed { StartBefore functions.now result start }
@@ -41,29 +41,29 @@ fn pass(functions: &SectionFunctions<'_>, passed: usize, start: u64) -> usize
     next
 }
 
-/// Whether the function at a place is a plain one with the start and size of a kept one.
+/// Returns whether the function at a place is a plain one with the start and size of a kept one.
 fn is_there(functions: &SectionFunctions<'_>, place: usize, kept: &Func) -> bool
     ensures within { IsTrue result → place < length functions.now }
-    ensures there { (d : located) → place < length functions.now → result ≡ covers kept.now (get_or functions.now place d).func }
+    ensures there { (d : located) → place < length functions.now → result ≡ represents_kept kept.now (get_or functions.now place d).func }
 {
-    place < functions.len() && covers(&functions.head(place), kept)
+    place < functions.len() && represents_kept(&functions.head(place), kept)
 }
 
-/// Whether a function is a plain one with the start and size of a kept one.
+/// Returns whether a function is a plain one with the start and size of a kept one.
 #[inline(always)]
-fn covers(head: &FuncHead, kept: &Func) -> bool
-    ensures { (f : func) → head.now ≡ head_of f → result ≡ covers kept.now f }
+fn represents_kept(head: &FuncHead, kept: &Func) -> bool
+    ensures { (f : func) → head.now ≡ head_of f → result ≡ represents_kept kept.now f }
 {
     is_plain_shape(head.shape) && head.start == kept.start && head.size == kept.size
 }
 
-/// The number of kept functions for which there is no plain function of the same start and size. Both lists
-/// are by rising start, and are passed once.
+/// Counts the kept functions for which there is no plain function of the same start and size. Both lists
+/// are by rising start, and are scanned once.
 pub fn count_missing(kept: &[Func], functions: &SectionFunctions<'_>) -> u32
     requires few { length kept.now ≤ 2 ^ 21 }
     requires kept { KeptRise kept.now }
     requires functions { StartsRise functions.now }
-    ensures { result ≡ length (filter (is_absent (functions_in functions.now)) kept.now) }
+    ensures { result ≡ length (filter (is_absent (located_functions functions.now)) kept.now) }
 {
     let mut missing = 0;
     let mut next = 0;

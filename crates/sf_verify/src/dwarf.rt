@@ -1,4 +1,4 @@
-//! What call frame information says, asked by rising address.
+//! The contents of call frame information, asked for by rising address.
 
 ghost use Rattle.std.specs.Prelude.{◌≡◌, ◌≤◌, ◌<◌, ◌+◌, ◌^◌, ℕ, [], map, length, get_or, None, OnOk, IfOk, IsTrue, false};
 ghost use Rattle.sf_model.specs.declared.function.Func.{Func as function};
@@ -16,14 +16,14 @@ use sf_express::{Piece, piece_at};
 use sf_model::{Arch, Func, Key};
 use std::alloc::Global;
 
-/// What is said at an address, and the last address up to which the same is said.
+/// The content at an address, and the last address up to which it stays the same.
 #[derive(Clone, Copy, PartialEq, Eq)]
 pub struct Known {
     pub said: Said,
     pub last: u64,
 }
 
-/// A function, and what it says from offset to offset.
+/// A function, and its contents from offset to offset.
 #[derive(Drop)]
 pub struct Held {
     start: u64,
@@ -32,13 +32,13 @@ pub struct Held {
     pieces: Vec<Piece>,
 }
 
-/// The functions of the inputs by rising start, kept and omitted ones, and how far they were passed.
+/// The functions of the inputs by rising start, kept and omitted ones, and how far they are scanned.
 #[derive(Drop)]
 pub struct Dwarf<'a> {
     arch: Arch,
     kept: &'a [Func],
     omitted: &'a Sources<'a>,
-    // Functions before these end by the address asked last.
+    // Functions before these end by the address that was asked for last.
     next_kept: usize,
     next_omitted: usize,
     run: Runner<'a>,
@@ -46,7 +46,7 @@ pub struct Dwarf<'a> {
     held: Held,
 }
 
-/// The place of the first kept function from a place on that ends after an address.
+/// Returns the place of the first kept function, from a place on, that ends after an address.
 fn pass_kept(kept: &[Func], passed: usize, pc: u64) -> usize
     requires passed { KeptPassed kept.now passed pc }
     requires ends { (i : ℕ) (d : function) → i < length kept.now → (get_or kept.now i d).start + (get_or kept.now i d).size ≤ 2 ^ 64 }
@@ -60,7 +60,7 @@ fn pass_kept(kept: &[Func], passed: usize, pc: u64) -> usize
     next
 }
 
-/// Whether a function ends by an address.
+/// Returns whether a function ends at an address or below it.
 #[inline(always)]
 fn ends_by(start: u64, size: u64, pc: u64) -> bool
     ensures by { IsTrue result → start + size ≤ pc }
@@ -69,7 +69,7 @@ fn ends_by(start: u64, size: u64, pc: u64) -> bool
     start <= pc && size <= pc - start
 }
 
-/// Whether there is a kept function at a place, and it starts by an address.
+/// Returns whether there is a kept function at a place, and it starts at an address or below it.
 #[inline(always)]
 fn kept_starts(kept: &[Func], place: usize, pc: u64) -> bool
     ensures within { IsTrue result → place < length kept.now }
@@ -79,7 +79,7 @@ fn kept_starts(kept: &[Func], place: usize, pc: u64) -> bool
     place < kept.len() && kept[place].start <= pc
 }
 
-/// Whether there is an omitted function at a place, and it starts by an address.
+/// Returns whether there is an omitted function at a place, and it starts at an address or below it.
 #[inline(always)]
 fn omitted_starts(omitted: &Sources<'_>, place: usize, pc: u64) -> bool
     ensures within { IsTrue result → place < length omitted.now.functions }
@@ -89,7 +89,7 @@ fn omitted_starts(omitted: &Sources<'_>, place: usize, pc: u64) -> bool
     place < omitted.len() && omitted.start(place) <= pc
 }
 
-/// The place of the first omitted function from a place on that ends after an address.
+/// Returns the place of the first omitted function, from a place on, that ends after an address.
 fn pass_omitted(omitted: &Sources<'_>, passed: usize, pc: u64) -> usize
     requires passed { OmittedPassed omitted.now.functions passed pc }
     ensures passed { OmittedPassed omitted.now.functions result pc }
@@ -122,7 +122,7 @@ fn hold_kept(held: &mut Held, func: &Func) -> Result<(), NoMemory>
     Ok(())
 }
 
-/// An omitted function, with what it says.
+/// Runs the instructions of an omitted function, and returns it with its contents.
 fn hold_omitted<'a>(
     alloc: Global,
     source: &Source<'a>,
@@ -145,7 +145,7 @@ fn hold_omitted<'a>(
 }
 
 impl Held {
-    /// No function.
+    /// Returns a function without addresses.
     fn new(alloc: Global) -> Held
         ensures size { result.size ≡ 0 }
         ensures none { result.pieces.items ≡ [] }
@@ -159,7 +159,7 @@ impl Held {
         }
     }
 
-    /// Whether the function has an address.
+    /// Returns whether the function contains an address.
     #[inline(always)]
     fn has(&self, pc: u64) -> bool
         ensures has { IsTrue result → (self.now.start ≤ pc) × (pc < self.now.start + self.now.size) }
@@ -167,7 +167,7 @@ impl Held {
         self.start <= pc && pc - self.start < self.size
     }
 
-    /// What the function says at one of its addresses.
+    /// Returns the function's content at one of its addresses, if there is one.
     fn known(&self, pc: u64) -> Option<Known>
         requires from { self.now.start ≤ pc }
         requires to { pc < self.now.start + self.now.size }
@@ -188,7 +188,7 @@ impl Held {
 }
 
 impl<'a> Dwarf<'a> {
-    /// The functions of inputs, before anything is asked.
+    /// Returns the functions of inputs, before any address is asked for.
     pub fn new(alloc: Global, arch: Arch, kept: &'a [Func], omitted: &'a Sources<'a>) -> Dwarf<'a>
         requires { AreHolders arch (answers_of kept.now omitted.now.functions) kept.now omitted.now.functions }
         ensures ready { IsReady result 0 }
@@ -206,7 +206,7 @@ impl<'a> Dwarf<'a> {
         }
     }
 
-    /// The machine of all functions.
+    /// Returns the machine of all functions.
     #[inline(always)]
     pub fn arch(&self) -> Arch
         ensures { result ≡ self.now.arch }
@@ -214,7 +214,7 @@ impl<'a> Dwarf<'a> {
         self.arch
     }
 
-    /// Finds the kept function that has an address.
+    /// Finds the kept function that contains an address.
     fn find_kept(&mut self, pc: u64) -> Result<bool, NoMemory>
         requires { IsReady self.old pc }
         ensures same { OnOk result (IsSame self.old self.new) }
@@ -230,7 +230,7 @@ impl<'a> Dwarf<'a> {
         Ok(true)
     }
 
-    /// Finds the omitted function that has an address, and runs its instructions.
+    /// Finds the omitted function that contains an address, and runs its instructions.
     fn find_omitted(&mut self, alloc: Global, pc: u64) -> Result<bool, NoMemory>
         requires { IsReady self.old pc }
         ensures same { OnOk result (IsSame self.old self.new) }
@@ -247,7 +247,7 @@ impl<'a> Dwarf<'a> {
         Ok(true)
     }
 
-    /// Finds the function that has an address.
+    /// Finds the function that contains an address.
     fn find(&mut self, alloc: Global, pc: u64) -> Result<bool, NoMemory>
         requires { IsReady self.old pc }
         ensures same { OnOk result (IsSame self.old self.new) }
@@ -263,7 +263,7 @@ impl<'a> Dwarf<'a> {
         self.find_omitted(alloc, pc)
     }
 
-    /// What is said at an address that is not below the one asked last.
+    /// Returns the content at an address that isn't below the one asked for last, if there is one.
     pub fn ask(&mut self, alloc: Global, pc: u64) -> Result<Option<Known>, NoMemory>
         requires { IsReady self.old pc }
         ensures same { OnOk result (IsSame self.old self.new) }

@@ -14,8 +14,8 @@ pub enum VerifyFault {
     #[error(transparent)]
     Gather(GatherFault),
     /// Two functions of the section share an address: the place of the function descriptor entry of the
-    /// later one, of the first neighbours that do, by start and then by entry. It is tried where an overlap
-    /// among the inputs is, and comes before that.
+    /// later one, of the first neighbours that share an address, by start and then by entry. This fault comes
+    /// directly before that of two functions of the inputs that share an address.
     #[error("functions of the section overlap")]
     Overlap(u64),
     /// Memory ran out.

@@ -8,15 +8,15 @@ ghost use Rattle.sf_verify.specs.declared.fault.VerifyFault.{VerifyFault as veri
 ghost use Rattle.sf_verify.specs.Verifying.{Verifies};
 ghost use Rattle.sf_model.specs.declared.machine.Arch.{Arch as arch};
 ghost use Rattle.sf_asm.specs.declared.said.Said.{Said as said};
-ghost use Rattle.sf_verify.specs.Agreement.{IsFitting, RecoverAlike, agree};
+ghost use Rattle.sf_verify.specs.Agreement.{IsFitting, RecoverSameFrame, agree};
 
-/// Equal contents, with equal keys where they are signed, are those that recover alike.
+/// Contents recover alike exactly if they are equal, and also their keys are equal if they are signed.
 pub fn the_test_of_agreement_is_exact()
-    ensures sound { (s d : said) → agree s d ≡ true → RecoverAlike s d }
-    ensures complete { (a : arch) (s d : said) → IsFitting a s → IsFitting a d → RecoverAlike s d → agree s d ≡ true }
+    ensures sound { (s d : said) → agree s d ≡ true → RecoverSameFrame s d }
+    ensures complete { (a : arch) (s d : said) → IsFitting a s → IsFitting a d → RecoverSameFrame s d → agree s d ≡ true }
 {}
 
-/// Verifying a section comes to one result: the verdict, or the first fault.
+/// Verifying a section has at most one result: the verdict, or the first fault.
 pub fn verifying_comes_to_one_result()
     ensures { (bytes : List ℕ) (table : Table) (objects : List Object) (one other : Result verdict verify_fault) → Verifies bytes table objects one → Verifies bytes table objects other → one ≡ other }
 {}

@@ -1,17 +1,17 @@
 //! A section against the call frame information that it was made from.
 //!
-//! [`verify`] says whether a section agrees with 1 to 512 inputs: at each address at which a plain function of it
-//! has a row, the call frame information says something that recovers the same for all registers and any memory.
-//! Else it gives the least address at which that is not so, and both contents (`specs/Agreement.antt`,
-//! `specs/Verifying.antt`). What is said at an address is in `specs/Said.antt` of this crate and of `sf_asm`: omitted
-//! functions say something, too, wherever SFrame can express their row.
+//! [`verify`] returns whether a section agrees with 1 to 512 inputs: at each address at which a plain function of
+//! the section has a row, the call frame information has a content that recovers the same for all registers and
+//! any memory. Otherwise it returns the least address at which there is no such content, and both contents there
+//! (`specs/Agreement.antt`, `specs/Verifying.antt`). The content at an address is defined in `specs/Said.antt` of
+//! this crate and of `sf_asm`. Omitted functions have a content, too, at each address whose row SFrame can express.
 //!
 //! [`the_test_of_agreement_is_exact`] and [`verifying_comes_to_one_result`] are laws: two contents recover alike
-//! exactly where they are the same, with the same key where they are signed; and there is one verdict at most.
+//! exactly if they are the same, with the same key if they are signed; and there is at most one verdict.
 //!
-//! The functions of both sides are gone over once, by rising start; only the offsets at which either side can
-//! change are asked. The instructions of an omitted function are run where the section has rows in it. The caller
-//! owes inputs of fewer than 2^32 bytes each. Memory is taken for the functions of both sides.
+//! The functions of both sides are scanned once, by rising start, and only the offsets at which one of them can
+//! change are compared. The instructions of an omitted function are run only if the section has rows in it. The
+//! caller owes inputs of fewer than 2^32 bytes each. The lists of the functions of both sides are allocated.
 #![tactic(auto)]
 
 mod agreement;

@@ -1,19 +1,19 @@
-//! Faults as numbers, for the line that shows them.
+//! Faults as numbers, for the line that prints them.
 
 ghost use Rattle.std.specs.Prelude.{◌≡◌, IsSome, IsTrue};
 ghost use Rattle.sf_model.specs.Notice.{HasLine};
 ghost use Rattle.sf_model.specs.FaultShown.{shown_by};
-ghost use Rattle.sf_verify.specs.FaultShown.{is_refusal, shown_of_verifying};
+ghost use Rattle.sf_verify.specs.FaultShown.{is_verify_refusal, shown_of_verifying};
 
 use crate::fault::VerifyFault;
 use sf_decode::DecodeFault;
 use sf_model::Notice;
 
 impl VerifyFault {
-    /// The fault as its line shows it: of the section of this item, or of the inputs. The caller owes that it
-    /// is neither a limit nor `NoMemory`.
+    /// Returns the notice of this fault of this item's section or of the inputs, as its line prints it. The
+    /// caller owes that the fault is no limit and not `NoMemory`.
     pub fn notice(&self, item: Option<u32>) -> Notice
-        requires { IsTrue (is_refusal self.now) }
+        requires { IsTrue (is_verify_refusal self.now) }
         ensures shown { shown_by result ≡ shown_of_verifying item self.now }
         ensures line { IsSome item → HasLine result }
     {

@@ -1,4 +1,4 @@
-//! Whether functions of a section share an address.
+//! The check for functions of a section that share an address.
 
 ghost use Rattle.std.specs.Prelude.{◌≡◌};
 ghost use Rattle.sf_decode.specs.View.{section_bytes};
@@ -8,7 +8,7 @@ use crate::fault::VerifyFault;
 use sf_decode::View;
 use sf_merge::{SectionFunctions, shared_entry};
 
-/// Tries each function against the one before it.
+/// Returns the fault of the first function that shares an address with the one before it, if there is one.
 #[tactic(auto, unfolding(crate::specs::Verifying::section_fault))]
 pub fn shared_address(view: &View<'_>, ordered: &SectionFunctions<'_>) -> Option<VerifyFault>
     ensures { result ≡ section_fault (section_bytes view.now) ordered.now }

@@ -4,7 +4,8 @@ ghost use Rattle.std.specs.Prelude.{◌≡◌, ◌≤◌, ◌+◌, IfOk, OnOk, I
 ghost use Rattle.sf_model.specs.Content.{content_fits};
 ghost use Rattle.sf_verify.specs.Agreement as spec;
 ghost use Rattle.sf_verify.specs.Asking.{IsReady, IsSame, says};
-ghost use Rattle.sf_verify.specs.Comparing.{AreComparable, Compares, ComparesAll, IsComparable, edge_of, func_read, func_says, functions_in};
+ghost use Rattle.sf_merge.specs.Located.{located_functions};
+ghost use Rattle.sf_verify.specs.Comparing.{AreComparable, Compares, ComparesAll, IsComparable, edge_of, func_read, func_says};
 ghost use Rattle.sf_verify.specs.Said.{section_at};
 
 use crate::agreement::recover_alike;
@@ -16,7 +17,7 @@ use sf_merge::SectionFunctions;
 use sf_model::{Content, FuncHead, Row, Shape};
 use std::alloc::Global;
 
-/// The least address at which they differ, and what they say there.
+/// The least address at which a section and call frame information differ, and both contents there.
 #[derive(Clone, Copy, PartialEq, Eq)]
 pub struct Difference {
     pub pc: u64,
@@ -24,8 +25,8 @@ pub struct Difference {
     pub dwarf: Option<Content>,
 }
 
-/// Compares the addresses from one to another, both included, at which the section says the same. It asks
-/// only where what call frame information says can change.
+/// Compares the addresses from one to another, both included, at which the section has one content. Call frame
+/// information is asked for only where its content can change.
 fn compare_run(
     alloc: Global,
     said: Said,
@@ -63,7 +64,7 @@ fn compare_run(
     }
 }
 
-/// The offset at which a row begins, but the size where it begins after that or there is none.
+/// Returns the offset at which a row begins, or the size if there is no row or it begins after that.
 #[inline(always)]
 fn edge(row: Option<Row>, size: u32) -> u32
     ensures { result ≡ edge_of row size }
@@ -74,7 +75,7 @@ fn edge(row: Option<Row>, size: u32) -> u32
     }
 }
 
-/// Compares a plain function of the section. Its rows are read once, and none is kept but the next one.
+/// Compares a plain function of the section. Its rows are read once, and only the next one is kept.
 fn compare_function(
     alloc: Global,
     head: &FuncHead,
@@ -111,7 +112,7 @@ fn compare_function(
     Ok(None)
 }
 
-/// Whether rows are looked up by the offset.
+/// Returns whether rows are looked up by the offset.
 #[inline(always)]
 pub fn is_plain_shape(shape: Shape) -> bool
     ensures { result ≡ spec.is_plain_shape shape }
@@ -122,8 +123,8 @@ pub fn is_plain_shape(shape: Shape) -> bool
     }
 }
 
-/// Compares the plain functions of a section, which are given by rising start and share no address. The
-/// least address at which they differ is found.
+/// Compares the plain functions of a section, which are by rising start and share no address. Returns the least
+/// address at which they differ, if there is one.
 pub fn compare(
     alloc: Global,
     functions: &SectionFunctions<'_>,
@@ -131,7 +132,7 @@ pub fn compare(
 ) -> Result<Option<Difference>, NoMemory>
     requires ready { IsReady dwarf.old 0 }
     requires comparable { AreComparable dwarf.old.arch functions.now }
-    ensures { IfOk result (ComparesAll (section_at (functions_in functions.now)) (says dwarf.old)) }
+    ensures { IfOk result (ComparesAll (section_at (located_functions functions.now)) (says dwarf.old)) }
 {
     for place in 0..functions.len() {
         let head = functions.head(place);

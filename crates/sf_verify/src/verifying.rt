@@ -4,11 +4,12 @@ ghost use Rattle.std.specs.Prelude.{◌≡◌, ◌≤◌, ◌<◌, ◌^◌, All,
 ghost use Rattle.sf_asm.specs.Functions.{object_of};
 ghost use Rattle.sf_decode.specs.View.{section_bytes, table_of};
 ghost use Rattle.sf_verify.specs.Asking.{AreHolders, answers_of};
-ghost use Rattle.sf_verify.specs.Comparing.{AreComparable, functions_in};
+ghost use Rattle.sf_merge.specs.Located.{located_functions};
+ghost use Rattle.sf_verify.specs.Comparing.{AreComparable};
 ghost use Rattle.sf_verify.specs.Concluding.{IsVerdictBy};
 ghost use Rattle.sf_verify.specs.Counting.{KeptRise, StartsRise};
-ghost use Rattle.sf_verify.specs.FaultShown.{is_answered};
-ghost use Rattle.sf_verify.specs.Verifying.{IsFirstFault, Verifies, refused};
+ghost use Rattle.sf_verify.specs.FaultShown.{is_returned};
+ghost use Rattle.sf_verify.specs.Verifying.{IsFirstVerifyFault, Verifies, refused};
 
 use crate::counts::{count_missing, count_plain};
 use crate::dwarf::Dwarf;
@@ -22,7 +23,8 @@ use sf_merge::{SectionFunctions, in_order};
 use sf_model::Verdict;
 use std::alloc::Global;
 
-/// A fault of the inputs, before which an overlap in the section comes where it is one of them.
+/// Returns the fault of the section, if there is one and that of the inputs is an overlap, or else the fault of the
+/// inputs.
 fn refused(section: Option<VerifyFault>, fault: GatherFault) -> VerifyFault
     ensures { result ≡ refused section fault }
 {
@@ -36,7 +38,7 @@ fn refused(section: Option<VerifyFault>, fault: GatherFault) -> VerifyFault
     }
 }
 
-/// The verdict on a section whose functions are given in order, by the functions of the inputs.
+/// Returns the verdict on a section whose functions are given in order, by the functions of the inputs.
 fn verdict_on(
     alloc: Global,
     view: &View<'_>,
@@ -49,7 +51,7 @@ fn verdict_on(
     requires holders { AreHolders gathered.now.arch (answers_of gathered.now.kept.items gathered.now.sources.functions) gathered.now.kept.items gathered.now.sources.functions }
     requires few { length gathered.now.kept.items ≤ 2 ^ 21 }
     requires kept { KeptRise gathered.now.kept.items }
-    ensures { IfOk result (IsVerdictBy (table_of view.now).functions (functions_in ordered.now) gathered.now.kept.items (answers_of gathered.now.kept.items gathered.now.sources.functions)) }
+    ensures { IfOk result (IsVerdictBy (table_of view.now).functions (located_functions ordered.now) gathered.now.kept.items (answers_of gathered.now.kept.items gathered.now.sources.functions)) }
 {
     let mut dwarf = Dwarf::new(alloc, gathered.arch, &gathered.kept, &gathered.sources);
     if let Some(difference) = compare(alloc, ordered, &mut dwarf)? {
@@ -68,9 +70,9 @@ fn verdict_on(
 }
 
 /// Compares a section with 1 to 512 inputs, each of fewer than 2^32 bytes, at each address at which a plain
-/// function of the section has a row. They agree exactly where the call frame information says something at
-/// each of these addresses that recovers the same for all registers and any memory; else the verdict has the
-/// least address at which they don't, and both contents there. The section is item 0, and the inputs are
+/// function of the section has a row. They agree exactly if the call frame information has at each of these
+/// addresses a content that recovers the same for all registers and any memory. Otherwise the verdict has the
+/// least address at which it has none, and both contents there. The section is item 0, and the inputs are
 /// numbered from 1 on.
 ///
 /// # Errors
@@ -84,8 +86,8 @@ pub fn verify(alloc: Global, view: &View<'_>, inputs: &[Input<'_>]) -> Result<Ve
     // The verdict is that of the definition.
     ensures verdict { IfOk result (λ verdict. Verifies (section_bytes view.now) (table_of view.now) (map object_of inputs.now) (Ok verdict)) }
     // A fault is the first one.
-    ensures fault { IfErr result (IsFirstFault (section_bytes view.now) (table_of view.now) (map object_of inputs.now)) }
-    ensures answered { IfErr result (λ fault. IsTrue (is_answered fault)) }
+    ensures fault { IfErr result (IsFirstVerifyFault (section_bytes view.now) (table_of view.now) (map object_of inputs.now)) }
+    ensures answered { IfErr result (λ fault. IsTrue (is_returned fault)) }
 {
     let gathered = gather_with_sources(alloc, inputs, Some(view.arch()));
     let ordered = in_order(alloc, view)?;

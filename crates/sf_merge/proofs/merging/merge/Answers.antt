@@ -7,22 +7,22 @@ use Rattle.sf_decode.specs.View.{table_of}
 use Rattle.sf_write.specs.Stored.{stored_in}
 use Rattle.sf_write.proofs.StoredEntries.{counts, few_rows}
 use Rattle.sf_merge.specs.Answers.{IsMerged}
-use Rattle.sf_merge.specs.Merging.{limits_fault, overlap_fault, written}
+use Rattle.sf_merge.specs.Merging.{limits_fault_in_all, shared_address_fault, merged_functions}
 use Rattle.sf_merge.proofs.Merged.{are_writable, merged, no_fault}
 use Rattle.sf_merge.proofs.Sound.{all_sound}
 use Rattle.sf_merge.proofs.merging.merge.Goals as goal
 use Rattle.sf_merge.proofs.merging.merge.Goals.{After-written-functions}
 
-limits : (c : After-written-functions) → limits_fault (map table_of c.args.views.now) ≡ None
-limits c = no_fault c.in_ok-check_limits.field-0 (limits_fault (map table_of c.args.views.now)) c.in_ok-check_limits.ensures
+limits : (c : After-written-functions) → limits_fault_in_all (map table_of c.args.views.now) ≡ None
+limits c = no_fault c.in_ok-check_limits.field-0 (limits_fault_in_all (map table_of c.args.views.now)) c.in_ok-check_limits.ensures
 
-overlaps : (c : After-written-functions) → overlap_fault c.in_ok-ordered.ordered ≡ None
-overlaps c = no_fault c.in_ok-check_overlap.field-0 (overlap_fault c.in_ok-ordered.ordered) c.in_ok-check_overlap.ensures
+overlaps : (c : After-written-functions) → shared_address_fault c.in_ok-ordered.ordered ≡ None
+overlaps c = no_fault c.in_ok-check_overlap.field-0 (shared_address_fault c.in_ok-ordered.ordered) c.in_ok-check_overlap.ensures
 
-functions : (c : After-written-functions) → map (stored_in c.written-functions.result.1) c.written-functions.result.0 ≡ written c.in_ok-ordered.ordered
+functions : (c : After-written-functions) → map (stored_in c.written-functions.result.1) c.written-functions.result.0 ≡ merged_functions c.in_ok-ordered.ordered
 functions c = c.written-functions.ensures.written
 
-writable : (c : After-written-functions) → AreWritable c.in_ok-arch.arch (written c.in_ok-ordered.ordered)
+writable : (c : After-written-functions) → AreWritable c.in_ok-arch.arch (merged_functions c.in_ok-ordered.ordered)
 writable c =
     let arch = c.in_ok-arch.arch in
     are_writable arch (map table_of c.args.views.now) c.in_ok-ordered.ordered (all_sound arch c.args.views.now c.in_ok-ordered.ensures.read c.in_ok-arch.ensures.one) c.in_ok-ordered.ensures.order (overlaps c) (limits c)
@@ -44,7 +44,7 @@ pub returns-in-Ok-clause-merged : goal.returns-in-Ok-clause-merged
 returns-in-Ok-clause-merged c =
     let before = (goal.at.returns-in-Ok-clause-merged c).After-written-functions in
     let written_is = rw (functions before) at c.in-Ok.ensures in
-    let items = written c.in_ok-ordered.ordered in
+    let items = merged_functions c.in_ok-ordered.ordered in
     let kept = c.written-functions.result.0 in
     let whole = merged c.in_ok-arch.arch (map table_of c.args.views.now) c.args.at c.in-Ok.section.items c.in_ok-ordered.ordered c.in_ok-arch.ensures.one c.in_ok-arch.ensures.none (limits before)
     c.in_ok-ordered.ensures.order (overlaps before) written_is.in_reach written_is.tight written_is.narrow c.in-Ok.ensures.are_bytes in

@@ -4,7 +4,7 @@ use Rattle.sf_decode.specs.View.{table_of, function_of}
 use Rattle.sf_merge.specs.declared.in_section.SectionEntry.{SectionEntry}
 use Rattle.sf_merge.specs.declared.located.Located.{Located}
 use Rattle.sf_merge.specs.InSection.{IsEntry, all_at}
-use Rattle.sf_merge.specs.OneSection.{sized}
+use Rattle.sf_merge.specs.OneSection.{sized_in}
 use Rattle.sf_merge.proofs.InSection.{all_more, entries_more}
 use Rattle.sf_merge.proofs.Read.{left_in, left_kept, left_passed}
 use Rattle.sf_merge.proofs.reading.entries_of.Goals as goal
@@ -28,14 +28,14 @@ loop-number-preserved c =
       | then-head-ne0+in_ok-push w ↦
           let pushed : c.if-head-ne0.entries.items ≡ so_far ++ entry ∷ [] = cc (w.entries-is, w.in_ok-push.ensures.items) in
           record {
-            all = left_kept (sized (table_of view)) (all_at view so_far) 0 number functions f within is (omega (size, w.if-head-ne0.true, arith)) inv.all
+            all = left_kept (sized_in (table_of view)) (all_at view so_far) 0 number functions f within is (omega (size, w.if-head-ne0.true, arith)) inv.all
                 ∙ ap (λ (ls : List Located). ls ++ rest) (sym (ap (all_at view) pushed ∙ all_more view so_far entry));
             each = subst (All (IsEntry view)) (sym pushed) (entries_more view so_far entry inv.each record { within = within; start = start; size = size });
           }
       | else-head-ne0 w ↦
           let kept : c.if-head-ne0.entries.items ≡ so_far = cc (w.entries-is) in
           record {
-            all = left_passed (sized (table_of view)) (all_at view so_far) 0 number functions f within is (omega (size, w.if-head-ne0.false, arith)) inv.all
+            all = left_passed (sized_in (table_of view)) (all_at view so_far) 0 number functions f within is (omega (size, w.if-head-ne0.false, arith)) inv.all
                 ∙ ap (λ (es : List SectionEntry). all_at view es ++ rest) (sym kept);
             each = subst (All (IsEntry view)) (sym kept) inv.each;
           }

@@ -4,7 +4,7 @@ use Rattle.sf_model.specs.declared.function.Func.{Func}
 use Rattle.sf_decode.specs.View.{table_of, function_of}
 use Rattle.sf_merge.specs.declared.located.Located.{Located}
 use Rattle.sf_merge.specs.Heads.{IsStorable}
-use Rattle.sf_merge.specs.Located.{at_entry, has_bytes, located}
+use Rattle.sf_merge.specs.Located.{at_entry, is_sized, located}
 use Rattle.sf_merge.proofs.Read.{left_in, left_kept, left_passed}
 use Rattle.sf_merge.proofs.Sound.{storable}
 use Rattle.sf_merge.proofs.reading.store_functions.Goals as goal
@@ -26,7 +26,7 @@ loop-number-preserved c =
     let number = c.loop-number.number in
     let functions = (table_of c.args.view.now).functions in
     let f = function_of c.args.view.now number in
-    let all = c.args.all.now ++ filter has_bytes (located item (table_of c.args.view.now)) in
+    let all = c.args.all.now ++ filter is_sized (located item (table_of c.args.view.now)) in
     let so_far = c.loop-number.all in
     let within : number < length functions = omega (c.loop-number-test.true, c.len-number-end.ensures.value, arith) in
     let is = c.functions_are_numbered.ensures number f within in

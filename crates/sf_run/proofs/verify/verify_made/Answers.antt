@@ -4,7 +4,7 @@ use Rattle.sf_decode.specs.View.{section_bytes, table_of}
 use Rattle.sf_asm.specs.declared.input.Input.{Input}
 use Rattle.sf_asm.specs.Functions.{Object, object_of}
 use Rattle.sf_words.specs.Parsed.{input_of}
-use Rattle.sf_verify.specs.Verifying.{IsFirstFault, Verifies}
+use Rattle.sf_verify.specs.Verifying.{IsFirstVerifyFault, Verifies}
 use Rattle.sf_run.specs.LinkComes.{objects_in}
 use Rattle.sf_run.proofs.Linked.{bytes_of, as_many_inputs}
 use Rattle.sf_run.proofs.Verified.{inputs_after_short, unverified_comes, verified_comes}
@@ -34,6 +34,6 @@ returns-in-Ok-verify c =
 pub returns : goal.returns
 returns c =
     let are = ap (map object_of) c.deref.ensures.value ∙ c.in_ok-inputs.ensures in
-    let first = subst (λ (os : List Object). IsFirstFault (section_bytes c.in-Ok.view) (table_of c.in-Ok.view) os c.in-Err-verify.fault) are c.in-Err-verify.ensures.fault in
+    let first = subst (λ (os : List Object). IsFirstVerifyFault (section_bytes c.in-Ok.view) (table_of c.in-Ok.view) os c.in-Err-verify.fault) are c.in-Err-verify.ensures.fault in
     unverified_comes c.args.at c.args.section.now (section_bytes c.in-Ok.view) (objects_in (map input_of c.args.inputs.now) (bytes_of c.args.items.now)) (table_of c.in-Ok.view) c.in-Err-verify.fault c.unverified.result
     c.in-Ok.ensures.bytes (sym c.in-Ok.ensures.exact) c.in-Ok.ensures.sound first c.unverified.ensures.memory c.unverified.ensures.is

@@ -13,23 +13,23 @@ use Rattle.sf_write.specs.Stored.{stored_count, stored_in}
 use Rattle.sf_write.proofs.StoredEntries.{counts, few_rows}
 use Rattle.sf_merge.specs.declared.located.Located.{Located}
 use Rattle.sf_merge.proofs.Apart.{function_of}
-use Rattle.sf_slim.specs.Pass.{answers, kept_function}
-use Rattle.sf_slim.specs.Slimming.{overlap_fault}
+use Rattle.sf_slim.specs.Pass.{has_row, kept_function}
+use Rattle.sf_slim.specs.Slimming.{slim_overlap_fault}
 use Rattle.sf_slim.proofs.Needed.{answering_writable, are_writable, needed}
 use Rattle.sf_slim.proofs.Overlaps.{no_fault}
 use Rattle.sf_slim.proofs.Slims.{is_far, is_slimmed}
 use Rattle.sf_slim.proofs.slimming.slim.Goals as goal
 use Rattle.sf_slim.proofs.slimming.slim.Goals.{After-needed}
 
-apart : (c : After-needed) → overlap_fault (section_bytes c.args.view.now) c.in_ok-ordered.ordered ≡ None
-apart c = no_fault c.in_ok-check_overlap.field-0 (overlap_fault (section_bytes c.args.view.now) c.in_ok-ordered.ordered) c.in_ok-check_overlap.ensures
+apart : (c : After-needed) → slim_overlap_fault (section_bytes c.args.view.now) c.in_ok-ordered.ordered ≡ None
+apart c = no_fault c.in_ok-check_overlap.field-0 (slim_overlap_fault (section_bytes c.args.view.now) c.in_ok-ordered.ordered) c.in_ok-check_overlap.ensures
 
 writable : (c : After-needed) → AreWritable c.arch-arch.result (needed (map function_of c.in_ok-ordered.ordered))
 writable c = rw c.arch-arch.ensures (are_writable c.args.view.now c.in_ok-ordered.ordered c.in_order.ensures.read c.in_ok-ordered.ensures.order (apart c))
 
 pub needed-requires : goal.needed-requires
 needed-requires c =
-    subst (λ (a : Arch). All (λ (l : Located). answers l.func ≡ true → IsWritable a (kept_function l.func)) c.in_ok-ordered.ordered) (sym c.arch-arch.ensures)
+    subst (λ (a : Arch). All (λ (l : Located). has_row l.func ≡ true → IsWritable a (kept_function l.func)) c.in_ok-ordered.ordered) (sym c.arch-arch.ensures)
     (answering_writable c.args.view.now c.in_ok-ordered.ordered c.in_order.ensures.read c.in_ok-ordered.ensures.order)
 
 pub write_stored-requires-clause-writable : goal.write_stored-requires-clause-writable

@@ -5,15 +5,15 @@ use Rattle.std.proofs.lemmas.List.{get_or_default}
 use Rattle.std.proofs.lemmas.List.Filters.{length-filter_more}
 use Rattle.sf_model.specs.declared.function.Func.{Func}
 use Rattle.sf_merge.specs.declared.located.Located.{Located}
-use Rattle.sf_verify.specs.Comparing.{functions_in}
-use Rattle.sf_verify.specs.Counting.{StartBefore, covers, is_absent}
+use Rattle.sf_merge.specs.Located.{located_functions}
+use Rattle.sf_verify.specs.Counting.{StartBefore, represents_kept, is_absent}
 use Rattle.sf_verify.proofs.Counted.{later_before, one_if, taken_most, there_is}
 use Rattle.sf_verify.proofs.counts.count_missing.Goals as goal
 use Rattle.sf_verify.proofs.counts.count_missing.Goals.{then-not-is_there, else-not-is_there}
 
 pub overflow_add-missing : goal.overflow_add-missing
 overflow_add-missing c =
-    let most = taken_most (is_absent (functions_in c.args.functions.now)) c.args.kept.now c.loop-func.func-index in
+    let most = taken_most (is_absent (located_functions c.args.functions.now)) c.args.kept.now c.loop-func.func-index in
     record { fits = omega (arith, most, c.loop-func.invariant.count, c.loop-func-test.true, c.requires.few) }
 
 pub loop-func-preserved : goal.loop-func-preserved
@@ -24,11 +24,11 @@ loop-func-preserved c =
     let k = c.func-item.result in
     let d : Located = record { func = k; item = 0; number = 0 } in
     let passed : StartBefore functions c.pass-next.result k.start = c.pass-next.ensures.passed in
-    let any : list_any (covers k) (functions_in functions) ≡ c.is_there.result = there_is k functions c.pass-next.result d c.is_there.result c.requires.functions passed (c.pass-next.ensures.here d) c.is_there.ensures.within (c.is_there.ensures.there d) in
-    let absent : is_absent (functions_in functions) (get_or kept place k) ≡ not c.is_there.result = ap (is_absent (functions_in functions)) (sym c.func-item.is) ∙ ap not any in
-    let more = length-filter_more (is_absent (functions_in functions)) kept place k c.loop-func-test.true in
-    let next : length (filter (is_absent (functions_in functions)) (take (place + 1) kept)) ≡ length (filter (is_absent (functions_in functions)) (take place kept)) + one_if (not c.is_there.result) =
-    more ∙ ap (λ (b : Bool). length (filter (is_absent (functions_in functions)) (take place kept)) + one_if b) absent in
+    let any : list_any (represents_kept k) (located_functions functions) ≡ c.is_there.result = there_is k functions c.pass-next.result d c.is_there.result c.requires.functions passed (c.pass-next.ensures.here d) c.is_there.ensures.within (c.is_there.ensures.there d) in
+    let absent : is_absent (located_functions functions) (get_or kept place k) ≡ not c.is_there.result = ap (is_absent (located_functions functions)) (sym c.func-item.is) ∙ ap not any in
+    let more = length-filter_more (is_absent (located_functions functions)) kept place k c.loop-func-test.true in
+    let next : length (filter (is_absent (located_functions functions)) (take (place + 1) kept)) ≡ length (filter (is_absent (located_functions functions)) (take place kept)) + one_if (not c.is_there.result) =
+    more ∙ ap (λ (b : Bool). length (filter (is_absent (located_functions functions)) (take place kept)) + one_if b) absent in
     record {
       before = λ e lt.
           let up = c.requires.kept place (place + 1) k (omega arith) lt in

@@ -1,12 +1,12 @@
 use Rattle.std.proofs.Common.{◌≡◌, ◌<◌, get_or, length, take}
 use Rattle.std.specs.List.{filter}
 use Rattle.sf_model.specs.declared.function.Func.{Func}
-use Rattle.sf_verify.specs.Comparing.{functions_in}
+use Rattle.sf_merge.specs.Located.{located_functions}
 use Rattle.sf_verify.specs.Counting.{StartBefore, is_absent}
 use Rattle.sf_verify.proofs.counts.count_missing.Given as goal
 
 abbrev pub invariant-loop-func : goal.invariant-loop-func
 invariant-loop-func l = record {
   before : (d : Func) → l.func-index < length l.kept → StartBefore l.functions l.next (get_or l.kept l.func-index d).start;
-  count : l.missing ≡ length (filter (is_absent (functions_in l.functions)) (take l.func-index l.kept));
+  count : l.missing ≡ length (filter (is_absent (located_functions l.functions)) (take l.func-index l.kept));
 }

@@ -5,7 +5,8 @@ use Rattle.sf_model.specs.declared.function.FuncHead.{FuncHead}
 use Rattle.sf_model.specs.declared.machine.Arch.{Arch}
 use Rattle.sf_verify.specs.Agreement.{is_plain, is_plain_shape}
 use Rattle.sf_verify.specs.Asking.{IsReady, says}
-use Rattle.sf_verify.specs.Comparing.{Compares, IsComparable, func_read, func_says, functions_in}
+use Rattle.sf_merge.specs.Located.{located_functions}
+use Rattle.sf_verify.specs.Comparing.{Compares, IsComparable, func_read, func_says}
 use Rattle.sf_asm.specs.Said.{Answers}
 use Rattle.sf_verify.specs.Said.{section_at}
 use Rattle.sf_verify.proofs.Compared.{later, no_difference, same_again}
@@ -63,7 +64,7 @@ loop-place-preserved c =
           rw w.dwarf-is (record {
             same = same_again _ _ _ inv.same w.in_ok-compared.ensures.same;
             ready = λ e more. let next = next_start functions place l apart lt is e more in later _ _ _ w.in_ok-compared.ensures.ready (omega (arith, next, start, size));
-            agree = over_more (section_at (functions_in functions)) (says c.args.dwarf.now) functions place l lt is inv.agree (agree_at functions (says c.args.dwarf.now) place l w.in_ok-compared.compared apart lt is none compared);
+            agree = over_more (section_at (located_functions functions)) (says c.args.dwarf.now) functions place l lt is inv.agree (agree_at functions (says c.args.dwarf.now) place l w.in_ok-compared.compared apart lt is none compared);
           })
       | else-is_plain_shape w ↦
           let shape = ap (λ (h : FuncHead). is_plain_shape h.shape) (c.head-head.ensures d) in
@@ -71,7 +72,7 @@ loop-place-preserved c =
           rw w.dwarf-is (record {
             same = inv.same;
             ready = λ e more. let next = next_start functions place l apart lt is e more in later _ _ _ (inv.ready d lt) (omega (arith, next));
-            agree = over_more (section_at (functions_in functions)) (says c.args.dwarf.now) functions place l lt is inv.agree (repeated_over functions (says c.args.dwarf.now) place l apart lt is repeated);
+            agree = over_more (section_at (located_functions functions)) (says c.args.dwarf.now) functions place l lt is inv.agree (repeated_over functions (says c.args.dwarf.now) place l apart lt is repeated);
           })
     ]
 

@@ -6,7 +6,8 @@ use Rattle.sf_verify.specs.declared.sweep.Difference.{Difference}
 use Rattle.sf_verify.specs.Agreement.{is_plain}
 use Rattle.sf_verify.specs.Asking.{answers_of, says}
 use Rattle.sf_verify.specs.Counting.{is_absent}
-use Rattle.sf_verify.specs.Comparing.{ComparesAll, functions_in}
+use Rattle.sf_merge.specs.Located.{located_functions}
+use Rattle.sf_verify.specs.Comparing.{ComparesAll}
 use Rattle.sf_asm.specs.Said.{Answers}
 use Rattle.sf_verify.specs.Said.{section_at}
 use Rattle.sf_verify.proofs.Counted.{at_most, rest_are}
@@ -19,7 +20,7 @@ overflow_sub-result c =
 
 pub returns : goal.returns
 returns c =
-    let section = section_at (functions_in c.args.ordered.now) in
+    let section = section_at (located_functions c.args.ordered.now) in
     let functions = (table_of c.args.view.now).functions in
     let kept_is : c.deref.result.now ≡ c.args.gathered.now.kept.items = c.deref.ensures.value in
     let answers : says c.new-dwarf.result ≡ answers_of c.args.gathered.now.kept.items c.args.gathered.now.sources.functions =
@@ -28,6 +29,6 @@ returns c =
     record {
       agree = subst (λ (q : Answers). ComparesAll section q None) answers none;
       checked_are = c.count_plain-checked.ensures;
-      missing_are = c.count_missing.ensures ∙ ap (λ (ks : List Func). length (filter (is_absent (functions_in c.args.ordered.now)) ks)) c.deref-2.ensures.value;
+      missing_are = c.count_missing.ensures ∙ ap (λ (ks : List Func). length (filter (is_absent (located_functions c.args.ordered.now)) ks)) c.deref-2.ensures.value;
       repeats_are = rest_are is_plain functions c.count_plain-checked.result c.len.result c.count_plain-checked.ensures c.len.ensures.value;
     }

@@ -3,7 +3,7 @@ use Rattle.std.proofs.Common.{◌∙◌, map, refl, sym, subst}
 use Rattle.sf_asm.specs.Functions.{object_of}
 use Rattle.sf_decode.specs.View.{section_bytes}
 use Rattle.sf_verify.specs.declared.fault.VerifyFault.{VerifyFault}
-use Rattle.sf_verify.specs.FaultShown.{is_answered}
+use Rattle.sf_verify.specs.FaultShown.{is_returned}
 use Rattle.sf_verify.proofs.NeverMemory.{refused_is_answered, shared_is_answered}
 use Rattle.sf_verify.proofs.Verdicts.{has_verdict, prepared}
 use Rattle.sf_verify.proofs.verifying.verify.Goals as goal
@@ -43,7 +43,7 @@ returns-clause-verdict c =
 
 pub returns-in-Err-clause-answered : goal.returns-in-Err-clause-answered
 returns-in-Err-clause-answered c =
-    subst (λ (f : VerifyFault). IsTrue (is_answered f)) (sym c.refused.ensures)
+    subst (λ (f : VerifyFault). IsTrue (is_returned f)) (sym c.refused.ensures)
     (refused_is_answered (section_bytes c.args.view.now) c.in_ok-ordered.ordered c.shared_address-shared.result c.in-Err.fault c.shared_address-shared.ensures c.in-Err.ensures.answered)
 
 pub returns-in-Some-clause-answered : goal.returns-in-Some-clause-answered

@@ -4,7 +4,7 @@ use Rattle.std.proofs.lemmas.Option.{same_Some}
 use Rattle.sf_write.specs.declared.stored.StoredFunction.{StoredFunction}
 use Rattle.sf_merge.specs.declared.head.FunctionHead.{FunctionHead}
 use Rattle.sf_merge.specs.declared.head.LocatedHead.{LocatedHead}
-use Rattle.sf_merge.specs.Heads.{is_with_rows, stored_at}
+use Rattle.sf_merge.specs.Heads.{is_with_rows, stored_head}
 use Rattle.sf_merge.proofs.Heads.{with_rows_at, with_rows_len}
 use Rattle.sf_merge.proofs.with_rows.FunctionsWithRowsStoredList.function.Goals as goal
 
@@ -16,7 +16,7 @@ unreachable-requires c =
     let heads = c.self.inside.heads.items in
     let low : c.args.number < length heads = omega (arith, c.requires, with_rows_len heads c.self.invariant, ap length c.self.view_is) in
     let both : false ≡ true =
-    ap (λ (f : FunctionHead). is_some (stored_at f)) (sym c.in-WithoutRows.is) ∙ ap is_with_rows c.index.ensures ∙ c.self.invariant c.args.number c.index.result.now low in
+    ap (λ (f : FunctionHead). is_some (stored_head f)) (sym c.in-WithoutRows.is) ∙ ap is_with_rows c.index.ensures ∙ c.self.invariant c.args.number c.index.result.now low in
     absurd (cc both)
 
 pub returns : goal.returns
@@ -25,5 +25,5 @@ returns c = λ d.
     let number = c.args.number in
     let low : number < length heads = omega (arith, c.requires, with_rows_len heads c.self.invariant, ap length c.self.view_is) in
     same_Some c.in-WithRows.function (get_or c.args.self.now number d)
-    (ap stored_at (sym c.in-WithRows.is) ∙ ap (λ (h : LocatedHead). stored_at h.head) c.index.ensures ∙ with_rows_at heads number c.index.result.now d c.self.invariant low
+    (ap stored_head (sym c.in-WithRows.is) ∙ ap (λ (h : LocatedHead). stored_head h.head) c.index.ensures ∙ with_rows_at heads number c.index.result.now d c.self.invariant low
     ∙ ap (λ (fs : List StoredFunction). Some (get_or fs number d)) c.self.view_is)
