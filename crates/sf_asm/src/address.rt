@@ -25,7 +25,7 @@ use sf_express::{Piece, piece_at, pieces_of_rows};
 use sf_model::{Content, Func, Key};
 use std::alloc::Global;
 
-/// Whether a function of this start and size has an address.
+/// Returns whether a function of this start and size has an address.
 #[inline(always)]
 fn has_address(start: u64, size: u64, pc: u64) -> bool
     ensures { result ≡ (nat_le start pc && nat_lt pc (start + size)) }
@@ -33,7 +33,7 @@ fn has_address(start: u64, size: u64, pc: u64) -> bool
     start <= pc && u128::from(pc) < u128::from(start) + u128::from(size)
 }
 
-/// Whether a kept function has an address.
+/// Returns whether a kept function has an address.
 #[inline(always)]
 fn kept_has(func: &Func, pc: u64) -> bool
     ensures { result ≡ contains pc func.now }
@@ -41,7 +41,7 @@ fn kept_has(func: &Func, pc: u64) -> bool
     has_address(func.start, u64::from(func.size), pc)
 }
 
-/// The kept function that has an address.
+/// Finds the kept function that has an address.
 fn kept_at(kept: &[Func], pc: u64) -> Option<&Func>
     ensures { option_map (λ f. f.now) result ≡ find (contains pc) kept.now }
 {
@@ -60,7 +60,8 @@ fn omitted_at<'a>(sources: &Sources<'a>, pc: u64) -> Option<Source<'a>>
     None
 }
 
-/// What a function's pieces say at one of its addresses, and the last of its addresses up to which they do.
+/// Returns the content that a function's pieces have at one of its addresses, and the last of its addresses up to which it
+/// stays the same.
 fn row_in(pieces: &[Piece], start: u64, size: u64, key: Key, pc: u64) -> Option<(Content, Key, u64)>
     requires from { start ≤ pc }
     requires to { pc < start + size }
@@ -72,7 +73,7 @@ fn row_in(pieces: &[Piece], start: u64, size: u64, key: Key, pc: u64) -> Option<
     Some((content?, key, start + last))
 }
 
-/// What a kept function says at one of its addresses, by its rows.
+/// Returns the same of a kept function, by its rows.
 fn kept_row(alloc: Global, func: &Func, pc: u64) -> Result<Option<(Content, Key, u64)>, NoMemory>
     requires from { func.now.start ≤ pc }
     requires to { pc < func.now.start + func.now.size }
@@ -84,7 +85,7 @@ fn kept_row(alloc: Global, func: &Func, pc: u64) -> Result<Option<(Content, Key,
     Ok(row_in(&pieces, func.start, u64::from(func.size), func.key, pc))
 }
 
-/// What an omitted function says at one of its addresses, by its instructions.
+/// Returns the same of an omitted function, by its instructions.
 fn omitted_row(
     alloc: Global,
     source: &Source<'_>,
@@ -99,7 +100,7 @@ fn omitted_row(
     Ok(row_in(&pieces, facts.start, facts.size, facts.key, pc))
 }
 
-/// The one fault of inputs that can be gathered.
+/// Returns the one fault of inputs that can be gathered.
 fn only_memory(fault: GatherFault) -> NoMemory
     requires { fault ≡ gather.NoMemory }
 {
@@ -109,7 +110,7 @@ fn only_memory(fault: GatherFault) -> NoMemory
     }
 }
 
-/// The functions of inputs that can be gathered.
+/// Gathers the functions of inputs that can be gathered.
 fn gather_accepted<'a>(alloc: Global, inputs: &[Input<'a>]) -> Result<WithSources<'a>, NoMemory>
     requires some { (0 < length inputs.now) × (length inputs.now ≤ 512) }
     requires small { All (λ input. length input.bytes.now < 2 ^ 32) inputs.now }
@@ -122,15 +123,14 @@ fn gather_accepted<'a>(alloc: Global, inputs: &[Input<'a>]) -> Result<WithSource
     }
 }
 
-/// What call frame information says at an address, in kept and in omitted functions alike: the content of the
-/// row there and the key of its function, and the greatest address of that function up to which the content
-/// stays the same. It is none where no function has the address, where SFrame has no form for the function's
-/// frames, and where there is a reason against the row. The caller owes 1 to 512 inputs that can be gathered,
-/// each of fewer than 2^32 bytes.
+/// Returns the content of the row at an address, in a kept or an omitted function, with the key of that function and its
+/// greatest address up to which the content stays the same. Returns none if no function has the address, if SFrame has
+/// no form for the function's frames, or if there is a reason against the row. The caller owes 1 to 512 inputs that can
+/// be gathered, each of fewer than 2^32 bytes.
 ///
 /// # Errors
 ///
-/// `NoMemory` where memory runs out.
+/// `NoMemory` if memory runs out.
 pub fn row_at(
     alloc: Global,
     inputs: &[Input<'_>],
@@ -139,7 +139,7 @@ pub fn row_at(
     requires some { (0 < length inputs.now) × (length inputs.now ≤ 512) }
     requires small { All (λ input. length input.bytes.now < 2 ^ 32) inputs.now }
     requires accepted { CanBeGathered None (map object_of inputs.now) }
-    // It is what the definition says of the functions of the inputs.
+    // It is the row of the definition, for the functions of the inputs.
     ensures { IfOk result (λ row. (functions : List Function) → Describe 0 (map object_of inputs.now) (Ok functions) → RowAt functions pc row) }
 {
     let gathered = gather_accepted(alloc, inputs)?;

@@ -27,7 +27,7 @@ use elf_read::{Elf, ElfFault, Kind};
 use sf_model::Arch;
 use std::alloc::Global;
 
-/// Where the type of a file stands.
+/// The place of a file's type.
 const TYPE_PLACE: u64 = 16;
 
 /// Reads a file that is no core.
@@ -47,7 +47,7 @@ fn parse(bytes: &[u8]) -> Result<Elf<'_>, AsmFault>
     }
 }
 
-/// A fault of placing; `NoMemory` is passed on unwrapped.
+/// Wraps a fault of placing. `NoMemory` is passed on unwrapped.
 fn place_fault(fault: PlaceFault) -> AsmFault
     ensures { result ≡ wraps_place fault }
 {
@@ -57,7 +57,7 @@ fn place_fault(fault: PlaceFault) -> AsmFault
     }
 }
 
-/// Places the sections of a file. The signatures of its groups are seen from now on.
+/// Places the sections of a file. A group of a later place with a signature of its groups is then dropped.
 fn place<'a>(
     alloc: Global,
     elf: &Elf<'a>,
@@ -76,7 +76,7 @@ fn place<'a>(
     }
 }
 
-/// A call frame section of a placed file.
+/// Returns a call frame section of a placed file.
 #[tactic(auto, unfolding(elf_reloc::specs::Reading::section_address))]
 fn frames_at<'a>(arch: Arch, item: u32, placed: &Placed<'a>, number: u32) -> CallFrameSection<'a>
     ensures arch { result.arch ≡ arch }
@@ -98,7 +98,7 @@ fn frames_at<'a>(arch: Arch, item: u32, placed: &Placed<'a>, number: u32) -> Cal
     }
 }
 
-/// The functions of all call frame sections of a placed file, after those that were read before.
+/// Reads the functions of all call frame sections of a placed file, after those that were read before.
 fn read_sections<'a>(
     alloc: Global,
     arch: Arch,
@@ -119,7 +119,8 @@ fn read_sections<'a>(
 }
 
 /// Reads the functions of a file that is loaded at `base`, in the order of its sections and records, after
-/// those that were read before, and returns its machine. The signatures of its groups are seen from now on.
+/// those that were read before, and returns its machine. A group of a later place with a signature of its groups is then
+/// dropped.
 pub fn read_elf<'a>(
     alloc: Global,
     item: u32,

@@ -40,7 +40,7 @@ pub struct OrderedEntries {
 #[derive(Drop)]
 pub struct KeptFunctions {
     heads: Vec<Head>,
-    /// Where the kept ones are.
+    /// The places of the kept ones.
     places: Vec<Place>,
 }
 
@@ -89,7 +89,7 @@ impl Model for KeptFunctions {
     ghost invariant = { λ kept. All (IsKeptIn kept.heads.items) kept.places.items };
 }
 
-/// Stores the rows of a kept function. The memory of its list of rows goes to `spare`.
+/// Stores the rows of a kept function. Their memory goes to `spare`.
 #[inline(always)]
 fn store(
     rows: &mut StoredRows,
@@ -117,7 +117,7 @@ fn store(
     }
 }
 
-/// The function of a head, with its rows.
+/// Reads the function of a head, with a list of its rows.
 fn entry_of(alloc: Global, rows: &StoredRows, head: &Head) -> Result<Entry, AllocError>
     requires { HasRows rows.now head.now }
     ensures { IfOk result (λ entry. entry ≡ entry_in rows.now head.now) }
@@ -132,7 +132,7 @@ fn entry_of(alloc: Global, rows: &StoredRows, head: &Head) -> Result<Entry, Allo
     })
 }
 
-/// The places of all functions, in the order of the list.
+/// Lists the places of all functions, in the order of the list.
 fn places_of(alloc: Global, heads: &[Head]) -> Result<Vec<Place>, AllocError>
     ensures { IfOk result (λ places. ArePlacesOf heads.now places.items) }
 {
@@ -147,7 +147,7 @@ fn places_of(alloc: Global, heads: &[Head]) -> Result<Vec<Place>, AllocError>
 }
 
 impl Entries {
-    /// No functions.
+    /// Makes an empty list.
     pub fn new(alloc: Global) -> Entries
         ensures { result ≡ [] }
     {
@@ -165,7 +165,7 @@ impl Entries {
         self.heads.len()
     }
 
-    /// Adds a function. The memory of its list of rows goes to `spare`.
+    /// Adds a function. The memory of its rows goes to `spare`.
     #[inline(always)]
     pub fn push(&mut self, arch: Arch, entry: Entry, spare: &mut Rows) -> Result<(), AllocError>
         requires { IsSound arch entry }
@@ -176,8 +176,8 @@ impl Entries {
         Ok(())
     }
 
-    /// The functions in the order of their starts. Those with one start stay in order. What is moved is the places of
-    /// the functions.
+    /// Brings the functions into the order of their starts. Those with one start stay in order. Only the places of the
+    /// functions are moved.
     pub fn in_order(self, alloc: Global) -> Result<OrderedEntries, AllocError>
         ensures { IfOk result (λ ordered. InOrder self ordered) }
     {
@@ -197,7 +197,7 @@ impl OrderedEntries {
     ghost use Rattle.sf_asm.specs.declared.entry.Entry.{Entry as entry};
     ghost use Rattle.sf_asm.specs.Entry.{kept_of, omitted_of};
 
-    /// How many functions there are.
+    /// Counts the functions.
     #[inline(always)]
     pub fn len(&self) -> usize
         ensures { result ≡ length self.now }
@@ -205,7 +205,7 @@ impl OrderedEntries {
         self.places.len()
     }
 
-    /// Gives the addresses and the origin of a function.
+    /// Returns the addresses and the origin of a function.
     #[inline(always)]
     pub fn span(&self, number: usize) -> Span
         requires { number < length self.now }
@@ -227,7 +227,7 @@ impl OrderedEntries {
         Ok(omitted)
     }
 
-    /// The kept and the omitted functions, and the rows of the kept ones.
+    /// Parts the kept functions from the omitted ones.
     pub fn part(self, alloc: Global) -> Result<Parted, AllocError>
         ensures stored { IfOk result (λ parted. All (IsStored parted.rows) parted.kept) }
         ensures kept { IfOk result (λ parted. map (stored_in parted.rows) parted.kept ≡ kept_of self) }
@@ -247,7 +247,7 @@ impl OrderedEntries {
         })
     }
 
-    /// The functions, each with a list of its rows.
+    /// Reads the functions, each with a list of its rows.
     pub fn with_rows(self, alloc: Global) -> Result<Vec<Entry>, AllocError>
         ensures { IfOk result (λ entries. entries.items ≡ self) }
     {

@@ -48,7 +48,7 @@ impl Head {
     ghost use Rattle.std.specs.Prelude.{◌≡◌};
     ghost use Rattle.sf_asm.specs.Heads.{head_span};
 
-    /// Its first address.
+    /// Returns its first address.
     #[inline(always)]
     pub fn start(&self) -> u64
         ensures { result ≡ (head_span self.now).start }
@@ -59,7 +59,7 @@ impl Head {
         }
     }
 
-    /// Its addresses and origin.
+    /// Returns its addresses and origin.
     #[inline(always)]
     pub fn span(&self) -> Span
         ensures { result ≡ head_span self.now }

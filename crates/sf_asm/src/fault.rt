@@ -11,7 +11,7 @@ use std::alloc::{AllocError, AllocFailed};
 use thiserror::Error;
 
 /// Why one input is refused. The number before a fault is that of the call frame section, 0 for a bare
-/// one. Out of memory is `NoMemory`, and never stands inside another variant.
+/// one. Out of memory is `NoMemory`, and is never inside another variant.
 #[derive(Debug, Drop, Error)]
 pub enum AsmFault {
     /// An ELF file can't be read, or is a core.

@@ -37,7 +37,7 @@ pub struct Gathered {
     pub spans: Vec<Span>,
 }
 
-/// The functions of the inputs, those of all inputs together.
+/// The functions of all inputs together.
 #[derive(Drop)]
 pub struct Together {
     /// The machine of all inputs.
@@ -50,8 +50,7 @@ pub struct Together {
     pub omitted: Vec<Omitted>,
 }
 
-/// The functions of the inputs, those of all inputs together, with the omitted ones as their records describe
-/// them.
+/// The functions of all inputs together, with the omitted ones as their records describe them.
 #[derive(Drop)]
 pub struct WithSources<'a> {
     /// The machine of all inputs.
@@ -73,7 +72,7 @@ struct ReadInOrder<'a> {
     sources: Sources<'a>,
 }
 
-/// Tries each function that has bytes against the one before it.
+/// Checks that no function that has bytes begins before the end of the one before it.
 fn check_overlaps(entries: &OrderedEntries) -> Result<(), GatherFault>
     ensures { result ≡ unless (option_map overlap_fault (overlap_in (spans_of entries.now))) }
 {
@@ -84,8 +83,8 @@ fn check_overlaps(entries: &OrderedEntries) -> Result<(), GatherFault>
     overlaps.into_result()
 }
 
-/// Reads the functions of all inputs, tries their machines and the limits, brings them into order, and tries overlaps.
-/// Where `lending`, the omitted ones are lent.
+/// Reads the functions of all inputs, checks their machines and the limits, brings them into order, and checks for
+/// overlaps. If `lending`, the omitted ones are lent.
 #[tactic(auto, using(crate::proofs::GatheredInputs::input_refused))]
 fn ordered<'a>(
     alloc: Global,
@@ -114,7 +113,7 @@ fn ordered<'a>(
     })
 }
 
-/// The number of the first input.
+/// Returns the number of the first input.
 fn first_item(before: Option<Arch>) -> u32
     ensures { result ≡ item_of_first before }
 {
@@ -124,7 +123,7 @@ fn first_item(before: Option<Arch>) -> u32
     }
 }
 
-/// The functions of one machine, kept ones apart from omitted ones.
+/// Parts the kept functions from the omitted ones, where all are of one machine.
 fn kept_and_omitted(
     alloc: Global,
     arch: Arch,
@@ -144,8 +143,8 @@ fn kept_and_omitted(
     })
 }
 
-/// Gathers the functions of 1 to 512 inputs as [`gather`] does, into one list by rising start. The rows of all
-/// stand in one list, too.
+/// Gathers the functions of 1 to 512 inputs as [`gather`] does, into one list by rising start. The rows of all are in
+/// one list, too.
 ///
 /// # Errors
 ///
@@ -161,7 +160,7 @@ pub fn gather_together(
     ensures gathered { IfOk result (λ g. AreTogether before (map object_of inputs.now) g.arch (map (stored_in g.rows) g.kept) g.omitted.items) }
     // Their rows are those of the list.
     ensures stored { IfOk result (λ g. All (IsStored g.rows) g.kept) }
-    // It's the machine of all items.
+    // All items have this machine.
     ensures machine { IfOk result (λ g. HaveMachine before (map object_of inputs.now) g.arch) }
     // A fault is the first one.
     ensures fault { IfErr result (IsFirstGathered before (map object_of inputs.now)) }
@@ -171,7 +170,7 @@ pub fn gather_together(
     Ok(kept_and_omitted(alloc, read.arch, read.entries)?)
 }
 
-/// The functions, each with a list of its rows.
+/// Reads the kept functions, each with a list of its rows.
 fn functions(
     alloc: Global,
     rows: &StoredRows,
@@ -203,7 +202,7 @@ pub fn gather_with_sources<'a>(
     // The functions are those of the inputs by rising start, one section can hold the kept ones, and the
     // sources are the omitted ones, one for each in the same order.
     ensures gathered { IfOk result (λ g. AreWithSources before (map object_of inputs.now) g.arch g.kept.items g.omitted.items g.sources.functions) }
-    // It's the machine of all items.
+    // All items have this machine.
     ensures machine { IfOk result (λ g. HaveMachine before (map object_of inputs.now) g.arch) }
     // A fault is the first one.
     ensures fault { IfErr result (IsFirstGathered before (map object_of inputs.now)) }
@@ -271,7 +270,7 @@ fn sort_out(
 }
 
 /// Gathers the functions of 1 to 512 inputs, each of fewer than 2^32 bytes. `before` is the machine of an
-/// item before them; the inputs are numbered from 1 on then, and else from 0 on. Of several
+/// item before them: the inputs are then numbered from 1, otherwise from 0. Of several
 /// COMDAT groups with one signature, over all inputs, the first stays (ELF64 gABI, "Section Groups").
 ///
 /// # Errors
@@ -289,7 +288,7 @@ pub fn gather(
     ensures gathered { IfOk result (λ g. AreGathered before (map object_of inputs.now) g.arch (map (λ list. list.items) g.kept.items) g.omitted.items g.spans.items) }
     // One section can hold those of each input.
     ensures kept { IfOk result (λ g. All (λ list. AreWritable g.arch list.items) g.kept.items) }
-    // It's the machine of all items.
+    // All items have this machine.
     ensures machine { IfOk result (λ g. HaveMachine before (map object_of inputs.now) g.arch) }
     // A fault is the first one.
     ensures fault { IfErr result (IsFirstGathered before (map object_of inputs.now)) }

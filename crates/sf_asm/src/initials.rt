@@ -17,7 +17,7 @@ use sf_bytes::Part;
 use std::alloc::Global;
 use std::collections::BTreeMap;
 
-/// How many bytes of instructions an entry has at least whose row is kept for the whole section.
+/// The least number of bytes of instructions of an entry whose row is kept for the whole section.
 const LONG: usize = 64;
 
 /// The instructions of a common information entry, and what else gives its initial row.
@@ -31,7 +31,7 @@ pub struct InitialInstructions<'a> {
 }
 
 impl<'a> InitialInstructions<'a> {
-    /// Those of an entry.
+    /// Returns those of an entry.
     #[inline(always)]
     pub fn of(cie: &Cie<'a>) -> InitialInstructions<'a>
         ensures { result ≡ record { place = cie.now.place; factor = cie.now.factor; insns = cie.now.insns } }
@@ -58,7 +58,7 @@ pub struct Initials {
 }
 
 impl Initials {
-    /// No rows yet.
+    /// Makes an empty list.
     pub fn new(alloc: Global) -> Initials
         ensures { (arch : machine) (section : List ℕ) → AreInitial arch section result }
     {
@@ -69,7 +69,7 @@ impl Initials {
         }
     }
 
-    // The row of an entry whose instructions are long.
+    // Returns the row of an entry whose instructions are long.
     fn long_row(
         &mut self,
         section: &CallFrameSection<'_>,
@@ -89,8 +89,8 @@ impl Initials {
         Ok(row)
     }
 
-    // Finds the row of an entry that isn't the one that was named last. It is handed over by value: this call is rare, and
-    // for a reference every entry would have to lie in memory.
+    // Finds the row of an entry that isn't the one that was named last. The entry is passed by value: this call is rare, and
+    // for a reference every entry would have to be in memory.
     #[inline(never)]
     fn find_other(
         &mut self,
@@ -113,11 +113,11 @@ impl Initials {
         Ok(())
     }
 
-    /// Finds the initial row of a common information entry of the section: [`row`](Initials::row) lends it then.
+    /// Finds the initial row of a common information entry of the section, which [`row`](Initials::row) then lends.
     ///
     /// # Errors
     ///
-    /// The first fault of its instructions, and `NoMemory` where memory runs out.
+    /// The first fault of its instructions, and `NoMemory` if memory runs out.
     #[inline(always)]
     pub fn find(
         &mut self,
@@ -138,7 +138,7 @@ impl Initials {
         self.find_other(section, cie)
     }
 
-    /// The row that was found last.
+    /// Returns the row that was found last.
     #[inline(always)]
     pub fn row(&self) -> &Columns
         ensures { result.now ≡ self.now.row }

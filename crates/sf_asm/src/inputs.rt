@@ -18,7 +18,7 @@ use elf_groups::Seen;
 use sf_model::Arch;
 use std::alloc::Global;
 
-/// A fault of an input; `NoMemory` is passed on unwrapped.
+/// Wraps a fault of an input. `NoMemory` is passed on unwrapped.
 fn input_fault(item: u32, fault: AsmFault) -> GatherFault
     ensures { result ≡ wraps_input item fault }
 {
@@ -28,8 +28,7 @@ fn input_fault(item: u32, fault: AsmFault) -> GatherFault
     }
 }
 
-/// Reads the functions of one input, as they stand in it, after those that were read before, and returns its
-/// machine.
+/// Reads the functions of one input, in their order, after those that were read before, and returns its machine.
 fn read_item<'a>(
     alloc: Global,
     item: u32,
@@ -51,8 +50,8 @@ fn read_item<'a>(
     }
 }
 
-/// Reads the functions of all inputs, as they are in them, and the machine of each. The inputs are numbered
-/// from `first` on. Where `lending`, the omitted ones are lent. Past a limit functions are counted alone.
+/// Reads the functions of all inputs, in their order, and the machine of each. The inputs are numbered from `first` on.
+/// If `lending`, the omitted ones are lent. Past a limit functions are only counted.
 pub fn read_all<'a>(
     alloc: Global,
     first: u32,
@@ -79,7 +78,7 @@ pub fn read_all<'a>(
     Ok(all)
 }
 
-/// Whether two machines differ.
+/// Returns whether two machines differ.
 fn differ(one: Arch, other: Arch) -> bool
     ensures { result ≡ not (is_same one other) }
 {
@@ -89,14 +88,14 @@ fn differ(one: Arch, other: Arch) -> bool
     }
 }
 
-/// The place of the first machine that differs from this one.
+/// Returns the place of the first machine that differs from this one.
 fn first_differing(arch: Arch, machines: &[Arch]) -> Option<usize>
     ensures { result ≡ position (λ machine. not (is_same arch machine)) machines.now }
 {
     machines.iter().position(|machine| differ(arch, *machine))
 }
 
-/// The one machine of the inputs and of an item before them, if there is one.
+/// Returns the one machine of the inputs and of an item before them, if there is one.
 pub fn one_machine(before: Option<Arch>, machines: &[Arch]) -> Result<Arch, GatherFault>
     requires { (0 < length machines.now) × (length machines.now ≤ 512) }
     ensures one { IfOk result (λ arch. All (λ machine. machine ≡ arch) (with_before before machines.now)) }

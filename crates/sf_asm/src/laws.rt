@@ -22,43 +22,43 @@ ghost use Rattle.sf_asm.specs.declared.fault.GatherFault.{GatherFault as gather_
 ghost use Rattle.sf_asm.specs.Kept.{entry_of};
 ghost use Rattle.sf_asm.specs.Linking.{Gathers, InOrder, Links, overlap_in};
 
-/// Where no two functions overlap, the kept ones by rising start recover at each address what DWARF's rules
-/// (DWARF 5, section 6.4.1) recover there in the kept function that has the address, and nothing where none
-/// has it, for all registers and memory.
+/// States that, if no two functions overlap, the kept ones by rising start recover at each address what DWARF's rules
+/// (DWARF 5, section 6.4.1) recover there in the kept function that has the address, for all registers and memory. If no
+/// function has the address, they recover nothing.
 pub fn kept_functions_recover_alike()
     ensures { (functions : List Function) (ordered : List Entry) → InOrder (map entry_of functions) ordered → overlap_in (spans_of ordered) ≡ None → (address : ℕ) (regs : Regs) (memory : List Region) → option_map defined (recover_by_rows (kept_of ordered) memory address regs) ≡ recovered_at functions memory address regs }
 {}
 
-/// And so the walk of each thread over them is the walk by DWARF, with any memory and to any depth.
+/// States that the walk of each thread over such functions is the walk by DWARF, with any memory and to any depth.
 pub fn walks_are_alike()
     ensures { (functions : List Function) (ordered : List Entry) → InOrder (map entry_of functions) ordered → overlap_in (spans_of ordered) ≡ None → (thread : ThreadState) (memory : List Region) (depth : ℕ) → section_walk (kept_of ordered) thread memory depth ≡ dwarf_walk functions thread memory depth }
 {}
 
-/// Linking inputs comes to one result: the functions in order, or the first fault.
+/// States that linking inputs comes to one result: the functions in order, or the first fault.
 pub fn linking_comes_to_one_result()
     ensures { (before : Option Arch) (objects : List Object) (at : ℕ) (one other : Result (List Entry) LinkFault) → Links before objects at one → Links before objects at other → one ≡ other }
 {}
 
-/// Inputs can be linked exactly where linking them comes to functions in order.
+/// States that inputs can be linked exactly if linking them comes to functions in order.
 pub fn accepted_inputs_are_linked()
     ensures links { (before : Option Arch) (objects : List Object) (at : ℕ) (h : IsAccepted before objects at) → Links before objects at (Ok h.ordered) }
     ensures only { (before : Option Arch) (objects : List Object) (at : ℕ) (ordered : List Entry) → Links before objects at (Ok ordered) → IsAccepted before objects at }
 {}
 
-/// Inputs can be gathered exactly where gathering them comes to functions in order.
+/// States that inputs can be gathered exactly if gathering them comes to functions in order.
 pub fn inputs_that_can_be_gathered_are()
     ensures gathers { (before : Option Arch) (objects : List Object) → CanBeGathered before objects → (ordered : List Entry) × Gathers before objects (Ok ordered) }
     ensures only { (before : Option Arch) (objects : List Object) (ordered : List Entry) → Gathers before objects (Ok ordered) → CanBeGathered before objects }
 {}
 
-/// What the relocations of a section write over its pointer fields is what applying them to it comes to: the
+/// States that what the relocations of a section write over its pointer fields is what applying them to it comes to: the
 /// patched bytes, and the fields that are unresolved or dropped; or the first fault.
 pub fn relocations_of_sections_are_applied()
     ensures { (p : Placing) (section : ℕ) (fields : List PointerField) → applied_to p section (map pointer_slot fields) ≡ applied_by p section fields }
 {}
 
-/// Says, by its contract alone, that what is read of inputs is what they describe: by the records, fields and
-/// instructions that their bytes are, their functions or their first fault, and nothing else. It does nothing.
+/// States that what is read of inputs is what they describe: by the records, fields and instructions that their bytes
+/// are, their functions or their first fault, and nothing else.
 pub fn functions_are_described()
     ensures { (item : ℕ) (objects : List Object) (r : Result (List Function) gather_fault) → Describe item objects r ↔ (functions_of item objects ≡ r) }
 {}

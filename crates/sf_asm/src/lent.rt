@@ -135,7 +135,7 @@ fn lend_source<'a>(
     Ok(())
 }
 
-/// Lends a function where it is omitted and the functions are to be lent.
+/// Lends a function if it is omitted and the functions are to be lent.
 #[inline(always)]
 pub fn lend<'a>(
     section: &CallFrameSection<'a>,

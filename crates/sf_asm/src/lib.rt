@@ -5,15 +5,14 @@
 //! start, the omitted functions, with their reasons, and the addresses of all. [`gather_together`]
 //! makes one list of the functions that are kept, and one of their rows; [`gather_with_sources`] also lends the
 //! omitted functions as their records describe them; what the functions of one common information entry share is
-//! held once. [`row_at`] says what call frame information says at an
-//! address, in any of the functions. [`assemble`] writes the section of one input. An input has fewer than 2^32
-//! bytes. All five allocate; no section is copied.
+//! held once. [`row_at`] returns the content of the row at an address, in any of the functions. [`assemble`] writes the
+//! section of one input. An input has fewer than 2^32 bytes. All five allocate; no section is copied.
 //!
 //! [`kept_functions_recover_alike`], [`walks_are_alike`], [`linking_comes_to_one_result`],
 //! [`accepted_inputs_are_linked`] and [`inputs_that_can_be_gathered_are`] are laws: the kept functions recover
 //! what DWARF recovers, walks over them are walks by DWARF, what linking comes to is determined by the inputs,
-//! it is a section exactly where they can be linked, and gathering them comes to functions exactly where they
-//! can be gathered.
+//! it is a section exactly if they can be linked, and gathering them comes to functions exactly if they can be
+//! gathered.
 #![tactic(auto)]
 
 mod address;

@@ -15,7 +15,7 @@ use elf_place::PlaceFault;
 use elf_reloc::RelocFault;
 use sf_model::{Group, Notice};
 
-/// Values of a notice, of which there are one to four.
+/// The values of a notice: one to four.
 fn one(a: u64) -> ArrayVec<u64, 4>
     ensures { result.items ≡ a ∷ [] }
 {
@@ -48,7 +48,7 @@ fn four(a: u64, b: u64, c: u64, d: u64) -> ArrayVec<u64, 4>
     values
 }
 
-/// The number of a fault of placing and the section that it carries.
+/// Returns the number of a fault of placing and the section that it carries.
 fn place_number(fault: PlaceFault) -> (u8, u32)
     requires { IsTrue (is_place_refusal fault) }
     ensures shown { (item : Option ℕ) → shown_of_placing item fault ≡ shown_of_section item result.0 result.1 }
@@ -71,7 +71,7 @@ fn place_notice(item: Option<u32>, fault: PlaceFault) -> Notice
     Notice::with_value(item, Group::Place, number, u64::from(section))
 }
 
-/// The number of a fault of the relocations and the number that it carries.
+/// Returns the number of a fault of the relocations and the number that it carries.
 fn reloc_number(fault: RelocFault) -> (u8, u32)
     requires { IsTrue (is_reloc_refusal fault) }
     ensures shown { (item : Option ℕ) (section : ℕ) → shown_of_relocating item section fault ≡ shown_of_relocation item section result.0 result.1 }
@@ -102,7 +102,7 @@ fn reloc_notice(item: Option<u32>, section: u32, fault: RelocFault) -> Notice
     }
 }
 
-/// The number of a fault of the records and the place that it carries.
+/// Returns the number of a fault of the records and the place that it carries.
 fn record_number(fault: RecordFault) -> (u8, u32)
     requires { IsTrue (is_record_refusal fault) }
     ensures shown { (item : Option ℕ) (section : ℕ) → shown_of_records item section fault ≡ shown_of_place item section result.0 result.1 }
@@ -176,7 +176,7 @@ fn machine_notice(item: Option<u32>, section: u32, fault: MachineFault) -> Notic
 }
 
 impl AsmFault {
-    /// The fault of the input of this number, as its line shows it.
+    /// Returns the fault of the input of this number, as its line shows it.
     pub fn notice(&self, item: Option<u32>) -> Notice
         requires { IsTrue (is_input_refusal self.now) }
         ensures shown { shown_by result ≡ shown_of_input item self.now }
@@ -208,7 +208,7 @@ fn link_notice(item: Option<u32>, number: u8, values: ArrayVec<u64, 4>) -> Notic
 }
 
 impl GatherFault {
-    /// The fault as its line shows it. A fault that names its own input gives that in place of `item`.
+    /// Returns the fault as its line shows it. A fault that names its own input has that in place of `item`.
     pub fn notice(&self, item: Option<u32>) -> Notice
         requires { IsTrue (is_gather_refusal self.now) }
         ensures shown { shown_by result ≡ shown_of_gathering item self.now }
@@ -230,7 +230,7 @@ impl GatherFault {
 }
 
 impl LinkFault {
-    /// The fault as its line shows it. A fault that names its own input gives that in place of `item`.
+    /// Returns the fault as its line shows it. A fault that names its own input has that in place of `item`.
     pub fn notice(&self, item: Option<u32>) -> Notice
         requires { IsTrue (is_refusal self.now) }
         ensures shown { shown_by result ≡ shown_of_linking item self.now }

@@ -10,7 +10,7 @@ ghost use Rattle.sf_asm.specs.Sources.{Common as common, common_of};
 use std::alloc::{AllocError, Global};
 use std::collections::BTreeMap;
 
-/// The number of what the functions of each common information entry of a section share, by the entry's place.
+/// For each common information entry of a section, by its place, the number of what its functions share.
 #[derive(Drop)]
 pub struct CommonNumbers {
     by_place: BTreeMap<u32, u32>,

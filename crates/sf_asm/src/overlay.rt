@@ -21,7 +21,7 @@ use std::alloc::Global;
 /// What is written over the fields of a section.
 #[derive(Drop)]
 pub enum Overlay {
-    /// Nothing: a bare section's fields are as they stand.
+    /// Nothing: a bare section's fields stay as they are.
     Unchanged,
     /// What the section's relocations write.
     Relocated(Relocs),
@@ -36,8 +36,8 @@ fn read_relocs(alloc: Global, placed: &Placed<'_>, section: u32) -> Result<Reloc
     Relocs::new(alloc, placed, section)
 }
 
-// Whether each of these relocations lies on a pointer field of the records. The fields are listed only
-// where there are any.
+// Checks that each of these relocations lies on a pointer field of the records. The fields are listed only if there is
+// a relocation.
 fn check_fields(alloc: Global, relocs: &Relocs, records: &Records<'_>) -> Result<(), RelocFault>
     ensures lie { OnOk result (pointer_check (pointer_fields (entries records.now)) (fixes_in relocs.now) ≡ Ok tt) }
     ensures checked { OnOk result (AreChecked (pointer_fields (entries records.now)) (fixes_in relocs.now)) }
@@ -72,7 +72,7 @@ impl Overlay {
         }
     }
 
-    /// Whether each relocation lies on a pointer field of these records.
+    /// Checks that each relocation lies on a pointer field of these records.
     #[tactic(auto, using(crate::proofs::Relocating::none_checked))]
     pub fn check(&self, alloc: Global, records: &Records<'_>) -> Result<(), RelocFault>
         ensures lie { OnOk result (pointer_check (pointer_fields (entries records.now)) (written_by self.now) ≡ Ok tt) }
@@ -85,7 +85,7 @@ impl Overlay {
         }
     }
 
-    /// Whether a field's relocation names a symbol in a section that is dropped.
+    /// Returns whether a field's relocation names a symbol in a section that is dropped.
     #[inline(always)]
     pub fn dropped(&self, field: Field) -> bool
         ensures { result ≡ is_dropped_field (written_by self.now) field.place field.width }

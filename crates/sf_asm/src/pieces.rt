@@ -1,4 +1,4 @@
-//! What an omitted function says from offset to offset.
+//! The content of an omitted function's rows from offset to offset.
 
 ghost use Rattle.std.specs.Prelude.{◌≡◌, ◌<◌, ◌^◌, [], ◌∷◌, None, IfOk};
 ghost use Rattle.sf_bytes.specs.Cursor.{cursor};
@@ -17,7 +17,7 @@ use sf_express::{Piece, pieces_run};
 use sf_model::Arch;
 use std::alloc::Global;
 
-/// Whether SFrame has a form for the frames of a function.
+/// Returns whether SFrame has a form for the frames of a function.
 fn is_sayable(source: &Source<'_>) -> bool
     ensures { result ≡ has_form (source_function source.now) }
 {
@@ -39,7 +39,8 @@ fn begin<'a>(source: &Source<'a>, run: &mut Runner<'a>)
     );
 }
 
-/// What an omitted function says whose frames SFrame has a form for. Its instructions were run when it was read.
+/// Returns the pieces of an omitted function whose frames SFrame has a form for. Its instructions were run when it was
+/// read.
 fn pieces_of<'a>(
     alloc: Global,
     source: &Source<'a>,
@@ -57,7 +58,7 @@ fn pieces_of<'a>(
     }
 }
 
-/// One piece that says nothing.
+/// Returns one piece without a content.
 fn nothing_said(alloc: Global) -> Result<Vec<Piece>, NoMemory>
     ensures { IfOk result (λ pieces. pieces.items ≡ record { start = 0; content = None } ∷ []) }
 {
@@ -69,8 +70,8 @@ fn nothing_said(alloc: Global) -> Result<Vec<Piece>, NoMemory>
     Ok(pieces)
 }
 
-/// What a function says from offset to offset, where SFrame has a form for it, with a piece where it says
-/// something else than before. The caller owes a function that is not empty.
+/// Returns a function's pieces: its content from offset to offset, if SFrame has a form for it, with a piece where it
+/// changes. The caller owes a function that is not empty.
 pub fn pieces_said<'a>(
     alloc: Global,
     source: &Source<'a>,

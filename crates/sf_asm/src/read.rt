@@ -22,7 +22,7 @@ const FUNCTION_LIMIT: usize = 1 << 21;
 /// The most rows of one run.
 const ROW_LIMIT: usize = 1 << 24;
 
-/// The functions that were read, where they are within the limits.
+/// The functions that were read, if they are within the limits.
 #[derive(Drop)]
 pub struct HeldFunctions<'a> {
     /// The functions, in the order of the inputs, sections and records.
@@ -33,7 +33,7 @@ pub struct HeldFunctions<'a> {
     pub sources: Sources<'a>,
 }
 
-/// The functions that were read. Past a limit they are counted alone and nothing of them is held. They are still read,
+/// The functions that were read. Past a limit they are only counted, and nothing of them is held. They are still read,
 /// since each fault of a later input comes before the limits.
 #[derive(Drop)]
 pub enum ReadFunctions<'a> {
@@ -53,7 +53,7 @@ pub struct AllFunctions<'a> {
 }
 
 impl<'a> HeldFunctions<'a> {
-    /// Tells whether the limits allow one function more, with its rows.
+    /// Returns whether the limits allow one function more, with its rows.
     #[inline(always)]
     pub fn has_room(&self, entry: &Entry) -> bool
         ensures { result ≡ (nat_lt (length self.now.entries) (2 ^ 21) && nat_le (entry_rows entry.now) self.now.rows_left) }
@@ -61,7 +61,7 @@ impl<'a> HeldFunctions<'a> {
         self.entries.len() < FUNCTION_LIMIT && entry.row_count() <= self.rows_left
     }
 
-    /// Adds a function that there is room for. The memory of its list of rows goes to `spare`.
+    /// Adds a function that there is room for. The memory of its rows goes to `spare`.
     #[inline(always)]
     pub fn add(&mut self, arch: Arch, entry: Entry, spare: &mut Rows) -> Result<(), AllocError>
         requires sound { IsSound arch entry }
@@ -89,7 +89,7 @@ impl<'a> ReadFunctions<'a> {
         })
     }
 
-    /// Gives the number of functions, as far as they are counted.
+    /// Returns the number of functions, as far as they are counted.
     fn counted(&self) -> usize
         ensures { result ≡ counted_in self.now }
     {

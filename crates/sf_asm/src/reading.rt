@@ -43,7 +43,7 @@ fn read_bare<'a>(
 }
 
 /// Reads the functions of an input, in the order of its sections and records, after those that were read
-/// before, and returns its machine. The signatures of its groups are seen from now on.
+/// before, and returns its machine. A group of a later place with a signature of its groups is then dropped.
 pub fn read_input<'a>(
     alloc: Global,
     item: u32,

@@ -44,7 +44,7 @@ use sf_express::express_run;
 use sf_model::{Arch, FdeFacts, Origin, Rows, Span};
 use std::alloc::Global;
 
-/// A fault of a section's records; `NoMemory` is passed on unwrapped.
+/// Wraps a fault of a section's records. `NoMemory` is passed on unwrapped.
 fn record_fault(section: u32, fault: RecordFault) -> AsmFault
     ensures { result ≡ wraps_record section fault }
 {
@@ -54,7 +54,7 @@ fn record_fault(section: u32, fault: RecordFault) -> AsmFault
     }
 }
 
-/// A fault of its relocations; `NoMemory` is passed on unwrapped.
+/// Wraps a fault of its relocations. `NoMemory` is passed on unwrapped.
 fn reloc_fault(section: u32, fault: RelocFault) -> AsmFault
     ensures { result ≡ wraps_reloc section fault }
 {
@@ -64,7 +64,7 @@ fn reloc_fault(section: u32, fault: RelocFault) -> AsmFault
     }
 }
 
-/// A fault of its instructions; `NoMemory` is passed on unwrapped.
+/// Wraps a fault of its instructions. `NoMemory` is passed on unwrapped.
 fn machine_fault(section: u32, fault: MachineFault) -> AsmFault
     ensures { result ≡ wraps_machine section fault }
 {
@@ -74,7 +74,7 @@ fn machine_fault(section: u32, fault: MachineFault) -> AsmFault
     }
 }
 
-/// The records of a section.
+/// Reads the records of a section.
 fn records_of<'a>(alloc: Global, section: &CallFrameSection<'a>) -> Result<Records<'a>, AsmFault>
     ensures whole { IfOk result (λ records. entries_of section.now.arch section.now.bytes.now ≡ Ok (entries_of_records records)) }
     ensures machine { IfOk result (λ records. machine_of_records records ≡ section.now.arch) }
@@ -87,7 +87,7 @@ fn records_of<'a>(alloc: Global, section: &CallFrameSection<'a>) -> Result<Recor
     }
 }
 
-/// What its relocations write.
+/// Reads what its relocations write.
 fn overlay_of(alloc: Global, placed: Option<&Placed<'_>>, section: u32) -> Result<Overlay, AsmFault>
     ensures read { IfOk result (λ overlay. relocations_by (option_map (λ p. placing p.now) placed.entry) section ≡ Ok (written_by overlay)) }
     ensures from { IfOk result (λ overlay. IsReadFrom (option_map (λ p. placing p.now) placed.entry) section (written_by overlay)) }
@@ -99,7 +99,7 @@ fn overlay_of(alloc: Global, placed: Option<&Placed<'_>>, section: u32) -> Resul
     }
 }
 
-/// Whether each of them lies on a pointer field of the records.
+/// Checks that each of them lies on a pointer field of the records.
 fn check_overlay(
     alloc: Global,
     section: u32,
@@ -116,7 +116,7 @@ fn check_overlay(
     }
 }
 
-/// The start and size of a function.
+/// Returns the start and size of a function.
 #[inline(always)]
 fn span_of(
     section: &CallFrameSection<'_>,
@@ -159,8 +159,8 @@ fn begin_rows<'a>(
     }
 }
 
-/// What becomes of the function that the runner was started on. Each of its instructions is run, and its
-/// rows are made in the memory of `spare`.
+/// Returns what becomes of the function that the runner was started on. Each of its instructions is run, and its rows are
+/// made in the memory of `spare`.
 #[inline(always)]
 fn outcome_of(
     alloc: Global,
@@ -180,7 +180,7 @@ fn outcome_of(
     }
 }
 
-/// What the records say of a function with this start and size.
+/// Returns what the records describe of a function, apart from its instructions.
 #[inline(always)]
 fn facts_of(fde: &Fde<'_>, start: u64, size: u64) -> FdeFacts
     ensures { result ≡ record { start = start; size = size; column = fde.now.cie.column; signal = fde.now.cie.signal; key = fde.now.cie.key } }
@@ -194,7 +194,7 @@ fn facts_of(fde: &Fde<'_>, start: u64, size: u64) -> FdeFacts
     }
 }
 
-/// The function of one frame description entry, whose rows are made in the memory of `spare`.
+/// Reads the function of one frame description entry. Its rows are made in the memory of `spare`.
 #[inline(always)]
 fn read_function<'a>(
     alloc: Global,
@@ -232,7 +232,7 @@ fn read_function<'a>(
     Ok(Entry { span, outcome })
 }
 
-/// Adds a function to those that were read. Past a limit it is counted alone.
+/// Adds a function to those that were read. Past a limit it is only counted.
 #[inline(always)]
 fn add_function<'a>(
     section: &CallFrameSection<'a>,
@@ -322,7 +322,7 @@ fn read_frames<'a>(
     Ok(())
 }
 
-/// Reads the functions of a section of a file, or of none, after those that were read before. Where `lending`, the
+/// Reads the functions of a section of a file, or of a bare one, after those that were read before. If `lending`, the
 /// omitted ones are lent.
 pub fn read_section<'a>(
     alloc: Global,

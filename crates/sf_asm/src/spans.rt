@@ -6,7 +6,7 @@ ghost use Rattle.sf_asm.specs.Linking.{overlap_with};
 use crate::fault::GatherFault;
 use sf_model::Span;
 
-/// The fault of a function that begins before the end of another one.
+/// Returns the fault of a function that begins before the end of another one.
 #[inline(always)]
 fn overlap_of(before: Option<Span>, span: Span) -> Option<GatherFault>
     ensures { result ≡ overlap_with before span }
@@ -39,7 +39,7 @@ impl Overlaps {
     ghost use Rattle.sf_asm.specs.Functions.{unless};
     ghost use Rattle.sf_asm.specs.Linking.{overlap_fault, overlap_in, overlap_left};
 
-    /// Nothing was seen yet.
+    /// Makes what is known before the first function.
     pub fn new() -> Overlaps
         ensures { (spans : List span_fact) → overlap_left result spans ≡ option_map overlap_fault (overlap_in spans) }
     {
@@ -61,7 +61,7 @@ impl Overlaps {
         self.before = Some(span);
     }
 
-    /// The fault of the first overlap that was seen, if there is one.
+    /// Returns the fault of the first overlap that was seen, if there is one.
     pub fn into_result(self) -> Result<(), GatherFault>
         ensures { result ≡ unless (overlap_left self []) }
     {
