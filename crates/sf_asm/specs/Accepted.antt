@@ -21,7 +21,7 @@ has_address address span = nat_le span.start address && nat_lt address (span.sta
 abbrev pub how_many_at : (address : ℕ) → List Entry → ℕ
 how_many_at address entries = sum_by (λ (e : Entry). if has_address address e.span then 1 else 0) entries
 
--- inputs, behind an item of this machine or of none, that can be gathered
+-- inputs, after an item of this machine or of none, that can be gathered
 pub record CanBeGathered (before : Option Arch) (objects : List Object) : Type 0 where
   pub functions : List Function
   -- none is malformed

@@ -31,12 +31,12 @@ abbrev pub seen_as : {A B F : Type 0} → (A → B) → Result A F → Result B 
 seen_as view (Ok x) = Ok (view x)
 seen_as view (Err fault) = Err fault
 
--- what was read of one function is what becomes of it; or its fault was answered, or memory ran out
+-- what was read of one function is what becomes of it; or its fault was returned, or memory ran out
 abbrev pub ReadsOne : Result Entry AsmFault → Result Function AsmFault → Type 0
 ReadsOne (Ok entry) given = seen_as entry_of given ≡ Ok entry
 ReadsOne (Err fault) given = (fault ≡ asm.NoMemory) ⊎ (given ≡ Err fault)
 
--- the fault of the first instruction of a section's function that can't be run was answered, or memory ran out
+-- the fault of the first instruction of a section's function that can't be run was returned, or memory ran out
 abbrev pub IsRunFault : (section : ℕ) → AsmFault → Option MachineFault → Type 0
 IsRunFault section fault first = (fault ≡ asm.NoMemory) ⊎ (named (asm.Machine section) (unless first) ≡ Err fault)
 
@@ -44,11 +44,11 @@ IsRunFault section fault first = (fault ≡ asm.NoMemory) ⊎ (named (asm.Machin
 abbrev pub IsRowsFault : {X : Type 0} → (section : ℕ) → AsmFault → Result X MachineFault → Type 0
 IsRowsFault section fault given = (fault ≡ asm.NoMemory) ⊎ (named (asm.Machine section) given ≡ Err fault)
 
--- the fault of a section's records was answered, or memory ran out
+-- the fault of a section's records was returned, or memory ran out
 abbrev pub IsRecordsFault : (section : ℕ) → AsmFault → Result (List EntryView) RecordFault → Type 0
 IsRecordsFault section fault given = (fault ≡ asm.NoMemory) ⊎ (named (asm.Record section) given ≡ Err fault)
 
--- the fault of a section's relocations was answered, or memory ran out
+-- the fault of a section's relocations was returned, or memory ran out
 abbrev pub IsRelocFault : {X : Type 0} → (section : ℕ) → AsmFault → Result X RelocFault → Type 0
 IsRelocFault section fault given = (fault ≡ asm.NoMemory) ⊎ (named (asm.Reloc section) given ≡ Err fault)
 
@@ -57,11 +57,11 @@ abbrev pub after_read : {X F : Type 0} → List X → Result (List X) F → Resu
 after_read before (Ok others) = Ok (before ++ others)
 after_read before (Err fault) = Err fault
 
--- what was lent of all functions is what is left out of them
+-- what was lent of all functions is the omitted ones
 abbrev pub LendsAll : {F : Type 0} → (lent : List Function) → Result (List Function) F → Type 0
 LendsAll lent given = seen_as omitted_functions given ≡ Ok lent
 
--- the functions of all inputs, behind an item of this machine or of none, sorted out in their order
+-- the functions of all inputs, after an item of this machine or of none, sorted out in their order
 pub record AreGathered (before : Option Arch) (objects : List Object) (arch : Arch) (kept : List (List Func)) (omitted : List Omitted) (spans : List Span) : Type 0 where
   pub ordered : List Entry
   pub is : Gathers before objects (Ok ordered)
@@ -87,7 +87,7 @@ IsFirstGathered before objects fault = (fault ≡ gather.NoMemory) ⊎ Gathers b
 
 -- These bytes are the section of inputs after an item of this machine or of none: the inputs describe functions, none of them is
 -- refused, all items have one machine, the bytes are a faithful section of the functions, without gaps and with the least widths, this
--- number of functions is kept, and these are left out.
+-- number of functions is kept, and these are omitted.
 pub record IsLinked (before : Option Arch) (objects : List Object) (at : ℕ) (section : List ℕ) (kept : ℕ) (omitted : List Omitted) : Type 0 where
   pub functions : List Function
   pub are : Describe (first_item before) objects (Ok functions)

@@ -22,9 +22,11 @@ use Rattle.sf_bytes.specs.Steps.{◌>>=◌, named}
 use Rattle.sf_model.specs.Firsts.{unless}
 
 -- ---- the results of parts, put together: all functions, or the first fault
+-- a function, and those after it
 abbrev pub in_front : {F : Type 0} → Result Function F → Result (List Function) F → Result (List Function) F
 in_front first others = first >>= λ g. others >>= λ gs. Ok (g ∷ gs)
 
+-- functions, and those after them
 abbrev pub joined : {F : Type 0} → Result (List Function) F → Result (List Function) F → Result (List Function) F
 joined first others = first >>= λ fs. others >>= λ gs. Ok (fs ++ gs)
 
@@ -43,6 +45,7 @@ abbrev pub DescribesUnless : (dropped : Bool) → Arch → (item : ℕ) → Call
 DescribesUnless true arch item section values f others result = result ≡ others
 DescribesUnless false arch item section values f others result = (first : Result Function AsmFault) × FrameDescribes arch item section values f first × (result ≡ in_front first others)
 
+-- these entries describe these functions, or have this first fault
 abbrev pub FramesDescribe : Arch → (item : ℕ) → CallFrames → Values → List FdeView → Result (List Function) AsmFault → Type 0
 FramesDescribe arch item section values [] result = result ≡ Ok []
 FramesDescribe arch item section values (f ∷ fs) result =
@@ -64,6 +67,7 @@ abbrev pub SectionDescribes : Arch → (item : ℕ) → CallFrames → Result (L
 SectionDescribes arch item section result = (entries : Result (List EntryView) RecordFault) × AreReadAs arch section.bytes entries × RecordsDescribe arch item section entries result
 
 -- ---- inputs
+-- consecutive sections
 abbrev pub SectionsDescribe : Arch → (item : ℕ) → List CallFrames → Result (List Function) AsmFault → Type 0
 SectionsDescribe arch item [] result = result ≡ Ok []
 SectionsDescribe arch item (s ∷ ss) result =

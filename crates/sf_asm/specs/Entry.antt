@@ -1,4 +1,4 @@
--- Functions that were read, kept or left out.
+-- Functions that were read, kept or omitted.
 use Rattle.std.specs.Prelude.{◌≡◌, ◌==◌, ℕ, List, map, Option, Some, None}
 use Rattle.std.specs.List.{filter, filter_map, range_with_len}
 use Rattle.sf_model.specs.declared.machine.Arch.{Arch}
@@ -15,15 +15,16 @@ abbrev pub IsSoundOutcome : Arch → (start size : ℕ) → Outcome → Type 0
 IsSoundOutcome arch start size (Kept f) = IsWritable arch f × (f.start ≡ start) × (f.size ≡ size)
 IsSoundOutcome arch start size (Left omission) = Unit {0}
 
+-- the same for a function with its addresses
 abbrev pub IsSound : Arch → Entry → Type 0
 IsSound arch entry = IsSoundOutcome arch entry.span.start entry.span.size entry.outcome
 
--- the function, where it is kept
+-- the function, if it is kept
 abbrev pub kept_in : Outcome → Option Func
 kept_in (Kept f) = Some f
 kept_in (Left omission) = None
 
--- the function, where it is left out
+-- the function, if it is omitted
 abbrev pub omitted_in : Span → Outcome → Option Omitted
 omitted_in span (Kept f) = None
 omitted_in span (Left omission) = Some record { start = span.start; size = span.size; origin = span.origin; omission = omission }
@@ -32,7 +33,7 @@ omitted_in span (Left omission) = Some record { start = span.start; size = span.
 abbrev pub kept_of : List Entry → List Func
 kept_of entries = filter_map (λ (e : Entry). kept_in e.outcome) entries
 
--- the functions that are left out, in order
+-- the omitted functions, in order
 abbrev pub omitted_of : List Entry → List Omitted
 omitted_of entries = filter_map (λ (e : Entry). omitted_in e.span e.outcome) entries
 
@@ -45,6 +46,6 @@ spans_of entries = map (λ (e : Entry). e.span) entries
 abbrev pub of_item : (item : ℕ) → List Entry → List Entry
 of_item item entries = filter (λ (e : Entry). e.span.origin.item == item) entries
 
--- the kept functions of so many items, a list for each, in order
+-- the kept functions of `count` items from `first` on, a list for each, in order
 abbrev pub kept_by_item : (first count : ℕ) → List Entry → List (List Func)
 kept_by_item first count entries = map (λ (item : ℕ). kept_of (of_item item entries)) (range_with_len first count)

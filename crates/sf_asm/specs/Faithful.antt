@@ -44,6 +44,7 @@ whole_recovery (Some frame_address) (Some return_address) (Some frame_pointer) (
 })
 whole_recovery frame_address return_address frame_pointer stack_pointer signed = None
 
+-- the same of what the rules recover
 abbrev pub if_whole : RuleRecovery → Option Recovery
 if_whole r = whole_recovery r.frame_address r.return_address r.frame_pointer r.stack_pointer r.signed
 

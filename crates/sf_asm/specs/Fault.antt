@@ -1,4 +1,4 @@
--- Which faults are refusals of the inputs, with a line of their own, and which ones a call answers.
+-- Which faults are refusals of the inputs, with a line of their own, and which ones a call returns.
 use Rattle.std.specs.Prelude.{ℕ, Bool, true, false}
 use Rattle.elf_place.specs.declared.fault.PlaceFault.{PlaceFault}
 use Rattle.elf_place.specs.declared.fault.PlaceFault.TheVariants as place_faults
@@ -15,40 +15,47 @@ use Rattle.sf_asm.specs.declared.fault.GatherFault.TheVariants as gather
 use Rattle.sf_asm.specs.declared.fault.LinkFault.{LinkFault}
 use Rattle.sf_asm.specs.declared.fault.LinkFault.TheVariants as link
 
--- a fault of placing, or of one section's relocations, records or instructions as the input's, where out of memory stands alone
+-- a fault of placing as the input's, where out of memory is not wrapped
 abbrev pub wraps_place : PlaceFault → AsmFault
 wraps_place place_faults.NoMemory = asm.NoMemory
 wraps_place fault = asm.Place fault
 
+-- the same for a fault of a section's relocations
 abbrev pub wraps_reloc : (section : ℕ) → RelocFault → AsmFault
 wraps_reloc section reloc_faults.NoMemory = asm.NoMemory
 wraps_reloc section fault = asm.Reloc section fault
 
+-- the same for a fault of its records
 abbrev pub wraps_record : (section : ℕ) → RecordFault → AsmFault
 wraps_record section record_faults.NoMemory = asm.NoMemory
 wraps_record section fault = asm.Record section fault
 
+-- the same for a fault of its instructions
 abbrev pub wraps_machine : (section : ℕ) → MachineFault → AsmFault
 wraps_machine section machine_faults.NoMemory = asm.NoMemory
 wraps_machine section fault = asm.Machine section fault
 
+-- the same for a fault of an input
 abbrev pub wraps_input : (item : ℕ) → AsmFault → GatherFault
 wraps_input item asm.NoMemory = gather.NoMemory
 wraps_input item fault = gather.Input item fault
 
--- all but out of memory
+-- a fault of placing is a refusal: all but out of memory are
 abbrev pub is_place_refusal : PlaceFault → Bool
 is_place_refusal place_faults.NoMemory = false
 is_place_refusal fault = true
 
+-- the same for a fault of relocations
 abbrev pub is_reloc_refusal : RelocFault → Bool
 is_reloc_refusal reloc_faults.NoMemory = false
 is_reloc_refusal fault = true
 
+-- the same for a fault of records
 abbrev pub is_record_refusal : RecordFault → Bool
 is_record_refusal record_faults.NoMemory = false
 is_record_refusal fault = true
 
+-- the same for a fault of instructions
 abbrev pub is_machine_refusal : MachineFault → Bool
 is_machine_refusal machine_faults.NoMemory = false
 is_machine_refusal fault = true
@@ -62,6 +69,7 @@ is_input_refusal (asm.Record section fault) = is_record_refusal fault
 is_input_refusal (asm.Machine section fault) = is_machine_refusal fault
 is_input_refusal asm.NoMemory = false
 
+-- a refusal of the inputs while they are gathered
 abbrev pub is_gather_refusal : GatherFault → Bool
 is_gather_refusal (gather.Input item fault) = is_input_refusal fault
 is_gather_refusal (gather.MixedArch item other) = true

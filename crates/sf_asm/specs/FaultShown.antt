@@ -28,6 +28,7 @@ not_shown item = record { item = item; group = group.Link; number = 0; values = 
 abbrev pub shown_of_section : Option ℕ → (number section : ℕ) → FaultShown
 shown_of_section item number section = record { item = item; group = group.Place; number = number; values = section ∷ [] }
 
+-- of each fault of placing
 abbrev pub shown_of_placing : Option ℕ → PlaceFault → FaultShown
 shown_of_placing item (place_faults.Align section) = shown_of_section item 1 section
 shown_of_placing item (place_faults.AddressOverflow section) = shown_of_section item 2 section
@@ -38,6 +39,7 @@ shown_of_placing item place_faults.NoMemory = not_shown item
 abbrev pub shown_of_relocation : Option ℕ → (section number what : ℕ) → FaultShown
 shown_of_relocation item section number what = record { item = item; group = group.Reloc; number = number; values = section ∷ what ∷ [] }
 
+-- of each fault of relocations
 abbrev pub shown_of_relocating : Option ℕ → (section : ℕ) → RelocFault → FaultShown
 shown_of_relocating item section (reloc.UnknownType index) = shown_of_relocation item section 1 index
 shown_of_relocating item section (reloc.Range index) = shown_of_relocation item section 2 index
@@ -51,6 +53,7 @@ shown_of_relocating item section reloc.NoMemory = not_shown item
 abbrev pub shown_of_place : Option ℕ → (section number place : ℕ) → FaultShown
 shown_of_place item section number place = record { item = item; group = group.Record; number = number; values = section ∷ place ∷ [] }
 
+-- of each fault of records
 abbrev pub shown_of_records : Option ℕ → (section : ℕ) → RecordFault → FaultShown
 shown_of_records item section (record_faults.Short place) = shown_of_place item section 1 place
 shown_of_records item section (record_faults.Extended place) = shown_of_place item section 2 place
@@ -63,7 +66,7 @@ shown_of_records item section (record_faults.Unresolved place) = shown_of_place 
 shown_of_records item section (record_faults.FunctionEnd place) = shown_of_place item section 9 place
 shown_of_records item section record_faults.NoMemory = not_shown item
 
--- of instructions that can't be read: the section, the place, and the opcode that is none
+-- of instructions that can't be read: the section, the place, and the opcode that isn't one
 abbrev pub shown_of_instruction : Option ℕ → (section : ℕ) → InsnFault → FaultShown
 shown_of_instruction item section (insn.Opcode place opcode) = record { item = item; group = group.Insn; number = 1; values = section ∷ place ∷ opcode ∷ [] }
 shown_of_instruction item section (insn.Short place) = record { item = item; group = group.Insn; number = 2; values = section ∷ place ∷ [] }
@@ -73,6 +76,7 @@ shown_of_instruction item section (insn.Leb place) = record { item = item; group
 abbrev pub shown_of_run : Option ℕ → (section number place : ℕ) → FaultShown
 shown_of_run item section number place = record { item = item; group = group.Machine; number = number; values = section ∷ place ∷ [] }
 
+-- of each fault of instructions
 abbrev pub shown_of_machine : Option ℕ → (section : ℕ) → MachineFault → FaultShown
 shown_of_machine item section (machine.CieInstruction place) = shown_of_run item section 1 place
 shown_of_machine item section (machine.StateEmpty place) = shown_of_run item section 2 place

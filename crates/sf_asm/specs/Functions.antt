@@ -40,7 +40,7 @@ pub record Function : Type 0 where
   pub origin : Origin
 
 -- ---- one function
--- start and size
+-- its start and size
 abbrev pub span_in : CallFrames → Values → FdeView → Result (ℕ × ℕ) RecordFault
 span_in section values f = span_of f.cie.encoding f.begin.place section.address section.shift (values.bits f.begin) (values.bits f.range)
 
@@ -48,6 +48,7 @@ span_in section values f = span_of f.cie.encoding f.begin.place section.address 
 abbrev pub fault_in : Arch → FdeView → Option MachineFault
 fault_in arch f = first_fault arch f.cie.factor (listing f.cie.insns) (listing f.insns)
 
+-- with these instructions, its start and its size
 abbrev pub function_with : Arch → (item : ℕ) → CallFrames → FdeView → (initial own : List Item) → ℕ × ℕ → Function
 function_with arch item section f initial own span = record {
   arch = arch;
@@ -63,6 +64,7 @@ function_with arch item section f initial own span = record {
   origin = record { item = item; section = section.number; place = f.place };
 }
 
+-- with the instructions that are read
 abbrev pub function_at : Arch → (item : ℕ) → CallFrames → FdeView → ℕ × ℕ → Function
 function_at arch item section f span = function_with arch item section f (listing f.cie.insns) (listing f.insns) span
 
@@ -85,13 +87,14 @@ functions_in arch item section values (f ∷ fs) =
     if values.dropped f.begin then functions_in arch item section values fs
     else (function_in arch item section values f >>= λ g. functions_in arch item section values fs >>= λ gs. Ok (g ∷ gs))
 
--- of a section: all its records come first, and then its relocations, each of which is applied to a pointer field
+-- those of a section: all its records come first, and then its relocations, each of which is applied to a pointer field
 unfoldable pub section_functions : Arch → (item : ℕ) → CallFrames → Result (List Function) AsmFault
 section_functions arch item section = do
   entries ← named (Record section.number) (entries_of arch section.bytes)
   fixes ← named (Reloc section.number) (section.relocations >>= on_pointers (pointer_fields entries))
   functions_in arch item section (patched_values fixes section.bytes) (frames entries)
 
+-- those of consecutive sections
 abbrev pub sections_functions : Arch → (item : ℕ) → List CallFrames → Result (List Function) AsmFault
 sections_functions arch item [] = Ok []
 sections_functions arch item (s ∷ ss) = section_functions arch item s >>= λ fs. sections_functions arch item ss >>= λ gs. Ok (fs ++ gs)
@@ -101,7 +104,7 @@ sections_functions arch item (s ∷ ss) = section_functions arch item s >>= λ f
 abbrev pub object_functions : (item : ℕ) → (seen : List (List ℕ)) → Object → Result (List Function) AsmFault
 object_functions item seen object = sections_of seen object >>= sections_functions (machine_of object) item
 
--- of inputs that are numbered from `item` on
+-- those of inputs that are numbered from `item` on
 unfoldable pub functions_after : (seen : List (List ℕ)) → (item : ℕ) → List Object → Result (List Function) GatherFault
 functions_after seen item [] = Ok []
 functions_after seen item (object ∷ objects) =
@@ -109,6 +112,6 @@ functions_after seen item (object ∷ objects) =
     >>= λ fs. functions_after (seen_behind seen object) (item + 1) objects
     >>= λ gs. Ok (fs ++ gs)
 
--- of all inputs
+-- those of all inputs
 abbrev pub functions_of : (item : ℕ) → List Object → Result (List Function) GatherFault
 functions_of item objects = functions_after [] item objects

@@ -19,6 +19,7 @@ abbrev pub head_span : Head → Span
 head_span (Kept f origin) = record { start = f.head.start; size = f.head.size; origin = origin }
 head_span (Left o) = record { start = o.start; size = o.size; origin = o.origin }
 
+-- what became of it
 abbrev pub outcome_in : StoredRows → Head → Outcome
 outcome_in rows (Kept f origin) = outcome.Kept (stored_in rows f)
 outcome_in rows (Left o) = outcome.Left o.omission
@@ -27,6 +28,7 @@ outcome_in rows (Left o) = outcome.Left o.omission
 abbrev pub entry_in : StoredRows → Head → Entry
 entry_in rows h = record { span = head_span h; outcome = outcome_in rows h }
 
+-- the functions of all heads
 abbrev pub entries_in : StoredRows → List Head → List Entry
 entries_in rows heads = map (entry_in rows) heads
 
@@ -35,17 +37,20 @@ abbrev pub HasRows : StoredRows → Head → Type 0
 HasRows rows (Kept f origin) = IsStored rows f
 HasRows rows (Left o) = Unit {0}
 
+-- the rows of all kept functions are in the list
 abbrev pub HaveRows : StoredRows → List Head → Type 0
 HaveRows rows heads = All (HasRows rows) heads
 
 -- ---- places in a list of heads
--- what stands past the end of a list
+-- what is past the end of a list
 abbrev pub no_head : Head
 no_head = Left record { start = 0; size = 0; origin = record { item = 0; section = 0; place = 0 }; omission = record { reason = EmptyRange; offset = None } }
 
+-- the head at a place
 abbrev pub head_at : List Head → Place → Head
 head_at heads p = get_or heads p.index no_head
 
+-- the heads at these places
 abbrev pub heads_at : List Head → List Place → List Head
 heads_at heads places = map (head_at heads) places
 
@@ -57,11 +62,12 @@ IsPlaceIn heads p = (p.index < length heads) × (p.start ≡ (head_span (head_at
 abbrev pub ArePlacesOf : List Head → List Place → Type 0
 ArePlacesOf heads places = (heads_at heads places ≡ heads) × All (IsPlaceIn heads) places
 
--- the kept functions, in order
+-- the function of a head, if it is kept
 abbrev pub stored_at : Head → Option StoredFunction
 stored_at (Kept f origin) = Some f
 stored_at (Left o) = None
 
+-- the kept functions, in order
 abbrev pub stored_of : List Head → List StoredFunction
 stored_of heads = filter_map stored_at heads
 
@@ -74,10 +80,11 @@ is_kept_head (Left o) = false
 abbrev pub IsKeptIn : List Head → Place → Type 0
 IsKeptIn heads p = (p.index < length heads) × (is_kept_head (head_at heads p) ≡ true)
 
--- the functions that are left out, in order
+-- the function of a head, if it is omitted
 abbrev pub left_at : Head → Option Omitted
 left_at (Kept f origin) = None
 left_at (Left o) = Some o
 
+-- the omitted functions, in order
 abbrev pub left_of : List Head → List Omitted
 left_of heads = filter_map left_at heads

@@ -14,19 +14,20 @@ use Rattle.eh_records.specs.Named.{standing_cie}
 use Rattle.sf_asm.specs.declared.initials.InitialInstructions.{InitialInstructions}
 use Rattle.sf_asm.specs.declared.initials.Initials.{Initials}
 
--- a row is the one that the instructions of a common information entry give, where there is an entry
+-- a row is the one that the instructions of a common information entry give, if there is an entry
 abbrev pub IsInitialOf : Arch → Option CieView → Columns → Type 0
 IsInitialOf arch None row = Unit {0}
 IsInitialOf arch (Some cie) row = IsInitial arch cie.factor (listing cie.insns) row
 
--- it is that of the entry that stands at a place of a section
+-- it is that of the entry at a place of a section
 abbrev pub IsInitialAt : Arch → (section : List ℕ) → (place : ℕ) → Columns → Type 0
 IsInitialAt arch section place row = IsInitialOf arch (standing_cie arch section place) row
 
--- the entry at its place has these instructions and this data alignment factor
+-- what an initial row comes from: the data alignment factor and the instructions of the entry
 abbrev pub row_source : CieView → ℤ × Cursor
 row_source cie = (cie.factor, cie.insns)
 
+-- the entry at this place has these instructions and this factor
 abbrev pub HasInstructions : Arch → (section : List ℕ) → InitialInstructions → Type 0
 HasInstructions arch section i = option_map row_source (standing_cie arch section i.place) ≡ Some (i.factor, cursor i.insns)
 

@@ -1,4 +1,4 @@
--- All inputs of a run: their numbers, their one machine, and their functions. An item may stand before the inputs; it is item 0 then.
+-- All inputs of a run: their numbers, their one machine, and their functions. An item may come before the inputs; it is then item 0.
 use Rattle.std.specs.Prelude.{◌≡◌, ℕ, Bool, true, false, not, List, [], ◌∷◌, map, position, All, Option, Some, None, Result, Ok}
 use Rattle.std.specs.Option.{option_map}
 use Rattle.sf_model.specs.declared.machine.Arch.{Arch}
@@ -7,20 +7,22 @@ use Rattle.sf_asm.specs.declared.fault.GatherFault.{GatherFault}
 use Rattle.sf_asm.specs.declared.fault.GatherFault.TheVariants.{MixedArch}
 use Rattle.sf_asm.specs.Functions.{◌>>=◌, Function, Object, functions_of, machine_of, unless}
 
--- the number of the first input, where an item of this machine stands before the inputs, or none
+-- the number of the first input, after an item of this machine or of none
 abbrev pub first_item : (before : Option Arch) → ℕ
 first_item None = 0
 first_item (Some arch) = 1
 
 -- ---- one machine
--- the machine of each item, in order
+-- the machine of an item before the inputs, if there is one, and those of the inputs
 abbrev pub with_before : (before : Option Arch) → List Arch → List Arch
 with_before None machines = machines
 with_before (Some arch) machines = arch ∷ machines
 
+-- the machine of each item, in order
 abbrev pub machines_of : (before : Option Arch) → List Object → List Arch
 machines_of before objects = with_before before (map machine_of objects)
 
+-- both machines are the same
 abbrev pub is_same : Arch → Arch → Bool
 is_same Amd64 Amd64 = true
 is_same Aarch64 Aarch64 = true
@@ -31,10 +33,11 @@ abbrev pub differing : List Arch → Option ℕ
 differing [] = None
 differing (first ∷ others) = position (λ machine. not (is_same first machine)) (first ∷ others)
 
+-- the fault of two machines among these
 abbrev pub mixed_among : List Arch → Option GatherFault
 mixed_among machines = option_map (MixedArch 0) (differing machines)
 
--- two items have different machines
+-- the fault of two items of different machines
 abbrev pub mixed_fault : (before : Option Arch) → List Object → Option GatherFault
 mixed_fault before objects = mixed_among (machines_of before objects)
 
@@ -43,7 +46,7 @@ abbrev pub HaveMachine : (before : Option Arch) → List Object → Arch → Typ
 HaveMachine before objects arch = All (λ (machine : Arch). machine ≡ arch) (machines_of before objects)
 
 -- ---- all functions
--- of all inputs, where none is refused and all items have one machine
+-- those of all inputs, if none is refused and all items have one machine
 abbrev pub all_functions : (before : Option Arch) → List Object → Result (List Function) GatherFault
 all_functions before objects = do
   functions ← functions_of (first_item before) objects

@@ -1,5 +1,5 @@
 -- What becomes of a function: SFrame Version 2 can express each of its rows (GNU SFrame specification, function descriptor entries
--- and frame row entries), or it is left out with the first reason.
+-- and frame row entries), or it is omitted with the first reason.
 use Rattle.std.specs.Prelude.{ℕ, Bool, is_none, not, List, Result, Ok, Err}
 use Rattle.std.specs.List.{filter}
 use Rattle.sf_model.specs.declared.facts.FdeFacts.{FdeFacts}
@@ -19,13 +19,15 @@ use Rattle.sf_asm.specs.Functions.{Function}
 abbrev pub full_row : Function → (offset : ℕ) → FullRow
 full_row f offset = row_at_offset f.code f.factor f.initial f.own offset
 
--- what SFrame can say of it: a content, or the first reason against the row
+-- its content in SFrame, or the first reason against the row
 abbrev pub says_of : Function → Saying
 says_of f offset = content_of f.arch (row_from offset (columns_of f.arch (full_row f offset)))
 
+-- what the records describe of it, apart from its instructions
 abbrev pub facts_of : Function → FdeFacts
 facts_of f = record { start = f.start; size = f.size; column = f.column; signal = f.signal; key = f.key }
 
+-- what becomes of it: kept as SFrame expresses it, or omitted
 abbrev pub outcome_by : Result Func Omission → Outcome
 outcome_by (Ok function) = outcome.Kept function
 outcome_by (Err omission) = outcome.Left omission
@@ -45,6 +47,6 @@ is_kept f = is_none (omission_of f.arch (facts_of f) (says_of f))
 abbrev pub kept_functions : List Function → List Function
 kept_functions functions = filter is_kept functions
 
--- the functions that it leaves out
+-- the functions that it omits
 abbrev pub omitted_functions : List Function → List Function
 omitted_functions functions = filter (λ (f : Function). not (is_kept f)) functions

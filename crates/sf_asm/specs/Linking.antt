@@ -20,6 +20,7 @@ use Rattle.sf_asm.specs.Kept.{entry_of}
 use Rattle.sf_asm.specs.Order.{entry_rows}
 pub use Rattle.sf_model.specs.Firsts.{or_later, unless_fault}
 
+-- its first address
 abbrev pub start_of : Entry → ℕ
 start_of entry = entry.span.start
 
@@ -30,10 +31,11 @@ pub record InOrder (all ordered : List Entry) : Type 0 where
   pub stable : IsStableByKey start_of nat_cmp all ordered
 
 -- ---- overlaps
+-- it isn't empty
 abbrev pub has_bytes : Span → Bool
 has_bytes span = not (span.size == 0)
 
--- each but the last, with the one behind it
+-- each but the last, with the one after it
 abbrev pub neighbours : List Span → List (Span × Span)
 neighbours spans = zip spans (drop 1 spans)
 
@@ -45,6 +47,7 @@ overlap pair = nat_lt pair.1.start (pair.0.start + pair.0.size)
 unfoldable pub overlap_in : List Span → Option (Span × Span)
 overlap_in spans = find overlap (neighbours (filter has_bytes spans))
 
+-- the fault of two functions that share an address
 abbrev pub overlap_fault : Span × Span → GatherFault
 overlap_fault pair = gather.Overlap pair.0.start pair.0.origin.item pair.1.start pair.1.origin.item
 
@@ -53,11 +56,12 @@ abbrev pub overlap_with : (before : Option Span) → Span → Option GatherFault
 overlap_with None span = None
 overlap_with (Some before) span = if overlap (before, span) then Some (overlap_fault (before, span)) else None
 
--- one function after another: the function before that has bytes, if there is one, and those that follow it
+-- consecutive functions: the one before that has bytes, if there is one, and those that follow it
 abbrev pub behind : Option Span → List Span → List Span
 behind None spans = spans
 behind (Some before) spans = before ∷ spans
 
+-- the first overlapping pair among these
 abbrev pub overlap_after : (before : Option Span) → List Span → Option (Span × Span)
 overlap_after before spans = find overlap (neighbours (behind before (filter has_bytes spans)))
 
@@ -81,6 +85,7 @@ abbrev pub link_fault : (at : ℕ) → List Entry → Option LinkFault
 link_fault at ordered = or_later (option_map Gather (functions_fault ordered)) (option_map OutOfReach (first_out_of_reach at 0 (kept_of ordered)))
 
 -- ---- all functions in order, or the first fault
+-- a condition on the functions in order, or one on the fault in their place
 abbrev pub Ordered : Result (List Function) GatherFault → (List Entry → Type 0) → (GatherFault → Type 0) → Type 0
 Ordered (Ok functions) Then Fails = (ordered : List Entry) × InOrder (map entry_of functions) ordered × Then ordered
 Ordered (Err fault) Then Fails = Fails fault

@@ -1,4 +1,4 @@
--- The functions that were read so far: within the limits they are held, and past one they are counted alone.
+-- The functions that were read so far: within the limits they are held, and past one they are only counted.
 use Rattle.std.specs.Prelude.{◌≡◌, ◌⊎◌, ◌≤◌, ◌+◌, ◌^◌, ℕ, Bool, false, IsTrue, is_none, List, ◌++◌, map, length, min, sum_by, All, Result, Ok, Err}
 use Rattle.sf_model.specs.declared.machine.Arch.{Arch}
 use Rattle.sf_asm.specs.declared.fault.AsmFault.{AsmFault}
@@ -14,14 +14,14 @@ use Rattle.sf_asm.specs.Order.{entry_rows}
 use Rattle.sf_asm.specs.Numbers.{AreNumbered}
 use Rattle.sf_asm.specs.declared.numbers.CommonNumbers.{CommonNumbers}
 
--- within the limits: all functions, the number of rows that may still come, and the omitted ones where they are to be lent
+-- within the limits: all functions, the number of rows that may still come, and the omitted ones if they are to be lent
 pub record AreHeld (lending : Bool) (held : HeldFunctions) (functions : List Function) : Type 0 where
   pub entries : held.entries ≡ map entry_of functions
   pub few : length functions ≤ 2 ^ 21
   pub rows : sum_by entry_rows (map entry_of functions) + held.rows_left ≡ 2 ^ 24
   pub lent : IsTrue lending → held.sources.functions ≡ omitted_functions functions
 
--- past a limit: how many there are, where all above the limit count as one above it
+-- past a limit: how many there are; a number above the limit of functions counts as one above it
 pub record AreCounted (count : ℕ) (functions : List Function) : Type 0 where
   pub counted : count ≡ min (length functions) (2 ^ 21 + 1)
   pub past : is_none (limits_fault (map entry_of functions)) ≡ false
@@ -31,6 +31,7 @@ abbrev pub AreRead : (lending : Bool) → ReadFunctions → List Function → Ty
 AreRead lending (Within held) functions = AreHeld lending held functions
 AreRead lending (Past count) functions = AreCounted count functions
 
+-- how many there are, as far as they are counted
 abbrev pub counted_in : ReadFunctions → ℕ
 counted_in (Within held) = length held.entries
 counted_in (Past count) = count

@@ -24,7 +24,7 @@ unfoldable pub relocations_of : Placing → (section : ℕ) → Result (List Rel
 relocations_of p section = section_fixes p section >>= λ fixes. without_overlap (by_place fixes)
 
 -- ---- pointer fields
--- its place and width alone
+-- its place and width
 abbrev pub pointer_slot : PointerField → Slot
 pointer_slot g = record { place = g.place; width = g.width }
 
@@ -32,6 +32,7 @@ pointer_slot g = record { place = g.place; width = g.width }
 abbrev pub pointer_check : List PointerField → List RelocatedField → Result (Unit {0}) RelocFault
 pointer_check fields fixes = slot_check (map pointer_slot fields) fixes
 
+-- what is written, if each of it is a pointer field
 abbrev pub on_pointers : List PointerField → List RelocatedField → Result (List RelocatedField) RelocFault
 on_pointers fields fixes = pointer_check fields fixes >>= λ _. Ok fixes
 
@@ -40,7 +41,7 @@ pub record Values : Type 0 where
   pub bits : PointerField → Option ℕ
   pub dropped : PointerField → Bool
 
--- the numbers of a copy of the section in which the low bits of each known value stand in the place of its field; a field on
+-- the numbers of a copy of the section in which the low bits of each known value are at the place of its field; a field on
 -- which a relocation without a value lies holds none
 abbrev pub patched_values : List RelocatedField → (section : List ℕ) → Values
 patched_values fixes section = record {

@@ -19,6 +19,7 @@ use Rattle.sf_asm.specs.Kept.{says_of}
 abbrev pub Answers : Type 0
 Answers = (pc : ℕ) → Option Said
 
+-- a content with a key
 abbrev pub with_key : Key → Content → Said
 with_key key content = record { content = content; key = key }
 
@@ -26,7 +27,7 @@ with_key key content = record { content = content; key = key }
 abbrev pub has_form : Function → Bool
 has_form f = (f.column == return_address f.arch) && not f.signal
 
--- the content of its row at an offset, where there is no reason against it
+-- the content of its row at an offset, if there is no reason against it
 abbrev pub form_content : Function → (offset : ℕ) → Option Content
 form_content f offset = if has_form f then content_in (says_of f offset) else None
 
@@ -61,10 +62,11 @@ RowAt functions pc None = dwarf_at functions pc ≡ None
 RowAt functions pc (Some row) = (f : Function) × (find (holds_address pc) functions ≡ Some f) × IsSaidUpTo (dwarf_at functions) f pc (with_key row.1 row.0) row.2
 
 -- ---- contents of a machine
--- a content fits the machine, where there is one
+-- a content fits the machine, if there is a content
 abbrev pub IfFits : Arch → Option Content → Type 0
 IfFits arch None = ⊤
 IfFits arch (Some content) = IsTrue (content_fits arch content)
 
+-- all pieces have contents of the machine
 abbrev pub AllFit : Arch → List Piece → Type 0
 AllFit arch pieces = All (λ (p : Piece). IfFits arch p.content) pieces

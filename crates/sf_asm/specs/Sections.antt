@@ -29,13 +29,16 @@ pub record Object : Type 0 where
   pub bytes : List ℕ
   pub base : ℕ
 
+-- the same of an input
 abbrev pub object_of : Input → Object
 object_of input = record { form = input.form; bytes = input.bytes.now; base = input.base }
 
+-- the machine that a file's header names, or that of a bare section
 abbrev pub machine_by : Form → List ℕ → Arch
 machine_by Elf file = arch_of file
 machine_by (Bare arch) bytes = arch
 
+-- the machine of an input
 abbrev pub machine_of : Object → Arch
 machine_of object = machine_by object.form object.bytes
 
@@ -50,7 +53,7 @@ pub record CallFrames : Type 0 where
   -- what its relocations write, by rising place, or the first fault of theirs
   pub relocations : Result (List RelocatedField) RelocFault
 
--- a bare section lies at its base, and its fields are as they stand
+-- a bare section is at its base, and its fields stay as they are
 abbrev pub bare_section : (bytes : List ℕ) → (base : ℕ) → CallFrames
 bare_section bytes base = record { number = 0; bytes = bytes; address = base; shift = 0; relocations = Ok [] }
 
@@ -77,7 +80,7 @@ placed_section p shift section = record {
   relocations = relocations_of p section;
 }
 
--- a core file, whose kind stands at place 16, is none that is linked
+-- a core file isn't linked; its kind is at place 16
 abbrev pub linked_kind : Kind → Result (Unit {0}) AsmFault
 linked_kind kinds.Core = Err (asm.Elf (faults.Kind 16))
 linked_kind kind = Ok tt
@@ -94,6 +97,7 @@ elf_sections seen file base = do
   Ok (map (placed_section (placing_of seen file base) (shift_of file base)) (eh_frames_below file (dropped_after seen file) (section_count file)))
 
 -- ---- inputs
+-- the call frame sections of these bytes, by their form
 abbrev pub sections_by : Form → (seen : List (List ℕ)) → (bytes : List ℕ) → (base : ℕ) → Result (List CallFrames) AsmFault
 sections_by Elf seen file base = elf_sections seen file base
 sections_by (Bare arch) seen bytes base = Ok (bare_section bytes base ∷ [])
@@ -102,6 +106,7 @@ sections_by (Bare arch) seen bytes base = Ok (bare_section bytes base ∷ [])
 abbrev pub sections_of : (seen : List (List ℕ)) → Object → Result (List CallFrames) AsmFault
 sections_of seen object = sections_by object.form seen object.bytes object.base
 
+-- the signatures that were seen after these bytes, by their form
 abbrev pub seen_by : Form → (seen : List (List ℕ)) → (bytes : List ℕ) → List (List ℕ)
 seen_by Elf seen file = seen_after seen file
 seen_by (Bare arch) seen bytes = seen

@@ -70,9 +70,11 @@ pub record Common : Type 0 where
   pub factor : ℤ
   pub initial : List Item
 
+-- what is held of it
 abbrev pub common_view : CommonPart → Common
 common_view c = record { arch = c.arch; column = c.column; signal = c.signal; key = c.key; code = c.code; factor = c.factor; initial = listing (cursor c.initial) }
 
+-- the same of all
 abbrev pub commons_of : List CommonPart → List Common
 commons_of parts = map common_view parts
 
@@ -100,6 +102,7 @@ function_by_item c i = record {
   origin = i.origin;
 }
 
+-- the function, where what it shares is one of these
 abbrev pub item_function : List Common → SourceItem → Function
 item_function commons i = function_by_item (get_or commons i.common no_common) i
 
@@ -122,6 +125,7 @@ abbrev pub if_left : Outcome → Function → List Function
 if_left (Kept g) f = []
 if_left (Left omission) f = f ∷ []
 
+-- its first address
 abbrev pub function_start : Function → ℕ
 function_start f = f.start
 

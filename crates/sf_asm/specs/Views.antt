@@ -49,5 +49,6 @@ pub record LieOn (pointers : List PointerField) (fixes : List RelocatedField) : 
 abbrev pub AreChecked : List PointerField → List RelocatedField → Type 0
 AreChecked pointers fixes = (fixes ≡ []) ⊎ LieOn pointers fixes
 
+-- a section that is read, with what its relocations write
 abbrev pub seen_section : CallFrameSection → Result (List RelocatedField) RelocFault → CallFrames
 seen_section f relocations = record { number = f.number; bytes = f.bytes.now; address = f.address; shift = f.shift; relocations = relocations }
