@@ -18,7 +18,7 @@ use Rattle.sf_asm.specs.declared.source.SourceItem.{SourceItem}
 use Rattle.sf_asm.specs.Functions.{Function}
 use Rattle.sf_asm.specs.Numbers.{AreNumbered, IsNumberOf}
 use Rattle.sf_asm.specs.ReadSoFar.{AreNumberedIn}
-use Rattle.sf_asm.specs.Sources.{Common, IsItemIn, IsRun, common_of, common_view, commons_of, function_by_item, item_function, no_common}
+use Rattle.sf_asm.specs.Sources.{Common, IsItemIn, CanBeRun, common_of, common_view, commons_of, function_by_item, item_function, no_common}
 
 -- ---- one more common part
 pub commons_more : (parts : List CommonPart) (p : CommonPart) → commons_of (parts ++ p ∷ []) ≡ commons_of parts ++ common_view p ∷ []
@@ -40,7 +40,7 @@ common_still commons c i h = get_or_append_left commons (c ∷ []) no_common i.c
 in_still : (commons : List Common) (c : Common) (items : List SourceItem) → AllByRecursion (IsItemIn commons) items → AllByRecursion (IsItemIn (commons ++ c ∷ [])) items
 in_still commons c [] h = tt
 in_still commons c (i ∷ is) h =
-    ((omega (arith, h.0.0, length-append commons (c ∷ [])), subst (λ (x : Common). IsRun (function_by_item x i)) (sym (common_still commons c i h.0)) h.0.1), in_still commons c is h.1)
+    ((omega (arith, h.0.0, length-append commons (c ∷ [])), subst (λ (x : Common). CanBeRun (function_by_item x i)) (sym (common_still commons c i h.0)) h.0.1), in_still commons c is h.1)
 
 same_still : (commons : List Common) (c : Common) (items : List SourceItem) → AllByRecursion (IsItemIn commons) items → map (item_function (commons ++ c ∷ [])) items ≡ map (item_function commons) items
 same_still commons c [] h = refl

@@ -12,7 +12,7 @@ use Rattle.sf_asm.specs.declared.fault.AsmFault.{AsmFault}
 use Rattle.sf_asm.specs.declared.fault.AsmFault.TheVariants as asm
 use Rattle.sf_asm.specs.declared.fault.GatherFault.{GatherFault}
 use Rattle.sf_asm.specs.declared.fault.GatherFault.TheVariants as gather
-use Rattle.sf_asm.specs.Described.{of_one_machine, DescribeTogether, in_front, joined, FrameDescribes, DescribesUnless, FramesDescribe, FieldsDescribe, RecordsDescribe, SectionDescribes, SectionsDescribe, InputDescribes, InputsDescribe, Describe}
+use Rattle.sf_asm.specs.Described.{of_one_machine, DescribeTogether, with_others, joined, FrameDescribes, DescribesUnless, FramesDescribe, FieldsDescribe, RecordsDescribe, SectionDescribes, SectionsDescribe, InputDescribes, InputsDescribe, Describe}
 use Rattle.sf_asm.specs.Functions.{◌>>=◌, Function, CallFrames, Object, by_instructions, function_in, functions_in, functions_after, functions_of, machine_of, named, object_functions, section_functions, sections_functions, sections_of, seen_behind}
 use Rattle.sf_asm.specs.Inputs.{all_functions, first_item}
 use Rattle.sf_asm.specs.Linking.{Gathers, GathersFrom, Links, LinksFrom}
@@ -43,18 +43,18 @@ is_one arch item section values f = record {
 
 -- ---- a section
 unless_is : (b : Bool) (arch : Arch) (item : ℕ) (section : CallFrames) (values : Values) (f : FdeView) (others r : All) → DescribesUnless b arch item section values f others r
-    → cond b others (in_front (function_in arch item section values f) others) ≡ r
+    → cond b others (with_others (function_in arch item section values f) others) ≡ r
 unless_is true arch item section values f others r h = sym h
-unless_is false arch item section values f others r h = ap (λ (x : Result Function AsmFault). in_front x others) (one_is arch item section values f h.0 h.1) ∙ sym h.2
+unless_is false arch item section values f others r h = ap (λ (x : Result Function AsmFault). with_others x others) (one_is arch item section values f h.0 h.1) ∙ sym h.2
 
-is_unless : (b : Bool) (arch : Arch) (item : ℕ) (section : CallFrames) (values : Values) (f : FdeView) (others : All) → DescribesUnless b arch item section values f others (cond b others (in_front (function_in arch item section values f) others))
+is_unless : (b : Bool) (arch : Arch) (item : ℕ) (section : CallFrames) (values : Values) (f : FdeView) (others : All) → DescribesUnless b arch item section values f others (cond b others (with_others (function_in arch item section values f) others))
 is_unless true arch item section values f others = refl
 is_unless false arch item section values f others = (function_in arch item section values f, is_one arch item section values f, refl)
 
 all_is : (arch : Arch) (item : ℕ) (section : CallFrames) (values : Values) (fs : List FdeView) (r : All) → FramesDescribe arch item section values fs r → functions_in arch item section values fs ≡ r
 all_is arch item section values [] r h = sym h
 all_is arch item section values (f ∷ fs) r h =
-    ap (λ (others : All). cond (values.dropped f.begin) others (in_front (function_in arch item section values f) others)) (all_is arch item section values fs h.0 h.1)
+    ap (λ (others : All). cond (values.dropped f.begin) others (with_others (function_in arch item section values f) others)) (all_is arch item section values fs h.0 h.1)
     ∙ unless_is (values.dropped f.begin) arch item section values f h.0 r h.2
 
 is_all : (arch : Arch) (item : ℕ) (section : CallFrames) (values : Values) (fs : List FdeView) → FramesDescribe arch item section values fs (functions_in arch item section values fs)

@@ -13,7 +13,7 @@ use Rattle.sf_asm.specs.declared.read.ReadFunctions.{ReadFunctions}
 use Rattle.sf_asm.specs.Answers.{after_read}
 use Rattle.sf_asm.specs.Fault.{wraps_input}
 use Rattle.sf_asm.specs.Functions.{◌>>=◌, Function, Object, functions_after, functions_of, machine_of, named, object_functions, object_of, seen_behind}
-use Rattle.sf_asm.specs.ReadSoFar.{AreRead, ReadsAll}
+use Rattle.sf_asm.specs.ReadSoFar.{AreReadSoFar, ReadsAll}
 use Rattle.elf_groups.specs.Seen.{HasSeen}
 use Rattle.sf_asm.proofs.ReadSoFar.{after_both, after_none, then_others}
 
@@ -38,10 +38,10 @@ pub record AreReadUpTo (lending : Bool) (set : Seen) (read : ReadFunctions) (ite
   pub seen : List (List ℕ)
   pub has : HasSeen set seen
   pub functions : List Function
-  pub are : AreRead lending read functions
+  pub are : AreReadSoFar lending read functions
   pub comes : after_read functions (functions_after seen item left) ≡ given
 
-pub starts : (lending : Bool) (set : Seen) (read : ReadFunctions) (item : ℕ) (objects : List Object) → HasSeen set [] → AreRead lending read [] → AreReadUpTo lending set read item objects (functions_of item objects)
+pub starts : (lending : Bool) (set : Seen) (read : ReadFunctions) (item : ℕ) (objects : List Object) → HasSeen set [] → AreReadSoFar lending read [] → AreReadUpTo lending set read item objects (functions_of item objects)
 starts lending set read item objects h none = record { seen = []; has = h; functions = []; are = none; comes = after_none (functions_of item objects) }
 
 pub functions_after-cons : (seen : List (List ℕ)) (item : ℕ) (object : Object) (left : List Object)
@@ -83,7 +83,7 @@ stops lending set read item object left given fault h refused =
           ∙ ap (after_read h.functions) (functions_after-cons h.seen item object left ∙ first_fault item (object_functions item h.seen object) (functions_after (seen_behind h.seen object) (item + 1) left) fault e))
     ]
 
-pub ends : (lending : Bool) (set : Seen) (read : ReadFunctions) (item : ℕ) (given : Result (List Function) GatherFault) → AreReadUpTo lending set read item [] given → (functions : List Function) × (given ≡ Ok functions) × AreRead lending read functions
+pub ends : (lending : Bool) (set : Seen) (read : ReadFunctions) (item : ℕ) (given : Result (List Function) GatherFault) → AreReadUpTo lending set read item [] given → (functions : List Function) × (given ≡ Ok functions) × AreReadSoFar lending read functions
 ends lending set read item given h = (h.functions, sym h.comes ∙ ap (after_read h.functions) (functions_after-nil h.seen item) ∙ ap Ok (append-nil h.functions), h.are)
 
 -- ---- the inputs from a place on
@@ -108,7 +108,7 @@ stops_at lending set read first k inputs d given fault lt h refused =
     (subst (λ (left : List Object). AreReadUpTo lending set read (first + k) left given) (left_is inputs k d lt) h) refused
 
 pub ends_at : (lending : Bool) (set : Seen) (read : ReadFunctions) (item k : ℕ) (inputs : List Input) (given : Result (List Function) GatherFault) → length inputs ≤ k → AreReadUpTo lending set read item (map object_of (drop k inputs)) given
-    → (functions : List Function) × (given ≡ Ok functions) × AreRead lending read functions
+    → (functions : List Function) × (given ≡ Ok functions) × AreReadSoFar lending read functions
 ends_at lending set read item k inputs given le h =
     ends lending set read item given (subst (λ (left : List Object). AreReadUpTo lending set read item left given) (ap (map object_of) (drop_all k inputs le)) h)
 

@@ -19,7 +19,7 @@ use Rattle.sf_asm.specs.Functions.{◌>>=◌, Function}
 use Rattle.sf_asm.specs.Kept.{entry_of}
 use Rattle.sf_asm.specs.Linking.{limits_fault}
 use Rattle.sf_asm.specs.Order.{entry_rows}
-use Rattle.sf_asm.specs.ReadSoFar.{AreCounted, AreHeld, AreRead, AreSound, Reads, ReadsAll}
+use Rattle.sf_asm.specs.ReadSoFar.{AreCounted, AreHeld, AreReadSoFar, AreSound, ReadsFunctions, ReadsAll}
 use Rattle.sf_asm.specs.Sources.{if_left}
 use Rattle.sf_asm.proofs.Lending.{one_omitted}
 use Rattle.sf_asm.proofs.Limits.{too_many_functions, too_many_rows, within_limits}
@@ -52,19 +52,19 @@ then_more {X} {F} one x others e = ap (λ (r : Result X F). r >>= λ g. others >
 pub record GoesOn {F : Type 0} (lending : Bool) (old new : ReadFunctions) (left all : Result (List Function) F) : Type 0 where
   pub some : List Function
   pub comes : after_read some left ≡ all
-  pub reads : Reads lending old new some
+  pub reads : ReadsFunctions lending old new some
 
 pub begins : {F : Type 0} (lending : Bool) (read : ReadFunctions) (left all : Result (List Function) F) → left ≡ all → GoesOn lending read read left all
 begins lending read left all e = record {
   some = [];
   comes = after_none left ∙ e;
-  reads = λ before h. subst (AreRead lending read) (sym (append-nil before)) h;
+  reads = λ before h. subst (AreReadSoFar lending read) (sym (append-nil before)) h;
 }
 
-pub reads_both : (lending : Bool) (old mid new : ReadFunctions) (some more : List Function) → Reads lending old mid some → Reads lending mid new more → Reads lending old new (some ++ more)
-reads_both lending old mid new some more first second = λ before h. subst (AreRead lending new) (append_assoc before some more) (second (before ++ some) (first before h))
+pub reads_both : (lending : Bool) (old mid new : ReadFunctions) (some more : List Function) → ReadsFunctions lending old mid some → ReadsFunctions lending mid new more → ReadsFunctions lending old new (some ++ more)
+reads_both lending old mid new some more first second = λ before h. subst (AreReadSoFar lending new) (append_assoc before some more) (second (before ++ some) (first before h))
 
-pub goes_on : {F : Type 0} (lending : Bool) (old mid new : ReadFunctions) (more : List Function) (left rest all : Result (List Function) F) → GoesOn lending old mid left all → left ≡ after_read more rest → Reads lending mid new more → GoesOn lending old new rest all
+pub goes_on : {F : Type 0} (lending : Bool) (old mid new : ReadFunctions) (more : List Function) (left rest all : Result (List Function) F) → GoesOn lending old mid left all → left ≡ after_read more rest → ReadsFunctions lending mid new more → GoesOn lending old new rest all
 goes_on lending old mid new more left rest all h is reads = record {
   some = h.some ++ more;
   comes = after_both h.some more rest ∙ ap (after_read h.some) (sym is) ∙ h.comes;
@@ -182,6 +182,6 @@ unfolding limits_fault
 limits_moved all ordered moved = rw (length_permutation all ordered moved, sum_by-IsPermutation entry_rows all ordered moved) refl
 
 -- ---- functions that a section can hold
-pub none_sound : (arch : Arch) (lending : Bool) (read : ReadFunctions) → AreRead lending read [] → AreSound arch read
+pub none_sound : (arch : Arch) (lending : Bool) (read : ReadFunctions) → AreReadSoFar lending read [] → AreSound arch read
 none_sound arch lending (Within held) h = subst (All (IsSound arch)) (sym h.entries) (All-from_recursion (IsSound arch) [] tt)
 none_sound arch lending (Past count) h = tt

@@ -13,7 +13,7 @@ use Rattle.sf_asm.specs.Functions.{Function, Object, functions_of, machine_of, u
 use Rattle.sf_asm.specs.Inputs.{first_item, mixed_among, with_before}
 use Rattle.sf_asm.specs.Kept.{entry_of}
 use Rattle.sf_asm.specs.Linking.{Gathers, InOrder, functions_fault, limits_fault, or_later, overlap_fault, overlap_in, start_of, unless_fault}
-use Rattle.sf_asm.specs.ReadSoFar.{AreHeld, AreRead}
+use Rattle.sf_asm.specs.ReadSoFar.{AreHeld, AreReadSoFar}
 use Rattle.sf_asm.proofs.ByStart.{by_key, by_key-moved, by_key-rising, by_key-stable}
 use Rattle.sf_asm.proofs.GatheredInputs.{machines_refused, tried}
 use Rattle.sf_asm.proofs.ReadSoFar.{held_within, limits_moved}
@@ -45,14 +45,14 @@ overlaps_of ordered = option_map overlap_fault (overlap_in (spans_of ordered))
 
 -- two items are of different machines
 pub machines_differ : (before : Option Arch) (objects : List Object) (first : ℕ) (lending : Bool) (read : ReadFunctions) (machines : List Arch) → first ≡ first_item before → machines ≡ map machine_of objects
-    → (functions : List Function) × (functions_of first objects ≡ Ok functions) × AreRead lending read functions → (fault : GatherFault) → Err fault ≡ unless (mixed_among (with_before before machines)) → Gathers before objects (Err fault)
+    → (functions : List Function) × (functions_of first objects ≡ Ok functions) × AreReadSoFar lending read functions → (fault : GatherFault) → Err fault ≡ unless (mixed_among (with_before before machines)) → Gathers before objects (Err fault)
 machines_differ before objects first lending read machines first_is machines_are all fault differ =
     machines_refused before objects (map entry_of all.0) fault (ap (λ (item : ℕ). seen_as (map entry_of) (functions_of item objects)) (sym first_is) ∙ ap (seen_as (map entry_of)) all.1)
     (ap (λ (ms : List Arch). mixed_among (with_before before ms)) (sym machines_are) ∙ one_found (mixed_among (with_before before machines)) fault differ)
 
 -- the functions of inputs, all of which were read, and which are of one machine
 module _ (before : Option Arch) (objects : List Object) (first : ℕ) (lending : Bool) (read : ReadFunctions) (machines : List Arch) (first_is : first ≡ first_item before) (machines_are : machines ≡ map machine_of objects)
-    (one : Ok tt ≡ unless (mixed_among (with_before before machines))) (all : (functions : List Function) × (functions_of first objects ≡ Ok functions) × AreRead lending read functions) where
+    (one : Ok tt ≡ unless (mixed_among (with_before before machines))) (all : (functions : List Function) × (functions_of first objects ≡ Ok functions) × AreReadSoFar lending read functions) where
   comes : (ordered : List Entry) (fault : Option GatherFault) → InOrder (map entry_of all.0) ordered → functions_fault ordered ≡ fault → Gathers before objects (unless_fault fault ordered)
   comes ordered fault order checked =
       tried before objects (map entry_of all.0) ordered fault (ap (λ (item : ℕ). seen_as (map entry_of) (functions_of item objects)) (sym first_is) ∙ ap (seen_as (map entry_of)) all.1)
@@ -67,7 +67,7 @@ module _ (before : Option Arch) (objects : List Object) (first : ℕ) (lending :
   -- none is, and the functions that are held are brought into order
   module _ (held : HeldFunctions) (ordered : List Entry) (within : read ≡ Within held) (in_order : InOrder held.entries ordered) where
     are : AreHeld lending held all.0
-    are = subst (λ (r : ReadFunctions). AreRead lending r all.0) within all.2
+    are = subst (λ (r : ReadFunctions). AreReadSoFar lending r all.0) within all.2
 
     order : InOrder (map entry_of all.0) ordered
     order = subst (λ (es : List Entry). InOrder es ordered) are.entries in_order

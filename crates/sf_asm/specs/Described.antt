@@ -23,8 +23,8 @@ use Rattle.sf_model.specs.Firsts.{unless}
 
 -- ---- the results of parts, put together: all functions, or the first fault
 -- a function, and those after it
-abbrev pub in_front : {F : Type 0} → Result Function F → Result (List Function) F → Result (List Function) F
-in_front first others = first >>= λ g. others >>= λ gs. Ok (g ∷ gs)
+abbrev pub with_others : {F : Type 0} → Result Function F → Result (List Function) F → Result (List Function) F
+with_others first others = first >>= λ g. others >>= λ gs. Ok (g ∷ gs)
 
 -- functions, and those after them
 abbrev pub joined : {F : Type 0} → Result (List Function) F → Result (List Function) F → Result (List Function) F
@@ -43,7 +43,7 @@ pub record FrameDescribes (arch : Arch) (item : ℕ) (section : CallFrames) (val
 -- an entry whose start lies in a dropped section describes no function
 abbrev pub DescribesUnless : (dropped : Bool) → Arch → (item : ℕ) → CallFrames → Values → FdeView → (others result : Result (List Function) AsmFault) → Type 0
 DescribesUnless true arch item section values f others result = result ≡ others
-DescribesUnless false arch item section values f others result = (first : Result Function AsmFault) × FrameDescribes arch item section values f first × (result ≡ in_front first others)
+DescribesUnless false arch item section values f others result = (first : Result Function AsmFault) × FrameDescribes arch item section values f first × (result ≡ with_others first others)
 
 -- these entries describe these functions, or have this first fault
 abbrev pub FramesDescribe : Arch → (item : ℕ) → CallFrames → Values → List FdeView → Result (List Function) AsmFault → Type 0

@@ -93,10 +93,10 @@ is_gather_answered gather.NoMemory = true
 is_gather_answered fault = is_wrapped_answered fault
 
 -- a refusal of the inputs, which has a line
-abbrev pub is_refusal : LinkFault → Bool
-is_refusal (link.Gather fault) = is_gather_refusal fault
-is_refusal (link.OutOfReach start) = true
-is_refusal link.NoMemory = false
+abbrev pub is_link_refusal : LinkFault → Bool
+is_link_refusal (link.Gather fault) = is_gather_refusal fault
+is_link_refusal (link.OutOfReach start) = true
+is_link_refusal link.NoMemory = false
 
 -- what the outermost call returns: a refusal, a limit, or out of memory on its own
 abbrev pub is_answered : LinkFault → Bool

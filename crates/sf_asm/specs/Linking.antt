@@ -57,13 +57,13 @@ overlap_with None span = None
 overlap_with (Some before) span = if overlap (before, span) then Some (overlap_fault (before, span)) else None
 
 -- consecutive functions: the one before that has bytes, if there is one, and those that follow it
-abbrev pub behind : Option Span → List Span → List Span
-behind None spans = spans
-behind (Some before) spans = before ∷ spans
+abbrev pub with_span_before : Option Span → List Span → List Span
+with_span_before None spans = spans
+with_span_before (Some before) spans = before ∷ spans
 
 -- the first overlapping pair among these
 abbrev pub overlap_after : (before : Option Span) → List Span → Option (Span × Span)
-overlap_after before spans = find overlap (neighbours (behind before (filter has_bytes spans)))
+overlap_after before spans = find overlap (neighbours (with_span_before before (filter has_bytes spans)))
 
 -- the fault that was found, or else the one of what is left
 abbrev pub overlap_left : Overlaps → List Span → Option GatherFault

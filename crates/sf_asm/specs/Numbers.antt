@@ -10,8 +10,8 @@ use Rattle.sf_asm.specs.declared.numbers.CommonNumbers.{CommonNumbers}
 use Rattle.sf_asm.specs.Sources.{Common, common_of, no_common}
 
 -- the number at a place
-abbrev pub number_at : CommonNumbers → (place : ℕ) → Option ℕ
-number_at numbers place = get nat_cmp numbers.by_place place
+abbrev pub common_number_at : CommonNumbers → (place : ℕ) → Option ℕ
+common_number_at numbers place = get nat_cmp numbers.by_place place
 
 -- it is the number of this one among those that are held
 abbrev pub IsNumberOf : List Common → Option Common → (number : ℕ) → Type 0
@@ -19,4 +19,4 @@ IsNumberOf commons common number = (number < length commons) × (Some (get_or co
 
 -- each number is that of what the functions of the entry at its place share
 abbrev pub AreNumbered : Arch → (section : List ℕ) → CommonNumbers → List Common → Type 0
-AreNumbered arch section numbers commons = (place : ℕ) → ForSome (number_at numbers place) (IsNumberOf commons (option_map (common_of arch) (standing_cie arch section place)))
+AreNumbered arch section numbers commons = (place : ℕ) → ForSome (common_number_at numbers place) (IsNumberOf commons (option_map (common_of arch) (standing_cie arch section place)))

@@ -27,9 +27,9 @@ pub record AreCounted (count : ℕ) (functions : List Function) : Type 0 where
   pub past : is_none (limits_fault (map entry_of functions)) ≡ false
 
 -- these are the functions that were read so far
-abbrev pub AreRead : (lending : Bool) → ReadFunctions → List Function → Type 0
-AreRead lending (Within held) functions = AreHeld lending held functions
-AreRead lending (Past count) functions = AreCounted count functions
+abbrev pub AreReadSoFar : (lending : Bool) → ReadFunctions → List Function → Type 0
+AreReadSoFar lending (Within held) functions = AreHeld lending held functions
+AreReadSoFar lending (Past count) functions = AreCounted count functions
 
 -- how many there are, as far as they are counted
 abbrev pub counted_in : ReadFunctions → ℕ
@@ -47,12 +47,12 @@ AreNumberedIn arch section numbers (Within held) = AreNumbered arch section numb
 AreNumberedIn arch section numbers (Past count) = Unit {0}
 
 -- these functions were read after those that were read before
-abbrev pub Reads : (lending : Bool) → (old new : ReadFunctions) → (functions : List Function) → Type 0
-Reads lending old new functions = (before : List Function) → AreRead lending old before → AreRead lending new (before ++ functions)
+abbrev pub ReadsFunctions : (lending : Bool) → (old new : ReadFunctions) → (functions : List Function) → Type 0
+ReadsFunctions lending old new functions = (before : List Function) → AreReadSoFar lending old before → AreReadSoFar lending new (before ++ functions)
 
 -- all of these were read, and none is refused
 abbrev pub ReadsAll : {F : Type 0} → (lending : Bool) → (old new : ReadFunctions) → Result (List Function) F → Type 0
-ReadsAll lending old new given = (functions : List Function) × (given ≡ Ok functions) × Reads lending old new functions
+ReadsAll lending old new given = (functions : List Function) × (given ≡ Ok functions) × ReadsFunctions lending old new functions
 
 -- all of these were read; or the first fault was returned, or memory ran out
 abbrev pub ReadsMore : {X : Type 0} → (lending : Bool) → Result X AsmFault → (old new : ReadFunctions) → Result (List Function) AsmFault → Type 0

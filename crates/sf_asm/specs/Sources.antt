@@ -107,12 +107,12 @@ abbrev pub item_function : List Common → SourceItem → Function
 item_function commons i = function_by_item (get_or commons i.common no_common) i
 
 -- each instruction of a function can be run
-abbrev pub IsRun : Function → Type 0
-IsRun f = is_ok (rows_by f.arch f.code f.factor f.size f.initial f.own) ≡ true
+abbrev pub CanBeRun : Function → Type 0
+CanBeRun f = is_ok (rows_by f.arch f.code f.factor f.size f.initial f.own) ≡ true
 
 -- what it shares is one of these, and it can be run
 abbrev pub IsItemIn : List Common → SourceItem → Type 0
-IsItemIn commons i = (i.common < length commons) × IsRun (item_function commons i)
+IsItemIn commons i = (i.common < length commons) × CanBeRun (item_function commons i)
 
 -- functions that are lent, and what they share
 pub record SourcesView : Type 0 where

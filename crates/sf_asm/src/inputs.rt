@@ -7,7 +7,7 @@ ghost use Rattle.sf_asm.specs.declared.fault.GatherFault.TheVariants.{Input as R
 ghost use Rattle.sf_asm.specs.Fault.{wraps_input};
 ghost use Rattle.sf_asm.specs.Functions.{Function, functions_of, machine_of, named, object_functions, object_of, seen_behind, unless};
 ghost use Rattle.sf_asm.specs.Inputs.{is_same, mixed_among, with_before};
-ghost use Rattle.sf_asm.specs.ReadSoFar.{AreRead, AreSound, ReadsAll};
+ghost use Rattle.sf_asm.specs.ReadSoFar.{AreReadSoFar, AreSound, ReadsAll};
 ghost use Rattle.elf_groups.specs.Seen.{HasSeen};
 
 use crate::fault::{AsmFault, GatherFault};
@@ -60,7 +60,7 @@ pub fn read_all<'a>(
 ) -> Result<AllFunctions<'a>, GatherFault>
     requires few { (first ≤ 1) × (length inputs.now ≤ 512) }
     requires small { All (λ input. length input.bytes.now < 2 ^ 32) inputs.now }
-    ensures reads { IfOk result (λ all. (functions : List Function) × (functions_of first (map object_of inputs.now) ≡ Ok functions) × AreRead lending all.read functions) }
+    ensures reads { IfOk result (λ all. (functions : List Function) × (functions_of first (map object_of inputs.now) ≡ Ok functions) × AreReadSoFar lending all.read functions) }
     ensures machines { IfOk result (λ all. all.machines.items ≡ map machine_of (map object_of inputs.now)) }
     ensures sound { IfOk result (λ all. (arch : machine) → All (λ machine. machine ≡ arch) all.machines.items → AreSound arch all.read) }
     ensures fault { IfErr result (λ fault. (fault ≡ NoMemory) ⊎ (functions_of first (map object_of inputs.now) ≡ Err fault)) }

@@ -4,7 +4,7 @@ ghost use Rattle.std.specs.Prelude.{◌≡◌, ◌∷◌, [], ℕ, Option, IsTru
 ghost use Rattle.sf_model.specs.Notice.{HasLine, up_to};
 ghost use Rattle.sf_model.specs.FaultShown.{shown_by};
 ghost use Rattle.sf_asm.specs.FaultShown.{shown_of_section, shown_of_placing, shown_of_relocation, shown_of_relocating, shown_of_place, shown_of_records, shown_of_instruction, shown_of_machine, shown_of_input, shown_of_gathering, shown_of_linking};
-ghost use Rattle.sf_asm.specs.Fault.{is_place_refusal, is_reloc_refusal, is_record_refusal, is_machine_refusal, is_input_refusal, is_gather_refusal, is_refusal};
+ghost use Rattle.sf_asm.specs.Fault.{is_place_refusal, is_reloc_refusal, is_record_refusal, is_machine_refusal, is_input_refusal, is_gather_refusal, is_link_refusal};
 
 use crate::fault::{AsmFault, GatherFault, LinkFault};
 use arrayvec::ArrayVec;
@@ -232,7 +232,7 @@ impl GatherFault {
 impl LinkFault {
     /// Returns the fault as its line shows it. A fault that names its own input has that in place of `item`.
     pub fn notice(&self, item: Option<u32>) -> Notice
-        requires { IsTrue (is_refusal self.now) }
+        requires { IsTrue (is_link_refusal self.now) }
         ensures shown { shown_by result ≡ shown_of_linking item self.now }
         ensures line { HasLine result }
     {

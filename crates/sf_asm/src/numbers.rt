@@ -4,7 +4,7 @@ ghost use Rattle.std.specs.Prelude.{◌≡◌, ℕ, List, OnOk};
 ghost use Rattle.std.specs.Option.{option_map};
 ghost use Rattle.sf_model.specs.declared.machine.Arch.{Arch as machine};
 ghost use Rattle.eh_records.specs.Named.{standing_cie};
-ghost use Rattle.sf_asm.specs.Numbers.{AreNumbered, IsNumberOf, number_at};
+ghost use Rattle.sf_asm.specs.Numbers.{AreNumbered, IsNumberOf, common_number_at};
 ghost use Rattle.sf_asm.specs.Sources.{Common as common, common_of};
 
 use std::alloc::{AllocError, Global};
@@ -29,7 +29,7 @@ impl CommonNumbers {
     /// Finds the number of the entry at a place.
     #[inline(always)]
     pub fn get(&self, place: u32) -> Option<u32>
-        ensures { result ≡ number_at self.now place }
+        ensures { result ≡ common_number_at self.now place }
     {
         self.by_place.get(&place).copied()
     }

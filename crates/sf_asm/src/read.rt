@@ -7,7 +7,7 @@ ghost use Rattle.sf_asm.specs.Functions.{Function};
 ghost use Rattle.sf_asm.specs.Kept.{entry_of};
 ghost use Rattle.sf_asm.specs.Linking.{limits_fault};
 ghost use Rattle.sf_asm.specs.Order.{entry_rows};
-ghost use Rattle.sf_asm.specs.ReadSoFar.{AreRead, counted_in};
+ghost use Rattle.sf_asm.specs.ReadSoFar.{AreReadSoFar, counted_in};
 
 use crate::entries::Entries;
 use crate::entry::Entry;
@@ -80,7 +80,7 @@ impl<'a> HeldFunctions<'a> {
 impl<'a> ReadFunctions<'a> {
     /// Makes an empty list of functions.
     pub fn new(alloc: Global) -> ReadFunctions<'a>
-        ensures { (lending : Bool) → AreRead lending result [] }
+        ensures { (lending : Bool) → AreReadSoFar lending result [] }
     {
         ReadFunctions::Within(HeldFunctions {
             entries: Entries::new(alloc),
@@ -113,7 +113,7 @@ impl<'a> ReadFunctions<'a> {
     /// The limit that they exceed, of functions first, and then of rows.
     pub fn within_limits(self) -> Result<HeldFunctions<'a>, GatherFault>
         ensures held { IfOk result (λ held. self.entry ≡ Within held) }
-        ensures fault { IfErr result (λ fault. (lending : Bool) (functions : List Function) → AreRead lending self.entry functions → limits_fault (map entry_of functions) ≡ Some fault) }
+        ensures fault { IfErr result (λ fault. (lending : Bool) (functions : List Function) → AreReadSoFar lending self.entry functions → limits_fault (map entry_of functions) ≡ Some fault) }
     {
         match self {
             ReadFunctions::Within(held) => Ok(held),

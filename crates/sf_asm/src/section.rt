@@ -23,7 +23,7 @@ ghost use Rattle.sf_asm.specs.declared.fault.AsmFault.TheVariants.{NoMemory, Rec
 ghost use Rattle.sf_asm.specs.Functions.{function_in, functions_in, named, section_functions, span_in};
 ghost use Rattle.sf_asm.specs.Initials.{AreInitial};
 ghost use Rattle.sf_asm.specs.Kept.{entry_of, outcome_by};
-ghost use Rattle.sf_asm.specs.ReadSoFar.{AreNumberedIn, AreSound, Reads, ReadsMore};
+ghost use Rattle.sf_asm.specs.ReadSoFar.{AreNumberedIn, AreSound, ReadsFunctions, ReadsMore};
 ghost use Rattle.sf_asm.specs.Relocated.{pointer_check};
 ghost use Rattle.sf_asm.specs.Sources.{function_by_span};
 ghost use Rattle.sf_asm.specs.Views.{AreChecked, IsReadFrom, overlaid, relocations_by, seen_section, written_by};
@@ -254,7 +254,7 @@ fn add_function<'a>(
     requires numbered { AreNumberedIn section.now.arch section.now.bytes.now numbers.old read.old }
     ensures initials { OnOk result (AreInitial section.now.arch section.now.bytes.now initials.new) }
     ensures numbered { OnOk result (AreNumberedIn section.now.arch section.now.bytes.now numbers.new read.new) }
-    ensures reads { OnOk result (Reads lending read.old read.new (function_by_span section.now.arch fde.now entry.span ∷ [])) }
+    ensures reads { OnOk result (ReadsFunctions lending read.old read.new (function_by_span section.now.arch fde.now entry.span ∷ [])) }
     ensures sound { OnOk result (AreSound section.now.arch read.old → AreSound section.now.arch read.new) }
     ensures refused { IfErr result (λ fault. fault ≡ NoMemory) }
 {

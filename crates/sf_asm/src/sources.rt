@@ -2,7 +2,7 @@
 
 ghost use Rattle.std.specs.Prelude.{◌≡◌, ◌<◌, ◌++◌, [], ◌∷◌, IfOk, OnOk, get_or, length};
 ghost use Rattle.sf_asm.specs.Functions.{Function as function};
-ghost use Rattle.sf_asm.specs.Sources.{AreByStart, IsItemIn, IsRun, common_view, function_by_item, item_function, source_function};
+ghost use Rattle.sf_asm.specs.Sources.{AreByStart, IsItemIn, CanBeRun, common_view, function_by_item, item_function, source_function};
 
 use crate::source::{CommonPart, Source, SourceItem};
 use sf_model::FdeFacts;
@@ -31,7 +31,7 @@ impl<'a> Model for Sources<'a> {
 /// Puts a function together of what it shares and what it has of its own.
 #[inline(always)]
 fn put_together<'a>(common: &CommonPart<'a>, item: &SourceItem<'a>) -> Source<'a>
-    requires { IsRun (function_by_item (common_view common.now) item.now) }
+    requires { CanBeRun (function_by_item (common_view common.now) item.now) }
     ensures { source_function result ≡ function_by_item (common_view common.now) item.now }
 {
     Source {

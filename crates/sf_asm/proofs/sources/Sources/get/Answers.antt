@@ -1,6 +1,6 @@
 use Rattle.std.proofs.Common.{arith, ap, subst, sym, ◌∙◌}
 use Rattle.std.proofs.lemmas.List.{length-map}
-use Rattle.sf_asm.specs.Sources.{Common, IsRun, SourcesView, common_view, commons_of, function_by_item}
+use Rattle.sf_asm.specs.Sources.{Common, CanBeRun, SourcesView, common_view, commons_of, function_by_item}
 use Rattle.sf_asm.proofs.CommonParts.{common_there, held_there, item_there, within_items}
 use Rattle.sf_asm.proofs.sources.Sources.get.Goals as goal
 
@@ -19,7 +19,7 @@ pub put_together-requires : goal.put_together-requires
 put_together-requires c =
     let there = (held_there (commons_of c.self.inside.common.items) c.self.inside.items.items _ c.args.number c.index-item.result.now (ap (λ (v : SourcesView). v.functions) c.self.view_is) c.requires c.self.invariant c.index-item.ensures) in
     let shared = (common_there c.self.inside.common.items c.index-item.result.now.common c.index-common.result.now (held_there (commons_of c.self.inside.common.items) c.self.inside.items.items _ c.args.number c.index-item.result.now (ap (λ (v : SourcesView). v.functions) c.self.view_is) c.requires c.self.invariant c.index-item.ensures).0 c.index-common.ensures) in
-    subst (λ (x : Common). IsRun (function_by_item x c.index-item.result.now)) shared there.1
+    subst (λ (x : Common). CanBeRun (function_by_item x c.index-item.result.now)) shared there.1
 
 pub returns : goal.returns
 returns c = λ d.
