@@ -7,7 +7,8 @@
                           beside bench/pass.c, a C program that reads the same file and goes over it once (if there is a cc)
     ./x bench core        walks: generated core files of 4096 threads, with one section and with 200 files, and a core file of a program 1000
                           calls deep beside gdb and eu-stack
-    ./x bench library     look-ups and walks with the C library on a generated section of 100,000 functions, beside bsearch() and libsframe
+    ./x bench library     look-ups and walks with the C library on a generated section of 100,000 functions, beside bsearch() and libsframe,
+                          and walks of a stack of 70 frames, beside glibc, libunwind and frame pointers
     ./x bench hostile ..  deliberately slow inputs, compared with limits; `./x bench hostile --help` says more
     ./x bench --tool PROGRAM ..   with another program
 
@@ -20,9 +21,11 @@ bench/out. Of these the gate runs only `hostile --small`, which is a test of lim
 import filecmp
 import functools
 import os
+import re
 import shlex
 import shutil
 import subprocess
+import sys
 
 from kiblawen import common, elf, hostile, program
 from kiblawen.measure import Command, measure
@@ -213,16 +216,31 @@ def of_file(path, tool):
     os.remove(OUTPUT)
 
 
-def library():
+def built(compiler, name, *options):
+    """Returns the exit status of the compiler for a program of bench/ with the C library."""
+    words = ["-std=gnu11", "-O2", "-Wall", "-Wextra", f"-I{common.at_top('include')}", *options, "-o", out(name)]
+    return common.status_of([*compiler, *words, common.at_top("bench", f"{name}.c"), program.LIBRARY, "-ldl"])
+
+
+def walkers(compiler, tool):
+    """Times walks of one stack by the C library and by others, with the tables of the program and of the files that it loads."""
+    status = built(compiler, "walkers", "-fno-omit-frame-pointer", "-fno-optimize-sibling-calls", "-Wl,--build-id")
+    if status:
+        return status
+    loaded = re.findall(r"/\S+", common.output("ldd", out("walkers")) or "")
+    words = [sys.executable, common.at_top("tools", "kiblawen-add"), "--lenient", "--tool", tool, "--into-store", out("store")]
+    said(*words, out("walkers"), *loaded)
+    say()
+    return common.status_of([out("walkers"), out("store")])
+
+
+def library(tool):
     if not os.access(program.LIBRARY, os.R_OK):
         common.fail(__name__, "the library is not built")
     os.makedirs(OUT, exist_ok=True)
     compiler = shlex.split(os.environ.get("CC") or "cc")
-    source, include = common.at_top("bench", "library.c"), f"-I{common.at_top('include')}"
-    words = [*compiler, "-std=gnu11", "-O2", "-Wall", "-Wextra", include, "-o", out("library"), source, program.LIBRARY, "-ldl"]
-    status = common.status_of(words) or common.status_of([out("library")])
-    if os.path.exists(out("library")):
-        os.remove(out("library"))
+    status = built(compiler, "library") or common.status_of([out("library")]) or walkers(compiler, tool)
+    shutil.rmtree(OUT)
     return status
 
 
@@ -234,7 +252,7 @@ def main(words):
     parser.add_argument("what", nargs="?", metavar="FILE|made|core|library")
     given = parser.parse_args(words)
     if given.what == "library":
-        return library()
+        return library(program.find(__name__, given.tool))
     for command in ("readelf", "objdump"):
         if not shutil.which(command):
             common.fail(__name__, f"{command} is not on PATH")
