@@ -8,7 +8,7 @@ ghost use Rattle.sf_words.specs.Words.{CommandWords, SectionAndInputs};
 
 use crate::command::{Command, ProcwalkFiles, SectionAndInputWords, SlimFiles, WalkFiles};
 use crate::item::{Item, ItemKind};
-use crate::lists::{inputs_of, sections_of};
+use crate::lists::files_of;
 use crate::words::{InputFile, SectionFile};
 use sf_base::NoMemory;
 use std::alloc::{AllocError, Global};
@@ -74,7 +74,7 @@ fn read_inputs<'a>(
 {
     Ok(SectionAndInputFiles {
         section: words.section,
-        inputs: inputs_of(alloc, words.inputs)?,
+        inputs: files_of(alloc, words.inputs)?,
     })
 }
 
@@ -91,7 +91,7 @@ pub fn read_words<'a>(alloc: Global, command: &Command<'a>) -> Result<Asked<'a>,
         Command::LinkPlt(link) => Ok(Asked::LinkPlt(read_inputs(alloc, link)?)),
         Command::Merge(merge) => Ok(Asked::Merge(Merge {
             out: merge.out,
-            sections: sections_of(alloc, merge.sections)?,
+            sections: files_of(alloc, merge.sections)?,
         })),
         Command::Slim(slim) => Ok(Asked::Slim(*slim)),
         Command::Dump(section) => Ok(Asked::Dump(*section)),
@@ -102,7 +102,7 @@ pub fn read_words<'a>(alloc: Global, command: &Command<'a>) -> Result<Asked<'a>,
             out: backtrace.out,
             core: backtrace.core,
             depth: backtrace.depth,
-            inputs: inputs_of(alloc, backtrace.inputs)?,
+            inputs: files_of(alloc, backtrace.inputs)?,
         })),
         Command::Procwalk(procwalk) => Ok(Asked::Procwalk(*procwalk)),
         Command::Gen(n) => Ok(Asked::Gen(*n)),

@@ -8,8 +8,8 @@ ghost use Rattle.sf_words.specs.Words.{IsMerge, IsSlim, IsDump, IsLookup, IsWalk
 ghost use Rattle.sf_words.specs.Items.{counted_items};
 ghost use Rattle.sf_words.specs.Parsed.{procwalk_of, section_of, slim_of, walk_of, Asks, AsksBacktrace, AsksInputs, AsksMerge};
 
-use crate::lists::{are_inputs, are_named, are_sections};
-use crate::words::{SectionFile, section_file};
+use crate::lists::{are_files, are_named};
+use crate::words::{InputFile, SectionFile, section_file};
 use sf_base::{dec_word, hex_word};
 
 /// The most functions of a made object.
@@ -227,7 +227,7 @@ fn section_and_inputs<'a>(words: &'a [String], name: &str) -> Option<SectionAndI
         return None;
     }
     let section = section_file(section)?;
-    if !are_inputs(inputs) {
+    if !are_files::<InputFile<'_>>(inputs) {
         return None;
     }
     Some(SectionAndInputWords { section, inputs })
@@ -244,7 +244,7 @@ fn merge_words(words: &[String]) -> Option<MergeCommand<'_>>
         return None;
     }
     let out = section_file(out)?;
-    if !are_sections(sections) {
+    if !are_files::<SectionFile<'_>>(sections) {
         return None;
     }
     Some(MergeCommand { out, sections })
@@ -336,7 +336,7 @@ fn backtrace_words(words: &[String]) -> Option<BacktraceCommand<'_>>
         return None;
     }
     let depth = number_up_to(depth, MOST_FRAMES)?;
-    if !are_inputs(inputs) {
+    if !are_files::<InputFile<'_>>(inputs) {
         return None;
     }
     Some(BacktraceCommand {

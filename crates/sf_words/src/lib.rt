@@ -7,6 +7,7 @@
 
 mod asked;
 mod command;
+mod file_word;
 mod item;
 mod lists;
 mod loading;

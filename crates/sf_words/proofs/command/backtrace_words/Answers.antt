@@ -33,7 +33,7 @@ returns-clause-found c backtrace asks =
 
 pub returns-clause-named : goal.returns-clause-named
 returns-clause-named c =
-    let named = all_named string_bytes IsInputWord c.in_ok-command.inputs.now (c.if-not-are_inputs.ensures.all refl) in
+    let named = all_named string_bytes IsInputWord c.in_ok-command.inputs.now (c.if-not-are_files.ensures.all refl) in
     (record { out = section_of c.in_ok-out.out; core = c.in_ok-command.core.now; depth = c.in_ok-depth.depth; inputs = named.0 }, record { out = refl; core = refl; depth = refl; inputs = named.1 })
 
 pub returns-clause-only : goal.returns-clause-only
@@ -49,3 +49,9 @@ returns-clause-only c backtrace h =
       depth = c.in_ok-depth.ensures.only backtrace.depth (subst (λ (w : List ℕ). SpellsDecimal w backtrace.depth) depth h.depth) h.within.some h.within.most;
       inputs = subst (λ (ws : List (List ℕ)). AllZip IsInputWord ws backtrace.inputs) inputs h.inputs;
     }
+
+pub returns-then-not-are_files-clause-only : goal.returns-then-not-are_files-clause-only
+returns-then-not-are_files-clause-only c backtrace h =
+    let inputs : h.input_words ≡ map string_bytes c.in_ok-command.inputs.now = cc (c.in_ok-command.ensures.found.0, h.words_are) in
+    let are_files = c.if-not-are_files.ensures.only backtrace.inputs (subst (λ (ws : List (List ℕ)). AllZip IsInputWord ws backtrace.inputs) inputs h.inputs) in
+    cc

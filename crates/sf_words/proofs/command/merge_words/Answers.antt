@@ -1,9 +1,10 @@
+use Rattle.std.specs.List.{AllZip}
 use Rattle.std.proofs.Common.{rules, ◌≡◌, ℕ, List, ◌∷◌, ◌<◌, map, refl, ap, sym, subst, ◌∙◌}
 use Rattle.std.proofs.lemmas.List.{length-map}
 use Rattle.std.specs.Prelude.{codes}
 use Rattle.std.specs.String.{string_bytes}
 use Rattle.sf_words.specs.Parsed.{section_of}
-use Rattle.sf_words.specs.Words.{IsSectionWord, IsSectionWord}
+use Rattle.sf_words.specs.Words.{IsSectionWord}
 use Rattle.sf_words.proofs.NamedWords.{all_named}
 use Rattle.sf_words.proofs.command.merge_words.Goals as goal
 
@@ -21,5 +22,11 @@ returns-clause-found c merge asks =
 
 pub returns-clause-named : goal.returns-clause-named
 returns-clause-named c =
-    let named = all_named string_bytes IsSectionWord c.in_ok-command.sections.now (c.if-not-are_sections.ensures.all refl) in
+    let named = all_named string_bytes IsSectionWord c.in_ok-command.sections.now (c.if-not-are_files.ensures.all refl) in
     (record { out = section_of c.in_ok-out.out; sections = named.0 }, record { out = refl; sections = named.1 })
+
+pub returns-then-not-are_files-clause-only : goal.returns-then-not-are_files-clause-only
+returns-then-not-are_files-clause-only c merge h =
+    let sections : h.section_words ≡ map string_bytes c.in_ok-command.sections.now = cc (c.in_ok-command.ensures.found.0, h.words_are) in
+    let are_files = c.if-not-are_files.ensures.only merge.sections (subst (λ (ws : List (List ℕ)). AllZip IsSectionWord ws merge.sections) sections h.sections) in
+    cc

@@ -1,3 +1,4 @@
+use Rattle.std.specs.List.{AllZip}
 use Rattle.std.proofs.Common.{rules, ◌≡◌, ℕ, List, ◌∷◌, ◌<◌, map, refl, ap, sym, subst, ◌∙◌}
 use Rattle.std.proofs.lemmas.List.{length-map}
 use Rattle.std.specs.String.{string_bytes}
@@ -20,5 +21,11 @@ returns-clause-found c named asks =
 
 pub returns-clause-named : goal.returns-clause-named
 returns-clause-named c =
-    let named = all_named string_bytes IsInputWord c.in_ok-command.inputs.now (c.if-not-are_inputs.ensures.all refl) in
+    let named = all_named string_bytes IsInputWord c.in_ok-command.inputs.now (c.if-not-are_files.ensures.all refl) in
     (record { section = section_of c.in_ok-section.section; inputs = named.0 }, record { section = refl; inputs = named.1 })
+
+pub returns-then-not-are_files-clause-only : goal.returns-then-not-are_files-clause-only
+returns-then-not-are_files-clause-only c named h =
+    let inputs : h.input_words ≡ map string_bytes c.in_ok-command.inputs.now = cc (c.in_ok-command.ensures.found.0, h.words_are) in
+    let are_files = c.if-not-are_files.ensures.only named.inputs (subst (λ (ws : List (List ℕ)). AllZip IsInputWord ws named.inputs) inputs h.inputs) in
+    cc
