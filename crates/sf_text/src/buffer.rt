@@ -8,7 +8,7 @@ ghost use Rattle.sf_base.specs.Faults.{Cause};
 ghost use Rattle.sf_text.specs.Gathered.{Gathers};
 ghost use Rattle.sf_text.specs.Number.{hexadecimal};
 
-use crate::digits::{decimal_digits, digits_in, glyph};
+use crate::digits::{MOST, digits_in, glyph, write_decimal};
 use arrayvec::ArrayVec;
 use sf_base::{Failed, Sink, put_all};
 
@@ -78,7 +78,9 @@ fn push_long_decimal(buffer: &mut Buffer, number: u64)
     ensures items { buffer.new.items ≡ buffer.old.items ++ decimal number }
     ensures len { array_vec_len buffer.new ≤ array_vec_len buffer.old + 20 }
 {
-    push_text(buffer, decimal_digits(number).as_bytes());
+    let mut bytes = [0; MOST];
+    let start = write_decimal(&mut bytes, number);
+    push_text(buffer, &bytes[start..]);
 }
 
 /// Appends a number as `0x` and lower-case digits of base 16.

@@ -4,7 +4,7 @@ ghost use Rattle.std.specs.Prelude.{◌≡◌, ◌≤◌, ◌<◌, ◌^◌, fals
 ghost use Rattle.std.specs.Fmt.{decimal, digits, digit_glyph};
 
 /// The most digits that are asked for.
-const MOST: usize = 20;
+pub(crate) const MOST: usize = 20;
 
 /// The digits of a number, at the end of a buffer.
 #[derive(Drop)]
@@ -46,13 +46,13 @@ pub(crate) fn digits_in(base: u64, number: u64) -> Digits
     Digits { bytes, start }
 }
 
-/// Returns the decimal digits of a number, without leading zeros. Two digits are taken at a time, so that half as many
-/// divisions wait for one another.
+/// Writes the decimal digits of a number, without leading zeros, at the end of `bytes`, and returns where they start. Two
+/// digits are taken at a time, so that half as many divisions wait for one another.
 #[inline(always)]
-pub(crate) fn decimal_digits(number: u64) -> Digits
-    ensures { drop result.start result.bytes ≡ decimal number }
+pub(crate) fn write_decimal(bytes: &mut [u8; MOST], number: u64) -> usize
+    ensures digits { drop result bytes.new ≡ decimal number }
+    ensures within { result ≤ 20 }
 {
-    let mut bytes = [0; MOST];
     let mut start = MOST;
     let mut left = number;
     while left >= 100 {
@@ -64,12 +64,12 @@ pub(crate) fn decimal_digits(number: u64) -> Digits
     if left < 10 {
         start -= 1;
         bytes[start] = glyph(left);
-        return Digits { bytes, start };
+        return start;
     }
     start -= 2;
     bytes[start + 1] = glyph(left % 10);
     bytes[start] = glyph(left / 10);
-    Digits { bytes, start }
+    start
 }
 
 /// Returns the character of a digit below 16.

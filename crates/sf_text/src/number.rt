@@ -4,14 +4,16 @@ ghost use Rattle.std.specs.Prelude.{◌≡◌, ◌++◌, OnOk};
 ghost use Rattle.std.specs.Fmt.{decimal};
 ghost use Rattle.sf_text.specs.Number.{hexadecimal};
 
-use crate::digits::{decimal_digits, digits_in};
+use crate::digits::{MOST, digits_in, write_decimal};
 use std::alloc::AllocError;
 
 /// Appends a number in decimal digits.
 pub(crate) fn push_decimal(text: &mut Vec<u8>, number: u64) -> Result<(), AllocError>
     ensures { OnOk result (text.new.items ≡ text.old.items ++ decimal number) }
 {
-    text.extend_from_slice(decimal_digits(number).as_bytes())
+    let mut bytes = [0; MOST];
+    let start = write_decimal(&mut bytes, number);
+    text.extend_from_slice(&bytes[start..])
 }
 
 /// Appends a number as `0x` and lower-case digits of base 16.

@@ -1,7 +1,7 @@
 use Rattle.std.proofs.Common.{◌≡◌, ◌≤◌, ◌<◌, ◌^◌, drop, length}
 use Rattle.std.specs.Fmt.{decimal}
 use Rattle.sf_text.proofs.Numerals.{digits_before}
-use Rattle.sf_text.proofs.digits.decimal_digits.Given as goal
+use Rattle.sf_text.proofs.digits.write_decimal.Given as goal
 
 -- the digits so far come after those of what is left, and what is left fits the places that are free
 abbrev pub invariant-loop-left : goal.invariant-loop-left

@@ -1,17 +1,20 @@
-use Rattle.std.proofs.Common.{rules, arith, ◌≤◌, ◌-◌, ◌/◌, ◌%◌, ◌∷◌, ◌∙◌, false, ap, drop, length}
-use Rattle.std.proofs.lemmas.List.{length-set}
+use Rattle.std.proofs.Common.{rules, arith, ◌≡◌, ◌≤◌, ◌-◌, ◌/◌, ◌%◌, ◌∷◌, ◌∙◌, false, ap, drop, length}
+use Rattle.std.proofs.lemmas.List.{drop_all, length-set}
 use Rattle.std.specs.Fmt.{digit_glyph}
 use Rattle.sf_text.proofs.Numerals.{digits_before, all_digits, two_places, three_places, pair_fits, two_more, last_two, last_digit, digit_in_front, pair_in_front}
-use Rattle.sf_text.proofs.digits.decimal_digits.Goals as goal
+use Rattle.sf_text.proofs.digits.write_decimal.Goals as goal
 
 pub loop-left-init : goal.loop-left-init
-loop-left-init c = record {
-  some = omega arith;
-  sized = search rules;
-  in_range = omega arith;
-  fits = search rules;
-  text = all_digits 10 c.args.number;
-}
+loop-left-init c =
+    let bytes = c.args.bytes.now in
+    let sized : length bytes ≡ 20 = search rules in
+    record {
+      some = omega arith;
+      sized = sized;
+      in_range = omega arith;
+      fits = search rules;
+      text = ap (λ xs. digits_before 20 10 c.args.number xs) (drop_all 20 bytes (omega (arith, sized))) ∙ all_digits 10 c.args.number;
+    }
 
 pub loop-left-preserved : goal.loop-left-preserved
 loop-left-preserved c =
@@ -36,16 +39,16 @@ loop-left-preserved c =
           ∙ (two_more start left (drop start bytes) high room ∙ c.loop-left.invariant.text);
     }
 
-pub returns-then-left-lt10 : goal.returns-then-left-lt10
-returns-then-left-lt10 c =
+pub returns-then-left-lt10-clause-digits : goal.returns-then-left-lt10-clause-digits
+returns-then-left-lt10-clause-digits c =
     let start = c.loop-left.start in
     let bytes = c.loop-left.bytes in
     digit_in_front bytes start c.glyph-then-left-lt10.result c.loop-left.invariant.some (omega (arith, c.loop-left.invariant.sized, c.loop-left.invariant.in_range))
     ∙ (ap (λ g. g ∷ drop start bytes) c.glyph-then-left-lt10.ensures
     ∙ (last_digit start 10 c.loop-left.left (drop start bytes) c.if-left-lt10.true c.loop-left.invariant.some ∙ c.loop-left.invariant.text))
 
-pub returns : goal.returns
-returns c =
+pub returns-clause-digits : goal.returns-clause-digits
+returns-clause-digits c =
     let start = c.loop-left.start in
     let left = c.loop-left.left in
     let bytes = c.loop-left.bytes in
