@@ -1,6 +1,7 @@
 pub mod Names
 pub mod Tails
 pub mod Placing
+pub mod NamesRead
 pub mod Texts
 pub mod Numbers
 pub mod FirstWith

@@ -12,7 +12,7 @@ use Rattle.sf_lookup.specs.Span.{answer_of, covers}
 use Rattle.sf_modules.specs.Entry.{EntryView, holds}
 use Rattle.sf_modules.specs.Found.{found_in, module_at, module_of}
 use Rattle.sf_modules.specs.Module.{ModuleView}
-use Rattle.sf_modules.specs.Span.{number_at, number_of, span_of}
+use Rattle.sf_modules.specs.Span.{module_number_at, number_of, span_of}
 use Rattle.sf_modules.specs.Union.{tables_of}
 
 -- ---- an entry's span has its addresses
@@ -31,11 +31,11 @@ same_holds modules e pc = at_test (nat_le e.start pc) refl
     at_test false t = refl
 
 -- what the first span leads to
-pub led : (modules : List ModuleView) (entries : List EntryView) (pc : ℕ) → option_and_then (λ (o : Option ℕ). o) (answer_of (map (span_of modules) entries) pc) ≡ number_at entries modules pc
+pub led : (modules : List ModuleView) (entries : List EntryView) (pc : ℕ) → option_and_then (λ (o : Option ℕ). o) (answer_of (map (span_of modules) entries) pc) ≡ module_number_at entries modules pc
 led modules [] pc = refl
 led modules (e ∷ es) pc = at_test (covers pc (span_of modules e)) (holds pc e) (same_holds modules e pc) (led modules es pc)
   where
-    at_test : (a b : Bool) → a ≡ b → option_and_then (λ (o : Option ℕ). o) (answer_of (map (span_of modules) es) pc) ≡ number_at es modules pc
+    at_test : (a b : Bool) → a ≡ b → option_and_then (λ (o : Option ℕ). o) (answer_of (map (span_of modules) es) pc) ≡ module_number_at es modules pc
         → option_and_then (λ (o : Option ℕ). o) (option_map (λ (s : Span (Option ℕ)). s.leads_to) (cond a (Some (span_of modules e)) (find (covers pc) (map (span_of modules) es))))
         ≡ option_and_then (λ (x : EntryView). number_of x.name modules) (cond b (Some e) (find (holds pc) es))
     at_test true true same later = refl
@@ -96,7 +96,7 @@ numbered_by modules k (Some entry) e =
     let within = h.within in
     (omega (within, whole, arith), λ d. h.is d ∙ ap (λ (n : ℕ). Some (get_or modules n d)) whole)
 
-pub numbered : (entries : List EntryView) (modules : List ModuleView) (pc k : ℕ) → number_at entries modules pc ≡ Some k → IsNumbered entries modules pc k
+pub numbered : (entries : List EntryView) (modules : List ModuleView) (pc k : ℕ) → module_number_at entries modules pc ≡ Some k → IsNumbered entries modules pc k
 unfolding module_at
 numbered entries modules pc k e = let h = numbered_by modules k (find (holds pc) entries) e in record { within = h.0; is = h.1 }
 
@@ -105,7 +105,7 @@ unnumbered_by : (modules : List ModuleView) (o : Option EntryView) → option_an
 unnumbered_by modules None e = refl
 unnumbered_by modules (Some entry) e = none_passes (λ (m : ModuleView). bytes_eq entry.name m.name) 0 modules e
 
-unnumbered : (entries : List EntryView) (modules : List ModuleView) (pc : ℕ) → number_at entries modules pc ≡ None → module_at entries modules pc ≡ None
+unnumbered : (entries : List EntryView) (modules : List ModuleView) (pc : ℕ) → module_number_at entries modules pc ≡ None → module_at entries modules pc ≡ None
 unfolding module_at
 unnumbered entries modules pc e = unnumbered_by modules (find (holds pc) entries) e
 
@@ -116,12 +116,12 @@ table_at (n ∷ ns) zero m t lt = refl
 table_at (n ∷ ns) (suc k) m t lt = table_at ns k m t (omega (lt, arith))
 
 -- ---- what is found
-pub nothing_found : (entries : List EntryView) (modules : List ModuleView) (pc : ℕ) → None ≡ number_at entries modules pc → None ≡ found_in entries modules pc
+pub nothing_found : (entries : List EntryView) (modules : List ModuleView) (pc : ℕ) → None ≡ module_number_at entries modules pc → None ≡ found_in entries modules pc
 unfolding found_in
 nothing_found entries modules pc e = sym (ap (λ (o : Option ModuleView). option_and_then (λ (m : ModuleView). found_at m.table.functions pc) o) (unnumbered entries modules pc (sym e)))
 
 -- it is found in the table of that number
-pub found_there : (entries : List EntryView) (modules : List ModuleView) (tables : List Table) (pc k : ℕ) (t : Table) → tables ≡ tables_of modules → Some k ≡ number_at entries modules pc → t ≡ get_or tables k t
+pub found_there : (entries : List EntryView) (modules : List ModuleView) (tables : List Table) (pc k : ℕ) (t : Table) → tables ≡ tables_of modules → Some k ≡ module_number_at entries modules pc → t ≡ get_or tables k t
     → found_at t.functions pc ≡ found_in entries modules pc
 unfolding found_in
 found_there entries modules tables pc k t are e at = by_module modules refl
@@ -135,7 +135,7 @@ found_there entries modules tables pc k t are e at = by_module modules refl
         let is : t ≡ (get_or modules k m).table = at ∙ ap (λ (ts : List Table). get_or ts k t) are ∙ table_at modules k m t n.within in
         ap (λ (x : Table). found_at x.functions pc) is ∙ sym (ap (option_and_then (λ (x : ModuleView). found_at x.table.functions pc)) (n.is m))
 
-pub numbered_within : (entries : List EntryView) (modules : List ModuleView) (tables : List Table) (pc k : ℕ) → tables ≡ tables_of modules → Some k ≡ number_at entries modules pc → k < length tables
+pub numbered_within : (entries : List EntryView) (modules : List ModuleView) (tables : List Table) (pc k : ℕ) → tables ≡ tables_of modules → Some k ≡ module_number_at entries modules pc → k < length tables
 numbered_within entries modules tables pc k are e =
     let n = numbered entries modules pc k (sym e) in
     let within = n.within in

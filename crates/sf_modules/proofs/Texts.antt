@@ -3,7 +3,9 @@ use Rattle.std.specs.Prelude.{is_some}
 use Rattle.std.specs.Option.{option_and_then, option_map}
 use Rattle.std.proofs.Common.{◌≡◌, ℕ, suc, ◌+◌, ◌-◌, ◌<◌, ◌≤◌, ◌++◌, List, [], ◌∷◌, Option, Some, None, refl, sym, ap, ◌∙◌, ◌*◌, drop, arith, append_assoc, append-nil}
 use Rattle.sf_modules.specs.Entry.{EntryView}
-use Rattle.sf_modules.specs.Note.{AreEntries, entries_from, entry_at, entry_count, names_part, page_size, text_front, texts_in}
+use Rattle.sf_modules.specs.Note.{AreEntries, entries_from, entry_at, file_entry_count, names_part, page_size}
+use Rattle.sf_modules.specs.TextsRead.{text_front, texts_in}
+use Rattle.sf_modules.proofs.NamesRead.{texts_are}
 
 abbrev Texts : Type 0
 Texts = Option (List (List ℕ))
@@ -46,7 +48,7 @@ abbrev pub with_left : List ℕ → List EntryView → (k : ℕ) → Texts → O
 with_left note entries k left = option_map (λ (names : List (List ℕ)). entries ++ entries_from note k names) left
 
 abbrev pub all_entries : List ℕ → Option (List EntryView)
-all_entries note = option_map (entries_from note 0) (texts_in (entry_count note) (names_part note))
+all_entries note = option_map (entries_from note 0) (texts_in (file_entry_count note) (names_part note))
 
 one_more : (note : List ℕ) (entries : List EntryView) (k : ℕ) (text : List ℕ) (left : Texts)
     → with_left note entries k (option_map (λ (texts : List (List ℕ)). text ∷ texts) left) ≡ with_left note (entries ++ entry_at note k text ∷ []) (k + 1) left
@@ -60,16 +62,16 @@ entries-next note entries more count k bytes text rest lt e grown h =
     ∙ sym (one_more note entries k text (texts_in (count - (k + 1)) rest))
     ∙ ap (with_left note entries k) (sym (texts-next count k bytes text rest lt e)) ∙ h
 
-from_all : (note : List ℕ) (entries : List EntryView) (o : Texts) → texts_in (entry_count note) (names_part note) ≡ o → Some entries ≡ option_map (entries_from note 0) o → AreEntries note (page_size note) entries
+from_all : (note : List ℕ) (entries : List EntryView) (o : Texts) → texts_in (file_entry_count note) (names_part note) ≡ o → Some entries ≡ option_map (entries_from note 0) o → AreEntries note (page_size note) entries
 from_all note entries None e h = absurd (let differ : Some entries ≡ None = h in cc)
-from_all note entries (Some names) e h = let are : entries ≡ entries_from note 0 names = cc in record { size = refl; names = names; names_are = e; are = are }
+from_all note entries (Some names) e h = let are : entries ≡ entries_from note 0 names = cc in record { size = refl; names = names; names_are = texts_are (file_entry_count note) (names_part note) names e; are = are }
 
 pub entries-all : (note : List ℕ) (entries : List EntryView) (count k : ℕ) (bytes : List ℕ) → count ≤ k → with_left note entries k (texts_in (count - k) bytes) ≡ all_entries note → AreEntries note (page_size note) entries
 entries-all note entries count k bytes le h =
-    from_all note entries (texts_in (entry_count note) (names_part note)) refl
+    from_all note entries (texts_in (file_entry_count note) (names_part note)) refl
     (ap Some (sym (append-nil entries)) ∙ ap (with_left note entries k) (sym (texts-end count k bytes le)) ∙ h)
 
-pub texts-start : (note rest : List ℕ) (count : ℕ) → count ≡ entry_count note → rest ≡ drop (24 * count + 16) note → texts_in (count - 0) rest ≡ texts_in (entry_count note) (names_part note)
+pub texts-start : (note rest : List ℕ) (count : ℕ) → count ≡ file_entry_count note → rest ≡ drop (24 * count + 16) note → texts_in (count - 0) rest ≡ texts_in (file_entry_count note) (names_part note)
 texts-start note rest count e is =
-    let all : count - 0 ≡ entry_count note = omega (e, arith) in
-    ap (λ (n : ℕ). texts_in n rest) all ∙ ap (texts_in (entry_count note)) (is ∙ ap (λ (n : ℕ). drop (24 * n + 16) note) e)
+    let all : count - 0 ≡ file_entry_count note = omega (e, arith) in
+    ap (λ (n : ℕ). texts_in n rest) all ∙ ap (texts_in (file_entry_count note)) (is ∙ ap (λ (n : ℕ). drop (24 * n + 16) note) e)

@@ -11,20 +11,20 @@ use Rattle.core_notes.specs.MemoryBytes.{bytes_at}
 use Rattle.core_notes.specs.Note.{NoteView}
 use Rattle.core_notes.specs.SegmentNotes.{segment_notes}
 use Rattle.core_notes.specs.Thread.{has_name_and_type}
-use Rattle.sf_modules.specs.File.{is_load}
-use Rattle.sf_modules.specs.Fit.{moved}
+use Rattle.sf_modules.specs.File.{is_load_header}
+use Rattle.sf_modules.specs.Fit.{process_address}
 
--- GNU, with its zero byte
+-- "GNU" and its zero byte
 abbrev pub gnu_name : List ℕ
 gnu_name = 71 ∷ 78 ∷ 85 ∷ 0 ∷ []
 
--- NT_GNU_BUILD_ID 3
+-- the note is a build identifier: NT_GNU_BUILD_ID 3
 abbrev pub is_build_id : NoteView → Bool
 is_build_id n = has_name_and_type gnu_name 3 n
 
 -- the addresses of segment i are some of the loaded segment k
 abbrev pub is_within : List ℕ → (i k : ℕ) → Bool
-is_within file i k = is_load file k && nat_le (p_vaddr file k) (p_vaddr file i) && nat_le (p_vaddr file i + p_filesz file i) (p_vaddr file k + p_memsz file k)
+is_within file i k = is_load_header file k && nat_le (p_vaddr file k) (p_vaddr file i) && nat_le (p_vaddr file i + p_filesz file i) (p_vaddr file k + p_memsz file k)
 
 -- the segment is loaded with another
 abbrev pub is_loaded : List ℕ → (i : ℕ) → Bool
@@ -32,13 +32,14 @@ is_loaded file i = list_any (is_within file i) (range_with_len 0 (segment_total 
 
 -- where the descriptor of a note of segment i was
 abbrev pub descriptor_address : (file : List ℕ) → (base i : ℕ) → NoteView → ℕ
-descriptor_address file base i n = moved base (p_vaddr file i + (n.descriptor.place - p_offset file i))
+descriptor_address file base i n = process_address base (p_vaddr file i + (n.descriptor.place - p_offset file i))
 
 -- the memory of the core file has the descriptor there, or doesn't have all bytes there
 unfoldable pub descriptor_agrees : (core file : List ℕ) → (base i : ℕ) → NoteView → Bool
 descriptor_agrees core file base i n =
     option_map_or (bytes_eq n.descriptor.left) (bytes_at (file_regions core) (descriptor_address file base i n) (length n.descriptor.left)) true
 
+-- a note is no build identifier, or agrees
 abbrev pub note_agrees : (core file : List ℕ) → (base i : ℕ) → NoteView → Bool
 note_agrees core file base i n = not (is_build_id n) || descriptor_agrees core file base i n
 
@@ -46,6 +47,6 @@ note_agrees core file base i n = not (is_build_id n) || descriptor_agrees core f
 unfoldable pub segment_agrees : (core file : List ℕ) → (base i : ℕ) → Bool
 segment_agrees core file base i = list_all (note_agrees core file base i) (segment_notes file i) || not (is_loaded file i)
 
--- each one of the file does
+-- each segment of the file agrees
 abbrev pub is_same_build : (core file : List ℕ) → (base : ℕ) → Bool
 is_same_build core file base = list_all (segment_agrees core file base) (range_with_len 0 (segment_total file))

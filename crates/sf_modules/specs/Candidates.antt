@@ -1,5 +1,5 @@
--- The entries of a process by the last parts of their names (POSIX.1, "Filename"): one whose name has another last part than a word has
--- no part in common with it.
+-- The entries of a process by the last parts of their names (POSIX.1, "Filename"): a name with another last part than a word's has no
+-- part in common with the word.
 use Rattle.std.specs.Prelude.{ℕ, ◌+◌, Bool, bytes_eq, List, [], ◌∷◌, map, Option}
 use Rattle.std.specs.List.{filter, position_from}
 use Rattle.sf_modules.specs.Entry.{EntryView}

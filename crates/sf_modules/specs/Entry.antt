@@ -9,6 +9,7 @@ pub record EntryView : Type 0 where
   pub offset : ℕ
   pub name : List ℕ
 
+-- an entry as the code has it
 abbrev pub entry_view : Entry → EntryView
 entry_view e = record { start = e.start; end = e.end; offset = e.offset; name = e.name.now }
 

@@ -12,6 +12,7 @@ use Rattle.sf_modules.specs.declared.fault.ModuleFault.TheVariants.{NoFileNote, 
 abbrev pub shown_of_own : Option ℕ → (number : ℕ) → (values : List ℕ) → FaultShown
 shown_of_own item number values = record { item = item; group = group.Module; number = number; values = values }
 
+-- a fault of a process's modules, as its line shows it
 abbrev pub shown_of_module : Option ℕ → ModuleFault → FaultShown
 shown_of_module item NoFileNote = shown_of_own item 1 []
 shown_of_module item (FileNote place) = shown_of_own item 2 (place ∷ [])
@@ -25,8 +26,8 @@ shown_of_module item Build = shown_of_own item 9 []
 shown_of_module item (Section fault) = record { item = item; group = group.Section; number = (decode.number_and_place fault).0; values = (decode.number_and_place fault).1 ∷ [] }
 shown_of_module item NoMemory = shown_of_own item 10 []
 
--- all but the limits of a section, and out of memory
-abbrev pub is_refusal : ModuleFault → Bool
-is_refusal (Section fault) = decode.is_refusal fault
-is_refusal NoMemory = false
-is_refusal fault = true
+-- the fault is no limit of a section, and not out of memory
+abbrev pub is_module_refusal : ModuleFault → Bool
+is_module_refusal (Section fault) = decode.is_refusal fault
+is_module_refusal NoMemory = false
+is_module_refusal fault = true

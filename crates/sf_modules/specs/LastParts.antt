@@ -16,11 +16,11 @@ use Rattle.sf_modules.specs.Entry.{EntryView, entry_view}
 abbrev pub AreFirst : BTreeMap (Bor (List ℕ)) ℕ → (number : ℕ) → List (List ℕ) → Type 0
 AreFirst first number parts = (part : List ℕ) → tree.get_by (λ (k : Bor (List ℕ)). slice_cmp nat_cmp part k.now) first ≡ position_from (bytes_eq part) number parts
 
--- these entries
+-- the map and the numbers are those of these entries
 pub record AreByPart (p : LastParts) (entries : List EntryView) : Type 0 where
   pub first : AreFirst p.first 0 (last_parts entries)
   pub next : p.next.items ≡ next_same 0 (last_parts entries)
 
--- those that an iterator has left
+-- the entries that an iterator has left
 abbrev pub candidates_left : Candidates → List EntryView
 candidates_left c = option_map_or (λ (i : ℕ). alike (drop i (map entry_view c.entries.now))) c.at []

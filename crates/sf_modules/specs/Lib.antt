@@ -6,6 +6,7 @@ pub mod Stretches
 pub mod Candidates
 pub mod LastParts
 pub mod Note
+pub mod TextsRead
 pub mod Process
 pub mod File
 pub mod Fit

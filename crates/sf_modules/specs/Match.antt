@@ -28,10 +28,10 @@ is_match p word file load e = matches p word file load (longest_tail word p.entr
 abbrev pub entry_of : ProcessView → (word file : List ℕ) → (load : ℕ) → Option EntryView
 entry_of p word file load = find (is_match p word file load) p.entries
 
--- so does another entry, of another name
+-- another entry of another name has as many parts in common, and the file fits there too
 abbrev pub matches_too : ProcessView → (word file : List ℕ) → (load tail : ℕ) → (e other : EntryView) → Bool
 matches_too p word file load tail e other = (common_tail word other.name == tail) && not (bytes_eq other.name e.name) && fits p file load other
 
--- there is one
+-- there is such another entry
 abbrev pub is_ambiguous : ProcessView → (word file : List ℕ) → (load : ℕ) → EntryView → Bool
 is_ambiguous p word file load e = list_any (matches_too p word file load (longest_tail word p.entries) e) p.entries

@@ -11,16 +11,17 @@ use Rattle.sf_modules.specs.declared.mapped.Module.{Module}
 use Rattle.sf_modules.specs.Build.{is_same_build}
 use Rattle.sf_modules.specs.Entry.{EntryView}
 use Rattle.sf_modules.specs.File.{first_load, sframe_section}
-use Rattle.sf_modules.specs.Fit.{base_of, moved}
+use Rattle.sf_modules.specs.Fit.{base_of, process_address}
 use Rattle.sf_modules.specs.Match.{entry_of, is_ambiguous, is_candidate}
 use Rattle.sf_modules.specs.Process.{ProcessView}
 
--- the name that the process had for a module's file, the file's machine, and what its section says
+-- the name that the process had for a module's file, the file's machine, and its section's table
 pub record ModuleView : Type 0 where
   pub name : List ℕ
   pub machine : Arch
   pub table : Table
 
+-- a module as the code has it
 abbrev pub module_view : Module → ModuleView
 module_view m = record { name = m.name.now; machine = m.machine; table = table_of m.view }
 
@@ -28,9 +29,9 @@ module_view m = record { name = m.name.now; machine = m.machine; table = table_o
 abbrev pub file_base : List ℕ → (page : ℕ) → EntryView → (load : ℕ) → ℕ
 file_base file page entry load = base_of page entry (p_vaddr file load)
 
--- where a section lay
+-- the address at which a section was
 abbrev pub address_of : List ℕ → (page : ℕ) → EntryView → (load section : ℕ) → ℕ
-address_of file page entry load section = moved (file_base file page entry load) (section_fields file section).sh_addr
+address_of file page entry load section = process_address (file_base file page entry load) (section_fields file section).sh_addr
 
 -- this is the module of a file, for which the word is given
 pub record IsModule (p : ProcessView) (word file : List ℕ) (m : ModuleView) : Type 0 where

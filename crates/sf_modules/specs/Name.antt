@@ -2,7 +2,7 @@
 use Rattle.std.specs.Prelude.{ℕ, suc, ◌==◌, Bool, List, [], ◌∷◌, reverse, bytes_eq, Option, if◌then◌else◌}
 use Rattle.std.specs.List.{position_from}
 
--- the slash
+-- the byte is a slash
 abbrev pub is_slash : ℕ → Bool
 is_slash byte = byte == 47
 
@@ -11,7 +11,7 @@ abbrev pub longer_first : (byte : ℕ) → List (List ℕ) → List (List ℕ)
 longer_first byte [] = (byte ∷ []) ∷ []
 longer_first byte (part ∷ parts) = (byte ∷ part) ∷ parts
 
--- the parts of a name: it is split at each slash, and none is left out
+-- the parts of a name, which is split at each slash: empty parts count
 unfoldable pub parts_of : List ℕ → List (List ℕ)
 parts_of [] = [] ∷ []
 parts_of (byte ∷ bytes) = if is_slash byte then [] ∷ parts_of bytes else longer_first byte (parts_of bytes)

@@ -10,8 +10,10 @@ pub record ProcessView : Type 0 where
   pub page : ℕ
   pub entries : List EntryView
 
+-- the process of this core file, with this page size and these entries
 abbrev pub process_of : (core : List ℕ) → (page : ℕ) → List EntryView → ProcessView
 process_of core page entries = record { core = core; page = page; entries = entries }
 
+-- a process as the code has it
 abbrev pub process_view : Process → ProcessView
 process_view p = process_of (core_in p.memory) p.page (map entry_view p.entries.now)

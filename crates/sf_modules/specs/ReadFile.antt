@@ -10,5 +10,6 @@ pub record IsRead (p : ProcessView) (file : ReadFile) : Type 0 where
   pub fine : module_check p file.word.now file.bytes.now ≡ Ok tt
   pub is : IsModule p file.word.now file.bytes.now (module_view file.module)
 
+-- each of the files is read
 abbrev pub AreRead : ProcessView → List ReadFile → Type 0
 AreRead p files = All (IsRead p) files

@@ -19,60 +19,62 @@ use Rattle.sf_modules.specs.Match.{entry_of, is_ambiguous, is_candidate}
 use Rattle.sf_modules.specs.Module.{address_of, file_base}
 use Rattle.sf_modules.specs.Process.{ProcessView}
 
--- an ELF file without faults
-abbrev pub elf_part : Result (Unit {0}) ElfFault → Check
-elf_part (Ok x) = Ok tt
-elf_part (Err fault) = Err (Elf fault)
+-- a check of the ELF file, whose fault is the module's
+abbrev pub elf_fault_part : Result (Unit {0}) ElfFault → Check
+elf_fault_part (Ok x) = Ok tt
+elf_fault_part (Err fault) = Err (Elf fault)
 
--- ET_EXEC or ET_DYN
+-- the file is an executable or a shared object: ET_EXEC or ET_DYN
 abbrev pub kind_part : List ℕ → Check
 kind_part file = unless (is_program (kind_of file)) (Elf (elf.Kind 16))
 
--- it has an SFrame section, which is not compressed
+-- the file has an SFrame section, which is not compressed
 abbrev pub section_part : List ℕ → (section : Option ℕ) → Check
 section_part file None = Err NoSection
 section_part file (Some i) = unless (not (is_compressed file i)) (Elf (elf.Compressed (section_header file i)))
 
--- its program headers have the format's length and lie in the file: a fault is at the field of the file header
+-- the program headers have the format's length and lie in the file: a fault is at the field of the file header
 abbrev pub headers_part : Result (Unit {0}) ElfFault → Check
 headers_part (Ok x) = Ok tt
 headers_part (Err (elf.EntrySize place)) = Err (Segments place)
 headers_part (Err fault) = Err (Segments 32)
 
--- and one of them is of a loaded segment
+-- the program headers can be read, and one of them is of a loaded segment
 abbrev pub segments_part : List ℕ → Check
 segments_part file = headers_part (program_headers_check file) >> unless (is_some (first_load file)) (Segments 56)
 
--- there is room in it for its PT_NOTE segments together, which are read whole
+-- the file has room for its PT_NOTE segments together, which are read whole
 abbrev pub room_part : List ℕ → Check
-room_part file = elf_part (each_below (segment_total file) (note_room_check file))
+room_part file = elf_fault_part (each_below (segment_total file) (note_room_check file))
 
--- an entry has its last part; it fits at a nearest one, and at those of one name alone
+-- an entry has the word's last part, and the file fits at one of the nearest entries, and at those of one name alone
 abbrev pub match_part : ProcessView → (word file : List ℕ) → (load : ℕ) → Option EntryView → Check
 match_part p word file load None = Err Mapping
 match_part p word file load (Some entry) = unless (not (is_ambiguous p word file load entry)) Ambiguous
 
+-- the file is found among the entries
 unfoldable pub nearest_part : ProcessView → (word file : List ℕ) → (load : ℕ) → Check
 nearest_part p word file load = unless (is_candidate word p.entries) NotMapped >> match_part p word file load (entry_of p word file load)
 
--- it is the build that the process had
+-- the file is the build that the process had
 abbrev pub build_part : ProcessView → (file : List ℕ) → (load : ℕ) → EntryView → Check
 build_part p file load entry = unless (is_same_build p.core file (file_base file p.page entry load)) Build
 
--- its section has no fault, at the address at which it lay
+-- a check of the section, whose fault is the module's
 abbrev pub decode_part : Result (Unit {0}) DecodeFault → Check
 decode_part (Ok x) = Ok tt
 decode_part (Err fault) = Err (Section fault)
 
+-- the section has no fault at the address at which it was
 abbrev pub table_part : List ℕ → (page : ℕ) → EntryView → (load section : ℕ) → Check
 table_part file page entry load section = decode_part (section_check (section_bytes file section) (address_of file page entry load section))
 
--- its build and its section, at the entry that is its
+-- the file's build and its section, at its entry
 abbrev pub entry_part : ProcessView → (file : List ℕ) → (load section : ℕ) → Option EntryView → Check
 entry_part p file load section None = Ok tt
 entry_part p file load section (Some entry) = build_part p file load entry >> table_part file p.page entry load section
 
--- all that is asked of it in the process
+-- the checks of the file in the process, once its section and its first loaded segment are known
 abbrev pub process_part : ProcessView → (word file : List ℕ) → (load section : Option ℕ) → Check
 process_part p word file (Some load) (Some section) = nearest_part p word file load >> entry_part p file load section (entry_of p word file load)
 process_part p word file load section = Ok tt
@@ -80,7 +82,7 @@ process_part p word file load section = Ok tt
 -- all checks: the first that fails is the file's fault
 unfoldable pub module_check : ProcessView → (word file : List ℕ) → Check
 module_check p word file =
-    elf_part (file_check file)
+    elf_fault_part (file_check file)
     >> kind_part file
     >> section_part file (sframe_section file)
     >> segments_part file

@@ -15,5 +15,5 @@ abbrev pub span_of : List ModuleView → EntryView → Span (Option ℕ)
 span_of modules e = record { start = e.start; size = e.end - e.start; leads_to = number_of e.name modules }
 
 -- the number of the module at an address
-abbrev pub number_at : List EntryView → List ModuleView → (pc : ℕ) → Option ℕ
-number_at entries modules pc = option_and_then (λ (e : EntryView). number_of e.name modules) (find (holds pc) entries)
+abbrev pub module_number_at : List EntryView → List ModuleView → (pc : ℕ) → Option ℕ
+module_number_at entries modules pc = option_and_then (λ (e : EntryView). number_of e.name modules) (find (holds pc) entries)

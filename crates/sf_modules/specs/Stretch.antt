@@ -11,6 +11,7 @@ use Rattle.sf_modules.specs.declared.stretch.Stretch.{Stretch}
 use Rattle.sf_modules.specs.Entry.{EntryView, holds, maps}
 use Rattle.sf_modules.specs.Name.{name_number}
 
+-- a stretch, under a name that code may have for a value
 abbrev pub stretch : Type 0
 stretch = Stretch
 
@@ -22,12 +23,15 @@ line_of number address place = number * 2 ^ 65 + (address + 2 ^ 64 - place)
 abbrev pub point : (line address : ℕ) → ℕ
 point line address = line * 2 ^ 64 + address
 
+-- where a stretch starts
 abbrev pub start_point : Stretch → ℕ
 start_point s = point s.line s.start
 
+-- where a stretch ends
 abbrev pub end_point : Stretch → ℕ
 end_point s = point s.line s.end
 
+-- the stretch ends after the point
 abbrev pub ends_after : (at : ℕ) → Stretch → Bool
 ends_after at s = nat_lt at (end_point s)
 
@@ -35,7 +39,7 @@ ends_after at s = nat_lt at (end_point s)
 abbrev pub has_point : (at : ℕ) → Stretch → Bool
 has_point at s = nat_le (start_point s) at && ends_after at s
 
--- it has a place of the file of this number at the address
+-- the stretch has a place of the file of this number at the address
 abbrev pub has_place : (number address place : ℕ) → Stretch → Bool
 has_place number address place s = has_point (point (line_of number address place) address) s
 
@@ -43,6 +47,7 @@ has_place number address place s = has_point (point (line_of number address plac
 abbrev pub has_at : (address place : ℕ) → EntryView → Bool
 has_at address place e = holds address e && (e.offset + (address - e.start) == place)
 
+-- the names of entries
 abbrev pub names_in : List EntryView → List (List ℕ)
 names_in entries = map (λ (e : EntryView). e.name) entries
 

@@ -9,8 +9,8 @@ use Rattle.sf_modules.specs.declared.stretches.Stretches.{Stretches}
 use Rattle.sf_modules.specs.Entry.{EntryView}
 use Rattle.sf_modules.specs.Stretch.{AreNumbers, AreOf}
 
--- these entries
-pub record AreInOrder (s : Stretches) (entries : List EntryView) : Type 0 where
+-- the stretches and the numbers are those of these entries
+pub record AreStretchesOf (s : Stretches) (entries : List EntryView) : Type 0 where
   pub numbers : AreNumbers s.numbers entries
   pub stretches : AreOf entries entries s.stretches.items
 

@@ -1,4 +1,5 @@
--- Where the modules of a process answer as one section does that has all their functions (GNU SFrame specification, Version 2).
+-- When a look-up in the modules of a process finds what it finds in one section that has all their functions (GNU SFrame specification,
+-- Version 2).
 use Rattle.std.specs.Prelude.{◌≡◌, ℕ, true, List, map, Some}
 use Rattle.std.specs.List.{Contains}
 use Rattle.sf_model.specs.declared.function.Func.{Func}
@@ -8,7 +9,7 @@ use Rattle.sf_modules.specs.Entry.{EntryView}
 use Rattle.sf_modules.specs.Found.{module_at}
 use Rattle.sf_modules.specs.Module.{ModuleView}
 
--- what the modules' sections say
+-- the tables of the modules' sections
 abbrev pub tables_of : List ModuleView → List Table
 tables_of modules = map (λ (m : ModuleView). m.table) modules
 

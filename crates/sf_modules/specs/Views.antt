@@ -4,9 +4,10 @@ use Rattle.sf_modules.specs.declared.modules.Modules.{Modules}
 use Rattle.sf_modules.specs.Entry.{EntryView, entry_view}
 use Rattle.sf_modules.specs.Module.{ModuleView, module_view}
 
--- the entries and the modules that they were made of
+-- the entries
 abbrev pub entries_in : Modules → List EntryView
 entries_in m = map entry_view m.entries.now
 
+-- the modules
 abbrev pub modules_in : Modules → List ModuleView
 modules_in m = map module_view m.modules.now

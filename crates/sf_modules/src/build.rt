@@ -14,7 +14,7 @@ use crate::layout::{GNU, NT_GNU_BUILD_ID, PT_LOAD};
 use core_notes::{MemoryMap, Note, SegmentNotes};
 use elf_read::Elf;
 
-// Whether a note is a build identifier.
+// Returns whether a note is a build identifier.
 #[tactic(auto, unfolding(core_notes::specs::Thread::has_name_and_type))]
 fn is_build_id(note: &Note<'_>) -> bool
     ensures { result ≡ spec.is_build_id (note_view note.now) }
@@ -22,7 +22,7 @@ fn is_build_id(note: &Note<'_>) -> bool
     note.kind == NT_GNU_BUILD_ID && note.name == GNU
 }
 
-// Whether the addresses of one segment are some of another, which is loaded.
+// Returns whether the addresses of one segment are some of another, which is loaded.
 fn is_within(elf: &Elf<'_>, i: u32, k: u32) -> bool
     ensures { result ≡ spec.is_within (file elf.now) i k }
 {
@@ -34,7 +34,7 @@ fn is_within(elf: &Elf<'_>, i: u32, k: u32) -> bool
             <= u128::from(outer.vaddr) + u128::from(elf.memory_size(k))
 }
 
-// Whether a segment is loaded with another.
+// Returns whether a segment is loaded with another.
 fn is_loaded(program: &Program<'_>, i: u32) -> bool
     ensures { result ≡ spec.is_loaded (file program.now.elf) i }
 {
@@ -46,8 +46,8 @@ fn is_loaded(program: &Program<'_>, i: u32) -> bool
     false
 }
 
-// Whether the memory of a core file has the descriptor of a note of a segment at its address, or doesn't have all its
-// bytes there.
+// Returns whether the memory of a core file has the descriptor of a note of a segment at its address, or doesn't have all
+// its bytes there.
 #[tactic(auto, unfolding(crate::specs::Build::descriptor_agrees))]
 fn descriptor_agrees(
     memory: &MemoryMap<'_>,
@@ -71,14 +71,14 @@ fn descriptor_agrees(
     }
 }
 
-// Whether a note is no build identifier or agrees.
+// Returns whether a note is no build identifier or agrees.
 fn note_agrees(memory: &MemoryMap<'_>, elf: &Elf<'_>, base: u64, i: u32, note: &Note<'_>) -> bool
     ensures { result ≡ spec.note_agrees (core_in memory.now) (file elf.now) base i (note_view note.now) }
 {
     !is_build_id(note) || descriptor_agrees(memory, elf, base, i, note)
 }
 
-// Whether each note of a segment does.
+// Returns whether each note of a segment is no build identifier or agrees.
 fn notes_agree(memory: &MemoryMap<'_>, elf: &Elf<'_>, base: u64, i: u32) -> bool
     requires { length (file elf.now) < 2 ^ 32 }
     ensures { result ≡ list_all (spec.note_agrees (core_in memory.now) (file elf.now) base i) (segment_notes (file elf.now) i) }
@@ -91,7 +91,7 @@ fn notes_agree(memory: &MemoryMap<'_>, elf: &Elf<'_>, base: u64, i: u32) -> bool
     true
 }
 
-// Whether each build identifier of a segment agrees, if the segment is loaded.
+// Returns whether each build identifier of a segment agrees, if the segment is loaded.
 #[tactic(auto, unfolding(crate::specs::Build::segment_agrees))]
 fn segment_agrees(memory: &MemoryMap<'_>, program: &Program<'_>, base: u64, i: u32) -> bool
     requires { length (file program.now.elf) < 2 ^ 32 }
@@ -100,8 +100,8 @@ fn segment_agrees(memory: &MemoryMap<'_>, program: &Program<'_>, base: u64, i: u
     notes_agree(memory, &program.elf, base, i) || !is_loaded(program, i)
 }
 
-/// Whether a program, mapped so far up, is the build that a process had: each of its build identifiers is in the memory of
-/// the core file, or isn't all there.
+/// Returns whether a program, mapped with this base, is the build that a process had: each of its build identifiers is in
+/// the memory of the core file, or isn't all there.
 pub fn is_same_build(memory: &MemoryMap<'_>, program: &Program<'_>, base: u64) -> bool
     requires { length (file program.now.elf) < 2 ^ 32 }
     ensures { result ≡ spec.is_same_build (core_in memory.now) (file program.now.elf) base }

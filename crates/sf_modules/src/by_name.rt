@@ -10,9 +10,9 @@ use sf_base::NoMemory;
 use std::alloc::Global;
 use std::collections::BTreeMap;
 
-/// The number of the first of these names that is a name.
+/// Makes a map from each name to the number of the first of these names that is it.
 ///
-/// `NoMemory` where memory ran out, and for 2^32 names or more.
+/// `NoMemory` if out of memory, and for 2^32 names or more.
 pub fn numbers_by_name<'n>(
     alloc: Global,
     names: &[&'n [u8]],

@@ -10,6 +10,6 @@ pub struct Entry<'a> {
     pub end: u64,
     /// The place in the file, in bytes.
     pub offset: u64,
-    /// The file's pathname, without the ` (deleted)` of a file that is no longer there.
+    /// The file's pathname, without the ` (deleted)` of a file that was deleted.
     pub name: &'a [u8],
 }

@@ -10,13 +10,13 @@ use std::alloc::{AllocError, AllocFailed};
 pub enum ModuleFault {
     /// The core file has no note on mapped files.
     NoFileNote,
-    /// The note on mapped files is cut or has a number out of range; the place is in the core file.
+    /// The note on mapped files ends too early or has a number out of range. The place is in the core file.
     FileNote(u64),
     /// The module's ELF file is refused.
     Elf(ElfFault),
     /// The file has no SFrame section that is loaded.
     NoSection,
-    /// The file has no program headers that can be read, or none of a loaded segment; the place is in the file header.
+    /// The file has no program headers that can be read, or no loaded segment. The place is in the file header.
     Segments(u64),
     /// The process had no file of this name.
     NotMapped,

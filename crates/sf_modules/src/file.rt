@@ -15,7 +15,7 @@ use crate::layout::{PT_LOAD, SFRAME};
 use elf_read::layout::{E_PHNUM, E_PHOFF, E_TYPE, SHT_NOBITS};
 use elf_read::{Elf, ElfFault, Kind};
 
-/// Where the page of a number begins.
+/// Returns where the page of a number begins.
 pub fn page_floor(page: u64, n: u64) -> u64
     requires { 0 < page }
     ensures { result ≡ spec.page_floor page n }
@@ -23,7 +23,7 @@ pub fn page_floor(page: u64, n: u64) -> u64
     n - n % page
 }
 
-/// An executable or a shared object.
+/// Checks that a file is an executable or a shared object.
 pub fn check_kind(elf: &Elf<'_>) -> Result<(), ModuleFault>
     ensures { result ≡ kind_part (file elf.now) }
 {
@@ -33,7 +33,7 @@ pub fn check_kind(elf: &Elf<'_>) -> Result<(), ModuleFault>
     }
 }
 
-// Whether a section is an SFrame section that is loaded from the file.
+// Returns whether a section is an SFrame section that is loaded from the file.
 #[tactic(auto, unfolding(crate::specs::File::is_sframe))]
 fn is_sframe(elf: &Elf<'_>, i: u32) -> bool
     ensures { result ≡ spec.is_sframe (file elf.now) i }
@@ -41,7 +41,7 @@ fn is_sframe(elf: &Elf<'_>, i: u32) -> bool
     elf.is_allocated(i) && elf.is_named(i, SFRAME) && elf.section(i).kind != SHT_NOBITS
 }
 
-// The number of the first of them.
+// Finds the number of the first SFrame section that is loaded from the file.
 fn sframe_section(elf: &Elf<'_>) -> Option<u32>
     ensures found { result ≡ spec.sframe_section (file elf.now) }
     ensures within { IfSome result (λ i. i < section_count (file elf.now)) }
@@ -54,7 +54,7 @@ fn sframe_section(elf: &Elf<'_>) -> Option<u32>
     None
 }
 
-/// The number of a file's SFrame section.
+/// Finds the number of a file's SFrame section.
 pub fn section_of(elf: &Elf<'_>) -> Result<u32, ModuleFault>
     ensures check { verdict result ≡ section_part (file elf.now) (spec.sframe_section (file elf.now)) }
     ensures value { IfOk result (λ i. spec.sframe_section (file elf.now) ≡ Some i) }
@@ -68,7 +68,7 @@ pub fn section_of(elf: &Elf<'_>) -> Result<u32, ModuleFault>
     Ok(i)
 }
 
-// How many program headers a file has.
+// Returns the number of a file's program headers.
 fn header_count(elf: &Elf<'_>) -> Result<u32, ModuleFault>
     ensures check { verdict result ≡ headers_part (program_headers_check (file elf.now)) }
     ensures value { IfOk result (λ count. count ≡ segment_total (file elf.now)) }
@@ -80,7 +80,7 @@ fn header_count(elf: &Elf<'_>) -> Result<u32, ModuleFault>
     }
 }
 
-// The number of the first program header of a loaded segment.
+// Finds the number of the first program header of a loaded segment.
 fn first_load(elf: &Elf<'_>, count: u32) -> Option<u32>
     requires { count ≡ segment_total (file elf.now) }
     ensures { result ≡ spec.first_load (file elf.now) }
@@ -97,15 +97,15 @@ fn first_load(elf: &Elf<'_>, count: u32) -> Option<u32>
 #[derive(Clone, Copy)]
 pub struct Program<'f> {
     pub elf: Elf<'f>,
-    /// How many program headers it has.
+    /// The number of its program headers.
     pub count: u32,
-    /// The number of that of its first loaded segment.
+    /// The number of the program header of its first loaded segment.
     pub load: u32,
     ghost counted: { count ≡ segment_total (file elf) },
     ghost lie: { HeadersLie (file elf) count },
 }
 
-/// The program headers of a file.
+/// Reads the program headers of a file.
 pub fn program_of<'f>(elf: &Elf<'f>) -> Result<Program<'f>, ModuleFault>
     ensures check { verdict result ≡ segments_part (file elf.now) }
     ensures file { IfOk result (λ p. file p.elf ≡ file elf.now) }

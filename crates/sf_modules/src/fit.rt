@@ -16,7 +16,7 @@ use crate::process::Process;
 use crate::stretches::Named;
 use elf_read::Elf;
 
-/// How far up a file was mapped: from where the page of its first loaded segment's address begins to its entry's start.
+/// Returns how far up a file was mapped: from where the page of its first loaded segment's address begins to its entry's start.
 pub fn base_of(page: u64, entry: &Entry<'_>, vaddr: u64) -> u64
     requires { 0 < page }
     ensures { result ≡ spec.base_of page (entry_view entry.now) vaddr }
@@ -24,7 +24,7 @@ pub fn base_of(page: u64, entry: &Entry<'_>, vaddr: u64) -> u64
     entry.start.wrapping_sub(page_floor(page, vaddr))
 }
 
-// Whether an entry of the name has the segment's bytes at its address.
+// Returns whether an entry of the name has the segment's bytes at its address.
 fn is_mapped(process: &Process<'_>, elf: &Elf<'_>, named: &Named<'_>, base: u64, i: u32) -> bool
     requires { IsNamed process.now.stretches named.now }
     ensures { result ≡ spec.is_mapped (process_view process.now) (file elf.now) named.now.name.now base i }
@@ -34,7 +34,7 @@ fn is_mapped(process: &Process<'_>, elf: &Elf<'_>, named: &Named<'_>, base: u64,
     process.stretches.any_maps(named, address, segment.place)
 }
 
-// Whether the core file doesn't say that an executable segment's address is not executable.
+// Returns whether the segment isn't executable, or the core file doesn't show its address as not executable.
 fn may_execute(process: &Process<'_>, elf: &Elf<'_>, base: u64, i: u32) -> bool
     ensures { result ≡ spec.may_execute (process_view process.now) (file elf.now) base i }
 {
@@ -45,14 +45,14 @@ fn may_execute(process: &Process<'_>, elf: &Elf<'_>, base: u64, i: u32) -> bool
     process.memory.executable_at(address).unwrap_or(true)
 }
 
-// Whether a segment is loaded and has bytes in the file.
+// Returns whether a segment is loaded and has bytes in the file.
 fn has_bytes(elf: &Elf<'_>, i: u32) -> bool
-    ensures { result ≡ spec.has_bytes (file elf.now) i }
+    ensures { result ≡ spec.has_file_bytes (file elf.now) i }
 {
     elf.segment(i).kind == PT_LOAD && elf.file_size(i) > 0
 }
 
-// Whether a segment was where it has to be, if it has bytes.
+// Returns whether a segment was where it has to be, if it has bytes.
 #[tactic(auto, unfolding(crate::specs::Fit::segment_fits))]
 fn segment_fits(process: &Process<'_>, elf: &Elf<'_>, named: &Named<'_>, base: u64, i: u32) -> bool
     requires { IsNamed process.now.stretches named.now }
@@ -62,7 +62,8 @@ fn segment_fits(process: &Process<'_>, elf: &Elf<'_>, named: &Named<'_>, base: u
         || (is_mapped(process, elf, named, base, i) && may_execute(process, elf, base, i))
 }
 
-// Returns whether each segment was. The one of number `misfit`, which was not where the file was tried before, is tried first.
+// Returns whether each segment was where it has to be. Segment `misfit`, which was not where the file was tried before, is
+// tried first.
 fn all_fit(
     process: &Process<'_>,
     program: &Program<'_>,

@@ -1,4 +1,4 @@
-//! The entries of a process by the last parts of their names: those of a word's last part are found one after the other.
+//! The entries of a process by the last parts of their names: those of a word's last part are found in order.
 
 ghost use Rattle.std.specs.Prelude.{◌≡◌, IfOk, map};
 ghost use Rattle.sf_modules.specs.Entry.{entry_view};
@@ -21,7 +21,7 @@ pub struct LastParts<'n> {
 
 /// Finds the entries of each last part.
 ///
-/// `NoMemory` where memory ran out, and for 2^32 entries or more.
+/// `NoMemory` if out of memory, and for 2^32 entries or more.
 pub fn last_parts_of<'n>(alloc: Global, entries: &[Entry<'n>]) -> Result<LastParts<'n>, NoMemory>
     ensures { IfOk result (λ p. AreByPart p (map entry_view entries.now)) }
 {

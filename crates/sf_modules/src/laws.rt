@@ -10,8 +10,8 @@ ghost use Rattle.sf_modules.specs.Found.{found_in};
 ghost use Rattle.sf_modules.specs.Module.{ModuleView};
 ghost use Rattle.sf_modules.specs.Union.{LeadsHome, tables_of};
 
-/// Where the modules' tables have one union, and each address of a function leads to the function's own module, the
-/// modules have at every address what the union has.
+/// Says that the modules have at every address what the union of their tables has, if there is one, and if each address of
+/// a function leads to the function's own module.
 pub fn modules_answer_as_their_union()
     ensures { (arch : Arch) (entries : List EntryView) (modules : List ModuleView) (functions : List Func) → IsUnion arch (tables_of modules) functions → LeadsHome entries modules → (pc : ℕ) → found_in entries modules pc ≡ found_at functions pc }
 {}

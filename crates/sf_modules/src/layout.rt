@@ -3,30 +3,35 @@
 /// The name of the SFrame section.
 pub const SFRAME: &[u8] = b".sframe";
 
-/// PT_LOAD.
+/// The type of a segment that is loaded.
 pub const PT_LOAD: u32 = 1;
 
-/// NT_GNU_BUILD_ID, and the name of such a note, with its zero byte.
+/// The type of a note with a build identifier.
 pub const NT_GNU_BUILD_ID: u32 = 3;
 
+/// The name of a note with a build identifier, with its zero byte.
 pub const GNU: &[u8] = b"GNU\0";
 
-/// What Linux adds to the name of a mapped file that is no longer there.
+/// The text that Linux adds to the name of a mapped file that was deleted.
 pub const DELETED: &[u8] = b" (deleted)";
 
-/// The note on mapped files: the bytes before its entries, and those of an entry.
+/// The number of bytes before the entries of the note on mapped files.
 pub const FILE_NOTE_HEADER_LEN: u64 = 16;
 
+/// The number of bytes of an entry.
 pub const FILE_ENTRY_LEN: u64 = 24;
 
-/// The places of its count and of the page size.
+/// The place of the number of entries.
 pub const FILE_COUNT: u64 = 0;
 
+/// The place of the page size.
 pub const FILE_PAGE_SIZE: u64 = 8;
 
-/// The places of an entry's fields, from its own start on.
+/// The place of an entry's start, from the beginning of the entry on.
 pub const FILE_START: u64 = 0;
 
+/// The place of its end.
 pub const FILE_END: u64 = 8;
 
+/// The place of its offset in the file.
 pub const FILE_OFFSET: u64 = 16;

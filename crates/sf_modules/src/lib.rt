@@ -1,10 +1,11 @@
 //! The modules of a process: the executables and shared objects that it had mapped, each with its SFrame section, and
 //! walks by them (Linux core files, NT_FILE; ELF64 gABI, "Program Header").
 //!
-//! [`entries`] reads the note on mapped files of a core file, which [`Process::new`] puts in order. [`read_module`] finds a file among its entries by its name
-//! (`specs/Match.antt`), by where its segments were (`specs/Fit.antt`) and by its build identifier (`specs/Build.antt`), and
-//! reads its SFrame section at the address at which it was. [`Modules::new`] puts entries and modules in order, once for
-//! all threads, and [`Modules::walk`] lists a thread's frames; [`walk_modules`] is both for one thread.
+//! [`entries`] reads the note on mapped files of a core file, which [`Process::new`] puts in order. [`read_module`] finds a
+//! file among its entries by its name (`specs/Match.antt`), by where its segments were (`specs/Fit.antt`) and by its build
+//! identifier (`specs/Build.antt`), and reads its SFrame section at the address at which it was. [`Modules::new`] puts
+//! entries and modules in order, once for all threads, and [`Modules::walk`] lists a thread's frames; [`walk_modules`] is
+//! both for one thread.
 //!
 //! The meaning is a list of entries and a list of modules: at an address the first entry that holds it says which file is
 //! there, and the first module of that name answers by its own table (`found_in` of `specs/Found.antt`). A walk is

@@ -33,7 +33,7 @@ pub struct Module<'c, 'a> {
     pub view: View<'a>,
 }
 
-// How far up a program was mapped.
+// Returns how far up a program was mapped.
 fn file_base(page: u64, program: &Program<'_>, entry: &Entry<'_>) -> u64
     requires { 0 < page }
     ensures { result ≡ spec.file_base (file program.now.elf) page (entry_view entry.now) program.now.load }
@@ -41,7 +41,7 @@ fn file_base(page: u64, program: &Program<'_>, entry: &Entry<'_>) -> u64
     base_of(page, entry, program.elf.segment(program.load).vaddr)
 }
 
-// Whether it is the build that the process had.
+// Checks that the program is the build that the process had.
 fn check_build(
     process: &Process<'_>,
     program: &Program<'_>,
@@ -61,7 +61,7 @@ fn check_build(
     }
 }
 
-// The room in the file for its PT_NOTE segments, which are read whole.
+// Checks that the file has room for its PT_NOTE segments, which are read whole.
 fn check_notes(bytes: &[u8], program: &Program<'_>) -> Result<(), ModuleFault>
     requires small { length bytes.now < 2 ^ 32 }
     requires same { bytes.now ≡ file program.now.elf }
@@ -71,7 +71,7 @@ fn check_notes(bytes: &[u8], program: &Program<'_>) -> Result<(), ModuleFault>
     Ok(())
 }
 
-// Where a section lay.
+// Returns the address at which a section was.
 fn address_of(page: u64, program: &Program<'_>, entry: &Entry<'_>, section: u32) -> u64
     requires { 0 < page }
     ensures { result ≡ spec.address_of (file program.now.elf) page (entry_view entry.now) program.now.load section }
@@ -79,17 +79,17 @@ fn address_of(page: u64, program: &Program<'_>, entry: &Entry<'_>, section: u32)
     file_base(page, program, entry).wrapping_add(program.elf.section(section).addr)
 }
 
-/// The module of a file for which this word is given. Of the process's entries whose names have most parts in common with
-/// the word, from the last part on, the first at which the file fits says where its first loaded segment was, and so where
-/// its SFrame section was. The section is the first of the name `.sframe` that is loaded and is in the file.
+/// Reads the module of a file for which this word is given. Among the process's entries whose names have most parts in
+/// common with the word, from the last part on, the first at which the file fits shows where its first loaded segment was,
+/// and so where its SFrame section was. The section is the first of the name `.sframe` that is loaded and is in the file.
 ///
 /// # Errors
 ///
-/// The first of these: `Elf` where the ELF file is refused, or is no executable or shared object; `NoSection`; `Elf` where
-/// the section is compressed; `Segments` where the program headers don't have the format's length, don't lie in the file
-/// or are of no loaded segment; `Elf` where the file has no room for its PT_NOTE segments together; `NotMapped` where no entry's name has the word's last part; `Mapping` where the file fits
-/// at none of the nearest; `Ambiguous` where it fits at two of different names; `Build` where the core file has another
-/// build identifier; `Section` where the section is refused.
+/// The first of these: `Elf` if the ELF file is refused, or is no executable or shared object; `NoSection`; `Elf` if the
+/// section is compressed; `Segments` if the program headers don't have the format's length, don't lie in the file or are of
+/// no loaded segment; `Elf` if the file has no room for its PT_NOTE segments together; `NotMapped` if no entry's name has
+/// the word's last part; `Mapping` if the file doesn't fit at any of the nearest; `Ambiguous` if it fits at two of different
+/// names; `Build` if the core file has another build identifier; `Section` if the section is refused.
 #[tactic(auto, unfolding(crate::specs::Reading::module_check))]
 pub fn read_module<'p, 'a>(
     process: &Process<'p>,

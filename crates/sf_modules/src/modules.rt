@@ -32,11 +32,11 @@ pub struct Modules<'m> {
     ghost indexed: { map indexed_table sections.items ≡ tables_of (map module_view modules.now) },
 }
 
-// The modules' sections, put in order.
+// Puts the modules' sections in order.
 fn sections_of<'a>(alloc: Global, modules: &[Module<'_, 'a>]) -> Result<Vec<Indexed<'a>>, NoMemory>
     ensures { IfOk result (λ sections. map indexed_table sections.items ≡ tables_of (map module_view modules.now)) }
 {
-    let mut sections = Vec::new(alloc);
+    let mut sections = Vec::with_capacity(alloc, modules.len())?;
     for item in modules {
         sections.push(Indexed::new(alloc, item.view)?)?;
     }
@@ -49,12 +49,12 @@ impl<'m> Modules<'m> {
     ghost use Rattle.sf_modules.specs.Entry.{entry_view};
     ghost use Rattle.sf_modules.specs.Found.{modules_walk};
     ghost use Rattle.sf_modules.specs.Module.{module_view};
-    ghost use Rattle.sf_modules.specs.Span.{number_at};
+    ghost use Rattle.sf_modules.specs.Span.{module_number_at};
     ghost use Rattle.sf_modules.specs.Views.{entries_in, modules_in};
 
-    /// The entries and the modules, put in order: once for all walks of a process.
+    /// Puts the entries and the modules in order, once for all walks of a process.
     ///
-    /// `NoMemory` where memory ran out.
+    /// `NoMemory` if out of memory.
     pub fn new(
         alloc: Global,
         entries: &'m [Entry<'m>],
@@ -73,17 +73,17 @@ impl<'m> Modules<'m> {
         })
     }
 
-    // The number of the module at an address.
+    // Finds the number of the module at an address.
     fn number_at(&self, pc: u64) -> Option<u32>
-        ensures { result ≡ number_at (entries_in self.now) (modules_in self.now) pc }
+        ensures { result ≡ module_number_at (entries_in self.now) (modules_in self.now) pc }
     {
         self.spans.first_at(pc)?
     }
 
-    /// The frames of a thread, at most `depth`, from the innermost on, and why no more are listed: each is looked up in the
-    /// module at its address.
+    /// Lists the frames of a thread, at most `depth`, from the innermost on, and why no more are listed. Each is looked up in
+    /// the module at its address.
     ///
-    /// `NoMemory` where memory ran out.
+    /// `NoMemory` if out of memory.
     pub fn walk<M: Memory>(
         &self,
         alloc: Global,
@@ -110,10 +110,10 @@ impl<'m> LookUp for Modules<'m> {
     }
 }
 
-/// The frames of a thread by the rows of a process's modules, which are put in order for this one walk: to walk several
-/// threads make [`Modules`] once.
+/// Lists the frames of a thread by the rows of a process's modules, which are put in order for this one walk. To walk
+/// several threads, make [`Modules`] once.
 ///
-/// `NoMemory` where memory ran out.
+/// `NoMemory` if out of memory.
 pub fn walk_modules<M: Memory>(
     alloc: Global,
     entries: &[Entry<'_>],

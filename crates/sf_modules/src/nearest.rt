@@ -43,7 +43,7 @@ fn matches(
     common_tail(word, entry.name) == tail && fits(process, program, misfit, entry)
 }
 
-// Returns the first such entry.
+// Returns the first entry whose name has `tail` parts in common with a word, and at which the program fits.
 fn first_match<'p>(
     process: &Process<'p>,
     word: &[u8],
@@ -61,7 +61,8 @@ fn first_match<'p>(
     None
 }
 
-// Returns whether an entry does that has another name than one that was found.
+// Returns whether the program also fits at an entry that has another name than one that was found, and as many parts of it in
+// common with the word.
 fn matches_too(
     process: &Process<'_>,
     word: &[u8],
@@ -78,7 +79,7 @@ fn matches_too(
         && fits(process, program, misfit, entry)
 }
 
-// Returns whether there is such an entry.
+// Returns whether the program fits at such an entry of another name.
 fn other_matches(
     process: &Process<'_>,
     word: &[u8],

@@ -1,6 +1,6 @@
 //! The note on mapped files of a core file (Linux core files, NT_FILE).
 
-ghost use Rattle.std.specs.Prelude.{◌≡◌, ◌+◌, ◌*◌, ◌<◌, ◌≤◌, IfOk, OnOk, drop, length, map, is_some, true};
+ghost use Rattle.std.specs.Prelude.{◌≡◌, ◌+◌, ◌*◌, ◌<◌, ◌≤◌, IfOk, OnOk, drop, length, map, true};
 ghost use Rattle.std.specs.List.{position};
 ghost use Rattle.std.specs.Option.{option_map};
 ghost use Rattle.sf_bytes.specs.Cursor.{cursor};
@@ -9,6 +9,7 @@ ghost use Rattle.core_notes.specs.Views.{notes_of};
 ghost use Rattle.sf_modules.specs.Entry.{entry_view};
 ghost use Rattle.sf_modules.specs.Fault.{Answers, verdict};
 ghost use Rattle.sf_modules.specs.Note as spec;
+ghost use Rattle.sf_modules.specs.TextsRead.{text_front};
 
 use crate::entry::Entry;
 use crate::fault::ModuleFault;
@@ -21,17 +22,17 @@ use elf_read::u64_at;
 use sf_bytes::Part;
 use std::alloc::Global;
 
-// The place of the first zero byte.
+// Finds the place of the first zero byte.
 fn text_len(bytes: &[u8]) -> Option<usize>
     ensures { result ≡ position spec.is_zero bytes.now }
 {
     bytes.iter().position(|byte| *byte == 0)
 }
 
-// The text up to the first zero byte, and what is after that.
-#[tactic(auto, unfolding(crate::specs::Note::text_front))]
+// Takes the text up to the first zero byte, and the bytes after that.
+#[tactic(auto, unfolding(crate::specs::TextsRead::text_front))]
 fn text_front(bytes: &[u8]) -> Option<(&[u8], &[u8])>
-    ensures { option_map (λ t. (t.0.now, t.1.now)) result ≡ spec.text_front bytes.now }
+    ensures { option_map (λ t. (t.0.now, t.1.now)) result ≡ text_front bytes.now }
 {
     let len = text_len(bytes)?;
     let (text, _) = bytes.split_at(len);
@@ -39,9 +40,9 @@ fn text_front(bytes: &[u8]) -> Option<(&[u8], &[u8])>
     Some((text, later))
 }
 
-// Whether there are as many texts.
+// Returns whether the bytes have `count` texts, each ended by a zero byte.
 fn has_texts(bytes: &[u8], count: u64) -> bool
-    ensures { result ≡ is_some (spec.texts_in count bytes.now) }
+    ensures { result ≡ spec.has_file_names count bytes.now }
 {
     let mut rest = bytes;
     for passed in 0..count {
@@ -53,7 +54,7 @@ fn has_texts(bytes: &[u8], count: u64) -> bool
     true
 }
 
-// What is after the numbers of as many entries.
+// Returns the bytes after the numbers of `count` entries.
 fn names_part(note: &[u8], count: u64) -> &[u8]
     requires { 24 * count + 16 ≤ length note.now }
     ensures { result.now ≡ drop (24 * count + 16) note.now }
@@ -62,23 +63,23 @@ fn names_part(note: &[u8], count: u64) -> &[u8]
     names
 }
 
-/// What a note says before its entries.
+/// The content of a note before its entries.
 #[derive(Clone, Copy)]
 struct Header {
-    // How many entries there are.
+    // The number of entries.
     count: u64,
     page: u64,
 }
 
-// What a note says before its entries, where it has the bytes and the names of as many.
-#[tactic(auto, unfolding(crate::specs::Note::header_check))]
+// Reads the content of a note before its entries. The note has the bytes and the names of its entries.
+#[tactic(auto, unfolding(crate::specs::Note::file_header_check))]
 fn read_header(note: &Part<'_>) -> Result<Header, ModuleFault>
-    ensures check { verdict result ≡ spec.header_check (cursor note.now) }
-    ensures count { IfOk result (λ h. h.count ≡ spec.entry_count note.now.bytes.now) }
+    ensures check { verdict result ≡ spec.file_header_check (cursor note.now) }
+    ensures count { IfOk result (λ h. h.count ≡ spec.file_entry_count note.now.bytes.now) }
     ensures page { IfOk result (λ h. h.page ≡ spec.page_size note.now.bytes.now) }
     ensures some { IfOk result (λ h. 0 < h.page) }
     ensures within { IfOk result (λ h. 24 * h.count + 16 ≤ length note.now.bytes.now) }
-    ensures names { OnOk result (is_some (spec.texts_in (spec.entry_count note.now.bytes.now) (spec.names_part note.now.bytes.now)) ≡ true) }
+    ensures names { OnOk result (spec.has_file_names (spec.file_entry_count note.now.bytes.now) (spec.names_part note.now.bytes.now) ≡ true) }
 {
     let len = note.bytes.len() as u64;
     if len < FILE_NOTE_HEADER_LEN {
@@ -98,7 +99,7 @@ fn read_header(note: &Part<'_>) -> Result<Header, ModuleFault>
     Ok(Header { count, page })
 }
 
-// A name without the ` (deleted)` at its end.
+// Returns a name without the ` (deleted)` at its end.
 #[tactic(auto, unfolding(crate::specs::Note::pathname_in))]
 fn pathname_in(text: &[u8]) -> &[u8]
     ensures { result.now ≡ spec.pathname_in text.now }
@@ -107,8 +108,8 @@ fn pathname_in(text: &[u8]) -> &[u8]
     if end == DELETED { name } else { text }
 }
 
-// The entry of a number, of the name in this text.
-#[tactic(auto, unfolding(crate::specs::Note::entry_check))]
+// Reads the entry of a number, which has the name in this text.
+#[tactic(auto, unfolding(crate::specs::Note::file_entry_check))]
 fn entry_at<'a>(
     note: &Part<'_>,
     k: u64,
@@ -117,7 +118,7 @@ fn entry_at<'a>(
 ) -> Result<Entry<'a>, ModuleFault>
     requires within { 24 * k + 40 ≤ length note.now.bytes.now }
     requires page { page ≡ spec.page_size note.now.bytes.now }
-    ensures check { verdict result ≡ spec.entry_check (cursor note.now) k }
+    ensures check { verdict result ≡ spec.file_entry_check (cursor note.now) k }
     ensures value { IfOk result (λ e. entry_view e ≡ spec.entry_at note.now.bytes.now k text.now) }
 {
     let place = FILE_ENTRY_LEN * k + FILE_NOTE_HEADER_LEN;
@@ -135,20 +136,20 @@ fn entry_at<'a>(
     }
 }
 
-// The entries, each in its turn.
+// Reads the entries, in order.
 fn take_entries<'a>(
     alloc: Global,
     note: &Part<'a>,
     header: &Header,
 ) -> Result<Vec<Entry<'a>>, ModuleFault>
-    requires count { header.now.count ≡ spec.entry_count note.now.bytes.now }
+    requires count { header.now.count ≡ spec.file_entry_count note.now.bytes.now }
     requires page { header.now.page ≡ spec.page_size note.now.bytes.now }
     requires within { 24 * header.now.count + 16 ≤ length note.now.bytes.now }
-    requires names { is_some (spec.texts_in (spec.entry_count note.now.bytes.now) (spec.names_part note.now.bytes.now)) ≡ true }
-    ensures check { Answers (each_below (spec.entry_count note.now.bytes.now) (spec.entry_check (cursor note.now))) result }
+    requires names { spec.has_file_names (spec.file_entry_count note.now.bytes.now) (spec.names_part note.now.bytes.now) ≡ true }
+    ensures check { Answers (each_below (spec.file_entry_count note.now.bytes.now) (spec.file_entry_check (cursor note.now))) result }
     ensures value { IfOk result (λ entries. spec.AreEntries note.now.bytes.now (spec.page_size note.now.bytes.now) (map entry_view entries.items)) }
 {
-    let mut entries = Vec::new(alloc);
+    let mut entries = Vec::with_capacity(alloc, header.count as usize)?;
     let mut rest = names_part(note.bytes, header.count);
     for k in 0..header.count {
         let (text, later) = match text_front(rest) {
@@ -162,11 +163,11 @@ fn take_entries<'a>(
     Ok(entries)
 }
 
-// The page size and the entries of a note.
-#[tactic(auto, unfolding(crate::specs::Note::note_check))]
+// Reads the page size and the entries of a note.
+#[tactic(auto, unfolding(crate::specs::Note::file_note_check))]
 fn read_note<'a>(alloc: Global, note: &Part<'a>) -> Result<(u64, Vec<Entry<'a>>), ModuleFault>
     ensures sound { IfOk result (λ r. spec.AreEntries note.now.bytes.now r.0 (map entry_view r.1.items)) }
-    ensures exact { Answers (spec.note_check (cursor note.now)) result }
+    ensures exact { Answers (spec.file_note_check (cursor note.now)) result }
     ensures page { IfOk result (λ r. 0 < r.0) }
 {
     let header = read_header(note)?;
@@ -174,18 +175,18 @@ fn read_note<'a>(alloc: Global, note: &Part<'a>) -> Result<(u64, Vec<Entry<'a>>)
     Ok((header.page, entries))
 }
 
-/// The page size, and the files that a core file's process had mapped, in the order of its first note on them.
+/// Reads the page size, and the files that a core file's process had mapped, in the order of its first note on them.
 ///
 /// # Errors
 ///
-/// `NoFileNote` where there is no such note. `FileNote` where it is cut, its page size is no power of two, or an entry ends
-/// before it starts or has an offset that is no number of eight bytes: the first of these, with its place in the core
-/// file. `NoMemory` where memory ran out.
+/// `NoFileNote` if there is no such note. `FileNote` if the note ends too early, its page size is no power of two, or an
+/// entry ends before it starts or has an offset that is no number of eight bytes: the first of these, with its place in the
+/// core file. `NoMemory` if out of memory.
 pub fn entries<'a>(alloc: Global, core: &Core<'a>) -> Result<(u64, Vec<Entry<'a>>), ModuleFault>
-    // What was read is what the note says.
+    // What was read is the content of the note.
     ensures sound { IfOk result (λ r. spec.HasEntries (spec.file_note_in (notes_of core.now)) r.0 (map entry_view r.1.items)) }
     // It is read where no check fails; else the fault is that of the first that does.
-    ensures exact { Answers (spec.entries_check (spec.file_note_in (notes_of core.now))) result }
+    ensures exact { Answers (spec.file_entries_check (spec.file_note_in (notes_of core.now))) result }
     ensures page { IfOk result (λ r. 0 < r.0) }
 {
     match core.file_note() {

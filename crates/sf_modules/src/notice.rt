@@ -3,16 +3,16 @@
 ghost use Rattle.std.specs.Prelude.{◌≡◌, IsSome, IsTrue};
 ghost use Rattle.sf_model.specs.Notice.{HasLine};
 ghost use Rattle.sf_model.specs.FaultShown.{shown_by};
-ghost use Rattle.sf_modules.specs.FaultShown.{is_refusal, shown_of_module};
+ghost use Rattle.sf_modules.specs.FaultShown.{is_module_refusal, shown_of_module};
 
 use crate::fault::ModuleFault;
 use sf_model::{Group, Notice};
 
 impl ModuleFault {
-    /// The fault of this item's file, as its line shows it. The caller owes that it is no limit of the section, and that
-    /// memory didn't run out.
+    /// Returns the fault of this item's file, as its line shows it. The caller owes that it is no limit of the section, and
+    /// not out of memory.
     pub fn notice(&self, item: Option<u32>) -> Notice
-        requires { IsTrue (is_refusal self.now) }
+        requires { IsTrue (is_module_refusal self.now) }
         ensures shown { shown_by result ≡ shown_of_module item self.now }
         ensures line { IsSome item → HasLine result }
     {

@@ -3,7 +3,7 @@
 ghost use Rattle.std.specs.Prelude.{◌<◌, map};
 ghost use Rattle.sf_modules.specs.Entry.{entry_view};
 ghost use Rattle.sf_modules.specs.LastParts.{AreByPart};
-ghost use Rattle.sf_modules.specs.Stretches.{AreInOrder};
+ghost use Rattle.sf_modules.specs.Stretches.{AreStretchesOf};
 
 use crate::candidates::Candidates;
 use crate::entry::Entry;
@@ -14,21 +14,22 @@ use core_notes::{Core, MemoryMap};
 use sf_base::NoMemory;
 use std::alloc::Global;
 
-/// A process: its core file, put in order, and what that file's note on mapped files says, as [`crate::entries`] reads it.
+/// A process: its core file, put in order, and the content of that file's note on mapped files, as [`crate::entries`] reads
+/// it.
 #[derive(Drop)]
 pub struct Process<'p> {
     /// The page size.
     pub(crate) page: u64,
-    /// The files that it had mapped.
+    /// The entries of the files that it had mapped.
     pub(crate) entries: &'p [Entry<'p>],
-    /// What an address of it has.
+    /// The memory of the core file.
     pub(crate) memory: MemoryMap<'p>,
-    /// The files, put in order.
+    /// The entries, put in order.
     pub(crate) stretches: Stretches<'p>,
-    /// Where those of each last part are.
+    /// The entries by the last parts of their names.
     pub(crate) last_parts: LastParts<'p>,
     ghost some: { 0 < page },
-    ghost ordered: { AreInOrder stretches (map entry_view entries.now) },
+    ghost ordered: { AreStretchesOf stretches (map entry_view entries.now) },
     ghost by_part: { AreByPart last_parts (map entry_view entries.now) },
 }
 
@@ -40,10 +41,9 @@ impl<'p> Process<'p> {
     ghost use Rattle.sf_modules.specs.LastParts.{candidates_left};
     ghost use Rattle.sf_modules.specs.Process.{process_of, process_view};
 
-    /// The process of a core file, with the page size and the entries of its note on mapped files: put in order, once for
-    /// all files.
+    /// Puts a core file in order, with the page size and the entries of its note on mapped files, once for all files.
     ///
-    /// `NoMemory` where memory ran out.
+    /// `NoMemory` if out of memory.
     pub fn new(
         alloc: Global,
         core: &Core<'p>,

@@ -12,7 +12,7 @@ use sf_base::NoMemory;
 use sf_lookup::Span;
 use std::alloc::Global;
 
-// The names of modules.
+// Returns the names of modules.
 fn names_of<'n>(alloc: Global, modules: &[Module<'n, '_>]) -> Result<Vec<&'n [u8]>, NoMemory>
     ensures { IfOk result (λ names. map (λ n. n.now) names.items ≡ map (λ (m : ModuleView). m.name) (map module_view modules.now)) }
 {
@@ -23,7 +23,7 @@ fn names_of<'n>(alloc: Global, modules: &[Module<'n, '_>]) -> Result<Vec<&'n [u8
     Ok(names)
 }
 
-/// The addresses of each entry, and the number of the module that it names.
+/// Returns the addresses of each entry, and the number of the module that it names.
 pub fn spans_of(
     alloc: Global,
     entries: &[Entry<'_>],
@@ -32,7 +32,7 @@ pub fn spans_of(
     ensures { IfOk result (λ spans. spans.items ≡ map (spec.span_of (map module_view modules.now)) (map entry_view entries.now)) }
 {
     let numbers = numbers_by_name(alloc, &names_of(alloc, modules)?)?;
-    let mut spans = Vec::new(alloc);
+    let mut spans = Vec::with_capacity(alloc, entries.len())?;
     for entry in entries {
         let leads_to = numbers.get(entry.name).copied();
         spans.push(Span {

@@ -28,14 +28,14 @@ pub struct Stretch {
     pub end: u64,
 }
 
-/// The line of a name's number, an address, and the file's place there.
+/// Returns the line of a name's number, an address, and the file's place there.
 pub fn line_of(number: u32, address: u64, place: u64) -> u128
     ensures { result ≡ spec.line_of number address place }
 {
     u128::from(number) * (1 << 65) + (u128::from(address) + (1 << 64) - u128::from(place))
 }
 
-// The stretch of an entry, by the number of its name.
+// Returns the stretch of an entry, by the number of its name.
 fn stretch_of(entry: &Entry<'_>, number: u32) -> Stretch
     ensures { (other address place : ℕ) → address < 2 ^ 64 → place < 2 ^ 64 → spec.has_place other address place result ≡ (spec.has_at address place (entry_view entry.now) && (number == other)) }
 {
@@ -46,7 +46,7 @@ fn stretch_of(entry: &Entry<'_>, number: u32) -> Stretch
     }
 }
 
-/// The names of entries.
+/// Returns the names of entries.
 pub fn names_of<'n>(alloc: Global, entries: &[Entry<'n>]) -> Result<Vec<&'n [u8]>, NoMemory>
     ensures { IfOk result (λ names. map (λ n. n.now) names.items ≡ spec.names_in (map entry_view entries.now)) }
 {
@@ -57,7 +57,7 @@ pub fn names_of<'n>(alloc: Global, entries: &[Entry<'n>]) -> Result<Vec<&'n [u8]
     Ok(names)
 }
 
-/// The stretches of entries, as they come. Each name has its number.
+/// Returns the stretches of entries, in the order of the entries. Each name has its number.
 pub fn stretches_of(
     alloc: Global,
     entries: &[Entry<'_>],
@@ -77,7 +77,7 @@ pub fn stretches_of(
     Ok(stretches)
 }
 
-// The order of stretches: by their lines, then by their starts.
+// Compares stretches: by their lines, then by their starts.
 fn order(a: &Stretch, b: &Stretch) -> Ordering
     ensures { result ≡ nat_cmp (spec.start_point a.now) (spec.start_point b.now) }
 {
@@ -96,7 +96,8 @@ pub fn put_in_order(stretches: &mut [Stretch])
     stretches.sort_unstable_by(|a, b| order(a, b));
 }
 
-// The greatest end on a stretch's line, of it and those before it, by the greatest one on the line of the last of these.
+// Returns the greatest end on a stretch's line, of it and those before it, by the greatest end on the line of the last of
+// these.
 fn further(line: u128, end: u64, stretch: &Stretch) -> u64
     requires { spec.point line 0 ≤ spec.start_point stretch.now }
     ensures { (at : ℕ) → nat_lt at (spec.point stretch.now.line result) ≡ (nat_lt at (spec.point line end) || nat_lt at (spec.end_point stretch.now)) }
@@ -113,7 +114,7 @@ fn further(line: u128, end: u64, stretch: &Stretch) -> u64
     }
 }
 
-/// The greatest end on the line of each stretch, of it and those before it.
+/// Returns the greatest end on the line of each stretch, of it and those before it.
 pub fn reach_of(alloc: Global, stretches: &[Stretch]) -> Result<Vec<u64>, NoMemory>
     requires { IsNonDecreasingBy spec.start_point stretches.now }
     ensures { IfOk result (λ reach. spec.AreReached stretches.now reach.items) }
@@ -129,7 +130,7 @@ pub fn reach_of(alloc: Global, stretches: &[Stretch]) -> Result<Vec<u64>, NoMemo
     Ok(reach)
 }
 
-// Whether a stretch starts by a point.
+// Returns whether a stretch starts by a point.
 fn is_by(stretch: &Stretch, line: u128, address: u64) -> bool
     ensures { result ≡ nat_le (spec.start_point stretch.now) (spec.point line address) }
 {
@@ -141,7 +142,7 @@ fn is_by(stretch: &Stretch, line: u128, address: u64) -> bool
     own < line || (own == line && start <= address)
 }
 
-/// How many stretches start by a point.
+/// Returns how many stretches start by a point.
 pub fn count_by(stretches: &[Stretch], line: u128, address: u64) -> usize
     requires { IsNonDecreasingBy spec.start_point stretches.now }
     ensures within { result ≤ length stretches.now }
@@ -151,7 +152,7 @@ pub fn count_by(stretches: &[Stretch], line: u128, address: u64) -> usize
     stretches.partition_point(|stretch| is_by(stretch, line, address))
 }
 
-/// Whether the last stretch that starts by a point has it, or one before does: by the greatest end on its line.
+/// Returns whether the last stretch that starts by a point has it, or one before does: by the greatest end on its line.
 pub fn is_beyond(stretch: &Stretch, reach: u64, line: u128, address: u64) -> bool
     requires { spec.start_point stretch.now ≤ spec.point line address }
     ensures { result ≡ nat_lt (spec.point line address) (spec.point stretch.now.line reach) }

@@ -38,13 +38,13 @@ impl<'n> Stretches<'n> {
     ghost use Rattle.std.specs.List.{list_any};
     ghost use Rattle.sf_modules.specs.Entry.{EntryView, entry_view, maps};
     ghost use Rattle.sf_modules.specs.Stretch.{has_place};
-    ghost use Rattle.sf_modules.specs.Stretches.{AreInOrder, IsNamed};
+    ghost use Rattle.sf_modules.specs.Stretches.{AreStretchesOf, IsNamed};
 
-    /// The entries, put in order.
+    /// Puts the entries in order.
     ///
-    /// `NoMemory` where memory ran out, and for 2^32 entries or more.
+    /// `NoMemory` if out of memory, and for 2^32 entries or more.
     pub fn new(alloc: Global, entries: &[Entry<'n>]) -> Result<Stretches<'n>, NoMemory>
-        ensures { IfOk result (λ s. AreInOrder s (map entry_view entries.now)) }
+        ensures { IfOk result (λ s. AreStretchesOf s (map entry_view entries.now)) }
     {
         let numbers = numbers_by_name(alloc, &names_of(alloc, entries)?)?;
         let mut stretches = stretches_of(alloc, entries, &numbers)?;
@@ -57,7 +57,7 @@ impl<'n> Stretches<'n> {
         })
     }
 
-    /// A name, with its number.
+    /// Returns a name with its number.
     pub fn named<'a>(&self, name: &'a [u8]) -> Named<'a>
         ensures name { result.name.now ≡ name.now }
         ensures number { IsNamed self.now result }
@@ -68,7 +68,7 @@ impl<'n> Stretches<'n> {
         }
     }
 
-    // Whether one of the stretches of a number's line has this place at the address.
+    // Returns whether one of the stretches of a number's line has this place at the address.
     fn has_place(&self, number: u32, address: u64, place: u64) -> bool
         ensures { result ≡ list_any (has_place number address place) self.now.stretches.items }
     {
@@ -79,10 +79,10 @@ impl<'n> Stretches<'n> {
         }
     }
 
-    /// Whether one of the entries has this place of the file of this name at the address.
+    /// Returns whether one of the entries has this place of the file of this name at the address.
     pub fn any_maps(&self, named: &Named<'_>, address: u64, place: u64) -> bool
         requires { IsNamed self.now named.now }
-        ensures { (entries : List EntryView) → AreInOrder self.now entries → result ≡ list_any (maps named.now.name.now address place) entries }
+        ensures { (entries : List EntryView) → AreStretchesOf self.now entries → result ≡ list_any (maps named.now.name.now address place) entries }
     {
         match named.number {
             Some(number) => self.has_place(number, address, place),

@@ -14,9 +14,10 @@ use Rattle.sf_modules.specs.Entry.{EntryView}
 use Rattle.sf_modules.specs.Fault.{Check}
 use Rattle.sf_modules.specs.Match.{entry_of}
 use Rattle.sf_modules.specs.Module.{ModuleView, address_of}
-use Rattle.sf_modules.specs.Note.{HasEntries, entries_check, entries_from}
+use Rattle.sf_modules.specs.Note.{HasEntries, entries_from, file_entries_check, file_entry_count, names_part}
 use Rattle.sf_modules.specs.Process.{ProcessView}
 use Rattle.sf_modules.specs.Union.{tables_of}
+use Rattle.sf_modules.proofs.NamesRead.{names_unique}
 use Rattle.sf_run.specs.Coming.{Coming}
 use Rattle.sf_run.specs.ProcwalkComes.{EntriesCome, File, FilesCome, IsModuleOf, NoteComes, ProcwalkComesFrom, coming_of_modules, file_note, files_fault, mixed_item, modules_walks, process_of, sums_limit}
 
@@ -24,8 +25,7 @@ use Rattle.sf_run.specs.ProcwalkComes.{EntriesCome, File, FilesCome, IsModuleOf,
 one_note : (note : Option Cursor) (p q : ℕ) (es fs : List EntryView) → HasEntries note p es → HasEntries note q fs → (p ≡ q) × (es ≡ fs)
 one_note None p q es fs h i = absurd h
 one_note (Some note) p q es fs h i =
-    let both : Some h.names ≡ Some i.names = sym h.names_are ∙ i.names_are in
-    let names : h.names ≡ i.names = cc in
+    let names : h.names ≡ i.names = names_unique (file_entry_count note.left) (names_part note.left) h.names i.names h.names_are i.names_are in
     (h.size ∙ sym i.size, h.are ∙ ap (entries_from note.left 0) names ∙ sym i.are)
 
 -- ---- the modules of files
@@ -83,4 +83,4 @@ one_from_note core depth files (Ok u) c d p q = one_from_entries core depth file
 
 pub one_procwalk : (core : List ℕ) (depth : ℕ) (files : List File) (check : Result (Unit {0}) CoreFault) (c d : Coming) → ProcwalkComesFrom core depth files check c → ProcwalkComesFrom core depth files check d → c ≡ d
 one_procwalk core depth files (Err fault) c d p q = p ∙ sym q
-one_procwalk core depth files (Ok u) c d p q = one_from_note core depth files (entries_check (file_note core)) c d p q
+one_procwalk core depth files (Ok u) c d p q = one_from_note core depth files (file_entries_check (file_note core)) c d p q

@@ -13,7 +13,7 @@ use Rattle.sf_modules.specs.declared.fault.ModuleFault.TheVariants.{NoFileNote, 
 use Rattle.sf_modules.specs.Entry.{EntryView}
 use Rattle.sf_modules.specs.Fault.{Check, IsFaultOf}
 use Rattle.sf_modules.specs.Module.{ModuleView}
-use Rattle.sf_modules.specs.Note.{HasEntries, entries_check}
+use Rattle.sf_modules.specs.Note.{HasEntries, file_entries_check}
 use Rattle.sf_modules.specs.Process.{ProcessView}
 use Rattle.sf_modules.specs.Union.{tables_of}
 use Rattle.sf_words.specs.declared.refusal.Refusal.{Refusal}
@@ -120,7 +120,7 @@ comes_to P Q on (Err refused) h = comes_as P Q on refused h
 -- what the files come to, where the core file and its note have no fault
 record AreRead (core : List ℕ) (page : ℕ) (entries : List EntryView) : Type 0 where
   core_fine : core_check core ≡ Ok tt
-  note_fine : entries_check (file_note core) ≡ Ok tt
+  note_fine : file_entries_check (file_note core) ≡ Ok tt
   are : HasEntries (file_note core) page entries
 
 from_files : (core : List ℕ) (depth page : ℕ) (entries : List EntryView) (files : List File) (coming : Coming) → AreRead core page entries → FilesCome (process_of core page entries) depth files (files_fault (process_of core page entries) files) coming
@@ -130,25 +130,25 @@ from_files core depth page entries files coming read h =
     (subst (λ (check : Check). NoteComes core depth files check coming) (sym read.note_fine) record { page = page; entries = entries; are = read.are; comes = h })
 
 -- the note is refused, or memory ran out
-pub note_unread : (core : List ℕ) (depth : ℕ) (files : List File) (fault : ModuleFault) (refused : Refusal) → core_check core ≡ Ok tt → IsFaultOf (entries_check (file_note core)) fault
+pub note_unread : (core : List ℕ) (depth : ℕ) (files : List File) (fault : ModuleFault) (refused : Refusal) → core_check core ≡ Ok tt → IsFaultOf (file_entries_check (file_note core)) fault
     → (fault ≡ NoMemory → refused ≡ refusal.Memory) → ComesAs (λ (c : Coming). c ≡ coming_of_module 0 fault) refused → ComesAs (ProcwalkComesFrom core depth files (core_check core)) refused
-note_unread core depth files fault refused fine found memory tells = by_cause (fault_found (entries_check (file_note core)) fault found)
+note_unread core depth files fault refused fine found memory tells = by_cause (fault_found (file_entries_check (file_note core)) fault found)
   where
-    by_cause : (fault ≡ NoMemory) ⊎ (entries_check (file_note core) ≡ Err fault) → ComesAs (ProcwalkComesFrom core depth files (core_check core)) refused
+    by_cause : (fault ≡ NoMemory) ⊎ (file_entries_check (file_note core) ≡ Err fault) → ComesAs (ProcwalkComesFrom core depth files (core_check core)) refused
     by_cause (inl none) = memory_comes (ProcwalkComesFrom core depth files (core_check core)) refused (memory none)
     by_cause (inr first) =
         comes_as (λ (c : Coming). c ≡ coming_of_module 0 fault) (ProcwalkComesFrom core depth files (core_check core))
         (λ c e. subst (λ (check : Result (Unit {0}) CoreFault). ProcwalkComesFrom core depth files check c) (sym fine) (subst (λ (check : Check). NoteComes core depth files check c) (sym first) e)) refused tells
 
 -- a file is refused, or memory ran out
-pub files_unread : (core : List ℕ) (depth page : ℕ) (entries : List EntryView) (files : List File) (refused : Refusal) → core_check core ≡ Ok tt → entries_check (file_note core) ≡ Ok tt → HasEntries (file_note core) page entries
+pub files_unread : (core : List ℕ) (depth page : ℕ) (entries : List EntryView) (files : List File) (refused : Refusal) → core_check core ≡ Ok tt → file_entries_check (file_note core) ≡ Ok tt → HasEntries (file_note core) page entries
     → ComesAs (FilesCome (process_of core page entries) depth files (files_fault (process_of core page entries) files)) refused → ComesAs (ProcwalkComesFrom core depth files (core_check core)) refused
 files_unread core depth page entries files refused fine note are =
     comes_as (FilesCome (process_of core page entries) depth files (files_fault (process_of core page entries) files)) (ProcwalkComesFrom core depth files (core_check core))
     (λ c h. from_files core depth page entries files c record { core_fine = fine; note_fine = note; are = are } h) refused
 
 -- the modules are of several machines, exceed a limit, or walk
-pub modules_walked : (core : List ℕ) (depth page : ℕ) (entries : List EntryView) (files : List File) (modules : List ModuleView) (made : Result Made Refusal) → core_check core ≡ Ok tt → entries_check (file_note core) ≡ Ok tt
+pub modules_walked : (core : List ℕ) (depth page : ℕ) (entries : List EntryView) (files : List File) (modules : List ModuleView) (made : Result Made Refusal) → core_check core ≡ Ok tt → file_entries_check (file_note core) ≡ Ok tt
     → HasEntries (file_note core) page entries → files_fault (process_of core page entries) files ≡ None → AllZip (IsModuleOf (process_of core page entries)) files modules
     → ComesTo (λ (c : Coming). c ≡ coming_of_modules (mixed_item (arch_of core) modules) (sums_limit (tables_of modules)) (modules_walks entries modules core depth)) made
     → ComesTo (ProcwalkComesFrom core depth files (core_check core)) made

@@ -20,9 +20,10 @@ use Rattle.sf_modules.specs.Fault.{Check}
 use Rattle.sf_modules.specs.File.{first_load, sframe_section}
 use Rattle.sf_modules.specs.Match.{entry_of, is_candidate}
 use Rattle.sf_modules.specs.Module.{IsModule, ModuleView, address_of}
-use Rattle.sf_modules.specs.Note.{HasEntries, entries_check, entries_from, entry_check, entry_count, header_check, names_part, note_check, page_size, texts_in}
+use Rattle.sf_modules.specs.Note.{HasEntries, entries_from, file_entries_check, file_entry_check, file_entry_count, file_header_check, file_note_check, has_file_names, names_part, page_size}
 use Rattle.sf_modules.specs.Process.{ProcessView}
 use Rattle.sf_modules.specs.Reading.{build_part, decode_part, entry_part, match_part, module_check, nearest_part, process_part, room_part, section_part, segments_part, table_part}
+use Rattle.sf_modules.proofs.NamesRead.{names_exist}
 use Rattle.sf_modules.proofs.Placing.{both_fine, build_fine, nearest_fine, passes}
 use Rattle.sf_run.specs.Coming.{Coming}
 use Rattle.sf_run.specs.FirstFault.{first_fault}
@@ -31,21 +32,17 @@ use Rattle.sf_run.specs.WalkComes.{coming_of_core}
 use Rattle.sf_run.proofs.Reading.{none_here}
 
 -- ---- the entries of the note
-names_read : (n : ℕ) (bytes : List ℕ) (texts : Option (List (List ℕ))) → texts_in n bytes ≡ texts → is_some texts ≡ true → (names : List (List ℕ)) × (texts_in n bytes ≡ Some names)
-names_read n bytes None e some = cc
-names_read n bytes (Some names) e some = (names, e)
-
-has_names : (note : Cursor) → note_check note ≡ Ok tt → is_some (texts_in (entry_count note.left) (names_part note.left)) ≡ true
-unfolding note_check header_check
+has_names : (note : Cursor) → file_note_check note ≡ Ok tt → has_file_names (file_entry_count note.left) (names_part note.left) ≡ true
+unfolding file_note_check file_header_check
 has_names note e =
-    let header = both_fine _ (each_below (entry_count note.left) (entry_check note)) e in
+    let header = both_fine _ (each_below (file_entry_count note.left) (file_entry_check note)) e in
     let named = both_fine _ _ header.0 in
     passes _ (FileNote note.place) (both_fine _ _ named.0).1
 
-some_entries : (note : Option Cursor) → entries_check note ≡ Ok tt → (page : ℕ) × (entries : List EntryView) × HasEntries note page entries
+some_entries : (note : Option Cursor) → file_entries_check note ≡ Ok tt → (page : ℕ) × (entries : List EntryView) × HasEntries note page entries
 some_entries None e = cc
 some_entries (Some note) e =
-    let names = names_read (entry_count note.left) (names_part note.left) (texts_in (entry_count note.left) (names_part note.left)) refl (has_names note e) in
+    let names = names_exist (file_entry_count note.left) (names_part note.left) (has_names note e) in
     (page_size note.left, entries_from note.left 0 names.0, record { size = refl; names = names.0; names_are = names.1; are = refl })
 
 -- ---- the module of a file
@@ -152,7 +149,7 @@ some_from_files p depth files bytes None e =
     let modules = some_modules p 1 files bytes e in
     (_, record { modules = modules.0; are = modules.1; is = refl })
 
-some_from_note : (core : List ℕ) (depth : ℕ) (files : List File) → All HasBytes files → (check : Check) → entries_check (file_note core) ≡ check → (coming : Coming) × NoteComes core depth files check coming
+some_from_note : (core : List ℕ) (depth : ℕ) (files : List File) → All HasBytes files → (check : Check) → file_entries_check (file_note core) ≡ check → (coming : Coming) × NoteComes core depth files check coming
 some_from_note core depth files bytes (Err fault) e = (coming_of_module 0 fault, refl)
 some_from_note core depth files bytes (Ok tt) e =
     let found = some_entries (file_note core) e in
@@ -162,4 +159,4 @@ some_from_note core depth files bytes (Ok tt) e =
 
 pub some_procwalk : (core : List ℕ) (depth : ℕ) (files : List File) → All HasBytes files → (check : Result (Unit {0}) CoreFault) → (coming : Coming) × ProcwalkComesFrom core depth files check coming
 some_procwalk core depth files bytes (Err fault) = (coming_of_core 0 fault, refl)
-some_procwalk core depth files bytes (Ok u) = some_from_note core depth files bytes (entries_check (file_note core)) refl
+some_procwalk core depth files bytes (Ok u) = some_from_note core depth files bytes (file_entries_check (file_note core)) refl

@@ -17,7 +17,7 @@ use Rattle.sf_modules.specs.Entry.{EntryView}
 use Rattle.sf_modules.specs.Fault.{Check}
 use Rattle.sf_modules.specs.Found.{modules_walk}
 use Rattle.sf_modules.specs.Module.{IsModule, ModuleView}
-use Rattle.sf_modules.specs.Note.{HasEntries, entries_check, file_note_in}
+use Rattle.sf_modules.specs.Note.{HasEntries, file_entries_check, file_note_in}
 use Rattle.sf_modules.specs.Process.{ProcessView}
 use Rattle.sf_modules.specs.Reading.{module_check}
 use Rattle.sf_modules.specs.FaultShown.{shown_of_module}
@@ -112,7 +112,7 @@ NoteComes core depth files (Ok u) coming = EntriesCome core depth files coming
 
 abbrev pub ProcwalkComesFrom : (core : List ℕ) → (depth : ℕ) → List File → Result (Unit {0}) CoreFault → Coming → Type 0
 ProcwalkComesFrom core depth files (Err fault) coming = coming ≡ coming_of_core 0 fault
-ProcwalkComesFrom core depth files (Ok u) coming = NoteComes core depth files (entries_check (file_note core)) coming
+ProcwalkComesFrom core depth files (Ok u) coming = NoteComes core depth files (file_entries_check (file_note core)) coming
 
 -- what walking the threads of the first item, a core file, by the modules of the others comes to
 abbrev pub ProcwalkComes : ProcwalkWords → (items : List (List ℕ)) → Coming → Type 0

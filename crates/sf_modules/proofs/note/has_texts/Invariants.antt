@@ -1,6 +1,6 @@
 use Rattle.std.specs.Prelude.{is_some}
 use Rattle.std.proofs.Common.{◌≡◌, ◌-◌}
-use Rattle.sf_modules.specs.Note.{texts_in}
+use Rattle.sf_modules.specs.TextsRead.{texts_in}
 use Rattle.sf_modules.proofs.note.has_texts.Given as goal
 
 abbrev pub invariant-loop-passed : goal.invariant-loop-passed

@@ -8,7 +8,9 @@ use Rattle.elf_read.specs.Checking.{each_below}
 use Rattle.elf_read.proofs.Each.{each_below-more, each_below-none, each_below-stop}
 use Rattle.sf_modules.specs.declared.entry.Entry.{Entry}
 use Rattle.sf_modules.specs.Entry.{EntryView, entry_view}
-use Rattle.sf_modules.specs.Note.{entry_check, entry_count, text_front, texts_in}
+use Rattle.sf_modules.specs.Note.{file_entry_check, file_entry_count, names_part}
+use Rattle.sf_modules.specs.TextsRead.{text_front, texts_in}
+use Rattle.sf_modules.proofs.NamesRead.{texts_some}
 use Rattle.sf_modules.proofs.Faults.{answers_fault}
 use Rattle.sf_modules.proofs.Texts.{entries-all, entries-next, has-next, texts-start, texts-stop, with_left}
 use Rattle.sf_modules.proofs.note.take_entries.Goals as goal
@@ -24,9 +26,9 @@ loop-k-init c =
     let count = c.args.header.now.count in
     let start = texts-start note rest count c.requires.count c.names_part-rest.ensures in
     record {
-      left = ap (λ (o : Option (List (List ℕ))). is_some o) start ∙ c.requires.names;
-      passed = each_below-none (entry_check (cursor c.args.note.now));
-      so_far = ap (λ (es : List Entry). with_left note (map entry_view es) 0 (texts_in (count - 0) rest)) c.new-entries.ensures.items ∙ ap (with_left note [] 0) start;
+      left = ap (λ (o : Option (List (List ℕ))). is_some o) start ∙ texts_some (file_entry_count note) (names_part note) ∙ c.requires.names;
+      passed = each_below-none (file_entry_check (cursor c.args.note.now));
+      so_far = ap (λ (es : List Entry). with_left note (map entry_view es) 0 (texts_in (count - 0) rest)) c.in_ok-entries.ensures.items ∙ ap (with_left note [] 0) start;
     }
 
 pub unreachable-requires : goal.unreachable-requires
@@ -37,10 +39,10 @@ unreachable-requires c =
 
 pub returns-in_err-entry-clause-check : goal.returns-in_err-entry-clause-check
 returns-in_err-entry-clause-check c =
-    let check = each_below (entry_count c.args.note.now.bytes.now) (entry_check (cursor c.args.note.now)) in
-    let stop = each_below-stop c.args.header.now.count c.loop-k.k (entry_check (cursor c.args.note.now)) c.in_err-entry.field-0.0 c.loop-k-test.true c.loop-k.invariant.passed (sym c.in_err-entry.ensures.check) in
-    let p = err_from_is_err_and c.from_residual.result c.from_residual.ensures.1 in
-    rw (p.1, p.2) (answers_fault check c.in_err-entry.field-0.0 (ap (λ (n : ℕ). each_below n (entry_check (cursor c.args.note.now))) (sym c.requires.count) ∙ stop))
+    let check = each_below (file_entry_count c.args.note.now.bytes.now) (file_entry_check (cursor c.args.note.now)) in
+    let stop = each_below-stop c.args.header.now.count c.loop-k.k (file_entry_check (cursor c.args.note.now)) c.in_err-entry.field-0.0 c.loop-k-test.true c.loop-k.invariant.passed (sym c.in_err-entry.ensures.check) in
+    let p = err_from_is_err_and c.from_residual-in_err-entry.result c.from_residual-in_err-entry.ensures.1 in
+    rw (p.1, p.2) (answers_fault check c.in_err-entry.field-0.0 (ap (λ (n : ℕ). each_below n (file_entry_check (cursor c.args.note.now))) (sym c.requires.count) ∙ stop))
 
 pub loop-k-preserved : goal.loop-k-preserved
 loop-k-preserved c =
@@ -52,7 +54,7 @@ loop-k-preserved c =
     let entries = c.loop-k.entries.items in
     record {
       left = sym (has-next count k c.loop-k.rest.now text.0.now text.1.now c.loop-k-test.true front) ∙ c.loop-k.invariant.left;
-      passed = each_below-more k (entry_check (cursor c.args.note.now)) c.loop-k.invariant.passed (sym c.in_ok-entry.ensures.check);
+      passed = each_below-more k (file_entry_check (cursor c.args.note.now)) c.loop-k.invariant.passed (sym c.in_ok-entry.ensures.check);
       so_far =
           entries-next note (map entry_view entries) (map entry_view c.push.new.self.items) count k c.loop-k.rest.now text.0.now text.1.now c.loop-k-test.true front
           (ap (map entry_view) c.in_ok-push.ensures.items ∙ map-append entry_view entries (c.in_ok-entry.entry ∷ []) ∙ ap (λ (e : EntryView). map entry_view entries ++ e ∷ []) c.in_ok-entry.ensures.value)

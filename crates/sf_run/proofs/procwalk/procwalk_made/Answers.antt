@@ -2,7 +2,7 @@ use Rattle.std.proofs.Common.{◌≡◌, ℕ, List, Ok, map, string_bytes, sym, 
 use Rattle.std.proofs.lemmas.List.{length-map}
 use Rattle.std.proofs.lemmas.Result.{err_from_is_err_and}
 use Rattle.sf_modules.specs.Entry.{entry_view}
-use Rattle.sf_modules.specs.Note.{HasEntries, entries_check}
+use Rattle.sf_modules.specs.Note.{HasEntries, file_entries_check}
 use Rattle.sf_run.specs.Making.{ComesAs}
 use Rattle.sf_run.specs.ProcwalkComes.{FilesCome, file_note, files_fault, process_of}
 use Rattle.sf_run.proofs.Backtraces.{first_short}
@@ -24,7 +24,7 @@ returns-in_err-modules c =
     let core = c.args.core.now in
     let page = c.in-Ok-entries.note.0 in
     let entries = map entry_view c.deref.result.now in
-    let note : entries_check (file_note core) ≡ Ok tt = subst (λ (file : List ℕ). entries_check (file_note file) ≡ Ok tt) c.in-Ok.ensures.bytes c.in-Ok-entries.ensures.exact in
+    let note : file_entries_check (file_note core) ≡ Ok tt = subst (λ (file : List ℕ). file_entries_check (file_note file) ≡ Ok tt) c.in-Ok.ensures.bytes c.in-Ok-entries.ensures.exact in
     let are : HasEntries (file_note core) page entries =
     subst (λ es. HasEntries (file_note core) page (map entry_view es)) (sym c.deref.ensures.value)
     (subst (λ (file : List ℕ). HasEntries (file_note file) page (map entry_view c.in-Ok-entries.note.1.items)) c.in-Ok.ensures.bytes c.in-Ok-entries.ensures.sound) in
