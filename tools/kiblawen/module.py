@@ -26,9 +26,9 @@ cp module.bc {to}/module.bc && printf '%s\\n' "$@" >{to}/words && exec {clang} "
 """
 # The words of clang that change no code, or that only the toolchain's own understands: pathnames, warnings, and what is done on a crash.
 NO_FLAGS = re.compile(r"--sysroot=.*|-c|-Werror|-no-canonical-prefixes|-fintegrated-cc1|-fno-crash-diagnostics|--no-default-config")
-# What text for LLVM 22 has and LLVM 19 can't read. `ptrtoaddr` is a `ptrtoint` of which less is asked. The attribute is only on
-# declarations of intrinsics, which each version of LLVM knows by their names.
-NEWER = ((" = ptrtoaddr ", " = ptrtoint "), (" captures(none)", ""))
+# What text for LLVM 22 has and LLVM 19 can't read. `ptrtoaddr` is a `ptrtoint` of which less is asked. The attributes are on declarations
+# of intrinsics, whose attributes each version of LLVM knows by their names.
+NEWER = ((" = ptrtoaddr ", " = ptrtoint "), (" captures(none)", ""), (" nocreateundeforpoison", ""))
 LICENSES = {name: common.at_top(name) for name in ("LICENSE-MIT", "LICENSE-APACHE")}
 # What is packed beside the modules.
 BESIDE = {"kiblawen.h": common.at_top("include", "kiblawen.h"), **LICENSES}

@@ -32,6 +32,8 @@ from kiblawen import common, module, processes, program, release, shared, stagin
 SUITE = "bookworm"
 DEBOOTSTRAP = ["debootstrap", "--variant=minbase", "--include=gcc,libc6-dev,binutils,pkgconf,python3,clang-19", SUITE]
 PATH = "/usr/sbin:/usr/bin:/sbin:/bin"
+# How long a script may take: a clang builds the program in a minute, on a busy machine in several.
+SECONDS = 4 * common.SECONDS
 # Where the tarball is unpacked, in a root.
 TARBALL = "/try/kiblawen"
 # How a command is begun in a root, and with /proc there. That is mounted for this command alone.
@@ -130,7 +132,7 @@ class Root:
         """Returns the exit status and what the script prints on both streams."""
         words = [*begin, self.path, "sh", "-euc", f"cd /try\n{script}"]
         how = {"stdin": subprocess.DEVNULL, "stdout": subprocess.PIPE, "stderr": subprocess.STDOUT}
-        ran = subprocess.run(words, env=self.environment, timeout=common.SECONDS, check=False, **how)
+        ran = subprocess.run(words, env=self.environment, timeout=SECONDS, check=False, **how)
         return ran.returncode, ran.stdout.decode(errors="replace")
 
     def ends_well(self, script, begin=CHROOT):
