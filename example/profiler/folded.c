@@ -45,6 +45,40 @@ static void append_name(struct process *process, char **line, size_t *len, uint6
     append(line, len, name);
 }
 
+/* Writes the row that holds at an address to `row`. Returns the section that has it, or NULL. */
+static const struct kiblawen_section *row_at(const struct process *process, uint64_t pc, struct kiblawen_row *row)
+{
+    const struct file *file = file_at(process, pc);
+    const struct kiblawen_section *section = file ? &process->modules[file - process->files].section : NULL;
+    return section && kiblawen_find(section, pc, row) ? section : NULL;
+}
+
+/*
+ * Walks a sample with frame pointers that may be unknown. At a `ret` after `leave` the row still has the frame pointer's place,
+ * which is below the stack pointer by then, and in no sample. So the caller's frame pointer is unknown, which ends the walk
+ * only at a row that counts from it. Returns how many frames there are.
+ */
+static size_t walk_without_fp(const struct process *process, struct kiblawen_sample sample, struct kiblawen_frame *frames)
+{
+    struct kiblawen_row row;
+    struct kiblawen_caller caller = {.ra_known = 1};
+    bool is_known = true;
+    size_t count = 0;
+    while (count < MOST_FRAMES && caller.ra_known) {
+        frames[count++] = (struct kiblawen_frame){sample.pc, 0};
+        sample.pc -= count > 1;
+        const struct kiblawen_section *section = row_at(process, sample.pc, &row);
+        if (!section || (row.base == KIBLAWEN_FP && !is_known) || !kiblawen_recover(section, &sample, &caller))
+            break;
+        frames[count - 1].cfa = caller.cfa;
+        is_known = row.fp_saved ? caller.fp_known : is_known;
+        sample.pc = caller.ra;
+        sample.sp = caller.cfa;
+        sample.fp = caller.fp;
+    }
+    return count;
+}
+
 /* Walks a sample, and adds its stack as a line. */
 void add_stack(struct process *process, const struct kiblawen_sample *sample)
 {
@@ -54,6 +88,8 @@ void add_stack(struct process *process, const struct kiblawen_sample *sample)
     size_t len = 0;
     open_tables(process);
     size_t count = kiblawen_walk_modules(process->modules, process->count, sample, frames, MOST_FRAMES, &stop);
+    if (stop.kind == KIBLAWEN_STOP_UNREADABLE)
+        count = walk_without_fp(process, *sample, frames);
     process->samples++;
     process->frames += count;
     process->stops[stop.kind]++;
