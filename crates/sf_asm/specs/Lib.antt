@@ -8,6 +8,7 @@ pub mod Functions
 pub mod Kept
 pub mod Inputs
 pub mod Initials
+pub mod Lent
 pub mod Linking
 pub mod ReadSoFar
 pub mod Faithful

@@ -1,16 +1,14 @@
 //! Omitted functions, lent as their records describe them.
 
-ghost use Rattle.std.specs.Prelude.{◌≡◌, ◌≤◌, ◌+◌, ◌^◌, ◌++◌, [], ◌∷◌, IfOk, IfErr, OnOk, IsTrue, Some, is_ok, true};
+ghost use Rattle.std.specs.Prelude.{◌≡◌, ◌++◌, [], ◌∷◌, IfOk, IfErr, OnOk, IsTrue, Some};
 ghost use Rattle.sf_bytes.specs.Cursor.{cursor};
 ghost use Rattle.sf_model.specs.Function.{key_fits};
 ghost use Rattle.cfa_insn.specs.Listing.{listing};
 ghost use Rattle.cfa_machine.specs.Initial.{IsInitial};
-ghost use Rattle.cfa_machine.specs.Pass.{rows_by};
 ghost use Rattle.eh_records.specs.Cie.{cie_view};
-ghost use Rattle.eh_records.specs.Fde.{fde_view};
-ghost use Rattle.eh_records.specs.Named.{HasNamed};
 ghost use Rattle.sf_asm.specs.declared.fault.AsmFault.TheVariants.{NoMemory};
 ghost use Rattle.sf_asm.specs.Initials.{AreInitial};
+ghost use Rattle.sf_asm.specs.Lent.{CanBeLent};
 ghost use Rattle.sf_asm.specs.Numbers.{AreNumbered, IsNumberOf};
 ghost use Rattle.sf_asm.specs.Sources.{common_of, common_view, function_by_span, if_left};
 
@@ -54,10 +52,7 @@ fn add_common<'a>(
     numbers: &mut CommonNumbers,
     sources: &mut Sources<'a>,
 ) -> Result<u32, AsmFault>
-    requires key { IsTrue (key_fits section.now.arch fde.now.cie.key) }
-    requires initials { AreInitial section.now.arch section.now.bytes.now initials.old }
-    requires named { HasNamed section.now.arch section.now.bytes.now (fde_view fde.now) }
-    requires ran { is_ok (rows_by section.now.arch fde.now.cie.code fde.now.cie.factor span.size (listing (cursor fde.now.cie.insns)) (listing (cursor fde.now.insns))) ≡ true }
+    requires lent { CanBeLent section.now fde.now span initials.old }
     requires numbered { AreNumbered section.now.arch section.now.bytes.now numbers.old sources.old.common }
     ensures initials { OnOk result (AreInitial section.now.arch section.now.bytes.now initials.new) }
     ensures numbered { OnOk result (AreNumbered section.now.arch section.now.bytes.now numbers.new sources.new.common) }
@@ -86,10 +81,7 @@ fn common_number<'a>(
     numbers: &mut CommonNumbers,
     sources: &mut Sources<'a>,
 ) -> Result<u32, AsmFault>
-    requires key { IsTrue (key_fits section.now.arch fde.now.cie.key) }
-    requires initials { AreInitial section.now.arch section.now.bytes.now initials.old }
-    requires named { HasNamed section.now.arch section.now.bytes.now (fde_view fde.now) }
-    requires ran { is_ok (rows_by section.now.arch fde.now.cie.code fde.now.cie.factor span.size (listing (cursor fde.now.cie.insns)) (listing (cursor fde.now.insns))) ≡ true }
+    requires lent { CanBeLent section.now fde.now span initials.old }
     requires numbered { AreNumbered section.now.arch section.now.bytes.now numbers.old sources.old.common }
     ensures initials { OnOk result (AreInitial section.now.arch section.now.bytes.now initials.new) }
     ensures numbered { OnOk result (AreNumbered section.now.arch section.now.bytes.now numbers.new sources.new.common) }
@@ -113,11 +105,7 @@ fn lend_source<'a>(
     numbers: &mut CommonNumbers,
     sources: &mut Sources<'a>,
 ) -> Result<(), AsmFault>
-    requires key { IsTrue (key_fits section.now.arch fde.now.cie.key) }
-    requires initials { AreInitial section.now.arch section.now.bytes.now initials.old }
-    requires named { HasNamed section.now.arch section.now.bytes.now (fde_view fde.now) }
-    requires end { span.start + span.size ≤ 2 ^ 64 }
-    requires ran { is_ok (rows_by section.now.arch fde.now.cie.code fde.now.cie.factor span.size (listing (cursor fde.now.cie.insns)) (listing (cursor fde.now.insns))) ≡ true }
+    requires lent { CanBeLent section.now fde.now span initials.old }
     requires numbered { AreNumbered section.now.arch section.now.bytes.now numbers.old sources.old.common }
     ensures initials { OnOk result (AreInitial section.now.arch section.now.bytes.now initials.new) }
     ensures numbered { OnOk result (AreNumbered section.now.arch section.now.bytes.now numbers.new sources.new.common) }
@@ -146,11 +134,7 @@ pub fn lend<'a>(
     numbers: &mut CommonNumbers,
     sources: &mut Sources<'a>,
 ) -> Result<(), AsmFault>
-    requires key { IsTrue (key_fits section.now.arch fde.now.cie.key) }
-    requires initials { AreInitial section.now.arch section.now.bytes.now initials.old }
-    requires named { HasNamed section.now.arch section.now.bytes.now (fde_view fde.now) }
-    requires end { entry.now.span.start + entry.now.span.size ≤ 2 ^ 64 }
-    requires ran { is_ok (rows_by section.now.arch fde.now.cie.code fde.now.cie.factor entry.now.span.size (listing (cursor fde.now.cie.insns)) (listing (cursor fde.now.insns))) ≡ true }
+    requires lent { CanBeLent section.now fde.now entry.now.span initials.old }
     requires numbered { AreNumbered section.now.arch section.now.bytes.now numbers.old sources.old.common }
     ensures initials { OnOk result (AreInitial section.now.arch section.now.bytes.now initials.new) }
     ensures numbered { OnOk result (AreNumbered section.now.arch section.now.bytes.now numbers.new sources.new.common) }

@@ -22,6 +22,7 @@ ghost use Rattle.sf_asm.specs.Fault.{wraps_record, wraps_reloc, wraps_machine};
 ghost use Rattle.sf_asm.specs.declared.fault.AsmFault.TheVariants.{NoMemory, Record};
 ghost use Rattle.sf_asm.specs.Functions.{function_in, functions_in, named, section_functions, span_in};
 ghost use Rattle.sf_asm.specs.Initials.{AreInitial};
+ghost use Rattle.sf_asm.specs.Lent.{CanBeLent};
 ghost use Rattle.sf_asm.specs.Kept.{entry_of, outcome_by};
 ghost use Rattle.sf_asm.specs.ReadSoFar.{AreNumberedIn, AreSound, ReadsFunctions, ReadsMore};
 ghost use Rattle.sf_asm.specs.Relocated.{pointer_check};
@@ -244,11 +245,7 @@ fn add_function<'a>(
     spare: &mut Rows,
     read: &mut ReadFunctions<'a>,
 ) -> Result<(), AsmFault>
-    requires key { IsTrue (key_fits section.now.arch fde.now.cie.key) }
-    requires initials { AreInitial section.now.arch section.now.bytes.now initials.old }
-    requires named { HasNamed section.now.arch section.now.bytes.now (fde_view fde.now) }
-    requires end { entry.span.start + entry.span.size ≤ 2 ^ 64 }
-    requires ran { is_ok (rows_by section.now.arch fde.now.cie.code fde.now.cie.factor entry.span.size (listing (cursor fde.now.cie.insns)) (listing (cursor fde.now.insns))) ≡ true }
+    requires lent { CanBeLent section.now fde.now entry.span initials.old }
     requires sound { IsSound section.now.arch entry }
     requires function { entry_of (function_by_span section.now.arch fde.now entry.span) ≡ entry }
     requires numbered { AreNumberedIn section.now.arch section.now.bytes.now numbers.old read.old }

@@ -18,4 +18,4 @@ returns-clause-numbered c =
     (subst (λ (n : ℕ). IsNumberOf (old ++ added ∷ []) (Some (common_of section.arch cie)) n) (sym c.in_ok-number.ensures.number) first) in
     c.in_ok-insert.ensures section.arch section.bytes.now c.add_common.new.self.common
     (subst (AreNumbered section.arch section.bytes.now c.args.numbers.now) (sym is) (numbered_still section.arch section.bytes.now c.args.numbers.now old added c.requires.numbered))
-    (number_of_named section.arch section.bytes.now cie c.add_common.new.self.common c.in_ok-number.number c.requires.named own)
+    (number_of_named section.arch section.bytes.now cie c.add_common.new.self.common c.in_ok-number.number c.requires.lent.named own)
