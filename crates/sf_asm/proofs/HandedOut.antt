@@ -1,18 +1,23 @@
 -- Kept functions, a list for each input.
 use Rattle.std.specs.List.{AllByRecursion}
-use Rattle.std.proofs.Common.{◌≡◌, ℕ, zero, suc, ◌+◌, ◌<◌, Bool, true, false, cond, eqb, All, Vec, Global, List, [], ◌∷◌, ◌++◌, length, get_or, map, refl, sym, ap, subst, ◌∙◌, arith}
+use Rattle.std.proofs.Common.{◌≡◌, ℕ, zero, suc, ◌+◌, ◌<◌, ◌≤◌, Bool, true, false, cond, eqb, All, Vec, Global, List, [], ◌∷◌, ◌++◌, length, get_or, map, take, None, Result, refl, sym, ap, subst, ◌∙◌, arith}
 use Rattle.std.proofs.Math.ListN.{set}
 use Rattle.std.proofs.lemmas.Bool.{eqb-true, eqb-false}
 use Rattle.std.proofs.lemmas.Bool.Decides.{nat_tests}
-use Rattle.std.proofs.lemmas.List.{append-nil, get_or-set_same, get_or-set_other, length-set}
+use Rattle.std.proofs.lemmas.List.{take_more, append-nil, get_or-set_same, get_or-set_other, length-set}
 use Rattle.std.proofs.lemmas.List.Elements.{All-from_recursion, filter-append}
 use Rattle.sf_model.specs.declared.machine.Arch.{Arch}
 use Rattle.sf_model.specs.declared.function.Func.{Func}
 use Rattle.sf_model.specs.declared.omission.Omission.{Omission}
+use Rattle.sf_model.specs.declared.omission.Reason.TheVariants.{EmptyRange}
+use Rattle.sf_model.specs.declared.omission.Span.{Span}
+use Rattle.sf_asm.specs.declared.gathering.Gathered.{Gathered}
 use Rattle.sf_model.specs.Function.{AreWritable}
 use Rattle.sf_asm.specs.declared.entry.Entry.{Entry}
+use Rattle.sf_asm.specs.declared.entry.Outcome.{Outcome}
 use Rattle.sf_asm.specs.declared.entry.Outcome.TheVariants.{Kept, Left}
-use Rattle.sf_asm.specs.Entry.{kept_by_item, kept_of, of_item}
+use Rattle.sf_asm.specs.Kept.{outcome_by}
+use Rattle.sf_asm.specs.Entry.{kept_by_item, kept_of, of_item, omitted_of, spans_of}
 use Rattle.sf_asm.proofs.Kept.{kept_of-kept, kept_of-left}
 
 abbrev pub is_of : (item : ℕ) → Entry → Bool
@@ -53,6 +58,22 @@ left_out item es e o left = at_test (is_of item e) refl
     at_test false t = kept_elsewhere item es e (λ is. (let same = equal_test e.span.origin.item item is in let no : true ≡ false = sym same ∙ t in cc))
 
 -- ---- one function after the other
+-- the next of a list of functions, by its addresses and what becomes of it
+next_is : (g e : Entry) (given : Result Func Omission) → e.span ≡ g.span → g.outcome ≡ outcome_by given → outcome_by given ≡ e.outcome → g ≡ e
+next_is g e given span outcome is =
+    ap (λ (s : Span). record { span = s; outcome = g.outcome }) (sym span) ∙ ap (λ (o : Outcome). record { span = e.span; outcome = o }) (outcome ∙ is)
+
+pub one_more : (es : List Entry) (i : ℕ) (e : Entry) (given : Result Func Omission) → i < length es → e.span ≡ (get_or es i e).span → (get_or es i e).outcome ≡ outcome_by given → outcome_by given ≡ e.outcome → (get_or es i e ≡ e) × (take (i + 1) es ≡ take i es ++ e ∷ [])
+one_more es i e given low span outcome is =
+    let next : get_or es i e ≡ e = next_is (get_or es i e) e given span outcome is in
+    (next, take_more es i e low ∙ ap (λ (x : Entry). take i es ++ x ∷ []) next)
+
+-- its item is one of these
+pub span_within : (first end : ℕ) (es : List Entry) (i : ℕ) (span : Span) → i < length es → All (λ (x : Entry). (first ≤ x.span.origin.item) × (x.span.origin.item < end)) es → ((d : Entry) → span ≡ (get_or es i d).span) → (first ≤ span.origin.item) × (span.origin.item < end)
+span_within first end es i span low all is =
+    let d : Entry = record { span = span; outcome = Left record { reason = EmptyRange; offset = None } } in
+    subst (λ (s : Span). (first ≤ s.origin.item) × (s.origin.item < end)) (sym (is d)) (all i d low)
+
 -- each list has the kept functions of its input
 abbrev pub AreHandedOut : (first : ℕ) → List (Vec Func Global) → List Entry → Type 0
 AreHandedOut first lists es = (k : ℕ) (d : Vec Func Global) → k < length lists → (get_or lists k d).items ≡ kept_of (of_item (first + k) es)
@@ -99,3 +120,11 @@ each_of arch first (suc count) (list ∷ lists) es e h =
 pub each_writable : (arch : Arch) (first count : ℕ) (lists : List (Vec Func Global)) (es : List Entry) → map (λ (list : Vec Func Global). list.items) lists ≡ kept_by_item first count es → ((item : ℕ) → AreWritable arch (kept_of (of_item item es)))
     → All (λ (list : Vec Func Global). AreWritable arch list.items) lists
 each_writable arch first count lists es e h = All-from_recursion (λ (list : Vec Func Global). AreWritable arch list.items) lists (each_of arch first count lists es e h)
+
+-- ---- what was sorted out of these functions
+pub record AreSortedOut (arch : Arch) (first count : ℕ) (gathered : Gathered) (es : List Entry) : Type 0 where
+  pub arch_is : gathered.arch ≡ arch
+  pub many : length gathered.kept.items ≡ count
+  pub kept : AreHandedOut first gathered.kept.items es
+  pub omitted : gathered.omitted.items ≡ omitted_of es
+  pub spans : gathered.spans.items ≡ spans_of es

@@ -176,6 +176,11 @@ pub span_of : (rows : StoredRows) (heads : List Head) (i : ℕ) (d : Entry) → 
 span_of rows heads i d lt h is =
     ap (λ (e : Entry). e.span) (sym (get_or-map (entry_in rows) heads i no_head d lt ∙ ap (entry_in rows) (sym is)))
 
+-- what becomes of a function of a list, by its head
+pub outcome_of : (rows : StoredRows) (heads : List Head) (i : ℕ) (d : Entry) → i < length heads → (h : Head) → h ≡ get_or heads i no_head → outcome_in rows h ≡ (get_or (entries_in rows heads) i d).outcome
+outcome_of rows heads i d lt h is =
+    ap (λ (e : Entry). e.outcome) (sym (get_or-map (entry_in rows) heads i no_head d lt ∙ ap (entry_in rows) (sym is)))
+
 -- ---- kept and omitted ones
 kept_one : (rows : StoredRows) (x : Head) (heads : List Head) → map (stored_in rows) (stored_of heads) ≡ kept_of (entries_in rows heads)
     → map (stored_in rows) (stored_of (x ∷ heads)) ≡ kept_of (entries_in rows (x ∷ heads))

@@ -4,6 +4,7 @@ use Rattle.std.specs.Prelude.{IsTrue}
 use Rattle.sf_model.specs.declared.machine.Arch.{Arch}
 use Rattle.sf_model.specs.declared.facts.FdeFacts.{FdeFacts}
 use Rattle.sf_model.specs.declared.function.Func.{Func}
+use Rattle.sf_model.specs.declared.function.FuncHead.{FuncHead}
 use Rattle.sf_model.specs.declared.function.Shape.TheVariants.{Plain}
 use Rattle.sf_model.specs.declared.omission.Omission.{Omission}
 use Rattle.sf_model.specs.declared.omission.Reason.{Reason}
@@ -13,6 +14,10 @@ use Rattle.cfa_machine.specs.declared.fault.MachineFault.{MachineFault}
 use Rattle.cfa_machine.specs.declared.row.DwRow.{DwRow}
 use Rattle.cfa_machine.specs.FirstFault.{first_fault}
 use Rattle.cfa_machine.specs.Pass.{rows_by}
+use Rattle.cfa_machine.specs.RowList.{AreRows}
+use Rattle.sf_decode.specs.View.{head_of}
+use Rattle.sf_write.specs.declared.packed.PackedRows.{PackedRows}
+use Rattle.sf_write.specs.Packed.{ArePacked, IsPacked}
 use Rattle.cfa_machine.proofs.GoodRows.{AreRowsIfOk, rows_by-are_rows}
 use Rattle.cfa_machine.proofs.Says.{SaysAllIfOk, rows_by-say}
 use Rattle.cfa_machine.proofs.Faults.{fault_of, rows_by-fault}
@@ -22,8 +27,9 @@ use Rattle.sf_express.specs.Run.{on_rows}
 use Rattle.sf_express.specs.Runs.{AreSaid, function_of}
 use Rattle.sf_express.proofs.ByOffsets.{answer_means}
 use Rattle.sf_express.proofs.Omitted.{answer_omits}
-use Rattle.sf_express.proofs.Writable.{FunctionFits, function_by-fits}
+use Rattle.sf_express.proofs.Writable.{FunctionFits, function_by-fits, rows_of_kept}
 use Rattle.sf_asm.specs.declared.entry.Outcome.{Outcome}
+use Rattle.sf_asm.specs.declared.entry.Outcome.TheVariants as outcome
 use Rattle.sf_asm.specs.declared.fault.AsmFault.{AsmFault}
 use Rattle.sf_asm.specs.declared.fault.AsmFault.TheVariants as asm
 use Rattle.sf_asm.specs.Entry.{IsSoundOutcome}
@@ -66,6 +72,35 @@ refused_by section fault (Err x) e = let is : asm.Machine section x ≡ fault = 
 
 pub rows_refused : (section : ℕ) (fault : AsmFault) (given : Result (List DwRow) MachineFault) (first : Option MachineFault) → fault_of given ≡ first → named (asm.Machine section) given ≡ Err fault → named (asm.Machine section) (unless first) ≡ Err fault
 rows_refused section fault given first is e = subst (λ (x : Option MachineFault). named (asm.Machine section) (unless x) ≡ Err fault) is (refused_by section fault given e)
+
+-- ---- the function that is packed
+pub made_packed : (arch : Arch) (facts : FdeFacts) (left : Result (List DwRow) MachineFault) (func : Func) (head : FuncHead) (packed : PackedRows) → ((rows : List DwRow) → left ≡ Ok rows → AreRows arch facts.size rows)
+    → on_rows (function_by arch facts) left ≡ Ok (Ok func) → head ≡ head_of func → ArePacked packed func.rows → IsPacked arch head packed func
+made_packed arch facts (Ok rows) func head packed are made is stored =
+    let given : function_by arch facts rows ≡ Ok func = cc in
+    let good = rows_of_kept arch facts rows func (are rows refl) given in
+    record { head_is = is; rows = stored; rise = good.0; contents = good.1 }
+made_packed arch facts (Err e) func head packed are made is stored = absurd cc
+
+pub kept_outcome : (arch : Arch) (facts : FdeFacts) (left : Result (List DwRow) MachineFault) (func other : Func) → on_rows (function_by arch facts) left ≡ Ok (Ok func) → other ≡ func → on_rows (λ rows. outcome_by (function_by arch facts rows)) left ≡ Ok (outcome.Kept other)
+kept_outcome arch facts (Ok rows) func other made same =
+    let given : function_by arch facts rows ≡ Ok func = cc in
+    ap (λ (x : Result Func Omission). Ok (outcome_by x)) given ∙ ap (λ (f : Func). Ok (outcome.Kept f)) (sym same)
+kept_outcome arch facts (Err e) func other made same = absurd cc
+
+pub left_outcome : (arch : Arch) (facts : FdeFacts) (left : Result (List DwRow) MachineFault) (omission : Omission) → on_rows (function_by arch facts) left ≡ Ok (Err omission) → on_rows (λ rows. outcome_by (function_by arch facts rows)) left ≡ Ok (outcome.Left omission)
+left_outcome arch facts (Ok rows) omission made =
+    let given : function_by arch facts rows ≡ Err omission = cc in
+    ap (λ (x : Result Func Omission). Ok (outcome_by x)) given
+left_outcome arch facts (Err e) omission made = absurd cc
+
+-- the rows that are left are good rows, where they are those of a function
+good_if : (arch : Arch) (size : ℕ) (given : Result (List DwRow) MachineFault) (rows : List DwRow) → AreRowsIfOk arch size given → given ≡ Ok rows → AreRows arch size rows
+good_if arch size (Ok good) rows are e = let is : good ≡ rows = cc in subst (AreRows arch size) is are
+good_if arch size (Err x) rows are e = absurd cc
+
+pub good_rows : (f : Function) (left : Result (List DwRow) MachineFault) (rows : List DwRow) → left ≡ rows_of f → left ≡ Ok rows → AreRows f.arch f.size rows
+good_rows f left rows is e = good_if f.arch f.size (rows_of f) rows (rows_by-are_rows _ _ _ _ _ _) (sym is ∙ e)
 
 -- ---- it can be written
 record Same (facts : FdeFacts) (g : Func) : Type 0 where

@@ -2,14 +2,15 @@
 
 ghost use Rattle.std.specs.Prelude.{◌≡◌, ◌++◌, [], ◌∷◌, IfOk, OnOk, IfErr, length};
 ghost use Rattle.sf_asm.specs.Entry.{IsSound};
-ghost use Rattle.sf_asm.specs.Heads.{ArePlacesOf, HasRows, entry_in};
+ghost use Rattle.sf_asm.specs.Heads.{ArePlacesOf, HasRows, entry_in, outcome_in};
+ghost use Rattle.sf_asm.specs.Kept.{outcome_by};
 ghost use Rattle.sf_asm.specs.Linking.{InOrder};
 ghost use Rattle.sf_write.specs.declared.stored.StoredFunction.{StoredFunction as stored_fact};
 ghost use Rattle.sf_write.specs.Stored.{IsStored, stored_in};
 
 use crate::entry::{Entry, Head, Outcome};
-use sf_model::{Arch, Omitted, Rows, Span};
-use sf_write::{StoredFunction, StoredList, StoredRows};
+use sf_model::{Arch, Func, Omission, Omitted, Span};
+use sf_write::{PackedRows, StoredFunction, StoredList, StoredRows};
 use std::alloc::{AllocError, Global};
 use std::marker::Model;
 
@@ -95,7 +96,7 @@ fn store(
     rows: &mut StoredRows,
     arch: Arch,
     entry: Entry,
-    spare: &mut Rows,
+    spare: &mut PackedRows,
 ) -> Result<Head, AllocError>
     requires { IsSound arch entry }
     ensures stored { IfOk result (λ head. HasRows rows.new head × (entry_in rows.new head ≡ entry)) }
@@ -104,8 +105,8 @@ fn store(
     let Entry { span, outcome } = entry;
     match outcome {
         Outcome::Kept(function) => {
-            let stored = rows.push(arch, &function)?;
-            *spare = function.rows;
+            let stored = rows.push_packed(arch, &function)?;
+            *spare = function.into_rows();
             Ok(Head::Kept(stored, span.origin))
         }
         Outcome::Left(omission) => Ok(Head::Left(Omitted {
@@ -117,19 +118,19 @@ fn store(
     }
 }
 
-/// Reads the function of a head, with a list of its rows.
-fn entry_of(alloc: Global, rows: &StoredRows, head: &Head) -> Result<Entry, AllocError>
+/// Reads the function of a head with a list of its rows, or its omission.
+fn function_of(
+    alloc: Global,
+    rows: &StoredRows,
+    head: &Head,
+) -> Result<Result<Func, Omission>, AllocError>
     requires { HasRows rows.now head.now }
-    ensures { IfOk result (λ entry. entry ≡ entry_in rows.now head.now) }
+    ensures { IfOk result (λ given. outcome_in rows.now head.now ≡ outcome_by given) }
 {
-    let outcome = match head {
-        Head::Kept(stored, _) => Outcome::Kept(rows.function(alloc, stored)?),
-        Head::Left(omitted) => Outcome::Left(omitted.omission),
-    };
-    Ok(Entry {
-        span: head.span(),
-        outcome,
-    })
+    match head {
+        Head::Kept(stored, _) => Ok(Ok(rows.function(alloc, stored)?)),
+        Head::Left(omitted) => Ok(Err(omitted.omission)),
+    }
 }
 
 /// Lists the places of all functions, in the order of the list.
@@ -167,7 +168,12 @@ impl Entries {
 
     /// Adds a function. The memory of its rows goes to `spare`.
     #[inline(always)]
-    pub fn push(&mut self, arch: Arch, entry: Entry, spare: &mut Rows) -> Result<(), AllocError>
+    pub fn push(
+        &mut self,
+        arch: Arch,
+        entry: Entry,
+        spare: &mut PackedRows,
+    ) -> Result<(), AllocError>
         requires { IsSound arch entry }
         ensures { OnOk result (self.new ≡ self.old ++ entry ∷ []) }
     {
@@ -247,20 +253,16 @@ impl OrderedEntries {
         })
     }
 
-    /// Reads the functions, each with a list of its rows.
-    pub fn with_rows(self, alloc: Global) -> Result<Vec<Entry>, AllocError>
-        ensures { IfOk result (λ entries. entries.items ≡ self) }
+    /// Reads a function with a list of its rows, or its omission.
+    pub fn function(
+        &self,
+        alloc: Global,
+        number: usize,
+    ) -> Result<Result<Func, Omission>, AllocError>
+        requires { number < length self.now }
+        ensures { IfOk result (λ given. (d : entry) → (get_or self.now number d).outcome ≡ outcome_by given) }
     {
-        let OrderedEntries {
-            heads,
-            places,
-            rows,
-        } = self;
-        let mut entries = Vec::new(alloc);
-        for place in places.as_slice() {
-            entries.push(entry_of(alloc, &rows, &heads[place.index])?)?;
-        }
-        Ok(entries)
+        function_of(alloc, &self.rows, &self.heads[self.places[number].index])
     }
 }
 

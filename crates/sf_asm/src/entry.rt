@@ -1,13 +1,13 @@
 //! A function that was read, kept or omitted.
 
-use sf_model::{Func, Omission, Omitted, Origin, Span};
-use sf_write::StoredFunction;
+use sf_model::{Omission, Omitted, Origin, Span};
+use sf_write::{PackedFunction, StoredFunction};
 
 /// What became of a function.
 #[derive(Drop)]
 pub enum Outcome {
     /// SFrame can express it.
-    Kept(Func),
+    Kept(PackedFunction),
     /// SFrame can't express it.
     Left(Omission),
 }
@@ -29,7 +29,7 @@ impl Entry {
         ensures { result ≡ entry_rows self.now }
     {
         match &self.outcome {
-            Outcome::Kept(function) => function.rows.as_slice().len(),
+            Outcome::Kept(function) => function.head().rows as usize,
             Outcome::Left(_) => 0,
         }
     }

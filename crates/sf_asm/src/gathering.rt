@@ -13,7 +13,6 @@ ghost use Rattle.sf_asm.specs.Fault.{is_gather_answered};
 ghost use Rattle.sf_write.specs.Stored.{IsStored, stored_in};
 
 use crate::entries::{KeptFunctions, OrderedEntries};
-use crate::entry::{Entry, Outcome};
 use crate::fault::GatherFault;
 use crate::input::Input;
 use crate::inputs::{one_machine, read_all};
@@ -237,13 +236,13 @@ fn sort_out(
     arch: Arch,
     first: u32,
     count: usize,
-    entries: Vec<Entry>,
+    entries: &OrderedEntries,
 ) -> Result<Gathered, AllocError>
-    requires { All (λ entry. (first ≤ entry.span.origin.item) × (entry.span.origin.item < first + count)) entries.items }
+    requires { All (λ entry. (first ≤ entry.span.origin.item) × (entry.span.origin.item < first + count)) entries.now }
     ensures arch { IfOk result (λ g. g.arch ≡ arch) }
-    ensures kept { IfOk result (λ g. map (λ list. list.items) g.kept.items ≡ kept_by_item first count entries.items) }
-    ensures omitted { IfOk result (λ g. g.omitted.items ≡ omitted_of entries.items) }
-    ensures spans { IfOk result (λ g. g.spans.items ≡ spans_of entries.items) }
+    ensures kept { IfOk result (λ g. map (λ list. list.items) g.kept.items ≡ kept_by_item first count entries.now) }
+    ensures omitted { IfOk result (λ g. g.omitted.items ≡ omitted_of entries.now) }
+    ensures spans { IfOk result (λ g. g.spans.items ≡ spans_of entries.now) }
 {
     let mut gathered = Gathered {
         arch,
@@ -251,14 +250,13 @@ fn sort_out(
         omitted: Vec::new(alloc),
         spans: Vec::new(alloc),
     };
-    for entry in entries {
-        let Entry { span, outcome } = entry;
+    for number in 0..entries.len() {
+        let span = entries.span(number);
         gathered.spans.push(span)?;
-        match outcome {
-            Outcome::Kept(func) => {
-                gathered.kept[(span.origin.item - first) as usize].push(func)?
-            }
-            Outcome::Left(omission) => gathered.omitted.push(Omitted {
+        let given = entries.function(alloc, number)?;
+        match given {
+            Ok(func) => gathered.kept[(span.origin.item - first) as usize].push(func)?,
+            Err(omission) => gathered.omitted.push(Omitted {
                 start: span.start,
                 size: span.size,
                 origin: span.origin,
@@ -296,6 +294,5 @@ pub fn gather(
 {
     let read = ordered(alloc, inputs, before, false)?;
     let first = first_item(before);
-    let entries = read.entries.with_rows(alloc)?;
-    Ok(sort_out(alloc, read.arch, first, inputs.len(), entries)?)
+    Ok(sort_out(alloc, read.arch, first, inputs.len(), &read.entries)?)
 }

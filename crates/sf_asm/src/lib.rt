@@ -6,7 +6,8 @@
 //! makes one list of the functions that are kept, and one of their rows; [`gather_with_sources`] also lends the
 //! omitted functions as their records describe them; what the functions of one common information entry share is
 //! held once. [`row_at`] returns the content of the row at an address, in any of the functions. [`assemble`] writes the
-//! section of one input. An input has fewer than 2^32 bytes. All five allocate; no section is copied.
+//! section of one input. An input has fewer than 2^32 bytes. All five allocate; no section is copied. While a function is
+//! read, its rows are held as bytes.
 //!
 //! [`kept_functions_recover_alike`], [`walks_are_alike`], [`linking_comes_to_one_result`],
 //! [`accepted_inputs_are_linked`] and [`inputs_that_can_be_gathered_are`] are laws: the kept functions recover

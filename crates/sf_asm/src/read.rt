@@ -13,7 +13,8 @@ use crate::entries::Entries;
 use crate::entry::Entry;
 use crate::fault::GatherFault;
 use crate::sources::Sources;
-use sf_model::{Arch, Rows};
+use sf_model::Arch;
+use sf_write::PackedRows;
 use std::alloc::{AllocError, Global};
 
 /// The most functions of one run, omitted ones included.
@@ -63,7 +64,12 @@ impl<'a> HeldFunctions<'a> {
 
     /// Adds a function that there is room for. The memory of its rows goes to `spare`.
     #[inline(always)]
-    pub fn add(&mut self, arch: Arch, entry: Entry, spare: &mut Rows) -> Result<(), AllocError>
+    pub fn add(
+        &mut self,
+        arch: Arch,
+        entry: Entry,
+        spare: &mut PackedRows,
+    ) -> Result<(), AllocError>
         requires sound { IsSound arch entry }
         requires room { entry_rows entry ≤ self.old.rows_left }
         ensures entries { OnOk result (self.new.entries ≡ self.old.entries ++ entry ∷ []) }

@@ -7,6 +7,8 @@ ghost use Rattle.sf_model.specs.Function.{key_fits};
 ghost use Rattle.cfa_insn.specs.Listing.{listing};
 ghost use Rattle.cfa_machine.specs.Left.{limit, rows_left};
 ghost use Rattle.cfa_machine.specs.Pass.{rows_by};
+ghost use Rattle.cfa_machine.specs.RowList.{AreRows};
+ghost use Rattle.cfa_machine.specs.declared.row.DwRow.{DwRow};
 ghost use Rattle.eh_records.specs.Fde.{fde_view};
 ghost use Rattle.eh_records.specs.Named.{HasNamed};
 ghost use Rattle.eh_records.specs.Section.{entries_of, frames, pointer_fields};
@@ -15,6 +17,8 @@ ghost use Rattle.elf_place.specs.Views.{placing};
 ghost use Rattle.elf_reloc.specs.declared.fault.RelocFault.{RelocFault as reloc_fault};
 ghost use Rattle.elf_reloc.specs.declared.fix.RelocatedField.{RelocatedField};
 ghost use Rattle.sf_express.specs.Expressed.{function_by};
+ghost use Rattle.sf_model.specs.declared.function.Func.{Func as func_fact};
+ghost use Rattle.sf_write.specs.Packed.{CanBeUnpacked, IsPacked};
 ghost use Rattle.sf_express.specs.Run.{on_rows};
 ghost use Rattle.sf_asm.specs.Answers.{IsRecordsFault, IsRelocFault, IsRowsFault, ReadsOne};
 ghost use Rattle.sf_asm.specs.Entry.{IsSound};
@@ -42,8 +46,10 @@ use eh_records::{Fde, RecordFault, Records};
 use elf_place::Placed;
 use elf_reloc::RelocFault;
 use sf_express::express_run;
-use sf_model::{Arch, FdeFacts, Origin, Rows, Span};
+use sf_model::{Arch, FdeFacts, FuncHead, Origin, Span};
+use sf_write::{PackedFunction, PackedRows};
 use std::alloc::Global;
+use std::mem;
 
 /// Wraps a fault of a section's records. `NoMemory` is passed on unwrapped.
 fn record_fault(section: u32, fault: RecordFault) -> AsmFault
@@ -160,6 +166,16 @@ fn begin_rows<'a>(
     }
 }
 
+/// Returns the function with this head, whose rows are those of `spare`.
+#[inline(always)]
+fn packed(alloc: Global, arch: Arch, head: FuncHead, spare: &mut PackedRows) -> PackedFunction
+    requires { CanBeUnpacked arch head spare.old }
+    ensures { (func : func_fact) → IsPacked arch head spare.old func → result ≡ func }
+{
+    let rows = mem::replace(spare, PackedRows::new(alloc));
+    PackedFunction::new(arch, head, rows)
+}
+
 /// Returns what becomes of the function that the runner was started on. Each of its instructions is run, and its rows are
 /// made in the memory of `spare`.
 #[inline(always)]
@@ -168,14 +184,15 @@ fn outcome_of(
     section: &CallFrameSection<'_>,
     facts: &FdeFacts,
     run: &mut Runner<'_>,
-    spare: &mut Rows,
+    spare: &mut PackedRows,
 ) -> Result<Outcome, AsmFault>
-    requires { limit run.old ≡ facts.now.size }
+    requires limit { limit run.old ≡ facts.now.size }
+    requires rows { (rows : List DwRow) → rows_left run.old ≡ Ok rows → AreRows section.now.arch facts.now.size rows }
     ensures given { IfOk result (λ outcome. on_rows (λ rows. outcome_by (function_by section.now.arch facts.now rows)) (rows_left run.old) ≡ Ok outcome) }
     ensures fault { IfErr result (λ fault. IsRowsFault section.now.number fault (rows_left run.old)) }
 {
-    match express_run(alloc, section.arch, facts, run, spare) {
-        Ok(Ok(function)) => Ok(Outcome::Kept(function)),
+    match express_run(section.arch, facts, run, spare) {
+        Ok(Ok(head)) => Ok(Outcome::Kept(packed(alloc, section.arch, head, spare))),
         Ok(Err(omission)) => Ok(Outcome::Left(omission)),
         Err(fault) => Err(machine_fault(section.number, fault)),
     }
@@ -204,7 +221,7 @@ fn read_function<'a>(
     fde: &Fde<'a>,
     initials: &mut Initials,
     run: &mut Runner<'a>,
-    spare: &mut Rows,
+    spare: &mut PackedRows,
 ) -> Result<Entry, AsmFault>
     requires key { IsTrue (key_fits section.now.arch fde.now.cie.key) }
     requires initials { AreInitial section.now.arch section.now.bytes.now initials.old }
@@ -242,7 +259,7 @@ fn add_function<'a>(
     lending: bool,
     initials: &mut Initials,
     numbers: &mut CommonNumbers,
-    spare: &mut Rows,
+    spare: &mut PackedRows,
     read: &mut ReadFunctions<'a>,
 ) -> Result<(), AsmFault>
     requires lent { CanBeLent section.now fde.now entry.span initials.old }
@@ -291,7 +308,7 @@ fn read_frames<'a>(
     let mut initials = Initials::new(alloc);
     let mut numbers = CommonNumbers::new(alloc);
     let mut run = Runner::new();
-    let mut spare = Rows::new(alloc);
+    let mut spare = PackedRows::new(alloc);
     for fde in records.fdes() {
         if overlay.dropped(fde.begin) {
             continue;

@@ -1,5 +1,5 @@
 -- The loops over rows that a runner yields one by one.
-use Rattle.std.proofs.Common.{◌≡◌, ℕ, List, [], ◌++◌, true, is_ok, Option, Some, Result, Ok, Err, refl, subst, sym, ap, ◌∙◌}
+use Rattle.std.proofs.Common.{◌≡◌, ℕ, List, [], ◌++◌, length, true, is_ok, Option, Some, None, Result, Ok, Err, refl, subst, sym, ap, ◌∙◌}
 use Rattle.std.proofs.lemmas.List.{append-nil}
 use Rattle.sf_model.specs.declared.machine.Arch.{Arch}
 use Rattle.sf_model.specs.declared.content.Content.{Content}
@@ -11,9 +11,16 @@ use Rattle.cfa_machine.specs.declared.fault.MachineFault.{MachineFault}
 use Rattle.cfa_machine.specs.declared.row.DwRow.{DwRow}
 use Rattle.cfa_machine.specs.Columns.{row_from}
 use Rattle.cfa_machine.specs.Left.{behind_row}
-use Rattle.sf_express.specs.Expressed.{unless_repeated, expressed_rows}
+use Rattle.sf_express.specs.Expressed.{unless_repeated, expressed_rows, function_by, reason_of}
 use Rattle.sf_express.specs.Rules.{content_of}
-use Rattle.sf_express.specs.Run.{on_rows}
+use Rattle.sf_express.specs.Run.{PacksRows, on_rows}
+use Rattle.sf_model.specs.declared.function.FuncHead.{FuncHead}
+use Rattle.sf_decode.specs.View.{head_of}
+use Rattle.sf_model.specs.declared.facts.FdeFacts.{FdeFacts}
+use Rattle.sf_model.specs.declared.function.Func.{Func}
+use Rattle.sf_model.specs.declared.function.Shape.TheVariants.{Plain}
+use Rattle.sf_write.specs.declared.packed.PackedRows.{PackedRows}
+use Rattle.sf_write.specs.Packed.{ArePacked}
 use Rattle.sf_express.proofs.Kept.{after_kept, regroup}
 
 -- the same end: both ended without a fault, or have the same one
@@ -60,6 +67,57 @@ unfolding expressed_rows
 is_done arch before last left whole none so_far =
     let here : kept_and_left arch before last left ≡ Ok (Ok before) = rw none (ap (λ (rows : List Row). Ok (Ok rows)) (append-nil before)) in
     sym so_far ∙ here
+
+-- the rows that are kept so far are packed
+pub record PackedSoFar (arch : Arch) (packed : PackedRows) (last : Option Content) (left : Result (List DwRow) MachineFault) (whole : Result (Result (List Row) Omission) MachineFault) : Type 0 where
+  pub rows : List Row
+  pub are : ArePacked packed rows
+  pub same : kept_and_left arch rows last left ≡ whole
+
+begins : (arch : Arch) (left : Result (List DwRow) MachineFault) → kept_and_left arch [] None left ≡ on_rows (expressed_rows arch None) left
+begins arch (Ok rows) = ap (λ (r : Result (List Row) Omission). Ok r) (after_none (expressed_rows arch None rows))
+  where
+    after_none : (given : Result (List Row) Omission) → after_kept [] given ≡ given
+    after_none (Ok rows) = refl
+    after_none (Err omission) = refl
+begins arch (Err e) = refl
+
+pub none_packed : (arch : Arch) (packed : PackedRows) (left : Result (List DwRow) MachineFault) → ArePacked packed [] → PackedSoFar arch packed None left (on_rows (expressed_rows arch None) left)
+none_packed arch packed left are = record { rows = []; are = are; same = begins arch left }
+
+pub packs_on : (arch : Arch) (old new : PackedRows) (last : Option Content) (start : ℕ) (c : Columns) (content : Content) (left after : Result (List DwRow) MachineFault) (whole : Result (Result (List Row) Omission) MachineFault) → left ≡ behind_row start c after → Ok content ≡ content_of arch (row_from start c)
+    → ((rows : List Row) → ArePacked old rows → ArePacked new (rows ++ unless_repeated last (record { start = start; content = content }) []))
+    → PackedSoFar arch old last left whole → PackedSoFar arch new (Some content) after whole
+packs_on arch old new last start c content left after whole next said grows so_far =
+    let row : Row = record { start = start; content = content } in
+    let now : List Row = so_far.rows ++ unless_repeated last row [] in
+    record {
+      rows = now;
+      are = grows so_far.rows so_far.are;
+      same = goes_on arch so_far.rows now last start c content left after whole next said refl so_far.same;
+    }
+
+-- ---- the function with the rows that were made
+abbrev function_with : FdeFacts → List Row → Func
+function_with facts rows = record { start = facts.start; size = facts.size; shape = Plain; key = facts.key; rows = rows }
+
+function_made : (arch : Arch) (facts : FdeFacts) (left : Result (List DwRow) MachineFault) (rows : List Row) → reason_of arch facts ≡ None → on_rows (expressed_rows arch None) left ≡ Ok (Ok rows) → on_rows (function_by arch facts) left ≡ Ok (Ok (function_with facts rows))
+function_made arch facts (Ok given) rows none made =
+    let is : expressed_rows arch None given ≡ Ok rows = cc in
+    rw (none, is) refl
+function_made arch facts (Err e) rows none made = absurd cc
+
+-- the head of the function whose rows are packed
+pub packed_function : {U : Type 0} (arch : Arch) (facts : FdeFacts) (left : Result (List DwRow) MachineFault) (packed : PackedRows) (result : Result U Omission) (u : U) (head : FuncHead) (count : ℕ) → reason_of arch facts ≡ None → result ≡ Ok u → PacksRows packed (Ok result) (on_rows (expressed_rows arch None) left)
+    → head ≡ record { start = facts.start; size = facts.size; shape = Plain; key = facts.key; rows = count } → ((rows : List Row) → ArePacked packed rows → count ≡ length rows)
+    → (func : Func) × (on_rows (function_by arch facts) left ≡ Ok (Ok func)) × (head ≡ head_of func) × ArePacked packed func.rows
+packed_function arch facts left packed (Ok w) u head count none is packs made counts = (
+  function_with facts packs.0,
+  function_made arch facts left packs.0 none packs.2,
+  made ∙ ap (λ (n : ℕ). record { start = facts.start; size = facts.size; shape = Plain; key = facts.key; rows = n }) (counts packs.0 packs.1),
+  packs.1,
+)
+packed_function arch facts left packed (Err omission) u head count none is packs made counts = absurd cc
 
 -- ---- running what is left
 pub continues_itself : (left : Result (List DwRow) MachineFault) → Continues left left

@@ -17,7 +17,7 @@ use Rattle.sf_model.specs.declared.omission.Reason.{Reason}
 use Rattle.sf_model.specs.declared.omission.Reason.TheVariants.{RaOffset}
 use Rattle.sf_model.specs.declared.rows.Row.{Row}
 use Rattle.sf_model.specs.Content.{content_fits}
-use Rattle.sf_model.specs.Function.{IsWritable, key_fits}
+use Rattle.sf_model.specs.Function.{IsWritable, RowsRise, key_fits}
 use Rattle.cfa_machine.specs.declared.rule.Rule.{Rule}
 use Rattle.cfa_machine.specs.declared.rule.Rule.TheVariants as rule
 use Rattle.cfa_machine.specs.declared.row.DwRow.{DwRow}
@@ -181,3 +181,17 @@ kept_is_writable arch facts rows kept h none given end key =
     let e : function_by arch facts rows ≡ Ok f = rw (none, given) refl in
     let fits : FunctionFits arch (Ok f) = subst (FunctionFits arch) e (function_by-fits arch facts rows h) in
     fits end key
+
+-- ---- the rows of a kept function rise, and their contents are those of the machine
+abbrev GoodRows : Arch → List Row → Type 0
+GoodRows arch rows = RowsRise rows × All (λ (r : Row). IsTrue (content_fits arch r.content)) rows
+
+good_by : (arch : Arch) (facts : FdeFacts) (reason : Option Reason) (given : Result (List Row) Omission) (func : Func) → KeptFit arch 0 given → with_rows facts reason given ≡ Ok func → GoodRows arch func.rows
+good_by arch facts (Some reason) given func fit e = absurd cc
+good_by arch facts None (Err omission) func fit e = absurd cc
+good_by arch facts None (Ok rows) func fit e =
+    let is : record { start = facts.start; size = facts.size; shape = Plain; key = facts.key; rows = rows } ≡ func = cc in
+    subst (λ (f : Func). GoodRows arch f.rows) is (adjacent 0 rows fit.rise, fit.contents)
+
+pub rows_of_kept : (arch : Arch) (facts : FdeFacts) (rows : List DwRow) (func : Func) → AreRows arch facts.size rows → function_by arch facts rows ≡ Ok func → RowsRise func.rows × All (λ (r : Row). IsTrue (content_fits arch r.content)) func.rows
+rows_of_kept arch facts rows func h e = good_by arch facts (reason_of arch facts) (expressed_rows arch None rows) func (kept_fit arch 0 None rows h.rise h.signs) e

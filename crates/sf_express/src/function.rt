@@ -75,9 +75,9 @@ fn row_of(arch: Arch, row: &DwRow) -> Result<Row, ExpressFault>
     }
 }
 
-/// Appends the row, unless its content is that of the row before it.
+// Appends the row, unless its content is that of the row before it.
 #[inline(always)]
-pub fn append(kept: &mut Rows, last: Option<Content>, row: Row) -> Result<(), AllocError>
+fn append(kept: &mut Rows, last: Option<Content>, row: Row) -> Result<(), AllocError>
     ensures { OnOk result (kept.new ≡ kept.old ++ unless_repeated last row []) }
 {
     if !is_repeated(last, row.content) {
@@ -101,8 +101,8 @@ fn express_rows(alloc: Global, arch: Arch, rows: &[DwRow]) -> Result<Rows, Expre
     Ok(kept)
 }
 
-/// Creates the function with these facts and rows.
-pub fn function_with(facts: &FdeFacts, rows: Rows) -> Func
+// Creates the function with these facts and rows.
+fn function_with(facts: &FdeFacts, rows: Rows) -> Func
     requires { facts.now.size < 2 ^ 32 }
     ensures { result ≡ record { start = facts.now.start; size = facts.now.size; shape = Plain; key = facts.now.key; rows = rows } }
 {

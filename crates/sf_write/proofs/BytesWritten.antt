@@ -82,7 +82,7 @@ row width r =
     both (unsigned_bytes width r.start) (row_info_byte z r.content ∷ flat_map (signed_bytes z) (row_offsets r.content)) (low 0 (width_len width) r.start)
     (cons (row_info_byte z r.content) (flat_map (signed_bytes z) (row_offsets r.content)) small (offsets z (row_offsets r.content)))
 
-rows_at : (width : ℕ) (rows : List Row) → AreBytes (flat_map (narrow_row width) rows)
+pub rows_at : (width : ℕ) (rows : List Row) → AreBytes (flat_map (narrow_row width) rows)
 rows_at width [] = none
 rows_at width (r ∷ rows) =
     subst AreBytes (sym (flat_map-cons (narrow_row width) r rows)) (both (narrow_row width r) (flat_map (narrow_row width) rows) (row width r) (rows_at width rows))

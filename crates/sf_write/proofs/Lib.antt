@@ -7,6 +7,7 @@ pub mod Lengths
 pub mod Listed
 pub mod NumbersFit
 pub mod Places
+pub mod RowsPacked
 pub mod RowsReadBack
 pub mod RowsWritten
 pub mod SectionWritten

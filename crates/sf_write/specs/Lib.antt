@@ -2,6 +2,7 @@ pub mod Number
 pub mod Numbers
 pub mod Row
 pub mod Room
+pub mod Packed
 pub mod Entry
 pub mod Reach
 pub mod Section

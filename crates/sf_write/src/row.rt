@@ -55,7 +55,7 @@ pub(crate) fn push_rows(bytes: &mut Vec<u8>, rows: &[Row]) -> Result<u8, AllocEr
 /// one or two bytes and a byte for each offset, and none for the return address: they are appended at once.
 #[tactic(auto, using(crate::proofs::Kept::begin_front), unfolding(sf_model::specs::RowBytes::spelled_row, crate::specs::Room::offsets_fit))]
 #[inline(always)]
-fn push_row(bytes: &mut Vec<u8>, kind: u8, row: &Row) -> Result<(), AllocError>
+pub(crate) fn push_row(bytes: &mut Vec<u8>, kind: u8, row: &Row) -> Result<(), AllocError>
     requires { kind ≤ 2 }
     ensures ok { OnOk result (bytes.new.items ≡ bytes.old.items ++ narrow_row kind row.now) }
     ensures fits { OnOk result (IsTrue (offsets_fit row.now)) }

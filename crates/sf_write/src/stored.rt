@@ -2,6 +2,7 @@
 
 ghost use Rattle.std.specs.Prelude.{◌≡◌, IfOk};
 
+use crate::packed::PackedFunction;
 use crate::row::push_rows;
 use sf_decode::RowIter;
 use sf_model::{Arch, Func, FuncHead, Rows};
@@ -66,6 +67,33 @@ impl StoredRows {
         };
         Ok(StoredFunction {
             head,
+            place,
+            len,
+            arch,
+            width,
+        })
+    }
+
+    /// Stores the rows of a function that are packed after those that are there. What was stored before stays as it is, also
+    /// where this fails.
+    ///
+    /// # Errors
+    ///
+    /// Out of memory; a function of 2^32 bytes of rows or more counts as that.
+    pub fn push_packed(
+        &mut self,
+        arch: Arch,
+        func: &PackedFunction,
+    ) -> Result<StoredFunction, AllocError>
+        requires { IsWritable arch func.now }
+        ensures pushed { IfOk result (λ f. IsStored self.new f × (stored_in self.new f ≡ func.now)) }
+        ensures keeps { (f : stored_fact) → IsStored self.old f → IsStored self.new f × (stored_in self.new f ≡ stored_in self.old f) }
+    {
+        let place = self.bytes.len();
+        let width = func.push_rows_to(&mut self.bytes)?;
+        let len = counted(self.bytes.len() - place)?;
+        Ok(StoredFunction {
+            head: *func.head(),
             place,
             len,
             arch,

@@ -8,5 +8,5 @@ pub returns-in_ok-stored-in-Kept-clause-stored : goal.returns-in_ok-stored-in-Ke
 returns-in_ok-stored-in-Kept-clause-stored c =
     let pushed = c.in_ok-stored-in-Kept.ensures.pushed in
     let sound = subst (λ (o : Outcome). IsSoundOutcome c.args.arch c.args.entry.span.start c.args.entry.span.size o) c.in-Kept.is c.requires in
-    let same = kept_entry c.push.new.self c.args.arch _ c.in-Kept.function c.args.entry.span pushed.1 sound in
+    let same = kept_entry c.push_packed.new.self c.args.arch _ c.in-Kept.function c.args.entry.span pushed.1 sound in
     (pushed.0, same ∙ ap (λ (o : Outcome). record { span = c.args.entry.span; outcome = o }) (sym c.in-Kept.is))

@@ -1,11 +1,9 @@
-use Rattle.std.proofs.Common.{◌≡◌, ℕ, ◌∙◌, All, List, None, Ok, arith, length, map, ap, subst, sym}
+use Rattle.std.proofs.Common.{◌≡◌, ℕ, ◌∙◌, List, None, Ok, arith, length, map, ap, sym}
 use Rattle.std.proofs.lemmas.Result.{err_from_is_err_and}
 use Rattle.std.proofs.lemmas.List.{length-map}
-use Rattle.sf_asm.specs.declared.entry.Entry.{Entry}
-use Rattle.sf_asm.specs.Entry.{IsSound, kept_by_item}
+use Rattle.sf_asm.specs.Entry.{kept_by_item}
 use Rattle.sf_asm.specs.Functions.{object_of}
 use Rattle.sf_asm.specs.Inputs.{first_item}
-use Rattle.sf_asm.specs.Linking.{Gathers, functions_fault}
 use Rattle.sf_asm.proofs.GatheredInputs.{gathered_within}
 use Rattle.sf_asm.proofs.HandedOut.{each_writable, is_of}
 use Rattle.sf_asm.proofs.Kept.{kept_of_checked, some_kept_of_checked}
@@ -14,35 +12,28 @@ use Rattle.sf_asm.proofs.gathering.gather.Goals as goal
 
 pub sort_out-requires : goal.sort_out-requires
 sort_out-requires c = λ k d lt.
-    let gathered = subst (λ (es : List Entry). Gathers c.args.before (map object_of c.args.inputs.now) (Ok es)) (sym c.in_ok-entries.ensures) c.in_ok-read.ensures.gathered in
-    let within = gathered_within c.args.before (map object_of c.args.inputs.now) c.in_ok-entries.entries.items gathered k d lt in
+    let within = gathered_within c.args.before (map object_of c.args.inputs.now) c.in_ok-read.read.entries c.in_ok-read.ensures.gathered k d lt in
     let count = length-map c.args.inputs.now object_of in
     (omega (arith, within.0, c.first_item-first.ensures), omega (arith, within.1, count, c.first_item-first.ensures))
 
 pub returns-clause-gathered : goal.returns-clause-gathered
 returns-clause-gathered c =
-    let objects = map object_of c.args.inputs.now in
-    let entries = c.in_ok-entries.entries.items in
-    let is = sym c.in_ok-entries.ensures in
-    let checked = subst (λ (es : List Entry). functions_fault es ≡ None) is c.in_ok-read.ensures.checked in
+    let entries = c.in_ok-read.read.entries in
     record {
       ordered = entries;
-      is = subst (λ (es : List Entry). Gathers c.args.before objects (Ok es)) is c.in_ok-read.ensures.gathered;
+      is = c.in_ok-read.ensures.gathered;
       kept_are = c.in_ok-sort_out.ensures.kept ∙ ap (λ (first : ℕ). kept_by_item first (length c.args.inputs.now) entries) c.first_item-first.ensures
           ∙ ap (λ (count : ℕ). kept_by_item (first_item c.args.before) count entries) (sym (length-map c.args.inputs.now object_of));
-      together = rw c.in_ok-sort_out.ensures.arch (kept_of_checked c.in_ok-read.read.arch entries (subst (All (IsSound c.in_ok-read.read.arch)) is c.in_ok-read.ensures.sound) checked);
+      together = rw c.in_ok-sort_out.ensures.arch (kept_of_checked c.in_ok-read.read.arch entries c.in_ok-read.ensures.sound c.in_ok-read.ensures.checked);
       omitted_are = c.in_ok-sort_out.ensures.omitted;
       spans_are = c.in_ok-sort_out.ensures.spans;
     }
 
 pub returns-clause-kept : goal.returns-clause-kept
 returns-clause-kept c =
-    let entries = c.in_ok-entries.entries.items in
-    let is = sym c.in_ok-entries.ensures in
-    let sound = subst (All (IsSound c.in_ok-read.read.arch)) is c.in_ok-read.ensures.sound in
-    let checked = subst (λ (es : List Entry). functions_fault es ≡ None) is c.in_ok-read.ensures.checked in
+    let entries = c.in_ok-read.read.entries in
     rw c.in_ok-sort_out.ensures.arch
-    (each_writable c.in_ok-read.read.arch _ _ c.in_ok-sort_out.field-0.kept.items entries c.in_ok-sort_out.ensures.kept (λ item. some_kept_of_checked (is_of item) c.in_ok-read.read.arch entries sound checked))
+    (each_writable c.in_ok-read.read.arch _ _ c.in_ok-sort_out.field-0.kept.items entries c.in_ok-sort_out.ensures.kept (λ item. some_kept_of_checked (is_of item) c.in_ok-read.read.arch entries c.in_ok-read.ensures.sound c.in_ok-read.ensures.checked))
 
 pub returns-in_err-read-clause-answered : goal.returns-in_err-read-clause-answered
 returns-in_err-read-clause-answered c =

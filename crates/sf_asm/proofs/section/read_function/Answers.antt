@@ -1,10 +1,12 @@
-use Rattle.std.proofs.Common.{inl, inr, rules, ◌<◌, ◌^◌, Ok, []}
+use Rattle.std.proofs.Common.{ℕ, inl, inr, rules, ◌<◌, ◌^◌, Ok, [], ap, subst, sym}
 use Rattle.std.proofs.lemmas.Result.{err_from_is_err_and}
+use Rattle.sf_model.specs.declared.facts.FdeFacts.{FdeFacts}
+use Rattle.cfa_machine.specs.RowList.{AreRows}
 use Rattle.eh_records.specs.Fde.{fde_view}
 use Rattle.sf_asm.specs.Functions.{function_at}
 use Rattle.sf_asm.specs.Views.{overlaid, seen_section, written_by}
 use Rattle.sf_asm.proofs.ReadFunctions.{reads_function, reads_source, span_refused, run_refused}
-use Rattle.sf_asm.proofs.MadeRows.{first_of, made_here, outcome_is_sound, outcome_means, outcome_runs, refused_here, rows_refused}
+use Rattle.sf_asm.proofs.MadeRows.{first_of, good_rows, made_here, outcome_is_sound, outcome_means, outcome_runs, refused_here, rows_refused}
 use Rattle.sf_asm.proofs.section.read_function.Goals as goal
 
 pub returns-in_err-start-clause-exact : goal.returns-in_err-start-clause-exact
@@ -38,6 +40,13 @@ returns-in_err-outcome-clause-exact c =
       | inl wanting ↦ inl wanting
       | inr refused ↦ inr (run_refused c.args.section.now.arch c.args.section.now.item section values (fde_view c.args.fde.now) (c.in_ok-start.start, c.in_ok-start.size) c.in_err-outcome.field-0.0 (c.in_ok-start.ensures.exact relocations) (rows_refused _ _ _ _ (first_of f) (refused_here _ f _ _ c.in_ok-begin_rows.ensures.begins refused)))
     ])
+
+pub outcome_of-requires-clause-rows : goal.outcome_of-requires-clause-rows
+outcome_of-requires-clause-rows c = λ rows is.
+    let section = seen_section c.args.section.now (Ok []) in
+    let f = function_at c.args.section.now.arch c.args.section.now.item section (fde_view c.args.fde.now) (c.in_ok-start.start, c.in_ok-start.size) in
+    let size = ap (λ (facts : FdeFacts). facts.size) c.facts_of-facts.ensures in
+    subst (λ (n : ℕ). AreRows c.args.section.now.arch n rows) (sym size) (good_rows f _ rows c.in_ok-begin_rows.ensures.begins is)
 
 pub returns-clause-sound : goal.returns-clause-sound
 returns-clause-sound c =
