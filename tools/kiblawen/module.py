@@ -2,9 +2,9 @@
 
     ./x module
 
-First run the gate, or `sh demo/run`. `rt` makes a module of a crate, gives it to its clang, and deletes it. So both crates are compiled once
-more, in copies of what `rt` keeps, and by links to the toolchain in which clang is a script: it keeps the module, and goes on as the
-toolchain's clang. The command fails if this compiles other bytes than those that were built.
+First run `sh demo/run`, also after the gate. `rt` makes a module of a crate, gives it to its clang, and deletes it. So both crates are
+compiled once more, in copies of what `rt` keeps, and by links to the toolchain in which clang is a script: it keeps the module, and goes on
+as the toolchain's clang. The command fails if this compiles other bytes than those that were built.
 
 The modules are in out/llvm of the crates sf_tool and sf_c: as bitcode, as text for older versions of clang, and with the flags of the
 toolchain's clang that change code. Beside that of the program is the object that the toolchain's clang makes of it. `./x release` packs
@@ -121,8 +121,9 @@ def copy_crates(name, room):
     """Copies a crate and those below it, and what `rt` keeps of them. Returns the crate's folder."""
     below = build.crates()[name]
     for it in below:
-        if not os.path.isdir(common.at_top("crates", it, "out", "rlib")):
-            raise NotMade(f"`rt` keeps nothing of the crate {it}: run the gate or `sh demo/run`")
+        # `rt ci` leaves a library without this file, and over that one `rt` would prove all anew.
+        if not os.path.exists(common.at_top("crates", it, "out", "rlib", "stamp")):
+            raise NotMade(f"there is no library of the crate {it} over which `rt` compiles: `sh demo/run` makes it")
         build.copy(it, f"{room}/crates", ("src", "specs", "proofs", "out/rlib"))
     build.copy(name, f"{room}/crates", ("src", "specs", "proofs", "out/incremental"))
     with open(common.at_top("crates.txt"), encoding="utf-8") as file, open(f"{room}/crates.txt", "w", encoding="utf-8") as to:
