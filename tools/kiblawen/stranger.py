@@ -263,13 +263,13 @@ def newest_clang(root):
     return max(numbers, default=None)
 
 
-def try_modules(tries, root, path):
+def try_modules(tries, root, paths):
     number = newest_clang(root)
-    if number is None:
-        tries.skip("LLVM modules", "there is no clang in the root")
+    if number is None or not paths:
+        tries.skip("LLVM modules", "there is no clang in the root" if paths else "the release has none")
         return
-    name, clang = os.path.basename(path), f"clang-{number}"
-    root.copy(path)
+    name, clang = os.path.basename(paths[0]), f"clang-{number}"
+    root.copy(paths[0])
     tries.check("LLVM modules: no toolchain is there", not root.has_toolchain())
     build = f"tar xf {name} && mv {name[: -len('.tar.gz')]} llvm && CLANG={clang} sh llvm/build.sh"
     tries.check(f"LLVM modules: {clang} builds program and library", *root.ends_well(build))
@@ -280,11 +280,14 @@ def try_modules(tries, root, path):
         tries.check(f"LLVM modules: {clang} makes the bytes that the gate built", *root.ends_well(f"cd llvm\n{same}"))
 
 
-def try_static(tries, room, path):
+def try_static(tries, room, paths):
     """Runs the static program in a folder of its own."""
+    if not paths:
+        tries.skip("static program", "the release has none")
+        return
     empty = os.path.join(room, "empty")
     os.makedirs(empty)
-    common.output("tar", "xf", path, "-C", empty, "--strip-components=1")
+    common.output("tar", "xf", paths[0], "-C", empty, "--strip-components=1")
     words = ["/bin/sf_tool", "gen", "1"]
     said = common.output("chroot", empty, *words)
     passed = said is not None and said == common.output(program.BUILT, *words[1:])
@@ -301,7 +304,7 @@ def try_again(tries, room):
         to = os.path.join(clone, os.path.relpath(path, common.TOP))
         os.makedirs(os.path.dirname(to))
         shutil.copy(path, to)
-    for folder in (it.folder for it in module.MODULES):
+    for folder in (it.folder for it in module.MODULES if it.is_made()):
         shutil.copytree(folder, os.path.join(clone, os.path.relpath(folder, common.TOP)))
     common.output(sys.executable, os.path.join(clone, "x"), "release", status=(0, 1))
     sums = [os.path.join(top, "dist", "SHA256SUMS") for top in (common.TOP, clone)]
@@ -334,7 +337,7 @@ def main(words):
     given = parser.parse_args(words)
     tool, tarball = one("kiblawen_*.deb"), one("kiblawen-*-linux-*.tar.gz")
     library, python = [one("libkiblawen0_*.deb"), one("libkiblawen-dev_*.deb")], one("python3-kiblawen_*.deb")
-    modules, static = one("kiblawen-*-llvm.tar.gz"), one("kiblawen-*-static-*.tar.gz")
+    modules, static = (glob.glob(os.path.join(release.DIST, f"kiblawen-*-{it}.tar.gz")) for it in ("llvm", "static-*"))
     if os.geteuid() != 0:
         common.fail(__name__, "chroot needs the rights of root")
     tries = Tries()
