@@ -156,7 +156,7 @@ def compile_again(module, kept, room):
     ran = subprocess.run(words, cwd=folder, stdin=subprocess.DEVNULL, stdout=subprocess.PIPE, stderr=subprocess.STDOUT, check=False)
     if ran.returncode or not os.path.exists(f"{kept}/words"):
         last = ran.stdout.decode(errors="replace").splitlines()[-1:]
-        raise NotMade(f"{module.crate} was not compiled once more: {' '.join(last)}")
+        raise NotMade(f"{module.crate} was not compiled once more: rt ended with {ran.returncode}, and last said: {' '.join(last)}")
     built = os.path.join(folder, "out", os.path.basename(module.built))
     if staging.digest(built) != staging.digest(module.built):
         raise NotMade(f"compiled once more, {module.crate} has other bytes than {os.path.relpath(module.built, common.TOP)}")
