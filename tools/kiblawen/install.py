@@ -78,7 +78,7 @@ class Installation:
         for name in DOCUMENTS:
             self.put(0o644, common.at_top(name), documents)
         for name in sorted(os.listdir(common.at_top("docs"))):
-            if name.endswith(".md"):
+            if name.endswith((".md", ".svg")):
                 self.put(0o644, common.at_top("docs", name), f"{documents}/docs")
         self.put_pkg_config(version)
 
