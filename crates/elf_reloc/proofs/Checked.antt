@@ -211,6 +211,13 @@ reads_hold p section fixes fields reads clear raw checked =
     (reads_small p section reads.fixes fixes reads.read reads.order.moved)
     clear raw checked
 
+-- what one of them holds
+pub one_holds : (p : Placing) (section : ℕ) (fixes : List RelocatedField) (fields : List Field) (g : Field) (bits : Option ℕ) → bits ≡ bits_in fixes g.place g.width g.raw
+    → Reads (section_fixes p section) fixes → AreApart fields → AreRaw (section_bytes p.file section) fields → place_check fields fixes ≡ Ok tt → Contains fields g → FieldHolds fixes (section_bytes p.file section) g bits
+one_holds p section fixes fields g bits is reads clear raw checked among =
+    subst (FieldHolds fixes (section_bytes p.file section) g) (sym is)
+    (All-contains (λ (x : Field). FieldHolds fixes (section_bytes p.file section) x (bits_in fixes x.place x.width x.raw)) fields g (reads_hold p section fixes fields reads clear raw checked) among)
+
 known_fits : (f : RelocatedField) (o : Option ℕ) (bits : ℕ) → IsSmall f → f.value ≡ o → option_map (low_bits f.range) o ≡ Some bits → bits < 256 ^ width_of f.range
 known_fits f None bits small is h = absurd (cc h)
 known_fits f (Some v) bits small is h =

@@ -77,11 +77,27 @@ impl Relocs {
 }
 
 impl Values for Relocs {
+    ghost use Rattle.std.specs.Prelude.{◌≡◌, ◌<◌, ◌^◌, ℕ, List, Contains, IfSome, Ok};
+    ghost use Rattle.elf_read.specs.Sections.{section_bytes};
+    ghost use Rattle.elf_place.specs.Views.{Placing as placing};
+    ghost use Rattle.sf_bytes.specs.declared.field.Field.{Field as pointer};
+    ghost use Rattle.sf_bytes.specs.Rising.{AreApart};
     ghost use Rattle.elf_reloc.specs.Fields.{bits_in};
+    ghost use Rattle.elf_reloc.specs.Order.{place_check};
+    ghost use Rattle.elf_reloc.specs.Patched.{AreRaw, FieldHolds};
+    ghost use Rattle.elf_reloc.specs.Reading.{section_fixes};
+    ghost use Rattle.elf_reloc.specs.Views.{Reads, fixes_in};
 
     ghost field_bits = { λ r place width raw. bits_in r.fixes.items place width raw };
 
-    fn bits(&self, field: Field) -> Option<u64> {
+    fn bits(&self, field: Field) -> Option<u64>
+        ensures value { result ≡ bits_in (fixes_in self.now) field.place field.width field.raw }
+        ensures fits { IfSome result (λ bits. bits < 256 ^ field.width) }
+        // Where these are the relocations of a section, each of which lies on one of its pointer fields, the bits of such a field
+        // are the number in a copy of the section in which all known values are written. It has no bits exactly where a
+        // relocation lies on it whose value is not known.
+        ensures holds { (p : placing) (section : ℕ) (fields : List pointer) → Reads (section_fixes p section) (fixes_in self.now) → AreApart fields → AreRaw (section_bytes p.file section) fields → place_check fields (fixes_in self.now) ≡ Ok tt → Contains fields field → FieldHolds (fixes_in self.now) (section_bytes p.file section) field result }
+    {
         match find_at(&self.fixes, field.place) {
             Some(fix) if width_of(fix.range) == field.width => fix_bits(fix),
             _ => Some(field.raw),
