@@ -1,7 +1,7 @@
 // What no clause says: that calls succeed with ample memory, at which call a fault shows, and the machine's side.
 use sf_base::{
     Failed, Files, HostFiles, HostSink, LoadFault, Sink, dec_word, hex_word, load, put_all,
-    put_file,
+    put_file, read_part,
 };
 use sf_fakes::{MemFiles, MemSink, SureFiles, SureSink};
 use std::alloc::Global;
@@ -174,9 +174,20 @@ fn host_files_hold_what_was_written(rt: HostRuntime) -> Result<(), Fail> {
     assert!(rt; put_file(&mut files, b"on the disk").is_ok());
     let got = load(alloc, &mut files, name, 100);
     assert!(rt; got.is_ok_and(|bytes| bytes.as_slice() == b"on the disk".as_slice()));
+    assert!(rt; files.open_file(name).is_ok());
+    assert_eq!(rt; files.len(), Some(11));
+    let part = read_part(alloc, &mut files, 3, 3).unwrap_or(None);
+    assert!(rt; part.is_some_and(|bytes| bytes.as_slice() == b"the".as_slice()));
     std::fs::remove_file(&rt, name)?;
     assert_eq!(rt; files.open_file(name), Err(Failed));
     Ok(())
+}
+
+#[test]
+fn a_file_that_says_it_is_empty_has_no_known_length(rt: HostRuntime) {
+    let mut files = HostFiles::new(&rt);
+    assert!(rt; files.open_file("/proc/self/status").is_ok());
+    assert_eq!(rt; files.len(), None);
 }
 
 #[test]

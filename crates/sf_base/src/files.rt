@@ -1,5 +1,5 @@
 // The files of the outside, as a program sees them.
-ghost use Rattle.std.specs.Prelude.{◌≡◌, ◌<◌, ◌≤◌, ℕ, Bool, false, List, [], Option, Some, length, take, is_ok, IsTrue, IfOk, IfSome, OnOk, OnErr};
+ghost use Rattle.std.specs.Prelude.{◌≡◌, ◌<◌, ◌≤◌, ℕ, Bool, false, List, [], Option, Some, length, take, drop, is_ok, IsTrue, IfOk, IfSome, OnOk, OnErr};
 ghost use Rattle.sf_base.specs.Contents.{contents_of, Unchanged, Holds, Grows, Moves};
 ghost use Rattle.sf_base.specs.Seen.{FilesSeen, OnlyReads};
 ghost use Rattle.sf_base.specs.Faults.{Cause};
@@ -18,6 +18,9 @@ pub trait Files {
 
     /// What is left to read of the open file. It counts only if contents are known and a file is open.
     ghost rest: { Self → List ℕ };
+
+    /// All the bytes of the open file. They count only if contents are known and a file is open.
+    ghost whole: { Self → List ℕ };
 
     /// The name of the open file, if it is known. It counts only if a file is open.
     ghost opened_name: { Self → Option (List ℕ) };
@@ -38,6 +41,8 @@ pub trait Files {
         ensures opened { opened self.new ≡ is_ok result }
         ensures rest { OnOk result (IfSome ((seen self.new).contents) (λ files.
             rest self.new ≡ contents_of files name.now)) }
+        ensures whole { OnOk result (IfSome ((seen self.new).contents) (λ files.
+            whole self.new ≡ contents_of files name.now)) }
         ensures opened_name { OnOk result (IfSome (opened_name self.new) (λ opened. opened ≡ name.now)) }
         ensures failed_name { OnErr result (IfSome ((seen self.new).failed_name) (λ failed. failed ≡ name.now)) }
         ensures none_failed { OnOk result ((seen self.new).failed_name ≡ (seen self.old).failed_name) }
@@ -58,6 +63,7 @@ pub trait Files {
         ensures within { IfOk result (λ n. n ≤ length buf.old) }
         ensures moves { IfOk result (λ n. IfSome ((seen self.old).contents) (λ _.
             Moves n (rest self.old) (rest self.new) buf.new)) }
+        ensures whole { OnOk result (whole self.new ≡ whole self.old) }
         ensures opened_name { OnOk result (opened_name self.new ≡ opened_name self.old) }
         ensures failed_name { OnErr result (IfSome ((seen self.new).failed_name) (λ failed. opened_name self.old ≡ Some failed)) }
         ensures none_failed { OnOk result ((seen self.new).failed_name ≡ (seen self.old).failed_name) }
@@ -66,6 +72,31 @@ pub trait Files {
         ensures may_create { may_create self.new ≡ may_create self.old }
         ensures cause { Cause ((seen self.old).read_faults) ((seen self.new).read_faults) result }
         ensures reads { OnlyReads (seen self.old) (seen self.new) };
+
+    /// Returns how many bytes the open file has, or nothing if that isn't known before they are read, as for a pipe.
+    fn len(&mut self) -> Option<u64>
+        requires opened { IsTrue (opened self.old) }
+        ensures len { IfSome result (λ n. IfSome ((seen self.old).contents) (λ _. n ≡ length (whole self.old))) }
+        ensures whole { whole self.new ≡ whole self.old }
+        ensures rest { rest self.new ≡ rest self.old }
+        ensures opened { IsTrue (opened self.new) }
+        ensures opened_name { opened_name self.new ≡ opened_name self.old }
+        ensures may_open { may_open self.new ≡ may_open self.old }
+        ensures may_create { may_create self.new ≡ may_create self.old }
+        ensures same { seen self.new ≡ seen self.old };
+
+    /// Moves to a place of the open file, in bytes from its start, and returns whether it could: what is left to read
+    /// begins there. A pipe can't be read from another place, and that counts as no fault.
+    fn seek(&mut self, place: u64) -> bool
+        requires opened { IsTrue (opened self.old) }
+        ensures moved { IsTrue result → IfSome ((seen self.old).contents) (λ _.
+            rest self.new ≡ drop place (whole self.old)) }
+        ensures whole { whole self.new ≡ whole self.old }
+        ensures opened { IsTrue (opened self.new) }
+        ensures opened_name { opened_name self.new ≡ opened_name self.old }
+        ensures may_open { may_open self.new ≡ may_open self.old }
+        ensures may_create { may_create self.new ≡ may_create self.old }
+        ensures same { seen self.new ≡ seen self.old };
 
     /// Creates the file of this name, empty, for writing. No file is open after it.
     ///

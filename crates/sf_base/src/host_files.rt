@@ -4,7 +4,7 @@ ghost use Rattle.std.specs.Prelude.{◌≡◌, [], None, true, false, is_some};
 use crate::fault::count_fault;
 use crate::{Failed, Files};
 use std::fs::OpenFile;
-use std::io::{ErrorKind, Read, Write};
+use std::io::{ErrorKind, Read, Seek, SeekFrom, Write};
 use std::os::unix::fs::MetadataExt;
 use std::{fs, rt};
 
@@ -80,12 +80,25 @@ fn is_stored<F: OpenFile>(file: &F) -> bool {
     }
 }
 
+/// Returns how many bytes a regular file has. The files of `/proc` say that they have none, and that isn't known of them.
+fn length_of<F: OpenFile>(file: &F) -> Option<u64> {
+    let metadata = file.metadata().ok()?;
+    let len = metadata.len();
+    if metadata.is_file() && len > 0 {
+        Some(len)
+    } else {
+        None
+    }
+}
+
 impl<'a, R: rt::Files> Files for HostFiles<'a, R> {
     ghost seen = { λ files. record { contents = None; created = is_some files.created; created_name = []; read_faults = files.read_faults; write_faults = files.write_faults; failed_name = None } };
 
     ghost opened = { λ files. is_some files.opened };
 
     ghost rest = { λ _. [] };
+
+    ghost whole = { λ _. [] };
 
     ghost opened_name = { λ _. None };
 
@@ -116,6 +129,20 @@ impl<'a, R: rt::Files> Files for HostFiles<'a, R> {
         self.opened = None;
         count_fault(&mut self.read_faults);
         Err(Failed)
+    }
+
+    fn len(&mut self) -> Option<u64> {
+        match &self.opened {
+            Some(file) => length_of(file),
+            None => None,
+        }
+    }
+
+    fn seek(&mut self, place: u64) -> bool {
+        match &mut self.opened {
+            Some(file) => file.seek(SeekFrom::Start(place)).is_ok(),
+            None => false,
+        }
     }
 
     fn create_file(&mut self, name: &str) -> Result<(), Failed> {

@@ -1,5 +1,5 @@
-// Reading a whole file into memory.
-ghost use Rattle.std.specs.Prelude.{◌≡◌, ◌<◌, ◌≤◌, ◌++◌, ◌+◌, ℕ, length, take, [], vec_len, IsTrue, IsErrOf, IfOk, IfSome, OnOk, Some};
+// Reading a file, or a part of it, into memory.
+ghost use Rattle.std.specs.Prelude.{◌≡◌, ◌<◌, ◌≤◌, ◌++◌, ◌+◌, ℕ, length, take, drop, [], vec_len, IsTrue, IsErrOf, IfOk, IfSome, OnOk, Some};
 ghost use Rattle.sf_base.specs.Contents.{contents_of};
 ghost use Rattle.sf_base.specs.declared.loading.LoadFault.TheVariants.{Read, NoMemory};
 ghost use Rattle.sf_base.specs.Faults.{Rose};
@@ -79,9 +79,34 @@ pub fn load<F: Files>(
     ensures same { OnOk result (F.seen files.new ≡ F.seen files.old) }
 {
     files.open_file(name)?;
+    load_rest(alloc, files, limit)
+}
+
+/// Reads what is left of the open file, as [`load`] reads a file by its name.
+///
+/// # Errors
+///
+/// Those of [`load`], with what is left in place of the file.
+pub fn load_rest<F: Files>(alloc: Global, files: &mut F, limit: u64) -> Result<Vec<u8>, LoadFault>
+    requires { IsTrue (F.opened files.old) }
+    ensures within { IfOk result (λ bytes. vec_len bytes ≤ limit) }
+    ensures bytes { IfOk result (λ bytes. IfSome ((F.seen files.old).contents) (λ _.
+        bytes.items ≡ F.rest files.old)) }
+    ensures read { IsErrOf result LoadFault.Read →
+        Rose ((F.seen files.old).read_faults) ((F.seen files.new).read_faults) }
+    ensures failed_name { IsErrOf result LoadFault.Read →
+        IfSome ((F.seen files.new).failed_name) (λ failed. F.opened_name files.old ≡ Some failed) }
+    ensures too_long { (n : ℕ) → IsErrOf result (LoadFault.TooLong n) → n ≡ limit }
+    ensures longer { (n : ℕ) → IsErrOf result (LoadFault.TooLong n) → IfSome ((F.seen files.old).contents) (λ _.
+        limit < length (F.rest files.old)) }
+    ensures may_open { F.may_open files.new ≡ F.may_open files.old }
+    ensures may_create { F.may_create files.new ≡ F.may_create files.old }
+    ensures reads { OnlyReads (F.seen files.old) (F.seen files.new) }
+    ensures same { OnOk result (F.seen files.new ≡ F.seen files.old) }
+{
     let mut bytes = Vec::new(alloc);
     loop {
-        // One byte past the limit shows that the file is longer.
+        // One byte past the limit shows that there are more.
         let room = (limit - bytes.len() as u64).min(CHUNK - 1) + 1;
         let n = read_more(files, &mut bytes, room as usize)?;
         if bytes.len() as u64 > limit {
@@ -91,6 +116,48 @@ pub fn load<F: Files>(
             return Ok(bytes);
         }
     }
+}
+
+/// Reads `size` bytes of the open file from a place on, or those that there are. Nothing if the file can't be read from
+/// there, which is no fault.
+///
+/// # Errors
+///
+/// `Read` if a call of `files` failed, and `NoMemory`.
+pub fn read_part<F: Files>(
+    alloc: Global,
+    files: &mut F,
+    place: u64,
+    size: usize,
+) -> Result<Option<Vec<u8>>, LoadFault>
+    requires { IsTrue (F.opened files.old) }
+    ensures bytes { IfOk result (λ part. IfSome part (λ bytes. IfSome ((F.seen files.old).contents) (λ _.
+        bytes.items ≡ take size (drop place (F.whole files.old))))) }
+    ensures within { IfOk result (λ part. IfSome part (λ bytes. vec_len bytes ≤ size)) }
+    ensures whole { OnOk result (F.whole files.new ≡ F.whole files.old) }
+    ensures opened { OnOk result (IsTrue (F.opened files.new)) }
+    ensures opened_name { OnOk result (F.opened_name files.new ≡ F.opened_name files.old) }
+    ensures read { IsErrOf result LoadFault.Read →
+        Rose ((F.seen files.old).read_faults) ((F.seen files.new).read_faults) }
+    ensures failed_name { IsErrOf result LoadFault.Read →
+        IfSome ((F.seen files.new).failed_name) (λ failed. F.opened_name files.old ≡ Some failed) }
+    ensures not_long { (n : ℕ) → IsErrOf result (LoadFault.TooLong n) → ⊥ }
+    ensures may_open { F.may_open files.new ≡ F.may_open files.old }
+    ensures may_create { F.may_create files.new ≡ F.may_create files.old }
+    ensures reads { OnlyReads (F.seen files.old) (F.seen files.new) }
+    ensures same { OnOk result (F.seen files.new ≡ F.seen files.old) }
+{
+    if !files.seek(place) {
+        return Ok(None);
+    }
+    let mut bytes = Vec::new(alloc);
+    while bytes.len() < size {
+        let room = (size - bytes.len()).min(CHUNK as usize);
+        if read_more(files, &mut bytes, room)? == 0 {
+            break;
+        }
+    }
+    Ok(Some(bytes))
 }
 
 // Appends zero bytes, up to a length of `end`.
@@ -117,6 +184,7 @@ fn read_more<F: Files>(files: &mut F, bytes: &mut Vec<u8>, room: usize) -> Resul
     ensures end { IfOk result (λ n. IfSome ((F.seen files.old).contents) (λ _.
         n ≡ 0 → F.rest files.old ≡ [])) }
     ensures opened { OnOk result (IsTrue (F.opened files.new)) }
+    ensures whole { OnOk result (F.whole files.new ≡ F.whole files.old) }
     ensures read { IsErrOf result LoadFault.Read →
         Rose ((F.seen files.old).read_faults) ((F.seen files.new).read_faults) }
     ensures opened_name { OnOk result (F.opened_name files.new ≡ F.opened_name files.old) }

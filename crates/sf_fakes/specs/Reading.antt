@@ -8,6 +8,11 @@ abbrev pub rest_at : List (List ℕ × List ℕ) → Option Reading → List ℕ
 rest_at files None = []
 rest_at files (Some reading) = drop reading.done (bytes_at files reading.place)
 
+-- all the bytes of the open file
+abbrev pub whole_at : List (List ℕ × List ℕ) → Option Reading → List ℕ
+whole_at files None = []
+whole_at files (Some reading) = bytes_at files reading.place
+
 -- the name of the open file, or none
 abbrev pub opened_name_of : List (List ℕ × List ℕ) → Option Reading → Option (List ℕ)
 opened_name_of files None = None

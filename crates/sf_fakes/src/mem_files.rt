@@ -1,16 +1,16 @@
 // Files in memory.
-ghost use Rattle.std.specs.Prelude.{◌≡◌, ◌⊎◌, ◌↔◌, ◌<◌, ◌≤◌, [], true, false, min, length, take, is_some, is_ok, Some, None, IfSome, IfOk, OnOk, OnErr, IsErr, IsTrue, vec_len, if◌then◌else◌};
+ghost use Rattle.std.specs.Prelude.{◌≡◌, ◌⊎◌, ◌↔◌, ◌<◌, ◌≤◌, [], true, false, min, length, take, drop, is_some, is_ok, Some, None, IfSome, IfOk, OnOk, OnErr, IsErr, IsTrue, vec_len, if◌then◌else◌};
 ghost use Rattle.std.specs.Option.{ForSome, option_map};
 ghost use Rattle.std.specs.String.{string_bytes};
 ghost use Rattle.sf_base.specs.Contents.{contents_of, Changes, Holds, Grows, Moves};
 ghost use Rattle.sf_base.specs.Faults.{Cause, one_more};
 ghost use Rattle.sf_fakes.specs.Calls.{IsListed, next_call};
 ghost use Rattle.sf_fakes.specs.Pairs.{pairs_of, has_name, AddsName};
-ghost use Rattle.sf_fakes.specs.Reading.{rest_at, name_of, opened_name_of};
+ghost use Rattle.sf_fakes.specs.Reading.{rest_at, whole_at, name_of, opened_name_of};
 
 use crate::calls::Calls;
 use crate::lookup::{append_file, copy_name, find_bytes, find_file, name_in, set_file};
-use crate::reading::{Reading, read_at};
+use crate::reading::{Reading, len_at, read_at};
 use sf_base::{Failed, Files, NoMemory, count_fault};
 use std::alloc::Global;
 
@@ -33,7 +33,7 @@ pub struct MemFiles {
 }
 
 impl MemFiles {
-    /// Creates an empty list of files. A read or a write moves at most `most` bytes. The calls of all four
+    /// Creates an empty list of files. A read or a write moves at most `most` bytes. The calls of all six
     /// methods are counted together from 1, and those with a number in `fails` are to fail.
     pub fn new(alloc: Global, most: usize, fails: Vec<u64>) -> MemFiles
         requires { 0 < most }
@@ -113,6 +113,8 @@ impl Files for MemFiles {
 
     ghost rest = { λ files. rest_at (pairs_of files.files.items) files.opened };
 
+    ghost whole = { λ files. whole_at (pairs_of files.files.items) files.opened };
+
     ghost opened_name = { λ files. opened_name_of (pairs_of files.files.items) files.opened };
 
     ghost may_open = { λ _ _. true };
@@ -125,6 +127,8 @@ impl Files for MemFiles {
             ⊎ (has_name (pairs_of self.old.files.items) name.now ≡ false)) }
         ensures opened { is_some self.new.opened ≡ is_ok result }
         ensures rest { OnOk result (rest_at (pairs_of self.new.files.items) self.new.opened
+            ≡ contents_of (pairs_of self.new.files.items) name.now) }
+        ensures whole { OnOk result (whole_at (pairs_of self.new.files.items) self.new.opened
             ≡ contents_of (pairs_of self.new.files.items) name.now) }
         ensures opened_name { OnOk result (IfSome (opened_name_of (pairs_of self.new.files.items) self.new.opened) (λ opened. opened ≡ name.now)) }
         ensures failed_name { OnErr result (IfSome (option_map string_bytes self.new.failed) (λ failed. failed ≡ name.now)) }
@@ -160,6 +164,8 @@ impl Files for MemFiles {
         ensures moves { IfOk result (λ n. Moves n
             (rest_at (pairs_of self.old.files.items) self.old.opened)
             (rest_at (pairs_of self.new.files.items) self.new.opened) buf.new) }
+        ensures whole { OnOk result (whole_at (pairs_of self.new.files.items) self.new.opened
+            ≡ whole_at (pairs_of self.old.files.items) self.old.opened) }
         ensures opened_name { OnOk result (opened_name_of (pairs_of self.new.files.items) self.new.opened
             ≡ opened_name_of (pairs_of self.old.files.items) self.old.opened) }
         ensures failed_name { OnErr result (IfSome (option_map string_bytes self.new.failed) (λ failed.
@@ -190,6 +196,63 @@ impl Files for MemFiles {
         self.opened = None;
         count_fault(&mut self.read_faults);
         Err(Failed)
+    }
+
+    fn len(&mut self) -> Option<u64>
+        requires opened { IsTrue (is_some self.old.opened) }
+        // The call gives nothing if it is listed, and in no other case.
+        ensures failed { (result ≡ None) ↔ IsListed self.old.calls.fails.items self.old.calls.made }
+        ensures len { IfSome result (λ n. n ≡ length (whole_at (pairs_of self.old.files.items) self.old.opened)) }
+        ensures opened { self.new.opened ≡ self.old.opened }
+        ensures contents { self.new.files ≡ self.old.files }
+        ensures created { self.new.created ≡ self.old.created }
+        ensures failed_name { self.new.failed ≡ self.old.failed }
+        ensures read_faults { self.new.read_faults ≡ self.old.read_faults }
+        ensures write_faults { self.new.write_faults ≡ self.old.write_faults }
+        ensures made { self.new.calls.made ≡ next_call self.old.calls.made }
+        ensures fails { self.new.calls.fails.items ≡ self.old.calls.fails.items }
+        ensures most { self.new.most ≡ self.old.most }
+    {
+        if self.calls.fails_next() {
+            return None;
+        }
+        let reading = self.opened?;
+        Some(len_at(&self.files, reading.place))
+    }
+
+    fn seek(&mut self, place: u64) -> bool
+        requires opened { IsTrue (is_some self.old.opened) }
+        // The call fails if it is listed, and in no other case.
+        ensures failed { (result ≡ false) ↔ IsListed self.old.calls.fails.items self.old.calls.made }
+        ensures moved { IsTrue result → rest_at (pairs_of self.new.files.items) self.new.opened
+            ≡ drop place (whole_at (pairs_of self.old.files.items) self.old.opened) }
+        ensures whole { whole_at (pairs_of self.new.files.items) self.new.opened
+            ≡ whole_at (pairs_of self.old.files.items) self.old.opened }
+        ensures opened { IsTrue (is_some self.new.opened) }
+        ensures opened_name { opened_name_of (pairs_of self.new.files.items) self.new.opened
+            ≡ opened_name_of (pairs_of self.old.files.items) self.old.opened }
+        ensures contents { self.new.files ≡ self.old.files }
+        ensures created { self.new.created ≡ self.old.created }
+        ensures failed_name { self.new.failed ≡ self.old.failed }
+        ensures read_faults { self.new.read_faults ≡ self.old.read_faults }
+        ensures write_faults { self.new.write_faults ≡ self.old.write_faults }
+        ensures made { self.new.calls.made ≡ next_call self.old.calls.made }
+        ensures fails { self.new.calls.fails.items ≡ self.old.calls.fails.items }
+        ensures most { self.new.most ≡ self.old.most }
+    {
+        if self.calls.fails_next() {
+            return false;
+        }
+        match self.opened {
+            None => false,
+            Some(reading) => {
+                self.opened = Some(Reading {
+                    place: reading.place,
+                    done: place as usize,
+                });
+                true
+            }
+        }
     }
 
     fn create_file(&mut self, name: &str) -> Result<(), Failed>

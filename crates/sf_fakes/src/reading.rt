@@ -28,3 +28,11 @@ pub(crate) fn read_at(
     let bytes = files[place].1.as_slice();
     copy_front(&bytes[done.min(bytes.len())..], buf, most)
 }
+
+// Returns how many bytes the file at a place of the list has.
+pub(crate) fn len_at(files: &[(String, Vec<u8>)], place: usize) -> u64
+    requires { place < length files.now }
+    ensures { result ≡ length (bytes_at (pairs_of files.now) place) }
+{
+    files[place].1.len() as u64
+}

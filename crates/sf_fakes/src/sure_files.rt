@@ -5,7 +5,7 @@ ghost use Rattle.sf_base.specs.Faults.{Cause};
 ghost use Rattle.sf_fakes.specs.Lent.{lent_rest, told_until};
 ghost use Rattle.sf_fakes.specs.Pairs.{pairs_of};
 
-use crate::copying::copy_front;
+use crate::copying::{bytes_from, copy_front};
 use crate::lookup::bytes_of;
 use sf_base::{Failed, Files};
 
@@ -15,6 +15,7 @@ use sf_base::{Failed, Files};
 #[derive(Drop)]
 pub struct SureFiles<'a> {
     names: &'a [(String, Vec<u8>)],
+    whole: &'a [u8],
     rest: Option<&'a [u8]>,
     created: bool,
     count: u64,
@@ -30,6 +31,7 @@ impl<'a> SureFiles<'a> {
     {
         SureFiles {
             names,
+            whole: &[],
             rest: None,
             created: false,
             count: 0,
@@ -51,6 +53,8 @@ impl<'a> Files for SureFiles<'a> {
 
     ghost rest = { λ files. lent_rest files.rest };
 
+    ghost whole = { λ files. files.whole.now };
+
     ghost opened_name = { λ _. None };
 
     ghost may_open = { λ _ _. true };
@@ -58,7 +62,8 @@ impl<'a> Files for SureFiles<'a> {
     ghost may_create = { λ _ _. true };
 
     fn open_file(&mut self, name: &str) -> Result<(), Failed> {
-        self.rest = Some(bytes_of(self.names, name));
+        self.whole = bytes_of(self.names, name);
+        self.rest = Some(self.whole);
         Ok(())
     }
 
@@ -67,6 +72,15 @@ impl<'a> Files for SureFiles<'a> {
         let n = copy_front(rest, buf, usize::MAX);
         self.rest = Some(&rest[n..]);
         Ok(n)
+    }
+
+    fn len(&mut self) -> Option<u64> {
+        Some(self.whole.len() as u64)
+    }
+
+    fn seek(&mut self, place: u64) -> bool {
+        self.rest = Some(bytes_from(self.whole, place));
+        true
     }
 
     fn create_file(&mut self, _name: &str) -> Result<(), Failed> {
