@@ -1,4 +1,4 @@
-pub mod AskedFor
-pub mod AtSigns
 pub mod NamedWords
 pub mod Loads
+pub mod Limits
+pub mod ItemLists

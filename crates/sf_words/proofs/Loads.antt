@@ -1,6 +1,6 @@
 -- Files that are loaded one after the other, and the first limit that they exceed.
 use Rattle.std.specs.Prelude.{nat_lt, IfSome}
-use Rattle.std.proofs.Common.{Vec, Global, ◌≡◌, ℕ, zero, suc, ◌+◌, ◌<◌, ◌≤◌, ◌^◌, Bool, true, false, cond, List, [], ◌∷◌, ◌++◌, map, length, take, drop, get_or, Option, Some, None, refl, ap, sym, subst, append_assoc, ◌∙◌, arith}
+use Rattle.std.proofs.Common.{◌≡◌, ℕ, zero, suc, ◌+◌, ◌<◌, ◌≤◌, ◌^◌, Bool, true, false, cond, List, [], ◌∷◌, ◌++◌, map, length, take, drop, get_or, Option, Some, None, refl, ap, sym, subst, append_assoc, ◌∙◌, arith}
 use Rattle.std.proofs.lemmas.Bool.{lt-ltb, le-ltb}
 use Rattle.std.proofs.lemmas.Bool.Decides.{nat_tests}
 use Rattle.std.proofs.lemmas.List.{length-map, length-append, take_more, drop_more, append-nil}
@@ -8,35 +8,36 @@ use lib.Seq.{take-length}
 use Rattle.sf_base.specs.Contents.{contents_of}
 use Rattle.sf_base.specs.declared.loading.LoadFault.{LoadFault}
 use Rattle.sf_base.specs.declared.loading.LoadFault.TheVariants as load
-use Rattle.sf_words.specs.declared.item.ItemKind.{ItemKind}
 use Rattle.sf_words.specs.declared.item.Item.{Item}
-use Rattle.sf_words.specs.Items.{ItemWords, counted_bytes, item_of, limit_of, names_of}
+use Rattle.std.specs.List.{zip}
+use Rattle.sf_words.specs.declared.loading.Loaded.{Loaded}
+use Rattle.sf_words.specs.Items.{ItemWords, counted_bytes, item_of, limit_of, name_of, names_of}
 use Rattle.std.proofs.Math.ListN.{get_or-map}
 use Rattle.sf_words.specs.declared.refusal.Limit.{Limit}
 use Rattle.sf_words.specs.declared.refusal.Limit.TheVariants.{File, Total}
 use Rattle.sf_words.specs.declared.refusal.Refusal.{Refusal}
 use Rattle.sf_words.specs.declared.refusal.Refusal.TheVariants as refusal
-use Rattle.sf_words.specs.Loading.{Contents, bytes_limit, items_limit, of_kinds, bytes_known, AreLoaded, Exceeds, IsReadOf, IsLoadRefusal, IsLoadingRefusal, NamesFailed}
+use Rattle.sf_words.specs.Loading.{Contents, bytes_limit, items_limit, bytes_known, loaded_bytes, loaded_items, AreLoaded, Exceeds, IsReadOf, IsLoadRefusal, IsLoadingRefusal, NamesFailed}
 
-one_step : (item total : ℕ) (kind : ItemKind) (bytes : List ℕ) (rest : List (ItemKind × List ℕ)) (long much : Bool) → nat_lt (limit_of kind) (length bytes) ≡ long
+one_step : (item total : ℕ) (kind : ItemWords) (bytes : List ℕ) (rest : List (ItemWords × List ℕ)) (long much : Bool) → nat_lt (limit_of kind) (length bytes) ≡ long
     → nat_lt (2 ^ 30) (total + counted_bytes kind (length bytes)) ≡ much
     → bytes_limit item total ((kind, bytes) ∷ rest) ≡ cond long (Some (File item)) (cond much (Some Total) (bytes_limit (item + 1) (total + counted_bytes kind (length bytes)) rest))
 unfolding bytes_limit
 one_step item total kind bytes rest long much p q = rw (p, q) refl
 
 -- a file that is longer than the limit of its kind
-too_long : (item total : ℕ) (kind : ItemKind) (bytes : List ℕ) (rest : List (ItemKind × List ℕ)) → limit_of kind < length bytes → bytes_limit item total ((kind, bytes) ∷ rest) ≡ Some (File item)
+too_long : (item total : ℕ) (kind : ItemWords) (bytes : List ℕ) (rest : List (ItemWords × List ℕ)) → limit_of kind < length bytes → bytes_limit item total ((kind, bytes) ∷ rest) ≡ Some (File item)
 too_long item total kind bytes rest long =
     one_step item total kind bytes rest true (nat_lt (2 ^ 30) (total + counted_bytes kind (length bytes))) (lt-ltb (limit_of kind) (length bytes) long) refl
 
 -- a file with which all are too long
-too_much : (item total : ℕ) (kind : ItemKind) (bytes : List ℕ) (rest : List (ItemKind × List ℕ)) → length bytes ≤ limit_of kind → 2 ^ 30 < total + counted_bytes kind (length bytes)
+too_much : (item total : ℕ) (kind : ItemWords) (bytes : List ℕ) (rest : List (ItemWords × List ℕ)) → length bytes ≤ limit_of kind → 2 ^ 30 < total + counted_bytes kind (length bytes)
     → bytes_limit item total ((kind, bytes) ∷ rest) ≡ Some Total
 too_much item total kind bytes rest short much =
     one_step item total kind bytes rest false true (le-ltb (limit_of kind) (length bytes) short) (lt-ltb (2 ^ 30) (total + counted_bytes kind (length bytes)) much)
 
 -- a file within both limits
-pub goes_on : (item total : ℕ) (kind : ItemKind) (bytes : List ℕ) (rest : List (ItemKind × List ℕ)) → length bytes ≤ limit_of kind → total + counted_bytes kind (length bytes) ≤ 2 ^ 30
+pub goes_on : (item total : ℕ) (kind : ItemWords) (bytes : List ℕ) (rest : List (ItemWords × List ℕ)) → length bytes ≤ limit_of kind → total + counted_bytes kind (length bytes) ≤ 2 ^ 30
     → bytes_limit item total ((kind, bytes) ∷ rest) ≡ bytes_limit (item + 1) (total + counted_bytes kind (length bytes)) rest
 goes_on item total kind bytes rest short few =
     one_step item total kind bytes rest false false (le-ltb (limit_of kind) (length bytes) short) (le-ltb (2 ^ 30) (total + counted_bytes kind (length bytes)) few)
@@ -49,7 +50,7 @@ tests_of false false first second rest none p q h = (refl, refl)
 not_less : (a b : ℕ) → nat_lt a b ≡ false → b ≤ a
 not_less a b h = grind (arith, nat_tests)
 
-pub within_both : (item total : ℕ) (kind : ItemKind) (bytes : List ℕ) (rest : List (ItemKind × List ℕ)) → bytes_limit item total ((kind, bytes) ∷ rest) ≡ None
+pub within_both : (item total : ℕ) (kind : ItemWords) (bytes : List ℕ) (rest : List (ItemWords × List ℕ)) → bytes_limit item total ((kind, bytes) ∷ rest) ≡ None
     → (length bytes ≤ limit_of kind) × (total + counted_bytes kind (length bytes) ≤ 2 ^ 30)
 within_both item total kind bytes rest h =
     let all = total + counted_bytes kind (length bytes) in
@@ -67,7 +68,7 @@ no_limit item total = refl
 pub record Begun (contents : Contents) (items : List ItemWords) (k : ℕ) (loaded : List (List ℕ)) (total : ℕ) : Type 0 where
   pub count : length loaded ≡ k
   pub known : IfSome contents (λ known. loaded ≡ bytes_known known (take k items))
-  pub so_far : (later : List (List ℕ)) → items_limit items (loaded ++ later) ≡ bytes_limit k total (of_kinds (drop k items) later)
+  pub so_far : (later : List (List ℕ)) → items_limit items (loaded ++ later) ≡ bytes_limit k total (zip (drop k items) later)
 
 pub begin : (contents : Contents) (items : List ItemWords) → Begun contents items 0 [] 0
 begin contents items = record { count = refl; known = none contents; so_far = λ later. refl }
@@ -84,19 +85,19 @@ if_some : {A : Type 0} (P Q : A → Type 0) (o : Option A) → ((x : A) → P x 
 if_some P Q None f h = tt
 if_some P Q (Some x) f h = f x h
 
-map_push : {A : Type 0} (f : A → List ℕ) (xs : List A) (x : A) → map f (xs ++ x ∷ []) ≡ map f xs ++ f x ∷ []
+pub map_push : {A B : Type 0} (f : A → B) (xs : List A) (x : A) → map f (xs ++ x ∷ []) ≡ map f xs ++ f x ∷ []
 map_push f [] x = refl
-map_push f (y ∷ ys) x = ap (λ (r : List (List ℕ)). f y ∷ r) (map_push f ys x)
+map_push {A} {B} f (y ∷ ys) x = ap (λ (r : List B). f y ∷ r) (map_push f ys x)
 
 -- the file at hand, before any later ones
 at_hand : (contents : Contents) (items : List ItemWords) (k : ℕ) (d : ItemWords) (loaded : List (List ℕ)) (total : ℕ) → Begun contents items k loaded total → k < length items → (bytes : List ℕ) (later : List (List ℕ))
-    → items_limit items (loaded ++ bytes ∷ later) ≡ bytes_limit k total (((get_or items k d).kind, bytes) ∷ of_kinds (drop (k + 1) items) later)
+    → items_limit items (loaded ++ bytes ∷ later) ≡ bytes_limit k total (((get_or items k d), bytes) ∷ zip (drop (k + 1) items) later)
 at_hand contents items k d loaded total h lt bytes later =
-    h.so_far (bytes ∷ later) ∙ ap (λ (is : List ItemWords). bytes_limit k total (of_kinds is (bytes ∷ later))) (drop_more items k d lt)
+    h.so_far (bytes ∷ later) ∙ ap (λ (is : List ItemWords). bytes_limit k total (zip is (bytes ∷ later))) (drop_more items k d lt)
 
 go_on : (contents : Contents) (items : List ItemWords) (k : ℕ) (d : ItemWords) (loaded : List (List ℕ)) (total : ℕ) (bytes : List ℕ) → Begun contents items k loaded total → k < length items
-    → length bytes ≤ limit_of (get_or items k d).kind → total + counted_bytes (get_or items k d).kind (length bytes) ≤ 2 ^ 30 → IfSome contents (λ known. bytes ≡ contents_of known (get_or items k d).name)
-    → Begun contents items (k + 1) (loaded ++ bytes ∷ []) (total + counted_bytes (get_or items k d).kind (length bytes))
+    → length bytes ≤ limit_of (get_or items k d) → total + counted_bytes (get_or items k d) (length bytes) ≤ 2 ^ 30 → IfSome contents (λ known. bytes ≡ contents_of known (name_of (get_or items k d)))
+    → Begun contents items (k + 1) (loaded ++ bytes ∷ []) (total + counted_bytes (get_or items k d) (length bytes))
 go_on contents items k d loaded total bytes h lt short few are = record {
   count = length-append loaded (bytes ∷ []) ∙ ap (λ (n : ℕ). n + 1) h.count;
   known = if_both _ _ _ contents
@@ -104,12 +105,12 @@ go_on contents items k d loaded total bytes h lt short few are = record {
       h.known are;
   so_far = λ later.
       ap (items_limit items) (append_assoc loaded (bytes ∷ []) later) ∙ at_hand contents items k d loaded total h lt bytes later
-      ∙ goes_on k total (get_or items k d).kind bytes (of_kinds (drop (k + 1) items) later) short few;
+      ∙ goes_on k total (get_or items k d) bytes (zip (drop (k + 1) items) later) short few;
 }
   where
-    one_more : (known : List (List ℕ × List ℕ)) → bytes_known known (take k items) ++ contents_of known (get_or items k d).name ∷ [] ≡ bytes_known known (take (k + 1) items)
+    one_more : (known : List (List ℕ × List ℕ)) → bytes_known known (take k items) ++ contents_of known (name_of (get_or items k d)) ∷ [] ≡ bytes_known known (take (k + 1) items)
     one_more known =
-        sym (ap (bytes_known known) (take_more items k d lt) ∙ map_push (λ (item : ItemWords). contents_of known item.name) (take k items) (get_or items k d))
+        sym (ap (bytes_known known) (take_more items k d lt) ∙ map_push (λ (item : ItemWords). contents_of known (name_of item)) (take k items) (get_or items k d))
 
 -- all files are loaded
 pub all_loaded : (contents : Contents) (items : List ItemWords) (k : ℕ) (loaded : List (List ℕ)) (total : ℕ) → Begun contents items k loaded total → k ≡ length items → AreLoaded contents items loaded
@@ -121,20 +122,20 @@ all_loaded contents items k loaded total h end = record {
   within = ap (items_limit items) (sym (append-nil loaded)) ∙ h.so_far [] ∙ none (drop k items);
 }
   where
-    none : (left : List ItemWords) → bytes_limit k total (of_kinds left []) ≡ None
+    none : (left : List ItemWords) → bytes_limit k total (zip left []) ≡ None
     none [] = no_limit k total
     none (i ∷ is) = no_limit k total
 
 -- ---- why loading refuses
 -- the bytes of all items, where those of the first are known
 parts : (known : List (List ℕ × List ℕ)) (items : List ItemWords) (k : ℕ) (d : ItemWords) → k < length items
-    → bytes_known known items ≡ bytes_known known (take k items) ++ contents_of known (get_or items k d).name ∷ bytes_known known (drop (k + 1) items)
+    → bytes_known known items ≡ bytes_known known (take k items) ++ contents_of known (name_of (get_or items k d)) ∷ bytes_known known (drop (k + 1) items)
 parts known [] k d lt = let none : ⊥ = omega arith in absurd none
 parts known (i ∷ is) zero d lt = refl
 parts known (i ∷ is) (suc k) d lt =
     let on : suc k + 1 ≡ suc (k + 1) = omega arith in
-    ap (λ (files : List (List ℕ)). contents_of known i.name ∷ files) (parts known is k d (omega arith))
-    ∙ ap (λ (m : ℕ). contents_of known i.name ∷ bytes_known known (take k is) ++ contents_of known (get_or is k d).name ∷ bytes_known known (drop m (i ∷ is))) (sym on)
+    ap (λ (files : List (List ℕ)). contents_of known (name_of i) ∷ files) (parts known is k d (omega arith))
+    ∙ ap (λ (m : ℕ). contents_of known (name_of i) ∷ bytes_known known (take k is) ++ contents_of known (name_of (get_or is k d)) ∷ bytes_known known (drop m (i ∷ is))) (sym on)
 
 as_many : {A : Type 0} (f : ItemWords → A) (items : List ItemWords) (k : ℕ) → k < length items → length (map f (drop (k + 1) items)) + k + 1 ≡ length items
 as_many f [] k lt = let none : ⊥ = omega arith in absurd none
@@ -147,7 +148,7 @@ as_many f (i ∷ is) (suc k) lt =
 
 -- with the file at hand a limit is exceeded, whatever the later ones hold
 exceeded : (contents : Contents) (items : List ItemWords) (k : ℕ) (d : ItemWords) (loaded : List (List ℕ)) (total : ℕ) (bytes : List ℕ) (limit : Limit) → Begun contents items k loaded total → k < length items
-    → IfSome contents (λ known. bytes ≡ contents_of known (get_or items k d).name) → ((rest : List (ItemKind × List ℕ)) → bytes_limit k total (((get_or items k d).kind, bytes) ∷ rest) ≡ Some limit)
+    → IfSome contents (λ known. bytes ≡ contents_of known (name_of (get_or items k d))) → ((rest : List (ItemWords × List ℕ)) → bytes_limit k total (((get_or items k d), bytes) ∷ rest) ≡ Some limit)
     → Exceeds contents items limit
 exceeded None items k d loaded total bytes limit h lt is over =
     let later : List (List ℕ) = map (λ (item : ItemWords). []) (drop (k + 1) items) in
@@ -156,16 +157,16 @@ exceeded None items k d loaded total bytes limit h lt is over =
     record {
       files = loaded ++ bytes ∷ later;
       bytes = record { are = tt; count = omega (arith, m, n, h.count) };
-      first = at_hand None items k d loaded total h lt bytes later ∙ over (of_kinds (drop (k + 1) items) later);
+      first = at_hand None items k d loaded total h lt bytes later ∙ over (zip (drop (k + 1) items) later);
     }
 exceeded (Some known) items k d loaded total bytes limit h lt is over =
     let later = bytes_known known (drop (k + 1) items) in
     let all : bytes_known known items ≡ loaded ++ bytes ∷ later =
-    parts known items k d lt ∙ ap (λ (files : List (List ℕ)). files ++ contents_of known (get_or items k d).name ∷ later) (sym h.known) ∙ ap (λ (b : List ℕ). loaded ++ b ∷ later) (sym is) in
+    parts known items k d lt ∙ ap (λ (files : List (List ℕ)). files ++ contents_of known (name_of (get_or items k d)) ∷ later) (sym h.known) ∙ ap (λ (b : List ℕ). loaded ++ b ∷ later) (sym is) in
     record {
       files = bytes_known known items;
-      bytes = record { are = refl; count = length-map items (λ (item : ItemWords). contents_of known item.name) };
-      first = ap (items_limit items) all ∙ at_hand (Some known) items k d loaded total h lt bytes later ∙ over (of_kinds (drop (k + 1) items) later);
+      bytes = record { are = refl; count = length-map items (λ (item : ItemWords). contents_of known (name_of item)) };
+      first = ap (items_limit items) all ∙ at_hand (Some known) items k d loaded total h lt bytes later ∙ over (zip (drop (k + 1) items) later);
     }
 
 -- there are lists of more elements
@@ -174,35 +175,35 @@ longer zero = (0 ∷ [], omega arith)
 longer (suc n) = let l = longer n in (0 ∷ l.0, omega (arith, l.1))
 
 long_file : (contents : Contents) (items : List ItemWords) (k : ℕ) (d : ItemWords) (loaded : List (List ℕ)) (total : ℕ) → Begun contents items k loaded total → k < length items
-    → IfSome contents (λ known. limit_of (get_or items k d).kind < length (contents_of known (get_or items k d).name)) → Exceeds contents items (File k)
+    → IfSome contents (λ known. limit_of (get_or items k d) < length (contents_of known (name_of (get_or items k d)))) → Exceeds contents items (File k)
 long_file None items k d loaded total h lt long =
-    let l = longer (limit_of (get_or items k d).kind) in
-    exceeded None items k d loaded total l.0 (File k) h lt tt (λ rest. too_long k total (get_or items k d).kind l.0 rest l.1)
+    let l = longer (limit_of (get_or items k d)) in
+    exceeded None items k d loaded total l.0 (File k) h lt tt (λ rest. too_long k total (get_or items k d) l.0 rest l.1)
 long_file (Some known) items k d loaded total h lt long =
-    exceeded (Some known) items k d loaded total (contents_of known (get_or items k d).name) (File k) h lt refl (λ rest. too_long k total (get_or items k d).kind _ rest long)
+    exceeded (Some known) items k d loaded total (contents_of known (name_of (get_or items k d))) (File k) h lt refl (λ rest. too_long k total (get_or items k d) _ rest long)
 
 -- with the file at hand all are too long
 long_in_all : (contents : Contents) (items : List ItemWords) (k : ℕ) (d : ItemWords) (loaded : List (List ℕ)) (total : ℕ) (bytes : List ℕ) → Begun contents items k loaded total → k < length items
-    → length bytes ≤ limit_of (get_or items k d).kind → 2 ^ 30 < total + counted_bytes (get_or items k d).kind (length bytes) → IfSome contents (λ known. bytes ≡ contents_of known (get_or items k d).name)
+    → length bytes ≤ limit_of (get_or items k d) → 2 ^ 30 < total + counted_bytes (get_or items k d) (length bytes) → IfSome contents (λ known. bytes ≡ contents_of known (name_of (get_or items k d)))
     → Exceeds contents items Total
 long_in_all contents items k d loaded total bytes h lt short much are =
-    exceeded contents items k d loaded total bytes Total h lt are (λ rest. too_much k total (get_or items k d).kind bytes rest short much)
+    exceeded contents items k d loaded total bytes Total h lt are (λ rest. too_much k total (get_or items k d) bytes rest short much)
 
 -- the name of an item is among those of all
-named : (items : List ItemWords) (k : ℕ) (d : ItemWords) → k < length items → (name : List ℕ) → name ≡ (get_or items k d).name → IsLoadingRefusal None items (refusal.Read record { ref_ptr = (0, 0); now = name })
-named items k d lt name e = (k, omega (arith, length-map items (λ (item : ItemWords). item.name), lt), by_place items k d lt ∙ sym e)
+named : (items : List ItemWords) (k : ℕ) (d : ItemWords) → k < length items → (name : List ℕ) → name ≡ name_of (get_or items k d) → IsLoadingRefusal None items (refusal.Read record { ref_ptr = (0, 0); now = name })
+named items k d lt name e = (k, omega (arith, length-map items name_of, lt), by_place items k d lt ∙ sym e)
   where
-    by_place : (items : List ItemWords) (k : ℕ) (d : ItemWords) → k < length items → get_or (names_of items) k name ≡ (get_or items k d).name
+    by_place : (items : List ItemWords) (k : ℕ) (d : ItemWords) → k < length items → get_or (names_of items) k name ≡ name_of (get_or items k d)
     by_place [] k d lt = let none : ⊥ = omega arith in absurd none
     by_place (i ∷ is) zero d lt = refl
     by_place (i ∷ is) (suc k) d lt = by_place is k d (omega arith)
 
 load_refuses : (contents : Contents) (items : List ItemWords) (k item : ℕ) (d : ItemWords) (loaded : List (List ℕ)) (total : ℕ) (fault : LoadFault) (refused : Refusal)
-    → Begun contents items k loaded total → k < length items → item ≡ k → IsLoadRefusal fault item (get_or items k d).name refused
-    → ((limit : ℕ) → fault ≡ load.TooLong limit → IfSome contents (λ known. limit_of (get_or items k d).kind < length (contents_of known (get_or items k d).name))) → IsLoadingRefusal contents items refused
+    → Begun contents items k loaded total → k < length items → item ≡ k → IsLoadRefusal fault item (name_of (get_or items k d)) refused
+    → ((limit : ℕ) → fault ≡ load.TooLong limit → IfSome contents (λ known. limit_of (get_or items k d) < length (contents_of known (name_of (get_or items k d))))) → IsLoadingRefusal contents items refused
 load_refuses contents items k item d loaded total load.Read refused h lt is refuses long = read refused refuses
   where
-    read : (refused : Refusal) → IsReadOf (get_or items k d).name refused → IsLoadingRefusal contents items refused
+    read : (refused : Refusal) → IsReadOf (name_of (get_or items k d)) refused → IsLoadingRefusal contents items refused
     read (refusal.Read name) e = named items k d lt name.now e
     read refusal.Memory e = tt
     read (refusal.Limit limit) e = absurd e
@@ -221,52 +222,65 @@ names_failed failed load.Read item name (refusal.Input notice) is named = tt
 names_failed failed (load.TooLong limit) item name refused is named = subst (NamesFailed failed) (sym is) tt
 names_failed failed load.NoMemory item name refused is named = subst (NamesFailed failed) (sym is) tt
 
-pub map_items_push : (before after : List (Vec ℕ Global)) (v : Vec ℕ Global) → after ≡ before ++ v ∷ [] → map (λ (w : Vec ℕ Global). w.items) after ≡ map (λ (w : Vec ℕ Global). w.items) before ++ v.items ∷ []
-map_items_push before after v h = ap (map (λ (w : Vec ℕ Global). w.items)) h ∙ map_push (λ (w : Vec ℕ Global). w.items) before v
+-- one file more
+pub loaded_push : (before after : List Loaded) (file : Loaded) → after ≡ before ++ file ∷ [] → loaded_bytes after ≡ loaded_bytes before ++ file.bytes.items ∷ []
+loaded_push before after file h = ap loaded_bytes h ∙ map_push (λ (l : Loaded). l.bytes.items) before file
+
+items_push : (before after : List Loaded) (file : Loaded) → after ≡ before ++ file ∷ [] → loaded_items after ≡ loaded_items before ++ item_of file.item ∷ []
+items_push before after file h = ap loaded_items h ∙ map_push (λ (l : Loaded). item_of l.item) before file
+
+pub items_on : (items : List Item) (k : ℕ) (d : Item) (before after : List Loaded) (file : Loaded) → k < length items → file.item ≡ get_or items k d → after ≡ before ++ file ∷ []
+    → loaded_items before ≡ map item_of (take k items) → loaded_items after ≡ map item_of (take (k + 1) items)
+items_on items k d before after file lt is grown h =
+    items_push before after file grown
+    ∙ ap (λ (i : Item). loaded_items before ++ item_of i ∷ []) is
+    ∙ ap (λ (b : List ItemWords). b ++ item_of (get_or items k d) ∷ []) h
+    ∙ sym (ap (map item_of) (take_more items k d lt) ∙ map_push item_of (take k items) (get_or items k d))
 
 -- ---- items as the code has them
 item_at : (items : List Item) (k : ℕ) (d : Item) → get_or (map item_of items) k (item_of d) ≡ item_of (get_or items k d)
 item_at items k d = get_or-map item_of items k d
 
-limit_at : (items : List Item) (k : ℕ) (d : Item) (own : ℕ) → own ≡ limit_of (get_or items k d).kind → own ≡ limit_of (get_or (map item_of items) k (item_of d)).kind
-limit_at items k d own e = e ∙ ap (λ (i : ItemWords). limit_of i.kind) (sym (item_at items k d))
+limit_at : (items : List Item) (k : ℕ) (d : Item) (own : ℕ) → own ≡ limit_of (item_of (get_or items k d)) → own ≡ limit_of (get_or (map item_of items) k (item_of d))
+limit_at items k d own e = e ∙ ap (λ (i : ItemWords). limit_of i) (sym (item_at items k d))
 
-counted_at : (items : List Item) (k : ℕ) (d : Item) (bytes : List ℕ) (n counted : ℕ) → n ≡ length bytes → counted ≡ counted_bytes (get_or items k d).kind n
-    → counted ≡ counted_bytes (get_or (map item_of items) k (item_of d)).kind (length bytes)
+counted_at : (items : List Item) (k : ℕ) (d : Item) (bytes : List ℕ) (n counted : ℕ) → n ≡ length bytes → counted ≡ counted_bytes (item_of (get_or items k d)) n
+    → counted ≡ counted_bytes (get_or (map item_of items) k (item_of d)) (length bytes)
 counted_at items k d bytes n counted length_is e =
-    e ∙ ap (λ (m : ℕ). counted_bytes (get_or items k d).kind m) length_is ∙ ap (λ (i : ItemWords). counted_bytes i.kind (length bytes)) (sym (item_at items k d))
+    e ∙ ap (λ (m : ℕ). counted_bytes (item_of (get_or items k d)) m) length_is ∙ ap (λ (i : ItemWords). counted_bytes i (length bytes)) (sym (item_at items k d))
 
-known_at : (contents before : Contents) (items : List Item) (k : ℕ) (d : Item) (bytes : List ℕ) → before ≡ contents → IfSome before (λ known. bytes ≡ contents_of known (get_or items k d).name.now)
-    → IfSome contents (λ known. bytes ≡ contents_of known (get_or (map item_of items) k (item_of d)).name)
-known_at contents before items k d bytes same are =
-    subst (λ (i : ItemWords). IfSome contents (λ known. bytes ≡ contents_of known i.name)) (sym (item_at items k d))
-    (subst (λ (o : Contents). IfSome o (λ known. bytes ≡ contents_of known (get_or items k d).name.now)) same are)
+known_at : (contents before : Contents) (items : List Item) (k : ℕ) (d : Item) (name bytes : List ℕ) → before ≡ contents → name ≡ name_of (item_of (get_or items k d)) → IfSome before (λ known. bytes ≡ contents_of known name)
+    → IfSome contents (λ known. bytes ≡ contents_of known (name_of (get_or (map item_of items) k (item_of d))))
+known_at contents before items k d name bytes same is are =
+    subst (λ (n : List ℕ). IfSome contents (λ known. bytes ≡ contents_of known n)) (is ∙ ap name_of (sym (item_at items k d)))
+    (subst (λ (o : Contents). IfSome o (λ known. bytes ≡ contents_of known name)) same are)
 
-pub go_on_at : (contents before : Contents) (items : List Item) (k : ℕ) (d : Item) (loaded : List (List ℕ)) (total : ℕ) (bytes : List ℕ) (own n counted : ℕ) → before ≡ contents
-    → Begun contents (map item_of items) k loaded total → k < length (map item_of items) → own ≡ limit_of (get_or items k d).kind → length bytes ≤ own → n ≡ length bytes
-    → counted ≡ counted_bytes (get_or items k d).kind n → total + counted ≤ 2 ^ 30 → IfSome before (λ known. bytes ≡ contents_of known (get_or items k d).name.now)
+pub go_on_at : (contents before : Contents) (items : List Item) (k : ℕ) (d : Item) (name : List ℕ) (loaded : List (List ℕ)) (total : ℕ) (bytes : List ℕ) (own n counted : ℕ) → before ≡ contents
+    → name ≡ name_of (item_of (get_or items k d)) → Begun contents (map item_of items) k loaded total → k < length (map item_of items) → own ≡ limit_of (item_of (get_or items k d)) → length bytes ≤ own → n ≡ length bytes
+    → counted ≡ counted_bytes (item_of (get_or items k d)) n → total + counted ≤ 2 ^ 30 → IfSome before (λ known. bytes ≡ contents_of known name)
     → Begun contents (map item_of items) (k + 1) (loaded ++ bytes ∷ []) (total + counted)
-go_on_at contents before items k d loaded total bytes own n counted same h lt own_is short length_is counted_is few are =
+go_on_at contents before items k d name loaded total bytes own n counted same is h lt own_is short length_is counted_is few are =
     let all = counted_at items k d bytes n counted length_is counted_is in
     subst (λ (m : ℕ). Begun contents (map item_of items) (k + 1) (loaded ++ bytes ∷ []) (total + m)) (sym all)
     (go_on contents (map item_of items) k (item_of d) loaded total bytes h lt (subst (λ (m : ℕ). length bytes ≤ m) (limit_at items k d own own_is) short)
-    (subst (λ (m : ℕ). total + m ≤ 2 ^ 30) all few) (known_at contents before items k d bytes same are))
+    (subst (λ (m : ℕ). total + m ≤ 2 ^ 30) all few) (known_at contents before items k d name bytes same is are))
 
-pub long_in_all_at : (contents before : Contents) (items : List Item) (k : ℕ) (d : Item) (loaded : List (List ℕ)) (total : ℕ) (bytes : List ℕ) (own n counted : ℕ) → before ≡ contents
-    → Begun contents (map item_of items) k loaded total → k < length (map item_of items) → own ≡ limit_of (get_or items k d).kind → length bytes ≤ own → n ≡ length bytes
-    → counted ≡ counted_bytes (get_or items k d).kind n → 2 ^ 30 < total + counted → IfSome before (λ known. bytes ≡ contents_of known (get_or items k d).name.now)
+pub long_in_all_at : (contents before : Contents) (items : List Item) (k : ℕ) (d : Item) (name : List ℕ) (loaded : List (List ℕ)) (total : ℕ) (bytes : List ℕ) (own n counted : ℕ) → before ≡ contents
+    → name ≡ name_of (item_of (get_or items k d)) → Begun contents (map item_of items) k loaded total → k < length (map item_of items) → own ≡ limit_of (item_of (get_or items k d)) → length bytes ≤ own → n ≡ length bytes
+    → counted ≡ counted_bytes (item_of (get_or items k d)) n → 2 ^ 30 < total + counted → IfSome before (λ known. bytes ≡ contents_of known name)
     → Exceeds contents (map item_of items) Total
-long_in_all_at contents before items k d loaded total bytes own n counted same h lt own_is short length_is counted_is much are =
+long_in_all_at contents before items k d name loaded total bytes own n counted same is h lt own_is short length_is counted_is much are =
     long_in_all contents (map item_of items) k (item_of d) loaded total bytes h lt (subst (λ (m : ℕ). length bytes ≤ m) (limit_at items k d own own_is) short)
-    (subst (λ (m : ℕ). 2 ^ 30 < total + m) (counted_at items k d bytes n counted length_is counted_is) much) (known_at contents before items k d bytes same are)
+    (subst (λ (m : ℕ). 2 ^ 30 < total + m) (counted_at items k d bytes n counted length_is counted_is) much) (known_at contents before items k d name bytes same is are)
 
-pub load_refuses_at : (contents before : Contents) (items : List Item) (k number : ℕ) (d : Item) (loaded : List (List ℕ)) (total own : ℕ) (fault : LoadFault) (refused : Refusal) → before ≡ contents
-    → Begun contents (map item_of items) k loaded total → k < length (map item_of items) → number ≡ k → own ≡ limit_of (get_or items k d).kind → IsLoadRefusal fault number (get_or items k d).name.now refused
-    → ((limit : ℕ) → fault ≡ load.TooLong limit → IfSome before (λ known. own < length (contents_of known (get_or items k d).name.now))) → IsLoadingRefusal contents (map item_of items) refused
-load_refuses_at contents before items k number d loaded total own fault refused same h lt is own_is refuses long =
+pub load_refuses_at : (contents before : Contents) (items : List Item) (k number : ℕ) (d : Item) (name : List ℕ) (loaded : List (List ℕ)) (total own : ℕ) (fault : LoadFault) (refused : Refusal) → before ≡ contents
+    → name ≡ name_of (item_of (get_or items k d)) → Begun contents (map item_of items) k loaded total → k < length (map item_of items) → number ≡ k → own ≡ limit_of (item_of (get_or items k d)) → IsLoadRefusal fault number name refused
+    → ((limit : ℕ) → fault ≡ load.TooLong limit → IfSome before (λ known. own < length (contents_of known name))) → IsLoadingRefusal contents (map item_of items) refused
+load_refuses_at contents before items k number d name loaded total own fault refused same named h lt is own_is refuses long =
+    let at_name : name ≡ name_of (get_or (map item_of items) k (item_of d)) = named ∙ ap name_of (sym (item_at items k d)) in
     load_refuses contents (map item_of items) k number (item_of d) loaded total fault refused h lt is
-    (subst (λ (i : ItemWords). IsLoadRefusal fault number i.name refused) (sym (item_at items k d)) refuses)
+    (subst (λ (n : List ℕ). IsLoadRefusal fault number n refused) at_name refuses)
     (λ limit e.
-    subst (λ (i : ItemWords). IfSome contents (λ known. limit_of i.kind < length (contents_of known i.name))) (sym (item_at items k d))
-    (subst (λ (m : ℕ). IfSome contents (λ known. m < length (contents_of known (get_or items k d).name.now))) own_is
-    (subst (λ (o : Contents). IfSome o (λ known. own < length (contents_of known (get_or items k d).name.now))) same (long limit e))))
+    subst (λ (n : List ℕ). IfSome contents (λ known. limit_of (get_or (map item_of items) k (item_of d)) < length (contents_of known n))) at_name
+    (subst (λ (m : ℕ). IfSome contents (λ known. m < length (contents_of known name))) (limit_at items k d own own_is)
+    (subst (λ (o : Contents). IfSome o (λ known. own < length (contents_of known name))) same (long limit e))))

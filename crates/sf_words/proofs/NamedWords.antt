@@ -1,8 +1,10 @@
 -- Words that name things, one after the other.
-use Rattle.std.proofs.Common.{◌≡◌, ℕ, zero, suc, ◌+◌, ◌<◌, List, [], ◌∷◌, ◌++◌, map, length, get_or, drop, refl, ap, sym, ◌∙◌, subst, Option, Some, None, true, false, arith}
+use Rattle.std.proofs.Common.{◌≡◌, ℕ, zero, suc, ◌<◌, List, [], ◌∷◌, map, length, get_or, refl, ap, sym, ◌∙◌, Option, Some, None, true, false, arith}
 use Rattle.std.specs.Prelude.{IfSome, IsSomeAnd}
 use Rattle.std.specs.Option.{is_some}
-use Rattle.std.proofs.lemmas.List.{drop_more}
+use Rattle.std.proofs.lemmas.List.{length-map}
+use Rattle.std.specs.Coded.{Coded-set, coded_ℕ}
+use mathlib.Core.Logic.{∥∥₁_elim}
 use Rattle.std.specs.List.{All, AllZip}
 use Rattle.std.proofs.lemmas.List.Elements.{All-nil, All-cons, All-head, All-tail}
 
@@ -28,22 +30,24 @@ pub all_seen : {A X : Type 0} (text : A → X) (P : X → Type 0) (words : List 
 all_seen text P [] h = All-nil (λ w. P (text w))
 all_seen {A} text P (w ∷ ws) h = All-cons (λ (v : A). P (text v)) w ws (All-head P (text w) (map text ws) h) (all_seen text P ws (All-tail P (text w) (map text ws) h))
 
--- the thing that the word at a place names, before those of the words behind it
-pub record Turn {A X : Type 0} (text : A → List ℕ) (Is : List ℕ → X → Type 0) (words : List A) (k : ℕ) (d : A) (things : List X) : Type 0 where
-  pub thing : X
-  pub later : List X
-  pub are : things ≡ thing ∷ later
-  pub named : Is (text (get_or words k d)) thing
-  pub rest : AllZip Is (map text (drop (k + 1) words)) later
+-- two lists that are joined item by item are as long
+pub as_long : {A B : Type 0} (R : A → B → Type 0) (xs : List A) (ys : List B) → AllZip R xs ys → length xs ≡ length ys
+as_long R [] [] h = refl
+as_long R [] (y ∷ ys) h = absurd h
+as_long R (x ∷ xs) [] h = absurd h
+as_long R (x ∷ xs) (y ∷ ys) h = ap (λ (n : ℕ). suc n) (as_long R xs ys h.1)
 
-turn_from : {A X : Type 0} (text : A → List ℕ) (Is : List ℕ → X → Type 0) (words : List A) (k : ℕ) (d : A) (things : List X)
-    → AllZip Is (map text (get_or words k d ∷ drop (k + 1) words)) things → Turn text Is words k d things
-turn_from text Is words k d [] h = absurd h
-turn_from text Is words k d (x ∷ xs) h = record { thing = x; later = xs; are = refl; named = h.0; rest = h.1 }
+-- there are as many things as words that name them
+pub named_count : {A X : Type 0} (text : A → List ℕ) (Is : List ℕ → X → Type 0) (words : List A) (said : (things : List X) × ∥ AllZip Is (map text words) things ∥₁) → length words ≡ length said.0
+named_count text Is words said = ∥∥₁_elim said.1 (Coded-set coded_ℕ _ _) (λ h. sym (length-map words text) ∙ as_long Is (map text words) said.0 h)
 
-pub turn : {A X : Type 0} (text : A → List ℕ) (Is : List ℕ → X → Type 0) (words : List A) (k : ℕ) (d : A) (things : List X)
-    → k < length words → AllZip Is (map text (drop k words)) things → Turn text Is words k d things
-turn text Is words k d things lt h = turn_from text Is words k d things (subst (λ ws. AllZip Is (map text ws) things) (drop_more words k d lt) h)
+-- the word at a place names the thing at that place
+pub thing_at : {A X : Type 0} (text : A → List ℕ) (Is : List ℕ → X → Type 0) (words : List A) (things : List X) (k : ℕ) (d : A) (e : X)
+    → AllZip Is (map text words) things → k < length words → Is (text (get_or words k d)) (get_or things k e)
+thing_at text Is [] things k d e h lt = let none : ⊥ = omega arith in absurd none
+thing_at text Is (w ∷ ws) [] k d e h lt = absurd h
+thing_at text Is (w ∷ ws) (x ∷ xs) zero d e h lt = h.0
+thing_at text Is (w ∷ ws) (x ∷ xs) (suc k) d e h lt = thing_at text Is ws xs k d e h.1 (omega arith)
 
 -- a word of which something was found names a thing
 pub found_thing : {T X : Type 0} (text : List ℕ) (Is : List ℕ → X → Type 0) (view : T → X) (found : Option T) → is_some found ≡ true → IfSome found (λ t. Is text (view t))
@@ -55,17 +59,3 @@ found_thing text Is view (Some t) e h = (view t, h)
 pub must_find : {T : Type 0} (P : T → Type 0) (found : Option T) → is_some found ≡ false → IsSomeAnd found P → ⊥
 must_find P None e h = absurd h
 must_find P (Some t) e h = cc
-
--- one thing more, before those that are left
-pub pushed : {T X : Type 0} (view : T → X) (before after : List T) (t : T) (all left later : List X) (x : X) → after ≡ before ++ t ∷ [] → view t ≡ x → left ≡ x ∷ later
-    → map view before ++ left ≡ all → map view after ++ later ≡ all
-pushed view before after t all left later x grown same are h =
-    ap (λ ts. map view ts ++ later) grown
-    ∙ one_more view before t later
-    ∙ ap (λ y. map view before ++ y ∷ later) same
-    ∙ ap (λ l. map view before ++ l) (sym are)
-    ∙ h
-  where
-    one_more : {T X : Type 0} (view : T → X) (before : List T) (t : T) (later : List X) → map view (before ++ t ∷ []) ++ later ≡ map view before ++ view t ∷ later
-    one_more view [] t later = refl
-    one_more view (b ∷ bs) t later = ap (λ l. view b ∷ l) (one_more view bs t later)

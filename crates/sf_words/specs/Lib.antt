@@ -1,4 +1,9 @@
-pub mod Items
-pub mod Parsed
 pub mod Words
+pub mod Naming
+pub mod AtSigns
+pub mod OneReading
+pub mod Named
+pub mod Items
+pub mod Files
 pub mod Loading
+pub mod Forms

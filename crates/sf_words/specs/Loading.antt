@@ -4,10 +4,11 @@ use Rattle.std.specs.List.{zip}
 use Rattle.sf_base.specs.Contents.{contents_of}
 use Rattle.sf_base.specs.declared.loading.LoadFault.{LoadFault}
 use Rattle.sf_base.specs.declared.loading.LoadFault.TheVariants as load
-use Rattle.sf_words.specs.declared.item.ItemKind.{ItemKind}
-use Rattle.sf_words.specs.Items.{ItemWords, counted_bytes, limit_of, names_of}
+use Rattle.sf_words.specs.declared.loading.Loaded.{Loaded}
+use Rattle.sf_words.specs.Files.{FilesWords, counted_items, items_of}
+use Rattle.sf_words.specs.Items.{ItemWords, counted_bytes, item_of, limit_of, name_of, names_of}
 use Rattle.sf_words.specs.declared.refusal.Limit.{Limit}
-use Rattle.sf_words.specs.declared.refusal.Limit.TheVariants.{File, Total}
+use Rattle.sf_words.specs.declared.refusal.Limit.TheVariants.{File, Inputs, Total}
 use Rattle.sf_words.specs.declared.refusal.Refusal.{Refusal}
 use Rattle.sf_words.specs.declared.refusal.Refusal.TheVariants as refusal
 
@@ -17,24 +18,24 @@ Contents = Option (List (List ℕ × List ℕ))
 
 -- the first limit that the bytes of files exceed, which are numbered from `item` on and come after `total` bytes that count: the limit of
 -- one file, and then the limit of all files up to it
-unfoldable pub bytes_limit : (item total : ℕ) → List (ItemKind × List ℕ) → Option Limit
+unfoldable pub bytes_limit : (item total : ℕ) → List (ItemWords × List ℕ) → Option Limit
 bytes_limit item total [] = None
 bytes_limit item total (file ∷ files) =
     if nat_lt (limit_of file.0) (length file.1) then Some (File item)
     else (if nat_lt (2 ^ 30) (total + counted_bytes file.0 (length file.1)) then Some Total
     else bytes_limit (item + 1) (total + counted_bytes file.0 (length file.1)) files)
 
--- the kinds of items, each with the bytes of its file
-abbrev pub of_kinds : List ItemWords → (files : List (List ℕ)) → List (ItemKind × List ℕ)
-of_kinds items files = zip (map (λ (item : ItemWords). item.kind) items) files
-
 -- the first limit that the bytes of all items exceed
 abbrev pub items_limit : List ItemWords → (files : List (List ℕ)) → Option Limit
-items_limit items files = bytes_limit 0 0 (of_kinds items files)
+items_limit items files = bytes_limit 0 0 (zip items files)
+
+-- the first limit of loading: the list names more than 512 files, or the bytes exceed one
+unfoldable pub files_limit : FilesWords → (files : List (List ℕ)) → Option Limit
+files_limit command files = if nat_lt 512 (counted_items command) then Some Inputs else items_limit (items_of command) files
 
 -- the bytes of the files that items name
 abbrev pub bytes_known : List (List ℕ × List ℕ) → List ItemWords → List (List ℕ)
-bytes_known known items = map (λ (item : ItemWords). contents_of known item.name) items
+bytes_known known items = map (λ (item : ItemWords). contents_of known (name_of item)) items
 
 -- these are the bytes of the items: one file each, and what its name holds, where that is known
 pub record AreBytesOf (contents : Contents) (items : List ItemWords) (files : List (List ℕ)) : Type 0 where
@@ -51,6 +52,13 @@ pub record Exceeds (contents : Contents) (items : List ItemWords) (limit : Limit
   pub files : List (List ℕ)
   pub bytes : AreBytesOf contents items files
   pub first : items_limit items files ≡ Some limit
+
+-- what was loaded: the items, and the bytes of each
+abbrev pub loaded_items : List Loaded → List ItemWords
+loaded_items loaded = map (λ (file : Loaded). item_of file.item) loaded
+
+abbrev pub loaded_bytes : List Loaded → List (List ℕ)
+loaded_bytes loaded = map (λ (file : Loaded). file.bytes.items) loaded
 
 -- ---- refusals
 -- an item of this name could not be read

@@ -1,8 +1,7 @@
 //! Words that each name a file of one kind, such as an input or a section.
 
 ghost use Rattle.std.specs.Prelude.{◌≡◌, List, ℕ, IfSome, IsSomeAnd};
-ghost use Rattle.sf_words.specs.Parsed.{input_of, section_of};
-ghost use Rattle.sf_words.specs.Words.{InputWords, IsInputWord, IsSectionWord, SectionWords};
+ghost use Rattle.sf_words.specs.Words.{InputWords, IsInputWord, IsSectionWord, SectionWords, input_of, section_of};
 
 use crate::words::{InputFile, SectionFile, input_file, section_file};
 

@@ -1,45 +1,53 @@
 //! The files that a command reads, each of a kind with its own limits.
 
-ghost use Rattle.std.specs.Prelude.{◌≡◌, ◌≤◌};
-ghost use Rattle.sf_words.specs.Items.{counted_bytes, limit_of};
+ghost use Rattle.std.specs.Prelude.{◌≡◌};
+ghost use Rattle.sf_words.specs.Items.{counted_bytes, item_of, limit_of, name_of};
 
-/// What a file is to the command that reads it.
-#[derive(Clone, Copy, PartialEq, Eq)]
-pub enum ItemKind {
-    /// An ELF file or a bare call frame section.
-    Input,
+use crate::words::{InputFile, SectionFile};
+
+/// A file that a command reads, by what it is to the command.
+#[derive(Clone, Copy)]
+pub enum Item<'a> {
+    /// An ELF file or a bare call frame section that is linked.
+    Input(InputFile<'a>),
     /// An SFrame section.
-    Section,
-    /// A core file.
-    Core,
+    Section(SectionFile<'a>),
+    /// The core file of this name.
+    Core(&'a str),
+    /// The ELF file of this name, which a process had mapped.
+    Mapped(&'a str),
 }
 
-impl ItemKind {
-    /// Returns the most bytes that a file of this kind may have.
-    pub fn limit(self) -> u64
-        ensures { result ≡ limit_of self }
+impl<'a> Item<'a> {
+    /// Returns the file's name.
+    pub fn name(&self) -> &'a str
+        ensures { result.now ≡ name_of (item_of self.now) }
     {
         match self {
-            ItemKind::Input => 1 << 28,
-            ItemKind::Section => 1 << 29,
-            ItemKind::Core => 1 << 30,
+            Item::Input(input) => input.name,
+            Item::Section(section) => section.name,
+            Item::Core(name) | Item::Mapped(name) => name,
+        }
+    }
+
+    /// Returns the most bytes that a file of this kind may have.
+    pub fn limit(&self) -> u64
+        ensures { result ≡ limit_of (item_of self.now) }
+    {
+        match self {
+            Item::Input(_) | Item::Mapped(_) => 1 << 28,
+            Item::Section(_) => 1 << 29,
+            Item::Core(_) => 1 << 30,
         }
     }
 
     /// Returns how many bytes of such a file of `len` bytes count for the limit of all files of a run.
-    pub fn counted(self, len: u64) -> u64
-        ensures { result ≡ counted_bytes self len }
+    pub fn counted(&self, len: u64) -> u64
+        ensures { result ≡ counted_bytes (item_of self.now) len }
     {
         match self {
-            ItemKind::Input | ItemKind::Section => len,
-            ItemKind::Core => 0,
+            Item::Input(_) | Item::Section(_) | Item::Mapped(_) => len,
+            Item::Core(_) => 0,
         }
     }
-}
-
-/// A file that a command reads.
-#[derive(Clone, Copy)]
-pub struct Item<'a> {
-    pub name: &'a str,
-    pub kind: ItemKind,
 }

@@ -1,25 +1,30 @@
-//! The words of a command line, from their forms to the bytes of the files that a command reads.
+//! The words of a command line, and the files that they name.
 //!
-//! [`command_words`] finds the form and allocates nothing, [`read_words`] reads each word, [`items`] names the files
-//! in order, and [`load_all`] loads them in that order, each within the limits of its kind. [`Refusal`] is why a run
-//! makes nothing. The forms are defined in specs/Words.antt, and the limits in specs/Loading.antt.
+//! [`input_file`] and [`section_file`] read a word that names a file. [`NamedInputs`] and [`NamedSections`] are lists of
+//! such words, each read when it is asked for, so that nothing is allocated before the files of a command are counted.
+//! Forms that commands share, such as [`section_and_inputs`], are in `forms.rt`. [`CommandFiles`] says which files a
+//! command makes and reads, and [`load_all`] loads them in order, each [`Item`] within the limits of its kind.
+//! [`Refusal`] is why a run makes nothing. Words are defined in specs/Words.antt, the limits in specs/Loading.antt.
 #![tactic(auto)]
 
-mod asked;
-mod command;
 mod file_word;
+mod files;
+mod forms;
 mod item;
 mod lists;
 mod loading;
+mod named;
 mod refusal;
 mod words;
 
-pub use asked::{Asked, Backtrace, Merge, SectionAndInputFiles, items, read_words};
-pub use command::{
-    BacktraceCommand, Command, MergeCommand, ProcwalkFiles, SectionAndInputWords, SlimFiles,
-    WalkFiles, command_words,
+pub use files::{CommandFiles, FileList};
+pub use forms::{
+    MOST_FRAMES, SectionAndInputs, four_and_items, four_words, number_up_to, out_and_items,
+    section_and_inputs, three_and_items, three_words, two_words,
 };
-pub use item::{Item, ItemKind};
-pub use loading::load_all;
+pub use item::Item;
+pub use lists::are_named;
+pub use loading::{Loaded, load_all};
+pub use named::{NamedInputs, NamedSections};
 pub use refusal::{Limit, Refusal};
-pub use words::{InputFile, SectionFile};
+pub use words::{InputFile, SectionFile, input_file, section_file};

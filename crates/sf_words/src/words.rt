@@ -3,13 +3,12 @@
 ghost use Rattle.std.specs.Prelude.{◌≡◌, ℕ, ◌++◌, List, IfSome, IsSomeAnd};
 ghost use Rattle.sf_model.specs.declared.machine.Arch.{Arch as machine};
 ghost use Rattle.sf_model.specs.declared.form.Form.{Form as input_form};
-ghost use Rattle.sf_words.specs.Words.{IsPlaced, IsInputWord, IsSectionWord, InputWords, SectionWords, Spells, prefix_of};
-ghost use Rattle.sf_words.specs.Parsed.{input_of, section_of};
+ghost use Rattle.sf_words.specs.Words.{IsPlaced, IsInputWord, IsSectionWord, InputWords, SectionWords, Spells, input_of, prefix_of, section_of};
 
 use sf_base::hex_word;
 use sf_model::{Arch, Form};
 
-/// Returns the name and the address of a word: what is before its last `@`, and the number after it.
+/// A name and an address.
 #[derive(Clone, Copy)]
 struct Placed<'a> {
     name: &'a str,
@@ -31,6 +30,7 @@ pub struct SectionFile<'a> {
     pub at: u64,
 }
 
+/// Returns the name and the address of a word: what is before its last `@`, and the number after it.
 fn name_and_address(word: &str) -> Option<Placed<'_>>
     ensures found { IfSome result (λ p. IsPlaced word.now p.name.now p.address) }
     ensures only { (name : List ℕ) (address : ℕ) → IsPlaced word.now name address → IsSomeAnd result (λ p. (p.name.now ≡ name) × (p.address ≡ address)) }
@@ -40,6 +40,7 @@ fn name_and_address(word: &str) -> Option<Placed<'_>>
     Some(Placed { name, address })
 }
 
+/// Returns the machine that a prefix of the name is for, and the rest.
 fn machine_of(name: &str) -> Option<(Arch, &str)>
     ensures found { IfSome result (λ m. name.now ≡ prefix_of m.0 ++ m.1.now) }
     ensures only { (arch : machine) (rest : List ℕ) → name.now ≡ prefix_of arch ++ rest → IsSomeAnd result (λ m. (m.0 ≡ arch) × (m.1.now ≡ rest)) }

@@ -1,60 +1,12 @@
-use Rattle.std.proofs.Common.{Vec, Global, ◌≡◌, ◌≤◌, ◌<◌, ◌^◌, ◌+◌, ℕ, List, Err, map, length, refl, ap, sym, subst, ◌∙◌, arith}
-use Rattle.std.proofs.lemmas.List.{length-map}
-use Rattle.sf_base.specs.Seen.{FilesSeen}
-use Rattle.sf_words.specs.Items.{item_of}
-use Rattle.sf_words.proofs.Loads.{Begun, begin, go_on_at, all_loaded, long_in_all_at, load_refuses_at, map_items_push, names_failed}
+use Rattle.std.proofs.Common.{ℕ, All, IsTrue, List, map, sym, subst}
+use Rattle.sf_words.specs.declared.item.Item.{Item}
+use Rattle.sf_words.specs.Items.{ItemWords, item_of, name_of}
+use Rattle.sf_words.proofs.NamedWords.{all_seen}
 use Rattle.sf_words.proofs.loading.load_all.Goals as goal
 
-pub loop-item-init : goal.loop-item-init
-loop-item-init g c = record {
-  begun = subst (λ (loaded : List (Vec ℕ Global)). Begun (g.F.Files.seen c.args.files.now).contents (map item_of c.args.items.now) 0 (map (λ v. v.items) loaded) 0) (sym c.new-loaded.ensures.items)
-      (begin (g.F.Files.seen c.args.files.now).contents (map item_of c.args.items.now));
-  most = omega arith;
-  same = refl;
-  may_open = refl;
-  may_create = refl;
-}
-
-pub returns-in-Err-clause-refused : goal.returns-in-Err-clause-refused
-returns-in-Err-clause-refused g c =
-    let lt : c.loop-item.item-index < length (map item_of c.args.items.now) = subst (λ (n : ℕ). c.loop-item.item-index < n) (sym (length-map c.args.items.now item_of)) (omega arith) in
-    let count = length-map c.loop-item.loaded.items (λ (v : Vec ℕ Global). v.items) in
-    let number : c.len-number.result ≡ c.loop-item.item-index = omega (arith, c.len-number.ensures, c.loop-item.loaded.ok.0, count, c.loop-item.invariant.begun.count) in
-    load_refuses_at _ _ c.args.items.now c.loop-item.item-index c.len-number.result _ (map (λ v. v.items) c.loop-item.loaded.items) c.loop-item.total c.limit.result c.in-Err.fault c.not_loaded.result
-    (ap (λ (f : FilesSeen). f.contents) c.loop-item.invariant.same) c.loop-item.invariant.begun lt number c.limit.ensures c.not_loaded.ensures
-    (λ limit e. c.load.ensures.longer limit (c.in-Err.is ∙ ap Err e))
-
-pub returns-in-Err-clause-failed_name : goal.returns-in-Err-clause-failed_name
-returns-in-Err-clause-failed_name g c =
-    names_failed _ c.in-Err.fault c.len-number.result _ c.not_loaded.result c.not_loaded.ensures (λ e. c.load.ensures.failed_name (c.in-Err.is ∙ ap Err e))
-
-pub returns-then-total-gt-TOTAL_LIMIT-clause-refused : goal.returns-then-total-gt-TOTAL_LIMIT-clause-refused
-returns-then-total-gt-TOTAL_LIMIT-clause-refused g c =
-    let lt : c.loop-item.item-index < length (map item_of c.args.items.now) = subst (λ (n : ℕ). c.loop-item.item-index < n) (sym (length-map c.args.items.now item_of)) (omega arith) in
-    let short : length c.in-Ok.bytes.items ≤ c.limit.result = omega (arith, c.in-Ok.ensures.within, c.in-Ok.bytes.ok.0) in
-    let length_is : c.len.result ≡ length c.in-Ok.bytes.items = omega (arith, c.len.ensures, c.in-Ok.bytes.ok.0) in
-    long_in_all_at _ _ c.args.items.now c.loop-item.item-index _ (map (λ v. v.items) c.loop-item.loaded.items) c.loop-item.total c.in-Ok.bytes.items c.limit.result c.len.result c.counted-total.result
-    (ap (λ (f : FilesSeen). f.contents) c.loop-item.invariant.same) c.loop-item.invariant.begun lt c.limit.ensures short length_is c.counted-total.ensures c.if-total-gt-TOTAL_LIMIT.true c.in-Ok.ensures.bytes
-
-pub loop-item-preserved : goal.loop-item-preserved
-loop-item-preserved g c =
-    let lt : c.loop-item.item-index < length (map item_of c.args.items.now) = subst (λ (n : ℕ). c.loop-item.item-index < n) (sym (length-map c.args.items.now item_of)) (omega arith) in
-    let short : length c.in-Ok.bytes.items ≤ c.limit.result = omega (arith, c.in-Ok.ensures.within, c.in-Ok.bytes.ok.0) in
-    let length_is : c.len.result ≡ length c.in-Ok.bytes.items = omega (arith, c.len.ensures, c.in-Ok.bytes.ok.0) in
-    let few : c.loop-item.total + c.counted-total.result ≤ 2 ^ 30 = omega (arith, c.if-total-gt-TOTAL_LIMIT.false) in
-    let grown = map_items_push c.loop-item.loaded.items c.push.new.self.items c.in-Ok.bytes c.in_ok-push.ensures.items in
-    let on = go_on_at _ _ c.args.items.now c.loop-item.item-index _ (map (λ v. v.items) c.loop-item.loaded.items) c.loop-item.total c.in-Ok.bytes.items c.limit.result c.len.result c.counted-total.result
-    (ap (λ (f : FilesSeen). f.contents) c.loop-item.invariant.same) c.loop-item.invariant.begun lt c.limit.ensures short length_is c.counted-total.ensures few c.in-Ok.ensures.bytes in
-    record {
-      begun = subst (λ (loaded : List (List ℕ)). Begun (g.F.Files.seen c.args.files.now).contents (map item_of c.args.items.now) (c.loop-item.item-index + 1) loaded (c.loop-item.total + c.counted-total.result))
-          (sym grown) on;
-      most = few;
-      same = c.in-Ok.ensures.same ∙ c.loop-item.invariant.same;
-      may_open = c.in-Ok.ensures.may_open ∙ c.loop-item.invariant.may_open;
-      may_create = c.in-Ok.ensures.may_create ∙ c.loop-item.invariant.may_create;
-    }
-
-pub returns-clause-loaded : goal.returns-clause-loaded
-returns-clause-loaded g c =
-    let end : c.loop-item.item-index ≡ length (map item_of c.args.items.now) = subst (λ (n : ℕ). c.loop-item.item-index ≡ n) (sym (length-map c.args.items.now item_of)) (omega arith) in
-    all_loaded (g.F.Files.seen c.args.files.now).contents (map item_of c.args.items.now) c.loop-item.item-index (map (λ v. v.items) c.loop-item.loaded.items) c.loop-item.total c.loop-item.invariant.begun end
+pub load_items-requires-clause-open : goal.load_items-requires-clause-open
+load_items-requires-clause-open g c =
+    let may_open : List ℕ → Type 0 = λ name. IsTrue (g.F.Files.may_open c.args.files.now name) in
+    let items = c.in_ok-items.items.items in
+    let of_words = all_seen name_of may_open (map item_of items) (subst (λ (is : List ItemWords). All may_open (map name_of is)) (sym c.in_ok-items.ensures) c.requires.open) in
+    subst (All (λ (item : Item). may_open (name_of (item_of item)))) (sym c.deref.ensures.value) (all_seen item_of (λ (item : ItemWords). may_open (name_of item)) items of_words)

@@ -1,6 +1,6 @@
 use Rattle.std.proofs.Common.{◌≡◌, ℕ, List, sym, subst, ◌∙◌}
 use Rattle.sf_base.specs.Word.{SpellsHexadecimal}
-use Rattle.sf_words.proofs.AtSigns.{HasNoAt-address, cut_is_last, has_at}
+use Rattle.sf_words.specs.AtSigns.{HasNoAt-address, cut_is_last, has_at}
 use Rattle.sf_words.proofs.words.name_and_address.Goals as goal
 
 pub returns-in_err-name-clause-only : goal.returns-in_err-name-clause-only

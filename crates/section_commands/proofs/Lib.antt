@@ -1,0 +1,13 @@
+pub mod Making
+pub mod Reading
+pub mod Lists
+pub mod Sums
+pub mod WalkTexts
+pub mod Merged
+pub mod Slimmed
+pub mod SectionsFit
+pub mod Procwalks
+pub mod OneProcwalk
+pub mod SomeProcwalk
+pub mod OneComing
+pub mod SomeComing

@@ -1,0 +1,131 @@
+-- Mapped files with their bytes, one after the other, and what their modules come to.
+use Rattle.std.specs.List.{All, AllZip, position, position_or_len, zip}
+use Rattle.std.specs.Prelude.{nat_lt}
+use Rattle.std.proofs.Common.{◌≡◌, ℕ, ◌+◌, ◌<◌, ◌≤◌, ◌^◌, Bool, not, cond, List, [], ◌∷◌, map, length, Option, Some, None, Result, Ok, Err, refl, ap, sym, subst, ◌∙◌, ◌⊎◌, inl, inr, arith}
+use Rattle.std.proofs.lemmas.List.{length-map}
+use Rattle.std.proofs.lemmas.List.Elements.{All-nil, All-cons}
+use Rattle.elf_read.specs.Header.{arch_of}
+use Rattle.core_notes.specs.declared.fault.CoreFault.{CoreFault}
+use Rattle.core_notes.specs.Checks.{core_check}
+use Rattle.sf_modules.specs.declared.fault.ModuleFault.{ModuleFault}
+use Rattle.sf_modules.specs.declared.fault.ModuleFault.TheVariants.{NoFileNote, FileNote, Elf, NoSection, Segments, NotMapped, Mapping, Ambiguous, Build, Section, NoMemory}
+use Rattle.sf_modules.specs.Entry.{EntryView}
+use Rattle.sf_modules.specs.Fault.{Check, IsFaultOf}
+use Rattle.sf_modules.specs.Module.{ModuleView}
+use Rattle.sf_modules.specs.Note.{HasEntries, file_entries_check}
+use Rattle.sf_modules.specs.Process.{ProcessView}
+use Rattle.sf_modules.specs.Union.{tables_of}
+use Rattle.sf_words.specs.declared.refusal.Refusal.{Refusal}
+use Rattle.sf_words.specs.declared.refusal.Refusal.TheVariants as refusal
+use Rattle.sf_words.specs.Loading.{bytes_limit, items_limit}
+use Rattle.sf_words.proofs.Loads.{goes_on, within_both}
+use Rattle.sf_words.specs.Items.{Core, Mapped}
+use Rattle.section_commands.specs.declared.made.Made.{Made}
+use Rattle.section_commands.specs.Coming.{Coming}
+use Rattle.section_commands.specs.FirstFault.{first_fault}
+use Rattle.section_commands.specs.Making.{ComesAs, ComesTo}
+use Rattle.section_commands.specs.Procwalk.{File, FilesCome, IsModuleOf, NoteComes, ProcwalkComesFrom, coming_of_module, coming_of_modules, file_check, file_note, files_fault, mixed_item, modules_walks, process_of, sums_limit}
+use Rattle.section_commands.proofs.Making.{comes_as, memory_comes}
+use Rattle.section_commands.proofs.Reading.{Reading, fault_step}
+
+-- ---- the first that passes
+pub position_map : {X Y : Type 0} (p : Y → Bool) (f : X → Y) (xs : List X) → position p (map f xs) ≡ position (λ (x : X). p (f x)) xs
+position_map {X} {Y} p f xs =
+    ap (λ (n : ℕ). cond (nat_lt n (length (map f xs))) (Some n) None) (place p f xs)
+    ∙ ap (λ (n : ℕ). cond (nat_lt (position_or_len (λ x. p (f x)) xs) n) (Some (position_or_len (λ x. p (f x)) xs)) None) (length-map xs f)
+  where
+    place : (p : Y → Bool) (f : X → Y) (xs : List X) → position_or_len p (map f xs) ≡ position_or_len (λ (x : X). p (f x)) xs
+    place p f [] = refl
+    place p f (x ∷ xs) = ap (λ (n : ℕ). cond (not (p (f x))) (1 + n) 0) (place p f xs)
+
+-- ---- while modules are read
+abbrev pub ReadingFiles : ProcessView → (all : List File) → (item : ℕ) → (left : List File) → List ModuleView → Type 0
+ReadingFiles p all item left modules = Reading (file_check p) (IsModuleOf p) 1 all item left modules
+
+-- a file of which no module is read is the first
+pub unread : (p : ProcessView) (all : List File) (item number : ℕ) (left : List File) (modules : List ModuleView) (file : File) (later : List File) (fault : ModuleFault) (refused : Refusal)
+    → ReadingFiles p all item left modules → left ≡ file ∷ later → file_check p file ≡ Err fault → number ≡ item → ComesAs (λ (c : Coming). c ≡ coming_of_module number fault) refused
+    → (depth : ℕ) → ComesAs (FilesCome p depth all (files_fault p all)) refused
+unread p all item number left modules file later fault refused h are check is tells depth =
+    let first : files_fault p all ≡ Some (item, fault) = h.fault ∙ ap (first_fault (file_check p) item) are ∙ fault_step (file_check p) item file later (Err fault) check in
+    comes_as (λ (c : Coming). c ≡ coming_of_module number fault) (FilesCome p depth all (files_fault p all))
+    (λ c e. subst (λ (f : Option (ℕ × ModuleFault)). FilesCome p depth all f c) (sym first) (e ∙ ap (λ (n : ℕ). coming_of_module n fault) is)) refused tells
+
+-- ---- how long files are
+abbrev pub IsShort : List ℕ → Type 0
+IsShort bytes = length bytes < 2 ^ 32
+
+-- the files are short, of items that are numbered from `item` on and come after `total` bytes that count
+files_short : (item total : ℕ) (names items : List (List ℕ)) → length items ≡ length names → bytes_limit item total (zip (map Mapped names) items) ≡ None → All IsShort items
+files_short item total [] [] count h = All-nil IsShort
+files_short item total [] (i ∷ is) count h = let none : ⊥ = omega (arith, count) in absurd none
+files_short item total (n ∷ ns) [] count h = All-nil IsShort
+files_short item total (n ∷ ns) (bytes ∷ items) count h =
+    let rest = zip (map Mapped ns) items in
+    let here = within_both item total (Mapped n) bytes rest h in
+    All-cons IsShort bytes items (omega (arith, here.0)) (files_short (item + 1) (total + length bytes) ns items (omega (arith, count)) (sym (goes_on item total (Mapped n) bytes rest here.0 here.1) ∙ h))
+
+-- the core file is short, and so are those after it
+pub all_short : (name core : List ℕ) (names items : List (List ℕ)) → length items ≡ length names → items_limit (Core name ∷ map Mapped names) (core ∷ items) ≡ None → IsShort core × All IsShort items
+all_short name core names items count h =
+    let rest = zip (map Mapped names) items in
+    let here = within_both 0 0 (Core name) core rest h in
+    (omega (arith, here.0), files_short _ _ names items count (sym (goes_on 0 0 (Core name) core rest here.0 here.1) ∙ h))
+
+-- ---- what a core file and files come to
+pub fault_found : (check : Check) (fault : ModuleFault) → IsFaultOf check fault → (fault ≡ NoMemory) ⊎ (check ≡ Err fault)
+fault_found check NoMemory h = inl refl
+fault_found check NoFileNote h = inr h
+fault_found check (FileNote place) h = inr h
+fault_found check (Elf fault) h = inr h
+fault_found check NoSection h = inr h
+fault_found check (Segments place) h = inr h
+fault_found check NotMapped h = inr h
+fault_found check Mapping h = inr h
+fault_found check Ambiguous h = inr h
+fault_found check Build h = inr h
+fault_found check (Section fault) h = inr h
+
+comes_to : (P Q : Coming → Type 0) → ((c : Coming) → P c → Q c) → (made : Result Made Refusal) → ComesTo P made → ComesTo Q made
+comes_to P Q on (Ok made) h = on _ h
+comes_to P Q on (Err refused) h = comes_as P Q on refused h
+
+-- what the files come to, where the core file and its note have no fault
+record AreRead (core : List ℕ) (page : ℕ) (entries : List EntryView) : Type 0 where
+  core_fine : core_check core ≡ Ok tt
+  note_fine : file_entries_check (file_note core) ≡ Ok tt
+  are : HasEntries (file_note core) page entries
+
+from_files : (core : List ℕ) (depth page : ℕ) (entries : List EntryView) (files : List File) (coming : Coming) → AreRead core page entries → FilesCome (process_of core page entries) depth files (files_fault (process_of core page entries) files) coming
+    → ProcwalkComesFrom core depth files (core_check core) coming
+from_files core depth page entries files coming read h =
+    subst (λ (check : Result (Unit {0}) CoreFault). ProcwalkComesFrom core depth files check coming) (sym read.core_fine)
+    (subst (λ (check : Check). NoteComes core depth files check coming) (sym read.note_fine) record { page = page; entries = entries; are = read.are; comes = h })
+
+-- the note is refused, or memory ran out
+pub note_unread : (core : List ℕ) (depth : ℕ) (files : List File) (fault : ModuleFault) (refused : Refusal) → core_check core ≡ Ok tt → IsFaultOf (file_entries_check (file_note core)) fault
+    → (fault ≡ NoMemory → refused ≡ refusal.Memory) → ComesAs (λ (c : Coming). c ≡ coming_of_module 0 fault) refused → ComesAs (ProcwalkComesFrom core depth files (core_check core)) refused
+note_unread core depth files fault refused fine found memory tells = by_cause (fault_found (file_entries_check (file_note core)) fault found)
+  where
+    by_cause : (fault ≡ NoMemory) ⊎ (file_entries_check (file_note core) ≡ Err fault) → ComesAs (ProcwalkComesFrom core depth files (core_check core)) refused
+    by_cause (inl none) = memory_comes (ProcwalkComesFrom core depth files (core_check core)) refused (memory none)
+    by_cause (inr first) =
+        comes_as (λ (c : Coming). c ≡ coming_of_module 0 fault) (ProcwalkComesFrom core depth files (core_check core))
+        (λ c e. subst (λ (check : Result (Unit {0}) CoreFault). ProcwalkComesFrom core depth files check c) (sym fine) (subst (λ (check : Check). NoteComes core depth files check c) (sym first) e)) refused tells
+
+-- a file is refused, or memory ran out
+pub files_unread : (core : List ℕ) (depth page : ℕ) (entries : List EntryView) (files : List File) (refused : Refusal) → core_check core ≡ Ok tt → file_entries_check (file_note core) ≡ Ok tt → HasEntries (file_note core) page entries
+    → ComesAs (FilesCome (process_of core page entries) depth files (files_fault (process_of core page entries) files)) refused → ComesAs (ProcwalkComesFrom core depth files (core_check core)) refused
+files_unread core depth page entries files refused fine note are =
+    comes_as (FilesCome (process_of core page entries) depth files (files_fault (process_of core page entries) files)) (ProcwalkComesFrom core depth files (core_check core))
+    (λ c h. from_files core depth page entries files c record { core_fine = fine; note_fine = note; are = are } h) refused
+
+-- the modules are of several machines, exceed a limit, or walk
+pub modules_walked : (core : List ℕ) (depth page : ℕ) (entries : List EntryView) (files : List File) (modules : List ModuleView) (made : Result Made Refusal) → core_check core ≡ Ok tt → file_entries_check (file_note core) ≡ Ok tt
+    → HasEntries (file_note core) page entries → files_fault (process_of core page entries) files ≡ None → AllZip (IsModuleOf (process_of core page entries)) files modules
+    → ComesTo (λ (c : Coming). c ≡ coming_of_modules (mixed_item (arch_of core) modules) (sums_limit (tables_of modules)) (modules_walks entries modules core depth)) made
+    → ComesTo (ProcwalkComesFrom core depth files (core_check core)) made
+modules_walked core depth page entries files modules made fine note are checked each =
+    comes_to (λ (c : Coming). c ≡ coming_of_modules (mixed_item (arch_of core) modules) (sums_limit (tables_of modules)) (modules_walks entries modules core depth)) (ProcwalkComesFrom core depth files (core_check core))
+    (λ c e. from_files core depth page entries files c record { core_fine = fine; note_fine = note; are = are }
+    (subst (λ (fault : Option (ℕ × ModuleFault)). FilesCome (process_of core page entries) depth files fault c) (sym checked) record { modules = modules; are = each; is = e })) made

@@ -1,0 +1,35 @@
+-- The texts of walks, one thread after the other, and how long a core file is that was loaded.
+use Rattle.std.proofs.Common.{◌≡◌, ◌+◌, ◌++◌, ◌<◌, ◌^◌, ℕ, List, [], ◌∷◌, None, length, refl, ap, sym, ◌∙◌, append_assoc, arith}
+use Rattle.sf_model.specs.Walk.{Listing, ThreadState}
+use Rattle.core_notes.specs.declared.status.Thread.{Thread}
+use Rattle.core_walk.specs.Walk.{thread_state}
+use Rattle.sf_words.specs.Loading.{items_limit}
+use Rattle.sf_words.proofs.Loads.{goes_on, within_both}
+use Rattle.sf_words.specs.Items.{Core, Section}
+use Rattle.sf_words.specs.Words.{SectionWords}
+use Rattle.section_commands.specs.Walks.{listing_text, walks_text}
+
+pub walks_on : (walk_of : ThreadState → Listing) (number : ℕ) (thread : Thread) (later : List Thread)
+    → walks_text walk_of number (thread ∷ later) ≡ listing_text number thread (walk_of (thread_state thread)) ++ walks_text walk_of (number + 1) later
+unfolding walks_text
+walks_on walk_of number thread later = refl
+
+pub no_walk : (walk_of : ThreadState → Listing) (number : ℕ) → walks_text walk_of number [] ≡ []
+unfolding walks_text
+no_walk walk_of number = refl
+
+-- the text of one walk more
+pub next_walk : (walk_of : ThreadState → Listing) (before after piece : List ℕ) (number : ℕ) (thread : Thread) (left later : List Thread) (all : List ℕ)
+    → left ≡ thread ∷ later → piece ≡ listing_text number thread (walk_of (thread_state thread)) → after ≡ before ++ piece
+    → before ++ walks_text walk_of number left ≡ all → after ++ walks_text walk_of (number + 1) later ≡ all
+next_walk walk_of before after piece number thread left later all are is grown h =
+    ap (λ (t : List ℕ). t ++ walks_text walk_of (number + 1) later) (grown ∙ ap (λ (p : List ℕ). before ++ p) is)
+    ∙ append_assoc before (listing_text number thread (walk_of (thread_state thread))) (walks_text walk_of (number + 1) later)
+    ∙ ap (λ (t : List ℕ). before ++ t) (sym (walks_on walk_of number thread later)) ∙ ap (λ (ts : List Thread). before ++ walks_text walk_of number ts) (sym are) ∙ h
+
+-- the second item of a walk is within the limit of a core file
+pub core_short : (section : SectionWords) (core : List ℕ) (bytes file : List ℕ) → items_limit (Section section ∷ Core core ∷ []) (bytes ∷ file ∷ []) ≡ None → length file < 2 ^ 32
+core_short section core bytes file h =
+    let first = within_both 0 0 (Section section) bytes ((Core core, file) ∷ []) h in
+    let second = within_both _ _ (Core core) file [] (sym (goes_on 0 0 (Section section) bytes ((Core core, file) ∷ []) first.0 first.1) ∙ h) in
+    omega (arith, second.0)

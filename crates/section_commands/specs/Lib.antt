@@ -1,0 +1,11 @@
+pub mod Coming
+pub mod Making
+pub mod FirstFault
+pub mod SectionComes
+pub mod Walks
+pub mod Dump
+pub mod Lookup
+pub mod Merge
+pub mod Slim
+pub mod Walk
+pub mod Procwalk

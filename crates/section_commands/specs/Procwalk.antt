@@ -1,0 +1,145 @@
+-- `procwalk CORE DEPTH FILE ..`: the walks of a core file's threads by the sections of the files that were mapped (Linux core files, NT_FILE; ELF64 gABI, "Program Header"; GNU SFrame specification, Version 2).
+use Rattle.std.specs.Prelude.{◌≡◌, ◌<◌, ◌+◌, ◌^◌, ℕ, Bool, ◌&&◌, not, nat_lt, All, List, [], ◌∷◌, codes, drop, get_or, length, map, Option, Some, None, Result, Ok, Err, if◌then◌else◌}
+use Rattle.std.specs.List.{AllZip, position, zip}
+use Rattle.std.specs.Option.{option_map}
+use Rattle.std.specs.String.{string_bytes}
+use Rattle.sf_base.specs.Word.{SpellsDecimal}
+use Rattle.sf_bytes.specs.Cursor.{Cursor}
+use Rattle.sf_model.specs.declared.machine.Arch.{Arch}
+use Rattle.sf_model.specs.Table.{Table}
+use Rattle.sf_decode.specs.declared.fault.DecodeFault.TheVariants.{TooManyFunctions, TooManyRows}
+use Rattle.elf_read.specs.Header.{arch_of}
+use Rattle.core_notes.specs.declared.fault.CoreFault.{CoreFault}
+use Rattle.core_notes.specs.Checks.{core_check, file_threads}
+use Rattle.core_notes.specs.Listing.{items_of, whole_notes}
+use Rattle.core_notes.specs.Memory.{file_regions}
+use Rattle.sf_modules.specs.declared.fault.ModuleFault.{ModuleFault}
+use Rattle.sf_modules.specs.declared.fault.ModuleFault.TheVariants.{Section}
+use Rattle.sf_modules.specs.Entry.{EntryView}
+use Rattle.sf_modules.specs.Fault.{Check}
+use Rattle.sf_modules.specs.Found.{modules_walk}
+use Rattle.sf_modules.specs.Module.{IsModule, ModuleView}
+use Rattle.sf_modules.specs.Note.{HasEntries, file_entries_check, file_note_in}
+use Rattle.sf_modules.specs.Process.{ProcessView}
+use Rattle.sf_modules.specs.Reading.{module_check}
+use Rattle.sf_modules.specs.FaultShown.{shown_of_module}
+use Rattle.sf_modules.specs.Union.{tables_of}
+use Rattle.sf_merge.specs.Merging.{functions_in_all, rows_in_all}
+use Rattle.sf_words.specs.declared.refusal.Limit.{Limit}
+use Rattle.sf_words.specs.declared.refusal.Limit.TheVariants.{Functions, Rows}
+use Rattle.sf_words.specs.Files.{FilesWords}
+use Rattle.sf_words.specs.Forms.{IsDepth}
+use Rattle.sf_words.specs.Items as item
+use Rattle.section_commands.specs.declared.procwalk.Procwalk.{Procwalk}
+use Rattle.section_commands.specs.declared.made.Outcome.TheVariants.{Done}
+use Rattle.section_commands.specs.Coming.{Coming, Exceeded, Makes, Refused}
+use Rattle.section_commands.specs.FirstFault.{first_fault}
+use Rattle.section_commands.specs.Walks.{coming_of_core, is_same, shown_of_mixed, walks_text}
+
+-- what is asked of `procwalk`: the core file's name, the most frames of a thread, and the names of the files that were mapped
+pub record ProcwalkWords : Type 0 where
+  pub core : List ℕ
+  pub depth : ℕ
+  pub files : List (List ℕ)
+
+-- the words ask for these walks: each name is a whole word that is not empty, and one file at least is named
+pub record IsProcwalk (words : List (List ℕ)) (procwalk : ProcwalkWords) : Type 0 where
+  pub depth_word : List ℕ
+  pub words_are : words ≡ codes "procwalk" ∷ procwalk.core ∷ depth_word ∷ procwalk.files
+  pub named : 0 < length procwalk.core
+  pub depth : SpellsDecimal depth_word procwalk.depth
+  pub within : IsDepth procwalk.depth
+  pub some : 0 < length procwalk.files
+  pub files_named : All (λ (name : List ℕ). 0 < length name) procwalk.files
+
+-- its files: a core file, and those of its list
+abbrev pub procwalk_files : ProcwalkWords → FilesWords
+procwalk_files procwalk = record { out = None; first = item.Core procwalk.core ∷ []; list = map item.Mapped procwalk.files }
+
+-- a file as it is named, and its bytes
+abbrev pub File : Type 0
+File = List ℕ × List ℕ
+
+-- what a fault of an item comes to: of the core file's note on mapped files, or of the module of a file
+abbrev pub coming_of_module : (item : ℕ) → ModuleFault → Coming
+coming_of_module item (Section (TooManyFunctions place)) = Exceeded Functions
+coming_of_module item (Section (TooManyRows place)) = Exceeded Rows
+coming_of_module item fault = Refused (shown_of_module (Some item) fault)
+
+-- ---- the modules
+-- this is the module of a file
+abbrev pub IsModuleOf : ProcessView → File → ModuleView → Type 0
+IsModuleOf p file m = IsModule p file.0 file.1 m
+
+abbrev pub file_check : ProcessView → File → Check
+file_check p file = module_check p file.0 file.1
+
+-- the first file whose module can't be read, and its fault: the files are the items from 1 on
+abbrev pub files_fault : ProcessView → List File → Option (ℕ × ModuleFault)
+files_fault p files = first_fault (file_check p) 1 files
+
+-- a module's file, or its section, is for another machine
+abbrev pub is_other : Arch → ModuleView → Bool
+is_other arch m = not (is_same arch m.machine && is_same arch m.table.arch)
+
+-- the item of the first module whose file or section is for another machine
+abbrev pub mixed_item : Arch → List ModuleView → Option ℕ
+mixed_item arch modules = option_map (λ (k : ℕ). k + 1) (position (is_other arch) modules)
+
+-- more than 2^21 functions, or more than 2^24 rows, in all sections together
+abbrev pub sums_limit : List Table → Option Limit
+sums_limit tables =
+    if nat_lt (2 ^ 21) (functions_in_all tables) then Some Functions else
+    if nat_lt (2 ^ 24) (rows_in_all tables) then Some Rows else None
+
+-- ---- the walks
+-- the walks of all threads of a core file by the rows of modules, with the file's memory, each of at most `depth` frames
+abbrev pub modules_walks : List EntryView → List ModuleView → (core : List ℕ) → (depth : ℕ) → List ℕ
+modules_walks entries modules core depth = walks_text (λ thread. modules_walk entries modules thread (file_regions core) depth) 0 (file_threads core)
+
+-- the text, where all modules are for the core file's machine, and their sections within the limits
+abbrev pub coming_of_modules : (mixed : Option ℕ) → Option Limit → (text : List ℕ) → Coming
+coming_of_modules (Some item) limit text = Refused (shown_of_mixed item)
+coming_of_modules None (Some limit) text = Exceeded limit
+coming_of_modules None None text = Makes Done None text
+
+-- what the walks by the modules of these files come to
+pub record ModulesCome (p : ProcessView) (depth : ℕ) (files : List File) (coming : Coming) : Type 0 where
+  pub modules : List ModuleView
+  pub are : AllZip (IsModuleOf p) files modules
+  pub is : coming ≡ coming_of_modules (mixed_item (arch_of p.core) modules) (sums_limit (tables_of modules)) (modules_walks p.entries modules p.core depth)
+
+abbrev pub FilesCome : ProcessView → (depth : ℕ) → List File → Option (ℕ × ModuleFault) → Coming → Type 0
+FilesCome p depth files (Some fault) coming = coming ≡ coming_of_module fault.0 fault.1
+FilesCome p depth files None coming = ModulesCome p depth files coming
+
+-- the note on mapped files of a core file
+abbrev pub file_note : (core : List ℕ) → Option Cursor
+file_note core = file_note_in (whole_notes (items_of core))
+
+-- the process that a core file shows, by the page size and the entries of that note
+abbrev pub process_of : (core : List ℕ) → (page : ℕ) → List EntryView → ProcessView
+process_of core page entries = record { core = core; page = page; entries = entries }
+
+-- what the files come to by the page size and the entries of that note: the first whose module can't be read, or the walks
+pub record EntriesCome (core : List ℕ) (depth : ℕ) (files : List File) (coming : Coming) : Type 0 where
+  pub page : ℕ
+  pub entries : List EntryView
+  pub are : HasEntries (file_note core) page entries
+  pub comes : FilesCome (process_of core page entries) depth files (files_fault (process_of core page entries) files) coming
+
+abbrev pub NoteComes : (core : List ℕ) → (depth : ℕ) → List File → Check → Coming → Type 0
+NoteComes core depth files (Err fault) coming = coming ≡ coming_of_module 0 fault
+NoteComes core depth files (Ok u) coming = EntriesCome core depth files coming
+
+abbrev pub ProcwalkComesFrom : (core : List ℕ) → (depth : ℕ) → List File → Result (Unit {0}) CoreFault → Coming → Type 0
+ProcwalkComesFrom core depth files (Err fault) coming = coming ≡ coming_of_core 0 fault
+ProcwalkComesFrom core depth files (Ok u) coming = NoteComes core depth files (file_entries_check (file_note core)) coming
+
+-- what walking the threads of the first item, a core file, by the modules of the others comes to
+abbrev pub ProcwalkComes : ProcwalkWords → (items : List (List ℕ)) → Coming → Type 0
+ProcwalkComes procwalk items coming = ProcwalkComesFrom (get_or items 0 []) procwalk.depth (zip procwalk.files (drop 1 items)) (core_check (get_or items 0 [])) coming
+
+-- what the words ask for, without where they are in memory
+abbrev pub procwalk_of : Procwalk → ProcwalkWords
+procwalk_of procwalk = record { core = procwalk.core.now; depth = procwalk.depth; files = map string_bytes procwalk.files.now }

@@ -1,0 +1,46 @@
+-- The walks of a core file's threads, as text, and what the commands that walk come to where the core file is refused.
+use Rattle.std.specs.Prelude.{◌+◌, ◌++◌, ℕ, Bool, true, false, List, [], ◌∷◌, Some, None}
+use Rattle.sf_model.specs.declared.machine.Arch.{Arch}
+use Rattle.sf_model.specs.declared.machine.Arch.TheVariants.{Amd64, Aarch64}
+use Rattle.sf_model.specs.declared.notice.Group.TheVariants as group
+use Rattle.sf_model.specs.FaultShown.{FaultShown}
+use Rattle.sf_model.specs.Table.{Table}
+use Rattle.sf_model.specs.Walk.{Listing, ThreadState, section_walk}
+use Rattle.core_notes.specs.declared.fault.CoreFault.{CoreFault}
+use Rattle.core_notes.specs.declared.fault.CoreFault.TheVariants.{TooManyThreads}
+use Rattle.core_notes.specs.declared.status.Thread.{Thread}
+use Rattle.core_notes.specs.Checks.{file_threads}
+use Rattle.core_notes.specs.Memory.{file_regions}
+use Rattle.core_notes.specs.FaultShown.{shown_of_core}
+use Rattle.core_walk.specs.Walk.{thread_state}
+use Rattle.sf_text.specs.Frames.{walk_text}
+use Rattle.sf_words.specs.declared.refusal.Limit.TheVariants.{Threads}
+use Rattle.section_commands.specs.Coming.{Coming, Exceeded, Refused}
+
+-- two machines are the same
+abbrev pub is_same : Arch → Arch → Bool
+is_same Amd64 Amd64 = true
+is_same Aarch64 Aarch64 = true
+is_same one other = false
+
+-- what the line shows where item 0 and this item are for different machines: a fault of the group of linking
+abbrev pub shown_of_mixed : (item : ℕ) → FaultShown
+shown_of_mixed item = record { item = None; group = group.Link; number = 1; values = 0 ∷ item ∷ [] }
+
+-- what a fault of the core file of an item comes to
+abbrev pub coming_of_core : (item : ℕ) → CoreFault → Coming
+coming_of_core item TooManyThreads = Exceeded Threads
+coming_of_core item fault = Refused (shown_of_core (Some item) fault)
+
+-- the text of what a thread's walk lists
+abbrev pub listing_text : (number : ℕ) → Thread → Listing → List ℕ
+listing_text number thread listing = walk_text number thread.pid listing.frames listing.stop
+
+-- the texts of the walks of threads, which are numbered from `first` on
+unfoldable pub walks_text : (walk_of : ThreadState → Listing) → (first : ℕ) → List Thread → List ℕ
+walks_text walk_of first [] = []
+walks_text walk_of first (thread ∷ threads) = listing_text first thread (walk_of (thread_state thread)) ++ walks_text walk_of (first + 1) threads
+
+-- the walks of all threads of a core file by the rows of a table, with the file's memory, each of at most `depth` frames
+abbrev pub table_walks : Table → (core : List ℕ) → (depth : ℕ) → List ℕ
+table_walks table core depth = walks_text (λ thread. section_walk table.functions thread (file_regions core) depth) 0 (file_threads core)

@@ -1,0 +1,271 @@
+//! `procwalk CORE DEPTH FILE ..`: the walks of a core file's threads by the sections of the files that were mapped.
+
+ghost use Rattle.std.specs.Prelude.{◌≡◌, ◌<◌, ◌≤◌, ◌^◌, ℕ, All, List, None, IfOk, IfErr, IfSome, IsSomeAnd, length, map};
+ghost use Rattle.std.specs.List.{AllZip, position, zip};
+ghost use Rattle.std.specs.String.{string_bytes};
+ghost use Rattle.elf_read.specs.Header.{arch_of};
+ghost use Rattle.core_notes.specs.Checks.{core_check};
+ghost use Rattle.core_notes.specs.Views.{core_bytes, threads_of};
+ghost use Rattle.sf_modules.specs.Entry.{entry_view};
+ghost use Rattle.sf_modules.specs.Module.{module_view};
+ghost use Rattle.sf_modules.specs.Process.{process_view};
+ghost use Rattle.sf_modules.specs.Union.{tables_of};
+ghost use Rattle.sf_words.specs.Files.{files_of, items_of};
+ghost use Rattle.sf_words.specs.Items.{Mapped};
+ghost use Rattle.sf_words.specs.Loading.{files_limit, loaded_bytes, loaded_items};
+ghost use Rattle.section_commands.specs.Coming.{Coming};
+ghost use Rattle.section_commands.specs.Making.{ComesAs, ComesTo};
+ghost use Rattle.section_commands.specs.Procwalk as spec;
+ghost use Rattle.section_commands.specs.Procwalk.{FilesCome, IsModuleOf, IsProcwalk, ProcwalkComes, ProcwalkComesFrom, ProcwalkWords, coming_of_module, coming_of_modules, files_fault, modules_walks, process_of, procwalk_files, procwalk_of, sums_limit};
+
+use crate::made::{Made, Outcome};
+use crate::walks::{mixed, same_machine, unread_core, walks_text};
+use core_notes::Core;
+use sf_decode::DecodeFault;
+use sf_model::Arch;
+use sf_modules::{
+    Entry, Module, ModuleFault, Modules, Process, ReadFile, entries, read_module_once,
+};
+use sf_text::Output;
+use sf_words::{
+    CommandFiles, FileList, Item, Limit, Loaded, MOST_FRAMES, Refusal, are_named, number_up_to,
+    three_and_items,
+};
+use std::alloc::Global;
+
+/// The words of `procwalk CORE DEPTH FILE ..`.
+#[derive(Clone, Copy)]
+pub struct Procwalk<'a> {
+    /// The name of the core file.
+    pub core: &'a str,
+    /// The most frames of a thread.
+    pub depth: u32,
+    /// The names of the files that were mapped.
+    pub files: &'a [String],
+}
+
+/// The most functions of all modules together.
+const FUNCTION_LIMIT: u64 = 1 << 21;
+
+/// The most rows of all modules together.
+const ROW_LIMIT: u64 = 1 << 24;
+
+/// Returns why the mapped files or the module of an item were not read, as a refusal of the run.
+fn unread_module<'a>(fault: &ModuleFault, item: u32) -> Refusal<'a>
+    ensures memory { (fault.now ≡ ModuleFault.NoMemory) → (result ≡ Refusal.Memory) }
+    ensures is { ComesAs (λ (coming : Coming). coming ≡ coming_of_module item fault.now) result }
+{
+    match fault {
+        ModuleFault::NoMemory => Refusal::Memory,
+        ModuleFault::Section(DecodeFault::TooManyFunctions(_)) => Refusal::Limit(Limit::Functions),
+        ModuleFault::Section(DecodeFault::TooManyRows(_)) => Refusal::Limit(Limit::Rows),
+        _ => Refusal::Input(fault.notice(Some(item))),
+    }
+}
+
+/// Returns the modules of these files, in order. The core file is item 0.
+fn modules_of<'a, 'm>(
+    alloc: Global,
+    process: &Process<'m>,
+    names: &[String],
+    files: &'m [Loaded<'a>],
+) -> Result<Vec<Module<'m, 'm>>, Refusal<'a>>
+    requires items { loaded_items files.now ≡ map Mapped (map string_bytes names.now) }
+    requires few { length files.now ≤ 512 }
+    requires small { All (λ bytes. length bytes < 2 ^ 32) (loaded_bytes files.now) }
+    ensures count { IfOk result (λ modules. length modules.items ≡ length files.now) }
+    ensures checked { IfOk result (λ _. files_fault (process_view process.now) (zip (map string_bytes names.now) (loaded_bytes files.now)) ≡ None) }
+    ensures are { IfOk result (λ modules. AllZip (IsModuleOf (process_view process.now)) (zip (map string_bytes names.now) (loaded_bytes files.now)) (map module_view modules.items)) }
+    ensures refused { IfErr result (λ refused. (depth : ℕ) → ComesAs (FilesCome (process_view process.now) depth (zip (map string_bytes names.now) (loaded_bytes files.now)) (files_fault (process_view process.now) (zip (map string_bytes names.now) (loaded_bytes files.now)))) refused) }
+{
+    let mut modules: Vec<Module<'m, 'm>> = Vec::new(alloc);
+    let mut read: Vec<ReadFile<'_, 'm, 'm>> = Vec::new(alloc);
+    for file in files {
+        let Item::Mapped(name) = file.item else {
+            unreachable!();
+        };
+        let item = modules.len() as u32 + 1;
+        let word = name.as_bytes();
+        let bytes = file.bytes.as_slice();
+        match read_module_once(process, &read, word, bytes) {
+            Ok(module) => {
+                modules.push(module)?;
+                read.push(ReadFile {
+                    word,
+                    bytes,
+                    module,
+                })?;
+            }
+            Err(fault) => return Err(unread_module(&fault, item)),
+        }
+    }
+    Ok(modules)
+}
+
+/// Returns the modules of these files by a core file and the entries of its note on mapped files, which are sorted
+/// for this alone.
+fn mapped_modules<'a, 'm>(
+    alloc: Global,
+    core: &Core<'m>,
+    page: u64,
+    entries: &'m [Entry<'m>],
+    names: &[String],
+    files: &'m [Loaded<'a>],
+) -> Result<Vec<Module<'m, 'm>>, Refusal<'a>>
+    requires page { 0 < page }
+    requires items { loaded_items files.now ≡ map Mapped (map string_bytes names.now) }
+    requires few { length files.now ≤ 512 }
+    requires small { All (λ bytes. length bytes < 2 ^ 32) (loaded_bytes files.now) }
+    ensures count { IfOk result (λ modules. length modules.items ≡ length files.now) }
+    ensures checked { IfOk result (λ _. files_fault (process_of (core_bytes core.now) page (map entry_view entries.now)) (zip (map string_bytes names.now) (loaded_bytes files.now)) ≡ None) }
+    ensures are { IfOk result (λ modules. AllZip (IsModuleOf (process_of (core_bytes core.now) page (map entry_view entries.now))) (zip (map string_bytes names.now) (loaded_bytes files.now)) (map module_view modules.items)) }
+    ensures refused { IfErr result (λ refused. (depth : ℕ) → ComesAs (FilesCome (process_of (core_bytes core.now) page (map entry_view entries.now)) depth (zip (map string_bytes names.now) (loaded_bytes files.now)) (files_fault (process_of (core_bytes core.now) page (map entry_view entries.now)) (zip (map string_bytes names.now) (loaded_bytes files.now)))) refused) }
+{
+    let process = Process::new(alloc, core, page, entries)?;
+    modules_of(alloc, &process, names, files)
+}
+
+/// Returns whether a module's file or its section is for another machine.
+fn is_other(arch: Arch, mapped: &Module<'_, '_>) -> bool
+    ensures { result ≡ spec.is_other arch (module_view mapped.now) }
+{
+    !(same_machine(arch, mapped.machine) && same_machine(arch, mapped.view.arch()))
+}
+
+/// Returns the place of the first module whose file or section is for another machine.
+fn first_other(arch: Arch, modules: &[Module<'_, '_>]) -> Option<usize>
+    ensures { result ≡ position (λ m. spec.is_other arch (module_view m)) modules.now }
+{
+    modules.iter().position(|mapped| is_other(arch, mapped))
+}
+
+/// Returns the item of the first module whose file or section is for another machine. The core file is item 0.
+fn mixed_item(arch: Arch, modules: &[Module<'_, '_>]) -> Option<u32>
+    requires { length modules.now ≤ 512 }
+    ensures { result ≡ spec.mixed_item arch (map module_view modules.now) }
+{
+    let place = first_other(arch, modules)?;
+    Some(place as u32 + 1)
+}
+
+/// Returns the limit that the sections of all modules exceed together: of functions first, then of rows.
+fn exceeded(modules: &[Module<'_, '_>]) -> Option<Limit>
+    requires { length modules.now ≤ 512 }
+    ensures { result ≡ sums_limit (tables_of (map module_view modules.now)) }
+{
+    let mut functions = 0;
+    let mut rows = 0;
+    for mapped in modules {
+        functions += u64::from(mapped.view.len());
+        rows += u64::from(mapped.view.row_count());
+    }
+    if functions > FUNCTION_LIMIT {
+        return Some(Limit::Functions);
+    }
+    if rows > ROW_LIMIT {
+        return Some(Limit::Rows);
+    }
+    None
+}
+
+/// Returns the walks of a core file's threads by modules, if they are for its machine and within the limits.
+fn walked<'a, 'm>(
+    alloc: Global,
+    core: &Core<'_>,
+    depth: u32,
+    entries: &[Entry<'_>],
+    modules: &[Module<'_, '_>],
+) -> Result<Made<'m>, Refusal<'a>>
+    requires threads { length (threads_of core.now) ≤ 4096 }
+    requires few { length modules.now ≤ 512 }
+    ensures { ComesTo (λ (coming : Coming). coming ≡ coming_of_modules (spec.mixed_item (arch_of (core_bytes core.now)) (map module_view modules.now)) (sums_limit (tables_of (map module_view modules.now))) (modules_walks (map entry_view entries.now) (map module_view modules.now) (core_bytes core.now) depth)) result }
+{
+    if let Some(item) = mixed_item(core.arch(), modules) {
+        return Err(mixed(item));
+    }
+    if let Some(limit) = exceeded(modules) {
+        return Err(Refusal::Limit(limit));
+    }
+    let modules = Modules::new(alloc, entries, modules)?;
+    let text = walks_text(alloc, &modules, core, depth)?;
+    Ok(Made {
+        outcome: Outcome::Done,
+        section: None,
+        output: Output::Text(text),
+    })
+}
+
+/// Returns the walks of a core file's threads by the modules of these files.
+fn procwalk_made<'a, 'm>(
+    alloc: Global,
+    core: &[u8],
+    depth: u32,
+    names: &[String],
+    files: &[Loaded<'a>],
+) -> Result<Made<'m>, Refusal<'a>>
+    requires items { loaded_items files.now ≡ map Mapped (map string_bytes names.now) }
+    requires few { length files.now ≤ 512 }
+    requires short { length core.now < 2 ^ 32 }
+    requires small { All (λ bytes. length bytes < 2 ^ 32) (loaded_bytes files.now) }
+    ensures { ComesTo (ProcwalkComesFrom core.now depth (zip (map string_bytes names.now) (loaded_bytes files.now)) (core_check core.now)) result }
+{
+    let core = match Core::parse(core) {
+        Ok(core) => core,
+        Err(fault) => return Err(unread_core(&fault, 0)),
+    };
+    let (page, entries) = match entries(alloc, &core) {
+        Ok(note) => note,
+        Err(fault) => return Err(unread_module(&fault, 0)),
+    };
+    let modules = mapped_modules(alloc, &core, page, &entries, names, files)?;
+    walked(alloc, &core, depth, &entries, &modules)
+}
+
+impl<'a> Procwalk<'a> {
+    /// Returns what the words ask for, if they have this form.
+    pub fn read(words: &'a [String]) -> Option<Procwalk<'a>>
+        ensures found { IfSome result (λ procwalk. IsProcwalk (map string_bytes words.now) (procwalk_of procwalk)) }
+        ensures only { (procwalk : ProcwalkWords) → IsProcwalk (map string_bytes words.now) procwalk → IsSomeAnd result (λ found. procwalk_of found ≡ procwalk) }
+    {
+        let (command, core, depth, files) = three_and_items(words)?;
+        if command != "procwalk" || core.is_empty() {
+            return None;
+        }
+        let depth = number_up_to(depth, MOST_FRAMES)?;
+        if !are_named(files) {
+            return None;
+        }
+        Some(Procwalk { core, depth, files })
+    }
+
+    /// Returns the files of the command.
+    pub fn files(&self) -> CommandFiles<'a>
+        ensures { files_of result ≡ procwalk_files (procwalk_of self.now) }
+    {
+        CommandFiles {
+            out: None,
+            first: Some(Item::Core(self.core)),
+            second: None,
+            list: FileList::Mapped(self.files),
+        }
+    }
+
+    /// Returns the walks of the core file's threads by the modules of the mapped files.
+    ///
+    /// # Errors
+    ///
+    /// `Refusal::Input` shows what is refused, `Refusal::Limit` has the limit that is exceeded, and
+    /// `Refusal::Memory` means that memory ran out.
+    pub fn make<'m>(&self, alloc: Global, loaded: &'m [Loaded<'a>]) -> Result<Made<'m>, Refusal<'a>>
+        requires items { loaded_items loaded.now ≡ items_of (procwalk_files (procwalk_of self.now)) }
+        requires within { files_limit (procwalk_files (procwalk_of self.now)) (loaded_bytes loaded.now) ≡ None }
+        ensures comes { ComesTo (ProcwalkComes (procwalk_of self.now) (loaded_bytes loaded.now)) result }
+    {
+        match loaded {
+            [core, files @ ..] => {
+                procwalk_made(alloc, &core.bytes, self.depth, self.files, files)
+            }
+            _ => unreachable!(),
+        }
+    }
+}

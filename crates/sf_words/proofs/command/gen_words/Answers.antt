@@ -1,8 +1,0 @@
-use Rattle.std.proofs.Common.{◌≡◌, List, ℕ, subst}
-use Rattle.sf_base.specs.Word.{SpellsDecimal}
-use Rattle.sf_words.proofs.command.gen_words.Goals as goal
-
-pub returns-clause-only : goal.returns-clause-only
-returns-clause-only c n h =
-    let count : h.count_word ≡ c.in_ok-command.count.now = cc (c.in_ok-command.ensures.found, h.words_are) in
-    c.number_up_to.ensures.only n (subst (λ (w : List ℕ). SpellsDecimal w n) count h.count) h.within.some h.within.most
