@@ -6,3 +6,4 @@ pub mod Run
 pub mod ShortLeb
 pub mod Skipped
 pub mod Texts
+pub mod Windows

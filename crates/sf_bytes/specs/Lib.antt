@@ -6,3 +6,4 @@ pub mod Leb
 pub mod Rising
 pub mod Standing
 pub mod Text
+pub mod Parts
