@@ -11,7 +11,7 @@ use Rattle.eh_pointer.specs.Skipping.{pointer_passed}
 use Rattle.eh_records.specs.declared.fault.RecordFault.{RecordFault}
 use Rattle.eh_records.specs.declared.fault.RecordFault.TheVariants.{Augmentation, CieVersion}
 use Rattle.eh_records.specs.Augmentation.{AugmentationView, Form, plain_augmentation, letters_in, letters_at, data_at, form_of, form_at, personality_field, personality_in, personality_at, letter_at, augmentation_by}
-use Rattle.eh_records.specs.Cie.{SharedView, column_at, numbers_at, Numbers, passed_data, augmentation_at, cie_fields, cie_of}
+use Rattle.eh_records.specs.Cie.{FullCieView, version_at, return_address_register_at, passed_data, augmentation_at, cie_of}
 use Rattle.eh_records.specs.RawRecord.{RawRecordView, named_place}
 use Rattle.eh_records.specs.Fde.{FdeView, read_there, lsda_of_width, lsda_in, lsda_at, entry_of, cie_at_place, fde_of}
 use Rattle.eh_records.specs.Section.{EntryView, Common, Frame, entry_fields, entry_here}
@@ -52,26 +52,26 @@ data_lies : (o : Option ℕ) (at : Cursor) → LieIn at (option_to_list (lsda_in
 data_lies None at = none_lies at
 data_lies (Some encoding) at = width_lies (pointer_width encoding) at
 
-lsda_if : (shared : SharedView) (at : Cursor) (x : Option PointerField × Cursor) (b : Bool) → cond b (data_at at >>= λ inner. Ok (lsda_in shared.lsda inner.0, inner.1)) (Ok (None, at)) ≡ Ok x → LieIn at (option_to_list x.0)
-lsda_if shared at x true e =
+lsda_if : (full : FullCieView) (at : Cursor) (x : Option PointerField × Cursor) (b : Bool) → cond b (data_at at >>= λ inner. Ok (lsda_in full.lsda inner.0, inner.1)) (Ok (None, at)) ≡ Ok x → LieIn at (option_to_list x.0)
+lsda_if full at x true e =
     let t = through (data_at at) _ x e in
     let d = data_on at t.first t.read in
-    subst (λ (y : Option PointerField × Cursor). LieIn at (option_to_list y.0)) (ok_same _ x t.rest) (lie_wider t.first.0 at (option_to_list (lsda_in shared.lsda t.first.0)) d.0 (data_lies shared.lsda t.first.0))
-lsda_if shared at x false e = subst (λ (y : Option PointerField × Cursor). LieIn at (option_to_list y.0)) (ok_same _ x e) (none_lies at)
+    subst (λ (y : Option PointerField × Cursor). LieIn at (option_to_list y.0)) (ok_same _ x t.rest) (lie_wider t.first.0 at (option_to_list (lsda_in full.lsda t.first.0)) d.0 (data_lies full.lsda t.first.0))
+lsda_if full at x false e = subst (λ (y : Option PointerField × Cursor). LieIn at (option_to_list y.0)) (ok_same _ x e) (none_lies at)
 
-lsda_lies : (shared : SharedView) (at : Cursor) (x : Option PointerField × Cursor) → lsda_at shared at ≡ Ok x → LieIn at (option_to_list x.0)
+lsda_lies : (full : FullCieView) (at : Cursor) (x : Option PointerField × Cursor) → lsda_at full at ≡ Ok x → LieIn at (option_to_list x.0)
 unfolding lsda_at
-lsda_lies shared at x e = lsda_if shared at x shared.augmented e
+lsda_lies full at x e = lsda_if full at x full.augmented e
 
-frame_lies : (shared : SharedView) (p : RawRecordView) (f : FdeView) → entry_of shared p ≡ Ok f → LieIn p.body (f.begin ∷ f.range ∷ option_to_list f.lsda)
+frame_lies : (full : FullCieView) (p : RawRecordView) (f : FdeView) → entry_of full p ≡ Ok f → LieIn p.body (f.begin ∷ f.range ∷ option_to_list f.lsda)
 unfolding entry_of
-frame_lies shared p f e =
-    let t = through (pointer_field shared.width p.body) _ f e in
-    let u = through (pointer_field shared.width t.first.1) _ f t.rest in
-    let v = through (lsda_at shared u.first.1) _ f u.rest in
-    let begin = pointer_on shared.width p.body t.first t.read in
-    let range = pointer_on shared.width t.first.1 u.first u.read in
-    let lsda = lsda_lies shared u.first.1 v.first v.read in
+frame_lies full p f e =
+    let t = through (pointer_field full.width p.body) _ f e in
+    let u = through (pointer_field full.width t.first.1) _ f t.rest in
+    let v = through (lsda_at full u.first.1) _ f u.rest in
+    let begin = pointer_on full.width p.body t.first t.read in
+    let range = pointer_on full.width t.first.1 u.first u.read in
+    let lsda = lsda_lies full u.first.1 v.first v.read in
     let all = then_lie p.body t.first (u.first.0 ∷ option_to_list v.first.0) begin (then_lie t.first.1 u.first (option_to_list v.first.0) range lsda) in
     subst (λ (g : FdeView). LieIn p.body (g.begin ∷ g.range ∷ option_to_list g.lsda)) (ok_same _ f v.rest) all
 
@@ -162,23 +162,23 @@ augmentation_lies (Some letters) at x e =
     let i : IsPart t.first.0 at = (data_on at t.first t.read).0 in
     passed_augmentation at t.first.1 (augmentation_by letters plain_augmentation t.first.0) x (λ s r. letters_lie letters at t.first.0 plain_augmentation s i (none_lies at) r) t.rest
 
-column_if : (at : Cursor) (x : ℕ × Cursor) (b : Bool) → cond b (number_field 1 at) (uleb_field at) ≡ Ok x → IsPart x.1 at
-column_if at x true e = number_on 1 at x e
-column_if at x false e = uleb_on at x e
+register_if : (at : Cursor) (x : ℕ × Cursor) (b : Bool) → cond b (number_field 1 at) (uleb_field at) ≡ Ok x → IsPart x.1 at
+register_if at x true e = number_on 1 at x e
+register_if at x false e = uleb_on at x e
 
-column_on : (version : ℕ) (at : Cursor) (x : ℕ × Cursor) → column_at version at ≡ Ok x → IsPart x.1 at
-unfolding column_at
-column_on version at x e = column_if at x (version == 1) e
+register_on : (version : ℕ) (at : Cursor) (x : ℕ × Cursor) → return_address_register_at version at ≡ Ok x → IsPart x.1 at
+unfolding return_address_register_at
+register_on version at x e = register_if at x (version == 1) e
 
-numbers_on : (version : ℕ) (at : Cursor) (x : Numbers × Cursor) → numbers_at version at ≡ Ok x → IsPart x.1 at
-unfolding numbers_at
-numbers_on version at x e =
-    let t = through (uleb_field at) _ x e in
-    let u = through (sleb_field t.first.1) _ x t.rest in
-    let v = through (column_at version u.first.1) _ x u.rest in
-    let two = part-part u.first.1 t.first.1 at (sleb_on t.first.1 u.first u.read) (uleb_on at t.first t.read) in
-    let three = part-part v.first.1 u.first.1 at (column_on version u.first.1 v.first v.read) two in
-    subst (λ (y : Numbers × Cursor). IsPart y.1 at) (ok_same _ x v.rest) three
+version_if : (at : Cursor) (byte x : ℕ × Cursor) (known : Bool) → IsPart byte.1 at → cond {A = Step ℕ} known (Ok byte) (Err (CieVersion at.place)) ≡ Ok x → IsPart x.1 at
+version_if at byte x true i e = subst (λ (y : ℕ × Cursor). IsPart y.1 at) (ok_same byte x e) i
+version_if at byte x false i e = absurd cc
+
+version_on : (at : Cursor) (x : ℕ × Cursor) → version_at at ≡ Ok x → IsPart x.1 at
+unfolding version_at
+version_on at x e =
+    let t = through (number_field 1 at) _ x e in
+    version_if at t.first x ((t.first.0 == 1) || (t.first.0 == 3)) (number_on 1 at t.first t.read) t.rest
 
 letters_if : (arch : Arch) (place : ℕ) (bs : List ℕ) (at after : Cursor) (x : Option (List ℕ) × Cursor) (known : Bool) → IsPart after at
     → cond {A = Step (Option (List ℕ))} known (Ok (Some bs, after)) (Err (Augmentation place)) ≡ Ok x → IsPart x.1 at
@@ -195,26 +195,21 @@ letters_on arch at x e =
     let t = through (text_field at) _ x e in
     letters_of arch at.place t.first.0 at t.first.1 x (text_on at t.first t.read) t.rest
 
-fields_lie : (arch : Arch) (place version : ℕ) (at : Cursor) (shared : SharedView) → cie_fields arch place version at ≡ Ok shared → LieIn at (option_to_list shared.cie.personality)
-unfolding cie_fields
-fields_lie arch place version at shared e =
-    let t = through (letters_at arch at) _ shared e in
-    let u = through (numbers_at version t.first.1) _ shared t.rest in
-    let v = through (augmentation_at t.first.0 u.first.1) _ shared u.rest in
-    let i = part-part u.first.1 t.first.1 at (numbers_on version t.first.1 u.first u.read) (letters_on arch at t.first t.read) in
-    let lies = lie_wider u.first.1 at (option_to_list v.first.0.personality) i (augmentation_lies t.first.0 u.first.1 v.first v.read) in
-    subst (λ (s : SharedView). LieIn at (option_to_list s.cie.personality)) (ok_same _ shared v.rest) lies
-
-version_lies : (arch : Arch) (p : RawRecordView) (version : ℕ × Cursor) (shared : SharedView) (b : Bool) → IsPart version.1 p.body
-    → cond b (cie_fields arch p.place version.0 version.1) (Err (CieVersion p.body.place)) ≡ Ok shared → LieIn p.body (option_to_list shared.cie.personality)
-version_lies arch p version shared true i e = lie_wider version.1 p.body (option_to_list shared.cie.personality) i (fields_lie arch p.place version.0 version.1 shared e)
-version_lies arch p version shared false i e = absurd cc
-
-common_lies : (arch : Arch) (p : RawRecordView) (shared : SharedView) → cie_of arch p ≡ Ok shared → LieIn p.body (option_to_list shared.cie.personality)
+common_lies : (arch : Arch) (p : RawRecordView) (full : FullCieView) → cie_of arch p ≡ Ok full → LieIn p.body (option_to_list full.cie.personality)
 unfolding cie_of
-common_lies arch p shared e =
-    let t = through (number_field 1 p.body) _ shared e in
-    version_lies arch p t.first shared ((t.first.0 == 1) || (t.first.0 == 3)) (number_on 1 p.body t.first t.read) t.rest
+common_lies arch p full e =
+    let version = through (version_at p.body) _ full e in
+    let letters = through (letters_at arch version.first.1) _ full version.rest in
+    let code = through (uleb_field letters.first.1) _ full letters.rest in
+    let factor = through (sleb_field code.first.1) _ full code.rest in
+    let register = through (return_address_register_at version.first.0 factor.first.1) _ full factor.rest in
+    let augmentation = through (augmentation_at letters.first.0 register.first.1) _ full register.rest in
+    let to_letters = part-part letters.first.1 version.first.1 p.body (letters_on arch version.first.1 letters.first letters.read) (version_on p.body version.first version.read) in
+    let to_code = part-part code.first.1 letters.first.1 p.body (uleb_on letters.first.1 code.first code.read) to_letters in
+    let to_factor = part-part factor.first.1 code.first.1 p.body (sleb_on code.first.1 factor.first factor.read) to_code in
+    let to_register = part-part register.first.1 factor.first.1 p.body (register_on version.first.0 factor.first.1 register.first register.read) to_factor in
+    let lies = lie_wider register.first.1 p.body (option_to_list augmentation.first.0.personality) to_register (augmentation_lies letters.first.0 register.first.1 augmentation.first augmentation.read) in
+    subst (λ (s : FullCieView). LieIn p.body (option_to_list s.cie.personality)) (ok_same _ full augmentation.rest) lies
 
 -- ---- entries of both kinds
 

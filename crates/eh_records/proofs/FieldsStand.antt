@@ -21,12 +21,12 @@ use Rattle.eh_records.specs.declared.fault.RecordFault.{RecordFault}
 use Rattle.eh_records.specs.declared.fault.RecordFault.TheVariants as faults
 use Rattle.eh_records.specs.Augmentation.{Form, AugmentationView, plain_augmentation, has_key_letter, is_letter, are_letters, letters_in, letters_at, data_at, form_of, form_at, personality_field, personality_in, personality_at, letter_at, augmentation_by}
 use Rattle.eh_records.proofs.LetterLoop.{is_new}
-use Rattle.eh_records.specs.Cie.{CieView, Numbers, SharedView, cie_with_form, column_at, numbers_at, passed_data, augmentation_at, cie_fields, cie_of}
+use Rattle.eh_records.specs.Cie.{CieView, FullCieView, version_at, return_address_register_at, passed_data, augmentation_at, cie_of}
 use Rattle.eh_records.specs.RawRecord.{RawRecordView}
 use Rattle.eh_records.specs.Fde.{FdeView, read_there, lsda_of_width, lsda_in, lsda_at, entry_of}
-use Rattle.eh_records.specs.Fields.{PointerStands, PassedStands, StringStands, Saying, pointers, personality, lsda, signal, key_b, PersonalityStands, SayingStands, SayingsStand, with_saying, with_sayings, DataStands, AugmentationStands, ColumnStands, CieStands, LsdaStands, FrameData, FrameDataStands, FdeStands}
+use Rattle.eh_records.specs.Fields.{PointerStands, PassedStands, StringStands, LetterValue, pointers, personality, lsda, signal, key_b, PersonalityStands, LetterValueStands, LetterValuesStand, with_letter_value, with_letter_values, DataStands, AugmentationStands, ReturnAddressRegisterStands, CieStands, LsdaStands, FrameData, FrameDataStands, FdeStands}
 use Rattle.eh_records.specs.Step.{Step, ◌>>=◌, at_field, PointerField, number_field, uleb_field, sleb_field, text_field, part_field, pointer_field}
-use Rattle.eh_records.proofs.RawRecords.{through, ok_same}
+use Rattle.eh_records.proofs.RawRecords.{through, then_is, ok_same}
 
 -- ---- one field
 placed_is : {X : Type 0} (place : ℕ) (r : Read X) (x : X × Cursor) → at_field place r ≡ Ok x → r ≡ Ok x
@@ -255,21 +255,21 @@ personality_read field at after s =
     ∙ chosen at.place s.encoding field s.after after s.pointer_stands
 
 -- ---- letters
-pub saying_read : (letter : ℕ) (s : Saying) (augmentation : AugmentationView) (from to : Cursor) → SayingStands letter s from to → letter_at letter augmentation from ≡ Ok (with_saying augmentation s, to)
+pub letter_value_read : (letter : ℕ) (s : LetterValue) (augmentation : AugmentationView) (from to : Cursor) → LetterValueStands letter s from to → letter_at letter augmentation from ≡ Ok (with_letter_value augmentation s, to)
 unfolding letter_at
-saying_read letter (pointers form) augmentation from to h =
+letter_value_read letter (pointers form) augmentation from to h =
     ap (λ (l : ℕ). letter_at l augmentation from) h.0 ∙ ap (λ (r : Step Form). r >>= λ f. Ok (record augmentation { pointers = f.0 }, f.1)) (form_read form from to h.1 h.2)
-saying_read letter (personality field) augmentation from to h =
+letter_value_read letter (personality field) augmentation from to h =
     ap (λ (l : ℕ). letter_at l augmentation from) h.0 ∙ ap (λ (r : Step (Option PointerField)). r >>= λ p. Ok (record augmentation { personality = p.0 }, p.1)) (personality_read field from to h.1)
-saying_read letter (lsda encoding) augmentation from to h =
+letter_value_read letter (lsda encoding) augmentation from to h =
     ap (λ (l : ℕ). letter_at l augmentation from) h.0 ∙ ap (λ (r : Step ℕ). r >>= λ e. Ok (record augmentation { lsda = Some e.0 }, e.1)) (number_read 1 from encoding to h.1)
-saying_read letter signal augmentation from to h = ap (λ (l : ℕ). letter_at l augmentation from) h.0 ∙ ap (λ (c : Cursor). Ok (record augmentation { signal = true }, c)) (sym h.1)
-saying_read letter key_b augmentation from to h = ap (λ (l : ℕ). letter_at l augmentation from) h.0 ∙ ap (λ (c : Cursor). Ok (record augmentation { key = keys.B }, c)) (sym h.1)
+letter_value_read letter signal augmentation from to h = ap (λ (l : ℕ). letter_at l augmentation from) h.0 ∙ ap (λ (c : Cursor). Ok (record augmentation { signal = true }, c)) (sym h.1)
+letter_value_read letter key_b augmentation from to h = ap (λ (l : ℕ). letter_at l augmentation from) h.0 ∙ ap (λ (c : Cursor). Ok (record augmentation { key = keys.B }, c)) (sym h.1)
 
 pub record Says (letter : ℕ) (augmentation : AugmentationView) (at : Cursor) (x : AugmentationView × Cursor) : Type 0 where
-  pub saying : Saying
-  pub stands : SayingStands letter saying at x.1
-  pub is : x.0 ≡ with_saying augmentation saying
+  pub value : LetterValue
+  pub stands : LetterValueStands letter value at x.1
+  pub is : x.0 ≡ with_letter_value augmentation value
 
 letter_by : (r p l s : Bool) (letter : ℕ) (augmentation : AugmentationView) (at : Cursor) (x : AugmentationView × Cursor) → (letter == 82) ≡ r → (letter == 80) ≡ p → (letter == 76) ≡ l → (letter == 83) ≡ s
     → (p ≡ false → l ≡ false → s ≡ false → r ≡ false → letter ≡ 66)
@@ -285,21 +285,21 @@ letter_by true p l s letter augmentation at x tr tp tl ts b e =
     let t = through (form_at at) _ x e in
     let f = form_stands at t.first t.read in
     let same : (record augmentation { pointers = t.first.0 }, t.first.1) ≡ x = ok_same _ x t.rest in
-    subst (λ (y : AugmentationView × Cursor). Says letter augmentation at y) same (record { saying = pointers t.first.0; stands = (eqb-true _ _ tr, f.0, f.1); is = refl })
+    subst (λ (y : AugmentationView × Cursor). Says letter augmentation at y) same (record { value = pointers t.first.0; stands = (eqb-true _ _ tr, f.0, f.1); is = refl })
 letter_by false true l s letter augmentation at x tr tp tl ts b e =
     let t = through (personality_at at) _ x e in
     let same : (record augmentation { personality = t.first.0 }, t.first.1) ≡ x = ok_same _ x t.rest in
-    subst (λ (y : AugmentationView × Cursor). Says letter augmentation at y) same (record { saying = personality t.first.0; stands = (eqb-true _ _ tp, personality_stands at t.first t.read); is = refl })
+    subst (λ (y : AugmentationView × Cursor). Says letter augmentation at y) same (record { value = personality t.first.0; stands = (eqb-true _ _ tp, personality_stands at t.first t.read); is = refl })
 letter_by false false true s letter augmentation at x tr tp tl ts b e =
     let t = through (number_field 1 at) _ x e in
     let same : (record augmentation { lsda = Some t.first.0 }, t.first.1) ≡ x = ok_same _ x t.rest in
-    subst (λ (y : AugmentationView × Cursor). Says letter augmentation at y) same (record { saying = lsda t.first.0; stands = (eqb-true _ _ tl, number_stands 1 at t.first t.read); is = refl })
+    subst (λ (y : AugmentationView × Cursor). Says letter augmentation at y) same (record { value = lsda t.first.0; stands = (eqb-true _ _ tl, number_stands 1 at t.first t.read); is = refl })
 letter_by false false false true letter augmentation at x tr tp tl ts b e =
     let same : (record augmentation { signal = true }, at) ≡ x = ok_same _ x e in
-    subst (λ (y : AugmentationView × Cursor). Says letter augmentation at y) same (record { saying = signal; stands = (eqb-true _ _ ts, refl); is = refl })
+    subst (λ (y : AugmentationView × Cursor). Says letter augmentation at y) same (record { value = signal; stands = (eqb-true _ _ ts, refl); is = refl })
 letter_by false false false false letter augmentation at x tr tp tl ts b e =
     let same : (record augmentation { key = keys.B }, at) ≡ x = ok_same _ x e in
-    subst (λ (y : AugmentationView × Cursor). Says letter augmentation at y) same (record { saying = key_b; stands = (b refl refl refl refl, refl); is = refl })
+    subst (λ (y : AugmentationView × Cursor). Says letter augmentation at y) same (record { value = key_b; stands = (b refl refl refl refl, refl); is = refl })
 
 last_letter : (r p s l b k : Bool) → (r || p || s || l || (b && k)) ≡ true → p ≡ false → l ≡ false → s ≡ false → r ≡ false → b ≡ true
 last_letter true p s l b k h ep el es er = absurd cc
@@ -309,9 +309,9 @@ last_letter false false false true b k h ep el es er = absurd cc
 last_letter false false false false true k h ep el es er = refl
 last_letter false false false false false k h ep el es er = absurd cc
 
-pub saying_stands : (arch : Arch) (letter : ℕ) (augmentation : AugmentationView) (at : Cursor) (x : AugmentationView × Cursor) → is_letter arch letter ≡ true → letter_at letter augmentation at ≡ Ok x → Says letter augmentation at x
+pub letter_value_stands : (arch : Arch) (letter : ℕ) (augmentation : AugmentationView) (at : Cursor) (x : AugmentationView × Cursor) → is_letter arch letter ≡ true → letter_at letter augmentation at ≡ Ok x → Says letter augmentation at x
 unfolding letter_at
-saying_stands arch letter augmentation at x known e =
+letter_value_stands arch letter augmentation at x known e =
     letter_by (letter == 82) (letter == 80) (letter == 76) (letter == 83) letter augmentation at x refl refl refl refl
     (λ ep el es er. eqb-true _ _ (last_letter (letter == 82) (letter == 80) (letter == 83) (letter == 76) (letter == 66) (has_key_letter arch) known ep el es er))
     e
@@ -332,31 +332,31 @@ are_known arch before (b ∷ bs) h =
     let p = both (is_new arch before b) (are_letters arch (before ++ b ∷ []) bs) h in
     ((both (is_letter arch b) _ p.0).0, are_known arch (before ++ b ∷ []) bs p.1)
 
-sayings_read : (letters : List ℕ) (sayings : List Saying) (augmentation : AugmentationView) (at : Cursor) → SayingsStand letters sayings at → augmentation_by letters augmentation at ≡ Ok (with_sayings augmentation sayings)
+letter_values_read : (letters : List ℕ) (values : List LetterValue) (augmentation : AugmentationView) (at : Cursor) → LetterValuesStand letters values at → augmentation_by letters augmentation at ≡ Ok (with_letter_values augmentation values)
 unfolding augmentation_by
-sayings_read [] [] augmentation at h = refl
-sayings_read [] (s ∷ sayings) augmentation at h = absurd h
-sayings_read (b ∷ letters) [] augmentation at h = absurd h
-sayings_read (b ∷ letters) (s ∷ sayings) augmentation at h =
-    ap (λ (r : Step AugmentationView). r >>= λ next. augmentation_by letters next.0 next.1) (saying_read b s augmentation at h.0 h.1)
-    ∙ sayings_read letters sayings (with_saying augmentation s) h.0 h.2
+letter_values_read [] [] augmentation at h = refl
+letter_values_read [] (s ∷ values) augmentation at h = absurd h
+letter_values_read (b ∷ letters) [] augmentation at h = absurd h
+letter_values_read (b ∷ letters) (s ∷ values) augmentation at h =
+    ap (λ (r : Step AugmentationView). r >>= λ next. augmentation_by letters next.0 next.1) (letter_value_read b s augmentation at h.0 h.1)
+    ∙ letter_values_read letters values (with_letter_value augmentation s) h.0 h.2
 
 record SayAll (letters : List ℕ) (augmentation : AugmentationView) (at : Cursor) (result : AugmentationView) : Type 0 where
-  sayings : List Saying
-  stand : SayingsStand letters sayings at
-  is : result ≡ with_sayings augmentation sayings
+  values : List LetterValue
+  stand : LetterValuesStand letters values at
+  is : result ≡ with_letter_values augmentation values
 
-sayings_stand : (arch : Arch) (letters : List ℕ) (augmentation : AugmentationView) (at : Cursor) (result : AugmentationView) → AreKnown arch letters → augmentation_by letters augmentation at ≡ Ok result → SayAll letters augmentation at result
+letter_values_stand : (arch : Arch) (letters : List ℕ) (augmentation : AugmentationView) (at : Cursor) (result : AugmentationView) → AreKnown arch letters → augmentation_by letters augmentation at ≡ Ok result → SayAll letters augmentation at result
 unfolding augmentation_by
-sayings_stand arch [] augmentation at result known e = record { sayings = []; stand = tt; is = sym (ok_same augmentation result e) }
-sayings_stand arch (b ∷ letters) augmentation at result known e =
+letter_values_stand arch [] augmentation at result known e = record { values = []; stand = tt; is = sym (ok_same augmentation result e) }
+letter_values_stand arch (b ∷ letters) augmentation at result known e =
     let t = through (letter_at b augmentation at) _ result e in
-    let s = saying_stands arch b augmentation at t.first known.0 t.read in
-    let rest = sayings_stand arch letters t.first.0 t.first.1 result known.1 t.rest in
+    let s = letter_value_stands arch b augmentation at t.first known.0 t.read in
+    let rest = letter_values_stand arch letters t.first.0 t.first.1 result known.1 t.rest in
     record {
-      sayings = s.saying ∷ rest.sayings;
+      values = s.value ∷ rest.values;
       stand = (t.first.1, s.stands, rest.stand);
-      is = rest.is ∙ ap (λ (d : AugmentationView). with_sayings d rest.sayings) s.is;
+      is = rest.is ∙ ap (λ (d : AugmentationView). with_letter_values d rest.values) s.is;
     }
 
 -- ---- the augmentation string
@@ -406,12 +406,12 @@ augmentation_stands arch None before start at x s e =
 augmentation_stands arch (Some letters) before start at x s e =
     let t = through (data_at at) _ x e in
     let d = data_augmentation t.first.1 (augmentation_by letters plain_augmentation t.first.0) x t.rest in
-    let all = sayings_stand arch letters plain_augmentation t.first.0 x.0 (string_known arch letters before start s) d.0 in
+    let all = letter_values_stand arch letters plain_augmentation t.first.0 x.0 (string_known arch letters before start s) d.0 in
     record {
       data_ = t.first.0;
-      sayings = all.sayings;
+      values = all.values;
       data_stands = subst (DataStands t.first.0 at) (sym d.1) (data_stands at t.first t.read);
-      sayings_stand = all.stand;
+      letter_values_stand = all.stand;
       together = all.is;
     }
 
@@ -420,99 +420,103 @@ unfolding augmentation_at
 augmentation_read None augmentation at after s = ap (λ (d : AugmentationView). Ok (d, at)) (sym s.0) ∙ ap (λ (c : Cursor). Ok (augmentation, c)) (sym s.1)
 augmentation_read (Some letters) augmentation at after s =
     ap (λ (r : Step Cursor). r >>= λ inner. passed_data inner.1 (augmentation_by letters plain_augmentation inner.0)) (data_read s.data_ at after s.data_stands)
-    ∙ ap (passed_data after) (sayings_read letters s.sayings plain_augmentation s.data_ s.sayings_stand)
+    ∙ ap (passed_data after) (letter_values_read letters s.values plain_augmentation s.data_ s.letter_values_stand)
     ∙ ap (λ (d : AugmentationView). Ok (d, after)) (sym s.together)
 
 -- ---- common information entries
-pub column_read : (version column : ℕ) (at after : Cursor) → ColumnStands version column at after → column_at version at ≡ Ok (column, after)
-unfolding column_at
-column_read version column at after (inl s) =
-    ap (λ (v : ℕ). if v == 1 then number_field 1 at else uleb_field at) s.0 ∙ number_read 1 at column after s.1
-column_read version column at after (inr s) =
-    ap (λ (v : ℕ). if v == 1 then number_field 1 at else uleb_field at) s.0 ∙ uleb_read at column after s.1
+pub known_version : (version : ℕ) → (version ≡ 1) ⊎ (version ≡ 3) → ((version == 1) || (version == 3)) ≡ true
+known_version version (inl is) = ap (λ (v : ℕ). (v == 1) || (v == 3)) is
+known_version version (inr is) = ap (λ (v : ℕ). (v == 1) || (v == 3)) is
 
-column_by : (one three : Bool) (version : ℕ) (at : Cursor) (x : ℕ × Cursor) → (version == 1) ≡ one → (version == 3) ≡ three → (one || three) ≡ true
-    → (if one then number_field 1 at else uleb_field at) ≡ Ok x → ColumnStands version x.0 at x.1
-column_by true three version at x t1 t3 known e = inl (eqb-true _ _ t1, number_stands 1 at x e)
-column_by false true version at x t1 t3 known e = inr (eqb-true _ _ t3, uleb_stands at x e)
-column_by false false version at x t1 t3 known e = absurd cc
+one_of : (one three : Bool) (version : ℕ) → (version == 1) ≡ one → (version == 3) ≡ three → (one || three) ≡ true → (version ≡ 1) ⊎ (version ≡ 3)
+one_of true three version t1 t3 known = inl (eqb-true _ _ t1)
+one_of false true version t1 t3 known = inr (eqb-true _ _ t3)
+one_of false false version t1 t3 known = absurd cc
 
-pub column_stands : (version : ℕ) (at : Cursor) (x : ℕ × Cursor) → ((version == 1) || (version == 3)) ≡ true → column_at version at ≡ Ok x → ColumnStands version x.0 at x.1
-unfolding column_at
-column_stands version at x known e = column_by (version == 1) (version == 3) version at x refl refl known e
+abbrev IsVersion : (version : ℕ) → (from to : Cursor) → Type 0
+IsVersion version from to = Stands (Number 1) version from to × ((version ≡ 1) ⊎ (version ≡ 3))
 
-numbers_read : (version : ℕ) (numbers : Numbers) (at after_code after_factor after : Cursor) → Stands Uleb numbers.code at after_code → Stands Sleb numbers.factor after_code after_factor
-    → ColumnStands version numbers.column after_factor after → numbers_at version at ≡ Ok (numbers, after)
-unfolding numbers_at
-numbers_read version numbers at after_code after_factor after code factor column =
-    ap (λ (r : Step ℕ). r >>= λ c. sleb_field c.1 >>= λ f. column_at version f.1 >>= λ k. Ok (record { code = c.0; factor = f.0; column = k.0 }, k.1)) (uleb_read at numbers.code after_code code)
-    ∙ ap (λ (r : Step ℤ). r >>= λ f. column_at version f.1 >>= λ k. Ok (record { code = numbers.code; factor = f.0; column = k.0 }, k.1)) (sleb_read after_code numbers.factor after_factor factor)
-    ∙ ap (λ (r : Step ℕ). r >>= λ k. Ok (record { code = numbers.code; factor = numbers.factor; column = k.0 }, k.1)) (column_read version numbers.column after_factor after column)
+version_by : (known : Bool) (at : Cursor) (byte x : ℕ × Cursor) → ((byte.0 == 1) || (byte.0 == 3)) ≡ known → number_field 1 at ≡ Ok byte
+    → cond {A = Step ℕ} known (Ok byte) (Err (faults.CieVersion at.place)) ≡ Ok x → IsVersion x.0 at x.1
+version_by true at byte x known read e =
+    subst (λ (v : ℕ × Cursor). IsVersion v.0 at v.1) (ok_same byte x e) (number_stands 1 at byte read, one_of (byte.0 == 1) (byte.0 == 3) byte.0 refl refl known)
+version_by false at byte x known read e = absurd cc
 
-version_known : (version column : ℕ) (from to : Cursor) → ColumnStands version column from to → ((version == 1) || (version == 3)) ≡ true
-version_known version column from to (inl s) = ap (λ (v : ℕ). (v == 1) || (v == 3)) s.0
-version_known version column from to (inr s) = ap (λ (v : ℕ). (v == 1) || (v == 3)) s.0
+pub version_stands : (at : Cursor) (x : ℕ × Cursor) → version_at at ≡ Ok x → IsVersion x.0 at x.1
+unfolding version_at
+version_stands at x e =
+    let byte = through (number_field 1 at) _ x e in
+    version_by ((byte.first.0 == 1) || (byte.first.0 == 3)) at byte.first x refl byte.read byte.rest
 
-fields_read : (arch : Arch) (p : RawRecordView) (c : SharedView) → (s : CieStands arch p c) → cie_fields arch p.place s.version s.after_version ≡ Ok c
-unfolding cie_fields
-fields_read arch p c s =
-    ap (λ (r : Step (Option (List ℕ))). r >>= λ letters. numbers_at s.version letters.1 >>= λ numbers. augmentation_at letters.0 numbers.1 >>= λ augmentation. Ok (cie_with_form p.place numbers.0 (is_some letters.0) augmentation.0 augmentation.1))
-    (string_read arch s.letters s.after_version s.after_string s.string_stands)
-    ∙ ap (λ (r : Step Numbers). r >>= λ numbers. augmentation_at s.letters numbers.1 >>= λ augmentation. Ok (cie_with_form p.place numbers.0 (is_some s.letters) augmentation.0 augmentation.1))
-    (numbers_read s.version s.numbers s.after_string s.after_code s.after_factor s.after_column s.code_stands s.factor_stands s.column_stands)
-    ∙ ap (λ (r : Step AugmentationView). r >>= λ augmentation. Ok (cie_with_form p.place s.numbers (is_some s.letters) augmentation.0 augmentation.1)) (augmentation_read s.letters s.augmentation s.after_column s.insns s.augmentation_stands)
-    ∙ ap (λ (v : SharedView). Ok v) (sym s.entry)
+pub version_read : (version : ℕ) (at after : Cursor) → Stands (Number 1) version at after → (version ≡ 1) ⊎ (version ≡ 3) → version_at at ≡ Ok (version, after)
+unfolding version_at
+version_read version at after byte known =
+    then_is (number_field 1 at) _ _ _ (number_read 1 at version after byte)
+    (ap (λ (b : Bool). cond {A = Step ℕ} b (Ok (version, after)) (Err (faults.CieVersion at.place))) (known_version version known))
 
-pub cie_read : (arch : Arch) (p : RawRecordView) (c : SharedView) → CieStands arch p c → cie_of arch p ≡ Ok c
+pub register_read : (version register : ℕ) (at after : Cursor) → ReturnAddressRegisterStands version register at after → return_address_register_at version at ≡ Ok (register, after)
+unfolding return_address_register_at
+register_read version register at after (inl s) =
+    ap (λ (v : ℕ). if v == 1 then number_field 1 at else uleb_field at) s.0 ∙ number_read 1 at register after s.1
+register_read version register at after (inr s) =
+    ap (λ (v : ℕ). if v == 1 then number_field 1 at else uleb_field at) s.0 ∙ uleb_read at register after s.1
+
+register_by : (one : Bool) (version : ℕ) (at : Cursor) (x : ℕ × Cursor) → (version ≡ 1) ⊎ (version ≡ 3) → (version == 1) ≡ one → (if one then number_field 1 at else uleb_field at) ≡ Ok x → ReturnAddressRegisterStands version x.0 at x.1
+register_by true version at x known t e = inl (eqb-true _ _ t, number_stands 1 at x e)
+register_by false version at x (inl is) t e = absurd (eqb-false _ _ t is)
+register_by false version at x (inr is) t e = inr (is, uleb_stands at x e)
+
+pub register_stands : (version : ℕ) (at : Cursor) (x : ℕ × Cursor) → (version ≡ 1) ⊎ (version ≡ 3) → return_address_register_at version at ≡ Ok x → ReturnAddressRegisterStands version x.0 at x.1
+unfolding return_address_register_at
+register_stands version at x known e = register_by (version == 1) version at x known refl e
+
+pub register_version : (version register : ℕ) (from to : Cursor) → ReturnAddressRegisterStands version register from to → (version ≡ 1) ⊎ (version ≡ 3)
+register_version version register from to (inl s) = inl s.0
+register_version version register from to (inr s) = inr s.0
+
+pub cie_read : (arch : Arch) (p : RawRecordView) (c : FullCieView) → CieStands arch p c → cie_of arch p ≡ Ok c
 unfolding cie_of
 cie_read arch p c s =
-    ap (λ (r : Step ℕ). r >>= λ version. if (version.0 == 1) || (version.0 == 3) then cie_fields arch p.place version.0 version.1 else Err (faults.CieVersion p.body.place)) (number_read 1 p.body s.version s.after_version s.version_stands)
-    ∙ ap (λ (b : Bool). if b then cie_fields arch p.place s.version s.after_version else Err (faults.CieVersion p.body.place)) (version_known s.version s.numbers.column s.after_factor s.after_column s.column_stands)
-    ∙ fields_read arch p c s
+    let known = register_version s.version s.numbers.return_address_register s.after_data_alignment_factor s.after_return_address_register s.return_address_register_stands in
+    then_is (version_at p.body) _ _ _ (version_read s.version p.body s.after_version s.version_stands known)
+    (then_is (letters_at arch s.after_version) _ _ _ (string_read arch s.letters s.after_version s.after_string s.string_stands)
+    (then_is (uleb_field s.after_string) _ _ _ (uleb_read s.after_string s.numbers.code_alignment_factor s.after_code_alignment_factor s.code_alignment_factor_stands)
+    (then_is (sleb_field s.after_code_alignment_factor) _ _ _ (sleb_read s.after_code_alignment_factor s.numbers.data_alignment_factor s.after_data_alignment_factor s.data_alignment_factor_stands)
+    (then_is (return_address_register_at s.version s.after_data_alignment_factor) _ _ _
+    (register_read s.version s.numbers.return_address_register s.after_data_alignment_factor s.after_return_address_register s.return_address_register_stands)
+    (then_is (augmentation_at s.letters s.after_return_address_register) _ _ _ (augmentation_read s.letters s.augmentation s.after_return_address_register s.insns s.augmentation_stands)
+    (ap (λ (v : FullCieView). Ok v) (sym s.entry)))))))
 
-fields_stand : (arch : Arch) (p : RawRecordView) (c : SharedView) (version : ℕ) (at : Cursor) → Stands (Number 1) version p.body at → ((version == 1) || (version == 3)) ≡ true → cie_fields arch p.place version at ≡ Ok c → CieStands arch p c
-unfolding cie_fields numbers_at
-fields_stand arch p c version at byte known e =
-    let letters = through (letters_at arch at) _ c e in
-    let numbers = through (numbers_at version letters.first.1) _ c letters.rest in
-    let code = through (uleb_field letters.first.1) _ numbers.first numbers.read in
-    let factor = through (sleb_field code.first.1) _ numbers.first code.rest in
-    let column = through (column_at version factor.first.1) _ numbers.first factor.rest in
-    let same : (record { code = code.first.0; factor = factor.first.0; column = column.first.0 }, column.first.1) ≡ numbers.first = ok_same _ numbers.first column.rest in
-    let is : Numbers = record { code = code.first.0; factor = factor.first.0; column = column.first.0 } in
-    let augmentation = through (augmentation_at letters.first.0 numbers.first.1) _ c numbers.rest in
-    let after : column.first.1 ≡ numbers.first.1 = ap (λ (y : Numbers × Cursor). y.1) same in
-    let string = string_stands arch at letters.first letters.read in
-    record {
-      version = version;
-      letters = letters.first.0;
-      numbers = is;
-      augmentation = augmentation.first.0;
-      after_version = at;
-      after_string = letters.first.1;
-      after_code = code.first.1;
-      after_factor = factor.first.1;
-      after_column = numbers.first.1;
-      insns = augmentation.first.1;
-      version_stands = byte;
-      string_stands = string;
-      code_stands = uleb_stands letters.first.1 code.first code.read;
-      factor_stands = sleb_stands code.first.1 factor.first factor.read;
-      column_stands = subst (ColumnStands version column.first.0 factor.first.1) after (column_stands version factor.first.1 column.first known column.read);
-      augmentation_stands = augmentation_stands arch letters.first.0 at letters.first.1 numbers.first.1 augmentation.first string augmentation.read;
-      entry = sym (ok_same _ c augmentation.rest) ∙ ap (λ (n : Numbers). cie_with_form p.place n (is_some letters.first.0) augmentation.first.0 augmentation.first.1) (sym (ap (λ (y : Numbers × Cursor). y.0) same));
-    }
-
-cie_by : (b : Bool) (arch : Arch) (p : RawRecordView) (c : SharedView) (version : ℕ) (at : Cursor) → ((version == 1) || (version == 3)) ≡ b → Stands (Number 1) version p.body at
-    → (if b then cie_fields arch p.place version at else Err (faults.CieVersion p.body.place)) ≡ Ok c → CieStands arch p c
-cie_by true arch p c version at known byte e = fields_stand arch p c version at byte known e
-cie_by false arch p c version at known byte e = absurd cc
-
-pub cie_stands : (arch : Arch) (p : RawRecordView) (c : SharedView) → cie_of arch p ≡ Ok c → CieStands arch p c
+pub cie_stands : (arch : Arch) (p : RawRecordView) (c : FullCieView) → cie_of arch p ≡ Ok c → CieStands arch p c
 unfolding cie_of
 cie_stands arch p c e =
-    let t = through (number_field 1 p.body) _ c e in
-    cie_by ((t.first.0 == 1) || (t.first.0 == 3)) arch p c t.first.0 t.first.1 refl (number_stands 1 p.body t.first t.read) t.rest
+    let version = through (version_at p.body) _ c e in
+    let letters = through (letters_at arch version.first.1) _ c version.rest in
+    let code = through (uleb_field letters.first.1) _ c letters.rest in
+    let factor = through (sleb_field code.first.1) _ c code.rest in
+    let register = through (return_address_register_at version.first.0 factor.first.1) _ c factor.rest in
+    let augmentation = through (augmentation_at letters.first.0 register.first.1) _ c register.rest in
+    let byte = version_stands p.body version.first version.read in
+    let string = string_stands arch version.first.1 letters.first letters.read in
+    record {
+      version = version.first.0;
+      letters = letters.first.0;
+      numbers = record { code_alignment_factor = code.first.0; data_alignment_factor = factor.first.0; return_address_register = register.first.0 };
+      augmentation = augmentation.first.0;
+      after_version = version.first.1;
+      after_string = letters.first.1;
+      after_code_alignment_factor = code.first.1;
+      after_data_alignment_factor = factor.first.1;
+      after_return_address_register = register.first.1;
+      insns = augmentation.first.1;
+      version_stands = byte.0;
+      string_stands = string;
+      code_alignment_factor_stands = uleb_stands letters.first.1 code.first code.read;
+      data_alignment_factor_stands = sleb_stands code.first.1 factor.first factor.read;
+      return_address_register_stands = register_stands version.first.0 factor.first.1 register.first byte.1 register.read;
+      augmentation_stands = augmentation_stands arch letters.first.0 version.first.1 letters.first.1 register.first.1 augmentation.first string augmentation.read;
+      entry = sym (ok_same _ c augmentation.rest);
+    }
 
 -- ---- frame description entries
 abbrev with_raw : (width : ℕ) → Cursor → ℕ × Cursor → Step PointerField
@@ -589,39 +593,39 @@ frame_data_again true encoding field at after s =
     ∙ ap (λ (f : Option PointerField). Ok (f, after)) (lsda_read encoding field s.data_ s.lsda_stands)
 frame_data_again false encoding field at after s = ap (λ (f : Option PointerField). Ok (f, at)) (sym s.0) ∙ ap (λ (c : Cursor). Ok (field, c)) (sym s.1)
 
-frame_data_stands : (shared : SharedView) (at : Cursor) (x : Option PointerField × Cursor) → lsda_at shared at ≡ Ok x → FrameDataStands shared.augmented shared.lsda x.0 at x.1
+frame_data_stands : (full : FullCieView) (at : Cursor) (x : Option PointerField × Cursor) → lsda_at full at ≡ Ok x → FrameDataStands full.augmented full.lsda x.0 at x.1
 unfolding lsda_at
-frame_data_stands shared at x e = frame_data_by shared.augmented shared.lsda at x e
+frame_data_stands full at x e = frame_data_by full.augmented full.lsda at x e
 
-frame_data_read : (shared : SharedView) (field : Option PointerField) (at after : Cursor) → FrameDataStands shared.augmented shared.lsda field at after → lsda_at shared at ≡ Ok (field, after)
+frame_data_read : (full : FullCieView) (field : Option PointerField) (at after : Cursor) → FrameDataStands full.augmented full.lsda field at after → lsda_at full at ≡ Ok (field, after)
 unfolding lsda_at
-frame_data_read shared field at after s = frame_data_again shared.augmented shared.lsda field at after s
+frame_data_read full field at after s = frame_data_again full.augmented full.lsda field at after s
 
-pub fde_stands : (shared : SharedView) (p : RawRecordView) (f : FdeView) → entry_of shared p ≡ Ok f → FdeStands shared p f
+pub fde_stands : (full : FullCieView) (p : RawRecordView) (f : FdeView) → entry_of full p ≡ Ok f → FdeStands full p f
 unfolding entry_of
-fde_stands shared p f e =
-    let begin = through (pointer_field shared.width p.body) _ f e in
-    let range = through (pointer_field shared.width begin.first.1) _ f begin.rest in
-    let field = through (lsda_at shared range.first.1) _ f range.rest in
-    let is : record { place = p.place; cie = shared.cie; begin = begin.first.0; range = range.first.0; lsda = field.first.0; insns = field.first.1 } ≡ f = ok_same _ f field.rest in
-    subst (FdeStands shared p) is (record {
+fde_stands full p f e =
+    let begin = through (pointer_field full.width p.body) _ f e in
+    let range = through (pointer_field full.width begin.first.1) _ f begin.rest in
+    let field = through (lsda_at full range.first.1) _ f range.rest in
+    let is : record { place = p.place; cie = full.cie; begin = begin.first.0; range = range.first.0; lsda = field.first.0; insns = field.first.1 } ≡ f = ok_same _ f field.rest in
+    subst (FdeStands full p) is (record {
       after_begin = begin.first.1;
       after_range = range.first.1;
-      begin_stands = pointer_stands shared.width p.body begin.first begin.read;
-      range_stands = pointer_stands shared.width begin.first.1 range.first range.read;
-      data_stands = frame_data_stands shared range.first.1 field.first field.read;
+      begin_stands = pointer_stands full.width p.body begin.first begin.read;
+      range_stands = pointer_stands full.width begin.first.1 range.first range.read;
+      data_stands = frame_data_stands full range.first.1 field.first field.read;
       place = refl;
       cie = refl;
     })
 
-pub fde_read : (shared : SharedView) (p : RawRecordView) (f : FdeView) → FdeStands shared p f → entry_of shared p ≡ Ok f
+pub fde_read : (full : FullCieView) (p : RawRecordView) (f : FdeView) → FdeStands full p f → entry_of full p ≡ Ok f
 unfolding entry_of
-fde_read shared p f s =
-    ap (λ (r : Step PointerField). r >>= λ begin. pointer_field shared.width begin.1 >>= λ range. lsda_at shared range.1 >>= λ field. Ok (record { place = p.place; cie = shared.cie; begin = begin.0; range = range.0; lsda = field.0; insns = field.1 }))
-    (pointer_read shared.width f.begin p.body s.after_begin s.begin_stands)
-    ∙ ap (λ (r : Step PointerField). r >>= λ range. lsda_at shared range.1 >>= λ field. Ok (record { place = p.place; cie = shared.cie; begin = f.begin; range = range.0; lsda = field.0; insns = field.1 }))
-    (pointer_read shared.width f.range s.after_begin s.after_range s.range_stands)
-    ∙ ap (λ (r : Step (Option PointerField)). r >>= λ field. Ok (record { place = p.place; cie = shared.cie; begin = f.begin; range = f.range; lsda = field.0; insns = field.1 }))
-    (frame_data_read shared f.lsda s.after_range f.insns s.data_stands)
-    ∙ ap (λ (n : ℕ). Ok (record { place = n; cie = shared.cie; begin = f.begin; range = f.range; lsda = f.lsda; insns = f.insns })) (sym s.place)
+fde_read full p f s =
+    ap (λ (r : Step PointerField). r >>= λ begin. pointer_field full.width begin.1 >>= λ range. lsda_at full range.1 >>= λ field. Ok (record { place = p.place; cie = full.cie; begin = begin.0; range = range.0; lsda = field.0; insns = field.1 }))
+    (pointer_read full.width f.begin p.body s.after_begin s.begin_stands)
+    ∙ ap (λ (r : Step PointerField). r >>= λ range. lsda_at full range.1 >>= λ field. Ok (record { place = p.place; cie = full.cie; begin = f.begin; range = range.0; lsda = field.0; insns = field.1 }))
+    (pointer_read full.width f.range s.after_begin s.after_range s.range_stands)
+    ∙ ap (λ (r : Step (Option PointerField)). r >>= λ field. Ok (record { place = p.place; cie = full.cie; begin = f.begin; range = f.range; lsda = field.0; insns = field.1 }))
+    (frame_data_read full f.lsda s.after_range f.insns s.data_stands)
+    ∙ ap (λ (n : ℕ). Ok (record { place = n; cie = full.cie; begin = f.begin; range = f.range; lsda = f.lsda; insns = f.insns })) (sym s.place)
     ∙ ap (λ (v : CieView). Ok (record { place = f.place; cie = v; begin = f.begin; range = f.range; lsda = f.lsda; insns = f.insns })) (sym s.cie)

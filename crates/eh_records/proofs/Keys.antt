@@ -12,11 +12,11 @@ use Rattle.eh_records.specs.declared.fault.RecordFault.{RecordFault}
 use Rattle.eh_records.specs.declared.fault.RecordFault.TheVariants.{Augmentation, CieVersion}
 use Rattle.eh_records.specs.Augmentation.{AugmentationView, plain_augmentation, is_letter, are_letters, letters_in, letters_at, form_at, personality_at, letter_at, augmentation_by, data_at}
 use Rattle.eh_records.proofs.LetterLoop.{is_new}
-use Rattle.eh_records.specs.Cie.{SharedView, CieView, cie_fields, cie_of, augmentation_at, passed_data, numbers_at}
+use Rattle.eh_records.specs.Cie.{FullCieView, CieView, version_at, return_address_register_at, augmentation_at, passed_data, cie_of}
 use Rattle.eh_records.specs.RawRecord.{RawRecordView, raw_record_at, named_place}
 use Rattle.eh_records.specs.Fde.{FdeView, fde_of, entry_of, cie_in, cie_at_place, lsda_at}
-use Rattle.eh_records.specs.Section.{EntryView, Common, Frame, Cutting, frames, entry_here, entry_before, entries_before}
-use Rattle.eh_records.specs.Step.{Step, ◌>>=◌, number_field, text_field, pointer_field}
+use Rattle.eh_records.specs.Section.{EntryView, Common, Frame, SplitRecord, frames, entry_here, entry_before, entries_before}
+use Rattle.eh_records.specs.Step.{Step, ◌>>=◌, number_field, uleb_field, sleb_field, text_field, pointer_field}
 use Rattle.eh_records.proofs.RawRecords.{through, ok_same}
 
 first_of : {A B : Type 0} (x y : A × B) → x ≡ y → x.0 ≡ y.0
@@ -90,40 +90,34 @@ augmentation_key (Some letters) at x h e =
     let t = through (data_at at) _ x e in
     passed_key t.first.1 (augmentation_by letters plain_augmentation t.first.0) x (λ s r. letters_keep [] letters plain_augmentation t.first.0 s refl h r) t.rest
 
-fields_key : (place version : ℕ) (at : Cursor) (shared : SharedView) → cie_fields Amd64 place version at ≡ Ok shared → shared.cie.key ≡ A
-unfolding cie_fields
-fields_key place version at shared e =
-    let t = through (letters_at Amd64 at) _ shared e in
-    let u = through (numbers_at version t.first.1) _ shared t.rest in
-    let v = through (augmentation_at t.first.0 u.first.1) _ shared u.rest in
-    sym (ap (λ (s : SharedView). s.cie.key) (ok_same _ shared v.rest)) ∙ augmentation_key t.first.0 u.first.1 v.first (letters_are at t.first t.read) v.read
-
-version_key : (p : RawRecordView) (version : ℕ × Cursor) (shared : SharedView) (b : Bool) → cond b (cie_fields Amd64 p.place version.0 version.1) (Err (CieVersion p.body.place)) ≡ Ok shared → shared.cie.key ≡ A
-version_key p version shared true e = fields_key p.place version.0 version.1 shared e
-version_key p version shared false e = absurd cc
-
-cie_key : (p : RawRecordView) (shared : SharedView) → cie_of Amd64 p ≡ Ok shared → shared.cie.key ≡ A
+cie_key : (p : RawRecordView) (full : FullCieView) → cie_of Amd64 p ≡ Ok full → full.cie.key ≡ A
 unfolding cie_of
-cie_key p shared e =
-    let t = through (number_field 1 p.body) _ shared e in
-    version_key p t.first shared ((t.first.0 == 1) || (t.first.0 == 3)) t.rest
+cie_key p full e =
+    let version = through (version_at p.body) _ full e in
+    let letters = through (letters_at Amd64 version.first.1) _ full version.rest in
+    let code = through (uleb_field letters.first.1) _ full letters.rest in
+    let factor = through (sleb_field code.first.1) _ full code.rest in
+    let register = through (return_address_register_at version.first.0 factor.first.1) _ full factor.rest in
+    let augmentation = through (augmentation_at letters.first.0 register.first.1) _ full register.rest in
+    sym (ap (λ (s : FullCieView). s.cie.key) (ok_same _ full augmentation.rest))
+    ∙ augmentation_key letters.first.0 register.first.1 augmentation.first (letters_are version.first.1 letters.first letters.read) augmentation.read
 
-at_place_key : (place : ℕ) (found : Option (RawRecordView × Cursor)) (shared : SharedView) → cie_in Amd64 place found ≡ Ok shared → shared.cie.key ≡ A
-at_place_key place None shared e = absurd cc
-at_place_key place (Some p) shared e = cie_key p.0 shared e
+at_place_key : (place : ℕ) (found : Option (RawRecordView × Cursor)) (full : FullCieView) → cie_in Amd64 place found ≡ Ok full → full.cie.key ≡ A
+at_place_key place None full e = absurd cc
+at_place_key place (Some p) full e = cie_key p.0 full e
 
-named_key : (section : List ℕ) (place : ℕ) (shared : SharedView) → cie_at_place Amd64 section place ≡ Ok shared → shared.cie.key ≡ A
+named_key : (section : List ℕ) (place : ℕ) (full : FullCieView) → cie_at_place Amd64 section place ≡ Ok full → full.cie.key ≡ A
 unfolding cie_at_place
-named_key section place shared e =
-    let t = through (raw_record_at (record { place = place; left = drop place section })) _ shared e in
-    at_place_key place t.first shared t.rest
+named_key section place full e =
+    let t = through (raw_record_at (record { place = place; left = drop place section })) _ full e in
+    at_place_key place t.first full t.rest
 
-pub same_cie : (shared : SharedView) (p : RawRecordView) (f : FdeView) → entry_of shared p ≡ Ok f → f.cie ≡ shared.cie
+pub same_cie : (full : FullCieView) (p : RawRecordView) (f : FdeView) → entry_of full p ≡ Ok f → f.cie ≡ full.cie
 unfolding entry_of
-same_cie shared p f e =
-    let t = through (pointer_field shared.width p.body) _ f e in
-    let u = through (pointer_field shared.width t.first.1) _ f t.rest in
-    let v = through (lsda_at shared u.first.1) _ f u.rest in
+same_cie full p f e =
+    let t = through (pointer_field full.width p.body) _ f e in
+    let u = through (pointer_field full.width t.first.1) _ f t.rest in
+    let v = through (lsda_at full u.first.1) _ f u.rest in
     sym (ap (λ (g : FdeView). g.cie) (ok_same _ f v.rest))
 
 frame_key : (section : List ℕ) (p : RawRecordView) (f : FdeView) → fde_of Amd64 section p ≡ Ok f → f.cie.key ≡ A
@@ -161,12 +155,12 @@ before_fit (Ok (Common c)) es h rest = rest
 before_fit (Ok (Frame f)) es h rest = All-cons Fits f (frames es) (h (Frame f) refl) rest
 before_fit (Err e) es h rest = All-nil Fits
 
-amd64_fit : (section : List ℕ) (xs : List Cutting) → All Fits (frames (entries_before Amd64 section xs))
+amd64_fit : (section : List ℕ) (xs : List SplitRecord) → All Fits (frames (entries_before Amd64 section xs))
 unfolding entries_before
 amd64_fit section [] = All-nil Fits
 amd64_fit section (Err e ∷ others) = All-nil Fits
 amd64_fit section (Ok p ∷ others) = before_fit (entry_here Amd64 section p) (entries_before Amd64 section others) (entry_fits section p) (amd64_fit section others)
 
-pub keys_fit : (arch : Arch) (section : List ℕ) (xs : List Cutting) → All (λ (f : FdeView). IsTrue (key_fits arch f.cie.key)) (frames (entries_before arch section xs))
+pub keys_fit : (arch : Arch) (section : List ℕ) (xs : List SplitRecord) → All (λ (f : FdeView). IsTrue (key_fits arch f.cie.key)) (frames (entries_before arch section xs))
 keys_fit Amd64 section xs = amd64_fit section xs
 keys_fit Aarch64 section xs = λ k d within. refl

@@ -1,7 +1,7 @@
 pub mod RisingPlaces
 pub mod FirstEntry
 pub mod FieldsInOrder
-pub mod Cuts
+pub mod FirstRecord
 pub mod Entries
 pub mod Faults
 pub mod Keys
@@ -14,11 +14,11 @@ pub mod StepsLeaveParts
 pub mod Parts
 pub mod Rising
 pub mod AugmentationDataLoop
-pub mod Stands
+pub mod RecordsStand
 pub mod Widths
 pub mod FieldsStand
 pub mod EntriesStand
-pub mod Given
+pub mod EntriesAsRead
 pub mod FailParts
 pub mod FieldsFail
 pub mod EntriesFail

@@ -6,44 +6,37 @@ use Rattle.sf_bytes.specs.Cursor.{Cursor}
 use Rattle.sf_model.specs.declared.machine.Arch.{Arch}
 use Rattle.eh_records.specs.declared.fault.RecordFault.{RecordFault}
 use Rattle.eh_records.specs.declared.fault.RecordFault.TheVariants.{CieVersion}
-use Rattle.eh_records.specs.Cie.{SharedView, CieView, cie_fields, cie_of, augmentation_at, numbers_at}
+use Rattle.eh_records.specs.Cie.{FullCieView, CieView, version_at, return_address_register_at, augmentation_at, cie_of}
 use Rattle.eh_records.specs.Augmentation.{letters_at}
 use Rattle.eh_records.specs.RawRecord.{RawRecordView, raw_record_at, named_place}
 use Rattle.eh_records.specs.Fde.{FdeView, fde_of, cie_in, cie_at_place}
 use Rattle.eh_records.specs.Named.{HasNamed, cie_if_read, standing_cie}
-use Rattle.eh_records.specs.Section.{EntryView, Common, Frame, Cutting, frames, entry_here, entry_before, entries_before}
-use Rattle.eh_records.specs.Step.{◌>>=◌, number_field}
+use Rattle.eh_records.specs.Section.{EntryView, Common, Frame, SplitRecord, frames, entry_here, entry_before, entries_before}
+use Rattle.eh_records.specs.Step.{◌>>=◌, uleb_field, sleb_field}
 use Rattle.eh_records.proofs.Keys.{same_cie}
-use Rattle.eh_records.proofs.RawRecords.{through, ok_same, cut_is}
+use Rattle.eh_records.proofs.RawRecords.{through, ok_same, split_is}
 
 -- ---- an entry has the place at which it was read
-fields_place : (arch : Arch) (place version : ℕ) (at : Cursor) (shared : SharedView) → cie_fields arch place version at ≡ Ok shared → shared.cie.place ≡ place
-unfolding cie_fields
-fields_place arch place version at shared e =
-    let t = through (letters_at arch at) _ shared e in
-    let u = through (numbers_at version t.first.1) _ shared t.rest in
-    let v = through (augmentation_at t.first.0 u.first.1) _ shared u.rest in
-    sym (ap (λ (s : SharedView). s.cie.place) (ok_same _ shared v.rest))
-
-version_place : (arch : Arch) (p : RawRecordView) (version : ℕ × Cursor) (shared : SharedView) (b : Bool) → cond b (cie_fields arch p.place version.0 version.1) (Err (CieVersion p.body.place)) ≡ Ok shared → shared.cie.place ≡ p.place
-version_place arch p version shared true e = fields_place arch p.place version.0 version.1 shared e
-version_place arch p version shared false e = absurd cc
-
-cie_place : (arch : Arch) (p : RawRecordView) (shared : SharedView) → cie_of arch p ≡ Ok shared → shared.cie.place ≡ p.place
+cie_place : (arch : Arch) (p : RawRecordView) (full : FullCieView) → cie_of arch p ≡ Ok full → full.cie.place ≡ p.place
 unfolding cie_of
-cie_place arch p shared e =
-    let t = through (number_field 1 p.body) _ shared e in
-    version_place arch p t.first shared ((t.first.0 == 1) || (t.first.0 == 3)) t.rest
+cie_place arch p full e =
+    let version = through (version_at p.body) _ full e in
+    let letters = through (letters_at arch version.first.1) _ full version.rest in
+    let code = through (uleb_field letters.first.1) _ full letters.rest in
+    let factor = through (sleb_field code.first.1) _ full code.rest in
+    let register = through (return_address_register_at version.first.0 factor.first.1) _ full factor.rest in
+    let augmentation = through (augmentation_at letters.first.0 register.first.1) _ full register.rest in
+    sym (ap (λ (s : FullCieView). s.cie.place) (ok_same _ full augmentation.rest))
 
-found_place : (arch : Arch) (at : Cursor) (found : Option (RawRecordView × Cursor)) (shared : SharedView) → raw_record_at at ≡ Ok found → cie_in arch at.place found ≡ Ok shared → shared.cie.place ≡ at.place
-found_place arch at None shared h e = absurd cc
-found_place arch at (Some p) shared h e = cie_place arch p.0 shared e ∙ ap (λ (q : RawRecordView). q.place) (cut_is at p.0 p.1 h).raw_record_view
+found_place : (arch : Arch) (at : Cursor) (found : Option (RawRecordView × Cursor)) (full : FullCieView) → raw_record_at at ≡ Ok found → cie_in arch at.place found ≡ Ok full → full.cie.place ≡ at.place
+found_place arch at None full h e = absurd cc
+found_place arch at (Some p) full h e = cie_place arch p.0 full e ∙ ap (λ (q : RawRecordView). q.place) (split_is at p.0 p.1 h).raw_record_view
 
-read_place : (arch : Arch) (section : List ℕ) (place : ℕ) (shared : SharedView) → cie_at_place arch section place ≡ Ok shared → shared.cie.place ≡ place
+read_place : (arch : Arch) (section : List ℕ) (place : ℕ) (full : FullCieView) → cie_at_place arch section place ≡ Ok full → full.cie.place ≡ place
 unfolding cie_at_place
-read_place arch section place shared e =
-    let t = through (raw_record_at (record { place = place; left = drop place section })) _ shared e in
-    found_place arch (record { place = place; left = drop place section }) t.first shared t.read t.rest
+read_place arch section place full e =
+    let t = through (raw_record_at (record { place = place; left = drop place section })) _ full e in
+    found_place arch (record { place = place; left = drop place section }) t.first full t.read t.rest
 
 -- ---- a frame description entry
 frame_named : (arch : Arch) (section : List ℕ) (p : RawRecordView) (f : FdeView) → fde_of arch section p ≡ Ok f → HasNamed arch section f
@@ -79,7 +72,7 @@ before_named arch section (Ok (Common c)) es h rest = rest
 before_named arch section (Ok (Frame f)) es h rest = All-cons (HasNamed arch section) f (frames es) (h (Frame f) refl) rest
 before_named arch section (Err e) es h rest = All-nil (HasNamed arch section)
 
-pub all_named : (arch : Arch) (section : List ℕ) (xs : List Cutting) → All (HasNamed arch section) (frames (entries_before arch section xs))
+pub all_named : (arch : Arch) (section : List ℕ) (xs : List SplitRecord) → All (HasNamed arch section) (frames (entries_before arch section xs))
 unfolding entries_before
 all_named arch section [] = All-nil (HasNamed arch section)
 all_named arch section (Err e ∷ others) = All-nil (HasNamed arch section)

@@ -4,11 +4,11 @@ use Rattle.sf_bytes.specs.Cursor.{Cursor}
 use Rattle.sf_model.specs.declared.machine.Arch.{Arch}
 use Rattle.eh_records.specs.declared.fault.RecordFault.{RecordFault}
 use Rattle.eh_records.specs.declared.fault.RecordFault.TheVariants.{Short, Extended, CieVersion, Augmentation, Encoding, CiePointer, Leb}
-use Rattle.eh_records.specs.Cie.{SharedView}
+use Rattle.eh_records.specs.Cie.{FullCieView}
 use Rattle.eh_records.specs.RawRecord.{RawRecordView}
-use Rattle.eh_records.specs.Cutting.{start, with_common}
-use Rattle.eh_records.specs.Refused.{Lacks, IsLebFault, CutFails, DataFails, StringFails, FormFails, PassedFails, PersonalityFails, SayingFails, SayingsFail, AugmentationFails, CieFails, no_version, other_version, no_string, no_code, no_factor, no_column, no_data, FrameDataFails, FdeFails, FrameFails, FailsFrom, IsRefused, IsOfRecords}
-use Rattle.eh_records.proofs.FailParts.{ColumnFails, EntryFails}
+use Rattle.eh_records.specs.Records.{start, with_cie}
+use Rattle.eh_records.specs.Refused.{Lacks, IsLebFault, RecordFails, DataFails, StringFails, FormFails, PassedFails, PersonalityFails, LetterFails, LettersFail, AugmentationFails, CieFails, no_version, other_version, no_string, no_code_alignment_factor, no_data_alignment_factor, no_return_address_register, no_data, FrameDataFails, FdeFails, FrameFails, FailsFrom, IsRefused, IsOfRecords}
+use Rattle.eh_records.proofs.FailParts.{ReturnAddressRegisterFails, EntryFails}
 use Rattle.eh_records.specs.Fields.{PointerStands}
 use Rattle.eh_records.specs.Section.{EntryView}
 use Rattle.eh_records.specs.Step.{PointerField}
@@ -50,65 +50,65 @@ of_form : (at : Cursor) (e : RecordFault) → FormFails at e → IsOfRecords e
 of_form at e (inl h) = of_lack 1 at e h
 of_form at e (inr h) = is (Encoding at.place) e tt h.4
 
-of_saying : (letter : ℕ) (at : Cursor) (e : RecordFault) → SayingFails letter at e → IsOfRecords e
-of_saying letter at e (inl h) = of_form at e h.1
-of_saying letter at e (inr (inl h)) = of_personality at e h.1
-of_saying letter at e (inr (inr h)) = of_lack 1 at e h.1
+of_letter_value : (letter : ℕ) (at : Cursor) (e : RecordFault) → LetterFails letter at e → IsOfRecords e
+of_letter_value letter at e (inl h) = of_form at e h.1
+of_letter_value letter at e (inr (inl h)) = of_personality at e h.1
+of_letter_value letter at e (inr (inr h)) = of_lack 1 at e h.1
 
-of_sayings : (letters : List ℕ) (at : Cursor) (e : RecordFault) → SayingsFail letters at e → IsOfRecords e
-of_sayings [] at e h = absurd h
-of_sayings (b ∷ letters) at e (inl h) = of_saying b at e h
-of_sayings (b ∷ letters) at e (inr h) = of_sayings letters h.1 e h.3
+of_letter_values : (letters : List ℕ) (at : Cursor) (e : RecordFault) → LettersFail letters at e → IsOfRecords e
+of_letter_values [] at e h = absurd h
+of_letter_values (b ∷ letters) at e (inl h) = of_letter_value b at e h
+of_letter_values (b ∷ letters) at e (inr h) = of_letter_values letters h.1 e h.3
 
 of_augmentation : (letters : Option (List ℕ)) (at : Cursor) (e : RecordFault) → AugmentationFails letters at e → IsOfRecords e
 of_augmentation None at e h = absurd h
 of_augmentation (Some letters) at e (inl h) = of_data at e h
-of_augmentation (Some letters) at e (inr h) = of_sayings letters h.0 e h.3
+of_augmentation (Some letters) at e (inr h) = of_letter_values letters h.0 e h.3
 
-of_column : (version : ℕ) (at : Cursor) (e : RecordFault) → ColumnFails version at e → IsOfRecords e
-of_column version at e (inl h) = of_lack 1 at e h.1
-of_column version at e (inr h) = of_leb at e h.1.1
+of_register : (version : ℕ) (at : Cursor) (e : RecordFault) → ReturnAddressRegisterFails version at e → IsOfRecords e
+of_register version at e (inl h) = of_lack 1 at e h.1
+of_register version at e (inr h) = of_leb at e h.1.1
 
 of_cie : (arch : Arch) (p : RawRecordView) (e : RecordFault) → CieFails arch p e → IsOfRecords e
 of_cie arch p e (no_version h) = of_lack 1 p.body e h
 of_cie arch p e (other_version version a1 byte one three h) = is (CieVersion p.body.place) e tt h
 of_cie arch p e (no_string version a1 byte known h) = of_string arch a1 e h
-of_cie arch p e (no_code version letters a1 a2 byte known string h) = of_leb a2 e h.1
-of_cie arch p e (no_factor version code letters a1 a2 a3 byte known string c h) = of_leb a3 e h.1
-of_cie arch p e (no_column version code factor letters a1 a2 a3 a4 byte known string c f h) = of_column version a4 e h
-of_cie arch p e (no_data version code column factor letters a1 a2 a3 a4 a5 byte known string c f k h) = of_augmentation letters a5 e h
+of_cie arch p e (no_code_alignment_factor version letters a1 a2 byte known string h) = of_leb a2 e h.1
+of_cie arch p e (no_data_alignment_factor version code letters a1 a2 a3 byte known string c h) = of_leb a3 e h.1
+of_cie arch p e (no_return_address_register version code factor letters a1 a2 a3 a4 byte known string c f h) = of_register version a4 e h
+of_cie arch p e (no_data version code register factor letters a1 a2 a3 a4 a5 byte known string c f k h) = of_augmentation letters a5 e h
 
 of_frame_data : (augmented : Bool) (at : Cursor) (e : RecordFault) → FrameDataFails augmented at e → IsOfRecords e
 of_frame_data true at e h = of_data at e h
 of_frame_data false at e h = absurd h
 
-of_range : (shared : SharedView) (at : Cursor) (e : RecordFault) → Lacks shared.width at e ⊎ ((range : PointerField) × (after : Cursor) × PointerStands shared.width range at after × FrameDataFails shared.augmented after e) → IsOfRecords e
-of_range shared at e (inl h) = of_lack shared.width at e h
-of_range shared at e (inr h) = of_frame_data shared.augmented h.1 e h.3
+of_range : (full : FullCieView) (at : Cursor) (e : RecordFault) → Lacks full.width at e ⊎ ((range : PointerField) × (after : Cursor) × PointerStands full.width range at after × FrameDataFails full.augmented after e) → IsOfRecords e
+of_range full at e (inl h) = of_lack full.width at e h
+of_range full at e (inr h) = of_frame_data full.augmented h.1 e h.3
 
-of_fde : (shared : SharedView) (p : RawRecordView) (e : RecordFault) → FdeFails shared p e → IsOfRecords e
-of_fde shared p e (inl h) = of_lack shared.width p.body e h
-of_fde shared p e (inr h) = of_range shared h.1 e h.3
+of_fde : (full : FullCieView) (p : RawRecordView) (e : RecordFault) → FdeFails full p e → IsOfRecords e
+of_fde full p e (inl h) = of_lack full.width p.body e h
+of_fde full p e (inr h) = of_range full h.1 e h.3
 
-of_frame : (before : List SharedView) (p : RawRecordView) (e : RecordFault) → FrameFails before p e → IsOfRecords e
+of_frame : (before : List FullCieView) (p : RawRecordView) (e : RecordFault) → FrameFails before p e → IsOfRecords e
 of_frame before p e (inl h) = is (CiePointer p.id_place) e tt h.1
 of_frame before p e (inr h) = of_fde h.0 p e h.3
 
-of_entry : (arch : Arch) (before : List SharedView) (p : RawRecordView) (e : RecordFault) → EntryFails arch before p e → IsOfRecords e
+of_entry : (arch : Arch) (before : List FullCieView) (p : RawRecordView) (e : RecordFault) → EntryFails arch before p e → IsOfRecords e
 of_entry arch before p e (inl h) = of_cie arch p e h.1
 of_entry arch before p e (inr h) = of_frame before p e h.1
 
-of_cut : (at : Cursor) (e : RecordFault) → CutFails at e → IsOfRecords e
-of_cut at e (more, inl h) = of_lack 4 at e h
-of_cut at e (more, inr (within, inl h)) = is (Extended at.place) e tt h.1
-of_cut at e (more, inr (within, inr h)) = is (Short at.place) e tt h.3
+of_split : (at : Cursor) (e : RecordFault) → RecordFails at e → IsOfRecords e
+of_split at e (more, inl h) = of_lack 4 at e h
+of_split at e (more, inr (within, inl h)) = is (Extended at.place) e tt h.1
+of_split at e (more, inr (within, inr h)) = is (Short at.place) e tt h.3
 
-of_from : (arch : Arch) (before : List SharedView) (ps : List RawRecordView) (vs : List EntryView) (at : Cursor) (e : RecordFault) → FailsFrom arch before ps vs at e → IsOfRecords e
-of_from arch before [] [] at e (inl h) = of_cut at e h
+of_from : (arch : Arch) (before : List FullCieView) (ps : List RawRecordView) (vs : List EntryView) (at : Cursor) (e : RecordFault) → FailsFrom arch before ps vs at e → IsOfRecords e
+of_from arch before [] [] at e (inl h) = of_split at e h
 of_from arch before [] [] at e (inr h) = of_entry arch before h.0 e h.3
 of_from arch before [] (v ∷ vs) at e h = absurd h
 of_from arch before (p ∷ ps) [] at e h = absurd h
-of_from arch before (p ∷ ps) (v ∷ vs) at e h = of_from arch (with_common before v) ps vs h.0 e h.3
+of_from arch before (p ∷ ps) (v ∷ vs) at e h = of_from arch (with_cie before v) ps vs h.0 e h.3
 
 pub of_records : (arch : Arch) (section : List ℕ) (e : RecordFault) → IsRefused arch section e → IsOfRecords e
 of_records arch section e h = of_from arch [] h.0 h.1 (start section) e h.2

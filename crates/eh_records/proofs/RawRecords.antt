@@ -9,7 +9,7 @@ use Rattle.sf_bytes.specs.declared.fault.ByteFault.TheVariants as byte_faults
 use Rattle.sf_bytes.specs.Cursor.{Cursor, Read, past, number_at, part_at}
 use Rattle.eh_records.specs.declared.fault.RecordFault.{RecordFault}
 use Rattle.eh_records.specs.declared.fault.RecordFault.TheVariants.{Short, Extended}
-use Rattle.eh_records.specs.Cutting.{Stands, EndsWithZero}
+use Rattle.eh_records.specs.Records.{Stands, EndsWithZero}
 use Rattle.eh_records.specs.RawRecord.{RawRecordView, raw_record_at, record_of_length, whole, of_length}
 use Rattle.eh_records.specs.Step.{Step, ◌>>=◌, at_field, number_field, part_field}
 
@@ -22,6 +22,13 @@ pub record Through {A B : Type 0} (r : Result A RecordFault) (f : A → Result B
 pub through : {A B : Type 0} (r : Result A RecordFault) (f : A → Result B RecordFault) (b : B) → (r >>= f) ≡ Ok b → Through r f b
 through (Ok a) f b e = record { first = a; read = refl; rest = e }
 through (Err x) f b e = absurd cc
+
+-- a step that gives a value, and one that fails, with what follows it
+pub then_is : {A B : Type 0} (r : Result A RecordFault) (f : A → Result B RecordFault) (x : A) (y : Result B RecordFault) → r ≡ Ok x → f x ≡ y → (r >>= f) ≡ y
+then_is {A = A} r f x y read rest = ap (λ (s : Result A RecordFault). s >>= f) read ∙ rest
+
+pub then_fails : {A B : Type 0} (r : Result A RecordFault) (f : A → Result B RecordFault) (e : RecordFault) → r ≡ Err e → (r >>= f) ≡ Err e
+then_fails {A = A} r f e h = ap (λ (s : Result A RecordFault). s >>= f) h
 
 abbrev ok : {X : Type 0} → X → Result X RecordFault
 ok x = Ok x
@@ -56,8 +63,8 @@ whole_is place (Ok y) x e = e
 whole_is place (Err f) x e = absurd cc
 
 -- the record of this length
-abbrev pub piece_there_is : ℕ → Cursor → RawRecordView
-piece_there_is len at = record {
+abbrev pub record_there_is : ℕ → Cursor → RawRecordView
+record_there_is len at = record {
   place = at.place;
   id_place = at.place + 4;
   id = little_number 4 (take 4 (take len (drop 4 at.left)));
@@ -82,7 +89,7 @@ built len at p after body after1 id rest word short enough four r1 r2 ep ea =
     let id_is : id ≡ little_number 4 (take 4 body.left) = r2.value in
     let place : at.place + 4 + 4 ≡ at.place + 8 = omega arith in
     let after_is : after1 ≡ past len (past 4 at) = r1.after in
-    let all : (record { place = at.place; id_place = body.place; id = id; body = rest }) ≡ piece_there_is len at =
+    let all : (record { place = at.place; id_place = body.place; id = id; body = rest }) ≡ record_there_is len at =
     ap (λ (n : ℕ). record { place = at.place; id_place = body.place; id = n; body = rest }) id_is
     ∙ ap (λ (c : Cursor). record { place = at.place; id_place = body.place; id = little_number 4 (take 4 body.left); body = c }) rest_is
     ∙ ap (λ (c : Cursor). record { place = at.place; id_place = c.place; id = little_number 4 (take 4 c.left); body = past 4 c }) body_is
@@ -97,9 +104,9 @@ built len at p after body after1 id rest word short enough four r1 r2 ep ea =
       behind = sym ea ∙ after_is ∙ past-past 4 len at;
     }
 
-record_cut : (len : ℕ) (at at1 : Cursor) (x : RawRecordView × Cursor) → little_number 4 (take 4 at.left) ≡ len → (len ≡ 4294967295 → ⊥) → 4 ≤ len → 4 ≤ length at.left → at1 ≡ past 4 at → record_of_length at.place len at1 ≡ Ok x → Stands at x.0 x.1
+record_split : (len : ℕ) (at at1 : Cursor) (x : RawRecordView × Cursor) → little_number 4 (take 4 at.left) ≡ len → (len ≡ 4294967295 → ⊥) → 4 ≤ len → 4 ≤ length at.left → at1 ≡ past 4 at → record_of_length at.place len at1 ≡ Ok x → Stands at x.0 x.1
 unfolding record_of_length
-record_cut len at at1 x word short enough four e1 e =
+record_split len at at1 x word short enough four e1 e =
     let s1 = through (whole at.place (part_field len at1)) _ x e in
     let p1 = part_read len at1 s1.first (whole_is at.place (part_field len at1) s1.first s1.read) in
     let s2 = through (number_field 4 s1.first.0) _ x s1.rest in
@@ -115,7 +122,7 @@ FrontIs at (Ok None) = (at.left ≡ []) ⊎ EndsWithZero at
 FrontIs at (Err e) = Unit {0}
 
 front_some : (len : ℕ) (at at1 : Cursor) → little_number 4 (take 4 at.left) ≡ len → (len ≡ 4294967295 → ⊥) → 4 ≤ len → 4 ≤ length at.left → at1 ≡ past 4 at → (r : Step RawRecordView) → record_of_length at.place len at1 ≡ r → FrontIs at (r >>= λ p. Ok (Some p))
-front_some len at at1 word short enough four e1 (Ok x) e = record_cut len at at1 x word short enough four e1 e
+front_some len at at1 word short enough four e1 (Ok x) e = record_split len at at1 x word short enough four e1 e
 front_some len at at1 word short enough four e1 (Err f) e = tt
 
 front_sized : (len : ℕ) (at at1 : Cursor) → little_number 4 (take 4 at.left) ≡ len → 4 ≤ length at.left → at1 ≡ past 4 at → (a b c : Bool) → (len == 0) ≡ a → (len == 4294967295) ≡ b → nat_lt len 4 ≡ c
@@ -144,8 +151,8 @@ pub front_is : (at : Cursor) → FrontIs at (raw_record_at at)
 unfolding raw_record_at
 front_is at = front_if at (length at.left == 0) refl
 
-pub cut_is : (at : Cursor) (p : RawRecordView) (after : Cursor) → raw_record_at at ≡ Ok (Some (p, after)) → Stands at p after
-cut_is at p after e = subst (FrontIs at) e (front_is at)
+pub split_is : (at : Cursor) (p : RawRecordView) (after : Cursor) → raw_record_at at ≡ Ok (Some (p, after)) → Stands at p after
+split_is at p after e = subst (FrontIs at) e (front_is at)
 
 pub end_is : (at : Cursor) → raw_record_at at ≡ Ok None → (at.left ≡ []) ⊎ EndsWithZero at
 end_is at e = subst (FrontIs at) e (front_is at)

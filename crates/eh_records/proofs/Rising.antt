@@ -9,14 +9,14 @@ use Rattle.sf_bytes.proofs.Fields.{past-passes}
 use Rattle.sf_bytes.proofs.Inside.{end_of}
 use Rattle.sf_model.specs.declared.machine.Arch.{Arch}
 use Rattle.eh_records.specs.RawRecord.{RawRecordView}
-use Rattle.eh_records.specs.Cutting.{Stands, AreCut, start}
+use Rattle.eh_records.specs.Records.{Stands, AreRecords, start}
 use Rattle.eh_records.specs.Raw.{HoldsRaw, HoldRaw, StandApart}
-use Rattle.eh_records.specs.Section.{EntryView, cuts_of, with_place, entry_fields, pointer_fields, entries_of, entries_before}
+use Rattle.eh_records.specs.Section.{EntryView, records_of, with_place, entry_fields, pointer_fields, entries_of, entries_before}
 use Rattle.eh_records.specs.Step.{PointerField}
 use Rattle.eh_records.proofs.FieldsInOrder.{Between, LieIn, AreRawIn, lower, not_above, both_between, both_raw, lie_wider, none_lies, stand_apart}
 use Rattle.eh_records.proofs.Entries.{given_entries}
 use Rattle.eh_records.proofs.Faults.{here, read_again}
-use Rattle.eh_records.proofs.Given.{AreGiven}
+use Rattle.eh_records.proofs.EntriesAsRead.{AreGiven}
 use Rattle.eh_records.proofs.FieldsInRecord.{entry_lies}
 use Rattle.eh_records.proofs.Parts.{IsPart, part-part, rest-part, run-part}
 
@@ -71,10 +71,10 @@ then_lie at p after fs gs s h k = record {
   raw = both_raw at fs gs (lie_wider p.body at fs (body_part at p after s) h).raw (lie_wider after at gs (after_part at p after s) k).raw;
 }
 
-all_lie : (arch : Arch) (section cies : List ℕ) (ps : List RawRecordView) (es : List EntryView) (at : Cursor) → AreCut ps at → AreGiven arch section cies ps es → LieIn at (pointer_fields es)
-all_lie arch section cies [] [] at cut read = none_lies at
-all_lie arch section cies [] (e ∷ es) at cut read = absurd read
-all_lie arch section cies (p ∷ ps) [] at cut read = absurd read
+all_lie : (arch : Arch) (section cies : List ℕ) (ps : List RawRecordView) (es : List EntryView) (at : Cursor) → AreRecords ps at → AreGiven arch section cies ps es → LieIn at (pointer_fields es)
+all_lie arch section cies [] [] at raw read = none_lies at
+all_lie arch section cies [] (e ∷ es) at raw read = absurd read
+all_lie arch section cies (p ∷ ps) [] at raw read = absurd read
 all_lie arch section cies (p ∷ ps) (e ∷ es) at (after, stands, rest) read =
     then_lie at p after (entry_fields e) (pointer_fields es) stands
     (entry_lies arch section p e (here arch section cies p e read.0))
@@ -83,14 +83,14 @@ all_lie arch section cies (p ∷ ps) (e ∷ es) at (after, stands, rest) read =
 fields_lie : (arch : Arch) (section : List ℕ) (es : List EntryView) → entries_of arch section ≡ Ok es → LieIn (start section) (pointer_fields es)
 fields_lie arch section es whole =
     let e = given_entries arch section es whole in
-    all_lie arch section [] e.records es (start section) e.cut e.given
+    all_lie arch section [] e.records es (start section) e.raw e.given
 
 -- once no entry is left, what was listed are all fields, so they lie in the section
 pub listed_lie : (arch : Arch) (section : List ℕ) (fs : List PointerField) (left : List EntryView) → is_ok (entries_of arch section) ≡ true
-    → fs ++ pointer_fields left ≡ pointer_fields (entries_before arch section (cuts_of section)) → left ≡ [] → LieIn (start section) fs
+    → fs ++ pointer_fields left ≡ pointer_fields (entries_before arch section (records_of section)) → left ≡ [] → LieIn (start section) fs
 listed_lie arch section fs left whole h none =
-    let all : fs ≡ pointer_fields (entries_before arch section (cuts_of section)) = sym (append-nil fs) ∙ ap (λ (es : List EntryView). fs ++ pointer_fields es) (sym none) ∙ h in
-    rw all (fields_lie arch section (entries_before arch section (cuts_of section)) (read_again arch section whole))
+    let all : fs ≡ pointer_fields (entries_before arch section (records_of section)) = sym (append-nil fs) ∙ ap (λ (es : List EntryView). fs ++ pointer_fields es) (sym none) ∙ h in
+    rw all (fields_lie arch section (entries_before arch section (records_of section)) (read_again arch section whole))
 
 -- ---- the fields of a whole section
 raw_from : (section : List ℕ) (low : ℕ) (fs : List PointerField) → Between low (end_of (start section)) fs → AreRawIn (start section) fs → HoldRaw section fs

@@ -5,8 +5,7 @@ use Rattle.sf_bytes.specs.Cursor.{Cursor, cursor}
 use Rattle.sf_model.specs.declared.machine.Arch.{Arch}
 use Rattle.sf_model.specs.declared.machine.Key.{Key}
 use Rattle.eh_records.specs.declared.cie.Cie.{Cie}
-use Rattle.eh_records.specs.declared.cie.NumberFields.{NumberFields}
-use Rattle.eh_records.specs.declared.cie.CieWithForm.{CieWithForm}
+use Rattle.eh_records.specs.declared.cie.FullCie.{FullCie}
 use Rattle.eh_records.specs.declared.fault.RecordFault.{RecordFault}
 use Rattle.eh_records.specs.declared.fault.RecordFault.TheVariants.{CieVersion}
 use Rattle.eh_records.specs.Augmentation.{AugmentationView, plain_augmentation, letters_at, data_at, augmentation_by}
@@ -16,9 +15,9 @@ use Rattle.eh_records.specs.Step.{Step, ◌>>=◌, PointerField, pointer_view, n
 -- an entry, apart from where its bytes are in memory
 pub record CieView : Type 0 where
   pub place : ℕ
-  pub code : ℕ
-  pub factor : ℤ
-  pub column : ℕ
+  pub code_alignment_factor : ℕ
+  pub data_alignment_factor : ℤ
+  pub return_address_register : ℕ
   pub encoding : ℕ
   pub signal : Bool
   pub key : Key
@@ -27,41 +26,37 @@ pub record CieView : Type 0 where
 
 -- the view of an entry
 abbrev pub cie_view : Cie → CieView
-cie_view c = record { place = c.place; code = c.code; factor = c.factor; column = c.column; encoding = c.encoding; signal = c.signal; key = c.key; personality = option_map pointer_view c.personality; insns = cursor c.insns }
+cie_view c = record {
+  place = c.place;
+  code_alignment_factor = c.code_alignment_factor;
+  data_alignment_factor = c.data_alignment_factor;
+  return_address_register = c.return_address_register;
+  encoding = c.encoding;
+  signal = c.signal;
+  key = c.key;
+  personality = option_map pointer_view c.personality;
+  insns = cursor c.insns;
+}
 
 -- an entry with what only its frame description entries read
-pub record SharedView : Type 0 where
+pub record FullCieView : Type 0 where
   pub cie : CieView
   pub width : ℕ
   pub augmented : Bool
   pub lsda : Option ℕ
 
 -- the view of an entry with what only its frame description entries read
-abbrev pub shared_view : CieWithForm → SharedView
-shared_view s = record { cie = cie_view s.cie; width = s.width; augmented = s.augmented; lsda = s.lsda }
+abbrev pub full_cie_view : FullCie → FullCieView
+full_cie_view s = record { cie = cie_view s.cie; width = s.width; augmented = s.augmented; lsda = s.lsda }
 
--- the return address column: a byte in version 1 (LSB Core, "The .eh_frame section"), a LEB128 number in version 3
+-- the version at the front, which has to be 1 or 3
+unfoldable pub version_at : Cursor → Step ℕ
+version_at at = number_field 1 at >>= λ version. if (version.0 == 1) || (version.0 == 3) then Ok version else Err (CieVersion at.place)
+
+-- the return address register: a byte in version 1 (LSB Core, "The .eh_frame section"), a LEB128 number in version 3
 -- (DWARF 3, section 6.4.1)
-unfoldable pub column_at : ℕ → Cursor → Step ℕ
-column_at version at = if version == 1 then number_field 1 at else uleb_field at
-
--- the alignment factors and the return address column
-pub record Numbers : Type 0 where
-  pub code : ℕ
-  pub factor : ℤ
-  pub column : ℕ
-
--- the view of these numbers
-abbrev pub numbers_view : NumberFields → Numbers
-numbers_view n = record { code = n.code; factor = n.factor; column = n.column }
-
--- the alignment factors and the return address column at the front
-unfoldable pub numbers_at : ℕ → Cursor → Step Numbers
-numbers_at version at = do
-  code ← uleb_field at
-  factor ← sleb_field code.1
-  column ← column_at version factor.1
-  Ok (record { code = code.0; factor = factor.0; column = column.0 }, column.1)
+unfoldable pub return_address_register_at : ℕ → Cursor → Step ℕ
+return_address_register_at version at = if version == 1 then number_field 1 at else uleb_field at
 
 -- the augmentation that was read from the data, and the cursor after the data
 abbrev pub passed_data : Cursor → Result AugmentationView RecordFault → Step AugmentationView
@@ -77,23 +72,38 @@ augmentation_in (Some letters) at = data_at at >>= λ inner. passed_data inner.1
 unfoldable pub augmentation_at : Option (List ℕ) → Cursor → Step AugmentationView
 augmentation_at letters at = augmentation_in letters at
 
+-- the numbers before the augmentation data
+pub record Numbers : Type 0 where
+  pub code_alignment_factor : ℕ
+  pub data_alignment_factor : ℤ
+  pub return_address_register : ℕ
+
 -- an entry from its fields
-abbrev pub cie_with_form : ℕ → Numbers → Bool → AugmentationView → Cursor → SharedView
-cie_with_form place numbers augmented augmentation insns = record {
-  cie = record { place = place; code = numbers.code; factor = numbers.factor; column = numbers.column; encoding = augmentation.pointers.encoding; signal = augmentation.signal; key = augmentation.key; personality = augmentation.personality; insns = insns };
+abbrev pub full_cie : ℕ → Numbers → Bool → AugmentationView → Cursor → FullCieView
+full_cie place numbers augmented augmentation insns = record {
+  cie = record {
+    place = place;
+    code_alignment_factor = numbers.code_alignment_factor;
+    data_alignment_factor = numbers.data_alignment_factor;
+    return_address_register = numbers.return_address_register;
+    encoding = augmentation.pointers.encoding;
+    signal = augmentation.signal;
+    key = augmentation.key;
+    personality = augmentation.personality;
+    insns = insns;
+  };
   width = augmentation.pointers.width;
   augmented = augmented;
   lsda = augmentation.lsda;
 }
 
--- the fields after the version, from left to right
-unfoldable pub cie_fields : Arch → ℕ → ℕ → Cursor → Result SharedView RecordFault
-cie_fields arch place version at = do
-  letters ← letters_at arch at
-  numbers ← numbers_at version letters.1
-  augmentation ← augmentation_at letters.0 numbers.1
-  Ok (cie_with_form place numbers.0 (is_some letters.0) augmentation.0 augmentation.1)
-
--- the entry of a record
-unfoldable pub cie_of : Arch → RawRecordView → Result SharedView RecordFault
-cie_of arch p = number_field 1 p.body >>= λ version. if (version.0 == 1) || (version.0 == 3) then cie_fields arch p.place version.0 version.1 else Err (CieVersion p.body.place)
+-- the entry of a record, field by field; the initial instructions are the rest of the record
+unfoldable pub cie_of : Arch → RawRecordView → Result FullCieView RecordFault
+cie_of arch p = do
+  version ← version_at p.body
+  letters ← letters_at arch version.1
+  code ← uleb_field letters.1
+  data_ ← sleb_field code.1
+  register ← return_address_register_at version.0 data_.1
+  augmentation ← augmentation_at letters.0 register.1
+  Ok (full_cie p.place (record { code_alignment_factor = code.0; data_alignment_factor = data_.0; return_address_register = register.0 }) (is_some letters.0) augmentation.0 augmentation.1)

@@ -8,7 +8,7 @@ use Rattle.eh_records.specs.declared.fde.Fde.{Fde}
 use Rattle.eh_records.specs.declared.fault.RecordFault.{RecordFault}
 use Rattle.eh_records.specs.declared.fault.RecordFault.TheVariants.{CiePointer}
 use Rattle.eh_records.specs.Augmentation.{data_at}
-use Rattle.eh_records.specs.Cie.{CieView, cie_view, SharedView, cie_of}
+use Rattle.eh_records.specs.Cie.{CieView, cie_view, FullCieView, cie_of}
 use Rattle.eh_records.specs.RawRecord.{RawRecordView, raw_record_at, named_place}
 use Rattle.eh_records.specs.Step.{Step, ◌>>=◌, PointerField, pointer_view, pointer_field}
 
@@ -41,26 +41,26 @@ lsda_in None at = None
 lsda_in (Some encoding) at = lsda_of_width (pointer_width encoding) at
 
 -- the pointer to a language-specific data area, and the instructions after the augmentation data
-unfoldable pub lsda_at : SharedView → Cursor → Step (Option PointerField)
-lsda_at shared at = if shared.augmented then (data_at at >>= λ inner. Ok (lsda_in shared.lsda inner.0, inner.1)) else Ok (None, at)
+unfoldable pub lsda_at : FullCieView → Cursor → Step (Option PointerField)
+lsda_at full at = if full.augmented then (data_at at >>= λ inner. Ok (lsda_in full.lsda inner.0, inner.1)) else Ok (None, at)
 
 -- the entry of a record whose common information entry is known
-unfoldable pub entry_of : SharedView → RawRecordView → Result FdeView RecordFault
-entry_of shared p = do
-  begin ← pointer_field shared.width p.body
-  range ← pointer_field shared.width begin.1
-  lsda ← lsda_at shared range.1
-  Ok (record { place = p.place; cie = shared.cie; begin = begin.0; range = range.0; lsda = lsda.0; insns = lsda.1 })
+unfoldable pub entry_of : FullCieView → RawRecordView → Result FdeView RecordFault
+entry_of full p = do
+  begin ← pointer_field full.width p.body
+  range ← pointer_field full.width begin.1
+  lsda ← lsda_at full range.1
+  Ok (record { place = p.place; cie = full.cie; begin = begin.0; range = range.0; lsda = lsda.0; insns = lsda.1 })
 
 -- the common information entry of the record that was read at a place, or `CiePointer` if there is none
-abbrev pub cie_in : Arch → ℕ → Option (RawRecordView × Cursor) → Result SharedView RecordFault
+abbrev pub cie_in : Arch → ℕ → Option (RawRecordView × Cursor) → Result FullCieView RecordFault
 cie_in arch place None = Err (CiePointer place)
 cie_in arch place (Some p) = cie_of arch p.0
 
 -- the common information entry at a place of the section
-unfoldable pub cie_at_place : Arch → List ℕ → ℕ → Result SharedView RecordFault
+unfoldable pub cie_at_place : Arch → List ℕ → ℕ → Result FullCieView RecordFault
 cie_at_place arch section place = raw_record_at (record { place = place; left = drop place section }) >>= cie_in arch place
 
 -- the entry of a record of a section
 unfoldable pub fde_of : Arch → List ℕ → RawRecordView → Result FdeView RecordFault
-fde_of arch section p = named_place p >>= λ place. cie_at_place arch section place >>= λ shared. entry_of shared p
+fde_of arch section p = named_place p >>= λ place. cie_at_place arch section place >>= λ full. entry_of full p

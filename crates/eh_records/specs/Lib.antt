@@ -1,12 +1,12 @@
 pub mod Augmentation
 pub mod Cie
 pub mod RawRecord
-pub mod Cutting
+pub mod Records
 pub mod Entry
 pub mod Fde
 pub mod Fields
 pub mod Iter
-pub mod Kept
+pub mod LastCie
 pub mod Named
 pub mod Places
 pub mod Raw

@@ -5,14 +5,14 @@ use Rattle.std.specs.Prelude.{All, ◌≡◌, ℕ, List, Option, Some, None, Res
 use Rattle.sf_model.specs.declared.machine.Arch.{Arch}
 use Rattle.eh_records.specs.declared.fault.RecordFault.{RecordFault}
 use Rattle.eh_records.specs.declared.records.Records.{Records}
-use Rattle.eh_records.specs.Cie.{CieView, SharedView}
+use Rattle.eh_records.specs.Cie.{CieView, FullCieView}
 use Rattle.eh_records.specs.Fde.{FdeView, cie_at_place}
 use Rattle.eh_records.specs.Section.{frames}
 use Rattle.eh_records.specs.View.{arch_of, bytes_of, entries}
 
 -- a common information entry, if it was read
-abbrev pub cie_if_read : Result SharedView RecordFault → Option CieView
-cie_if_read (Ok shared) = Some shared.cie
+abbrev pub cie_if_read : Result FullCieView RecordFault → Option CieView
+cie_if_read (Ok full) = Some full.cie
 cie_if_read (Err e) = None
 
 -- the common information entry at a place of a section, if one can be read there

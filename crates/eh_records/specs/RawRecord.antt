@@ -2,7 +2,7 @@
 -- information entry, and the rest of the record.
 use Rattle.std.specs.Prelude.{◌≡◌, ℕ, ◌-◌, length, Option, Some, None, Result, Ok, Err, nat_lt, ◌==◌, if◌then◌else◌}
 use Rattle.sf_bytes.specs.Cursor.{Cursor}
-use Rattle.eh_records.specs.declared.cut.RawRecord.{RawRecord}
+use Rattle.eh_records.specs.declared.raw_record.RawRecord.{RawRecord}
 use Rattle.eh_records.specs.declared.reader.Reader.{Reader}
 use Rattle.eh_records.specs.declared.fault.RecordFault.{RecordFault}
 use Rattle.eh_records.specs.declared.fault.RecordFault.TheVariants.{Short, Extended, CiePointer}
@@ -17,7 +17,7 @@ pub record RawRecordView : Type 0 where
 
 -- the view of a record
 abbrev pub raw_record_view : RawRecord → RawRecordView
-raw_record_view cut = record { place = cut.place; id_place = cut.id_place; id = cut.id; body = reader_cursor cut.body }
+raw_record_view raw = record { place = raw.place; id_place = raw.id_place; id = raw.id; body = reader_cursor raw.body }
 
 -- a refused record carries its own place, whichever bytes it lacks
 abbrev pub whole : {X : Type 0} → ℕ → Step X → Step X
@@ -50,7 +50,7 @@ unfoldable pub named_place : RawRecordView → Result ℕ RecordFault
 named_place p = if nat_lt p.id_place p.id then Err (CiePointer p.id_place) else Ok (p.id_place - p.id)
 
 -- what a call returned is the record, and the reader is what is left
-abbrev pub CutAnswers : Reader → Result (Option RawRecord) RecordFault → Result (Option (RawRecordView × Cursor)) RecordFault → Type 0
-CutAnswers new (Ok None) read = read ≡ Ok None
-CutAnswers new (Ok (Some cut)) read = read ≡ Ok (Some (raw_record_view cut, reader_cursor new))
-CutAnswers new (Err e) read = read ≡ Err e
+abbrev pub RawRecordGives : Reader → Result (Option RawRecord) RecordFault → Result (Option (RawRecordView × Cursor)) RecordFault → Type 0
+RawRecordGives new (Ok None) read = read ≡ Ok None
+RawRecordGives new (Ok (Some raw)) read = read ≡ Ok (Some (raw_record_view raw, reader_cursor new))
+RawRecordGives new (Err e) read = read ≡ Err e

@@ -12,10 +12,10 @@ use Rattle.eh_pointer.specs.Pointer.{pointer_width, usable_width, format_of, abo
 use Rattle.eh_records.specs.declared.fault.RecordFault.{RecordFault}
 use Rattle.eh_records.specs.declared.fault.RecordFault.TheVariants.{Short, Extended, CieVersion, Augmentation, Encoding, CiePointer, Leb, Unresolved, FunctionEnd, NoMemory}
 use Rattle.eh_records.specs.Augmentation.{are_letters}
-use Rattle.eh_records.specs.Cie.{SharedView}
+use Rattle.eh_records.specs.Cie.{FullCieView}
 use Rattle.eh_records.specs.RawRecord.{RawRecordView}
-use Rattle.eh_records.specs.Cutting.{Stands, AreEntries, with_common, start}
-use Rattle.eh_records.specs.Fields.{PointerStands, StringStands, Saying, SayingStands, ColumnStands, DataStands, EntryStands}
+use Rattle.eh_records.specs.Records.{Stands, AreEntries, with_cie, start}
+use Rattle.eh_records.specs.Fields.{PointerStands, StringStands, LetterValue, LetterValueStands, ReturnAddressRegisterStands, DataStands, EntryStands}
 use Rattle.eh_records.specs.Section.{EntryView}
 use Rattle.eh_records.specs.Step.{PointerField}
 
@@ -48,8 +48,8 @@ LacksSleb at e = ((z : ℤ) (to : Cursor) → FieldStands Sleb z at to → ⊥) 
 -- ---- records
 -- the length word isn't all there, or it is that of the 64-bit form, less than the four bytes of the word after it, or more than
 -- what is left
-abbrev pub CutFails : Cursor → RecordFault → Type 0
-CutFails at e =
+abbrev pub RecordFails : Cursor → RecordFault → Type 0
+RecordFails at e =
     (at.left ≢ []) × (
     Lacks 4 at e
     ⊎ ((4 ≤ length at.left) × (
@@ -93,31 +93,31 @@ PersonalityFails at e =
     ⊎ ((above_format encoding % 8 ≢ 5) × PassedFails (pointer_width encoding) encoding at.place after e)))
 
 -- the part of a letter in the data isn't there
-abbrev pub SayingFails : (letter : ℕ) → Cursor → RecordFault → Type 0
-SayingFails letter at e = ((letter ≡ 82) × FormFails at e) ⊎ (((letter ≡ 80) × PersonalityFails at e) ⊎ ((letter ≡ 76) × Lacks 1 at e))
+abbrev pub LetterFails : (letter : ℕ) → Cursor → RecordFault → Type 0
+LetterFails letter at e = ((letter ≡ 82) × FormFails at e) ⊎ (((letter ≡ 80) × PersonalityFails at e) ⊎ ((letter ≡ 76) × Lacks 1 at e))
 
 -- the first letter whose part of the data isn't there
-abbrev pub SayingsFail : (letters : List ℕ) → Cursor → RecordFault → Type 0
-SayingsFail [] at e = ⊥
-SayingsFail (b ∷ letters) at e = SayingFails b at e ⊎ ((s : Saying) × (to : Cursor) × SayingStands b s at to × SayingsFail letters to e)
+abbrev pub LettersFail : (letters : List ℕ) → Cursor → RecordFault → Type 0
+LettersFail [] at e = ⊥
+LettersFail (b ∷ letters) at e = LetterFails b at e ⊎ ((s : LetterValue) × (to : Cursor) × LetterValueStands b s at to × LettersFail letters to e)
 
 -- the augmentation data isn't there, or a letter's part of it isn't
 abbrev pub AugmentationFails : Option (List ℕ) → Cursor → RecordFault → Type 0
 AugmentationFails None at e = ⊥
-AugmentationFails (Some letters) at e = DataFails at e ⊎ ((data_ : Cursor) × (to : Cursor) × DataStands data_ at to × SayingsFail letters data_ e)
+AugmentationFails (Some letters) at e = DataFails at e ⊎ ((data_ : Cursor) × (to : Cursor) × DataStands data_ at to × LettersFail letters data_ e)
 
--- the first of the fields that isn't there: version, augmentation string, code and data alignment factors, column, augmentation data
+-- the first of the fields that isn't there: version, augmentation string, code and data alignment factors, return address register, augmentation data
 pub data CieFails (arch : Arch) (p : RawRecordView) (e : RecordFault) : Type 0 where
   no_version : Lacks 1 p.body e → CieFails arch p e
   other_version : (version : ℕ) (after : Cursor) → FieldStands (Number 1) version p.body after → version ≢ 1 → version ≢ 3 → e ≡ CieVersion p.body.place → CieFails arch p e
   no_string : (version : ℕ) (a1 : Cursor) → FieldStands (Number 1) version p.body a1 → (version ≡ 1) ⊎ (version ≡ 3) → StringFails arch a1 e → CieFails arch p e
-  no_code : (version : ℕ) (letters : Option (List ℕ)) (a1 a2 : Cursor) → FieldStands (Number 1) version p.body a1 → (version ≡ 1) ⊎ (version ≡ 3) → StringStands arch letters a1 a2 → LacksUleb a2 e → CieFails arch p e
-  no_factor : (version code : ℕ) (letters : Option (List ℕ)) (a1 a2 a3 : Cursor) → FieldStands (Number 1) version p.body a1 → (version ≡ 1) ⊎ (version ≡ 3) → StringStands arch letters a1 a2 → FieldStands Uleb code a2 a3
+  no_code_alignment_factor : (version : ℕ) (letters : Option (List ℕ)) (a1 a2 : Cursor) → FieldStands (Number 1) version p.body a1 → (version ≡ 1) ⊎ (version ≡ 3) → StringStands arch letters a1 a2 → LacksUleb a2 e → CieFails arch p e
+  no_data_alignment_factor : (version code : ℕ) (letters : Option (List ℕ)) (a1 a2 a3 : Cursor) → FieldStands (Number 1) version p.body a1 → (version ≡ 1) ⊎ (version ≡ 3) → StringStands arch letters a1 a2 → FieldStands Uleb code a2 a3
       → LacksSleb a3 e → CieFails arch p e
-  no_column : (version code : ℕ) (factor : ℤ) (letters : Option (List ℕ)) (a1 a2 a3 a4 : Cursor) → FieldStands (Number 1) version p.body a1 → (version ≡ 1) ⊎ (version ≡ 3) → StringStands arch letters a1 a2
-      → FieldStands Uleb code a2 a3 → FieldStands Sleb factor a3 a4 → ((version ≡ 1) × Lacks 1 a4 e) ⊎ ((version ≡ 3) × LacksUleb a4 e) → CieFails arch p e
-  no_data : (version code column : ℕ) (factor : ℤ) (letters : Option (List ℕ)) (a1 a2 a3 a4 a5 : Cursor) → FieldStands (Number 1) version p.body a1 → (version ≡ 1) ⊎ (version ≡ 3) → StringStands arch letters a1 a2
-      → FieldStands Uleb code a2 a3 → FieldStands Sleb factor a3 a4 → ColumnStands version column a4 a5 → AugmentationFails letters a5 e → CieFails arch p e
+  no_return_address_register : (version code : ℕ) (data_ : ℤ) (letters : Option (List ℕ)) (a1 a2 a3 a4 : Cursor) → FieldStands (Number 1) version p.body a1 → (version ≡ 1) ⊎ (version ≡ 3) → StringStands arch letters a1 a2
+      → FieldStands Uleb code a2 a3 → FieldStands Sleb data_ a3 a4 → ((version ≡ 1) × Lacks 1 a4 e) ⊎ ((version ≡ 3) × LacksUleb a4 e) → CieFails arch p e
+  no_data : (version code register : ℕ) (data_ : ℤ) (letters : Option (List ℕ)) (a1 a2 a3 a4 a5 : Cursor) → FieldStands (Number 1) version p.body a1 → (version ≡ 1) ⊎ (version ≡ 3) → StringStands arch letters a1 a2
+      → FieldStands Uleb code a2 a3 → FieldStands Sleb data_ a3 a4 → ReturnAddressRegisterStands version register a4 a5 → AugmentationFails letters a5 e → CieFails arch p e
 
 -- ---- frame description entries
 -- the augmentation data isn't there, in an entry that has some
@@ -126,28 +126,28 @@ FrameDataFails true at e = DataFails at e
 FrameDataFails false at e = ⊥
 
 -- the first of the fields that isn't there: start, size, augmentation data
-abbrev pub FdeFails : SharedView → RawRecordView → RecordFault → Type 0
-FdeFails shared p e =
-    Lacks shared.width p.body e
-    ⊎ ((begin : PointerField) × (a1 : Cursor) × PointerStands shared.width begin p.body a1
-    × (Lacks shared.width a1 e
-    ⊎ ((range : PointerField) × (a2 : Cursor) × PointerStands shared.width range a1 a2 × FrameDataFails shared.augmented a2 e)))
+abbrev pub FdeFails : FullCieView → RawRecordView → RecordFault → Type 0
+FdeFails full p e =
+    Lacks full.width p.body e
+    ⊎ ((begin : PointerField) × (a1 : Cursor) × PointerStands full.width begin p.body a1
+    × (Lacks full.width a1 e
+    ⊎ ((range : PointerField) × (a2 : Cursor) × PointerStands full.width range a1 a2 × FrameDataFails full.augmented a2 e)))
 
 -- no common information entry before the record is at the place that it names, or a field isn't there
-abbrev pub FrameFails : (before : List SharedView) → RawRecordView → RecordFault → Type 0
+abbrev pub FrameFails : (before : List FullCieView) → RawRecordView → RecordFault → Type 0
 FrameFails before p e =
-    (((shared : SharedView) → Contains before shared → shared.cie.place + p.id ≢ p.id_place) × (e ≡ CiePointer p.id_place))
-    ⊎ ((shared : SharedView) × Contains before shared × (shared.cie.place + p.id ≡ p.id_place) × FdeFails shared p e)
+    (((full : FullCieView) → Contains before full → full.cie.place + p.id ≢ p.id_place) × (e ≡ CiePointer p.id_place))
+    ⊎ ((full : FullCieView) × Contains before full × (full.cie.place + p.id ≡ p.id_place) × FdeFails full p e)
 
 -- ---- sections
 -- Records and their entries from a cursor on, and then the fault of the next record: it isn't all there, or a field of its entry isn't. It
 -- is a common information entry if the word after the length is 0, else a frame description entry.
-abbrev pub FailsFrom : Arch → (before : List SharedView) → List RawRecordView → List EntryView → Cursor → RecordFault → Type 0
-FailsFrom arch before [] [] at e = CutFails at e ⊎ ((p : RawRecordView) × (after : Cursor) × Stands at p after
+abbrev pub FailsFrom : Arch → (before : List FullCieView) → List RawRecordView → List EntryView → Cursor → RecordFault → Type 0
+FailsFrom arch before [] [] at e = RecordFails at e ⊎ ((p : RawRecordView) × (after : Cursor) × Stands at p after
     × (((p.id ≡ 0) × CieFails arch p e) ⊎ ((p.id ≢ 0) × FrameFails before p e)))
 FailsFrom arch before [] (v ∷ vs) at e = ⊥
 FailsFrom arch before (p ∷ ps) [] at e = ⊥
-FailsFrom arch before (p ∷ ps) (v ∷ vs) at e = (after : Cursor) × Stands at p after × EntryStands arch before p v × FailsFrom arch (with_common before v) ps vs after e
+FailsFrom arch before (p ∷ ps) (v ∷ vs) at e = (after : Cursor) × Stands at p after × EntryStands arch before p v × FailsFrom arch (with_cie before v) ps vs after e
 
 -- the first fault of a section
 abbrev pub IsRefused : Arch → List ℕ → RecordFault → Type 0

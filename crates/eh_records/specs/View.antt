@@ -7,16 +7,16 @@ use Rattle.eh_records.specs.declared.fault.RecordFault.TheVariants.{NoMemory}
 use Rattle.eh_records.specs.declared.iter.FdeIter.{FdeIter}
 use Rattle.eh_records.specs.declared.records.Records.{Records}
 use Rattle.eh_records.specs.Fde.{FdeView}
-use Rattle.eh_records.specs.Section.{EntryView, cuts, cuts_of, entries_of, entries_before, frames}
+use Rattle.eh_records.specs.Section.{EntryView, records_from, records_of, entries_of, entries_before, frames}
 use Rattle.eh_records.specs.Step.{reader_cursor}
 
 -- the entries of a section that was parsed
 abbrev pub entries : Records → List EntryView
-entries r = entries_before r.arch r.bytes.now (cuts_of r.bytes.now)
+entries r = entries_before r.arch r.bytes.now (records_of r.bytes.now)
 
 -- the frame description entries that an iterator has left
 abbrev pub frames_left : FdeIter → List FdeView
-frames_left it = frames (entries_before it.arch it.section.now (cuts (reader_cursor it.rest)))
+frames_left it = frames (entries_before it.arch it.section.now (records_from (reader_cursor it.rest)))
 
 -- what parsing returned is what the section has: its entries or its first fault, unless memory ran out
 abbrev pub IsParsed : Arch → List ℕ → Result Records RecordFault → Type 0

@@ -2,16 +2,15 @@
 
 ghost use Rattle.std.specs.Prelude.{◌<◌, ◌^◌, ◌≡◌, Ok, OnSome, is_ok, length, true};
 ghost use Rattle.eh_records.specs.Fde.{fde_of};
-ghost use Rattle.eh_records.specs.Iter.{GivesCut, GivesFrameRecord, GivesRead};
-ghost use Rattle.eh_records.specs.Kept.{IsKeptEntry};
+ghost use Rattle.eh_records.specs.Iter.{GivesRawRecord, GivesFrameRecord, GivesRead};
+ghost use Rattle.eh_records.specs.LastCie.{IsLastCie};
 ghost use Rattle.eh_records.specs.RawRecord.{raw_record_at, raw_record_view};
-ghost use Rattle.eh_records.specs.Section.{are_read, cuts, cuts_of, entries_before, entries_of, frames};
+ghost use Rattle.eh_records.specs.Section.{are_read, records_from, records_of, entries_before, entries_of, frames};
 ghost use Rattle.eh_records.specs.Step.{reader_cursor};
 
-use crate::cut::{RawRecord, next_record};
 use crate::fde::Fde;
-use crate::frame::read_entry;
-use crate::kept::CommonAt;
+use crate::last_cie::LastCie;
+use crate::raw_record::{RawRecord, next_record};
 use crate::reader::Reader;
 use sf_model::Arch;
 
@@ -22,10 +21,10 @@ pub struct FdeIter<'a> {
     section: &'a [u8],
     arch: Arch,
     rest: Reader<'a>,
-    kept: Option<CommonAt<'a>>,
+    last: Option<LastCie<'a>>,
     ghost small: { length section.now < 2 ^ 32 },
-    ghost same: { IsKeptEntry arch section.now kept },
-    ghost read: { are_read arch section.now (cuts (reader_cursor rest)) ≡ true },
+    ghost same: { IsLastCie arch section.now last },
+    ghost read: { are_read arch section.now (records_from (reader_cursor rest)) ≡ true },
 }
 
 impl<'a> FdeIter<'a> {
@@ -35,29 +34,29 @@ impl<'a> FdeIter<'a> {
     pub(crate) fn new(section: &'a [u8], arch: Arch) -> FdeIter<'a>
         requires small { length section.now < 2 ^ 32 }
         requires whole { is_ok (entries_of arch section.now) ≡ true }
-        ensures { frames_left result ≡ frames (entries_before arch section.now (cuts_of section.now)) }
+        ensures { frames_left result ≡ frames (entries_before arch section.now (records_of section.now)) }
     {
         FdeIter {
             section,
             arch,
             rest: Reader::from_place(section, 0),
-            kept: None,
+            last: None,
         }
     }
 }
 
 // Advances to the next record of what is left and returns it, or `None` at the section's end.
 #[inline(always)]
-fn next_cut<'a>(rest: &mut Reader<'a>) -> Option<RawRecord<'a>>
+fn next_raw_record<'a>(rest: &mut Reader<'a>) -> Option<RawRecord<'a>>
     requires { is_ok (raw_record_at (reader_cursor rest.old)) ≡ true }
-    ensures gives { GivesCut result (reader_cursor rest.old) (reader_cursor rest.new) }
+    ensures gives { GivesRawRecord result (reader_cursor rest.old) (reader_cursor rest.new) }
     ensures shorter { OnSome result (length rest.new.part.bytes.now < length rest.old.part.bytes.now) }
 {
     let mut after = *rest;
     match next_record(&mut after) {
-        Ok(Some(cut)) => {
+        Ok(Some(raw)) => {
             *rest = after;
-            Some(cut)
+            Some(raw)
         }
         Ok(None) => None,
         Err(_) => unreachable!(),
@@ -67,13 +66,13 @@ fn next_cut<'a>(rest: &mut Reader<'a>) -> Option<RawRecord<'a>>
 // Advances to the next record of a frame description entry and returns it, or `None` at the end.
 #[inline(always)]
 fn next_frame<'a>(section: &'a [u8], arch: Arch, rest: &mut Reader<'a>) -> Option<RawRecord<'a>>
-    requires { are_read arch section.now (cuts (reader_cursor rest.old)) ≡ true }
-    ensures read { are_read arch section.now (cuts (reader_cursor rest.new)) ≡ true }
-    ensures gives { GivesFrameRecord arch section.now result (entries_before arch section.now (cuts (reader_cursor rest.old))) (entries_before arch section.now (cuts (reader_cursor rest.new))) }
+    requires { are_read arch section.now (records_from (reader_cursor rest.old)) ≡ true }
+    ensures read { are_read arch section.now (records_from (reader_cursor rest.new)) ≡ true }
+    ensures gives { GivesFrameRecord arch section.now result (entries_before arch section.now (records_from (reader_cursor rest.old))) (entries_before arch section.now (records_from (reader_cursor rest.new))) }
 {
-    while let Some(cut) = next_cut(rest) {
-        if !cut.is_cie() {
-            return Some(cut);
+    while let Some(raw) = next_raw_record(rest) {
+        if !raw.is_cie() {
+            return Some(raw);
         }
     }
     None
@@ -83,25 +82,25 @@ fn next_frame<'a>(section: &'a [u8], arch: Arch, rest: &mut Reader<'a>) -> Optio
 #[tactic(auto, unfolding(crate::specs::Fde::fde_of))]
 #[inline(always)]
 fn frame_of<'a>(
-    kept: &mut Option<CommonAt<'a>>,
+    last: &mut Option<LastCie<'a>>,
     section: &'a [u8],
     arch: Arch,
-    cut: &RawRecord<'a>,
+    raw: &RawRecord<'a>,
 ) -> Option<Fde<'a>>
     requires small { length section.now < 2 ^ 32 }
-    requires kept { IsKeptEntry arch section.now kept.old }
-    requires read { is_ok (fde_of arch section.now (raw_record_view cut.now)) ≡ true }
-    ensures kept { IsKeptEntry arch section.now kept.new }
-    ensures is { GivesRead result (fde_of arch section.now (raw_record_view cut.now)) }
+    requires last { IsLastCie arch section.now last.old }
+    requires read { is_ok (fde_of arch section.now (raw_record_view raw.now)) ≡ true }
+    ensures last { IsLastCie arch section.now last.new }
+    ensures is { GivesRead result (fde_of arch section.now (raw_record_view raw.now)) }
 {
-    let Ok(place) = cut.cie_place() else {
+    let Ok(place) = raw.cie_place() else {
         unreachable!()
     };
-    let Ok(()) = CommonAt::keep(kept, section, place, arch) else {
+    let Ok(()) = LastCie::at(last, section, place, arch) else {
         unreachable!()
     };
-    let Some(common) = kept else { unreachable!() };
-    match read_entry(cut, &common.shared) {
+    let Some(read) = last else { unreachable!() };
+    match Fde::read(raw, &read.cie) {
         Ok(fde) => Some(fde),
         Err(_) => unreachable!(),
     }
@@ -120,7 +119,7 @@ impl<'a> Iterator for FdeIter<'a> {
 
     #[inline(always)]
     fn next(&mut self) -> Option<Fde<'a>> {
-        let cut = next_frame(self.section, self.arch, &mut self.rest)?;
-        frame_of(&mut self.kept, self.section, self.arch, &cut)
+        let raw = next_frame(self.section, self.arch, &mut self.rest)?;
+        frame_of(&mut self.last, self.section, self.arch, &raw)
     }
 }

@@ -2,11 +2,11 @@
 
 ghost use Rattle.std.specs.Prelude.{◌≡◌, ◌↔◌, List, Result, Ok, Err};
 ghost use Rattle.eh_records.specs.RawRecord.{RawRecordView};
-ghost use Rattle.eh_records.specs.Cutting.{AreCut, all_cut, start};
+ghost use Rattle.eh_records.specs.Records.{AreRecords, all_split, start};
 ghost use Rattle.eh_records.specs.Raw.{HoldRaw, StandApart};
 ghost use Rattle.eh_records.specs.Refused.{AreReadAs, IsOfRecords};
 ghost use Rattle.eh_records.specs.declared.fault.RecordFault.{RecordFault as refusal};
-ghost use Rattle.eh_records.specs.Section.{EntryView, cuts_of, entries_of, pointer_fields};
+ghost use Rattle.eh_records.specs.Section.{EntryView, records_of, entries_of, pointer_fields};
 
 use sf_model::Arch;
 
@@ -15,8 +15,8 @@ use sf_model::Arch;
 /// the fault of the first field that isn't there, and never both. That fault is neither `Unresolved` nor
 /// `FunctionEnd`. It does nothing.
 pub fn entries_law(section: &[u8], arch: Arch)
-    ensures cut { (ps : List RawRecordView) → AreCut ps (start section.now) ↔ (cuts_of section.now ≡ all_cut ps) }
-    ensures one { (ps : List RawRecordView) → (qs : List RawRecordView) → AreCut ps (start section.now) → AreCut qs (start section.now) → ps ≡ qs }
+    ensures records { (ps : List RawRecordView) → AreRecords ps (start section.now) ↔ (records_of section.now ≡ all_split ps) }
+    ensures one { (ps : List RawRecordView) → (qs : List RawRecordView) → AreRecords ps (start section.now) → AreRecords qs (start section.now) → ps ≡ qs }
     ensures exact { (r : Result (List EntryView) refusal) → AreReadAs arch section.now r ↔ (entries_of arch section.now ≡ r) }
     ensures named { (e : refusal) → entries_of arch section.now ≡ Err e → IsOfRecords e }
 {}

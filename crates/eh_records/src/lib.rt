@@ -11,20 +11,17 @@
 #![tactic(auto)]
 
 mod augmentation;
-mod augmentation_data;
 mod cie;
-mod common;
-mod cut;
 mod entry;
 mod fault;
 mod fde;
-mod frame;
 mod iter;
-mod kept;
+mod last_cie;
 mod laws;
 mod layout;
 mod letters;
 mod places;
+mod raw_record;
 mod reader;
 mod records;
 mod span;

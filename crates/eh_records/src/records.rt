@@ -6,11 +6,11 @@ ghost use Rattle.eh_records.specs.Entry.{entry_view};
 ghost use Rattle.eh_records.specs.Section.{entry_fields, entries_of};
 ghost use Rattle.eh_records.specs.Step.{pointer_view};
 
-use crate::cut::next_record;
 use crate::entry::{Entry, next_entry, read_after};
 use crate::fault::RecordFault;
 use crate::iter::FdeIter;
 use crate::places::note_place;
+use crate::raw_record::next_record;
 use crate::reader::Reader;
 use sf_base::NoMemory;
 use sf_bytes::Field;
@@ -41,7 +41,7 @@ fn push_fields(fields: &mut Vec<Field>, entry: &Entry<'_>) -> Result<(), NoMemor
     ensures { OnOk result (map pointer_view fields.new.items ≡ map pointer_view fields.old.items ++ entry_fields (entry_view entry.now)) }
 {
     match entry {
-        Entry::Common(shared) => push_optional(fields, shared.cie.personality),
+        Entry::Common(full) => push_optional(fields, full.cie.personality),
         Entry::Frame(fde) => {
             fields.push(fde.begin)?;
             fields.push(fde.range)?;
@@ -70,10 +70,10 @@ impl<'a> Records<'a> {
     {
         let mut places: Vec<u32> = Vec::new(alloc);
         let mut rest = Reader::from_place(bytes, 0);
-        let mut kept = None;
-        while let Some(cut) = next_record(&mut rest)? {
-            read_after(&mut kept, bytes, places.as_slice(), &cut, arch)?;
-            note_place(&cut, &mut places)?;
+        let mut last = None;
+        while let Some(raw) = next_record(&mut rest)? {
+            read_after(&mut last, bytes, places.as_slice(), &raw, arch)?;
+            note_place(&raw, &mut places)?;
         }
         Ok(Records { bytes, arch })
     }
@@ -98,8 +98,8 @@ impl<'a> Records<'a> {
     {
         let mut fields: Vec<Field> = Vec::new(alloc);
         let mut rest = Reader::from_place(self.bytes, 0);
-        let mut kept = None;
-        while let Some(entry) = next_entry(&mut kept, self.bytes, self.arch, &mut rest) {
+        let mut last = None;
+        while let Some(entry) = next_entry(&mut last, self.bytes, self.arch, &mut rest) {
             push_fields(&mut fields, &entry)?;
         }
         Ok(fields)

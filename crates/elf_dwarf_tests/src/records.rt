@@ -220,9 +220,9 @@ fn functions(rt: HostRuntime) -> Result<(), Fail> {
     );
     assert_eq!(rt;
         (
-            fde.cie.code,
-            fde.cie.factor,
-            fde.cie.column,
+            fde.cie.code_alignment_factor,
+            fde.cie.data_alignment_factor,
+            fde.cie.return_address_register,
             fde.cie.insns.place
         ),
         (1, -8, 16, 17)

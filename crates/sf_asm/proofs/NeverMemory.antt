@@ -284,7 +284,7 @@ own arch f first s before (Ok (place, i) ∷ items) =
 
 instructions : (arch : Arch) (f : FdeView) → FaultIn is_machine_refusal (fault_in arch f)
 instructions arch f =
-    earlier is_machine_refusal (initial_fault arch f.cie.factor no_row (listing f.cie.insns)) _ (initial arch f.cie.factor no_row (listing f.cie.insns)) (own arch f.cie.factor _ _ _ (listing f.insns))
+    earlier is_machine_refusal (initial_fault arch f.cie.data_alignment_factor no_row (listing f.cie.insns)) _ (initial arch f.cie.data_alignment_factor no_row (listing f.cie.insns)) (own arch f.cie.data_alignment_factor _ _ _ (listing f.insns))
 
 -- ---- sections
 one_function : (arch : Arch) (item : ℕ) (section : CallFrames) (values : Values) (f : FdeView) → FaultIs is_input_refusal (function_in arch item section values f)

@@ -46,7 +46,7 @@ span_in section values f = span_of f.cie.encoding f.begin.place section.address 
 
 -- the first instruction that can't be read or run
 abbrev pub fault_in : Arch → FdeView → Option MachineFault
-fault_in arch f = first_fault arch f.cie.factor (listing f.cie.insns) (listing f.insns)
+fault_in arch f = first_fault arch f.cie.data_alignment_factor (listing f.cie.insns) (listing f.insns)
 
 -- with these instructions, its start and its size
 abbrev pub function_with : Arch → (item : ℕ) → CallFrames → FdeView → (initial own : List Item) → ℕ × ℕ → Function
@@ -54,11 +54,11 @@ function_with arch item section f initial own span = record {
   arch = arch;
   start = span.0;
   size = span.1;
-  column = f.cie.column;
+  column = f.cie.return_address_register;
   signal = f.cie.signal;
   key = f.cie.key;
-  code = f.cie.code;
-  factor = f.cie.factor;
+  code = f.cie.code_alignment_factor;
+  factor = f.cie.data_alignment_factor;
   initial = initial;
   own = own;
   origin = record { item = item; section = section.number; place = f.place };
@@ -72,7 +72,7 @@ function_at arch item section f span = function_with arch item section f (listin
 abbrev pub by_instructions : Arch → (item : ℕ) → CallFrames → Values → FdeView → (initial own : List Item) → Result Function AsmFault
 by_instructions arch item section values f initial own = do
   span ← named (Record section.number) (span_in section values f)
-  _ ← named (Machine section.number) (unless (first_fault arch f.cie.factor initial own))
+  _ ← named (Machine section.number) (unless (first_fault arch f.cie.data_alignment_factor initial own))
   Ok (function_with arch item section f initial own span)
 
 -- with those that are read

@@ -17,7 +17,7 @@ use Rattle.sf_asm.specs.declared.initials.Initials.{Initials}
 -- a row is the one that the instructions of a common information entry give, if there is an entry
 abbrev pub IsInitialOf : Arch → Option CieView → Columns → Type 0
 IsInitialOf arch None row = Unit {0}
-IsInitialOf arch (Some cie) row = IsInitial arch cie.factor (listing cie.insns) row
+IsInitialOf arch (Some cie) row = IsInitial arch cie.data_alignment_factor (listing cie.insns) row
 
 -- it is that of the entry at a place of a section
 abbrev pub IsInitialAt : Arch → (section : List ℕ) → (place : ℕ) → Columns → Type 0
@@ -25,7 +25,7 @@ IsInitialAt arch section place row = IsInitialOf arch (standing_cie arch section
 
 -- what an initial row comes from: the data alignment factor and the instructions of the entry
 abbrev pub row_source : CieView → ℤ × Cursor
-row_source cie = (cie.factor, cie.insns)
+row_source cie = (cie.data_alignment_factor, cie.insns)
 
 -- the entry at this place has these instructions and this factor
 abbrev pub HasInstructions : Arch → (section : List ℕ) → InitialInstructions → Type 0

@@ -21,4 +21,4 @@ pub record CanBeLent (section : CallFrameSection) (fde : Fde) (span : Span) (ini
   pub named : HasNamed section.arch section.bytes.now (fde_view fde)
   pub end : span.start + span.size ≤ 2 ^ 64
   -- each instruction was run
-  pub ran : is_ok (rows_by section.arch fde.cie.code fde.cie.factor span.size (listing (cursor fde.cie.insns)) (listing (cursor fde.insns))) ≡ true
+  pub ran : is_ok (rows_by section.arch fde.cie.code_alignment_factor fde.cie.data_alignment_factor span.size (listing (cursor fde.cie.insns)) (listing (cursor fde.insns))) ≡ true

@@ -32,11 +32,11 @@ fn common_part<'a>(arch: Arch, cie: &Cie<'a>, row: Columns) -> CommonPart<'a>
 {
     CommonPart {
         arch,
-        column: cie.column,
+        column: cie.return_address_register,
         signal: cie.signal,
         key: cie.key,
-        code: cie.code,
-        factor: cie.factor,
+        code: cie.code_alignment_factor,
+        factor: cie.data_alignment_factor,
         initial: cie.insns,
         row,
     }

@@ -151,15 +151,15 @@ fn begin_rows<'a>(
     requires initials { AreInitial section.now.arch section.now.bytes.now initials.old }
     requires named { HasNamed section.now.arch section.now.bytes.now (fde_view fde.now) }
     ensures initials { OnOk result (AreInitial section.now.arch section.now.bytes.now initials.new) }
-    ensures begins { OnOk result (rows_left run.new ≡ rows_by section.now.arch fde.now.cie.code fde.now.cie.factor size (listing (cursor fde.now.cie.insns)) (listing (cursor fde.now.insns))) }
+    ensures begins { OnOk result (rows_left run.new ≡ rows_by section.now.arch fde.now.cie.code_alignment_factor fde.now.cie.data_alignment_factor size (listing (cursor fde.now.cie.insns)) (listing (cursor fde.now.insns))) }
     ensures limit { OnOk result (limit run.new ≡ size) }
-    ensures fault { IfErr result (λ fault. IsRowsFault section.now.number fault (rows_by section.now.arch fde.now.cie.code fde.now.cie.factor size (listing (cursor fde.now.cie.insns)) (listing (cursor fde.now.insns)))) }
+    ensures fault { IfErr result (λ fault. IsRowsFault section.now.number fault (rows_by section.now.arch fde.now.cie.code_alignment_factor fde.now.cie.data_alignment_factor size (listing (cursor fde.now.cie.insns)) (listing (cursor fde.now.insns)))) }
 {
     let cie = &fde.cie;
     match initials.find(section, InitialInstructions::of(cie)) {
         Ok(()) => {
             let initial = initials.row();
-            run.start_from(initial, section.arch, cie.code, cie.factor, fde.insns, size);
+            run.start_from(initial, section.arch, cie.code_alignment_factor, cie.data_alignment_factor, fde.insns, size);
             Ok(())
         }
         Err(fault) => Err(machine_fault(section.number, fault)),
@@ -201,12 +201,12 @@ fn outcome_of(
 /// Returns what the records describe of a function, apart from its instructions.
 #[inline(always)]
 fn facts_of(fde: &Fde<'_>, start: u64, size: u64) -> FdeFacts
-    ensures { result ≡ record { start = start; size = size; column = fde.now.cie.column; signal = fde.now.cie.signal; key = fde.now.cie.key } }
+    ensures { result ≡ record { start = start; size = size; column = fde.now.cie.return_address_register; signal = fde.now.cie.signal; key = fde.now.cie.key } }
 {
     FdeFacts {
         start,
         size,
-        column: fde.cie.column,
+        column: fde.cie.return_address_register,
         signal: fde.cie.signal,
         key: fde.cie.key,
     }
@@ -230,7 +230,7 @@ fn read_function<'a>(
     ensures exact { (relocations : Result (List RelocatedField) reloc_fault) → ReadsOne result (function_in section.now.arch section.now.item (seen_section section.now relocations) (overlaid (written_by overlay.now)) (fde_view fde.now)) }
     ensures function { IfOk result (λ entry. (relocations : Result (List RelocatedField) reloc_fault) → function_in section.now.arch section.now.item (seen_section section.now relocations) (overlaid (written_by overlay.now)) (fde_view fde.now) ≡ Ok (function_by_span section.now.arch fde.now entry.span)) }
     ensures end { IfOk result (λ entry. entry.span.start + entry.span.size ≤ 2 ^ 64) }
-    ensures ran { IfOk result (λ entry. is_ok (rows_by section.now.arch fde.now.cie.code fde.now.cie.factor entry.span.size (listing (cursor fde.now.cie.insns)) (listing (cursor fde.now.insns))) ≡ true) }
+    ensures ran { IfOk result (λ entry. is_ok (rows_by section.now.arch fde.now.cie.code_alignment_factor fde.now.cie.data_alignment_factor entry.span.size (listing (cursor fde.now.cie.insns)) (listing (cursor fde.now.insns))) ≡ true) }
     ensures sound { IfOk result (λ entry. IsSound section.now.arch entry) }
 {
     let (start, size) = span_of(section, overlay, fde)?;

@@ -31,7 +31,7 @@ use Rattle.cfa_machine.proofs.Faults.{fault_of}
 use Rattle.eh_records.specs.declared.fault.RecordFault.{RecordFault}
 use Rattle.eh_records.specs.declared.fault.RecordFault.TheVariants as record_fault
 use Rattle.eh_records.specs.Fde.{FdeView}
-use Rattle.eh_records.specs.Section.{EntryView, cuts_of, entries_before, entries_of, frames, pointer_fields}
+use Rattle.eh_records.specs.Section.{EntryView, records_of, entries_before, entries_of, frames, pointer_fields}
 use Rattle.eh_records.specs.Span.{span_of}
 use Rattle.eh_records.proofs.Faults.{read_again}
 use Rattle.eh_records.proofs.Keys.{keys_fit}
@@ -122,8 +122,8 @@ frames_read arch item section values (f ∷ fs) gs keys e =
 entries_keys : (arch : Arch) (bytes : List ℕ) (es : List EntryView) → entries_of arch bytes ≡ Ok es → All (KeyFits arch) (frames es)
 entries_keys arch bytes es e =
     let again = read_again arch bytes (ap is_ok e) in
-    let is : entries_before arch bytes (cuts_of bytes) ≡ es = (let same = sym again ∙ e in cc) in
-    subst (λ (xs : List EntryView). All (KeyFits arch) (frames xs)) is (keys_fit arch bytes (cuts_of bytes))
+    let is : entries_before arch bytes (records_of bytes) ≡ es = (let same = sym again ∙ e in cc) in
+    subst (λ (xs : List EntryView). All (KeyFits arch) (frames xs)) is (keys_fit arch bytes (records_of bytes))
 
 section_read : (arch : Arch) (item : ℕ) (section : CallFrames) (gs : List Function) → section_functions arch item section ≡ Ok gs → All (IsRead arch) gs
 unfolding section_functions

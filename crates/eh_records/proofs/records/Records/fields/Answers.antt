@@ -1,8 +1,8 @@
 use Rattle.std.proofs.Common.{ap, map, ◌∙◌}
 use Rattle.sf_bytes.proofs.Inside.{end_of}
 use Rattle.sf_bytes.specs.Cursor.{Cursor}
-use Rattle.eh_records.specs.Cutting.{start}
-use Rattle.eh_records.specs.Section.{are_read, cuts, entries_before, pointer_fields}
+use Rattle.eh_records.specs.Records.{start}
+use Rattle.eh_records.specs.Section.{are_read, records_from, entries_before, pointer_fields}
 use Rattle.eh_records.specs.Step.{pointer_view}
 use Rattle.eh_records.proofs.Faults.{each_read}
 use Rattle.eh_records.proofs.FieldsInOrder.{LieIn, rising, apart}
@@ -11,9 +11,9 @@ use Rattle.eh_records.proofs.records.Records.fields.Goals as goal
 
 pub loop-entry-init : goal.loop-entry-init
 loop-entry-init c = record {
-  same = rw c.new-fields.ensures.items (ap (λ (at : Cursor). pointer_fields (entries_before c.args.self.now.arch c.args.self.now.bytes.now (cuts at))) c.from_place-rest.ensures);
-  kept = λ k e. cc;
-  read = ap (λ (at : Cursor). are_read c.args.self.now.arch c.args.self.now.bytes.now (cuts at)) c.from_place-rest.ensures ∙ each_read c.args.self.now.arch c.args.self.now.bytes.now c.args.self.now.whole;
+  same = rw c.new-fields.ensures.items (ap (λ (at : Cursor). pointer_fields (entries_before c.args.self.now.arch c.args.self.now.bytes.now (records_from at))) c.from_place-rest.ensures);
+  last = λ k e. cc;
+  read = ap (λ (at : Cursor). are_read c.args.self.now.arch c.args.self.now.bytes.now (records_from at)) c.from_place-rest.ensures ∙ each_read c.args.self.now.arch c.args.self.now.bytes.now c.args.self.now.whole;
 }
 
 pub returns-clause-rise : goal.returns-clause-rise

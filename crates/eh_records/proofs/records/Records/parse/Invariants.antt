@@ -1,5 +1,5 @@
 use Rattle.std.proofs.Common.{◌≡◌, length}
-use Rattle.eh_records.specs.Kept.{IsKeptEntry}
+use Rattle.eh_records.specs.LastCie.{IsLastCie}
 use Rattle.eh_records.specs.Places.{IsRising, IsBefore}
 use Rattle.eh_records.specs.Section.{entries_of, fault_if_any}
 use Rattle.eh_records.specs.Step.{reader_cursor}
@@ -10,7 +10,7 @@ abbrev pub invariant-loop-places : goal.invariant-loop-places
 invariant-loop-places l = record {
   fault : fault_from l.arch l.bytes l.places.items (reader_cursor l.rest) ≡ fault_if_any (entries_of l.arch l.bytes);
   rising : IsRising l.places.items;
-  kept : IsKeptEntry l.arch l.bytes l.kept;
+  last : IsLastCie l.arch l.bytes l.last;
   before : IsBefore l.rest.part.place l.places.items;
 }
 

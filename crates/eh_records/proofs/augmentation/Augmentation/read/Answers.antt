@@ -3,7 +3,7 @@ use Rattle.std.proofs.lemmas.Result.{err_from_is_err_and}
 use Rattle.eh_records.specs.Augmentation.{augmentation_view}
 use Rattle.eh_records.specs.Step.{reader_cursor}
 use Rattle.eh_records.proofs.AugmentationDataLoop.{goes_on, stops, ends}
-use Rattle.eh_records.proofs.augmentation_data.read_augmentation_data.Goals as goal
+use Rattle.eh_records.proofs.augmentation.Augmentation.read.Goals as goal
 
 pub returns-in_err-augmentation : goal.returns-in_err-augmentation
 returns-in_err-augmentation c =

@@ -2,7 +2,7 @@
 
 ghost use Rattle.std.specs.Prelude.{◌≡◌, ◌<◌, ◌==◌, length, IfOk, IfSome};
 ghost use Rattle.sf_bytes.specs.Answers.{Is};
-ghost use Rattle.eh_records.specs.RawRecord.{CutAnswers, raw_record_view, raw_record_at, named_place};
+ghost use Rattle.eh_records.specs.RawRecord.{RawRecordGives, raw_record_view, raw_record_at, named_place};
 ghost use Rattle.eh_records.specs.Step.{reader_cursor};
 
 use crate::fault::RecordFault;
@@ -50,8 +50,8 @@ impl RawRecord<'_> {
 #[tactic(auto, unfolding(crate::specs::RawRecord::raw_record_at, crate::specs::RawRecord::record_of_length))]
 #[inline(always)]
 pub fn next_record<'a>(rest: &mut Reader<'a>) -> Result<Option<RawRecord<'a>>, RecordFault>
-    ensures exact { CutAnswers rest.new result (raw_record_at (reader_cursor rest.old)) }
-    ensures shorter { IfOk result (λ cut. IfSome cut (λ _. length rest.new.part.bytes.now < length rest.old.part.bytes.now)) }
+    ensures exact { RawRecordGives rest.new result (raw_record_at (reader_cursor rest.old)) }
+    ensures shorter { IfOk result (λ raw. IfSome raw (λ _. length rest.new.part.bytes.now < length rest.old.part.bytes.now)) }
 {
     if rest.part.is_empty() {
         return Ok(None);

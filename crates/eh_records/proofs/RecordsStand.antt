@@ -10,11 +10,11 @@ use Rattle.sf_bytes.specs.Cursor.{Cursor, Read, past, number_at, part_at}
 use Rattle.eh_records.specs.declared.fault.RecordFault.{RecordFault}
 use Rattle.eh_records.specs.declared.fault.RecordFault.TheVariants.{Short, Extended}
 use Rattle.eh_records.specs.RawRecord.{RawRecordView, raw_record_at, record_of_length, whole, of_length}
-use Rattle.eh_records.specs.Cutting.{Stands, EndsWithZero, AreCut, all_cut}
-use Rattle.eh_records.specs.Section.{Cutting, cuts}
+use Rattle.eh_records.specs.Records.{Stands, EndsWithZero, AreRecords, all_split}
+use Rattle.eh_records.specs.Section.{SplitRecord, records_from}
 use Rattle.eh_records.specs.Step.{Step, ◌>>=◌, at_field, number_field, part_field}
-use Rattle.eh_records.proofs.Cuts.{starts_with_record, stops, faults}
-use Rattle.eh_records.proofs.RawRecords.{past-past, cut_is, end_is}
+use Rattle.eh_records.proofs.FirstRecord.{starts_with_record, stops, faults}
+use Rattle.eh_records.proofs.RawRecords.{past-past, split_is, end_is}
 
 -- a field that lies in the bytes is read
 there_if : {X : Type 0} (n place : ℕ) (at : Cursor) (v : X) (b : Bool) → nat_lt (length at.left) n ≡ b → n ≤ length at.left
@@ -48,15 +48,15 @@ front_if at true r t h e = absurd (grind (arith, nat_tests))
 front_if at false r t h e = e
 
 -- the record of this length
-abbrev piece_there_is : ℕ → Cursor → RawRecordView
-piece_there_is len at = record {
+abbrev record_there_is : ℕ → Cursor → RawRecordView
+record_there_is len at = record {
   place = at.place;
   id_place = at.place + 4;
   id = little_number 4 (take 4 (take len (drop 4 at.left)));
   body = record { place = at.place + 8; left = drop 4 (take len (drop 4 at.left)) };
 }
 
-record_there : (len : ℕ) (at : Cursor) → 4 ≤ len → 4 + len ≤ length at.left → record_of_length at.place len (past 4 at) ≡ Ok (piece_there_is len at, past (4 + len) at)
+record_there : (len : ℕ) (at : Cursor) → 4 ≤ len → 4 + len ≤ length at.left → record_of_length at.place len (past 4 at) ≡ Ok (record_there_is len at, past (4 + len) at)
 unfolding record_of_length
 record_there len at enough within =
     let left : length (drop 4 at.left) ≡ length at.left - 4 = length-drop 4 at.left in
@@ -69,7 +69,7 @@ record_there len at enough within =
     ap (λ (r : Step Cursor). whole at.place r >>= λ body. number_field 4 body.0 >>= λ id. Ok (record { place = at.place; id_place = body.0.place; id = id.0; body = id.1 }, body.1)) (part_there len (past 4 at) some)
     ∙ ap (λ (r : Step ℕ). r >>= λ id. Ok (record { place = at.place; id_place = at.place + 4; id = id.0; body = id.1 }, past len (past 4 at))) (number_there 4 inner four)
     ∙ ap (λ (n : ℕ). Ok (record { place = at.place; id_place = at.place + 4; id = little_number 4 (take 4 (take len (drop 4 at.left))); body = record { place = n; left = drop 4 (take len (drop 4 at.left)) } }, past len (past 4 at))) place
-    ∙ ap (λ (c : Cursor). Ok (piece_there_is len at, c)) behind
+    ∙ ap (λ (c : Cursor). Ok (record_there_is len at, c)) behind
 
 pub stands_is : (at : Cursor) (p : RawRecordView) (after : Cursor) → Stands at p after → raw_record_at at ≡ Ok (Some (p, after))
 unfolding raw_record_at
@@ -97,73 +97,73 @@ end_nothing at e =
     ap (λ (b : Bool). cond {A = Found} b (Ok None) (number_field 4 at >>= λ len. of_length at.place len.0 len.1)) none
 
 -- the records of a section are those that are split off
-pub cut_read : (ps : List RawRecordView) (at : Cursor) → AreCut ps at → cuts at ≡ all_cut ps
-cut_read [] at (inl e) = stops at (end_nothing at e)
-cut_read [] at (inr z) = stops at (end_zero at z)
-cut_read (p ∷ ps) at (after, stands, rest) =
-    starts_with_record at p after (stands_is at p after stands) ∙ ap (λ (xs : List Cutting). Ok p ∷ xs) (cut_read ps after rest)
+pub split_read : (ps : List RawRecordView) (at : Cursor) → AreRecords ps at → records_from at ≡ all_split ps
+split_read [] at (inl e) = stops at (end_nothing at e)
+split_read [] at (inr z) = stops at (end_zero at z)
+split_read (p ∷ ps) at (after, stands, rest) =
+    starts_with_record at p after (stands_is at p after stands) ∙ ap (λ (xs : List SplitRecord). Ok p ∷ xs) (split_read ps after rest)
 
 -- records that are all split off without a fault are the section's records
-abbrev faulted : RecordFault → List Cutting
+abbrev faulted : RecordFault → List SplitRecord
 faulted f = Err f ∷ []
 
-abbrev first : RawRecordView → List Cutting → List Cutting
+abbrev first : RawRecordView → List SplitRecord → List SplitRecord
 first p xs = Ok p ∷ xs
 
-abbrev nothing : List Cutting
+abbrev nothing : List SplitRecord
 nothing = []
 
-some_more : (p : RawRecordView) (xs : List Cutting) → first p xs ≡ nothing → ⊥
+some_more : (p : RawRecordView) (xs : List SplitRecord) → first p xs ≡ nothing → ⊥
 some_more p xs e = cc
 
 some_fault : (f : RecordFault) → faulted f ≡ nothing → ⊥
 some_fault f e = cc
 
-other_fault : (f : RecordFault) (p : RawRecordView) (xs : List Cutting) → faulted f ≡ first p xs → ⊥
+other_fault : (f : RecordFault) (p : RawRecordView) (xs : List SplitRecord) → faulted f ≡ first p xs → ⊥
 other_fault f p xs e = cc
 
-same_first : (p q : RawRecordView) (xs ys : List Cutting) → first p xs ≡ first q ys → p ≡ q
+same_first : (p q : RawRecordView) (xs ys : List SplitRecord) → first p xs ≡ first q ys → p ≡ q
 same_first p q xs ys e = cc
 
-same_others : (p q : RawRecordView) (xs ys : List Cutting) → first p xs ≡ first q ys → xs ≡ ys
+same_others : (p q : RawRecordView) (xs ys : List SplitRecord) → first p xs ≡ first q ys → xs ≡ ys
 same_others p q xs ys e = cc
 
-ends_empty : (at : Cursor) → cuts at ≡ [] → (r : Found) → raw_record_at at ≡ r → r ≡ Ok None
+ends_empty : (at : Cursor) → records_from at ≡ [] → (r : Found) → raw_record_at at ≡ r → r ≡ Ok None
 ends_empty at e (Ok None) h = refl
-ends_empty at e (Ok (Some x)) h = absurd (some_more x.0 (cuts x.1) (sym (starts_with_record at x.0 x.1 h) ∙ e))
+ends_empty at e (Ok (Some x)) h = absurd (some_more x.0 (records_from x.1) (sym (starts_with_record at x.0 x.1 h) ∙ e))
 ends_empty at e (Err f) h = absurd (some_fault f (sym (faults at f h) ∙ e))
 
-pub record Next (at : Cursor) (p : RawRecordView) (xs : List Cutting) : Type 0 where
+pub record Next (at : Cursor) (p : RawRecordView) (xs : List SplitRecord) : Type 0 where
   pub after : Cursor
   pub stands : Stands at p after
-  pub rest : cuts after ≡ xs
+  pub rest : records_from after ≡ xs
 
-pub next_of : (at : Cursor) (p : RawRecordView) (xs : List Cutting) → cuts at ≡ Ok p ∷ xs → (r : Found) → raw_record_at at ≡ r → Next at p xs
+pub next_of : (at : Cursor) (p : RawRecordView) (xs : List SplitRecord) → records_from at ≡ Ok p ∷ xs → (r : Found) → raw_record_at at ≡ r → Next at p xs
 next_of at p xs e (Ok None) h = absurd (some_more p xs (sym e ∙ stops at h))
 next_of at p xs e (Ok (Some x)) h =
-    let same : first x.0 (cuts x.1) ≡ first p xs = sym (starts_with_record at x.0 x.1 h) ∙ e in
+    let same : first x.0 (records_from x.1) ≡ first p xs = sym (starts_with_record at x.0 x.1 h) ∙ e in
     record {
       after = x.1;
-      stands = subst (λ (q : RawRecordView). Stands at q x.1) (same_first x.0 p (cuts x.1) xs same) (cut_is at x.0 x.1 h);
-      rest = same_others x.0 p (cuts x.1) xs same;
+      stands = subst (λ (q : RawRecordView). Stands at q x.1) (same_first x.0 p (records_from x.1) xs same) (split_is at x.0 x.1 h);
+      rest = same_others x.0 p (records_from x.1) xs same;
     }
 next_of at p xs e (Err f) h = absurd (other_fault f p xs (sym (faults at f h) ∙ e))
 
-pub read_cut : (ps : List RawRecordView) (at : Cursor) → cuts at ≡ all_cut ps → AreCut ps at
-read_cut [] at e = end_is at (ends_empty at e (raw_record_at at) refl)
-read_cut (p ∷ ps) at e =
-    let n = next_of at p (all_cut ps) e (raw_record_at at) refl in
-    (n.after, n.stands, read_cut ps n.after n.rest)
+pub read_split : (ps : List RawRecordView) (at : Cursor) → records_from at ≡ all_split ps → AreRecords ps at
+read_split [] at e = end_is at (ends_empty at e (raw_record_at at) refl)
+read_split (p ∷ ps) at e =
+    let n = next_of at p (all_split ps) e (raw_record_at at) refl in
+    (n.after, n.stands, read_split ps n.after n.rest)
 
 -- there is at most one list of records
 both_same : (p q : RawRecordView) (ps qs : List RawRecordView) → p ≡ q → ps ≡ qs → p ∷ ps ≡ q ∷ qs
 both_same p q ps qs e h = cc
 
-same_cut : (ps qs : List RawRecordView) → all_cut ps ≡ all_cut qs → ps ≡ qs
-same_cut [] [] e = refl
-same_cut [] (q ∷ qs) e = absurd (some_more q (all_cut qs) (sym e))
-same_cut (p ∷ ps) [] e = absurd (some_more p (all_cut ps) e)
-same_cut (p ∷ ps) (q ∷ qs) e = both_same p q ps qs (same_first p q (all_cut ps) (all_cut qs) e) (same_cut ps qs (same_others p q (all_cut ps) (all_cut qs) e))
+same_split : (ps qs : List RawRecordView) → all_split ps ≡ all_split qs → ps ≡ qs
+same_split [] [] e = refl
+same_split [] (q ∷ qs) e = absurd (some_more q (all_split qs) (sym e))
+same_split (p ∷ ps) [] e = absurd (some_more p (all_split ps) e)
+same_split (p ∷ ps) (q ∷ qs) e = both_same p q ps qs (same_first p q (all_split ps) (all_split qs) e) (same_split ps qs (same_others p q (all_split ps) (all_split qs) e))
 
-pub one_cut : (ps qs : List RawRecordView) (at : Cursor) → AreCut ps at → AreCut qs at → ps ≡ qs
-one_cut ps qs at h k = same_cut ps qs (sym (cut_read ps at h) ∙ cut_read qs at k)
+pub one_split : (ps qs : List RawRecordView) (at : Cursor) → AreRecords ps at → AreRecords qs at → ps ≡ qs
+one_split ps qs at h k = same_split ps qs (sym (split_read ps at h) ∙ split_read qs at k)

@@ -5,9 +5,9 @@ use Rattle.sf_model.specs.declared.machine.Arch.{Arch}
 use Rattle.byteorder.specs.Endian.{little_number}
 use Rattle.sf_bytes.specs.Cursor.{Cursor, past}
 use Rattle.eh_records.specs.RawRecord.{RawRecordView}
-use Rattle.eh_records.specs.Cie.{SharedView}
+use Rattle.eh_records.specs.Cie.{FullCieView}
 use Rattle.eh_records.specs.Fields.{EntryStands}
-use Rattle.eh_records.specs.Section.{Cutting, EntryView, Common, Frame}
+use Rattle.eh_records.specs.Section.{SplitRecord, EntryView, Common, Frame}
 
 -- a record is at the front: its length, the word after that, and the bytes to its end
 pub record Stands (at : Cursor) (p : RawRecordView) (after : Cursor) : Type 0 where
@@ -30,31 +30,31 @@ pub record EndsWithZero (at : Cursor) : Type 0 where
   pub word : little_number 4 (take 4 at.left) ≡ 0
 
 -- these are the records from a cursor on
-abbrev pub AreCut : List RawRecordView → Cursor → Type 0
-AreCut [] at = (at.left ≡ []) ⊎ EndsWithZero at
-AreCut (p ∷ ps) at = (after : Cursor) × Stands at p after × AreCut ps after
+abbrev pub AreRecords : List RawRecordView → Cursor → Type 0
+AreRecords [] at = (at.left ≡ []) ⊎ EndsWithZero at
+AreRecords (p ∷ ps) at = (after : Cursor) × Stands at p after × AreRecords ps after
 
 -- these records, as the reader splits them off
-abbrev pub all_cut : List RawRecordView → List Cutting
-all_cut [] = []
-all_cut (p ∷ ps) = Ok p ∷ all_cut ps
+abbrev pub all_split : List RawRecordView → List SplitRecord
+all_split [] = []
+all_split (p ∷ ps) = Ok p ∷ all_split ps
 
 -- the first byte of a section
 abbrev pub start : List ℕ → Cursor
 start section = record { place = 0; left = section }
 
 -- the common information entries before a record, with this entry if it is one
-abbrev pub with_common : List SharedView → EntryView → List SharedView
-with_common before (Common c) = before ++ c ∷ []
-with_common before (Frame f) = before
+abbrev pub with_cie : List FullCieView → EntryView → List FullCieView
+with_cie before (Common c) = before ++ c ∷ []
+with_cie before (Frame f) = before
 
 -- these are the entries of the records, field by field, if these common information entries come before them
-abbrev pub AreEntriesOf : Arch → (before : List SharedView) → List RawRecordView → List EntryView → Type 0
+abbrev pub AreEntriesOf : Arch → (before : List FullCieView) → List RawRecordView → List EntryView → Type 0
 AreEntriesOf arch before [] [] = Unit {0}
 AreEntriesOf arch before [] (e ∷ es) = ⊥
 AreEntriesOf arch before (p ∷ ps) [] = ⊥
-AreEntriesOf arch before (p ∷ ps) (e ∷ es) = EntryStands arch before p e × AreEntriesOf arch (with_common before e) ps es
+AreEntriesOf arch before (p ∷ ps) (e ∷ es) = EntryStands arch before p e × AreEntriesOf arch (with_cie before e) ps es
 
 -- these are the entries of a section: those of its records
 abbrev pub AreEntries : Arch → List ℕ → List EntryView → Type 0
-AreEntries arch section es = (ps : List RawRecordView) × AreCut ps (start section) × AreEntriesOf arch [] ps es
+AreEntries arch section es = (ps : List RawRecordView) × AreRecords ps (start section) × AreEntriesOf arch [] ps es
