@@ -63,8 +63,3 @@ OnRow (Err e) P = Unit {0}
 abbrev pub RunsNext : FunctionContext → ℤ → (old new : Machine) → Option (Result (Option ℕ) MachineFault) → (before after : List Item) → Type 0
 RunsNext k f old new None before after = (before ≡ []) × (after ≡ []) × (new ≡ old)
 RunsNext k f old new (Some answer) before after = (x : Item) × (before ≡ x ∷ after) × MachineSteps new answer (item_step k f x (state old)) × StartsBelow k.size answer
-
--- after a start the runner has these rows left, or the start returned their fault
-abbrev pub Begins : {U : Type 0} → Runner → Result U MachineFault → Result (List DwRow) MachineFault → Type 0
-Begins new (Ok u) given = rows_left new ≡ given
-Begins new (Err e) given = given ≡ Err e

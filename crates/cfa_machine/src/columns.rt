@@ -2,12 +2,11 @@
 
 ghost use Rattle.std.specs.Prelude.{◌≡◌};
 ghost use Rattle.cfa_machine.specs.FullRow.{or_same as rule_or_same};
-ghost use Rattle.cfa_machine.specs.Columns.{no_columns, with_rule, with_cfa_offset, restored, changed, row_from, Changes};
+ghost use Rattle.cfa_machine.specs.Columns.{no_columns, with_rule, with_cfa_offset, restored, changed, Changes};
 
 use crate::effect::RowEffect;
 use crate::fault::MachineFault;
 use crate::registers::{frame_pointer_of, is_sign_state_of, return_address_of, stack_pointer_of};
-use crate::row::DwRow;
 use crate::rule::{CfaRule, Rule};
 use cfa_insn::InsnFault;
 use cfa_insn::opcodes::DW_CFA_AARCH64_NEGATE_RA_STATE;
@@ -22,23 +21,6 @@ pub struct Columns {
     pub ra: Rule,
     pub sign: Rule,
     pub signed: bool,
-}
-
-impl Columns {
-    /// Returns the columns of a row.
-    #[inline(always)]
-    pub fn of_row(row: &DwRow) -> Columns
-        ensures { row_from row.now.start result ≡ row.now }
-    {
-        Columns {
-            cfa: row.cfa,
-            sp: row.sp,
-            fp: row.fp,
-            ra: row.ra,
-            sign: row.sign,
-            signed: row.signed,
-        }
-    }
 }
 
 /// Returns the row before any instruction.
@@ -171,21 +153,5 @@ pub fn change_row(
                 Ok(())
             }
         },
-    }
-}
-
-/// Returns the row from an offset on.
-#[inline(always)]
-pub fn row_at(start: u64, columns: &Columns) -> DwRow
-    ensures { result ≡ row_from start columns.now }
-{
-    DwRow {
-        start,
-        cfa: columns.cfa,
-        sp: columns.sp,
-        fp: columns.fp,
-        ra: columns.ra,
-        sign: columns.sign,
-        signed: columns.signed,
     }
 }

@@ -5,12 +5,11 @@ ghost use Rattle.sf_bytes.specs.Cursor.{cursor};
 ghost use Rattle.cfa_insn.specs.Listing.{Item, listing};
 ghost use Rattle.cfa_insn.specs.Remaining.{items_left};
 ghost use Rattle.cfa_machine.specs.Initial.{IsInitial};
-ghost use Rattle.cfa_machine.specs.Left.{Begins, Follows, OnRow, Reaches, RunsNext, limit, present, rows_left, steps_left};
+ghost use Rattle.cfa_machine.specs.Left.{Follows, OnRow, Reaches, RunsNext, limit, present, rows_left, steps_left};
 ghost use Rattle.cfa_machine.specs.Pass.{with_ended, last_row, rows_by, rows_from, state};
 
 use crate::columns::{Columns, empty_columns};
 use crate::fault::MachineFault;
-use crate::initial::initial_row;
 use crate::machine::{FunctionContext, Machine};
 use cfa_insn::Insns;
 use sf_bytes::Part;
@@ -103,30 +102,9 @@ impl<'a> Runner<'a> {
         }
     }
 
-    /// Begins the rows of a function, with the arguments of [`rows`](crate::rows).
-    ///
-    /// # Errors
-    ///
-    /// The first fault of the common information entry's instructions.
-    pub fn start(
-        &mut self,
-        arch: Arch,
-        code: u64,
-        factor: i64,
-        cie: Part<'a>,
-        fde: Part<'a>,
-        size: u64,
-    ) -> Result<(), MachineFault>
-        ensures exact { Begins self.new result (rows_by arch code factor size (listing (cursor cie.entry)) (listing (cursor fde.entry))) }
-        ensures limit { OnOk result (limit self.new ≡ size) }
-    {
-        let initial = initial_row(arch, factor, cie)?;
-        self.start_from(&initial, arch, code, factor, fde, size);
-        Ok(())
-    }
-
-    /// Begins the rows of a function whose initial row is known, and doesn't run the common information
-    /// entry's instructions. [`initial_row`](crate::initial_row) gives that row.
+    /// Begins the rows of a function of `size` bytes, from the initial row that [`initial_row`](crate::initial_row) gives of
+    /// its common information entry. `code` and `factor` are that entry's code and data alignment factors, `fde` the
+    /// function's own instructions.
     #[inline(always)]
     pub fn start_from(
         &mut self,

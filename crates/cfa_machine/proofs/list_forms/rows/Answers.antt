@@ -6,7 +6,7 @@ use Rattle.cfa_machine.proofs.GoodRows.{rows_by-are_rows, answers_are_rows}
 use Rattle.cfa_machine.proofs.Says.{rows_by-say, answers_say}
 use Rattle.cfa_machine.proofs.Faults.{rows_by-fault, answers_fault}
 use Rattle.cfa_machine.proofs.Starts.{answers_start}
-use Rattle.cfa_machine.proofs.table.rows.Goals as goal
+use Rattle.cfa_machine.proofs.list_forms.rows.Goals as goal
 
 pub returns-clause-rows : goal.returns-clause-rows
 returns-clause-rows c =

@@ -1,20 +1,54 @@
-//! The rows of a function.
+//! List forms: the rows of a [`Runner`](crate::Runner) as one list, and a row as a value. No program calls them.
 
 ghost use Rattle.std.specs.Prelude.{◌≡◌, IfOk};
 ghost use Rattle.sf_bytes.specs.Cursor.{cursor};
 ghost use Rattle.cfa_insn.specs.Listing.{listing};
+ghost use Rattle.cfa_machine.specs.Columns.{row_from};
 ghost use Rattle.cfa_machine.specs.RowAtOffset.{SayAll, StartWhereReached};
 ghost use Rattle.cfa_machine.specs.FirstFault.{FailsBy, first_fault};
 ghost use Rattle.cfa_machine.specs.RowList.{AreRows};
 ghost use Rattle.cfa_machine.specs.Pass.{Gives, rows_by};
 
-use crate::columns::row_at;
+use crate::columns::Columns;
 use crate::fault::MachineFault;
+use crate::initial::initial_row;
 use crate::row::DwRow;
 use crate::runner::Runner;
 use sf_bytes::Part;
 use sf_model::Arch;
 use std::alloc::Global;
+
+impl Columns {
+    /// Returns the columns of a row.
+    #[inline(always)]
+    pub fn of_row(row: &DwRow) -> Columns
+        ensures { row_from row.now.start result ≡ row.now }
+    {
+        Columns {
+            cfa: row.cfa,
+            sp: row.sp,
+            fp: row.fp,
+            ra: row.ra,
+            sign: row.sign,
+            signed: row.signed,
+        }
+    }
+}
+
+// Returns the row from an offset on.
+fn row_at(start: u64, columns: &Columns) -> DwRow
+    ensures { result ≡ row_from start columns.now }
+{
+    DwRow {
+        start,
+        cfa: columns.cfa,
+        sp: columns.sp,
+        fp: columns.fp,
+        ra: columns.ra,
+        sign: columns.sign,
+        signed: columns.signed,
+    }
+}
 
 // Returns the rows of a function, as one pass over the instructions gives them.
 fn pass(
@@ -28,9 +62,10 @@ fn pass(
 ) -> Result<Vec<DwRow>, MachineFault>
     ensures { Gives (λ v. v.items) result (rows_by arch code factor size (listing (cursor cie.entry)) (listing (cursor fde.entry))) }
 {
+    let initial = initial_row(arch, factor, cie)?;
     let mut rows = Vec::new(alloc);
     let mut run = Runner::new();
-    run.start(arch, code, factor, cie, fde, size)?;
+    run.start_from(&initial, arch, code, factor, fde, size);
     while let Some(start) = run.next_row()? {
         rows.push(row_at(start, run.columns()))?;
     }

@@ -4,7 +4,7 @@ use Rattle.cfa_insn.specs.Listing.{listing}
 use Rattle.cfa_machine.specs.Left.{rows_left, steps_left}
 use Rattle.cfa_machine.specs.Pass.{rows_by}
 use Rattle.cfa_machine.proofs.InstructionLoops.{after_rows}
-use Rattle.cfa_machine.proofs.table.pass.Given as goal
+use Rattle.cfa_machine.proofs.list_forms.pass.Given as goal
 
 abbrev pub invariant-loop-rows : goal.invariant-loop-rows
 invariant-loop-rows l = after_rows l.rows.items (rows_left l.run) ≡ rows_by l.fn.arch l.fn.code l.fn.factor l.fn.size (listing (cursor l.fn.cie)) (listing (cursor l.fn.fde))
