@@ -6,3 +6,5 @@ pub mod ReadSizes
 pub mod Rules
 mod LeastCompressed
 mod Masks
+mod HeadersKept
+mod LinkedSound

@@ -12,3 +12,4 @@ pub mod InTurn
 pub mod Views
 pub mod FaultShown
 pub mod Zeros
+pub mod Linked

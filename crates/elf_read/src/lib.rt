@@ -4,6 +4,9 @@
 //! with its place. What it returns lends the file's bytes: sections, segments, symbols, relocations and
 //! groups are read from their places when they are asked for.
 //!
+//! [`linked_of`] checks as much of an executable or a shared object by its header, its section headers, their names and
+//! its one section with call frame information, which it lends. It returns one only where the whole file has no fault.
+//!
 //! The meaning of a file is its list of bytes. Each header is a record of the standard's fields, and a function
 //! of it (`specs/Header.antt`, `specs/Sections.antt`). What is asked of a file is a table of conditions, each with
 //! its fault (`specs/Parsing.antt`): `parse` returns Ok exactly where none is broken, and else the fault of the
@@ -22,10 +25,14 @@ mod entry;
 mod fault;
 mod first_zero;
 mod header;
+mod headers;
 mod identity;
 mod kind;
 mod laws;
 pub mod layout;
+mod linked;
+mod linked_elf;
+mod linked_sections;
 mod names;
 mod notice;
 mod number;
@@ -45,8 +52,11 @@ mod zeros;
 pub use entry::{GroupHead, Rela, Section, Segment, Symbol};
 pub use fault::ElfFault;
 pub use first_zero::bytes_before_zero;
+pub use headers::Headers;
 pub use kind::Kind;
 pub use laws::{compressed_law, room_law};
-pub use number::{u32_at, u64_at};
+pub use linked::linked_of;
+pub use linked_elf::LinkedElf;
+pub use number::{u16_at, u32_at, u64_at};
 pub use text::Text;
 pub use view::Elf;

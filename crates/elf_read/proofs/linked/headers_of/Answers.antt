@@ -1,0 +1,21 @@
+use Rattle.std.proofs.Common.{rules}
+use Rattle.elf_read.proofs.HeadersKept.{head_kept, count_kept, place_kept}
+use Rattle.elf_read.proofs.linked.headers_of.Goals as goal
+
+pub invariant_of-result : goal.invariant_of-result
+invariant_of-result c =
+    let file = c.args.file.whole.now.numbers in
+    let header = c.in_ok-header.header.now in
+    let is = c.in_ok-header.ensures in
+    let head = head_kept c.args.file.whole.now.numbers c.in_ok-header.header.now is (search rules) in
+    let count = count_kept c.args.file.whole.now.numbers c.in_ok-header.header.now is head in
+    let place = place_kept c.args.file.whole.now.numbers c.in_ok-header.header.now is in
+    record {
+      small = c.requires;
+      header_is = is;
+      sections_are = search (rules, place);
+      counted = search (rules, count);
+    }
+
+pub returns-clause-head : goal.returns-clause-head
+returns-clause-head c = head_kept c.args.file.whole.now.numbers c.in_ok-header.header.now c.in_ok-header.ensures (search rules)

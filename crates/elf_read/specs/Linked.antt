@@ -1,0 +1,28 @@
+-- Executables and shared objects that have sections with names (ELF64 gABI, "ELF Header", "Sections").
+use Rattle.std.specs.Prelude.{◌≡◌, ◌==◌, ◌<◌, ℕ, true, false, List, Ok}
+use Rattle.elf_read.specs.declared.headers.Headers.{Headers}
+use Rattle.elf_read.specs.Checks.{identity_check, purpose_check}
+use Rattle.elf_read.specs.Header.{header_fields, is_core, is_rel}
+use Rattle.elf_read.specs.Sections.{section_count, is_eh_frame}
+
+-- what the file header of such a file says: neither e_shnum nor e_shstrndx is in section 0's header (SHN_XINDEX 0xffff)
+pub record IsLinkedHead (file : List ℕ) : Type 0 where
+  pub identity : identity_check file ≡ Ok tt
+  pub purpose : purpose_check file ≡ Ok tt
+  pub no_object : is_rel file ≡ false
+  pub no_core : is_core file ≡ false
+  pub entry : (header_fields file).e_shentsize ≡ 64
+  pub place : ((header_fields file).e_shoff == 0) ≡ false
+  pub count : ((header_fields file).e_shnum == 0) ≡ false
+  pub names : ((header_fields file).e_shstrndx == 0xffff) ≡ false
+  pub named : ((header_fields file).e_shstrndx == 0) ≡ false
+
+-- a section holds call frame information, and no other one does
+pub record IsOnlyEhFrame (file : List ℕ) (i : ℕ) : Type 0 where
+  pub within : i < section_count file
+  pub is : is_eh_frame file i ≡ true
+  pub only : (k : ℕ) → k < section_count file → is_eh_frame file k ≡ true → k ≡ i
+
+-- all the bytes of the file whose headers these are
+abbrev pub whole_of : Headers → List ℕ
+whole_of headers = headers.file.whole.now.numbers

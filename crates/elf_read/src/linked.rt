@@ -1,0 +1,257 @@
+//! All checks of an executable or a shared object, by parts of it.
+
+ghost use Rattle.std.specs.Prelude.{◌≡◌, ◌==◌, ◌<◌, ◌≤◌, ◌+◌, ◌*◌, ◌^◌, ℕ, true, false, Ok, length, IsTrue, IfSome};
+ghost use Rattle.std.specs.Cmp.Lexicographic.{pointwise};
+ghost use Rattle.elf_read.specs.Checking.{each_below};
+ghost use Rattle.elf_read.specs.Checks as checks;
+ghost use Rattle.elf_read.specs.Linked.{IsLinkedHead, IsOnlyEhFrame, whole_of};
+ghost use Rattle.elf_read.specs.Number.{EndsTexts};
+ghost use Rattle.elf_read.specs.Parsing.{file_check};
+ghost use Rattle.elf_read.specs.Sections as spec;
+
+use crate::header::{e_shentsize, e_shnum, e_shoff, e_shstrndx, is_core_file, is_object};
+use crate::headers::Headers;
+use crate::identity::{check_identity, check_purpose};
+use crate::layout::{
+    EH_FRAME, FILE_HEADER_LEN, SECTION_HEADER_LEN, SHF_ALLOC, SHF_COMPRESSED, SHN_XINDEX,
+    SHT_STRTAB,
+};
+use crate::linked_elf::LinkedElf;
+use crate::linked_sections::{
+    has_bytes, section_bytes, sh_flags, sh_name, sh_offset, sh_size, sh_type,
+};
+use crate::number::{flag_is_set, lies};
+use crate::text::{text_is, texts_end};
+use sf_bytes::FileBytes;
+
+// Returns whether a file header is that of an executable or a shared object that has sections with names.
+fn is_linked_head(header: &[u8]) -> bool
+    ensures { IsTrue result → IsLinkedHead header.now }
+{
+    if let Err(_) = check_identity(header) {
+        return false;
+    }
+    if let Err(_) = check_purpose(header) {
+        return false;
+    }
+    if is_object(header) || is_core_file(header) {
+        return false;
+    }
+    if u64::from(e_shentsize(header)) != SECTION_HEADER_LEN {
+        return false;
+    }
+    if e_shoff(header) == 0 || e_shnum(header) == 0 {
+        return false;
+    }
+    if e_shstrndx(header) == SHN_XINDEX || e_shstrndx(header) == 0 {
+        return false;
+    }
+    true
+}
+
+// Returns the headers of such a file, if they were read.
+fn headers_of<'a>(file: FileBytes<'a>) -> Option<Headers<'a>>
+    requires { length file.whole.now.numbers < 2 ^ 32 }
+    ensures file { IfSome result (λ headers. whole_of headers ≡ file.entry.whole.now.numbers) }
+    ensures head { IfSome result (λ headers. IsLinkedHead (whole_of headers)) }
+    ensures headers { IfSome result (λ headers. length headers.sections.now ≡ 64 * headers.count) }
+{
+    let header = file.lend(0, FILE_HEADER_LEN)?;
+    if !is_linked_head(header) {
+        return None;
+    }
+    let count = e_shnum(header);
+    let sections = file.lend(e_shoff(header), SECTION_HEADER_LEN * u64::from(count))?;
+    if sections.len() as u64 != SECTION_HEADER_LEN * u64::from(count) {
+        return None;
+    }
+    Some(Headers {
+        file,
+        header,
+        sections,
+        count: u32::from(count),
+    })
+}
+
+// Returns whether a section's bytes lie in the file.
+#[tactic(auto, unfolding(crate::specs::Checks::bytes_check))]
+fn bytes_lie(headers: &Headers<'_>, i: u32) -> bool
+    requires { i < headers.now.count }
+    ensures { IsTrue result → checks.bytes_check (whole_of headers.now) i ≡ Ok tt }
+{
+    if !has_bytes(headers, i) {
+        return true;
+    }
+    lies(
+        headers.file.len(),
+        sh_offset(headers, i),
+        sh_size(headers, i),
+        1,
+    )
+}
+
+// Returns whether the bytes of each section lie in the file.
+fn all_bytes_lie(headers: &Headers<'_>) -> bool
+    ensures { IsTrue result → each_below headers.now.count (checks.bytes_check (whole_of headers.now)) ≡ Ok tt }
+{
+    for i in 0..headers.count {
+        if !bytes_lie(headers, i) {
+            return false;
+        }
+    }
+    true
+}
+
+// Returns the name table's bytes, if it is a string table and they were read.
+#[tactic(auto, unfolding(crate::specs::Checks::is_string_table))]
+fn names_of<'a>(headers: &Headers<'a>) -> Option<&'a [u8]>
+    requires { IsLinkedHead (whole_of headers.now) }
+    ensures bytes { IfSome result (λ names. names.now ≡ spec.section_bytes (whole_of headers.now) (spec.name_table (whole_of headers.now))) }
+    ensures kind { IfSome result (λ names. checks.is_string_table (whole_of headers.now) (spec.name_table (whole_of headers.now)) ≡ true) }
+{
+    let table = u32::from(e_shstrndx(headers.header));
+    if table >= headers.count || sh_type(headers, table) != SHT_STRTAB {
+        return None;
+    }
+    section_bytes(headers, table)
+}
+
+// Returns whether a section's name is in the name table, whose texts end there.
+#[tactic(auto, unfolding(crate::specs::Checks::name_check))]
+fn name_stands(headers: &Headers<'_>, end: u64, i: u32) -> bool
+    requires index { i < headers.now.count }
+    requires end { EndsTexts (spec.section_bytes (whole_of headers.now) (spec.name_table (whole_of headers.now))) end }
+    ensures { IsTrue result → checks.name_check (whole_of headers.now) i ≡ Ok tt }
+{
+    u64::from(sh_name(headers, i)) < end
+}
+
+// Returns whether the name of each section is in the name table.
+fn all_names_stand(headers: &Headers<'_>, names: &[u8]) -> bool
+    requires { names.now ≡ spec.section_bytes (whole_of headers.now) (spec.name_table (whole_of headers.now)) }
+    ensures { IsTrue result → each_below headers.now.count (checks.name_check (whole_of headers.now)) ≡ Ok tt }
+{
+    let end = texts_end(names);
+    for i in 0..headers.count {
+        if !name_stands(headers, end, i) {
+            return false;
+        }
+    }
+    true
+}
+
+// Returns whether a section is loaded.
+#[tactic(auto, unfolding(crate::specs::Sections::is_allocated))]
+fn is_allocated(headers: &Headers<'_>, i: u32) -> bool
+    requires { i < headers.now.count }
+    ensures { result ≡ spec.is_allocated (whole_of headers.now) i }
+{
+    flag_is_set(sh_flags(headers, i), SHF_ALLOC)
+}
+
+// Returns whether a section's bytes are compressed.
+#[tactic(auto, unfolding(crate::specs::Sections::is_compressed))]
+fn is_compressed(headers: &Headers<'_>, i: u32) -> bool
+    requires { i < headers.now.count }
+    ensures { result ≡ spec.is_compressed (whole_of headers.now) i }
+{
+    flag_is_set(sh_flags(headers, i), SHF_COMPRESSED)
+}
+
+// Returns whether a section has this name.
+fn is_named(headers: &Headers<'_>, names: &[u8], i: u32, name: &[u8]) -> bool
+    requires index { i < headers.now.count }
+    requires names { names.now ≡ spec.section_bytes (whole_of headers.now) (spec.name_table (whole_of headers.now)) }
+    requires head { IsLinkedHead (whole_of headers.now) }
+    requires short { length name.now < 2 ^ 32 }
+    ensures { result ≡ pointwise (λ (a b : ℕ). a == b) (spec.section_name (whole_of headers.now) i) name.now }
+{
+    text_is(names, u64::from(sh_name(headers, i)), name)
+}
+
+// Returns whether a section holds call frame information that is loaded.
+#[tactic(auto, unfolding(crate::specs::Sections::is_eh_frame))]
+fn is_eh_frame(headers: &Headers<'_>, names: &[u8], i: u32) -> bool
+    requires index { i < headers.now.count }
+    requires names { names.now ≡ spec.section_bytes (whole_of headers.now) (spec.name_table (whole_of headers.now)) }
+    requires head { IsLinkedHead (whole_of headers.now) }
+    ensures { result ≡ spec.is_eh_frame (whole_of headers.now) i }
+{
+    is_allocated(headers, i) && is_named(headers, names, i, EH_FRAME)
+}
+
+// Returns the first section with call frame information.
+fn first_eh_frame(headers: &Headers<'_>, names: &[u8]) -> Option<u32>
+    requires names { names.now ≡ spec.section_bytes (whole_of headers.now) (spec.name_table (whole_of headers.now)) }
+    requires head { IsLinkedHead (whole_of headers.now) }
+    ensures within { IfSome result (λ first. first < headers.now.count) }
+    ensures is { IfSome result (λ first. spec.is_eh_frame (whole_of headers.now) first ≡ true) }
+    ensures before { IfSome result (λ first. (k : ℕ) → k < first → spec.is_eh_frame (whole_of headers.now) k ≡ false) }
+{
+    for i in 0..headers.count {
+        if is_eh_frame(headers, names, i) {
+            return Some(i);
+        }
+    }
+    None
+}
+
+// Returns whether no section after this one has call frame information.
+fn is_last_eh_frame(headers: &Headers<'_>, names: &[u8], first: u32) -> bool
+    requires names { names.now ≡ spec.section_bytes (whole_of headers.now) (spec.name_table (whole_of headers.now)) }
+    requires head { IsLinkedHead (whole_of headers.now) }
+    requires within { first < headers.now.count }
+    ensures { IsTrue result → (k : ℕ) → first < k → k < headers.now.count → spec.is_eh_frame (whole_of headers.now) k ≡ false }
+{
+    let count = headers.count;
+    for i in first + 1..count {
+        if is_eh_frame(headers, names, i) {
+            return false;
+        }
+    }
+    true
+}
+
+// Returns the one section with call frame information.
+fn only_eh_frame(headers: &Headers<'_>, names: &[u8]) -> Option<u32>
+    requires names { names.now ≡ spec.section_bytes (whole_of headers.now) (spec.name_table (whole_of headers.now)) }
+    requires head { IsLinkedHead (whole_of headers.now) }
+    ensures { IfSome result (λ only. IsOnlyEhFrame (whole_of headers.now) only) }
+{
+    let first = first_eh_frame(headers, names)?;
+    if !is_last_eh_frame(headers, names, first) {
+        return None;
+    }
+    Some(first)
+}
+
+/// Returns an executable or a shared object by parts of it, if these are enough for every check of the whole file, and
+/// it passes them all. It has to have exactly one section with call frame information. Nothing is said of any other
+/// file: [`Elf::parse`](crate::Elf::parse) of its bytes gives its fault, or says that it has none.
+pub fn linked_of<'a>(file: FileBytes<'a>) -> Option<LinkedElf<'a>>
+    requires { length file.whole.now.numbers < 2 ^ 32 }
+    ensures file { IfSome result (λ elf. whole_of elf.headers ≡ file.entry.whole.now.numbers) }
+    ensures checked { IfSome result (λ elf. file_check (whole_of elf.headers) ≡ Ok tt) }
+    ensures head { IfSome result (λ elf. IsLinkedHead (whole_of elf.headers)) }
+    ensures only { IfSome result (λ elf. IsOnlyEhFrame (whole_of elf.headers) elf.eh_frame) }
+{
+    let headers = headers_of(file)?;
+    if !all_bytes_lie(&headers) {
+        return None;
+    }
+    let names = names_of(&headers)?;
+    if !all_names_stand(&headers, names) {
+        return None;
+    }
+    let eh_frame = only_eh_frame(&headers, names)?;
+    if is_compressed(&headers, eh_frame) {
+        return None;
+    }
+    let eh_frame_bytes = section_bytes(&headers, eh_frame)?;
+    Some(LinkedElf {
+        headers,
+        names,
+        eh_frame,
+        eh_frame_bytes,
+    })
+}

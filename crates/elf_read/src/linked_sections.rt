@@ -1,0 +1,100 @@
+//! Section headers and the bytes of sections, by parts of a file.
+
+ghost use Rattle.std.specs.Prelude.{◌≡◌, ◌<◌, ◌≤◌, ◌+◌, ◌*◌, drop, IfSome};
+ghost use Rattle.elf_read.specs.Header.{header_fields};
+ghost use Rattle.elf_read.specs.Linked.{whole_of};
+ghost use Rattle.elf_read.specs.Number.{field_at};
+ghost use Rattle.elf_read.specs.Sections as spec;
+
+use crate::headers::Headers;
+use crate::layout::{
+    SECTION_HEADER_LEN, SH_FLAGS, SH_NAME, SH_OFFSET, SH_SIZE, SH_TYPE, SHT_NOBITS, SHT_NULL,
+};
+use crate::number::{u32_at, u64_at};
+
+// Returns a field of four bytes of a section's header.
+fn field4(headers: &Headers<'_>, i: u32, place: u64) -> u32
+    requires index { i < headers.now.count }
+    requires place { place + 4 ≤ 64 }
+    ensures { result ≡ field_at 4 (64 * i + place) (drop (header_fields (whole_of headers.now)).e_shoff (whole_of headers.now)) }
+{
+    u32_at(headers.sections, SECTION_HEADER_LEN * u64::from(i) + place)
+}
+
+// Returns a field of eight bytes of a section's header.
+fn field8(headers: &Headers<'_>, i: u32, place: u64) -> u64
+    requires index { i < headers.now.count }
+    requires place { place + 8 ≤ 64 }
+    ensures { result ≡ field_at 8 (64 * i + place) (drop (header_fields (whole_of headers.now)).e_shoff (whole_of headers.now)) }
+{
+    u64_at(headers.sections, SECTION_HEADER_LEN * u64::from(i) + place)
+}
+
+/// Returns the place of the section's name in the name table.
+#[tactic(auto, unfolding(crate::specs::Sections::section_fields))]
+pub fn sh_name(headers: &Headers<'_>, i: u32) -> u32
+    requires { i < headers.now.count }
+    ensures { result ≡ (spec.section_fields (whole_of headers.now) i).sh_name }
+{
+    field4(headers, i, SH_NAME)
+}
+
+/// Returns the section's type.
+#[tactic(auto, unfolding(crate::specs::Sections::section_fields))]
+pub fn sh_type(headers: &Headers<'_>, i: u32) -> u32
+    requires { i < headers.now.count }
+    ensures { result ≡ (spec.section_fields (whole_of headers.now) i).sh_type }
+{
+    field4(headers, i, SH_TYPE)
+}
+
+/// Returns the section's flags.
+#[tactic(auto, unfolding(crate::specs::Sections::section_fields))]
+pub fn sh_flags(headers: &Headers<'_>, i: u32) -> u64
+    requires { i < headers.now.count }
+    ensures { result ≡ (spec.section_fields (whole_of headers.now) i).sh_flags }
+{
+    field8(headers, i, SH_FLAGS)
+}
+
+/// Returns the place of the section's bytes in the file.
+#[tactic(auto, unfolding(crate::specs::Sections::section_fields))]
+pub fn sh_offset(headers: &Headers<'_>, i: u32) -> u64
+    requires { i < headers.now.count }
+    ensures { result ≡ (spec.section_fields (whole_of headers.now) i).sh_offset }
+{
+    field8(headers, i, SH_OFFSET)
+}
+
+/// Returns the section's size in bytes.
+#[tactic(auto, unfolding(crate::specs::Sections::section_fields))]
+pub fn sh_size(headers: &Headers<'_>, i: u32) -> u64
+    requires { i < headers.now.count }
+    ensures { result ≡ (spec.section_fields (whole_of headers.now) i).sh_size }
+{
+    field8(headers, i, SH_SIZE)
+}
+
+/// Returns whether a section has bytes in the file.
+#[tactic(auto, unfolding(crate::specs::Sections::has_bytes))]
+pub fn has_bytes(headers: &Headers<'_>, i: u32) -> bool
+    requires { i < headers.now.count }
+    ensures { result ≡ spec.has_bytes (whole_of headers.now) i }
+{
+    !matches!(sh_type(headers, i), SHT_NULL | SHT_NOBITS)
+}
+
+/// Returns a section's bytes, if they were read.
+#[tactic(auto, unfolding(crate::specs::Sections::section_bytes))]
+pub fn section_bytes<'a>(headers: &Headers<'a>, i: u32) -> Option<&'a [u8]>
+    requires { i < headers.now.count }
+    ensures { IfSome result (λ bytes. bytes.now ≡ spec.section_bytes (whole_of headers.now) i) }
+{
+    if has_bytes(headers, i) {
+        headers
+            .file
+            .lend(sh_offset(headers, i), sh_size(headers, i))
+    } else {
+        Some(&[])
+    }
+}
