@@ -30,7 +30,7 @@ BOXES = (
     ("records", "eh_pointer eh_records", "DWARF", 4, 10, 190),
     ("instructions", "cfa_insn cfa_machine", "DWARF", 4, 210, 390),
     ("reading", "sf_decode sf_lookup", "SFrame", 4, 410, 590),
-    ("files", "elf_read elf_place elf_groups elf_reloc", "ELF", 4, 610, 790),
+    ("files", "elf_read sf_parts elf_place elf_groups elf_reloc", "ELF", 4, 610, 860),
     ("files, streams, bytes, shared types", "sf_base sf_fakes sf_bytes sf_model", "outside", 5, 10, 930),
 )
 WIDTH, BOX_HEIGHT, ROW, MARGIN, BAR = 940, 66, 96, 10, 4

@@ -1,0 +1,29 @@
+//! All bytes of a file of which parts were read, as clauses see them.
+
+ghost use Rattle.std.specs.Prelude.{◌≡◌};
+ghost use Rattle.sf_parts.specs.Image.{image, known_or_read};
+
+use crate::file_parts::FileParts;
+use boxcar::tag::{Names, Tag};
+use sf_base::Files;
+
+// The open file, and the parts of it that were read.
+#[derive(Drop)]
+struct Opened<'a, F: Files> {
+    files: &'a F,
+    parts: &'a FileParts,
+}
+
+// How a tag is read off these.
+struct Whole;
+
+impl<'a, F: Files> Names<Opened<'a, F>> for Whole {
+    ghost numbers = { λ opened. known_or_read ((F.seen opened.files.now).contents) (F.whole opened.files.now) (image opened.parts.now.len opened.parts.now.parts.items) };
+}
+
+/// Returns what the open file holds, if that is known, and else what the parts say, for clauses.
+pub fn whole_of<F: Files>(files: &F, parts: &FileParts) -> Tag
+    ensures { result.numbers ≡ known_or_read ((F.seen files.now).contents) (F.whole files.now) (image parts.now.len parts.now.parts.items) }
+{
+    Tag::of::<Opened<'_, F>, Whole>(&Opened { files, parts })
+}

@@ -1,0 +1,25 @@
+//! The parts of a file that a command needs, read in place of the whole.
+//!
+//! [`load_parts`] reads of an executable or a shared object its header, its section headers, their names and one
+//! section, where it is clear that these can be read alone. Else, and whenever something is in doubt, it reads the whole
+//! file, so that no fault is told from parts.
+//!
+//! The parts of a [`FileParts`] lie in the file and don't overlap (`specs/Image.antt`), so there are bytes of which they
+//! are parts, also if what the file holds isn't known. Which parts are read is a plan of which nothing is stated.
+//! Clauses are about all the file's bytes (`specs/Read.antt`).
+//!
+//! The caller owes that the name may be opened, and that the file doesn't change between two reads. Each part is
+//! read once, in reads of at most 64 KiB.
+#![tactic(auto)]
+
+mod file_parts;
+mod file_read;
+mod known;
+mod loading;
+mod plan;
+mod read_parts;
+
+pub use file_parts::FileParts;
+pub use file_read::FileRead;
+pub use loading::load_parts;
+pub use read_parts::ReadParts;
