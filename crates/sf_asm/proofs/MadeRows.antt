@@ -21,7 +21,7 @@ use Rattle.sf_write.specs.Packed.{ArePacked, IsPacked}
 use Rattle.cfa_machine.proofs.GoodRows.{AreRowsIfOk, rows_by-are_rows}
 use Rattle.cfa_machine.proofs.Says.{SaysAllIfOk, rows_by-say}
 use Rattle.cfa_machine.proofs.Faults.{fault_of, rows_by-fault}
-use Rattle.sf_express.specs.declared.fault.ExpressFault.TheVariants.{Omit}
+use Rattle.sf_express.specs.declared.list_forms.ExpressFault.TheVariants.{Omit}
 use Rattle.sf_express.specs.Expressed.{expressed_rows, function_by, reason_of, with_rows}
 use Rattle.sf_express.specs.Run.{on_rows}
 use Rattle.sf_express.specs.Runs.{AreSaid, function_of}

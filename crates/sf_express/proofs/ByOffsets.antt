@@ -14,8 +14,8 @@ use Rattle.sf_model.specs.declared.rows.Row.{Row}
 use Rattle.cfa_machine.specs.declared.row.DwRow.{DwRow}
 use Rattle.cfa_machine.specs.RowList.{AreRows}
 use Rattle.cfa_machine.specs.RowAtOffset.{latest_at}
-use Rattle.sf_express.specs.declared.fault.ExpressFault.{ExpressFault}
-use Rattle.sf_express.specs.declared.fault.ExpressFault.TheVariants.{Omit, NoMemory}
+use Rattle.sf_express.specs.declared.list_forms.ExpressFault.{ExpressFault}
+use Rattle.sf_express.specs.declared.list_forms.ExpressFault.TheVariants.{Omit, NoMemory}
 use Rattle.sf_express.specs.Rules.{content_of}
 use Rattle.sf_express.specs.Expressed.{◌>>=◌, reason_of, row_from, unless_repeated, repeats, expressed_rows, with_rows, function_by, Gives}
 use Rattle.sf_express.specs.Offsets.{said, said_at, as_said, latest_content, SayTheSame, IsSayable, IsOmission, IsFirstReason, Omits}

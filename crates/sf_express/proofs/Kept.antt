@@ -6,8 +6,8 @@ use Rattle.sf_model.specs.declared.content.Content.{Content}
 use Rattle.sf_model.specs.declared.omission.Omission.{Omission}
 use Rattle.sf_model.specs.declared.rows.Row.{Row}
 use Rattle.cfa_machine.specs.declared.row.DwRow.{DwRow}
-use Rattle.sf_express.specs.declared.fault.ExpressFault.{ExpressFault}
-use Rattle.sf_express.specs.declared.fault.ExpressFault.TheVariants.{Omit, NoMemory}
+use Rattle.sf_express.specs.declared.list_forms.ExpressFault.{ExpressFault}
+use Rattle.sf_express.specs.declared.list_forms.ExpressFault.TheVariants.{Omit, NoMemory}
 use Rattle.sf_express.specs.Expressed.{◌>>=◌, Makes, Fails, repeats, row_by, unless_repeated, expressed_rows}
 
 -- rows that were kept before the others

@@ -16,8 +16,8 @@ use Rattle.sf_model.specs.declared.omission.Reason.{Reason}
 use Rattle.sf_model.specs.declared.omission.Reason.TheVariants.{EmptyRange, SizeTooLarge, ReturnColumn, SignalFrame}
 use Rattle.sf_model.specs.declared.rows.Row.{Row}
 use Rattle.cfa_machine.specs.declared.row.DwRow.{DwRow}
-use Rattle.sf_express.specs.declared.fault.ExpressFault.{ExpressFault}
-use Rattle.sf_express.specs.declared.fault.ExpressFault.TheVariants.{Omit, NoMemory}
+use Rattle.sf_express.specs.declared.list_forms.ExpressFault.{ExpressFault}
+use Rattle.sf_express.specs.declared.list_forms.ExpressFault.TheVariants.{Omit, NoMemory}
 use Rattle.sf_express.specs.Rules.{content_of}
 pub use Rattle.sf_bytes.specs.Steps.{◌>>=◌}
 use Rattle.cfa_machine.specs.Registers.{return_address}

@@ -7,8 +7,8 @@ use Rattle.sf_model.specs.declared.omission.Reason.{Reason}
 use Rattle.sf_model.specs.declared.facts.FdeFacts.{FdeFacts}
 use Rattle.sf_model.specs.declared.function.Func.{Func}
 use Rattle.sf_model.specs.declared.rows.Row.{Row}
-use Rattle.sf_express.specs.declared.fault.ExpressFault.{ExpressFault}
-use Rattle.sf_express.specs.declared.fault.ExpressFault.TheVariants.{Omit, NoMemory}
+use Rattle.sf_express.specs.declared.list_forms.ExpressFault.{ExpressFault}
+use Rattle.sf_express.specs.declared.list_forms.ExpressFault.TheVariants.{Omit, NoMemory}
 use Rattle.sf_express.specs.Expressed.{reason_of}
 use Rattle.cfa_machine.specs.declared.row.DwRow.{DwRow}
 use Rattle.cfa_machine.specs.RowAtOffset.{latest_at}

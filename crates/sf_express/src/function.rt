@@ -1,18 +1,10 @@
-//! A whole function in SFrame's form.
+//! When a function is omitted as a whole, and when two contents are the same.
 
-ghost use Rattle.std.specs.Prelude.{◌≡◌, ◌^◌, ◌<◌, ◌+◌, ◌≤◌, ◌++◌, [], All, IfOk, OnOk, IsTrue, None};
-ghost use Rattle.sf_model.specs.declared.function.Shape.TheVariants.{Plain};
-ghost use Rattle.sf_model.specs.Function.{IsWritable, key_fits};
-ghost use Rattle.cfa_machine.specs.RowList.{AreRows};
-ghost use Rattle.sf_express.specs.Offsets.{Omits, SayTheSame, StandAtChanges};
-ghost use Rattle.sf_express.specs.Runs.{AreSaid, Saying, function_of};
-ghost use Rattle.sf_express.specs.Expressed.{repeats, same_content, reason_of, row_by, unless_repeated, Makes, Gives, expressed_rows, function_by};
+ghost use Rattle.std.specs.Prelude.{◌≡◌};
+ghost use Rattle.sf_express.specs.Expressed.{repeats, same_content, reason_of};
 
-use crate::fault::ExpressFault;
-use crate::row::content;
-use cfa_machine::{DwRow, return_address_of};
-use sf_model::{Arch, Content, FdeFacts, Func, Omission, Reason, Row, Rows, Shape};
-use std::alloc::{AllocError, Global};
+use cfa_machine::return_address_of;
+use sf_model::{Arch, Content, FdeFacts, Reason};
 
 /// The first size that doesn't fit a function descriptor entry, in bytes.
 const SIZE_LIMIT: u64 = 0x1_0000_0000;
@@ -57,106 +49,4 @@ pub fn function_reason(arch: Arch, facts: &FdeFacts) -> Option<Reason>
         return Some(Reason::SignalFrame);
     }
     None
-}
-
-// Returns the row in SFrame's form, or the omission at its start.
-#[inline(always)]
-fn row_of(arch: Arch, row: &DwRow) -> Result<Row, ExpressFault>
-    requires { row.now.start < 2 ^ 32 }
-    ensures { Makes result (row_by arch row.now) }
-{
-    let start = row.start as u32;
-    match content(arch, row) {
-        Ok(content) => Ok(Row { start, content }),
-        Err(reason) => Err(ExpressFault::Omit(Omission {
-            reason,
-            offset: Some(start),
-        })),
-    }
-}
-
-// Appends the row, unless its content is that of the row before it.
-#[inline(always)]
-fn append(kept: &mut Rows, last: Option<Content>, row: Row) -> Result<(), AllocError>
-    ensures { OnOk result (kept.new ≡ kept.old ++ unless_repeated last row []) }
-{
-    if !is_repeated(last, row.content) {
-        kept.push(row)?;
-    }
-    Ok(())
-}
-
-// Returns the rows in SFrame's form.
-fn express_rows(alloc: Global, arch: Arch, rows: &[DwRow]) -> Result<Rows, ExpressFault>
-    requires { All (λ r. r.start < 2 ^ 32) rows.now }
-    ensures { Gives (λ kept. kept) result (expressed_rows arch None rows.now) }
-{
-    let mut kept = Rows::new(alloc);
-    let mut last = None;
-    for row in rows {
-        let row = row_of(arch, row)?;
-        append(&mut kept, last, row)?;
-        last = Some(row.content);
-    }
-    Ok(kept)
-}
-
-// Creates the function with these facts and rows.
-fn function_with(facts: &FdeFacts, rows: Rows) -> Func
-    requires { facts.now.size < 2 ^ 32 }
-    ensures { result ≡ record { start = facts.now.start; size = facts.now.size; shape = Plain; key = facts.now.key; rows = rows } }
-{
-    Func {
-        start: facts.start,
-        size: facts.size as u32,
-        shape: Shape::Plain,
-        key: facts.key,
-        rows,
-    }
-}
-
-// Returns the function, or its first omission.
-fn whole(alloc: Global, arch: Arch, facts: &FdeFacts, rows: &[DwRow]) -> Result<Func, ExpressFault>
-    requires { AreRows arch facts.now.size rows.now }
-    ensures writable { IfOk result (λ f. facts.now.start + facts.now.size ≤ 2 ^ 64 → IsTrue (key_fits arch facts.now.key) → IsWritable arch f) }
-    ensures same { IfOk result (λ f. SayTheSame arch rows.now f.rows) }
-    ensures changes { IfOk result (λ f. StandAtChanges f.rows) }
-    ensures exact { Gives (λ f. f) result (function_by arch facts.now rows.now) }
-{
-    if let Some(reason) = function_reason(arch, facts) {
-        return Err(ExpressFault::Omit(Omission {
-            reason,
-            offset: None,
-        }));
-    }
-    let kept = express_rows(alloc, arch, rows)?;
-    Ok(function_with(facts, kept))
-}
-
-/// Returns the function as SFrame Version 2 expresses it: a row where the content changes, from offset 0
-/// on.
-///
-/// `Omit` has the first reason of the function as a whole, or else the first reason of a row at the least
-/// offset where one holds.
-pub fn express(
-    alloc: Global,
-    arch: Arch,
-    facts: &FdeFacts,
-    rows: &[DwRow],
-) -> Result<Func, ExpressFault>
-    requires { AreRows arch facts.now.size rows.now }
-    // A section can hold what is kept.
-    ensures writable { IfOk result (λ f. facts.now.start + facts.now.size ≤ 2 ^ 64 → IsTrue (key_fits arch facts.now.key) → IsWritable arch f) }
-    // The function has at every offset the content of the rows.
-    ensures same { IfOk result (λ f. SayTheSame arch rows.now f.rows) }
-    // The function has a row at 0 and where the content changes, and no other.
-    ensures changes { IfOk result (λ f. StandAtChanges f.rows) }
-    // An omission is the first reason.
-    ensures omits { Omits arch facts.now rows.now result }
-    // The result is the definition's function by the content at each offset, or its first omission.
-    ensures means { (says : Saying) → AreSaid arch facts.now.size rows.now says → Gives (λ f. f) result (function_of arch facts.now says) }
-    // Start, size, key and rows, as one pass gives them.
-    ensures exact { Gives (λ f. f) result (function_by arch facts.now rows.now) }
-{
-    whole(alloc, arch, facts, rows)
 }

@@ -5,10 +5,12 @@ ghost use Rattle.cfa_machine.specs.Columns.{row_from};
 ghost use Rattle.sf_express.specs.Rules.{content_of};
 
 use crate::rules;
-use cfa_machine::{Columns, DwRow};
+use cfa_machine::Columns;
 use sf_model::{Arch, Content, Reason};
 
-/// Returns the content of a row with these columns, whatever its start.
+/// Returns the content of a row with these columns, whatever its start, or the first reason why SFrame Version 2
+/// can't express it: of the canonical frame address, the stack pointer, the return address, the frame pointer, a frame
+/// pointer that is saved alone, and the sign state.
 #[tactic(auto, unfolding(crate::specs::Rules::content_of))]
 #[inline(always)]
 pub fn content_at(arch: Arch, columns: &Columns) -> Result<Content, Reason>
@@ -27,14 +29,4 @@ pub fn content_at(arch: Arch, columns: &Columns) -> Result<Content, Reason>
         fp,
         signed: columns.signed,
     })
-}
-
-/// Returns the content of the row, or the first reason why SFrame Version 2 can't express it: of the
-/// canonical frame address, the stack pointer, the return address, the frame pointer, a frame pointer that is
-/// saved alone, and the sign state.
-#[tactic(auto, unfolding(crate::specs::Rules::content_of))]
-pub fn content(arch: Arch, row: &DwRow) -> Result<Content, Reason>
-    ensures exact { result ≡ content_of arch row.now }
-{
-    content_at(arch, &Columns::of_row(row))
 }

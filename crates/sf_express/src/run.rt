@@ -85,8 +85,9 @@ fn head_with(facts: &FdeFacts, rows: u32) -> FuncHead
     }
 }
 
-/// Returns the head of the function that a runner was started on, as [`express`](crate::express) gives it, and makes `rows`
-/// its rows, whatever they were; or returns its first omission.
+/// Returns the head of the function that a runner was started on, as SFrame Version 2 expresses it, and makes `rows`
+/// its rows, whatever they were: a row where the content changes, from offset 0 on. Or returns its first omission: the
+/// first reason of the function as a whole, or else the first reason of a row at the least offset where one holds.
 ///
 /// # Errors
 ///

@@ -3,7 +3,7 @@ use Rattle.sf_express.specs.Expressed.{reason_of}
 use Rattle.sf_express.proofs.Writable.{kept_is_writable}
 use Rattle.sf_express.proofs.Changes.{kept_stand_at_changes}
 use Rattle.sf_express.proofs.Same.{kept_say_the_same}
-use Rattle.sf_express.proofs.function.whole.Goals as goal
+use Rattle.sf_express.proofs.list_forms.whole.Goals as goal
 
 pub returns-clause-writable : goal.returns-clause-writable
 returns-clause-writable c =

@@ -1,6 +1,6 @@
 use Rattle.std.proofs.lemmas.Result.{err_from_is_err_and}
 use Rattle.sf_express.proofs.Kept.{goes_on, ends, is_done}
-use Rattle.sf_express.proofs.function.express_rows.Goals as goal
+use Rattle.sf_express.proofs.list_forms.express_rows.Goals as goal
 
 pub returns-in_err-row : goal.returns-in_err-row
 returns-in_err-row c =

@@ -1,6 +1,6 @@
 use Rattle.sf_express.proofs.ByOffsets.{answer_means}
 use Rattle.sf_express.proofs.Omitted.{answer_omits}
-use Rattle.sf_express.proofs.function.express.Goals as goal
+use Rattle.sf_express.proofs.list_forms.express.Goals as goal
 
 pub returns-clause-omits : goal.returns-clause-omits
 returns-clause-omits c = answer_omits _ _ _ _ c.requires c.whole.ensures.exact
