@@ -4,8 +4,7 @@
 //! [`entries`] reads the note on mapped files of a core file, which [`Process::new`] puts in order. [`read_module`] finds a
 //! file among its entries by its name (`specs/Match.antt`), by where its segments were (`specs/Fit.antt`) and by its build
 //! identifier (`specs/Build.antt`), and reads its SFrame section at the address at which it was. [`Modules::new`] puts
-//! entries and modules in order, once for all threads, and [`Modules::walk`] lists a thread's frames; [`walk_modules`] is
-//! both for one thread.
+//! entries and modules in order, once for all threads, and [`Modules::walk`] lists a thread's frames.
 //!
 //! The meaning is a list of entries and a list of modules: at an address the first entry that holds it says which file is
 //! there, and the first module of that name answers by its own table (`found_in` of `specs/Found.antt`). A walk is
@@ -47,7 +46,7 @@ pub use entry::Entry;
 pub use fault::ModuleFault;
 pub use laws::modules_answer_as_their_union;
 pub use mapped::{Module, read_module};
-pub use modules::{Modules, walk_modules};
+pub use modules::Modules;
 pub use note::entries;
 pub use process::Process;
 pub use read_once::{ReadFile, read_module_once};

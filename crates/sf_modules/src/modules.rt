@@ -3,9 +3,7 @@
 ghost use Rattle.std.specs.Prelude.{◌≡◌, IfOk, map};
 ghost use Rattle.sf_lookup.specs.Indexed.{indexed_table};
 ghost use Rattle.sf_lookup.specs.Spans.{InOrder};
-ghost use Rattle.core_walk.specs.Walk.{listing, thread_state};
 ghost use Rattle.sf_modules.specs.Entry.{entry_view};
-ghost use Rattle.sf_modules.specs.Found.{modules_walk};
 ghost use Rattle.sf_modules.specs.Module.{module_view};
 ghost use Rattle.sf_modules.specs.Span.{span_of};
 ghost use Rattle.sf_modules.specs.Union.{tables_of};
@@ -108,21 +106,4 @@ impl<'m> LookUp for Modules<'m> {
         let number = self.number_at(pc)?;
         self.sections[number as usize].look_up(pc)
     }
-}
-
-/// Lists the frames of a thread by the rows of a process's modules, which are put in order for this one walk. To walk
-/// several threads, make [`Modules`] once.
-///
-/// `NoMemory` if out of memory.
-pub fn walk_modules<M: Memory>(
-    alloc: Global,
-    entries: &[Entry<'_>],
-    modules: &[Module<'_, '_>],
-    thread: &Thread,
-    mem: &M,
-    depth: u32,
-) -> Result<Walk, NoMemory>
-    ensures { IfOk result (λ walk. listing walk ≡ modules_walk (map entry_view entries.now) (map module_view modules.now) (thread_state thread.now) (M.regions mem.now) depth) }
-{
-    Modules::new(alloc, entries, modules)?.walk(alloc, thread, mem, depth)
 }
