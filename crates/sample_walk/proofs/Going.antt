@@ -1,0 +1,159 @@
+-- Walks that go on: one after another, and beside the walk that stops at a frame pointer that can't be read.
+use Rattle.std.specs.Option.{option_map}
+use Rattle.std.specs.Prelude.{ℤ}
+use Rattle.std.proofs.Common.{◌≡◌, ℕ, zero, suc, ◌+◌, Bool, true, false, Option, Some, None, List, [], ◌∷◌, Result, Ok, Err, inl, inr, refl, sym, ap, subst, ◌∙◌, arith}
+use Rattle.sf_model.specs.declared.recovery.Regs.{Regs}
+use Rattle.sf_model.specs.declared.content.Content.{Content}
+use Rattle.sf_model.specs.declared.content.Ra.{Ra}
+use Rattle.sf_model.specs.declared.content.Ra.TheVariants.{Fixed, Link, At}
+use Rattle.sf_model.specs.declared.machine.Base.{Base}
+use Rattle.sf_model.specs.declared.machine.Base.TheVariants.{Fp, Sp}
+use Rattle.sf_model.specs.declared.machine.Key.{Key}
+use Rattle.sf_model.specs.declared.walk.Frame.{Frame}
+use Rattle.sf_model.specs.declared.walk.Stop.{Stop}
+use Rattle.sf_model.specs.Memory.{Region, read_eight}
+use Rattle.sf_model.specs.Recovery as model
+use Rattle.sf_model.specs.Recovery.{Recovery, base_value, frame_address_of, key_if_signed, moved, pointer_place, recovery, return_place, saved_or_kept}
+use Rattle.sf_model.specs.Lookup.{FoundRow}
+use Rattle.sf_model.specs.Walk.{Going, Listing, LookUp, address_before, behind, frame_by, frames_from, on_by, on_by_address, on_by_pointer, recover_by, stopped, unsigned_address, walk_by}
+use Rattle.sample_walk.specs.declared.state.State.{State}
+use Rattle.sample_walk.specs.declared.state.Value.{Value}
+use Rattle.sample_walk.specs.declared.state.Value.TheVariants.{Known}
+use Rattle.sample_walk.specs.Step.{asked_by, base_of, by_address, by_base, by_return, caller_value, rule_of, saved_return, saved_value, step_by, unsigned_by}
+use Rattle.sample_walk.specs.Onward.{GoesOnFromItsState, GoesOnPastFramePointers, GoesOnWhereUnread, Place, Stepping, Walked, and_then, from_frame, listing_of, stepping, then_from, walk_on}
+
+-- ---- one walk after another
+pub walk-zero : (step : Stepping) (at : State) → walk_on step 0 at ≡ record { places = []; stop = None; at = at }
+unfolding walk_on
+walk-zero step at = refl
+
+pub walk-suc : (step : Stepping) (n : ℕ) (at : State) → walk_on step (suc n) at ≡ from_frame (walk_on step n) at (step at).0 (step at).1
+unfolding walk_on
+walk-suc step n at = refl
+
+joined_end : (place : Place) (places : List Place) (stop : Option Stop) (at : State) (go : State → Walked)
+    → record { places = place ∷ (then_from places stop at go).places; stop = (then_from places stop at go).stop; at = (then_from places stop at go).at } ≡ then_from (place ∷ places) stop at go
+joined_end place places None at go = refl
+joined_end place places (Some stop) at go = refl
+
+joined_step : (at : State) (frame : Frame) (next : Result State Stop) (once then both : State → Walked) → ((s : State) → both s ≡ and_then (once s) then)
+    → from_frame both at frame next ≡ and_then (from_frame once at frame next) then
+joined_step at frame (Ok caller) once then both h =
+    ap (λ (w : Walked). record { places = record { at = at; frame = frame } ∷ w.places; stop = w.stop; at = w.at }) (h caller)
+    ∙ joined_end (record { at = at; frame = frame }) (once caller).places (once caller).stop (once caller).at then
+joined_step at frame (Err stop) once then both h = refl
+
+pub from_state : GoesOnFromItsState
+from_state step zero m at =
+    let n : zero + m ≡ m = omega arith in
+    ap (λ (k : ℕ). walk_on step k at) n ∙ ap (λ (w : Walked). and_then w (walk_on step m)) (sym (walk-zero step at))
+from_state step (suc n) m at =
+    let more : suc n + m ≡ suc (n + m) = omega arith in
+    ap (λ (k : ℕ). walk_on step k at) more ∙ walk-suc step (n + m) at
+    ∙ joined_step at (step at).0 (step at).1 (walk_on step n) (walk_on step m) (walk_on step (n + m)) (from_state step n m)
+    ∙ ap (λ (w : Walked). and_then w (walk_on step m)) (sym (walk-suc step n at))
+
+-- ---- beside the walk that stops at a frame pointer that can't be read
+-- the state of a program counter and registers that are known
+abbrev state_of : (returned : Bool) → (pc : ℕ) → Regs → State
+state_of returned pc regs = record { pc = pc; sp = regs.sp; fp = Known regs.fp; lr = regs.lr; returned = returned }
+
+one_before : (frame : Frame) (on once : Listing) → GoesOnWhereUnread on once → GoesOnWhereUnread (behind frame on) (behind frame once)
+one_before frame on once (inl e) = inl (ap (behind frame) e)
+one_before frame on once (inr h) = inr (h.0, (h.1.0, ap (λ (fs : List Frame). frame ∷ fs) h.1.1))
+
+-- both walks go on alike after a frame
+abbrev Alike : (State → Walked) → Going → Type 0
+Alike on once = (pc : ℕ) (regs : Regs) → GoesOnWhereUnread (listing_of (on (state_of true pc regs))) (once pc regs)
+
+same_unsigned : (signed : Bool) (key : Key) (mask : Option ℕ) (address : ℕ) → unsigned_by signed mask address ≡ unsigned_address (key_if_signed signed key) mask address
+same_unsigned true key None address = refl
+same_unsigned true key (Some mask) address = refl
+same_unsigned false key mask address = refl
+
+by_unsigned : (on : State → Walked) (once : Going) → Alike on once → (at : State) (frame : Frame) (base fp address : ℕ) (unsigned : Option ℕ)
+    → GoesOnWhereUnread (listing_of (from_frame on at frame (by_address base (Known fp) address unsigned))) (behind frame (on_by_address once base fp address unsigned))
+by_unsigned on once alike at frame base fp address (Some pc) =
+    let regs : Regs = record { sp = base; fp = fp; lr = address } in one_before frame (listing_of (on (state_of true pc regs))) (once pc regs) (alike pc regs)
+by_unsigned on once alike at frame base fp address None = inl refl
+
+by_unread : (on : State → Walked) (at : State) (frame : Frame) (base place address : ℕ) (unsigned : Option ℕ)
+    → GoesOnWhereUnread (listing_of (from_frame on at frame (by_address base (Value.Unreadable place) address unsigned))) (behind frame (stopped (Stop.Unreadable place)))
+by_unread on at frame base place address (Some pc) =
+    let caller : State = record { pc = pc; sp = base; fp = Value.Unreadable place; lr = address; returned = true } in
+    inr ((place, refl), ((listing_of (on caller)).frames, refl))
+by_unread on at frame base place address None = inr ((place, refl), ([], refl))
+
+by_read : (on : State → Walked) (once : Going) → Alike on once → (at : State) (frame : Frame) (base place address : ℕ) (unsigned : Option ℕ) (r : Recovery) (mask : Option ℕ) (read : Option ℕ)
+    → unsigned ≡ unsigned_address r.signed mask address → r.stack_pointer ≡ base
+    → GoesOnWhereUnread (listing_of (from_frame on at frame (by_address base (saved_value place read) address unsigned)))
+    (behind frame (on_by_pointer once mask r address (model.saved_value place read)))
+by_read on once alike at frame base place address unsigned r mask (Some fp) e is =
+    subst (λ (o : Option ℕ). GoesOnWhereUnread (listing_of (from_frame on at frame (by_address base (Known fp) address unsigned))) (behind frame (on_by_address once r.stack_pointer fp address o))) e
+    (subst (λ (b : ℕ). GoesOnWhereUnread (listing_of (from_frame on at frame (by_address base (Known fp) address unsigned))) (behind frame (on_by_address once b fp address unsigned))) (sym is)
+    (by_unsigned on once alike at frame base fp address unsigned))
+by_read on once alike at frame base place address unsigned r mask None e is = by_unread on at frame base place address unsigned
+
+by_pointer : (on : State → Walked) (once : Going) → Alike on once → (mask : Option ℕ) (memory : List Region) (returned : Bool) (pc : ℕ) (regs : Regs) (content : Content) (key : Key) (address : ℕ) (offset : Option ℤ)
+    → content.fp ≡ offset
+    → let r = recovery content key regs memory in let base = frame_address_of content regs in let frame : Frame = record { pc = pc; cfa = Some base } in
+    GoesOnWhereUnread (listing_of (from_frame on (state_of returned pc regs) frame (by_address base (caller_value memory base (Known regs.fp) offset) address (unsigned_by content.signed mask address))))
+    (behind frame (on_by_pointer once mask r address (saved_or_kept memory regs.fp (pointer_place offset base))))
+unfolding recovery
+by_pointer on once alike mask memory returned pc regs content key address (Some o) is =
+    let base = frame_address_of content regs in
+    by_read on once alike (state_of returned pc regs) (record { pc = pc; cfa = Some base }) base (moved base o) address (unsigned_by content.signed mask address) (recovery content key regs memory) mask
+    (read_eight memory (moved base o)) (same_unsigned content.signed key mask address) refl
+by_pointer on once alike mask memory returned pc regs content key address None is =
+    let base = frame_address_of content regs in
+    subst (λ (o : Option ℕ). GoesOnWhereUnread (listing_of (from_frame on (state_of returned pc regs) (record { pc = pc; cfa = Some base }) (by_address base (Known regs.fp) address (unsigned_by content.signed mask address)))) (behind (record { pc = pc; cfa = Some base }) (on_by_address once base regs.fp address o)))
+    (same_unsigned content.signed key mask address)
+    (by_unsigned on once alike (state_of returned pc regs) (record { pc = pc; cfa = Some base }) base regs.fp address (unsigned_by content.signed mask address))
+
+-- a return address, as both walks have it
+by_known : (on : State → Walked) (once : Going) → Alike on once → (mask : Option ℕ) (memory : List Region) (returned : Bool) (pc : ℕ) (regs : Regs) (content : Content) (key : Key) (place : ℕ) (read : Option ℕ)
+    → let r = recovery content key regs memory in let base = frame_address_of content regs in let frame : Frame = record { pc = pc; cfa = Some base } in
+    GoesOnWhereUnread (listing_of (from_frame on (state_of returned pc regs) frame (by_return (rule_of content) mask memory (state_of returned pc regs) base (saved_value place read))))
+    (behind frame (on_by once mask r (model.saved_value place read)))
+unfolding recovery
+by_known on once alike mask memory returned pc regs content key place (Some address) = by_pointer on once alike mask memory returned pc regs content key address content.fp refl
+by_known on once alike mask memory returned pc regs content key place None = inl refl
+
+by_ra : (on : State → Walked) (once : Going) → Alike on once → (mask : Option ℕ) (memory : List Region) (returned : Bool) (pc : ℕ) (regs : Regs) (content : Content) (key : Key) (ra : Ra)
+    → let r = recovery content key regs memory in let base = frame_address_of content regs in let frame : Frame = record { pc = pc; cfa = Some base } in
+    GoesOnWhereUnread (listing_of (from_frame on (state_of returned pc regs) frame (by_return (rule_of content) mask memory (state_of returned pc regs) base (caller_value memory base (Known regs.lr) (saved_return ra)))))
+    (behind frame (on_by once mask r (saved_or_kept memory regs.lr (return_place ra base))))
+unfolding recovery
+by_ra on once alike mask memory returned pc regs content key Fixed = let place = moved (frame_address_of content regs) (Rattle.std.specs.Prelude.negsuc 7) in by_known on once alike mask memory returned pc regs content key place (read_eight memory place)
+by_ra on once alike mask memory returned pc regs content key Link = by_pointer on once alike mask memory returned pc regs content key regs.lr content.fp refl
+by_ra on once alike mask memory returned pc regs content key (At o) = let place = moved (frame_address_of content regs) o in by_known on once alike mask memory returned pc regs content key place (read_eight memory place)
+
+base_is : (returned : Bool) (pc : ℕ) (regs : Regs) (base : Base) → base_of base (state_of returned pc regs) ≡ Known (base_value base regs)
+base_is returned pc regs Fp = refl
+base_is returned pc regs Sp = refl
+
+by_row : (on : State → Walked) (once : Going) → Alike on once → (mask : Option ℕ) (memory : List Region) (returned : Bool) (pc : ℕ) (regs : Regs) (o : Option FoundRow)
+    → let at = state_of returned pc regs in let now = step_by (option_map (λ (found : FoundRow). rule_of found.row.content) o) mask memory at in
+    GoesOnWhereUnread (listing_of (from_frame on at now.0 now.1))
+    (frame_by once mask (asked_by returned pc) pc (option_map (λ (found : FoundRow). recovery found.row.content found.func.key regs memory) o))
+unfolding step_by recovery
+by_row on once alike mask memory returned pc regs (Some found) =
+    let at = state_of returned pc regs in
+    let rule = rule_of found.row.content in
+    let r = recovery found.row.content found.func.key regs memory in
+    subst (λ (v : Value). GoesOnWhereUnread (listing_of (from_frame on at (by_base rule mask memory at v).0 (by_base rule mask memory at v).1)) (frame_by once mask (asked_by returned pc) pc (Some r)))
+    (sym (base_is returned pc regs found.row.content.base))
+    (by_ra on once alike mask memory returned pc regs found.row.content found.func.key found.row.content.ra)
+by_row on once alike mask memory returned pc regs None = inl refl
+
+from_any : (look_up : LookUp) (mask : Option ℕ) (memory : List Region) (depth : ℕ) (returned : Bool) (pc : ℕ) (regs : Regs)
+    → GoesOnWhereUnread (listing_of (walk_on (stepping look_up mask memory) depth (state_of returned pc regs))) (frames_from (recover_by look_up memory) mask depth (asked_by returned pc) pc regs)
+unfolding walk_on frames_from
+from_any look_up mask memory zero returned pc regs = inl refl
+from_any look_up mask memory (suc depth) returned pc regs =
+    by_row (walk_on (stepping look_up mask memory) depth) (λ next. frames_from (recover_by look_up memory) mask depth (address_before next) next)
+    (λ p r. from_any look_up mask memory depth true p r) mask memory returned pc regs (look_up (asked_by returned pc))
+
+pub past_frame_pointers : GoesOnPastFramePointers
+unfolding walk_by
+past_frame_pointers look_up thread memory depth = from_any look_up thread.mask memory depth false thread.pc thread.regs

@@ -1,0 +1,4 @@
+pub mod Step
+pub mod Onward
+pub mod Cache
+pub mod Room

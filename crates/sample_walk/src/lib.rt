@@ -1,0 +1,30 @@
+//! Walks of samples that go on: past a caller's frame pointer that can't be read, and from the state where a walk ended.
+//!
+//! [`step`] gives the frame of a [`State`], and the caller's state or why the walk stops. [`walk_on`] lists frames into
+//! an array of the caller's, each with the index of its module, over any [`Modules`] and any [`sf_model::Memory`], and
+//! gives the state where it ends. A [`CacheEntry`] keeps what was found at an address; a walk lists the same frames with
+//! any cache that is right, and without one.
+//!
+//! The laws over `walk_on` of `specs/` are functions that do nothing: a walk of n + m frames is one of n frames and then
+//! one of m from its state, and a walk lists what `look_up_walk` of `sf_model` lists, and goes on where that stops at a
+//! value that can't be read.
+//!
+//! The caller owes that a cache is right: that it was cleared, and has been used with these modules alone since then.
+//! Nothing allocates.
+#![tactic(auto)]
+
+mod cache;
+mod laws;
+mod modules;
+mod rule;
+mod state;
+mod stepping;
+mod walking;
+
+pub use cache::{CacheEntry, clear, locate};
+pub use laws::{goes_on_from_its_state, goes_on_past_frame_pointers};
+pub use modules::{Located, Modules};
+pub use rule::{Rule, rule_of};
+pub use state::{State, Value};
+pub use stepping::step;
+pub use walking::{Ended, ModuleFrame, walk_on};
