@@ -1,6 +1,7 @@
 /*
  * Tries the C library: opening and its faults, look-ups, recoveries and walks with their ends, by one section and by
- * modules; that what lies after a room stays; that nothing allocates; several threads and a signal handler at once.
+ * modules; walks that go on, with an index of modules and a cache; that what lies after a room stays; that nothing
+ * allocates; several threads and a signal handler at once.
  * Prints what was wrong, and a line with the counts. `.ci/c-library` builds it, with malloc and its like wrapped.
  */
 #define _GNU_SOURCE
@@ -181,6 +182,162 @@ static void crossing(void)
     CHECK(kiblawen_walk_modules(modules, 1, &sample, frames, 8, &stop) == 1 && stop.value == 0x1004);
 }
 
+enum { MODULES = 3, ENTRIES = 16 };
+
+/* Three modules that are in no order: 0x11000 to 0x12000, 0x5000 to 0x5000, 0x1000 to 0x2000. */
+static struct kiblawen_module unsorted[MODULES] = {
+    {0x11000, 0x1000, KIBLAWEN_CLOSED}, {0x5000, 0, KIBLAWEN_CLOSED}, {0x1000, 0x1000, KIBLAWEN_CLOSED}};
+static size_t order[MODULES];
+static const struct kiblawen_modules process = {unsorted, MODULES, order, MODULES};
+
+static void indexing(void)
+{
+    enum { MANY = 1000 };
+    static struct kiblawen_module many[MANY];
+    static size_t places[MANY];
+    struct kiblawen_module two[2] = {{0x2000, 0x1000, KIBLAWEN_CLOSED}, {0x1000, 0x1000, KIBLAWEN_CLOSED}};
+    uint64_t place;
+    size_t room[3] = {7, 7, 7};
+    CHECK(kiblawen_open(&unsorted[0].section, pushing, 63, 0x13000, &place) == KIBLAWEN_OK);
+    unsorted[2].section = amd64;
+    CHECK(kiblawen_index(unsorted, MODULES, order, MODULES) && order[0] == 2 && order[1] == 1 && order[2] == 0);
+    CHECK(kiblawen_index(unsorted, 0, room, 0) && !kiblawen_index(two, 2, room, 3) && !kiblawen_index(two, 2, room, 1));
+    CHECK(room[0] == 7 && kiblawen_index(two, 2, room, 2) && room[0] == 1 && room[1] == 0 && room[2] == 7);
+    two[1].size = 0x1001;
+    CHECK(!kiblawen_index(two, 2, room, 2) && room[0] == 1 && room[1] == 0);
+    two[1].start = UINT64_MAX - 5;
+    CHECK(kiblawen_index(two, 2, room, 2) && room[0] == 0 && room[1] == 1);
+    for (size_t i = 0; i < MANY; i++)
+        many[i] = (struct kiblawen_module){0x1000 * (1 + i * 377 % MANY), 0x1000, KIBLAWEN_CLOSED};
+    CHECK(kiblawen_index(many, MANY, places, MANY));
+    for (size_t i = 0; i < MANY; i++)
+        if (many[places[i]].start != 0x1000 * (1 + i))
+            wrong++;
+    many[5].size++;
+    CHECK(!kiblawen_index(many, MANY, places, MANY));
+}
+
+/* What a walk has to give. */
+struct expected {
+    struct kiblawen_module_frame frames[4];
+    size_t count;
+    uint32_t kind;
+    uint64_t value;
+    struct kiblawen_state state;
+};
+
+static bool same_frame(const struct kiblawen_module_frame *one, const struct kiblawen_module_frame *other)
+{
+    return one->pc == other->pc && one->cfa == other->cfa && one->module == other->module;
+}
+
+static bool same_state(const struct kiblawen_state *one, const struct kiblawen_state *other)
+{
+    return one->pc == other->pc && one->sp == other->sp && one->fp == other->fp && one->lr == other->lr
+        && one->fp_unknown == other->fp_unknown && one->returned == other->returned;
+}
+
+/* Walks on from a state by frames of at most `room` at a time. */
+static bool goes_on(const struct kiblawen_modules *modules, struct kiblawen_cache *cache, size_t entries,
+                    const struct kiblawen_sample *s, struct kiblawen_state state, size_t room, const struct expected *expected)
+{
+    const struct kiblawen_module_frame guard = {0x5555, 0xaaaa, 77};
+    struct kiblawen_module_frame frames[8] = {guard, guard, guard, guard, guard, guard, guard, guard};
+    struct kiblawen_stop stop = {9, 9};
+    size_t count = 0, more;
+    do {
+        more = kiblawen_walk_on(modules, cache, entries, s, &state, frames + count, room, &stop);
+        count += more;
+    } while (stop.kind == KIBLAWEN_STOP_ROOM && more > 0 && count + room < 8);
+    if (count != expected->count || stop.kind != expected->kind || stop.value != expected->value || !same_state(&state, &expected->state))
+        return false;
+    for (size_t i = 0; i < 8; i++)
+        if (!same_frame(&frames[i], i < count ? &expected->frames[i] : &guard))
+            return false;
+    return true;
+}
+
+/* The walk with all that may not matter: no cache, caches of several sizes, cold and warm, and some frames at a time. */
+static bool walks_on(const struct kiblawen_sample *s, struct kiblawen_state state, const struct expected *expected)
+{
+    struct kiblawen_cache cache[ENTRIES];
+    bool is_right = true;
+    for (size_t entries = 0; entries <= ENTRIES; entries = entries ? 2 * entries : 1) {
+        memset(cache, 0x55, sizeof cache);
+        kiblawen_cache_clear(cache, entries);
+        for (size_t room = 1; room < 7; room++)
+            is_right &= goes_on(&process, cache, entries, s, state, room, expected);
+    }
+    return is_right;
+}
+
+static void going_on(void)
+{
+    struct kiblawen_sample s = sample;
+    struct kiblawen_cache cache[ENTRIES];
+    struct kiblawen_module_frame frames[2] = {{1, 2, 3}, {1, 2, 3}};
+    struct kiblawen_stop stop;
+    uint8_t far[32];
+    memcpy(far, stack, 32);
+    far[10] = 1;
+    s.stack = far;
+    struct kiblawen_state start = KIBLAWEN_START(s);
+    /* Two frames of two modules, and one of none. */
+    CHECK(walks_on(&s, start, &(struct expected){{{0x1004, 0x7010, 2}, {0x11005, 0x7020, 0}, {0, 0, MODULES}}, 3,
+        KIBLAWEN_STOP_OUTSIDE, UINT64_MAX, {0, 0x7020, 0, 0, 0, 1}}));
+    /* At the end of the function the frame pointer's place is below the stack pointer, and in no sample. It is unknown, and the */
+    /* caller's row counts from it. */
+    start = (struct kiblawen_state){0x1001, 0x7000, 0x1234, 0, 0, 0};
+    s.stack_start = 0x7008, s.stack = far + 8, s.stack_len = 24;
+    CHECK(walks_on(&s, start, &(struct expected){{{0x1001, 0x7010, 2}, {0x11005, 0, 0}}, 2,
+        KIBLAWEN_STOP_UNREADABLE, 0x7000, {0x11005, 0x7010, 0x7000, 0x11005, 1, 1}}));
+    /* It is unknown, and the caller's rows count from the stack pointer: its first row, and then outside. */
+    far[8] = 1;
+    CHECK(walks_on(&s, start, &(struct expected){{{0x1001, 0x7010, 2}, {0x11001, 0x7018, 0}, {0, 0, MODULES}}, 3,
+        KIBLAWEN_STOP_OUTSIDE, UINT64_MAX, {0, 0x7018, 0x7000, 0, 1, 1}}));
+    /* The walk that stops there has one frame. */
+    s.pc = 0x1001, s.sp = 0x7000, s.fp = 0x1234;
+    CHECK(walk_is(&amd64, &s, 8, &(struct kiblawen_frame){0x1001, 0x7010}, 1, KIBLAWEN_STOP_UNREADABLE, 0x7000));
+    /* A frame pointer that is unknown from the start. */
+    start = (struct kiblawen_state){0x1004, 0x6ff0, 0x4321, 0, 1, 0};
+    CHECK(walks_on(&s, start, &(struct expected){{{0x1004, 0, 2}}, 1, KIBLAWEN_STOP_UNREADABLE, 0x4321, start}));
+    /* A program counter to which a call returns is looked up at the address before: 0x1000 at 0xfff. */
+    start = (struct kiblawen_state){0x1000, 0x7000, 0, 0, 0, 7};
+    CHECK(walks_on(&s, start, &(struct expected){{{0x1000, 0, MODULES}}, 1, KIBLAWEN_STOP_OUTSIDE, 0xfff, {0x1000, 0x7000, 0, 0, 0, 1}}));
+    /* No room: nothing is written but the state and why. */
+    CHECK(kiblawen_walk_on(&process, cache, 0, &s, &start, frames, 0, &stop) == 0 && stop.kind == KIBLAWEN_STOP_ROOM && stop.value == 0);
+    CHECK(frames[0].pc == 1 && start.pc == 0x1000 && start.returned == 1);
+    /* A cache keeps what it found, until it is cleared: here the section is closed meanwhile, which no caller may do. */
+    kiblawen_cache_clear(cache, ENTRIES);
+    start = (struct kiblawen_state)KIBLAWEN_START(sample);
+    CHECK(kiblawen_walk_on(&process, cache, ENTRIES, &sample, &start, frames, 1, &stop) == 1 && frames[0].cfa == 0x7010);
+    kiblawen_close(&unsorted[2].section);
+    start = (struct kiblawen_state)KIBLAWEN_START(sample);
+    CHECK(kiblawen_walk_on(&process, cache, ENTRIES, &sample, &start, frames, 1, &stop) == 1 && frames[0].cfa == 0x7010);
+    kiblawen_cache_clear(cache, ENTRIES);
+    start = (struct kiblawen_state)KIBLAWEN_START(sample);
+    CHECK(kiblawen_walk_on(&process, cache, ENTRIES, &sample, &start, frames, 1, &stop) == 1 && frames[0].cfa == 0);
+    unsorted[2].section = amd64;
+}
+
+static void going_on_signed(void)
+{
+    struct kiblawen_module module = {0x1000, 0x1000, aarch64};
+    size_t first = 9;
+    const struct kiblawen_modules one = {&module, 1, &first, 1};
+    struct kiblawen_cache cache[1];
+    struct kiblawen_sample s = {.pc = 0x1008, .sp = 0x7000, .mask = 0x7f000000000000, .has_mask = 1,
+                                .stack = signed_stack, .stack_len = 16, .stack_start = 0x7000};
+    struct kiblawen_state start = KIBLAWEN_START(s);
+    CHECK(kiblawen_index(&module, 1, &first, 1) && first == 0);
+    kiblawen_cache_clear(cache, 1);
+    CHECK(goes_on(&one, cache, 1, &s, start, 3, &(struct expected){{{0x1008, 0x7020, 0}, {0x1014, 0x7040, 0}}, 2,
+        KIBLAWEN_STOP_UNREADABLE, 0x7028, {0x1014, 0x7020, 0x1111, 0x2a000000001014, 0, 1}}));
+    s.has_mask = 0;
+    CHECK(goes_on(&one, cache, 1, &s, start, 3, &(struct expected){{{0x1008, 0x7020, 0}}, 1,
+        KIBLAWEN_STOP_SIGNED, 0x2a000000001014, start}));
+}
+
 static bool works(void)
 {
     static const struct kiblawen_frame frames[] = {{0x1004, 0x7010}, {0x1005, 0x7020}, {0, 0}};
@@ -189,20 +346,37 @@ static bool works(void)
         && walk_is(&amd64, &sample, 8, frames, 3, KIBLAWEN_STOP_OUTSIDE, UINT64_MAX);
 }
 
+/* The walk that goes on, with a cache of the caller's. */
+static bool works_on(struct kiblawen_cache *cache)
+{
+    static const struct expected expected = {{{0x1004, 0x7010, 2}, {0x1005, 0x7020, 2}, {0, 0, MODULES}}, 3,
+                                             KIBLAWEN_STOP_OUTSIDE, UINT64_MAX, {0, 0x7020, 0, 0, 0, 1}};
+    const struct kiblawen_state start = KIBLAWEN_START(sample);
+    return goes_on(&process, cache, ENTRIES, &sample, start, 2, &expected);
+}
+
 static volatile sig_atomic_t handled, handled_wrong;
+/* Two threads may be in the handler at once. */
+static _Thread_local struct kiblawen_cache handlers[ENTRIES];
+static _Thread_local bool is_cleared;
 
 static void handler(int number)
 {
     (void)number;
     handled++;
-    if (!works())
+    if (!is_cleared)
+        kiblawen_cache_clear(handlers, ENTRIES);
+    is_cleared = true;
+    if (!works() || !works_on(handlers))
         handled_wrong++;
 }
 
 static void *thread(void *failures)
 {
+    struct kiblawen_cache cache[ENTRIES];
+    kiblawen_cache_clear(cache, ENTRIES);
     for (int i = 0; i < 100000; i++)
-        if (!works())
+        if (!works() || !works_on(cache))
             ++*(unsigned *)failures;
     return NULL;
 }
@@ -213,12 +387,14 @@ static void at_once(void)
     pthread_t threads[THREADS];
     unsigned failures[THREADS + 1] = {0};
     struct itimerval often = {{0, 500}, {0, 500}}, never = {{0, 0}, {0, 0}};
+    struct kiblawen_cache cache[ENTRIES];
+    kiblawen_cache_clear(cache, ENTRIES);
     signal(SIGPROF, handler);
     setitimer(ITIMER_PROF, &often, NULL);
     for (int i = 0; i < THREADS; i++)
         CHECK(pthread_create(&threads[i], NULL, thread, &failures[i]) == 0);
     for (int i = 0; i < 100000 || handled < 10; i++)
-        failures[THREADS] += !works();
+        failures[THREADS] += !works() || !works_on(cache);
     for (int i = 0; i < THREADS; i++)
         CHECK(pthread_join(threads[i], NULL) == 0 && failures[i] == 0);
     setitimer(ITIMER_PROF, &never, NULL);
@@ -237,6 +413,9 @@ int main(void)
     recovering();
     walking();
     crossing();
+    indexing();
+    going_on();
+    going_on_signed();
     CHECK(allocations == 1); /* nothing was allocated, opening included */
     at_once();
     free(one);

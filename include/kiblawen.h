@@ -5,7 +5,7 @@
  * a copy of part of the stack. Link with libkiblawen.so or libkiblawen.a (pkg-config --cflags --libs kiblawen). C11 and
  * C++11.
  *
- * Nothing allocates and no function calls itself. What each call returns and writes is proved, for all sections,
+ * Nothing allocates, and no function calls itself but the sort of kiblawen_index. What each call returns and writes is proved, for all sections,
  * registers and memory, provided the caller meets the conditions stated at each call, and these four:
  *
  *   1. Pointers are not null (for an array of no elements use KIBLAWEN_NOTHING), are aligned as C aligns their type,
@@ -15,10 +15,10 @@
  *   3. What a call writes doesn't overlap anything else it is given, and nobody else reads or writes it meanwhile.
  *   4. Only the library reads and writes the fields of a section.
  *
- * kiblawen_most_rows, kiblawen_find, kiblawen_recover, kiblawen_walk, kiblawen_walk_modules and kiblawen_in_order only
- * read the sections, samples and modules that they are given, so several threads may use one section at once.
- * kiblawen_open and kiblawen_close write their section: no other call may use it meanwhile. Look-ups and walks in
- * several threads and in a signal handler are tested, but are not part of the proof.
+ * All calls but kiblawen_open and kiblawen_close only read the sections, samples and modules that they are given, so
+ * several threads may use one section at once. kiblawen_open and kiblawen_close write their section: no other call may
+ * use it meanwhile. Look-ups and walks in several threads, each with a cache of its own, and in a signal handler are
+ * tested, but are not part of the proof.
  */
 #ifndef KIBLAWEN_H
 #define KIBLAWEN_H
@@ -220,6 +220,90 @@ bool kiblawen_in_order(const struct kiblawen_module *modules, size_t count) KIBL
  */
 size_t kiblawen_walk_modules(const struct kiblawen_module *modules, size_t count, const struct kiblawen_sample *sample,
                              struct kiblawen_frame *frames, size_t room, struct kiblawen_stop *stop) KIBLAWEN_NONNULL;
+
+/*
+ * Walks that go on. They list the frames of kiblawen_walk_modules, and more where that stops at a frame pointer that
+ * can't be read: such a frame pointer is unknown, and no value is guessed for it. Rows that count from the stack pointer
+ * don't need it. The walk stops (unreadable) at the first row that counts from it, with the address where it was to be
+ * read. So it was at each `ret` after `leave`, where the saved frame pointer is below the stack pointer.
+ */
+
+/* Modules in any order, and their indices in the order of addresses, which kiblawen_index writes. */
+struct kiblawen_modules {
+    const struct kiblawen_module *list; /* not null */
+    size_t count;
+    const size_t *order;                /* not null */
+    size_t order_count;                 /* as many as modules */
+};
+
+/*
+ * Writes the indices of modules to `order`, in the order in which the modules start, and returns whether each ends where
+ * the next one starts, or before: then `order` is an index of these modules. With another number of places than of
+ * modules it returns false, and writes nothing. It sorts, so it takes n log n comparisons, and calls itself at most
+ * 2 log n deep.
+ */
+bool kiblawen_index(const struct kiblawen_module *modules, size_t count, size_t *order,
+                    size_t order_count) KIBLAWEN_NONNULL;
+
+/*
+ * An entry of a cache, which is an array of the caller's with a power of two of entries: 2048 serve a process. (With any
+ * other number it gives the same, and some entries are not used.) Only the library reads and writes the fields.
+ */
+struct kiblawen_cache {
+    uint64_t address;
+    size_t module;
+    int32_t cfa_offset;
+    int32_t ra_offset;
+    int32_t fp_offset;
+    bool is_used;
+    bool has_row;
+    bool counts_from_fp;
+    bool ra_saved;
+    bool fp_saved;
+    bool is_signed;
+};
+
+/*
+ * Clears a cache. Condition of a cache: it was cleared, and since then it has been used with these very modules alone,
+ * none of whose sections was opened or closed. So clear it after each change of the modules, and give each thread, and
+ * each signal handler, a cache of its own.
+ */
+void kiblawen_cache_clear(struct kiblawen_cache *cache, size_t entries) KIBLAWEN_NONNULL;
+
+/* Where a walk is. */
+struct kiblawen_state {
+    uint64_t pc;
+    uint64_t sp;
+    uint64_t fp;         /* or the address where it was to be read */
+    uint64_t lr;         /* x30; not read on AMD64 */
+    uint32_t fp_unknown; /* 0: fp is the frame pointer */
+    uint32_t returned;   /* 0: the row is looked up at pc; 1: a call returns to pc, and it is looked up at the address before */
+};
+
+/* The state in which a sample is: struct kiblawen_state state = KIBLAWEN_START(sample); */
+#define KIBLAWEN_START(sample) { (sample).pc, (sample).sp, (sample).fp, (sample).lr, 0, 0 }
+
+/* A frame of a walk that goes on. */
+struct kiblawen_module_frame {
+    uint64_t pc;
+    uint64_t cfa;  /* 0 if it isn't known: this frame is the last */
+    size_t module; /* the index of the module that has the address that was looked up; `count` if none has it */
+};
+
+/*
+ * Walks on from a state, with the memory and the mask of a sample, whose registers are not read. Writes frames from the
+ * state's own on, at most `room`, and returns their number. The rest of `frames` is unchanged. Writes why the walk
+ * stopped to `stop`, and where it is to `state`: at the next frame if the room is full, else at the last frame. So a
+ * walk of n frames and one of m from its state give what one of n + m frames gives. A caller that gets past the last
+ * frame by its own means (of code that was made at run time, of a signal frame) writes the state of the next one.
+ *
+ * A walk gives the same with any cache. With 0 entries (and a pointer that is not null) nothing is kept.
+ *
+ * Conditions: `modules` has an index of its list (kiblawen_index returned true), and the cache meets its own.
+ */
+size_t kiblawen_walk_on(const struct kiblawen_modules *modules, struct kiblawen_cache *cache, size_t entries,
+                        const struct kiblawen_sample *sample, struct kiblawen_state *state,
+                        struct kiblawen_module_frame *frames, size_t room, struct kiblawen_stop *stop) KIBLAWEN_NONNULL;
 
 #ifdef __cplusplus
 }

@@ -177,8 +177,7 @@ class Package:
 
     def add_shared(self):
         """Adds what dpkg wants to know of a package with a shared library: its names, since which version they are there."""
-        version, names = shared.exports()
-        symbols = "".join(f" {name}@{version} {FIRST_SHARED}\n" for name in [version, *names])
+        symbols = "".join(f" {name} {FIRST_SHARED}\n" for name in shared.exports())
         staging.write(os.path.join(self.root, "DEBIAN/symbols"), f"{shared.NAME} {self.name} #MINVER#\n{symbols}")
         staging.write(os.path.join(self.root, "DEBIAN/shlibs"), SHLIBS.format(version=FIRST_SHARED))
         staging.write(os.path.join(self.root, "DEBIAN/triggers"), TRIGGERS)

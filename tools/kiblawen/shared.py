@@ -33,7 +33,7 @@ def make(module, path):
 
 
 def exports():
-    """The version of the exported names, and these names in order."""
+    """The exported names with their versions, as NAME@VERSION, in the order of the map, each version's own name first."""
     with open(EXPORTS, encoding="utf-8") as file:
-        text = file.read()
-    return re.search(r"(?m)^(\w+) \{", text)[1], sorted(re.findall(r"\bkiblawen_\w+(?=;)", text))
+        nodes = re.findall(r"(?m)^([\w.]+) \{([^}]*)\}", file.read())
+    return [f"{name}@{version}" for version, text in nodes for name in [version, *sorted(re.findall(r"\bkiblawen_\w+(?=;)", text))]]

@@ -143,6 +143,7 @@ pub fn clear(cache: &mut [CacheEntry])
     ensures { (look_up : LookUp) (index : ℕ → ℕ) → AreRight look_up index cache.new }
 {
     for i in 0..cache.len() {
-        cache[i] = entry_without(0, 0, false);
+        // With the address 0 a compiler would call memset, and nothing else of the C library is called.
+        cache[i] = entry_without(u64::MAX, 0, false);
     }
 }

@@ -2,3 +2,4 @@ pub mod Empty
 pub mod Listed
 pub mod Reached
 pub mod Longest
+pub mod Ordered

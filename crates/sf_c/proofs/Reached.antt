@@ -35,10 +35,10 @@ and_false : (b : Bool) → (b && false) ≡ false
 and_false true = refl
 and_false false = refl
 
-starts_after : (address : ℕ) (m : KiblawenModule) → nat_le m.start address ≡ false → holds address m ≡ false
+pub starts_after : (address : ℕ) (m : KiblawenModule) → nat_le m.start address ≡ false → holds address m ≡ false
 starts_after address m e = ap (λ (b : Bool). b && nat_lt address (m.start + m.size)) e
 
-ends_by : (address : ℕ) (m : KiblawenModule) → m.start + m.size ≤ address → holds address m ≡ false
+pub ends_by : (address : ℕ) (m : KiblawenModule) → m.start + m.size ≤ address → holds address m ≡ false
 ends_by address m le = ap (λ (b : Bool). nat_le m.start address && b) (le-ltb address (m.start + m.size) le) ∙ and_false (nat_le m.start address)
 
 -- no module starts by the address

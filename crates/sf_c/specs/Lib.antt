@@ -6,3 +6,5 @@ pub mod Sample
 pub mod Caller
 pub mod Modules
 pub mod Walk
+pub mod Order
+pub mod WalkOn

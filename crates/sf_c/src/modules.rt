@@ -21,8 +21,8 @@ pub struct KiblawenModule<'a> {
     pub section: LentSection<'a>,
 }
 
-// Returns whether a module's range has the address.
-fn holds(range: &KiblawenModule<'_>, address: u64) -> bool
+/// Returns whether a module's range has the address.
+pub fn holds(range: &KiblawenModule<'_>, address: u64) -> bool
     ensures { result ≡ spec.holds address range.now }
 {
     range.start <= address && address - range.start < range.size

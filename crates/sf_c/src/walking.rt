@@ -46,8 +46,8 @@ fn frame_shown(frame: &Frame) -> KiblawenFrame
     }
 }
 
-// Returns why a walk stopped, as C has it.
-fn stop_shown(stop: Stop) -> KiblawenStop
+/// Returns why a walk stopped, as C has it.
+pub fn stop_shown(stop: Stop) -> KiblawenStop
     ensures { result ≡ spec.stop_shown stop }
 {
     let (kind, value) = match stop {

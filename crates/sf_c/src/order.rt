@@ -1,0 +1,69 @@
+//! The order of modules by their addresses, in an array of the caller's.
+
+ghost use Rattle.std.specs.Prelude.{◌≡◌, ◌↔◌, IsTrue, length};
+ghost use Rattle.sf_c.specs.Order as spec;
+ghost use Rattle.sf_c.specs.Order.{AreApart, AreByStart};
+
+use crate::modules::KiblawenModule;
+
+/// Returns where the module with an index starts, 0 for an index past the last.
+pub fn start_in(modules: &[KiblawenModule<'_>], index: usize) -> u64
+    ensures { result ≡ spec.start_in modules.now index }
+{
+    match modules.get(index) {
+        Some(module) => module.start,
+        None => 0,
+    }
+}
+
+// Returns the size of the module with an index, 0 for an index past the last.
+fn size_in(modules: &[KiblawenModule<'_>], index: usize) -> u64
+    ensures { result ≡ spec.size_in modules.now index }
+{
+    match modules.get(index) {
+        Some(module) => module.size,
+        None => 0,
+    }
+}
+
+// Writes the indices of modules in the order in which the modules start.
+fn put_in_order(modules: &[KiblawenModule<'_>], order: &mut [usize])
+    requires { length order.old ≡ length modules.now }
+    ensures order { AreByStart modules.now order.new }
+    ensures len { length order.new ≡ length order.old }
+{
+    for index in 0..order.len() {
+        order[index] = index;
+    }
+    order.sort_unstable_by_key(|index| start_in(modules, *index));
+}
+
+// Returns whether each module ends where the next one in order starts, or before.
+fn are_apart(modules: &[KiblawenModule<'_>], order: &[usize]) -> bool
+    ensures { IsTrue result ↔ AreApart modules.now order.now }
+{
+    for i in 1..order.len() {
+        let before = order[i - 1];
+        let start = start_in(modules, order[i]);
+        let before_start = start_in(modules, before);
+        if start < before_start || start - before_start < size_in(modules, before) {
+            return false;
+        }
+    }
+    true
+}
+
+/// Writes the indices of modules to `order`, in the order in which the modules start, and returns whether each ends
+/// where the next one starts, or before. For another number of places than of modules it returns false, and writes
+/// nothing.
+#[unsafe(no_mangle)]
+pub extern "C" fn kiblawen_index(modules: &[KiblawenModule<'_>], order: &mut [usize]) -> bool
+    ensures index { IsTrue result ↔ spec.IsIndex modules.now order.new }
+    ensures order { length order.old ≡ length modules.now → AreByStart modules.now order.new }
+{
+    if order.len() != modules.len() {
+        return false;
+    }
+    put_in_order(modules, order);
+    are_apart(modules, order)
+}
