@@ -1,0 +1,3 @@
+pub mod Segments
+pub mod BuildId
+pub mod Loading
