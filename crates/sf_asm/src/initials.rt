@@ -34,7 +34,7 @@ impl<'a> InitialInstructions<'a> {
     /// Returns those of an entry.
     #[inline(always)]
     pub fn of(cie: &Cie<'a>) -> InitialInstructions<'a>
-        ensures { result ≡ record { place = cie.now.place; factor = cie.now.factor; insns = cie.now.insns } }
+        ensures { result ≡ record { place = cie.now.place; factor = cie.now.data_alignment_factor; insns = cie.now.insns } }
     {
         InitialInstructions {
             place: cie.place,
@@ -84,7 +84,7 @@ impl Initials {
         if let Some(row) = self.long.get(&cie.place) {
             return Ok(*row);
         }
-        let row = initial_row(section.arch, cie.data_alignment_factor, cie.insns)?;
+        let row = initial_row(section.arch, cie.factor, cie.insns)?;
         self.long.insert(cie.place, row)?;
         Ok(row)
     }
@@ -104,7 +104,7 @@ impl Initials {
         ensures are { OnOk result (AreInitial section.now.arch section.now.bytes.now self.new) }
     {
         let row = if cie.insns.bytes.len() < LONG {
-            initial_row(section.arch, cie.data_alignment_factor, cie.insns)?
+            initial_row(section.arch, cie.factor, cie.insns)?
         } else {
             self.long_row(section, cie)?
         };

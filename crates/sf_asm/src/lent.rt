@@ -27,7 +27,7 @@ use sf_model::{Arch, Span};
 #[inline(always)]
 fn common_part<'a>(arch: Arch, cie: &Cie<'a>, row: Columns) -> CommonPart<'a>
     requires key { IsTrue (key_fits arch cie.now.key) }
-    requires given { IsInitial arch cie.now.factor (listing (cursor cie.now.insns)) row }
+    requires given { IsInitial arch cie.now.data_alignment_factor (listing (cursor cie.now.insns)) row }
     ensures { common_view result ≡ common_of arch (cie_view cie.now) }
 {
     CommonPart {
