@@ -3,5 +3,5 @@ pub mod Known
 pub mod Signatures
 pub mod Runs
 pub mod Gone
-mod Dropped
+pub mod Dropped
 mod Rising

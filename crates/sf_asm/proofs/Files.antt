@@ -65,7 +65,7 @@ placed_is p shift number address bytes given e f g =
 -- ---- a file
 abbrev by_checks : (item : ℕ) → (seen : List (List ℕ)) → (file : List ℕ) → (base : ℕ) → Result (Unit {0}) AsmFault → Result (Unit {0}) PlaceFault → Result (List Function) AsmFault
 by_checks item seen file base linked placed =
-    (linked >>= λ _. named asm.Place placed >>= λ _. Ok (map (placed_section (placing_of seen file base) (shift_of file base)) (eh_frames_below file (dropped_after seen file) (section_count file))))
+    (linked >>= λ _. named asm.Place placed >>= λ _. Ok (map (placed_section (placing_of (dropped_groups seen file) file base) (shift_of file base)) (eh_frames_below file (dropped_after seen file) (section_count file))))
     >>= sections_functions (arch_of file) item
 
 abbrev pub file_functions : (item : ℕ) → (seen : List (List ℕ)) → (file : List ℕ) → (base : ℕ) → Result (List Function) AsmFault

@@ -37,6 +37,7 @@ use Rattle.elf_read.specs.Sections.{section_count}
 use Rattle.elf_place.specs.declared.fault.PlaceFault.TheVariants as place_faults
 use Rattle.elf_place.specs.Place.{align_check, bits_check, eh_frames_below, overflow_check, place_check, shift_of}
 use Rattle.elf_place.specs.Relocations.{relocation_sections}
+use Rattle.elf_groups.specs.Groups.{dropped_groups}
 use Rattle.elf_place.specs.Views.{Placing}
 use Rattle.elf_reloc.specs.Applied.{Slot, is_slot, slot_check}
 use Rattle.elf_reloc.specs.declared.fault.RelocFault.{RelocFault}
@@ -331,12 +332,12 @@ parsing : (file : List ℕ) → FaultIs is_input_refusal (linked_check file)
 unfolding linked_check
 parsing file = in_turn is_input_refusal (named asm.Elf (file_check file)) _ (any is_input_refusal asm.Elf (file_check file) (λ fault. refl)) (λ x. not_core (kind_of file))
 
-one_file : (item : ℕ) (seen : List (List ℕ)) (file : List ℕ) (base : ℕ) → FaultIs is_input_refusal (elf_sections seen file base >>= sections_functions (arch_of file) item)
+one_file : (item : ℕ) (seen : List (List ℕ)) (file : List ℕ) (base : ℕ) → FaultIs is_input_refusal (elf_sections (dropped_groups seen file) file base >>= sections_functions (arch_of file) item)
 one_file item seen file base = from (linked_check file) (place_check file (dropped_after seen file) base) (parsing file) (placing file (dropped_after seen file) base)
   where
     from : (linked : Result (Unit {0}) AsmFault) (placed : Result (Unit {0}) _) → FaultIs is_input_refusal linked → FaultIs is_place_refusal placed
-        → FaultIs is_input_refusal ((linked >>= λ _. named asm.Place placed >>= λ _. Ok (map (placed_section (placing_of seen file base) (shift_of file base)) (eh_frames_below file (dropped_after seen file) (section_count file)))) >>= sections_functions (arch_of file) item)
-    from (Ok x) (Ok y) h k = placed_sections (arch_of file) item (placing_of seen file base) (shift_of file base) (eh_frames_below file (dropped_after seen file) (section_count file))
+        → FaultIs is_input_refusal ((linked >>= λ _. named asm.Place placed >>= λ _. Ok (map (placed_section (placing_of (dropped_groups seen file) file base) (shift_of file base)) (eh_frames_below file (dropped_after seen file) (section_count file)))) >>= sections_functions (arch_of file) item)
+    from (Ok x) (Ok y) h k = placed_sections (arch_of file) item (placing_of (dropped_groups seen file) file base) (shift_of file base) (eh_frames_below file (dropped_after seen file) (section_count file))
     from (Ok x) (Err fault) h k = k
     from (Err fault) placed h k = h
 

@@ -10,15 +10,6 @@ use Rattle.sf_asm.specs.declared.entry.Outcome.{Outcome}
 use Rattle.sf_asm.specs.declared.entry.Outcome.TheVariants.{Kept, Left}
 use Rattle.sf_asm.specs.declared.entry.Entry.{Entry}
 
--- a kept function is one that a section can hold, and has this start and size
-abbrev pub IsSoundOutcome : Arch → (start size : ℕ) → Outcome → Type 0
-IsSoundOutcome arch start size (Kept f) = IsWritable arch f × (f.start ≡ start) × (f.size ≡ size)
-IsSoundOutcome arch start size (Left omission) = Unit {0}
-
--- the same for a function with its addresses
-abbrev pub IsSound : Arch → Entry → Type 0
-IsSound arch entry = IsSoundOutcome arch entry.span.start entry.span.size entry.outcome
-
 -- the function, if it is kept
 abbrev pub kept_in : Outcome → Option Func
 kept_in (Kept f) = Some f
@@ -49,3 +40,13 @@ of_item item entries = filter (λ (e : Entry). e.span.origin.item == item) entri
 -- the kept functions of `count` items from `first` on, a list for each, in order
 abbrev pub kept_by_item : (first count : ℕ) → List Entry → List (List Func)
 kept_by_item first count entries = map (λ (item : ℕ). kept_of (of_item item entries)) (range_with_len first count)
+
+-- ---- Inside the crate
+-- a kept function is one that a section can hold, and has this start and size
+abbrev pub IsSoundOutcome : Arch → (start size : ℕ) → Outcome → Type 0
+IsSoundOutcome arch start size (Kept f) = IsWritable arch f × (f.start ≡ start) × (f.size ≡ size)
+IsSoundOutcome arch start size (Left omission) = Unit {0}
+
+-- the same for a function with its addresses
+abbrev pub IsSound : Arch → Entry → Type 0
+IsSound arch entry = IsSoundOutcome arch entry.span.start entry.span.size entry.outcome

@@ -15,31 +15,6 @@ use Rattle.sf_asm.specs.declared.fault.GatherFault.TheVariants as gather
 use Rattle.sf_asm.specs.declared.fault.LinkFault.{LinkFault}
 use Rattle.sf_asm.specs.declared.fault.LinkFault.TheVariants as link
 
--- a fault of placing as the input's, where out of memory is not wrapped
-abbrev pub wraps_place : PlaceFault → AsmFault
-wraps_place place_faults.NoMemory = asm.NoMemory
-wraps_place fault = asm.Place fault
-
--- the same for a fault of a section's relocations
-abbrev pub wraps_reloc : (section : ℕ) → RelocFault → AsmFault
-wraps_reloc section reloc_faults.NoMemory = asm.NoMemory
-wraps_reloc section fault = asm.Reloc section fault
-
--- the same for a fault of its records
-abbrev pub wraps_record : (section : ℕ) → RecordFault → AsmFault
-wraps_record section record_faults.NoMemory = asm.NoMemory
-wraps_record section fault = asm.Record section fault
-
--- the same for a fault of its instructions
-abbrev pub wraps_machine : (section : ℕ) → MachineFault → AsmFault
-wraps_machine section machine_faults.NoMemory = asm.NoMemory
-wraps_machine section fault = asm.Machine section fault
-
--- the same for a fault of an input
-abbrev pub wraps_input : (item : ℕ) → AsmFault → GatherFault
-wraps_input item asm.NoMemory = gather.NoMemory
-wraps_input item fault = gather.Input item fault
-
 -- a fault of placing is a refusal: all but out of memory are
 abbrev pub is_place_refusal : PlaceFault → Bool
 is_place_refusal place_faults.NoMemory = false
@@ -103,3 +78,29 @@ abbrev pub is_answered : LinkFault → Bool
 is_answered (link.Gather fault) = is_wrapped_answered fault
 is_answered (link.OutOfReach start) = true
 is_answered link.NoMemory = true
+
+-- ---- Inside the crate: how inner faults are passed on
+-- a fault of placing as the input's, where out of memory is not wrapped
+abbrev pub wraps_place : PlaceFault → AsmFault
+wraps_place place_faults.NoMemory = asm.NoMemory
+wraps_place fault = asm.Place fault
+
+-- the same for a fault of a section's relocations
+abbrev pub wraps_reloc : (section : ℕ) → RelocFault → AsmFault
+wraps_reloc section reloc_faults.NoMemory = asm.NoMemory
+wraps_reloc section fault = asm.Reloc section fault
+
+-- the same for a fault of its records
+abbrev pub wraps_record : (section : ℕ) → RecordFault → AsmFault
+wraps_record section record_faults.NoMemory = asm.NoMemory
+wraps_record section fault = asm.Record section fault
+
+-- the same for a fault of its instructions
+abbrev pub wraps_machine : (section : ℕ) → MachineFault → AsmFault
+wraps_machine section machine_faults.NoMemory = asm.NoMemory
+wraps_machine section fault = asm.Machine section fault
+
+-- the same for a fault of an input
+abbrev pub wraps_input : (item : ℕ) → AsmFault → GatherFault
+wraps_input item asm.NoMemory = gather.NoMemory
+wraps_input item fault = gather.Input item fault

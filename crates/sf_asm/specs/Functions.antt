@@ -44,10 +44,6 @@ pub record Function : Type 0 where
 abbrev pub span_in : CallFrames → Values → FdeView → Result (ℕ × ℕ) RecordFault
 span_in section values f = span_of f.cie.encoding f.begin.place section.address section.shift (values.bits f.begin) (values.bits f.range)
 
--- the first instruction that can't be read or run
-abbrev pub fault_in : Arch → FdeView → Option MachineFault
-fault_in arch f = first_fault arch f.cie.data_alignment_factor (listing f.cie.insns) (listing f.insns)
-
 -- with these instructions, its start and its size
 abbrev pub function_with : Arch → (item : ℕ) → CallFrames → FdeView → (initial own : List Item) → ℕ × ℕ → Function
 function_with arch item section f initial own span = record {
@@ -63,10 +59,6 @@ function_with arch item section f initial own span = record {
   own = own;
   origin = record { item = item; section = section.number; place = f.place };
 }
-
--- with the instructions that are read
-abbrev pub function_at : Arch → (item : ℕ) → CallFrames → FdeView → ℕ × ℕ → Function
-function_at arch item section f span = function_with arch item section f (listing f.cie.insns) (listing f.insns) span
 
 -- the function of a frame description entry with these instructions: its start and size are known, and each instruction can be run
 abbrev pub by_instructions : Arch → (item : ℕ) → CallFrames → Values → FdeView → (initial own : List Item) → Result Function AsmFault
@@ -115,3 +107,12 @@ functions_after seen item (object ∷ objects) =
 -- those of all inputs
 abbrev pub functions_of : (item : ℕ) → List Object → Result (List Function) GatherFault
 functions_of item objects = functions_after [] item objects
+
+-- ---- Inside the crate: parts of these
+-- the first instruction that can't be read or run
+abbrev pub fault_in : Arch → FdeView → Option MachineFault
+fault_in arch f = first_fault arch f.cie.factor (listing f.cie.insns) (listing f.insns)
+
+-- with the instructions that are read
+abbrev pub function_at : Arch → (item : ℕ) → CallFrames → FdeView → ℕ × ℕ → Function
+function_at arch item section f span = function_with arch item section f (listing f.cie.insns) (listing f.insns) span

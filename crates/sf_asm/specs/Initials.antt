@@ -1,4 +1,4 @@
--- The initial rows of a section's common information entries, kept by the places of the entries (LSB Core, "The .eh_frame section";
+-- Inside the crate. The initial rows of a section's common information entries, kept by the places of the entries (LSB Core, "The .eh_frame section";
 -- DWARF 5, section 6.4.1).
 use Rattle.std.specs.Prelude.{◌≡◌, ℕ, ℤ, List, Option, Some, None}
 use Rattle.std.specs.BTreeMap.{get}

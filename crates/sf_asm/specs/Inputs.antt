@@ -1,5 +1,5 @@
 -- All inputs of a run: their numbers, their one machine, and their functions. An item may come before the inputs; it is then item 0.
-use Rattle.std.specs.Prelude.{◌≡◌, ℕ, Bool, true, false, not, List, [], ◌∷◌, map, position, All, Option, Some, None, Result, Ok}
+use Rattle.std.specs.Prelude.{◌≡◌, ℕ, Bool, true, false, not, List, [], ◌∷◌, ◌++◌, map, position, All, Option, Some, None, option_to_list, Result, Ok}
 use Rattle.std.specs.Option.{option_map}
 use Rattle.sf_model.specs.declared.machine.Arch.{Arch}
 use Rattle.sf_model.specs.declared.machine.Arch.TheVariants.{Amd64, Aarch64}
@@ -13,14 +13,9 @@ first_item None = 0
 first_item (Some arch) = 1
 
 -- ---- one machine
--- the machine of an item before the inputs, if there is one, and those of the inputs
-abbrev pub with_before : (before : Option Arch) → List Arch → List Arch
-with_before None machines = machines
-with_before (Some arch) machines = arch ∷ machines
-
--- the machine of each item, in order
+-- the machine of each item, in order: that of an item before the inputs, if there is one, and those of the inputs
 abbrev pub machines_of : (before : Option Arch) → List Object → List Arch
-machines_of before objects = with_before before (map machine_of objects)
+machines_of before objects = option_to_list before ++ map machine_of objects
 
 -- both machines are the same
 abbrev pub is_same : Arch → Arch → Bool
@@ -46,6 +41,11 @@ abbrev pub HaveMachine : (before : Option Arch) → List Object → Arch → Typ
 HaveMachine before objects arch = All (λ (machine : Arch). machine ≡ arch) (machines_of before objects)
 
 -- ---- all functions
+-- ---- Inside the crate
+-- the machine of an item before the inputs, if there is one, and these
+abbrev pub with_before : (before : Option Arch) → List Arch → List Arch
+with_before before machines = option_to_list before ++ machines
+
 -- those of all inputs, if none is refused and all items have one machine
 abbrev pub all_functions : (before : Option Arch) → List Object → Result (List Function) GatherFault
 all_functions before objects = do

@@ -31,10 +31,6 @@ pub record InOrder (all ordered : List Entry) : Type 0 where
   pub stable : IsStableByKey start_of nat_cmp all ordered
 
 -- ---- overlaps
--- it isn't empty
-abbrev pub has_bytes : Span → Bool
-has_bytes span = not (span.size == 0)
-
 -- each but the last, with the one after it
 abbrev pub neighbours : List Span → List (Span × Span)
 neighbours spans = zip spans (drop 1 spans)
@@ -45,29 +41,11 @@ overlap pair = nat_lt pair.1.start (pair.0.start + pair.0.size)
 
 -- the first overlapping pair of neighbours among the functions that have bytes
 unfoldable pub overlap_in : List Span → Option (Span × Span)
-overlap_in spans = find overlap (neighbours (filter has_bytes spans))
+overlap_in spans = find overlap (neighbours (filter (λ (span : Span). not (span.size == 0)) spans))
 
 -- the fault of two functions that share an address
 abbrev pub overlap_fault : Span × Span → GatherFault
 overlap_fault pair = gather.Overlap pair.0.start pair.0.origin.item pair.1.start pair.1.origin.item
-
--- the fault of a function with the one before it, if there is one
-abbrev pub overlap_with : (before : Option Span) → Span → Option GatherFault
-overlap_with None span = None
-overlap_with (Some before) span = if overlap (before, span) then Some (overlap_fault (before, span)) else None
-
--- consecutive functions: the one before that has bytes, if there is one, and those that follow it
-abbrev pub with_span_before : Option Span → List Span → List Span
-with_span_before None spans = spans
-with_span_before (Some before) spans = before ∷ spans
-
--- the first overlapping pair among these
-abbrev pub overlap_after : (before : Option Span) → List Span → Option (Span × Span)
-overlap_after before spans = find overlap (neighbours (with_span_before before (filter has_bytes spans)))
-
--- the fault that was found, or else the one of what is left
-abbrev pub overlap_left : Overlaps → List Span → Option GatherFault
-overlap_left seen spans = or_later seen.first (option_map overlap_fault (overlap_after seen.before spans))
 
 -- ---- the first fault
 -- at most 2^21 functions, omitted ones included, and 2^24 rows of kept ones
@@ -109,3 +87,26 @@ pub record Links (before : Option Arch) (objects : List Object) (at : ℕ) (resu
   pub given : Result (List Function) GatherFault
   pub described : DescribeTogether before objects given
   pub comes : LinksFrom at given result
+
+-- ---- Inside the crate: one function after the other
+-- it isn't empty
+abbrev pub has_bytes : Span → Bool
+has_bytes span = not (span.size == 0)
+
+-- the fault of a function with the one before it, if there is one
+abbrev pub overlap_with : (before : Option Span) → Span → Option GatherFault
+overlap_with None span = None
+overlap_with (Some before) span = if overlap (before, span) then Some (overlap_fault (before, span)) else None
+
+-- consecutive functions: the one before that has bytes, if there is one, and those that follow it
+abbrev pub with_span_before : Option Span → List Span → List Span
+with_span_before None spans = spans
+with_span_before (Some before) spans = before ∷ spans
+
+-- the first overlapping pair among these
+abbrev pub overlap_after : (before : Option Span) → List Span → Option (Span × Span)
+overlap_after before spans = find overlap (neighbours (with_span_before before (filter has_bytes spans)))
+
+-- the fault that was found, or else the one of what is left
+abbrev pub overlap_left : Overlaps → List Span → Option GatherFault
+overlap_left seen spans = or_later seen.first (option_map overlap_fault (overlap_after seen.before spans))

@@ -1,4 +1,4 @@
--- What the functions of a common information entry share is found again by the entry's place in its section (LSB Core, "The .eh_frame
+-- Inside the crate. What the functions of a common information entry share is found again by the entry's place in its section (LSB Core, "The .eh_frame
 -- section": a frame description entry names its common information entry by the distance to it).
 use Rattle.std.specs.Prelude.{◌≡◌, ◌<◌, ℕ, List, get_or, length, Option, Some}
 use Rattle.std.specs.BTreeMap.{get}

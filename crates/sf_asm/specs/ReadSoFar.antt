@@ -1,4 +1,4 @@
--- The functions that were read so far: within the limits they are held, and past one they are only counted.
+-- Inside the crate. The functions that were read so far: within the limits they are held, and past one they are only counted.
 use Rattle.std.specs.Prelude.{◌≡◌, ◌⊎◌, ◌≤◌, ◌+◌, ◌^◌, ℕ, Bool, false, IsTrue, is_none, List, ◌++◌, map, length, min, sum_by, All, Result, Ok, Err}
 use Rattle.sf_model.specs.declared.machine.Arch.{Arch}
 use Rattle.sf_asm.specs.declared.fault.AsmFault.{AsmFault}

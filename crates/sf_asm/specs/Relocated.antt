@@ -14,27 +14,21 @@ use Rattle.elf_reloc.specs.Reading.{section_fixes}
 pub use Rattle.elf_reloc.specs.Applied.{placed_among, by_place, is_unresolved_at, names_dropped_at}
 use Rattle.sf_bytes.specs.Steps.{◌>>=◌}
 
--- ---- what is written, by rising place (`by_place`)
--- no two of them overlap
-abbrev pub without_overlap : List RelocatedField → Result (List RelocatedField) RelocFault
-without_overlap fixes = overlap_check 0 fixes >>= λ _. Ok fixes
-
--- of a section of a placed file
+-- what the relocations of a section of a placed file write, by rising place; no two of the fields overlap
 unfoldable pub relocations_of : Placing → (section : ℕ) → Result (List RelocatedField) RelocFault
-relocations_of p section = section_fixes p section >>= λ fixes. without_overlap (by_place fixes)
+relocations_of p section = do
+  fixes ← section_fixes p section
+  _ ← overlap_check 0 (by_place fixes)
+  Ok (by_place fixes)
 
 -- ---- pointer fields
 -- its place and width
 abbrev pub pointer_slot : PointerField → Slot
 pointer_slot g = record { place = g.place; width = g.width }
 
--- what is written is a pointer field, at its place and of its width, or else the first by place that isn't
-abbrev pub pointer_check : List PointerField → List RelocatedField → Result (Unit {0}) RelocFault
-pointer_check fields fixes = slot_check (map pointer_slot fields) fixes
-
--- what is written, if each of it is a pointer field
+-- what is written, if each of it is a pointer field, at its place and of its width; or else the first by place that isn't
 abbrev pub on_pointers : List PointerField → List RelocatedField → Result (List RelocatedField) RelocFault
-on_pointers fields fixes = pointer_check fields fixes >>= λ _. Ok fixes
+on_pointers fields fixes = slot_check (map pointer_slot fields) fixes >>= λ _. Ok fixes
 
 -- what the pointer fields of a section hold, where that is known, and which of them name a dropped section
 pub record Values : Type 0 where
@@ -55,3 +49,12 @@ applied_by p section fields =
     relocations_of p section
     >>= on_pointers fields
     >>= λ fixes. Ok (applied_of fixes (section_bytes p.file section) (map pointer_slot fields))
+
+-- ---- Inside the crate: parts of these
+-- no two of them overlap
+abbrev pub without_overlap : List RelocatedField → Result (List RelocatedField) RelocFault
+without_overlap fixes = overlap_check 0 fixes >>= λ _. Ok fixes
+
+-- each of these is a pointer field
+abbrev pub pointer_check : List PointerField → List RelocatedField → Result (Unit {0}) RelocFault
+pointer_check fields fixes = slot_check (map pointer_slot fields) fixes

@@ -1,5 +1,5 @@
 -- The call frame sections of inputs as they are placed and relocated, or the first fault (ELF64 gABI; LSB Core, "The .eh_frame section").
-use Rattle.std.specs.Prelude.{ℕ, ◌+◌, ◌-◌, ◌%◌, ◌^◌, Bool, List, [], ◌∷◌, map, Result, Ok, Err}
+use Rattle.std.specs.Prelude.{◌≡◌, ℕ, ◌+◌, ◌-◌, ◌%◌, ◌^◌, Bool, List, [], ◌∷◌, map, Result, Ok, Err}
 use Rattle.sf_model.specs.declared.machine.Arch.{Arch}
 use Rattle.elf_read.specs.declared.fault.ElfFault.TheVariants as faults
 use Rattle.elf_read.specs.declared.kind.Kind.{Kind}
@@ -19,6 +19,7 @@ use Rattle.sf_asm.specs.declared.fault.AsmFault.TheVariants as asm
 use Rattle.sf_model.specs.declared.form.Form.{Form}
 use Rattle.sf_model.specs.declared.form.Form.TheVariants.{Elf, Bare}
 use Rattle.sf_asm.specs.declared.input.Input.{Input}
+use Rattle.elf_groups.specs.Dropped.{AreDroppedGroups}
 use Rattle.elf_groups.specs.Groups.{dropped_groups, seen_after}
 use Rattle.sf_asm.specs.Relocated.{relocations_of}
 use Rattle.sf_bytes.specs.Steps.{◌>>=◌, named}
@@ -57,17 +58,13 @@ pub record CallFrames : Type 0 where
 abbrev pub bare_section : (bytes : List ℕ) → (base : ℕ) → CallFrames
 bare_section bytes base = record { number = 0; bytes = bytes; address = base; shift = 0; relocations = Ok [] }
 
--- ---- ELF files, where these signatures of groups were seen before
--- for each section whether it is dropped with its group
-abbrev pub dropped_after : (seen : List (List ℕ)) → (file : List ℕ) → List Bool
-dropped_after seen file = dropped_sections file (dropped_groups seen file)
-
--- all sections at their addresses
-abbrev pub placing_of : (seen : List (List ℕ)) → (file : List ℕ) → (base : ℕ) → Placing
-placing_of seen file base = record {
+-- ---- ELF files
+-- all sections at their addresses, where the COMDAT groups with these numbers are dropped
+abbrev pub placing_of : (groups file : List ℕ) → (base : ℕ) → Placing
+placing_of groups file base = record {
   file = file;
-  addresses = map (address_of file (dropped_after seen file) base) (numbers_below (section_count file));
-  dropped = dropped_after seen file;
+  addresses = map (address_of file (dropped_sections file groups) base) (numbers_below (section_count file));
+  dropped = dropped_sections file groups;
 }
 
 -- a section of a placed file
@@ -90,16 +87,31 @@ unfoldable pub linked_check : (file : List ℕ) → Result (Unit {0}) AsmFault
 linked_check file = named asm.Elf (file_check file) >>= λ _. linked_kind (kind_of file)
 
 -- the sections with call frame information that are not dropped, in order
-abbrev pub elf_sections : (seen : List (List ℕ)) → (file : List ℕ) → (base : ℕ) → Result (List CallFrames) AsmFault
-elf_sections seen file base = do
+abbrev pub elf_sections : (groups file : List ℕ) → (base : ℕ) → Result (List CallFrames) AsmFault
+elf_sections groups file base = do
   _ ← linked_check file
-  _ ← named asm.Place (place_check file (dropped_after seen file) base)
-  Ok (map (placed_section (placing_of seen file base) (shift_of file base)) (eh_frames_below file (dropped_after seen file) (section_count file)))
+  _ ← named asm.Place (place_check file (dropped_sections file groups) base)
+  Ok (map (placed_section (placing_of groups file base) (shift_of file base)) (eh_frames_below file (dropped_sections file groups) (section_count file)))
 
 -- ---- inputs
+-- the files among these bytes, by their form: a bare section is none
+abbrev pub files_in : Form → (bytes : List ℕ) → List (List ℕ)
+files_in Elf file = file ∷ []
+files_in (Bare arch) bytes = []
+
+-- the call frame sections of an input, by its form: a file's groups whose signature a group of an earlier place has are dropped
+abbrev pub SectionsAre : Form → (earlier : List (List ℕ)) → (bytes : List ℕ) → (base : ℕ) → Result (List CallFrames) AsmFault → Type 0
+SectionsAre Elf earlier file base result = (groups : List ℕ) × AreDroppedGroups earlier file groups × (result ≡ elf_sections groups file base)
+SectionsAre (Bare arch) earlier bytes base result = result ≡ Ok (bare_section bytes base ∷ [])
+
+-- ---- Inside the crate: the same, where these signatures of groups were seen before
+-- for each section whether it is dropped with its group
+abbrev pub dropped_after : (seen : List (List ℕ)) → (file : List ℕ) → List Bool
+dropped_after seen file = dropped_sections file (dropped_groups seen file)
+
 -- the call frame sections of these bytes, by their form
 abbrev pub sections_by : Form → (seen : List (List ℕ)) → (bytes : List ℕ) → (base : ℕ) → Result (List CallFrames) AsmFault
-sections_by Elf seen file base = elf_sections seen file base
+sections_by Elf seen file base = elf_sections (dropped_groups seen file) file base
 sections_by (Bare arch) seen bytes base = Ok (bare_section bytes base ∷ [])
 
 -- the call frame sections of an input, in order

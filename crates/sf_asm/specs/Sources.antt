@@ -43,22 +43,6 @@ source_function s = record {
   origin = s.origin;
 }
 
--- a function by its frame description entry, its addresses and its origin
-abbrev pub function_by_span : Arch → Fde → Span → Function
-function_by_span arch f span = record {
-  arch = arch;
-  start = span.start;
-  size = span.size;
-  column = f.cie.return_address_register;
-  signal = f.cie.signal;
-  key = f.cie.key;
-  code = f.cie.code_alignment_factor;
-  factor = f.cie.data_alignment_factor;
-  initial = listing (cursor f.cie.insns);
-  own = listing (cursor f.insns);
-  origin = span.origin;
-}
-
 -- ---- what functions share, held once
 -- what the functions of one common information entry share
 pub record Common : Type 0 where
@@ -77,10 +61,6 @@ common_view c = record { arch = c.arch; column = c.column; signal = c.signal; ke
 -- the same of all
 abbrev pub commons_of : List CommonPart → List Common
 commons_of parts = map common_view parts
-
--- of the functions of this entry
-abbrev pub common_of : Arch → CieView → Common
-common_of arch cie = record { arch = arch; column = cie.return_address_register; signal = cie.signal; key = cie.key; code = cie.code_alignment_factor; factor = cie.data_alignment_factor; initial = listing cie.insns }
 
 -- what is past the end of a list
 abbrev pub no_common : Common
@@ -120,11 +100,6 @@ pub record SourcesView : Type 0 where
   pub functions : List Function
 
 -- ---- the order by starts
--- the function, if it is omitted
-abbrev pub if_left : Outcome → Function → List Function
-if_left (Kept g) f = []
-if_left (Left omission) f = f ∷ []
-
 -- its first address
 abbrev pub function_start : Function → ℕ
 function_start f = f.start
@@ -147,3 +122,29 @@ pub record AreWithSources (before : Option Arch) (objects : List Object) (arch :
   pub writable : AreWritable arch kept
   pub omitted_are : omitted ≡ omitted_of (map entry_of sorted)
   pub sources_are : sources ≡ omitted_functions sorted
+
+-- ---- Inside the crate: parts of these
+-- a function by its frame description entry, its addresses and its origin
+abbrev pub function_by_span : Arch → Fde → Span → Function
+function_by_span arch f span = record {
+  arch = arch;
+  start = span.start;
+  size = span.size;
+  column = f.cie.column;
+  signal = f.cie.signal;
+  key = f.cie.key;
+  code = f.cie.code;
+  factor = f.cie.factor;
+  initial = listing (cursor f.cie.insns);
+  own = listing (cursor f.insns);
+  origin = span.origin;
+}
+
+-- of the functions of this entry
+abbrev pub common_of : Arch → CieView → Common
+common_of arch cie = record { arch = arch; column = cie.column; signal = cie.signal; key = cie.key; code = cie.code; factor = cie.factor; initial = listing cie.insns }
+
+-- the function, if it is omitted
+abbrev pub if_left : Outcome → Function → List Function
+if_left (Kept g) f = []
+if_left (Left omission) f = f ∷ []
