@@ -1,12 +1,12 @@
 -- Texts of string tables, up to their first zero byte.
 use Rattle.std.proofs.Common.{◌≡◌, ℕ, zero, suc, ◌+◌, ◌-◌, ◌<◌, ◌≤◌, ◌==◌, ◌&&◌, Bool, true, false, not, cond, List, [], ◌∷◌, length, get_or, take, drop, Some, None, refl, sym, ap, subst, ◌∙◌, arith, nat_lt, min, inl, inr, lt-ltb, le-ltb, is_some}
 use Rattle.std.specs.Cmp.Lexicographic.{pointwise}
-use Rattle.std.specs.List.{position, position_or_len}
+use Rattle.std.specs.List.{position_or_len}
 use Rattle.std.proofs.lemmas.Bool.{cases_lt, eq-eqb, ne_eqb}
 use Rattle.std.proofs.Math.ListN.{drop_of_length-le}
-use Rattle.std.proofs.lemmas.List.{get_or-drop, length-drop, length-take, drop-drop, drop-take, take_all, take_min}
+use Rattle.std.proofs.lemmas.List.{get_or-drop, length-drop, length-take, drop-drop, drop-take, take_min}
 use Rattle.std.proofs.lemmas.List.Sums.{prefix_len_passes, prefix_len_stops}
-use Rattle.elf_read.specs.Number.{upto, text_in, has_text, window, LiesAt}
+use Rattle.elf_read.specs.Number.{text_in, has_text, window, LiesAt}
 use Rattle.elf_read.specs.Sections.{has_bytes, name_table, section_bytes, section_name, section_fields}
 
 abbrev is_zero : ℕ → Bool
@@ -19,15 +19,9 @@ not_zero b = not (is_zero b)
 abbrev front : List ℕ → List ℕ
 front xs = take (position_or_len is_zero xs) xs
 
-upto_is : (xs : List ℕ) → upto (position is_zero xs) xs ≡ front xs
-upto_is xs = elim (cases_lt (position_or_len is_zero xs) (length xs)) [
-  | inl within ↦ ap (λ (b : Bool). upto (cond b (Some (position_or_len is_zero xs)) None) xs) (lt-ltb _ _ within)
-  | inr past ↦ ap (λ (b : Bool). upto (cond b (Some (position_or_len is_zero xs)) None) xs) (le-ltb _ _ past) ∙ sym (take_all (position_or_len is_zero xs) xs past)
-]
-
 pub text_front : (place : ℕ) (table : List ℕ) → text_in place table ≡ front (drop place table)
 unfolding text_in
-text_front place table = upto_is (drop place table)
+text_front place table = refl
 
 front_taken_by : (n : ℕ) (b : Bool) (x : ℕ) (xs : List ℕ) (k m : ℕ) → take k (take n xs) ≡ take n (take m xs)
     → take (cond (not b) (1 + k) 0) (x ∷ take n xs) ≡ take (suc n) (take (cond (not b) (1 + m) 0) (x ∷ xs))

@@ -1,5 +1,5 @@
 -- Numbers and bytes at places (ELF64 gABI, "Data Representation"): little-endian, without sign.
-use Rattle.std.specs.Prelude.{◌≡◌, ℕ, ◌+◌, ◌*◌, ◌/◌, ◌%◌, ◌==◌, ◌≤◌, Bool, List, length, take, drop, Option, Some, None, is_some, nat_lt, nat_le, if◌then◌else◌}
+use Rattle.std.specs.Prelude.{◌≡◌, ℕ, ◌+◌, ◌*◌, ◌/◌, ◌%◌, ◌==◌, ◌≤◌, Bool, not, List, length, take, take_while, drop, is_some, nat_lt, nat_le, if◌then◌else◌}
 use Rattle.std.specs.List.{position, position_or_len}
 use Rattle.byteorder.specs.Endian.{little_number}
 
@@ -27,19 +27,15 @@ lies_in len place count entry = nat_le (place + entry * count) len
 abbrev pub has_flag : ℕ → ℕ → Bool
 has_flag flags flag = flags / flag % 2 == 1
 
--- the bytes before the first zero byte, or all of them
-abbrev pub upto : Option ℕ → List ℕ → List ℕ
-upto None bytes = bytes
-upto (Some n) bytes = take n bytes
-
--- the text that begins at a place of a string table (ELF64 gABI, "String Table")
+-- the text that begins at a place of a string table (ELF64 gABI, "String Table"): the bytes before the first zero byte, or all of them
 unfoldable pub text_in : ℕ → List ℕ → List ℕ
-text_in place table = upto (position (λ b. b == 0) (drop place table)) (drop place table)
+text_in place table = take_while (λ b. not (b == 0)) (drop place table)
 
 -- whether a text begins at that place of the table and ends there with a zero byte
 unfoldable pub has_text : ℕ → List ℕ → Bool
 has_text place table = is_some (position (λ b. b == 0) (drop place table))
 
+-- ---- Inside the crate: what the code finds of texts and of zero bytes
 -- texts begin at exactly the places below a number
 abbrev pub EndsTexts : List ℕ → ℕ → Type 0
 EndsTexts table end = (place : ℕ) → has_text place table ≡ nat_lt place end

@@ -1,4 +1,4 @@
--- Where the zero bytes of a file are (ELF64 gABI, "String Table").
+-- Inside the crate. Where the zero bytes of a file are (ELF64 gABI, "String Table").
 use Rattle.std.specs.Prelude.{◌≡◌, ◌<◌, ◌*◌, ◌/◌, ◌%◌, ℕ, List, get_or}
 use Rattle.std.specs.Int.{bit_at}
 use Rattle.elf_read.specs.declared.zeros.Zeros.{Zeros}
