@@ -1,7 +1,7 @@
 -- The groups that are gone, file by file, are those that the definition drops.
 use Rattle.std.specs.Prelude.{Contains, bytes_eq}
 use Rattle.std.specs.List.Sorted.{IsStrictlyIncreasing}
-use Rattle.std.proofs.Common.{◌≡◌, ◌⊎◌, ◌<◌, ◌≤◌, ◌+◌, ℕ, zero, suc, Bool, true, false, cond, List, [], ◌∷◌, ◌++◌, length, get_or, Option, Some, None, refl, sym, ap, subst, ◌∙◌, inl, inr, arith}
+use Rattle.std.proofs.Common.{◌≡◌, ◌⊎◌, ◌<◌, ◌≤◌, ◌+◌, ℕ, zero, suc, Bool, true, false, ◌%◌, ◌==◌, ◌&&◌, cond, if◌then◌else◌, List, [], ◌∷◌, ◌++◌, length, get_or, Option, Some, None, refl, sym, ap, subst, ◌∙◌, inl, inr, arith}
 use Rattle.std.proofs.lemmas.Bool.{cases_eq, cases_lt}
 use Rattle.std.proofs.lemmas.List.{get_or_append_left, length-append}
 use Rattle.std.proofs.lemmas.List.Elements.{Contains-append_left, Contains-push, Contains-push_cases, Contains-get_or}
@@ -11,9 +11,25 @@ use Rattle.std.proofs.lemmas.Slice.Eq.{bytes_eq-Decides}
 use Rattle.std.proofs.Math.Seq.{get_or-append_seam}
 use Rattle.elf_read.specs.Sections.{section_count}
 use Rattle.elf_groups.specs.Dropped.{AreDroppedGroups, HasAmong, HasBelow, IsDroppedGroup, signature_of}
+use Rattle.elf_read.specs.Number.{field_at}
+use Rattle.elf_read.specs.Sections.{section_bytes, section_fields, member_count}
+use Rattle.elf_read.specs.Used.{is_group}
+use Rattle.elf_read.specs.Views.{group_of, symbol_text}
+use Rattle.std.specs.Option.{option_and_then}
 use Rattle.elf_groups.proofs.Gone.{none_seen, none_gone, seen_suc, gone_suc}
 use Rattle.elf_groups.proofs.Rising.{same_members}
-use Rattle.elf_groups.specs.Groups.{dropped_below, dropped_groups, was_seen, seen_after, seen_below, seen_in, with_signature}
+use Rattle.elf_groups.specs.Groups.{dropped_below, dropped_groups, group_signature, if_comdat, was_seen, seen_after, seen_below, seen_in, with_signature}
+
+-- ---- signatures
+by_tests : (group comdat : Bool) (signature : List ℕ) (count : ℕ) → (if group && comdat then Some signature else None) ≡ option_and_then if_comdat (if group then Some (record { comdat = comdat; signature = signature; count = count }) else None)
+by_tests true true signature count = refl
+by_tests true false signature count = refl
+by_tests false comdat signature count = refl
+
+signature_is : (file : List ℕ) (i : ℕ) → signature_of file i ≡ group_signature file i
+unfolding signature_of group_signature group_of
+signature_is file i =
+    by_tests (is_group file i) (field_at 4 0 (section_bytes file i) % 2 == 1) (symbol_text file (section_fields file i).sh_link (section_fields file i).sh_info) (member_count file i)
 
 -- ---- the signatures that were seen
 seen_cases : (seen : List (List ℕ)) (o : Option (List ℕ)) (s : List ℕ) → Contains (with_signature seen o) s → Contains seen s ⊎ (o ≡ Some s)
@@ -39,23 +55,23 @@ as_seen seen file n s e h = subst (λ (l : List (List ℕ)). Contains l s) (sym 
 -- of the groups of a file below a number, and before them
 from_below : (seen : List (List ℕ)) (file : List ℕ) (n : ℕ) (s : List ℕ) → Contains (seen_below seen file n) s → Contains seen s ⊎ HasBelow file n s
 from_below seen file zero s h = inl (seen_as seen file 0 s (none_seen seen file) h)
-from_below seen file (suc n) s h = elim (seen_cases (seen_below seen file n) (signature_of file n) s (seen_as seen file (suc n) s (seen_suc seen file n) h)) [
+from_below seen file (suc n) s h = elim (seen_cases (seen_below seen file n) (group_signature file n) s (seen_as seen file (suc n) s (seen_suc seen file n) h)) [
   | inl there ↦ elim (from_below seen file n s there) [
     | inl old ↦ inl old
     | inr has ↦ inr (has.0, omega (arith, has.1), has.2)
   ]
-  | inr here ↦ inr (n, omega arith, here)
+  | inr here ↦ inr (n, omega arith, signature_is file n ∙ here)
 ]
 
 old_below : (seen : List (List ℕ)) (file : List ℕ) (n : ℕ) (s : List ℕ) → Contains seen s → Contains (seen_below seen file n) s
 old_below seen file zero s h = as_seen seen file 0 s (none_seen seen file) h
-old_below seen file (suc n) s h = as_seen seen file (suc n) s (seen_suc seen file n) (still_seen (seen_below seen file n) (signature_of file n) s (old_below seen file n s h))
+old_below seen file (suc n) s h = as_seen seen file (suc n) s (seen_suc seen file n) (still_seen (seen_below seen file n) (group_signature file n) s (old_below seen file n s h))
 
 to_below : (seen : List (List ℕ)) (file : List ℕ) (n m : ℕ) (s : List ℕ) → m < n → signature_of file m ≡ Some s → Contains (seen_below seen file n) s
 to_below seen file zero m s low is = absurd (omega (arith, low))
 to_below seen file (suc n) m s low is = as_seen seen file (suc n) s (seen_suc seen file n) (elim (cases_eq m n) [
-  | inl same ↦ now_seen (seen_below seen file n) (signature_of file n) s (ap (signature_of file) (sym same) ∙ is)
-  | inr other ↦ still_seen (seen_below seen file n) (signature_of file n) s (to_below seen file n m s (omega (arith, low, other)) is)
+  | inl same ↦ now_seen (seen_below seen file n) (group_signature file n) s (ap (group_signature file) (sym same) ∙ sym (signature_is file m) ∙ is)
+  | inr other ↦ still_seen (seen_below seen file n) (group_signature file n) s (to_below seen file n m s (omega (arith, low, other)) is)
 ])
 
 -- of all groups of files, and before them
@@ -105,11 +121,11 @@ still_gone false n gone k h = h
 still_gone true n gone k h = Contains-append_left gone (n ∷ []) k h
 
 abbrev Repeats : (seen : List (List ℕ)) → (file : List ℕ) → ℕ → Type 0
-Repeats seen file k = was_seen (seen_below seen file k) (signature_of file k) ≡ true
+Repeats seen file k = was_seen (seen_below seen file k) (group_signature file k) ≡ true
 
 gone_is : (seen : List (List ℕ)) (file : List ℕ) (n k : ℕ) → Contains (dropped_below seen file n) k → (k < n) × Repeats seen file k
 gone_is seen file zero k h = let none = subst (λ (xs : List ℕ). Contains xs k) (none_gone seen file) h in absurd (omega (arith, none.1))
-gone_is seen file (suc n) k h = elim (gone_cases (was_seen (seen_below seen file n) (signature_of file n)) n (dropped_below seen file n) k (subst (λ (xs : List ℕ). Contains xs k) (gone_suc seen file n) h)) [
+gone_is seen file (suc n) k h = elim (gone_cases (was_seen (seen_below seen file n) (group_signature file n)) n (dropped_below seen file n) k (subst (λ (xs : List ℕ). Contains xs k) (gone_suc seen file n) h)) [
   | inl there ↦ let rest = gone_is seen file n k there in (omega (arith, rest.0), rest.1)
   | inr here ↦ (omega (arith, here.0), subst (Repeats seen file) here.0 here.1)
 ]
@@ -120,7 +136,7 @@ is_gone seen file (suc n) k low is = subst (λ (xs : List ℕ). Contains xs k) (
   | inl same ↦
       subst (λ (b : Bool). Contains (cond b (dropped_below seen file n ++ n ∷ []) (dropped_below seen file n)) k) (sym (subst (Repeats seen file) same is))
       (subst (Contains (dropped_below seen file n ++ n ∷ [])) (sym same) (Contains-push (dropped_below seen file n) n))
-  | inr other ↦ still_gone (was_seen (seen_below seen file n) (signature_of file n)) n (dropped_below seen file n) k (is_gone seen file n k (omega (arith, low, other)) is)
+  | inr other ↦ still_gone (was_seen (seen_below seen file n) (group_signature file n)) n (dropped_below seen file n) k (is_gone seen file n k (omega (arith, low, other)) is)
 ])
 
 -- they rise
@@ -153,7 +169,7 @@ or_one_higher true xs n rising all = one_higher xs n rising all
 rises : (seen : List (List ℕ)) (file : List ℕ) (n : ℕ) → IsStrictlyIncreasing (dropped_below seen file n)
 rises seen file zero = subst IsStrictlyIncreasing (sym (none_gone seen file)) (λ k within. absurd (omega (arith, within)))
 rises seen file (suc n) = subst IsStrictlyIncreasing (sym (gone_suc seen file n))
-    (or_one_higher (was_seen (seen_below seen file n) (signature_of file n)) (dropped_below seen file n) n (rises seen file n) (λ k h. (gone_is seen file n k h).0))
+    (or_one_higher (was_seen (seen_below seen file n) (group_signature file n)) (dropped_below seen file n) n (rises seen file n) (λ k h. (gone_is seen file n k h).0))
 
 -- ---- all of them
 abbrev after : List (List ℕ) → List (List ℕ)
@@ -161,11 +177,11 @@ after earlier = seen_in [] earlier
 
 is_dropped : (earlier : List (List ℕ)) (file : List ℕ) (k : ℕ) → k < section_count file → Repeats (after earlier) file k → IsDroppedGroup earlier file k
 is_dropped earlier file k inside is =
-    let before = repeated (seen_below (after earlier) file k) (signature_of file k) is in
+    let before = repeated (seen_below (after earlier) file k) (group_signature file k) is in
     record {
       inside = inside;
       signature = before.0;
-      has = before.1;
+      has = signature_is file k ∙ before.1;
       before = elim (from_below (after earlier) file k before.0 before.2) [
         | inl old ↦ elim (from_files [] earlier before.0 old) [
           | inl none ↦ absurd (omega (arith, none.1))
@@ -176,7 +192,7 @@ is_dropped earlier file k inside is =
     }
 
 repeats : (earlier : List (List ℕ)) (file : List ℕ) (k : ℕ) → IsDroppedGroup earlier file k → Repeats (after earlier) file k
-repeats earlier file k d = is_among (seen_below (after earlier) file k) (signature_of file k) d.signature d.has (elim d.before [
+repeats earlier file k d = is_among (seen_below (after earlier) file k) (group_signature file k) d.signature (sym (signature_is file k) ∙ d.has) (elim d.before [
   | inl among ↦ old_below (after earlier) file k d.signature (to_files [] earlier among.0 among.1.0 d.signature among.1.1 among.1.2 among.2)
   | inr has ↦ to_below (after earlier) file k has.0 d.signature has.1 has.2
 ])

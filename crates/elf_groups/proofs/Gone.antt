@@ -5,7 +5,7 @@ use Rattle.std.proofs.Common.{◌≡◌, ℕ, suc, ◌+◌, Bool, true, false, c
 use Rattle.std.proofs.lemmas.List.{append-nil}
 use Rattle.std.proofs.lemmas.List.Elements.{filter-append, filter_map-append}
 use Rattle.elf_read.specs.Checking.{numbers_below}
-use Rattle.elf_groups.specs.Dropped.{signature_of}
+use Rattle.elf_groups.specs.Groups.{group_signature}
 use Rattle.elf_groups.specs.Groups.{dropped_below, was_seen, seen_below, signatures_below, with_signature}
 
 joined : {X : Type 0} (xs ys zs : List X) → xs ++ (ys ++ zs) ≡ (xs ++ ys) ++ zs
@@ -20,15 +20,15 @@ none_below file = refl
 pub none_seen : (seen : List (List ℕ)) (file : List ℕ) → seen_below seen file 0 ≡ seen
 none_seen seen file = ap (λ (xs : List (List ℕ)). seen ++ xs) (none_below file) ∙ append-nil seen
 
-pub seen_suc : (seen : List (List ℕ)) (file : List ℕ) (n : ℕ) → seen_below seen file (suc n) ≡ with_signature (seen_below seen file n) (signature_of file n)
+pub seen_suc : (seen : List (List ℕ)) (file : List ℕ) (n : ℕ) → seen_below seen file (suc n) ≡ with_signature (seen_below seen file n) (group_signature file n)
 unfolding signatures_below numbers_below
-seen_suc seen file n = ap (λ (xs : List (List ℕ)). seen ++ xs) (filter_map-append (signature_of file) (numbers_below n) (n ∷ [])) ∙ last (filter_map (signature_of file) (numbers_below n)) (signature_of file n)
+seen_suc seen file n = ap (λ (xs : List (List ℕ)). seen ++ xs) (filter_map-append (group_signature file) (numbers_below n) (n ∷ [])) ∙ last (filter_map (group_signature file) (numbers_below n)) (group_signature file n)
   where
     last : (before : List (List ℕ)) (o : Option (List ℕ)) → seen ++ (before ++ cons_option o []) ≡ with_signature (seen ++ before) o
     last before None = ap (λ (xs : List (List ℕ)). seen ++ xs) (append-nil before)
     last before (Some s) = joined seen before (s ∷ [])
 
-pub one_seen : (seen : List (List ℕ)) (file : List ℕ) (n : ℕ) → with_signature (seen_below seen file n) (signature_of file n) ≡ seen_below seen file (n + 1)
+pub one_seen : (seen : List (List ℕ)) (file : List ℕ) (n : ℕ) → with_signature (seen_below seen file n) (group_signature file n) ≡ seen_below seen file (n + 1)
 one_seen seen file n = rw (add-one n) (sym (seen_suc seen file n))
 
 -- ---- the numbers
@@ -37,24 +37,24 @@ unfolding numbers_below
 none_gone seen file = refl
 
 pub gone_suc : (seen : List (List ℕ)) (file : List ℕ) (n : ℕ)
-    → dropped_below seen file (suc n) ≡ cond (was_seen (seen_below seen file n) (signature_of file n)) (dropped_below seen file n ++ n ∷ []) (dropped_below seen file n)
+    → dropped_below seen file (suc n) ≡ cond (was_seen (seen_below seen file n) (group_signature file n)) (dropped_below seen file n ++ n ∷ []) (dropped_below seen file n)
 unfolding numbers_below
 gone_suc seen file n = filter-append gone (numbers_below n) (n ∷ []) ∙ last (gone n) (filter gone (numbers_below n))
   where
     gone : ℕ → Bool
-    gone k = was_seen (seen_below seen file k) (signature_of file k)
+    gone k = was_seen (seen_below seen file k) (group_signature file k)
 
     last : (b : Bool) (before : List ℕ) → before ++ cond b (n ∷ []) [] ≡ cond b (before ++ n ∷ []) before
     last true before = refl
     last false before = append-nil before
 
-pub one_gone : (seen : List (List ℕ)) (file : List ℕ) (n : ℕ) (gone : List ℕ) → gone ≡ dropped_below seen file n → was_seen (seen_below seen file n) (signature_of file n) ≡ true → gone ++ n ∷ [] ≡ dropped_below seen file (n + 1)
+pub one_gone : (seen : List (List ℕ)) (file : List ℕ) (n : ℕ) (gone : List ℕ) → gone ≡ dropped_below seen file n → was_seen (seen_below seen file n) (group_signature file n) ≡ true → gone ++ n ∷ [] ≡ dropped_below seen file (n + 1)
 one_gone seen file n gone e t = rw (add-one n)
     (ap (λ (xs : List ℕ). xs ++ n ∷ []) e
     ∙ sym (ap (λ (b : Bool). cond b (dropped_below seen file n ++ n ∷ []) (dropped_below seen file n)) t)
     ∙ sym (gone_suc seen file n))
 
-pub one_stays : (seen : List (List ℕ)) (file : List ℕ) (n : ℕ) (gone : List ℕ) → gone ≡ dropped_below seen file n → was_seen (seen_below seen file n) (signature_of file n) ≡ false → gone ≡ dropped_below seen file (n + 1)
+pub one_stays : (seen : List (List ℕ)) (file : List ℕ) (n : ℕ) (gone : List ℕ) → gone ≡ dropped_below seen file n → was_seen (seen_below seen file n) (group_signature file n) ≡ false → gone ≡ dropped_below seen file (n + 1)
 one_stays seen file n gone e t = rw (add-one n)
     (e
     ∙ sym (ap (λ (b : Bool). cond b (dropped_below seen file n ++ n ∷ []) (dropped_below seen file n)) t)

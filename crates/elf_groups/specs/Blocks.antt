@@ -51,6 +51,7 @@ pub record Numbers (b : Blocks) (n : ℕ) (bytes : List ℕ) : Type 0 where
   pub below : n ≤ count_of b
   pub text : text_of b n ≡ bytes
 
+-- ---- Inside the crate
 -- no text loses its number
 abbrev pub KeepsNumbers : (old new : Blocks) → Type 0
 KeepsNumbers old new = (n : ℕ) (text : List ℕ) → Numbers old n text → Numbers new n text

@@ -1,14 +1,18 @@
 -- Which COMDAT groups are dropped (ELF64 gABI, "Section Groups"): those whose signature one of an earlier place has. The places in a file
 -- are after those in the files before it, and in a file they go by the number. Signatures are compared as bytes.
-use Rattle.std.specs.Prelude.{◌≡◌, ◌⊎◌, ◌↔◌, ◌<◌, ℕ, List, Contains, Option, Some, None, if◌then◌else◌}
-use Rattle.std.specs.Option.{option_and_then}
+use Rattle.std.specs.Prelude.{◌≡◌, ◌⊎◌, ◌↔◌, ◌<◌, ◌%◌, ◌==◌, ◌&&◌, ℕ, List, Contains, Option, Some, None, if◌then◌else◌}
 use Rattle.std.specs.List.Sorted.{IsStrictlyIncreasing}
-use Rattle.elf_read.specs.Sections.{section_count}
-use Rattle.elf_read.specs.Views.{GroupView, group_of}
+use Rattle.elf_read.specs.Number.{field_at}
+use Rattle.elf_read.specs.Sections.{section_bytes, section_count, section_fields}
+use Rattle.elf_read.specs.Used.{is_group}
+use Rattle.elf_read.specs.Views.{symbol_text}
 
--- the signature of a section that is a COMDAT group
+-- the signature of a section that is a COMDAT group: GRP_COMDAT 0x1 is set in its first word
 unfoldable pub signature_of : (file : List ℕ) → ℕ → Option (List ℕ)
-signature_of file i = option_and_then (λ (g : GroupView). if g.comdat then Some g.signature else None) (group_of file i)
+signature_of file i =
+    if is_group file i && (field_at 4 0 (section_bytes file i) % 2 == 1)
+    then Some (symbol_text file (section_fields file i).sh_link (section_fields file i).sh_info)
+    else None
 
 -- one of the groups of a file, with a number below this, has the signature
 abbrev pub HasBelow : (file : List ℕ) → (number : ℕ) → (signature : List ℕ) → Type 0
@@ -29,8 +33,3 @@ pub record IsDroppedGroup (earlier : List (List ℕ)) (file : List ℕ) (number 
 pub record AreDroppedGroups (earlier : List (List ℕ)) (file : List ℕ) (numbers : List ℕ) : Type 0 where
   pub rising : IsStrictlyIncreasing numbers
   pub are : (number : ℕ) → Contains numbers number ↔ IsDroppedGroup earlier file number
-
--- ---- Inside the crate
--- the signature of a COMDAT group
-abbrev pub if_comdat : GroupView → Option (List ℕ)
-if_comdat g = if g.comdat then Some g.signature else None

@@ -1,4 +1,4 @@
--- Where the texts of a file end (ELF64 gABI, "String Table"), by what was seen of its bytes.
+-- Inside the crate. Where the texts of a file end (ELF64 gABI, "String Table"), by what was seen of its bytes.
 use Rattle.std.specs.Prelude.{◌≡◌, ◌<◌, ◌≤◌, ◌==◌, ℕ, false, List, All, get_or}
 use Rattle.elf_groups.specs.declared.ends.Ends.{Ends}
 use Rattle.elf_groups.specs.declared.ends.Run.{Run}

@@ -1,14 +1,23 @@
 -- The COMDAT groups that are dropped, file by file: those whose signature is one of the signatures that were seen before.
 -- The law `groups_of_earlier_signatures_are_dropped` joins them to the definition in `Dropped.antt`.
-use Rattle.std.specs.Prelude.{ℕ, Bool, false, List, [], ◌∷◌, ◌++◌, Option, Some, None, bytes_eq, filter, filter_map}
+use Rattle.std.specs.Prelude.{ℕ, Bool, false, List, [], ◌∷◌, ◌++◌, Option, Some, None, bytes_eq, filter, filter_map, if◌then◌else◌}
 use Rattle.std.specs.List.{list_any}
+use Rattle.std.specs.Option.{option_and_then}
 use Rattle.elf_read.specs.Checking.{numbers_below}
 use Rattle.elf_read.specs.Sections.{section_count}
-use Rattle.elf_groups.specs.Dropped.{signature_of}
+use Rattle.elf_read.specs.Views.{GroupView, group_of}
+
+-- the signature of a COMDAT group
+abbrev pub if_comdat : GroupView → Option (List ℕ)
+if_comdat g = if g.comdat then Some g.signature else None
+
+-- the signature of a section that is a COMDAT group, by what is seen of the group
+unfoldable pub group_signature : (file : List ℕ) → ℕ → Option (List ℕ)
+group_signature file i = option_and_then (λ (g : GroupView). if g.comdat then Some g.signature else None) (group_of file i)
 
 -- the signatures of the groups among the sections below n, in order
 unfoldable pub signatures_below : (file : List ℕ) → ℕ → List (List ℕ)
-signatures_below file n = filter_map (signature_of file) (numbers_below n)
+signatures_below file n = filter_map (group_signature file) (numbers_below n)
 
 -- whether a section's signature was seen before
 abbrev pub was_seen : List (List ℕ) → Option (List ℕ) → Bool
@@ -21,7 +30,7 @@ seen_after seen file = seen ++ signatures_below file (section_count file)
 
 -- the numbers of a file's COMDAT groups that are dropped: their signature was seen before
 abbrev pub dropped_groups : (seen : List (List ℕ)) → (file : List ℕ) → List ℕ
-dropped_groups seen file = filter (λ n. was_seen (seen ++ signatures_below file n) (signature_of file n)) (numbers_below (section_count file))
+dropped_groups seen file = filter (λ n. was_seen (seen ++ signatures_below file n) (group_signature file n)) (numbers_below (section_count file))
 
 -- the signatures that were seen once files are read, after those that were seen before
 abbrev pub seen_in : (seen : List (List ℕ)) → (files : List (List ℕ)) → List (List ℕ)
@@ -40,4 +49,4 @@ seen_below seen file n = seen ++ signatures_below file n
 
 -- the numbers below n of the COMDAT groups that are dropped
 abbrev pub dropped_below : (seen : List (List ℕ)) → (file : List ℕ) → ℕ → List ℕ
-dropped_below seen file n = filter (λ k. was_seen (seen ++ signatures_below file k) (signature_of file k)) (numbers_below n)
+dropped_below seen file n = filter (λ k. was_seen (seen ++ signatures_below file k) (group_signature file k)) (numbers_below n)

@@ -26,6 +26,7 @@ pub record HasSeen (set : Seen) (seen : List (List ℕ)) : Type 0 where
   pub kept : All (IsKeptIn set.blocks) (keys set.signatures)
   pub each : (signature : List ℕ) → list_any (is_kept_as set.blocks signature) (keys set.signatures) ≡ list_any (bytes_eq signature) seen
 
+-- ---- Inside the crate: what is known of the texts of one file
 -- a number of the bytes from one place of a file to another
 unfoldable pub IsKnown : List ℕ → Blocks → Known → Type 0
 IsKnown file blocks known = Numbers blocks known.number (window known.place (known.end - known.place) file)

@@ -4,7 +4,7 @@ ghost use Rattle.std.specs.Prelude.{◌≡◌, ◌<◌, ◌+◌, ◌^◌, ℕ, L
 ghost use Rattle.std.specs.List.{list_any};
 ghost use Rattle.elf_read.specs.Number.{LiesAt};
 ghost use Rattle.elf_read.specs.Views.{file, text_bytes};
-ghost use Rattle.elf_groups.specs.Dropped.{signature_of};
+ghost use Rattle.elf_groups.specs.Groups.{group_signature};
 ghost use Rattle.elf_groups.specs.Groups.{dropped_groups, was_seen, seen_after, with_signature};
 ghost use Rattle.elf_groups.specs.Seen.{HasSeen, HasTexts};
 
@@ -68,10 +68,10 @@ impl<'a> Seen<'a> {
     }
 
     // Returns whether a section is a COMDAT group whose signature the set had, and puts the signature into it.
-    #[tactic(auto, unfolding(crate::specs::Dropped::signature_of))]
+    #[tactic(auto, unfolding(crate::specs::Groups::group_signature))]
     fn is_gone(&mut self, texts: &mut FileTexts, elf: &Elf<'a>, i: u32) -> Result<bool, AllocError>
-        ensures gone { IfOk result (λ gone. (seen : List (List ℕ)) → HasSeen self.old seen → HasTexts (file elf.now) self.old.blocks texts.old → gone ≡ was_seen seen (signature_of (file elf.now) i)) }
-        ensures seen { OnOk result ((seen : List (List ℕ)) → HasSeen self.old seen → HasTexts (file elf.now) self.old.blocks texts.old → HasSeen self.new (with_signature seen (signature_of (file elf.now) i))) }
+        ensures gone { IfOk result (λ gone. (seen : List (List ℕ)) → HasSeen self.old seen → HasTexts (file elf.now) self.old.blocks texts.old → gone ≡ was_seen seen (group_signature (file elf.now) i)) }
+        ensures seen { OnOk result ((seen : List (List ℕ)) → HasSeen self.old seen → HasTexts (file elf.now) self.old.blocks texts.old → HasSeen self.new (with_signature seen (group_signature (file elf.now) i))) }
         ensures texts { OnOk result ((seen : List (List ℕ)) → HasSeen self.old seen → HasTexts (file elf.now) self.old.blocks texts.old → HasTexts (file elf.now) self.new.blocks texts.new) }
     {
         match elf.group(i) {
