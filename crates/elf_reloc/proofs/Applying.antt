@@ -1,43 +1,75 @@
 -- What is read, brought into order and checked is what the section's relocations come to.
-use Rattle.std.specs.Prelude.{◌⊎◌, ◌==◌}
-use Rattle.std.specs.Option.{option_map}
-use Rattle.std.proofs.Common.{◌≡◌, ℕ, Bool, true, false, cond, List, [], ◌∷◌, map, Option, Some, None, Result, Ok, Err, refl, ap, ◌∙◌, inl, inr}
+use Rattle.std.specs.Prelude.{◌⊎◌, ◌==◌, ◌&&◌, ◌||◌}
+use Rattle.std.specs.List.{All}
+use Rattle.std.proofs.lemmas.Bool.{cases_eq}
+use Rattle.std.proofs.lemmas.List.Elements.{All-head, All-tail}
+use Rattle.std.proofs.Common.{◌≡◌, ℕ, suc, ◌+◌, ◌<◌, ◌≤◌, Bool, true, false, cond, List, [], ◌∷◌, get_or, map, Option, Result, Ok, Err, refl, sym, ap, ◌∙◌, inl, inr, arith, eq-eqb, ne_eqb}
 use Rattle.sf_bytes.specs.declared.field.Field.{Field}
-use Rattle.sf_bytes.specs.Rising.{field_place}
+use Rattle.sf_bytes.specs.Rising.{AreApart, field_place}
 use Rattle.elf_read.specs.Sections.{section_bytes}
 use Rattle.elf_place.specs.Views.{Placing}
 use Rattle.elf_reloc.specs.declared.fault.RelocFault.{RelocFault}
 use Rattle.elf_reloc.specs.declared.fault.RelocFault.TheVariants as faults
 use Rattle.elf_reloc.specs.declared.fix.RelocatedField.{RelocatedField}
-use Rattle.elf_reloc.specs.Applied.{Slot, Applied, by_place, slot_of, slot_place, has_slot_width, is_slot, slot_check, applied_of, applied_to}
-use Rattle.elf_reloc.specs.Order.{first_at, has_width, lies_on, overlap_check, place_check}
+use Rattle.elf_reloc.specs.Applied.{Slot, Applied, by_place, slot_of, is_slot, slot_check, applied_of, applied_to}
+use Rattle.elf_reloc.specs.Order.{has_width, lies_on, overlap_check, place_check}
+use Rattle.elf_reloc.specs.Table.{width_of}
 use Rattle.elf_reloc.specs.Reading.{◌>>=◌, section_fixes}
 use Rattle.elf_reloc.specs.Views.{Reads, Overlaps, Refuses}
+use Rattle.elf_reloc.proofs.Checked.{positive_width}
+use Rattle.elf_reloc.proofs.First.{nil, same, other}
 use Rattle.elf_reloc.proofs.SortedFixes.{is_by_place}
 
 -- ---- fields and their slots
-at_test : (b : Bool) (g : Field) (rest : Option Field) (other : Option Slot) → other ≡ option_map slot_of rest → cond b (Some (slot_of g)) other ≡ option_map slot_of (cond b (Some g) rest)
-at_test true g rest other e = refl
-at_test false g rest other e = e
+abbrev is_at : RelocatedField → Field → Bool
+is_at f g = (g.place == f.place) && (g.width == width_of f.range)
 
-first_slot : (place : ℕ) (fields : List Field) → first_at slot_place place (map slot_of fields) ≡ option_map slot_of (first_at field_place place fields)
-unfolding first_at
-first_slot place [] = refl
-first_slot place (g ∷ gs) = at_test (g.place == place) g (first_at field_place place gs) _ (first_slot place gs)
+first_is : (f : RelocatedField) (g : Field) (gs : List Field) → g.place ≡ f.place → lies_on (g ∷ gs) f ≡ (g.width == width_of f.range)
+first_is f g gs here = ap (λ (found : Option Field). has_width found f) (same field_place f.place g gs here)
 
-slot_width : (f : RelocatedField) (o : Option Field) → has_slot_width f (option_map slot_of o) ≡ has_width o f
-slot_width f None = refl
-slot_width f (Some g) = refl
+other_is : (f : RelocatedField) (g : Field) (gs : List Field) → (g.place ≡ f.place → ⊥) → lies_on (g ∷ gs) f ≡ lies_on gs f
+other_is f g gs differ = ap (λ (found : Option Field). has_width found f) (other field_place f.place g gs differ)
 
-slot_lies : (fields : List Field) (f : RelocatedField) → is_slot (map slot_of fields) f ≡ lies_on fields f
-slot_lies fields f = ap (has_slot_width f) (first_slot f.place fields) ∙ slot_width f (first_at field_place f.place fields)
+-- no field is one that is written elsewhere
+none_at : (f : RelocatedField) (gs : List Field) → All (λ (g : Field). g.place ≡ f.place → ⊥) gs → is_slot (map slot_of gs) f ≡ false
+none_at f [] all = refl
+none_at f (g ∷ gs) all =
+    ap (λ (b : Bool). (b && (g.width == width_of f.range)) || is_slot (map slot_of gs) f) (ne_eqb g.place f.place (All-head (λ (x : Field). x.place ≡ f.place → ⊥) g gs all))
+    ∙ none_at f gs (All-tail (λ (x : Field). x.place ≡ f.place → ⊥) g gs all)
 
-pub slots_checked : (fields : List Field) (fixes : List RelocatedField) → slot_check (map slot_of fields) fixes ≡ place_check fields fixes
+-- fields after one that ends before them are at other places
+later_differ : (f : RelocatedField) (g : Field) (gs : List Field) → AreApart (g ∷ gs) → 0 < g.width → g.place ≡ f.place → All (λ (x : Field). x.place ≡ f.place → ⊥) gs
+later_differ f g gs apart wide here = λ k d within e.
+    let gap : g.place + g.width ≤ (get_or gs k d).place = apart 0 (suc k) d (omega arith) (omega (arith, within)) in
+    absurd (omega (arith, gap, wide, here, e))
+
+apart_after : (g : Field) (gs : List Field) → AreApart (g ∷ gs) → AreApart gs
+apart_after g gs apart = λ i j d before within. apart (suc i) (suc j) d (omega (arith, before)) (omega (arith, within))
+
+or_none : (b : Bool) → (b || false) ≡ b
+or_none true = refl
+or_none false = refl
+
+slot_lies : (fields : List Field) (f : RelocatedField) → AreApart fields → is_slot (map slot_of fields) f ≡ lies_on fields f
+slot_lies [] f apart = sym (ap (λ (found : Option Field). has_width found f) (nil field_place f.place))
+slot_lies (g ∷ gs) f apart = elim (cases_eq g.place f.place) [
+  | inl here ↦
+      ap (λ (b : Bool). (b && (g.width == width_of f.range)) || is_slot (map slot_of gs) f) (eq-eqb g.place f.place here)
+      ∙ ap (λ (b : Bool). (g.width == width_of f.range) || b) (none_at f gs (later_differ f g gs apart (positive_width g.width g.wide) here))
+      ∙ or_none (g.width == width_of f.range)
+      ∙ sym (first_is f g gs here)
+  | inr differ ↦
+      ap (λ (b : Bool). (b && (g.width == width_of f.range)) || is_slot (map slot_of gs) f) (ne_eqb g.place f.place differ)
+      ∙ slot_lies gs f (apart_after g gs apart)
+      ∙ sym (other_is f g gs differ)
+]
+
+pub slots_checked : (fields : List Field) (fixes : List RelocatedField) → AreApart fields → slot_check (map slot_of fields) fixes ≡ place_check fields fixes
 unfolding slot_check place_check
-slots_checked fields [] = refl
-slots_checked fields (f ∷ fs) =
-    ap (λ (b : Bool). cond b (slot_check (map slot_of fields) fs) (Err (faults.Place f.index))) (slot_lies fields f)
-    ∙ ap (λ (r : Result (Unit {0}) RelocFault). cond (lies_on fields f) r (Err (faults.Place f.index))) (slots_checked fields fs)
+slots_checked fields [] apart = refl
+slots_checked fields (f ∷ fs) apart =
+    ap (λ (b : Bool). cond b (slot_check (map slot_of fields) fs) (Err (faults.Place f.index))) (slot_lies fields f apart)
+    ∙ ap (λ (r : Result (Unit {0}) RelocFault). cond (lies_on fields f) r (Err (faults.Place f.index))) (slots_checked fields fs apart)
 
 -- ---- what it comes to
 abbrev in_order : List Slot → List ℕ → List RelocatedField → Result Applied RelocFault
@@ -59,18 +91,18 @@ read_is slots section given fixes r =
 checked_is : (slots : List Slot) (section : List ℕ) (fixes : List RelocatedField) (check : Result (Unit {0}) RelocFault) → slot_check slots fixes ≡ check → (slot_check slots fixes >>= λ _. Ok (applied_of fixes section slots)) ≡ (check >>= λ _. Ok (applied_of fixes section slots))
 checked_is slots section fixes check e = ap (λ (c : Result (Unit {0}) RelocFault). c >>= λ _. Ok (applied_of fixes section slots)) e
 
-pub applied : (p : Placing) (section : ℕ) (fixes : List RelocatedField) (fields : List Field) → Reads (section_fixes p section) fixes → place_check fields fixes ≡ Ok tt
+pub applied : (p : Placing) (section : ℕ) (fixes : List RelocatedField) (fields : List Field) → Reads (section_fixes p section) fixes → AreApart fields → place_check fields fixes ≡ Ok tt
     → applied_to p section (map slot_of fields) ≡ Ok (applied_of fixes (section_bytes p.file section) (map slot_of fields))
-applied p section fixes fields reads checked =
+applied p section fixes fields reads apart checked =
     to_is p section (map slot_of fields)
     ∙ read_is (map slot_of fields) (section_bytes p.file section) (section_fixes p section) fixes reads
-    ∙ checked_is (map slot_of fields) (section_bytes p.file section) fixes (Ok tt) (slots_checked fields fixes ∙ checked)
+    ∙ checked_is (map slot_of fields) (section_bytes p.file section) fixes (Ok tt) (slots_checked fields fixes apart ∙ checked)
 
-pub misplaced : (p : Placing) (section : ℕ) (fixes : List RelocatedField) (fields : List Field) (e : RelocFault) → Reads (section_fixes p section) fixes → place_check fields fixes ≡ Err e → applied_to p section (map slot_of fields) ≡ Err e
-misplaced p section fixes fields e reads checked =
+pub misplaced : (p : Placing) (section : ℕ) (fixes : List RelocatedField) (fields : List Field) (e : RelocFault) → Reads (section_fixes p section) fixes → AreApart fields → place_check fields fixes ≡ Err e → applied_to p section (map slot_of fields) ≡ Err e
+misplaced p section fixes fields e reads apart checked =
     to_is p section (map slot_of fields)
     ∙ read_is (map slot_of fields) (section_bytes p.file section) (section_fixes p section) fixes reads
-    ∙ checked_is (map slot_of fields) (section_bytes p.file section) fixes (Err e) (slots_checked fields fixes ∙ checked)
+    ∙ checked_is (map slot_of fields) (section_bytes p.file section) fixes (Err e) (slots_checked fields fixes apart ∙ checked)
 
 refused_by : (slots : List Slot) (section : List ℕ) (given : Result (List RelocatedField) RelocFault) (e : RelocFault) → (given ≡ Err e) ⊎ Overlaps given e → (e ≡ faults.NoMemory) ⊎ (from_fixes slots section given ≡ Err e)
 refused_by slots section given e (inl read) = inr (ap (from_fixes slots section) read)

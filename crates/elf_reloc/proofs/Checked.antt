@@ -171,7 +171,7 @@ holds_where fixes section g f (Some v) apart inside small among place width foun
           (holds fixes section 0 g.place f (low_bits f.range v) apart inside found bits (bits_fit f v small known)),
     )
 
-positive_width : (w : ℕ) → IsTrue (is_field_width w) → 0 < w
+pub positive_width : (w : ℕ) → IsTrue (is_field_width w) → 0 < w
 positive_width zero t = absurd (cc t)
 positive_width (suc w) t = omega arith
 

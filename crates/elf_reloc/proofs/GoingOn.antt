@@ -1,7 +1,8 @@
 -- Reading relocations one after the other gives what the list of all of them gives.
-use Rattle.std.proofs.Common.{◌≡◌, ℕ, zero, suc, ◌+◌, ◌-◌, ◌<◌, ◌≤◌, Bool, true, false, List, [], ◌∷◌, ◌++◌, length, drop, get_or, Option, Some, None, Result, Ok, Err, refl, sym, ap, ◌∙◌, subst, arith, append_assoc, drop-cons, if◌then◌else◌}
+use Rattle.std.proofs.Common.{◌≡◌, ℕ, zero, suc, ◌+◌, ◌-◌, ◌<◌, ◌≤◌, Bool, true, false, List, [], ◌∷◌, ◌++◌, length, map, drop, get_or, Option, Some, None, Result, Ok, Err, refl, sym, ap, ◌∙◌, subst, arith, append_assoc, drop-cons, if◌then◌else◌}
 use Rattle.std.specs.Prelude.{option_to_list}
-use Rattle.std.proofs.lemmas.List.{append-nil, drop_all, length-append}
+use Rattle.std.proofs.lemmas.List.{append-nil, drop_all, length-append, map_push}
+use Rattle.elf_read.specs.Checking.{numbers_below}
 use Rattle.elf_read.specs.Sections.{entry_count}
 use Rattle.elf_place.specs.Relocations.{numbers_of, relocation_sections}
 use Rattle.elf_place.specs.Views.{Placing}
@@ -23,6 +24,9 @@ fails (OutOfSection k) given h = h
 fails NoMemory given h = tt
 
 -- ---- lists of relocations
+abbrev entry_of : (table entry : ℕ) → Relocation
+entry_of table entry = record { table = table; entry = entry }
+
 pub entries_from-none : (table first : ℕ) → entries_from table first 0 ≡ []
 unfolding entries_from
 entries_from-none table first = refl
@@ -46,9 +50,35 @@ pub relocations_in-none : (file : List ℕ) → relocations_in file [] ≡ []
 unfolding relocations_in
 relocations_in-none file = refl
 
+-- one entry more
+entries_from-push : (table first count : ℕ) → entries_from table first count ++ entry_of table (first + count) ∷ [] ≡ entries_from table first (suc count)
+entries_from-push table first zero =
+    let here : first + 0 ≡ first = omega arith in
+    ap (λ (rs : List Relocation). rs ++ entry_of table (first + 0) ∷ []) (entries_from-none table first)
+    ∙ ap (λ (k : ℕ). entry_of table k ∷ []) here
+    ∙ ap (λ (rs : List Relocation). entry_of table first ∷ rs) (sym (entries_from-none table (first + 1)))
+    ∙ sym (entries_from-suc table first 0)
+entries_from-push table first (suc count) =
+    let last : first + suc count ≡ (first + 1) + count = omega arith in
+    ap (λ (rs : List Relocation). rs ++ entry_of table (first + suc count) ∷ []) (entries_from-suc table first count)
+    ∙ ap (λ (k : ℕ). entry_of table first ∷ (entries_from table (first + 1) count ++ entry_of table k ∷ [])) last
+    ∙ ap (λ (rs : List Relocation). entry_of table first ∷ rs) (entries_from-push table (first + 1) count)
+    ∙ sym (entries_from-suc table first (suc count))
+
+-- by their numbers, all of them
+numbered : (table count : ℕ) → map (entry_of table) (numbers_below count) ≡ entries_from table 0 count
+unfolding numbers_below
+numbered table zero = sym (entries_from-none table 0)
+numbered table (suc count) =
+    let last : count ≡ 0 + count = omega arith in
+    map_push (entry_of table) (numbers_below count) count
+    ∙ ap (λ (rs : List Relocation). rs ++ entry_of table count ∷ []) (numbered table count)
+    ∙ ap (λ (k : ℕ). entries_from table 0 count ++ entry_of table k ∷ []) last
+    ∙ entries_from-push table 0 count
+
 pub relocations_in-first : (file : List ℕ) (i : ℕ) (sections : List ℕ) → relocations_in file (i ∷ sections) ≡ entries_from i 0 (entry_count file i) ++ relocations_in file sections
 unfolding relocations_in
-relocations_in-first file i sections = refl
+relocations_in-first file i sections = ap (λ (rs : List Relocation). rs ++ relocations_in file sections) (numbered i (entry_count file i))
 
 pub rel_check-none : (file : List ℕ) → rel_check file [] ≡ Ok tt
 unfolding rel_check

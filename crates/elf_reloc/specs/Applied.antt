@@ -1,6 +1,6 @@
 -- A section to which its relocations are applied (ELF64 gABI, "Relocation"): the patched bytes, and those of its pointer fields whose
 -- values can't be known yet or are places in a dropped section; or the first fault.
-use Rattle.std.specs.Prelude.{ℕ, Bool, false, ◌==◌, ◌&&◌, nat_le, List, [], ◌∷◌, Option, Some, None, is_none, Result, Ok, Err, if◌then◌else◌}
+use Rattle.std.specs.Prelude.{ℕ, Bool, ◌==◌, ◌&&◌, nat_le, List, [], ◌∷◌, is_none, Result, Ok, Err, if◌then◌else◌}
 use Rattle.std.specs.List.{filter, list_any}
 use Rattle.sf_bytes.specs.declared.field.Field.{Field}
 use Rattle.elf_read.specs.Sections.{section_bytes}
@@ -8,7 +8,7 @@ use Rattle.elf_place.specs.Views.{Placing}
 use Rattle.elf_reloc.specs.declared.fault.RelocFault.{RelocFault}
 use Rattle.elf_reloc.specs.declared.fault.RelocFault.TheVariants.{Place}
 use Rattle.elf_reloc.specs.declared.fix.RelocatedField.{RelocatedField}
-use Rattle.elf_reloc.specs.Order.{first_at, overlap_check}
+use Rattle.elf_reloc.specs.Order.{overlap_check}
 use Rattle.elf_reloc.specs.Patched.{patched}
 use Rattle.elf_reloc.specs.Reading.{◌>>=◌, section_fixes}
 use Rattle.elf_reloc.specs.Table.{width_of}
@@ -34,14 +34,9 @@ pub record Slot : Type 0 where
 abbrev pub slot_of : Field → Slot
 slot_of g = record { place = g.place; width = g.width }
 
--- whether a pointer field that was found has the width that is written
-abbrev pub has_slot_width : RelocatedField → Option Slot → Bool
-has_slot_width f None = false
-has_slot_width f (Some g) = g.width == width_of f.range
-
 -- what is written is a pointer field, at its place and of its width
 abbrev pub is_slot : List Slot → RelocatedField → Bool
-is_slot slots f = has_slot_width f (first_at (λ (g : Slot). g.place) f.place slots)
+is_slot slots f = list_any (λ (g : Slot). (g.place == f.place) && (g.width == width_of f.range)) slots
 
 -- the first by place that isn't
 unfoldable pub slot_check : List Slot → List RelocatedField → Result (Unit {0}) RelocFault
@@ -82,8 +77,3 @@ applied_to p section slots = do
   _ ← overlap_check 0 (by_place fixes)
   _ ← slot_check slots (by_place fixes)
   Ok (applied_of (by_place fixes) (section_bytes p.file section) slots)
-
--- ---- Inside the crate
--- the place of a pointer field
-abbrev pub slot_place : Slot → ℕ
-slot_place g = g.place

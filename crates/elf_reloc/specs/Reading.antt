@@ -1,9 +1,10 @@
 -- The relocations of a section with call frame information, in order of section and entry (ELF64 gABI,
 -- "Relocation"), and the first fault.
-use Rattle.std.specs.Prelude.{◌≡◌, ℕ, zero, suc, ◌+◌, ◌%◌, ◌^◌, ◌==◌, Bool, true, false, List, [], ◌∷◌, ◌++◌, length, Option, Some, None, option_to_list, Result, Ok, Err, nat_lt, if◌then◌else◌}
+use Rattle.std.specs.Prelude.{◌≡◌, ℕ, zero, suc, ◌+◌, ◌%◌, ◌^◌, ◌==◌, Bool, true, false, List, [], ◌∷◌, ◌++◌, flat_map, length, map, Option, Some, None, option_to_list, Result, Ok, Err, nat_lt, if◌then◌else◌}
 use Rattle.std.specs.Option.{unwrap_or}
 use Rattle.std.specs.Int.{w64, cast_unsigned}
 use Rattle.sf_model.specs.Answers as answers
+use Rattle.elf_read.specs.Checking.{numbers_below}
 use Rattle.elf_read.specs.Header.{is_rel, arch_of}
 use Rattle.elf_read.specs.Sections.{section_fields, section_bytes, rela_fields, entry_count}
 use Rattle.elf_place.specs.Relocations.{relocation_sections}
@@ -66,15 +67,9 @@ pub record Relocation : Type 0 where
   pub table : ℕ
   pub entry : ℕ
 
--- `count` entries of a section, from this one on
-unfoldable pub entries_from : (table first count : ℕ) → List Relocation
-entries_from table first zero = []
-entries_from table first (suc count) = record { table = table; entry = first } ∷ entries_from table (first + 1) count
-
 -- the relocations of these sections, in order of section and entry
 unfoldable pub relocations_in : List ℕ → (sections : List ℕ) → List Relocation
-relocations_in file [] = []
-relocations_in file (i ∷ sections) = entries_from i 0 (entry_count file i) ++ relocations_in file sections
+relocations_in file sections = flat_map (λ (i : ℕ). map (λ (k : ℕ). record { table = i; entry = k }) (numbers_below (entry_count file i))) sections
 
 -- ---- what they write
 -- the fields that relocations write, or the first fault; the first relocation has this number, its place in the list of all
@@ -142,3 +137,8 @@ unfoldable pub object_fixes : Placing → ℕ → Result (List RelocatedField) R
 object_fixes p section =
     rel_check p.file (relocation_sections p.file section)
     >>= λ _. fixes_from p section 0 (relocations_in p.file (relocation_sections p.file section))
+
+-- `count` entries of a section, from this one on
+unfoldable pub entries_from : (table first count : ℕ) → List Relocation
+entries_from table first zero = []
+entries_from table first (suc count) = record { table = table; entry = first } ∷ entries_from table (first + 1) count

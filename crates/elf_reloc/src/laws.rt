@@ -37,9 +37,9 @@ pub fn fields_hold_what_is_patched()
 /// to what applying them is defined to be: the patched section, or the first fault.
 pub fn relocations_are_applied()
     // All were read, and lie on pointer fields.
-    ensures applied { (p : placing) (section : ℕ) (fixes : List written) (fields : List pointer) → Reads (section_fixes p section) fixes → place_check fields fixes ≡ Ok tt → applied_to p section (map slot_of fields) ≡ Ok (applied_of fixes (section_bytes p.file section) (map slot_of fields)) }
+    ensures applied { (p : placing) (section : ℕ) (fixes : List written) (fields : List pointer) → Reads (section_fixes p section) fixes → AreApart fields → place_check fields fixes ≡ Ok tt → applied_to p section (map slot_of fields) ≡ Ok (applied_of fixes (section_bytes p.file section) (map slot_of fields)) }
     // All were read, and one lies on no pointer field.
-    ensures misplaced { (p : placing) (section : ℕ) (fixes : List written) (fields : List pointer) (e : refusal) → Reads (section_fixes p section) fixes → place_check fields fixes ≡ Err e → applied_to p section (map slot_of fields) ≡ Err e }
+    ensures misplaced { (p : placing) (section : ℕ) (fixes : List written) (fields : List pointer) (e : refusal) → Reads (section_fixes p section) fixes → AreApart fields → place_check fields fixes ≡ Err e → applied_to p section (map slot_of fields) ≡ Err e }
     // One was refused as it was read, whatever the pointer fields are.
     ensures refused { (p : placing) (section : ℕ) (slots : List Slot) (e : refusal) → Refuses e (section_fixes p section) → (e ≡ NoMemory) ⊎ (applied_to p section slots ≡ Err e) }
 {}

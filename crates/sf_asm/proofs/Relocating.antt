@@ -66,11 +66,11 @@ slots_viewed : (fields : List Field) → map pointer_slot (map pointer_view fiel
 slots_viewed [] = refl
 slots_viewed (g ∷ gs) = ap (λ (slots : List Slot). slot_of g ∷ slots) (slots_viewed gs)
 
-check_viewed : (fields : List Field) (fixes : List RelocatedField) → pointer_check (map pointer_view fields) fixes ≡ place_check fields fixes
-check_viewed fields fixes = ap (λ (slots : List Slot). slot_check slots fixes) (slots_viewed fields) ∙ slots_checked fields fixes
+check_viewed : (fields : List Field) (fixes : List RelocatedField) → AreApart fields → pointer_check (map pointer_view fields) fixes ≡ place_check fields fixes
+check_viewed fields fixes apart = ap (λ (slots : List Slot). slot_check slots fixes) (slots_viewed fields) ∙ slots_checked fields fixes apart
 
-pub checked : (pointers : List PointerField) (fields : List Field) (fixes : List RelocatedField) (r : Result (Unit {0}) RelocFault) → map pointer_view fields ≡ pointers → r ≡ place_check fields fixes → pointer_check pointers fixes ≡ r
-checked pointers fields fixes r p q = ap (λ (gs : List PointerField). pointer_check gs fixes) (sym p) ∙ check_viewed fields fixes ∙ sym q
+pub checked : (pointers : List PointerField) (fields : List Field) (fixes : List RelocatedField) (r : Result (Unit {0}) RelocFault) → map pointer_view fields ≡ pointers → AreApart fields → r ≡ place_check fields fixes → pointer_check pointers fixes ≡ r
+checked pointers fields fixes r p apart q = ap (λ (gs : List PointerField). pointer_check gs fixes) (sym p) ∙ check_viewed fields fixes apart ∙ sym q
 
 -- what a call answered on the fields that it listed
 pub lies_on_fields : (pointers : List PointerField) (fields : List Field) (fixes : List RelocatedField) (r : Result (Unit {0}) RelocFault) → map pointer_view fields ≡ pointers → AreApart fields → r ≡ place_check fields fixes

@@ -9,7 +9,6 @@ use Rattle.eh_records.specs.declared.fault.RecordFault.{RecordFault}
 use Rattle.eh_records.specs.Fde.{FdeView}
 use Rattle.eh_records.specs.Refused.{AreReadAs}
 use Rattle.eh_records.specs.Section.{EntryView, frames, pointer_fields}
-use Rattle.elf_reloc.specs.declared.fix.RelocatedField.{RelocatedField}
 use Rattle.sf_asm.specs.declared.fault.AsmFault.{AsmFault}
 use Rattle.sf_asm.specs.declared.fault.AsmFault.TheVariants.{Reloc, Record}
 use Rattle.sf_asm.specs.declared.fault.GatherFault.{GatherFault}

@@ -3,7 +3,7 @@ use Rattle.elf_reloc.proofs.laws.relocations_are_applied.Goals as goal
 
 pub returns : goal.returns
 returns c = record {
-  applied = λ p section fixes fields reads checked. applied p section fixes fields reads checked;
-  misplaced = λ p section fixes fields e reads checked. misplaced p section fixes fields e reads checked;
+  applied = λ p section fixes fields reads apart checked. applied p section fixes fields reads apart checked;
+  misplaced = λ p section fixes fields e reads apart checked. misplaced p section fixes fields e reads apart checked;
   refused = λ p section slots e h. refused p section slots e h;
 }

@@ -12,10 +12,10 @@ pub returns-then-is_empty-clause-checked : goal.returns-then-is_empty-clause-che
 returns-then-is_empty-clause-checked c = inl (nothing_listed (fixes_in c.args.relocs.now) (sym c.is_empty.ensures ∙ c.if-is_empty.true))
 
 pub returns-in-Ok-clause-lie : goal.returns-in-Ok-clause-lie
-returns-in-Ok-clause-lie c = on_ok _ _ (checked _ _ _ _ c.in-Ok.ensures.exact (rw c.deref.ensures.value at c.check.ensures))
+returns-in-Ok-clause-lie c = on_ok _ _ (checked _ _ _ _ c.in-Ok.ensures.exact c.in-Ok.ensures.apart (rw c.deref.ensures.value at c.check.ensures))
 
 pub returns-in-Ok-clause-checked : goal.returns-in-Ok-clause-checked
 returns-in-Ok-clause-checked c = lies_on_fields _ _ _ _ c.in-Ok.ensures.exact c.in-Ok.ensures.apart (rw c.deref.ensures.value at c.check.ensures)
 
 pub returns-in-Ok-clause-fault : goal.returns-in-Ok-clause-fault
-returns-in-Ok-clause-fault c = on_err _ _ (checked _ _ _ _ c.in-Ok.ensures.exact (rw c.deref.ensures.value at c.check.ensures))
+returns-in-Ok-clause-fault c = on_err _ _ (checked _ _ _ _ c.in-Ok.ensures.exact c.in-Ok.ensures.apart (rw c.deref.ensures.value at c.check.ensures))
