@@ -111,7 +111,7 @@ functions_of item objects = functions_after [] item objects
 -- ---- Inside the crate: parts of these
 -- the first instruction that can't be read or run
 abbrev pub fault_in : Arch → FdeView → Option MachineFault
-fault_in arch f = first_fault arch f.cie.factor (listing f.cie.insns) (listing f.insns)
+fault_in arch f = first_fault arch f.cie.data_alignment_factor (listing f.cie.insns) (listing f.insns)
 
 -- with the instructions that are read
 abbrev pub function_at : Arch → (item : ℕ) → CallFrames → FdeView → ℕ × ℕ → Function

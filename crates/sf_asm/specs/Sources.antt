@@ -130,11 +130,11 @@ function_by_span arch f span = record {
   arch = arch;
   start = span.start;
   size = span.size;
-  column = f.cie.column;
+  column = f.cie.return_address_register;
   signal = f.cie.signal;
   key = f.cie.key;
-  code = f.cie.code;
-  factor = f.cie.factor;
+  code = f.cie.code_alignment_factor;
+  factor = f.cie.data_alignment_factor;
   initial = listing (cursor f.cie.insns);
   own = listing (cursor f.insns);
   origin = span.origin;
@@ -142,7 +142,7 @@ function_by_span arch f span = record {
 
 -- of the functions of this entry
 abbrev pub common_of : Arch → CieView → Common
-common_of arch cie = record { arch = arch; column = cie.column; signal = cie.signal; key = cie.key; code = cie.code; factor = cie.factor; initial = listing cie.insns }
+common_of arch cie = record { arch = arch; column = cie.return_address_register; signal = cie.signal; key = cie.key; code = cie.code_alignment_factor; factor = cie.data_alignment_factor; initial = listing cie.insns }
 
 -- the function, if it is omitted
 abbrev pub if_left : Outcome → Function → List Function
