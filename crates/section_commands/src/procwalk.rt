@@ -196,12 +196,12 @@ fn walked<'a, 'm>(
 }
 
 /// Returns the walks of a core file's threads by the modules of these files.
-fn procwalk_made<'a, 'm>(
+fn procwalk_made<'a, 'i, 'm>(
     alloc: Global,
-    core: &[u8],
+    core: &'i [u8],
     depth: u32,
     names: &[String],
-    files: &[Loaded<'a>],
+    files: &'i [Loaded<'a>],
 ) -> Result<Made<'m>, Refusal<'a>>
     requires items { loaded_items files.now ≡ map Mapped (map string_bytes names.now) }
     requires few { length files.now ≤ 512 }
