@@ -1,6 +1,7 @@
 -- Files that were loaded, one after the other, of a list whose words each name one.
 use Rattle.std.specs.List.{zip}
 use Rattle.std.proofs.Common.{◌≡◌, ℕ, zero, suc, ◌+◌, ◌<◌, ◌≤◌, List, [], ◌∷◌, map, length, drop, get_or, refl, ap, sym, ◌∙◌, arith}
+use Rattle.std.proofs.lemmas.List.{length-map}
 use Rattle.sf_words.specs.declared.loading.Loaded.{Loaded}
 use Rattle.sf_words.specs.Items.{ItemWords, item_of}
 use Rattle.sf_words.specs.Loading.{loaded_bytes, loaded_items}
@@ -43,3 +44,13 @@ none_left {A} words loaded k h = ap (λ (ls : List Loaded). zip (drop k words) (
     none_named : (words : List A) → zip words (loaded_bytes []) ≡ []
     none_named [] = refl
     none_named (w ∷ ws) = refl
+
+-- ---- the bytes of files at their places
+pub bytes_at : (loaded : List Loaded) (k : ℕ) (d : Loaded) → k < length loaded → get_or (loaded_bytes loaded) k [] ≡ (get_or loaded k d).bytes.items
+bytes_at [] k d lt = let none : ⊥ = omega (arith, lt) in absurd none
+bytes_at (l ∷ ls) zero d lt = refl
+bytes_at (l ∷ ls) (suc k) d lt = bytes_at ls k d (omega (arith, lt))
+
+-- as many files as items
+pub as_many : (loaded : List Loaded) (items : List ItemWords) → loaded_items loaded ≡ items → length loaded ≡ length items
+as_many loaded items h = sym (length-map loaded (λ (l : Loaded). item_of l.item)) ∙ ap length h

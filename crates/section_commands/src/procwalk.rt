@@ -64,12 +64,12 @@ fn unread_module<'a>(fault: &ModuleFault, item: u32) -> Refusal<'a>
 }
 
 /// Returns the modules of these files, in order. The core file is item 0.
-fn modules_of<'a, 'm>(
+fn modules_of<'a, 'p, 'm>(
     alloc: Global,
-    process: &Process<'m>,
+    process: &Process<'p>,
     names: &[String],
-    files: &'m [Loaded<'a>],
-) -> Result<Vec<Module<'m, 'm>>, Refusal<'a>>
+    files: &'m [Loaded<'_>],
+) -> Result<Vec<Module<'p, 'm>>, Refusal<'a>>
     requires items { loaded_items files.now ≡ map Mapped (map string_bytes names.now) }
     requires few { length files.now ≤ 512 }
     requires small { All (λ bytes. length bytes < 2 ^ 32) (loaded_bytes files.now) }
@@ -78,8 +78,8 @@ fn modules_of<'a, 'm>(
     ensures are { IfOk result (λ modules. AllZip (IsModuleOf (process_view process.now)) (zip (map string_bytes names.now) (loaded_bytes files.now)) (map module_view modules.items)) }
     ensures refused { IfErr result (λ refused. (depth : ℕ) → ComesAs (FilesCome (process_view process.now) depth (zip (map string_bytes names.now) (loaded_bytes files.now)) (files_fault (process_view process.now) (zip (map string_bytes names.now) (loaded_bytes files.now)))) refused) }
 {
-    let mut modules: Vec<Module<'m, 'm>> = Vec::new(alloc);
-    let mut read: Vec<ReadFile<'_, 'm, 'm>> = Vec::new(alloc);
+    let mut modules: Vec<Module<'p, 'm>> = Vec::new(alloc);
+    let mut read: Vec<ReadFile<'_, 'p, 'm>> = Vec::new(alloc);
     for file in files {
         let Item::Mapped(name) = file.item else {
             unreachable!();
@@ -104,14 +104,14 @@ fn modules_of<'a, 'm>(
 
 /// Returns the modules of these files by a core file and the entries of its note on mapped files, which are sorted
 /// for this alone.
-fn mapped_modules<'a, 'm>(
+fn mapped_modules<'a, 'p, 'm>(
     alloc: Global,
-    core: &Core<'m>,
+    core: &Core<'p>,
     page: u64,
-    entries: &'m [Entry<'m>],
+    entries: &'p [Entry<'p>],
     names: &[String],
-    files: &'m [Loaded<'a>],
-) -> Result<Vec<Module<'m, 'm>>, Refusal<'a>>
+    files: &'m [Loaded<'_>],
+) -> Result<Vec<Module<'p, 'm>>, Refusal<'a>>
     requires page { 0 < page }
     requires items { loaded_items files.now ≡ map Mapped (map string_bytes names.now) }
     requires few { length files.now ≤ 512 }
@@ -196,12 +196,12 @@ fn walked<'a, 'm>(
 }
 
 /// Returns the walks of a core file's threads by the modules of these files.
-fn procwalk_made<'a, 'i, 'm>(
+fn procwalk_made<'a, 'm>(
     alloc: Global,
-    core: &'i [u8],
+    core: &[u8],
     depth: u32,
     names: &[String],
-    files: &'i [Loaded<'a>],
+    files: &[Loaded<'_>],
 ) -> Result<Made<'m>, Refusal<'a>>
     requires items { loaded_items files.now ≡ map Mapped (map string_bytes names.now) }
     requires few { length files.now ≤ 512 }
