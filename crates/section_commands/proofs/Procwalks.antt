@@ -1,7 +1,7 @@
 -- Mapped files with their bytes, one after the other, and what their modules come to.
 use Rattle.std.specs.List.{All, AllZip, position, position_or_len, zip}
 use Rattle.std.specs.Prelude.{nat_lt}
-use Rattle.std.proofs.Common.{◌≡◌, ℕ, ◌+◌, ◌<◌, ◌≤◌, ◌^◌, Bool, not, cond, List, [], ◌∷◌, map, length, Option, Some, None, Result, Ok, Err, refl, ap, sym, subst, ◌∙◌, ◌⊎◌, inl, inr, arith}
+use Rattle.std.proofs.Common.{◌≡◌, ℕ, ◌+◌, ◌<◌, ◌≤◌, ◌^◌, Bool, not, cond, List, [], ◌∷◌, map, length, drop, get_or, Option, Some, None, Result, Ok, Err, refl, ap, sym, subst, ◌∙◌, ◌⊎◌, inl, inr, arith}
 use Rattle.std.proofs.lemmas.List.{length-map}
 use Rattle.std.proofs.lemmas.List.Elements.{All-nil, All-cons}
 use Rattle.elf_read.specs.Header.{arch_of}
@@ -17,7 +17,8 @@ use Rattle.sf_modules.specs.Process.{ProcessView}
 use Rattle.sf_modules.specs.Union.{tables_of}
 use Rattle.sf_words.specs.declared.refusal.Refusal.{Refusal}
 use Rattle.sf_words.specs.declared.refusal.Refusal.TheVariants as refusal
-use Rattle.sf_words.specs.Loading.{bytes_limit, items_limit}
+use Rattle.sf_words.specs.declared.loading.Loaded.{Loaded}
+use Rattle.sf_words.specs.Loading.{bytes_limit, items_limit, loaded_bytes, loaded_items}
 use Rattle.sf_words.proofs.Loads.{goes_on, within_both}
 use Rattle.sf_words.specs.Items.{Core, Mapped}
 use Rattle.section_commands.specs.declared.made.Made.{Made}
@@ -25,6 +26,7 @@ use Rattle.section_commands.specs.Coming.{Coming}
 use Rattle.section_commands.specs.FirstFault.{first_fault}
 use Rattle.section_commands.specs.Making.{ComesAs, ComesTo}
 use Rattle.section_commands.specs.Procwalk.{File, FilesCome, IsModuleOf, NoteComes, ProcwalkComesFrom, coming_of_module, coming_of_modules, file_check, file_note, files_fault, mixed_item, modules_walks, process_of, sums_limit}
+use Rattle.section_commands.proofs.Lists.{as_many}
 use Rattle.section_commands.proofs.Making.{comes_as, memory_comes}
 use Rattle.section_commands.proofs.Reading.{Reading, fault_step}
 
@@ -71,6 +73,15 @@ all_short name core names items count h =
     let rest = zip (map Mapped names) items in
     let here = within_both 0 0 (Core name) core rest h in
     (omega (arith, here.0), files_short _ _ names items count (sym (goes_on 0 0 (Core name) core rest here.0 here.1) ∙ h))
+
+-- the first file that was loaded, a core file, is short, and so are those after it
+pub loaded_short : (name : List ℕ) (names : List (List ℕ)) (loaded : List Loaded) (d : Loaded) → loaded_items loaded ≡ Core name ∷ map Mapped names → items_limit (Core name ∷ map Mapped names) (loaded_bytes loaded) ≡ None
+    → IsShort (get_or loaded 0 d).bytes.items × All IsShort (loaded_bytes (drop 1 loaded))
+loaded_short name names [] d h limit = let none : ⊥ = cc in absurd none
+loaded_short name names (l ∷ ls) d h limit =
+    let later : loaded_items ls ≡ map Mapped names = cc in
+    let count : length (loaded_bytes ls) ≡ length names = length-map ls (λ (l : Loaded). l.bytes.items) ∙ as_many ls (map Mapped names) later ∙ length-map names Mapped in
+    all_short name l.bytes.items names (loaded_bytes ls) count limit
 
 -- ---- what a core file and files come to
 pub fault_found : (check : Check) (fault : ModuleFault) → IsFaultOf check fault → (fault ≡ NoMemory) ⊎ (check ≡ Err fault)

@@ -1,9 +1,10 @@
 -- The texts of walks, one thread after the other, and how long a core file is that was loaded.
-use Rattle.std.proofs.Common.{◌≡◌, ◌+◌, ◌++◌, ◌<◌, ◌^◌, ℕ, List, [], ◌∷◌, None, length, refl, ap, sym, ◌∙◌, append_assoc, arith}
+use Rattle.std.proofs.Common.{◌≡◌, ◌+◌, ◌++◌, ◌<◌, ◌^◌, ℕ, List, [], ◌∷◌, None, length, get_or, refl, ap, sym, ◌∙◌, append_assoc, arith}
 use Rattle.sf_model.specs.Walk.{Listing, ThreadState}
 use Rattle.core_notes.specs.declared.status.Thread.{Thread}
 use Rattle.core_walk.specs.Walk.{thread_state}
-use Rattle.sf_words.specs.Loading.{items_limit}
+use Rattle.sf_words.specs.declared.loading.Loaded.{Loaded}
+use Rattle.sf_words.specs.Loading.{items_limit, loaded_bytes, loaded_items}
 use Rattle.sf_words.proofs.Loads.{goes_on, within_both}
 use Rattle.sf_words.specs.Items.{Core, Section}
 use Rattle.sf_words.specs.Words.{SectionWords}
@@ -33,3 +34,11 @@ core_short section core bytes file h =
     let first = within_both 0 0 (Section section) bytes ((Core core, file) ∷ []) h in
     let second = within_both _ _ (Core core) file [] (sym (goes_on 0 0 (Section section) bytes ((Core core, file) ∷ []) first.0 first.1) ∙ h) in
     omega (arith, second.0)
+
+-- the second file of a walk that was loaded
+pub walk_short : (section : SectionWords) (core : List ℕ) (loaded : List Loaded) (d : Loaded) → loaded_items loaded ≡ Section section ∷ Core core ∷ [] → items_limit (Section section ∷ Core core ∷ []) (loaded_bytes loaded) ≡ None
+    → length (get_or loaded 1 d).bytes.items < 2 ^ 32
+walk_short section core [] d h limit = let none : ⊥ = cc in absurd none
+walk_short section core (a ∷ []) d h limit = let none : ⊥ = cc in absurd none
+walk_short section core (a ∷ b ∷ []) d h limit = core_short section core a.bytes.items b.bytes.items limit
+walk_short section core (a ∷ b ∷ c ∷ ls) d h limit = let none : ⊥ = cc in absurd none

@@ -52,6 +52,7 @@ fn views_of<'a, 'm>(
 ) -> Result<Vec<View<'m>>, Refusal<'a>>
     requires items { loaded_items loaded.now ≡ map Section (sections_of sections) }
     requires few { length (sections_of sections) ≤ 512 }
+    ensures count { IfOk result (λ views. length views.items ≡ length loaded.now) }
     ensures checked { IfOk result (λ _. sections_fault (zip (sections_of sections.entry) (loaded_bytes loaded.now)) ≡ None) }
     ensures are { IfOk result (λ views. AllZip IsSectionOf (zip (sections_of sections.entry) (loaded_bytes loaded.now)) (map table_of views.items)) }
     ensures refused { IfErr result (λ refused. (at : ℕ) → ComesAs (MergeComesAt at (zip (sections_of sections.entry) (loaded_bytes loaded.now)) (sections_fault (zip (sections_of sections.entry) (loaded_bytes loaded.now)))) refused) }

@@ -1,4 +1,4 @@
--- Where a word is cut: at its last `@`, since an address has none.
+-- Inside the crate. Where a word is cut: at its last `@`, since an address has none.
 use Rattle.std.proofs.Common.{◌≡◌, ◌≢◌, ℕ, suc, ◌<◌, eqb, List, [], ◌∷◌, ◌++◌, length, map, get_or, take, drop, refl, sym, ap, subst, ◌∙◌, arith}
 use Rattle.std.specs.Str.{NoCharPasses}
 use Rattle.std.specs.Str.Pattern.{HasCharAt}

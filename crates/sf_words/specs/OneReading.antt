@@ -1,4 +1,4 @@
--- A word names one file at most.
+-- Inside the crate. A word names one file at most.
 use Rattle.std.proofs.Common.{◌≡◌, ℕ, zero, suc, List, [], ◌∷◌, ◌++◌, drop, get_or, refl, ap, sym, subst, ◌∙◌, Some, arith}
 use Rattle.std.specs.List.{AllZip}
 use Rattle.std.specs.Coded.{Coded, Coded-set, code_by, coded_ℕ, coded_list, coded×}
