@@ -14,7 +14,7 @@ import sys
 import tempfile
 
 import kiblawen
-from kiblawen import Base, Fault, Frame, Key, Module, Modules, Refused, Sample, Section, Stop
+from kiblawen import Base, Fault, Frame, Key, Module, Modules, Refused, Sample, Section, State, Stop
 
 # An AMD64 function at 0x1000 that pushes its frame pointer, for a section at 0x3000: as in c-library.c.
 PUSHING = bytes.fromhex(
@@ -76,6 +76,7 @@ def try_made():
     modules = Modules([Module(0x2000, 0x1000, None), Module(0x1000, 0x1000, section)])
     check("modules", modules.walk(SAMPLE) == (FRAMES, Stop.OUTSIDE, 2**64 - 1))
     check("a module without a section", modules.walk(SAMPLE._replace(pc=0x2000)) == ([Frame(0x2000, 0)], Stop.OUTSIDE, 0x2000))
+    try_walking_on(section)
     check("no modules", Modules([]).walk(SAMPLE) == ([Frame(0x1004, 0)], Stop.OUTSIDE, 0x1004))
     try:
         Modules([Module(0x1000, 0x1001, section), Module(0x2000, 1, section)])
@@ -85,6 +86,22 @@ def try_made():
     with section:
         pass
     check("a closed section", section.find(0x1004) is None and section.most_rows() == 0)
+
+
+def try_walking_on(section):
+    module = Module(0x1000, 0x1000, section)
+    modules = Modules([Module(0x2000, 0x1000, None), module])
+    first, second = (0x1004, 0x7010, module), (0x1005, 0x7020, module)
+    end = State(0, 0x7020, 0, 0, False, True)
+    for _ in range(2):
+        check("a walk that goes on", modules.walk_on(SAMPLE) == ([first, second, (0, 0, None)], Stop.OUTSIDE, 2**64 - 1, end))
+    one = modules.walk_on(SAMPLE, room=1)
+    check("one frame of it", one == ([first], Stop.ROOM, 0, State(0x1005, 0x7010, 0x7010, 0x1005, False, True)))
+    check("the rest of it", modules.walk_on(SAMPLE, one.state) == ([second, (0, 0, None)], Stop.OUTSIDE, 2**64 - 1, end))
+    ending = SAMPLE._replace(pc=0x1001, sp=0x7000, stack=STACK[8:], stack_start=0x7008)
+    unknown = State(0x1005, 0x7010, 0x7000, 0x1005, True, True)
+    check("an unknown frame pointer", modules.walk_on(ending) == ([(0x1001, 0x7010, module), (0x1005, 0, module)], Stop.UNREADABLE, 0x7000, unknown))
+    check("no modules to walk on in", Modules([]).walk_on(SAMPLE).frames == [(0x1004, 0, None)])
 
 
 def read_core(path):
@@ -121,7 +138,8 @@ def try_core(tool, room):
         return
     section = kiblawen.link(program, tool=tool)
     check("the report of link", re.search(r"kept \d+ omitted \d+", section.report))
-    walk = section.walk(read_core(core))
+    sample = read_core(core)
+    walk = section.walk(sample)
     table = os.path.join(room, "table")
     module = kiblawen.module(program, 0, tool=tool)
     said = subprocess.run([tool, "link", f"{table}@{module.size:#x}", f"{program}@0x0"], stdout=subprocess.DEVNULL, check=False).returncode
@@ -129,6 +147,8 @@ def try_core(tool, room):
     expected = [int(it, 16) for it in re.findall(r"#\d+ pc (0x\w+)", shown)]
     check("the frames of `sf_tool walk`", said == 0 and len(expected) > 20 and [it.pc for it in walk.frames] == expected)
     check("the stop of `sf_tool walk`", f"stop {walk.stop.name.lower()} {walk.value:#x}" in shown)
+    on = Modules([Module(0, module.size, section)]).walk_on(sample)
+    check("the same by modules", [(it.pc, it.cfa) for it in on.frames] == walk.frames and on.stop == walk.stop)
     try:
         kiblawen.link(source, tool=tool)
         check("a file that is no program", False)

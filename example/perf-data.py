@@ -116,7 +116,7 @@ def main():
     for time, theirs in perf_stacks(sys.argv[1]):
         if time not in samples:
             continue
-        walk = modules.walk(samples[time], 1024)
+        walk = modules.walk_on(samples[time], room=1024)
         ours = [it.pc for it in walk.frames]
         agree = all(is_same(one, other, mapped) for one, (other, _) in zip(ours, theirs))
         if not agree:

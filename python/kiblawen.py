@@ -7,6 +7,7 @@
     section.walk(kiblawen.Sample(pc, sp, fp, stack))                 a Walk: its frames, and why it stopped
     modules = kiblawen.Modules([kiblawen.Module(start, size, section), ..])
     modules.walk(sample)                                             the same with the sections of a process
+    modules.walk_on(sample)                                          the same past unknown frame pointers, with modules and a state to go on from
 
 The library is $KIBLAWEN_LIBRARY, or the one that is installed with this file, or the one that the dynamic linker finds. `link` is the only
 call that starts a process: the program `sf_tool`. kiblawen.h describes each call of the library. What these return is proved; this file is
@@ -20,11 +21,14 @@ import os
 import struct
 import subprocess
 import tempfile
+import threading
 
-__all__ = ["Base", "Caller", "Fault", "Frame", "Key", "Module", "Modules", "Refused", "Row", "Sample", "Section", "Stop", "Walk", "link", "module"]
+__all__ = ["Base", "Caller", "Fault", "Frame", "Key", "Module", "ModuleFrame", "Modules", "Refused", "Row", "Sample", "Section", "State",
+           "Stop", "Walk", "WalkOn", "link", "module"]
 
 NAME = "libkiblawen.so.0"
 PAGE, PT_LOAD = 4096, 1
+ENTRIES = 2048
 
 
 class Fault(enum.IntEnum):
@@ -91,6 +95,12 @@ Caller = collections.namedtuple("Caller", "cfa ra fp key")
 Frame = collections.namedtuple("Frame", "pc cfa")
 # The frames of a walk, why it stopped, and the value that this names.
 Walk = collections.namedtuple("Walk", "frames stop value")
+# A frame of a walk that goes on, and the Module that has its address, or None. `cfa` is 0 if it isn't known.
+ModuleFrame = collections.namedtuple("ModuleFrame", "pc cfa module")
+# Where a walk is. `fp` is the address where the frame pointer was to be read, if it is unknown. A call returns to `pc` if `returned`.
+State = collections.namedtuple("State", "pc sp fp lr fp_unknown returned", defaults=(0, False, False))
+# The frames of a walk, why it stopped, the value that this names, and where it is.
+WalkOn = collections.namedtuple("WalkOn", "frames stop value state")
 # A file of a process: its addresses, and its section or None.
 Module = collections.namedtuple("Module", "start size section")
 # A stopped thread. `stack` is a copy of its stack from `stack_start` on, or from `sp` on if that is None. `mask` is None if it isn't known.
@@ -116,6 +126,13 @@ _Frame = _struct("kiblawen_frame", pc=_u64, cfa=_u64)
 _Stop = _struct("kiblawen_stop", kind=_u32, value=_u64)
 _Module = _struct("kiblawen_module", start=_u64, size=_u64, section=_Section)
 _to = ctypes.POINTER
+_Modules = _struct("kiblawen_modules", list=_to(_Module), count=_size, order=_to(_size), order_count=_size)
+_Cache = _struct(
+    "kiblawen_cache", address=_u64, module=_size, cfa_offset=_i32, ra_offset=_i32, fp_offset=_i32,
+    **{it: ctypes.c_bool for it in ("is_used", "has_row", "counts_from_fp", "ra_saved", "fp_saved", "is_signed")},
+)
+_State = _struct("kiblawen_state", pc=_u64, sp=_u64, fp=_u64, lr=_u64, fp_unknown=_u32, returned=_u32)
+_ModuleFrame = _struct("kiblawen_module_frame", pc=_u64, cfa=_u64, module=_size)
 _CALLS = {
     "kiblawen_open": (_u32, _to(_Section), _bytes, _size, _u64, _to(_u64)),
     "kiblawen_close": (None, _to(_Section)),
@@ -125,6 +142,9 @@ _CALLS = {
     "kiblawen_walk": (_size, _to(_Section), _to(_Sample), _to(_Frame), _size, _to(_Stop)),
     "kiblawen_in_order": (ctypes.c_bool, _to(_Module), _size),
     "kiblawen_walk_modules": (_size, _to(_Module), _size, _to(_Sample), _to(_Frame), _size, _to(_Stop)),
+    "kiblawen_index": (ctypes.c_bool, _to(_Module), _size, _to(_size), _size),
+    "kiblawen_cache_clear": (None, _to(_Cache), _size),
+    "kiblawen_walk_on": (_size, _to(_Modules), _to(_Cache), _size, _to(_Sample), _to(_State), _to(_ModuleFrame), _size, _to(_Stop)),
 }
 
 
@@ -216,12 +236,27 @@ class Modules:
         closed = _Section(self._nothing, 0, 0, False)
         found = [_Module(it.start, it.size, it.section._section if it.section else closed) for it in self._kept]
         self._modules, self._count = (_Module * max(len(found), 1))(*found), len(found)
-        if not _library.kiblawen_in_order(self._modules, self._count):
+        order = (_size * max(len(found), 1))()
+        if not _library.kiblawen_in_order(self._modules, self._count) or not _library.kiblawen_index(self._modules, self._count, order, self._count):
             raise ValueError("two modules overlap")
+        self._indexed, self._own = _Modules(self._modules, self._count, order, self._count), threading.local()
 
     def walk(self, sample, room=64):
         """Walks a sample. Each frame is looked up in the section of the module that has its address."""
         return _walk(lambda *rest: _library.kiblawen_walk_modules(self._modules, self._count, *rest), sample, room)
+
+    def walk_on(self, sample, state=None, room=64):
+        """Walks on from a State, or from the sample's own registers, and returns a WalkOn. A frame pointer that can't be read is unknown."""
+        if not hasattr(self._own, "cache"):
+            self._own.cache = (_Cache * ENTRIES)()
+            _library.kiblawen_cache_clear(self._own.cache, ENTRIES)
+        given = state or State(sample.pc, sample.sp, sample.fp, sample.lr)
+        at, frames, stop = _State(*given), (_ModuleFrame * max(room, 1))(), _Stop()
+        count = _library.kiblawen_walk_on(
+            ctypes.byref(self._indexed), self._own.cache, ENTRIES, ctypes.byref(_sample(sample)), ctypes.byref(at), frames, room, ctypes.byref(stop)
+        )
+        found = [ModuleFrame(it.pc, it.cfa, self._kept[it.module] if it.module < self._count else None) for it in frames[:count]]
+        return WalkOn(found, Stop(stop.kind), stop.value, State(at.pc, at.sp, at.fp, at.lr, bool(at.fp_unknown), bool(at.returned)))
 
 
 def _page_after(path):

@@ -26,16 +26,16 @@ static void append(char **line, size_t *len, const char *text)
     *len += more;
 }
 
-/* Appends the name of the function at an address: its symbol, or else its file and the place in it. */
-static void append_name(struct process *process, char **line, size_t *len, uint64_t pc)
+/* Appends the name of the function at an address of a file: its symbol, or else the file. */
+static void append_name(struct process *process, char **line, size_t *len, uint64_t pc, size_t module)
 {
-    struct file *file = (struct file *)file_at(process, pc);
     char text[PATH_ROOM + 32];
-    if (!file) {
+    if (module == process->count) {
         snprintf(text, sizeof text, "[0x%llx]", (unsigned long long)pc);
         append(line, len, text);
         return;
     }
+    struct file *file = &process->files[module];
     read_symbols(&file->symbols, file->path);
     const char *name = symbol_at(&file->symbols, pc - file->load), *slash = strrchr(file->path, '/');
     if (!name) {
@@ -45,57 +45,37 @@ static void append_name(struct process *process, char **line, size_t *len, uint6
     append(line, len, name);
 }
 
-/* Writes the row that holds at an address to `row`. Returns the section that has it, or NULL. */
-static const struct kiblawen_section *row_at(const struct process *process, uint64_t pc, struct kiblawen_row *row)
-{
-    const struct file *file = file_at(process, pc);
-    const struct kiblawen_section *section = file ? &process->modules[file - process->files].section : NULL;
-    return section && kiblawen_find(section, pc, row) ? section : NULL;
-}
-
 /*
- * Walks a sample with frame pointers that may be unknown. At a `ret` after `leave` the row still has the frame pointer's place,
- * which is below the stack pointer by then, and in no sample. So the caller's frame pointer is unknown, which ends the walk
- * only at a row that counts from it. Returns how many frames there are.
+ * Walks a sample. Only the innermost function may be at its end, where the frame pointer's place is below the stack pointer and so
+ * in no sample. Samples that go on from there are counted.
  */
-static size_t walk_without_fp(const struct process *process, struct kiblawen_sample sample, struct kiblawen_frame *frames)
+static size_t walk(struct process *process, const struct kiblawen_sample *sample, struct kiblawen_module_frame *frames)
 {
-    struct kiblawen_row row;
-    struct kiblawen_caller caller = {.ra_known = 1};
-    bool is_known = true;
-    size_t count = 0;
-    while (count < MOST_FRAMES && caller.ra_known) {
-        frames[count++] = (struct kiblawen_frame){sample.pc, 0};
-        sample.pc -= count > 1;
-        const struct kiblawen_section *section = row_at(process, sample.pc, &row);
-        if (!section || (row.base == KIBLAWEN_FP && !is_known) || !kiblawen_recover(section, &sample, &caller))
-            break;
-        frames[count - 1].cfa = caller.cfa;
-        is_known = row.fp_saved ? caller.fp_known : is_known;
-        sample.pc = caller.ra;
-        sample.sp = caller.cfa;
-        sample.fp = caller.fp;
+    const struct kiblawen_modules modules = {process->modules, process->count, process->order, process->count};
+    struct kiblawen_state state = KIBLAWEN_START(*sample);
+    struct kiblawen_stop stop;
+    size_t count = kiblawen_walk_on(&modules, process->cache, ENTRIES, sample, &state, frames, 1, &stop);
+    if (stop.kind == KIBLAWEN_STOP_ROOM) {
+        process->without_fp += state.fp_unknown;
+        count += kiblawen_walk_on(&modules, process->cache, ENTRIES, sample, &state, frames + 1, MOST_FRAMES - 1, &stop);
     }
+    process->samples++;
+    process->frames += count;
+    process->stops[stop.kind]++;
     return count;
 }
 
 /* Walks a sample, and adds its stack as a line. */
 void add_stack(struct process *process, const struct kiblawen_sample *sample)
 {
-    struct kiblawen_frame frames[MOST_FRAMES];
-    struct kiblawen_stop stop;
+    struct kiblawen_module_frame frames[MOST_FRAMES];
     char *line = NULL;
     size_t len = 0;
     open_tables(process);
-    size_t count = kiblawen_walk_modules(process->modules, process->count, sample, frames, MOST_FRAMES, &stop);
-    if (stop.kind == KIBLAWEN_STOP_UNREADABLE)
-        count = walk_without_fp(process, *sample, frames);
-    process->samples++;
-    process->frames += count;
-    process->stops[stop.kind]++;
+    size_t count = walk(process, sample, frames);
     /* A return address may be that of the next function, so a caller is named by the address before. */
     for (size_t i = count; i > 0; i--)
-        append_name(process, &line, &len, frames[i - 1].pc - (i > 1));
+        append_name(process, &line, &len, frames[i - 1].pc - (i > 1), frames[i - 1].module);
     if (line_count == line_room) {
         line_room = 2 * line_room + 1024;
         char **more = realloc(lines, line_room * sizeof *lines);
@@ -127,5 +107,6 @@ void print_folded(struct process *process)
             (unsigned long long)process->frames);
     for (int i = 0; i < 4; i++)
         fprintf(stderr, "%s %s %llu", i ? "," : "", why[i], (unsigned long long)process->stops[i]);
-    fprintf(stderr, "; without a stack %llu\n", (unsigned long long)process->without_stack);
+    fprintf(stderr, "; %llu went on without their frame pointer; without a stack %llu\n", (unsigned long long)process->without_fp,
+            (unsigned long long)process->without_stack);
 }

@@ -57,31 +57,41 @@ static bool find_load(const struct headers *headers, uint64_t start, uint64_t of
     return false;
 }
 
-static void remove_file(struct process *process, size_t at)
+/* Makes the index of the modules anew. The cache belongs to other modules from now on, so it is cleared. */
+static void index_files(struct process *process)
 {
-    kiblawen_close(&process->modules[at].section);
-    process->count--;
-    for (; at < process->count; at++) {
-        process->modules[at] = process->modules[at + 1];
-        process->files[at] = process->files[at + 1];
-    }
+    if (!kiblawen_index(process->modules, process->count, process->order, process->count))
+        fputs("profiler: two files are at the same addresses\n", stderr), exit(2);
+    kiblawen_cache_clear(process->cache, ENTRIES);
 }
 
-/* Adds a file in the order of addresses. Files that were at its addresses have been unmapped. */
+/* Returns the file whose addresses are among these, or NULL. */
+static struct file *file_among(struct process *process, uint64_t start, uint64_t size)
+{
+    for (size_t i = 0; i < process->count; i++)
+        if (process->modules[i].start < start + size && start < process->modules[i].start + process->modules[i].size)
+            return &process->files[i];
+    return NULL;
+}
+
+/* Removes a file. The last one takes its place. */
+static void remove_file(struct process *process, size_t at)
+{
+    size_t last = --process->count;
+    kiblawen_close(&process->modules[at].section);
+    process->modules[at] = process->modules[last];
+    process->files[at] = process->files[last];
+}
+
+/* Adds a file. Files that were at its addresses have been unmapped. */
 static void add_file(struct process *process, const char *path, uint64_t load, uint64_t start, uint64_t size)
 {
-    for (size_t i = process->count; i > 0; i--)
-        if (process->modules[i - 1].start < start + size && start < process->modules[i - 1].start + process->modules[i - 1].size)
-            remove_file(process, i - 1);
-    if (process->count == MOST_MODULES)
-        return;
-    size_t at = process->count++;
-    for (; at > 0 && process->modules[at - 1].start > start; at--) {
-        process->modules[at] = process->modules[at - 1];
-        process->files[at] = process->files[at - 1];
+    for (struct file *it; (it = file_among(process, start, size)) != NULL;)
+        remove_file(process, (size_t)(it - process->files));
+    if (process->count < MOST_MODULES) {
+        process->modules[process->count] = (struct kiblawen_module){start, size, KIBLAWEN_CLOSED};
+        process->files[process->count++] = (struct file){.path = strdup(path), .load = load};
     }
-    process->modules[at] = (struct kiblawen_module){start, size, KIBLAWEN_CLOSED};
-    process->files[at] = (struct file){.path = strdup(path), .load = load};
     process->is_changed = true;
 }
 
@@ -104,7 +114,7 @@ void add_mapping(struct process *process, uint64_t start, uint64_t offset, const
     static struct headers headers;
     char vdso[PATH_ROOM];
     uint64_t load, first = UINT64_MAX;
-    const struct file *known = file_at(process, start);
+    const struct file *known = file_among(process, start, 1);
     if (!strcmp(path, "[vdso]") && write_vdso(vdso, process->store))
         path = vdso;
     else if (*path != '/')
@@ -183,18 +193,5 @@ void open_tables(struct process *process)
         make_tables(process->store, paths, count);
     for (size_t i = 0; i < process->count; i++)
         open_table_of(process, i);
-}
-
-/* Returns the file that has an address, or NULL. */
-const struct file *file_at(const struct process *process, uint64_t pc)
-{
-    size_t first = 0, last = process->count;
-    while (first < last) {
-        size_t middle = first + (last - first) / 2;
-        if (process->modules[middle].start <= pc)
-            first = middle + 1;
-        else
-            last = middle;
-    }
-    return first > 0 && pc - process->modules[first - 1].start < process->modules[first - 1].size ? &process->files[first - 1] : NULL;
+    index_files(process);
 }

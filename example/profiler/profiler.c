@@ -77,6 +77,7 @@ int main(int argc, char **argv)
     if (options.hertz == 0 || options.hertz > 10000 || (!by_timer && !*words))
         return fail();
     process.store = options.store;
+    process.is_changed = true;
     mkdir(process.store, 0777);
     if (by_timer)
         return sample_by_timer(&process, &options);

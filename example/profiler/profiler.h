@@ -9,7 +9,7 @@
 
 #include "kiblawen.h"
 
-enum { MOST_MODULES = 1024, MOST_FRAMES = 128, PATH_ROOM = 4096 };
+enum { MOST_MODULES = 1024, MOST_FRAMES = 128, ENTRIES = 2048, PATH_ROOM = 4096 };
 
 /* What the command line asks for. */
 struct options {
@@ -37,23 +37,24 @@ struct file {
     struct symbols symbols;
 };
 
-/* The files of a process, in the order of their addresses, and what the walks of its samples ended with. */
+/* The files of a process, in the order in which they came, and what the walks of its samples ended with. */
 struct process {
     pid_t pid;
     const char *store;
     struct kiblawen_module modules[MOST_MODULES];
+    size_t order[MOST_MODULES]; /* the index of the modules, and the cache that belongs to them */
+    struct kiblawen_cache cache[ENTRIES];
     struct file files[MOST_MODULES];
     size_t count;
     bool is_changed; /* files have been added since their tables were looked for */
     bool has_ended;
-    uint64_t samples, frames, stops[4], without_stack;
+    uint64_t samples, frames, stops[4], without_fp, without_stack;
 };
 
 /* process.c */
 void add_mapping(struct process *process, uint64_t start, uint64_t offset, const char *path);
 void read_maps(struct process *process);
 void open_tables(struct process *process);
-const struct file *file_at(const struct process *process, uint64_t pc);
 
 /* symbols.c */
 void read_symbols(struct symbols *symbols, const char *path);
