@@ -1,4 +1,5 @@
 // What no clause says: that calls succeed with ample memory, at which call a fault shows, and the machine's side.
+use crate::same::{same, same_at};
 use sf_base::{
     Failed, Files, HostFiles, HostSink, LoadFault, Sink, dec_word, hex_word, load, put_all,
     put_file, read_part,
@@ -8,61 +9,49 @@ use std::alloc::Global;
 use std::test::Fail;
 use std::{env, process};
 
-// How far a copy of a file of 60 bytes to one of 63 bytes came.
-#[derive(Clone, Copy, Debug, PartialEq, Eq)]
-enum Came {
-    NotLoaded,
-    NotCreated,
-    // With the number of bytes that were written.
-    NotWritten(usize),
-    Through,
-}
+/// How far a copy of a file of 60 bytes to one of 63 bytes came: the step that failed, and the number of bytes that were written.
+type Came = (&'static str, usize);
 
 // Loads a file of 60 bytes and writes one of 63, 16 bytes at a call at most. One call fails.
 fn copy_with_fault(alloc: Global, call: u64) -> Result<Came, Fail> {
     let mut files = MemFiles::new(alloc, 16, vec![in alloc; call]?);
     let source = vec![in alloc; 7u8; 60]?;
     if files.put("source", source).is_err() {
-        return Ok(Came::NotLoaded);
+        return Ok(("put", 0));
     }
     if load(alloc, &mut files, "source", 60).is_err() {
-        return Ok(Came::NotLoaded);
+        return Ok(("load", 0));
     }
     if files.create_file("target").is_err() {
-        return Ok(Came::NotCreated);
+        return Ok(("create", 0));
     }
     let text = vec![in alloc; 9u8; 63]?;
     if put_file(&mut files, &text).is_err() {
-        let written = files.get("target").unwrap_or(&[]).len();
-        return Ok(Came::NotWritten(written));
+        return Ok(("write", files.get("target").unwrap_or(&[]).len()));
     }
-    Ok(Came::Through)
+    Ok(("none", 63))
 }
 
 /// The call that fails, and how far the copy came: one open, five reads, one create and four writes.
 const CALLS: [(u64, Came); 12] = [
-    (1, Came::NotLoaded),
-    (2, Came::NotLoaded),
-    (3, Came::NotLoaded),
-    (4, Came::NotLoaded),
-    (5, Came::NotLoaded),
-    (6, Came::NotLoaded),
-    (7, Came::NotCreated),
-    (8, Came::NotWritten(0)),
-    (9, Came::NotWritten(16)),
-    (10, Came::NotWritten(32)),
-    (11, Came::NotWritten(48)),
-    (12, Came::Through),
+    (1, ("load", 0)),
+    (2, ("load", 0)),
+    (3, ("load", 0)),
+    (4, ("load", 0)),
+    (5, ("load", 0)),
+    (6, ("load", 0)),
+    (7, ("create", 0)),
+    (8, ("write", 0)),
+    (9, ("write", 16)),
+    (10, ("write", 32)),
+    (11, ("write", 48)),
+    (12, ("none", 63)),
 ];
 
 #[test]
 fn a_fault_at_each_call_of_a_copy_shows(rt: HostRuntime) -> Result<(), Fail> {
     for (call, came) in &CALLS {
-        assert_eq!(rt;
-            copy_with_fault(rt.alloc(), *call)?,
-            *came,
-            "at call {call}"
-        );
+        same_at(&rt, *call, &copy_with_fault(rt.alloc(), *call)?, came);
     }
     Ok(())
 }
@@ -76,14 +65,20 @@ const LIMITS: [(u64, u64, Result<usize, LoadFault>); 5] = [
     (60, 4, Err(LoadFault::Read)),
 ];
 
+/// Returns the length of what is read of a file of 60 bytes up to a limit. One call fails.
+fn length_read(alloc: Global, limit: u64, call: u64) -> Result<Result<usize, LoadFault>, Fail> {
+    let mut files = MemFiles::new(alloc, 16, vec![in alloc; call]?);
+    files.put("source", vec![in alloc; 7u8; 60]?)?;
+    match load(alloc, &mut files, "source", limit) {
+        Ok(bytes) => Ok(Ok(bytes.len())),
+        Err(fault) => Ok(Err(fault)),
+    }
+}
+
 #[test]
 fn a_file_is_read_to_its_limit_and_no_further(rt: HostRuntime) -> Result<(), Fail> {
-    let alloc = rt.alloc();
     for (limit, call, want) in &LIMITS {
-        let mut files = MemFiles::new(alloc, 16, vec![in alloc; *call]?);
-        assert!(rt; files.put("source", vec![in alloc; 7u8; 60]?).is_ok());
-        let got = load(alloc, &mut files, "source", *limit).map(|bytes| bytes.len());
-        assert_eq!(rt; got, *want, "at limit {limit}");
+        same_at(&rt, *limit, &length_read(rt.alloc(), *limit, *call)?, want);
     }
     Ok(())
 }
@@ -96,8 +91,9 @@ fn a_sink_in_memory_keeps_what_was_written_before_a_fault(rt: HostRuntime) -> Re
     let alloc = rt.alloc();
     for (call, want) in &WRITES {
         let mut sink = MemSink::new(alloc, 4, vec![in alloc; *call]?);
-        assert_eq!(rt; put_all(&mut sink, b"abcdefghij").is_ok(), *call == 4);
-        assert_eq!(rt; sink.bytes(), want.as_bytes(), "at call {call}");
+        let put = put_all(&mut sink, b"abcdefghij").is_ok();
+        same_at(&rt, *call, &put, &(*call == 4));
+        same_at(&rt, *call, &sink.bytes(), &want.as_bytes());
     }
     Ok(())
 }
@@ -155,10 +151,10 @@ const DECIMAL: [(&str, Option<u32>); 10] = [
 #[test]
 fn words_are_read_to_their_limits(rt: HostRuntime) {
     for (text, want) in &HEXADECIMAL {
-        assert_eq!(rt; hex_word(text), *want, "at {text}");
+        same_at(&rt, *text, &hex_word(text), want);
     }
     for (text, want) in &DECIMAL {
-        assert_eq!(rt; dec_word(text), *want, "at {text}");
+        same_at(&rt, *text, &dec_word(text), want);
     }
 }
 
@@ -193,5 +189,5 @@ fn a_file_that_says_it_is_empty_has_no_known_length(rt: HostRuntime) {
 #[test]
 fn a_host_sink_writes_to_standard_output(rt: HostRuntime) {
     let mut sink = HostSink::new(rt.stdout());
-    assert!(rt; put_all(&mut sink, b"to standard output\n").is_ok());
+    same(&rt, &put_all(&mut sink, b"to standard output\n"), &Ok(()));
 }

@@ -1,4 +1,5 @@
 //! Numbers at both ends of their ranges, padded, too long and cut; each read once.
+use crate::same::same;
 use sf_bytes::{ByteFault, Field, Part, Plain, Values};
 use std::test::*;
 
@@ -31,7 +32,7 @@ const UNSIGNED: [(&[u8], Result<u64, ByteFault>); 10] = [
 fn unsigned_numbers(rt: HostRuntime) {
     for (bytes, wanted) in &UNSIGNED {
         let mut part = Part::new(bytes, 7);
-        assert_eq!(rt; part.uleb(), *wanted);
+        same(&rt, &part.uleb(), wanted);
     }
 }
 
@@ -64,35 +65,34 @@ const SIGNED: [(&[u8], Result<i64, ByteFault>); 10] = [
 fn signed_numbers(rt: HostRuntime) {
     for (bytes, wanted) in &SIGNED {
         let mut part = Part::new(bytes, 7);
-        assert_eq!(rt; part.sleb(), *wanted);
+        same(&rt, &part.sleb(), wanted);
     }
 }
 
 #[test]
-fn fields_in_turn(rt: HostRuntime) {
+fn fields_in_turn(rt: HostRuntime) -> Result<(), Fail> {
     let bytes: [u8; 37] = [
         0x01, 0x02, 0x03, 0x04, 0x05, 0x06, 0x07, 0x08, 0x09, 0x0a, 0x0b, 0x0c, 0x0d, 0x0e, 0x0f,
         0xff, 0xfe, 0xff, 0xfd, 0xff, 0xff, 0xff, 0xfc, 0xff, 0xff, 0xff, 0xff, 0xff, 0xff, 0xff,
         0x7a, 0x52, 0x00, 0x11, 0x22, 0x33, 0x44,
     ];
     let mut part = Part::new(&bytes, 100);
-    assert_eq!(rt; part.get_u8(), Ok(0x01));
-    assert_eq!(rt; part.get_u16(), Ok(0x0302));
-    assert_eq!(rt; part.get_u32(), Ok(0x0706_0504));
-    assert_eq!(rt; part.get_u64(), Ok(0x0f0e_0d0c_0b0a_0908));
-    assert_eq!(rt; part.get_i8(), Ok(-1));
-    assert_eq!(rt; part.get_i16(), Ok(-2));
-    assert_eq!(rt; part.get_i32(), Ok(-3));
-    assert_eq!(rt; part.get_i64(), Ok(-4));
-    assert_eq!(rt; part.text0().ok(), Some(b"zR".as_slice()));
-    assert_eq!(rt;
-        part.take(3).ok().map(|taken| (taken.place, taken.len())),
-        Some((133, 3))
-    );
-    assert_eq!(rt; part.get_u16(), Err(ByteFault::Short(136)));
-    assert_eq!(rt; part.text0().err(), Some(ByteFault::Short(136)));
-    assert_eq!(rt; part.place, 136);
-    assert_eq!(rt; part.is_empty(), false);
+    same(&rt, &part.get_u8(), &Ok(0x01));
+    same(&rt, &part.get_u16(), &Ok(0x0302));
+    same(&rt, &part.get_u32(), &Ok(0x0706_0504));
+    same(&rt, &part.get_u64(), &Ok(0x0f0e_0d0c_0b0a_0908));
+    same(&rt, &part.get_i8(), &Ok(-1));
+    same(&rt, &part.get_i16(), &Ok(-2));
+    same(&rt, &part.get_i32(), &Ok(-3));
+    same(&rt, &part.get_i64(), &Ok(-4));
+    same(&rt, &part.text0().ok(), &Some(b"zR".as_slice()));
+    let taken = part.take(3)?;
+    same(&rt, &(taken.place, taken.len()), &(133, 3));
+    same(&rt, &part.get_u16(), &Err(ByteFault::Short(136)));
+    same(&rt, &part.text0().err(), &Some(ByteFault::Short(136)));
+    same(&rt, &part.place, &136);
+    same(&rt, &part.is_empty(), &false);
+    Ok(())
 }
 
 #[test]
@@ -102,5 +102,5 @@ fn plain_fields_give_their_bits(rt: HostRuntime) {
         width: 4,
         raw: 0xffff_ffff,
     };
-    assert_eq!(rt; Plain.bits(field), Some(0xffff_ffff));
+    same(&rt, &Plain.bits(field), &Some(0xffff_ffff));
 }

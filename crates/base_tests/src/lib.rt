@@ -7,4 +7,6 @@ mod base;
 #[cfg(test)]
 mod bytes;
 #[cfg(test)]
+mod same;
+#[cfg(test)]
 mod storing;

@@ -1,0 +1,19 @@
+//! Comparisons of what was found with what is wanted.
+
+use std::fmt::Debug;
+use std::process::Abort;
+
+/// Asserts that both are equal.
+pub fn same<T: PartialEq + Debug>(rt: &impl Abort, found: &T, wanted: &T) {
+    assert_eq!(rt; *found, *wanted);
+}
+
+/// Asserts that both are equal, and names the case if they aren't.
+pub fn same_at<T: PartialEq + Debug, C: Debug + Drop>(
+    rt: &impl Abort,
+    case: C,
+    found: &T,
+    wanted: &T,
+) {
+    assert_eq!(rt; *found, *wanted, "{case:?}");
+}
