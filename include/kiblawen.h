@@ -225,7 +225,7 @@ size_t kiblawen_walk_modules(const struct kiblawen_module *modules, size_t count
  * Walks that go on. They list the frames of kiblawen_walk_modules, and more where that stops at a frame pointer that
  * can't be read: such a frame pointer is unknown, and no value is guessed for it. Rows that count from the stack pointer
  * don't need it. The walk stops (unreadable) at the first row that counts from it, with the address where it was to be
- * read. So it was at each `ret` after `leave`, where the saved frame pointer is below the stack pointer.
+ * read. It is unknown after a `ret` that follows `leave` or `pop`: there the row has a place below the stack pointer.
  */
 
 /* Modules in any order, and their indices in the order of addresses, which kiblawen_index writes. */
@@ -239,8 +239,8 @@ struct kiblawen_modules {
 /*
  * Writes the indices of modules to `order`, in the order in which the modules start, and returns whether each ends where
  * the next one starts, or before: then `order` is an index of these modules. With another number of places than of
- * modules it returns false, and writes nothing. It sorts, so it takes n log n comparisons, and calls itself at most
- * 2 log n deep.
+ * modules it returns false. That it then writes nothing is tested. It sorts: it takes n log n comparisons, and calls
+ * itself at most 2 log n deep, which is not part of the proof.
  */
 bool kiblawen_index(const struct kiblawen_module *modules, size_t count, size_t *order,
                     size_t order_count) KIBLAWEN_NONNULL;
