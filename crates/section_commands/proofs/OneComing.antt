@@ -1,6 +1,6 @@
 -- A run of each of these commands comes to one thing at most.
 use Rattle.std.specs.List.{AllZip, zip}
-use Rattle.std.proofs.Common.{◌≡◌, ◌<◌, ℕ, List, [], ◌∷◌, length, drop, get_or, map, All, Option, Some, None, Result, Ok, Err, refl, ap, sym, subst, ◌∙◌, arith}
+use Rattle.std.proofs.Common.{◌≡◌, ◌<◌, ℕ, List, [], ◌∷◌, length, drop, get_or, All, Option, Some, None, Result, Ok, Err, refl, ap, sym, subst, ◌∙◌, arith}
 use Rattle.std.proofs.lemmas.List.{length-map}
 use Rattle.sf_model.specs.declared.function.Func.{Func}
 use Rattle.sf_model.specs.declared.machine.Arch.{Arch}
@@ -26,14 +26,13 @@ use Rattle.sf_words.specs.Files.{items_of}
 use Rattle.sf_words.specs.Items.{Section}
 use Rattle.sf_words.specs.Words.{IsSectionWord, SectionWords}
 use Rattle.sf_words.proofs.NamedWords.{as_long}
-use Rattle.section_commands.specs.declared.made.Outcome.{Outcome}
 use Rattle.section_commands.specs.declared.made.Outcome.TheVariants.{Done}
 use Rattle.section_commands.specs.Coming.{Coming, Makes}
 use Rattle.section_commands.specs.Dump.{DumpComes, IsDump, dump_files, table_shown}
 use Rattle.section_commands.specs.Lookup.{IsLookup, LookupComes, LookupWords, lookup_files, row_shown}
 use Rattle.section_commands.specs.Merge.{IsMerge, Item, IsSectionOf, MakesMerge, MergeComes, MergeComesAt, MergeComesFrom, MergeWords, TablesCome, merge_files, sections_fault}
 use Rattle.section_commands.specs.Procwalk.{IsProcwalk, ProcwalkComes, ProcwalkWords, procwalk_files}
-use Rattle.section_commands.specs.SectionComes.{MakesShown, Showing, ShowingComesFrom}
+use Rattle.section_commands.specs.SectionComes.{Showing, ShowingComesFrom}
 use Rattle.section_commands.specs.Slim.{IsSlim, MakesSlim, SlimComes, SlimComesFrom, SlimWords, SlimmingComes, slim_files}
 use Rattle.section_commands.specs.Walk.{IsWalk, WalkComes, WalkComesFrom, WalkWords, coming_of_walks, walk_files}
 use Rattle.section_commands.specs.Walks.{is_same, table_walks}

@@ -1,6 +1,6 @@
 -- A run of each of these commands comes to something: on every list of bytes of its items.
 use Rattle.std.specs.List.{AllZip, zip}
-use Rattle.std.proofs.Common.{◌≡◌, ◌+◌, ◌<◌, ℕ, List, [], ◌∷◌, All, length, map, drop, get_or, Option, Some, None, Result, Ok, Err, refl, sym, subst, arith}
+use Rattle.std.proofs.Common.{◌≡◌, ◌+◌, ◌<◌, ℕ, List, [], ◌∷◌, All, length, map, drop, get_or, Option, Some, None, Result, Ok, Err, refl, arith}
 use Rattle.std.proofs.lemmas.List.Elements.{All-nil, All-cons, All-head, All-tail}
 use Rattle.sf_model.specs.declared.function.Func.{Func}
 use Rattle.sf_model.specs.Section.{AreBytes}
@@ -21,7 +21,7 @@ use Rattle.sf_text.specs.Merged.{merged_text}
 use Rattle.sf_text.specs.Slim.{slim_text}
 use Rattle.sf_words.specs.Files.{items_of}
 use Rattle.sf_words.specs.Words.{SectionWords}
-use Rattle.section_commands.specs.Coming.{Coming, Makes, Refused}
+use Rattle.section_commands.specs.Coming.{Coming, Refused}
 use Rattle.section_commands.specs.Dump.{DumpComes, IsDump, dump_files, table_shown}
 use Rattle.section_commands.specs.FirstFault.{first_fault}
 use Rattle.section_commands.specs.Lookup.{IsLookup, LookupComes, LookupWords, lookup_files, row_shown}

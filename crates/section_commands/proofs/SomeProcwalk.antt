@@ -8,7 +8,7 @@ use Rattle.sf_decode.specs.declared.fault.DecodeFault.{DecodeFault}
 use Rattle.sf_decode.specs.Decoding.{section_check, table_in}
 use Rattle.sf_decode.proofs.EntriesRead.{section_stands}
 use Rattle.sf_decode.proofs.Standing.{part_are_bytes}
-use Rattle.elf_read.specs.Checking.{unless, ◌>>◌, each_below}
+use Rattle.elf_read.specs.Checking.{unless, each_below}
 use Rattle.elf_read.specs.Header.{arch_of}
 use Rattle.elf_read.specs.Number.{window}
 use Rattle.elf_read.specs.Sections.{has_bytes, section_bytes, section_fields}

@@ -1,5 +1,5 @@
 use Rattle.std.specs.List.{zip}
-use Rattle.std.proofs.Common.{◌≡◌, ◌≤◌, ◌<◌, ℕ, List, map, length, ap, sym, subst, ◌∙◌, Ok, Err, arith}
+use Rattle.std.proofs.Common.{◌≡◌, ◌<◌, ℕ, List, map, length, ap, sym, subst, ◌∙◌, Ok, Err, arith}
 use Rattle.sf_model.specs.Section.{Section}
 use Rattle.sf_decode.specs.Decoding.{section_check}
 use Rattle.sf_decode.specs.View.{table_of}
@@ -7,7 +7,7 @@ use Rattle.sf_words.specs.declared.loading.Loaded.{Loaded}
 use Rattle.sf_words.specs.Loading.{loaded_bytes}
 use Rattle.sf_words.specs.Named.{sections_of}
 use Rattle.section_commands.specs.Merge.{IsSectionOf, item_check}
-use Rattle.section_commands.proofs.Lists.{a_section, left, none_left, section_turn}
+use Rattle.section_commands.proofs.Lists.{a_section, none_left, section_turn}
 use Rattle.section_commands.proofs.Merged.{unread}
 use Rattle.section_commands.proofs.Reading.{all_fine, all_made, one_more_read}
 use Rattle.section_commands.proofs.merge.views_of.Goals as goal

@@ -1,6 +1,6 @@
 use Rattle.std.specs.List.{zip}
 use Rattle.std.specs.String.{string_bytes}
-use Rattle.std.proofs.Common.{◌≡◌, ◌≤◌, ◌<◌, ◌^◌, ◌+◌, ℕ, List, [], map, length, get_or, ap, sym, subst, ◌∙◌, Ok, Err, arith}
+use Rattle.std.proofs.Common.{◌≡◌, ◌<◌, ◌^◌, ◌+◌, ℕ, List, [], map, length, get_or, ap, sym, subst, ◌∙◌, Ok, Err, arith}
 use Rattle.std.proofs.lemmas.List.{length-map}
 use Rattle.std.proofs.lemmas.List.Elements.{All-push}
 use Rattle.sf_modules.specs.Module.{module_view}
@@ -10,7 +10,7 @@ use Rattle.sf_modules.specs.ReadFile.{AreRead, IsRead}
 use Rattle.sf_words.specs.declared.loading.Loaded.{Loaded}
 use Rattle.sf_words.specs.Loading.{loaded_bytes}
 use Rattle.section_commands.specs.Procwalk.{File, IsModuleOf, file_check}
-use Rattle.section_commands.proofs.Lists.{a_mapped_file, bytes_at, left, mapped_turn, none_left}
+use Rattle.section_commands.proofs.Lists.{a_mapped_file, bytes_at, mapped_turn, none_left}
 use Rattle.section_commands.proofs.Procwalks.{unread}
 use Rattle.section_commands.proofs.Reading.{all_fine, all_made, one_more_read}
 use Rattle.section_commands.proofs.procwalk.modules_of.Goals as goal

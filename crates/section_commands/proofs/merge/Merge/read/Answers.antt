@@ -1,11 +1,7 @@
-use Rattle.std.specs.List.{AllZip}
 use Rattle.std.proofs.Common.{rules, ◌≡◌, ℕ, List, ◌∷◌, ◌<◌, map, ap, sym, subst, ◌∙◌}
 use Rattle.std.proofs.lemmas.List.{length-map}
 use Rattle.std.specs.Prelude.{codes}
 use Rattle.std.specs.String.{string_bytes}
-use Rattle.sf_words.specs.Named.{sections_of}
-use Rattle.sf_words.specs.Words.{IsSectionWord, SectionWords}
-use Rattle.section_commands.specs.Merge.{MergeWords}
 use Rattle.section_commands.proofs.merge.Merge.read.Goals as goal
 
 pub returns-clause-found : goal.returns-clause-found
