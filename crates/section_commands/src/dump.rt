@@ -4,7 +4,7 @@ ghost use Rattle.std.specs.Prelude.{◌≡◌, List, ℕ, None, map, IfSome, IsS
 ghost use Rattle.std.specs.String.{string_bytes};
 ghost use Rattle.sf_decode.specs.Decoding.{section_check};
 ghost use Rattle.sf_words.specs.Files.{files_of, items_of};
-ghost use Rattle.sf_words.specs.Loading.{files_limit, loaded_bytes, loaded_items};
+ghost use Rattle.sf_words.specs.Loading.{loaded_bytes, loaded_items};
 ghost use Rattle.sf_words.specs.Words.{SectionWords};
 ghost use Rattle.section_commands.specs.Dump.{DumpComes, IsDump, dump_files, dump_of, table_shown};
 ghost use Rattle.section_commands.specs.Making.{ComesTo};
@@ -17,7 +17,6 @@ use sf_text::Output;
 use sf_words::{
     CommandFiles, FileList, Item, Loaded, Refusal, SectionFile, section_file, two_words,
 };
-use std::alloc::Global;
 
 /// The words of `dump FILE@AT`.
 #[derive(Clone, Copy)]

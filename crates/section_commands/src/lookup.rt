@@ -4,7 +4,6 @@ ghost use Rattle.std.specs.Prelude.{◌≡◌, List, ℕ, None, map, IfOk, IfSom
 ghost use Rattle.std.specs.String.{string_bytes};
 ghost use Rattle.sf_decode.specs.Decoding.{section_check};
 ghost use Rattle.sf_decode.specs.View.{table_of};
-ghost use Rattle.sf_text.specs.Output.{output_text};
 ghost use Rattle.sf_words.specs.Files.{files_of, items_of};
 ghost use Rattle.sf_words.specs.Loading.{loaded_bytes, loaded_items};
 ghost use Rattle.section_commands.specs.Lookup.{IsLookup, LookupComes, LookupWords, lookup_files, lookup_of, row_shown};
