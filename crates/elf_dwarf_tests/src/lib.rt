@@ -13,6 +13,8 @@ mod insn;
 #[cfg(test)]
 mod machine;
 #[cfg(test)]
+mod parts;
+#[cfg(test)]
 mod placing;
 #[cfg(test)]
 mod pointer;
