@@ -1,0 +1,11 @@
+pub mod Inputs
+pub mod Room
+pub mod Omissions
+pub mod Refusals
+pub mod Contents
+pub mod Linking
+pub mod LinkingPlt
+pub mod Slimming
+pub mod Merging
+pub mod Verifying
+pub mod Placing
