@@ -21,8 +21,10 @@ from kiblawen.common import TOP
 HEAD = re.compile(r"^(?:abbrev |unfoldable )?(?:pub )?(?:record |data )?([^\s:]+)(?= |$)")
 ITEM = ("abbrev ", "unfoldable ", "pub record ", "pub data ", "record ", "data ")
 IMPORT = re.compile(r"^(?:pub )?(?:ghost )?use Rattle\.(\w+)\.specs\.([\w.]+?)(?:\.\{(.*)\})?(?: as (\w+))?;?$")
-# The commands of a file that isn't called by its one command.
-NAMED = {"Section": "`dump`, `lookup`"}
+# The crates with the commands. Link.antt says which words ask for one, `IsLink`, and what it comes to, `LinkComes`.
+COMMANDS = ("section_commands", "sf_run")
+# The command of a file that isn't called by it.
+NAMED = {"Object": "Gen"}
 WORD = re.compile(r"[^\s(){}\[\];,.]+")
 # A field of a record: where it is declared, where it is given, and where it is taken of a value.
 FIELD = re.compile(r"^  (?:pub )?[\w-]+ :(?= )|(?:(?<=\{ )|(?<=; )|(?<=^  )|(?<=^      ))[\w-]+ = |(?<=[\w)\]])\.[^\s(){}\[\];,.]+")
@@ -109,12 +111,12 @@ def rows(found):
     """The rows of the table: a title, and the definitions that it begins with."""
     ends = [("sf_run", "Ends", it) for it in ("RunEnds", "RunIsComplete", "TurnedAway", "TurnedAwayUnread")]
     titles = {"a run of any command": ends, "linking, on its own": [("sf_asm", "Answers", "IsLinked")]}
-    for (crate, file), names in sorted(found.exports.items()):
-        command = re.fullmatch("(.+)Comes", file)
-        if crate == "sf_run" and command:
-            own = [it for name, it in names.items() if it[:2] == (crate, file) and name.startswith(file)]
-            titles[NAMED.get(command[1], f"`{command[1].lower()}`")] = own
-    return titles
+    commands = {}
+    for (crate, file), names in found.exports.items():
+        name = NAMED.get(file, file)
+        if crate in COMMANDS and f"Is{name}" in names:
+            commands[f"`{name.lower()}`"] = [names[f"{name}Comes"]]
+    return titles | dict(sorted(commands.items()))
 
 
 def table(found):

@@ -9,10 +9,12 @@ use Rattle.sf_asm.specs.Linking.{Links}
 use Rattle.sf_asm.proofs.Accepting.{accepted_links, links_accepted}
 use Rattle.sf_asm.proofs.OneOrder.{one_result}
 use Rattle.sf_words.specs.declared.refusal.Limit.{Limit}
-use Rattle.sf_words.specs.Words.{CommandWords, InputWords, Link, SectionAndInputs}
-use Rattle.sf_run.specs.Comes.{Comes, CommandComes, RefusesNothing, command_limit}
-use Rattle.sf_run.specs.Coming.{Coming, ComesWithin, Exceeded, Makes, Refused}
-use Rattle.sf_run.specs.LinkComes.{LinkComes, objects_in, section_and_report}
+use Rattle.sf_words.specs.Forms.{SectionAndInputs}
+use Rattle.section_commands.specs.Coming.{Coming, ComesWithin, Exceeded, Makes, Refused}
+use Rattle.sf_run.specs.Comes.{Comes, RefusesNothing, command_limit}
+use Rattle.sf_run.specs.Commands.{CommandComes, CommandWords, Link}
+use Rattle.sf_run.specs.Inputs.{objects_in}
+use Rattle.sf_run.specs.Link.{LinkComes, section_and_report}
 use Rattle.sf_run.specs.Linked.{LinkedComesFrom, MakesLinked, coming_of_linking}
 use Rattle.sf_run.proofs.SomeComing.{links_some}
 
@@ -45,22 +47,24 @@ linking_refuses (link.Gather (gather.Input item fault)) = tt
 linking_refuses (link.Gather (gather.MixedArch first item)) = tt
 linking_refuses (link.Gather (gather.Overlap s i t j)) = tt
 
-makes_of : (inputs : List InputWords) (at : ℕ) (items : List (List ℕ)) (ordered : List Entry) → Links None (objects_in inputs items) at (Ok ordered) → (coming : Coming) → LinkComes inputs at items coming → MakesLinked None (objects_in inputs items) at section_and_report coming
-makes_of inputs at items ordered links coming h =
-    subst (λ (r : Result (List Entry) LinkFault). LinkedComesFrom None (objects_in inputs items) at section_and_report r coming) (one_result None (objects_in inputs items) at h.result (Ok ordered) h.links links) h.comes
+makes_of : (link : SectionAndInputs) (items : List (List ℕ)) (ordered : List Entry) → Links None (objects_in link.inputs items) link.section.at (Ok ordered) → (coming : Coming) → LinkComes link items coming
+    → MakesLinked None (objects_in link.inputs items) link.section.at section_and_report coming
+makes_of link items ordered links coming h =
+    let objects = objects_in link.inputs items in
+    subst (λ (r : Result (List Entry) LinkFault). LinkedComesFrom None objects link.section.at section_and_report r coming) (one_result None objects link.section.at h.result (Ok ordered) h.links links) h.comes
 
-no_refusal : (inputs : List InputWords) (at : ℕ) (items : List (List ℕ)) (coming : Coming) → Refuses coming → MakesLinked None (objects_in inputs items) at section_and_report coming → ⊥
-no_refusal inputs at items coming is made = subst Refuses made.is is
+no_refusal : (link : SectionAndInputs) (items : List (List ℕ)) (coming : Coming) → Refuses coming → MakesLinked None (objects_in link.inputs items) link.section.at section_and_report coming → ⊥
+no_refusal link items coming is made = subst Refuses made.is is
 
 pub accepted_refuse_nothing : (link : SectionAndInputs) (items : List (List ℕ)) → command_limit (Link link) items ≡ None → IsAccepted None (objects_in link.inputs items) link.section.at → RefusesNothing (Link link) items
 accepted_refuse_nothing link items within h = record {
-  within = λ limit comes. no_refusal link.inputs link.section.at items (Exceeded limit) tt (made (Exceeded limit) comes);
-  accepted = λ shown comes. no_refusal link.inputs link.section.at items (Refused shown) tt (made (Refused shown) comes);
+  within = λ limit comes. no_refusal link items (Exceeded limit) tt (made (Exceeded limit) comes);
+  accepted = λ shown comes. no_refusal link items (Refused shown) tt (made (Refused shown) comes);
 }
   where
     made : (coming : Coming) → Comes (Link link) items coming → MakesLinked None (objects_in link.inputs items) link.section.at section_and_report coming
     made coming comes =
-        makes_of link.inputs link.section.at items h.ordered (accepted_links None (objects_in link.inputs items) link.section.at h) coming
+        makes_of link items h.ordered (accepted_links None (objects_in link.inputs items) link.section.at h) coming
         (subst (λ (l : Option Limit). ComesWithin l (CommandComes (Link link) items) coming) within comes)
 
 pub nothing_refused_is_accepted : (link : SectionAndInputs) (items : List (List ℕ)) → RefusesNothing (Link link) items → (command_limit (Link link) items ≡ None) × IsAccepted None (objects_in link.inputs items) link.section.at

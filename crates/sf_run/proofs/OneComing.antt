@@ -1,12 +1,11 @@
 -- A run comes to one thing at most.
-use Rattle.std.specs.List.{AllZip, zip}
-use Rattle.std.proofs.Common.{◌≡◌, ◌<◌, ℕ, suc, List, [], ◌∷◌, map, length, drop, get_or, All, Option, Some, None, Result, Ok, Err, refl, ap, sym, subst, ◌∙◌, arith}
-use Rattle.sf_model.specs.declared.function.Func.{Func}
+use Rattle.std.proofs.Common.{◌≡◌, ◌<◌, ℕ, suc, List, [], ◌∷◌, codes, map, length, drop, get_or, Option, Some, None, Result, Ok, Err, ap, sym, subst, ◌∙◌, arith}
+use Rattle.std.proofs.lemmas.List.{length-map}
 use Rattle.sf_model.specs.declared.machine.Arch.{Arch}
 use Rattle.sf_model.specs.declared.omission.Omitted.{Omitted}
 use Rattle.sf_model.specs.declared.omission.Span.{Span}
 use Rattle.sf_model.specs.Section.{AreBytes}
-use Rattle.sf_model.specs.Table.{Table, row_count}
+use Rattle.sf_model.specs.Table.{Table}
 use Rattle.sf_model.specs.Tight.{Narrow, Tight}
 use Rattle.sf_model.proofs.TableSame.{table_same}
 use Rattle.sf_model.proofs.TightOne.{tight_one}
@@ -21,8 +20,7 @@ use Rattle.sf_asm.specs.declared.fault.LinkFault.{LinkFault}
 use Rattle.sf_asm.specs.Answers.{IsLinked}
 use Rattle.sf_asm.specs.Entry.{kept_of, omitted_of}
 use Rattle.sf_asm.specs.Functions.{Function, Object}
-use Rattle.sf_asm.specs.Inputs.{HaveMachine, is_same}
-use Rattle.sf_asm.specs.Inputs.{first_item}
+use Rattle.sf_asm.specs.Inputs.{HaveMachine, first_item}
 use Rattle.sf_asm.specs.Kept.{entry_of, kept_functions, omitted_functions}
 use Rattle.sf_asm.specs.Linking.{InOrder}
 use Rattle.sf_asm.specs.Sources.{AreByStart}
@@ -32,136 +30,25 @@ use Rattle.sf_plt.specs.Answers.{IsPltLinked, others_in, plt_span}
 use Rattle.sf_plt.specs.Plt.{plt_functions}
 use Rattle.sf_plt.specs.Written.{written_functions}
 use Rattle.sf_plt.proofs.Faults.{one_sorted, one_result as one_plt_result}
-use Rattle.sf_merge.specs.declared.fault.MergeFault.{MergeFault}
-use Rattle.sf_merge.specs.Merging.{Merges}
-use Rattle.sf_merge.proofs.OneOrder.{one_result as one_merge}
-use Rattle.sf_slim.specs.declared.fault.SlimFault.{SlimFault}
-use Rattle.sf_slim.specs.Slimming.{Slims}
-use Rattle.sf_slim.proofs.OneResult.{one_result as one_slim}
 use Rattle.sf_verify.specs.Verifying.{Verifies}
 use Rattle.sf_verify.proofs.OneVerdict.{one_result as one_verdict}
-use Rattle.sf_text.specs.Merged.{merged_text}
 use Rattle.sf_text.specs.PltReport.{plt_report_text}
-use Rattle.sf_text.specs.Slim.{slim_text}
 use Rattle.sf_words.specs.declared.refusal.Limit.{Limit}
-use Rattle.sf_run.specs.declared.section.Query.{Query}
-use Rattle.sf_run.specs.declared.section.Query.TheVariants.{Whole, RowAt}
-use Rattle.sf_run.specs.declared.made.Outcome.{Outcome}
-use Rattle.sf_run.specs.declared.made.Outcome.TheVariants.{Done}
-use Rattle.sf_run.specs.BacktraceComes.{BacktraceComesFrom, section_and_walks}
-use Rattle.sf_run.specs.Comes.{Comes, CommandComes, AreItems}
-use Rattle.sf_run.specs.Coming.{Coming, Makes, ComesWithin}
-use Rattle.sf_run.specs.GenComes.{made_object, summary_alone}
-use Rattle.sf_run.specs.LinkComes.{objects_in, section_and_report}
-use Rattle.sf_run.specs.LinkPltComes.{MakesPltLinked, ObjectsCome, PltLinkedComes}
+use Rattle.sf_words.specs.Items.{Input as InputItem}
+use Rattle.sf_words.specs.Words.{InputWords}
+use Rattle.section_commands.specs.declared.made.Outcome.TheVariants.{Done}
+use Rattle.section_commands.specs.Coming.{Coming, Makes, ComesWithin}
+use Rattle.section_commands.proofs.OneComing.{one_dump_coming, one_lookup_coming, one_merge_coming, one_procwalk_coming, one_slim_coming, one_walk_coming}
+use Rattle.sf_run.specs.Backtrace.{BacktraceComesFrom, section_and_walks}
+use Rattle.sf_run.specs.Comes.{Comes, AreItems}
+use Rattle.sf_run.specs.Commands.{CommandComes, CommandWords, Link, LinkPlt, Merge, Slim, Dump, Lookup, Verify, Walk, Backtrace, Procwalk, Gen}
+use Rattle.sf_run.specs.Inputs.{objects_in}
+use Rattle.sf_run.specs.Link.{section_and_report}
+use Rattle.sf_run.specs.LinkPlt.{MakesPltLinked, ObjectsCome, PltLinkedComes}
 use Rattle.sf_run.specs.Linked.{LinkedComes, LinkedComesFrom, Makings, MakesLinked}
-use Rattle.sf_run.specs.MergeComes.{Item, IsSectionOf, MergeComesAt, MergeComesFrom, MakesMerge, TablesCome, sections_fault}
-use Rattle.sf_run.specs.SectionComes.{SectionComesFrom, MakesShown, Shows}
-use Rattle.sf_run.specs.SlimComes.{MakesSlim, SlimComesFrom, SlimmingComes}
-use Rattle.sf_run.specs.VerifyComes.{VerifyComesFrom, coming_of_verdict}
-use Rattle.sf_run.specs.WalkComes.{WalkComesFrom, coming_of_walks, table_walks}
-use Rattle.std.proofs.lemmas.List.{length-map}
-use Rattle.sf_words.specs.Items.{input_item, section_item}
-use Rattle.sf_run.proofs.OneProcwalk.{one_procwalk}
-use Rattle.sf_words.specs.Words.{CommandWords, Link, LinkPlt, Merge, Slim, Dump, Lookup, Verify, Walk, Backtrace, Procwalk, Gen, SectionWords, InputWords}
-
--- ---- dump and lookup
-shows_one : (query : Query) (table : Table) (a b : Outcome) (s t : List ℕ) → Shows query table a s → Shows query table b t → (a ≡ b) × (s ≡ t)
-shows_one Whole table a b s t p q = (p.0 ∙ sym q.0, p.1 ∙ sym q.1)
-shows_one (RowAt pc) table a b s t p q = (p.0 ∙ sym q.0, p.1 ∙ sym q.1)
-
-one_shown : (at : ℕ) (bytes : List ℕ) (query : Query) (c d : Coming) → MakesShown at bytes query c → MakesShown at bytes query d → c ≡ d
-one_shown at bytes query c d p q =
-    let tables = table_same bytes at p.table q.table p.of_bytes q.of_bytes in
-    let both = shows_one query q.table p.outcome q.outcome p.text q.text (subst (λ (t : Table). Shows query t p.outcome p.text) tables p.shows) q.shows in
-    p.is ∙ ap (λ (s : Outcome). Makes s None p.text) both.0 ∙ ap (λ (t : List ℕ). Makes q.outcome None t) both.1 ∙ sym q.is
-
-one_section : (at : ℕ) (bytes : List ℕ) (query : Query) (check : Result (Unit {0}) DecodeFault) (c d : Coming) → SectionComesFrom at bytes query check c → SectionComesFrom at bytes query check d → c ≡ d
-one_section at bytes query (Err fault) c d p q = p ∙ sym q
-one_section at bytes query (Ok u) c d p q = one_shown at bytes query c d p q
-
--- ---- walk
-one_walk : (at : ℕ) (section core : List ℕ) (depth : ℕ) (check : Result (Unit {0}) DecodeFault) (second : Result (Unit {0}) CoreFault) (c d : Coming) → WalkComesFrom at section core depth check second c → WalkComesFrom at section core depth check second d → c ≡ d
-one_walk at section core depth (Err fault) second c d p q = p ∙ sym q
-one_walk at section core depth (Ok u) (Err fault) c d p q = p ∙ sym q
-one_walk at section core depth (Ok u) (Ok v) c d p q =
-    let tables = table_same section at p.table q.table p.of_bytes q.of_bytes in
-    p.is ∙ ap (λ (t : Table). coming_of_walks (is_same t.arch (arch_of core)) (table_walks t core depth)) tables ∙ sym q.is
-
--- ---- slim
-one_slimmed : (bytes : List ℕ) (table : Table) (at : ℕ) (c d : Coming) → MakesSlim bytes table at c → MakesSlim bytes table at d → c ≡ d
-one_slimmed bytes table at c d p q =
-    let same = one_slim bytes table at (Ok p.slimmed.needed) (Ok q.slimmed.needed) p.slimmed.are q.slimmed.are in
-    let needed : p.slimmed.needed ≡ q.slimmed.needed = cc in
-    let whole : table_of table.arch p.slimmed.needed ≡ table_of table.arch q.slimmed.needed = ap (table_of table.arch) needed in
-    let sections = tight_one p.section q.section at (table_of table.arch q.slimmed.needed) p.slimmed.are_bytes q.slimmed.are_bytes
-    (subst (Tight p.section at) whole p.slimmed.tight) q.slimmed.tight (subst (Narrow p.section) whole p.slimmed.narrow) q.slimmed.narrow in
-    let texts : p.text ≡ q.text = p.text_is ∙ ap (λ (s : List ℕ). slim_text (length bytes) (length s) p.count p.rows) sections
-    ∙ ap (λ (n : ℕ). slim_text (length bytes) (length q.section) n p.rows) (p.slimmed.function_count ∙ ap (λ (fs : List Func). length fs) needed ∙ sym q.slimmed.function_count)
-    ∙ ap (λ (n : ℕ). slim_text (length bytes) (length q.section) q.count n) (p.slimmed.row_count ∙ ap (λ (fs : List Func). row_count fs) needed ∙ sym q.slimmed.row_count) ∙ sym q.text_is in
-    p.is ∙ ap (λ (s : List ℕ). Makes Done (Some s) p.text) sections ∙ ap (λ (t : List ℕ). Makes Done (Some q.section) t) texts ∙ sym q.is
-
-one_from_slims : (bytes : List ℕ) (table : Table) (at : ℕ) (result : Result (List Func) SlimFault) (c d : Coming) → SlimmingComes bytes table at result c → SlimmingComes bytes table at result d → c ≡ d
-one_from_slims bytes table at (Err fault) c d p q = p ∙ sym q
-one_from_slims bytes table at (Ok functions) c d p q = one_slimmed bytes table at c d p q
-
-one_slim_coming : (from : ℕ) (bytes : List ℕ) (at : ℕ) (check : Result (Unit {0}) DecodeFault) (c d : Coming) → SlimComesFrom from bytes at check c → SlimComesFrom from bytes at check d → c ≡ d
-one_slim_coming from bytes at (Err fault) c d p q = p ∙ sym q
-one_slim_coming from bytes at (Ok u) c d p q =
-    let tables = table_same bytes from p.table q.table p.of_bytes q.of_bytes in
-    let result = one_slim bytes q.table at p.result q.result (subst (λ (t : Table). Slims bytes t at p.result) tables p.slims) q.slims in
-    let comes = subst (λ (t : Table). SlimmingComes bytes t at p.result c) tables p.comes in
-    one_from_slims bytes q.table at q.result c d (subst (λ (r : Result (List Func) SlimFault). SlimmingComes bytes q.table at r c) result comes) q.comes
-
--- ---- merge
-one_list : (items : List Item) (one other : List Table) → AllZip IsSectionOf items one → AllZip IsSectionOf items other → one ≡ other
-one_list [] [] [] p q = refl
-one_list [] [] (t ∷ ts) p q = absurd q
-one_list [] (t ∷ ts) other p q = absurd p
-one_list (i ∷ is) [] other p q = absurd p
-one_list (i ∷ is) (t ∷ ts) [] p q = absurd q
-one_list (i ∷ is) (t ∷ ts) (u ∷ us) p q =
-    ap (λ (v : Table). v ∷ ts) (table_same i.1 i.0.at t u p.0 q.0) ∙ ap (λ (vs : List Table). u ∷ vs) (one_list is ts us p.1 q.1)
-
-one_merged : (at : ℕ) (tables : List Table) (c d : Coming) → 0 < length tables → MakesMerge at tables c → MakesMerge at tables d → c ≡ d
-one_merged at tables c d some p q =
-    let same = one_merge tables at (Ok p.merged.functions) (Ok q.merged.functions) p.merged.are q.merged.are in
-    let functions : p.merged.functions ≡ q.merged.functions = cc in
-    let arch : p.merged.arch ≡ q.merged.arch = one_arch tables some p.merged.arch q.merged.arch p.merged.union.one_machine q.merged.union.one_machine in
-    let table : table_of p.merged.arch p.merged.functions ≡ table_of q.merged.arch q.merged.functions = ap (λ (a : Arch). table_of a p.merged.functions) arch ∙ ap (table_of q.merged.arch) functions in
-    let sections = tight_one p.section q.section at (table_of q.merged.arch q.merged.functions) p.merged.are_bytes q.merged.are_bytes
-    (subst (Tight p.section at) table p.merged.tight) q.merged.tight (subst (Narrow p.section) table p.merged.narrow) q.merged.narrow in
-    let texts : p.text ≡ q.text = p.text_is ∙ ap (λ (n : ℕ). merged_text n p.rows) (p.merged.count_is ∙ ap (λ (fs : List Func). length fs) functions ∙ sym q.merged.count_is)
-    ∙ ap (λ (n : ℕ). merged_text q.count n) (p.merged.rows_are ∙ ap (λ (fs : List Func). row_count fs) functions ∙ sym q.merged.rows_are) ∙ sym q.text_is in
-    p.is ∙ ap (λ (s : List ℕ). Makes Done (Some s) p.text) sections ∙ ap (λ (t : List ℕ). Makes Done (Some q.section) t) texts ∙ sym q.is
-  where
-    one_arch : (tables : List Table) → 0 < length tables → (a b : Arch) → All (λ (t : Table). t.arch ≡ a) tables → All (λ (t : Table). t.arch ≡ b) tables → a ≡ b
-    one_arch [] some a b p q = let none : ⊥ = omega (arith, some) in absurd none
-    one_arch (t ∷ ts) some a b p q = sym (p 0 t (omega arith)) ∙ q 0 t (omega arith)
-
-one_from_tables : (at : ℕ) (tables : List Table) (result : Result (List Func) MergeFault) (c d : Coming) → 0 < length tables → MergeComesFrom at tables result c → MergeComesFrom at tables result d → c ≡ d
-one_from_tables at tables (Err fault) c d some p q = p ∙ sym q
-one_from_tables at tables (Ok functions) c d some p q = one_merged at tables c d some p q
-
--- as many tables as items, and one at least
-some_tables : (sections : List SectionWords) (items : List (List ℕ)) (tables : List Table) → 0 < length items → length items ≡ length sections → AllZip IsSectionOf (zip sections items) tables → 0 < length tables
-some_tables [] [] tables some count are = let none : ⊥ = omega (arith, some) in absurd none
-some_tables [] (i ∷ is) tables some count are = let none : ⊥ = omega (arith, count) in absurd none
-some_tables (s ∷ ss) [] tables some count are = let none : ⊥ = omega (arith, some) in absurd none
-some_tables (s ∷ ss) (i ∷ is) [] some count are = absurd are
-some_tables (s ∷ ss) (i ∷ is) (t ∷ ts) some count are = omega arith
-
-one_tables : (at : ℕ) (sections : List SectionWords) (items : List (List ℕ)) (c d : Coming) → 0 < length items → length items ≡ length sections → TablesCome at (zip sections items) c → TablesCome at (zip sections items) d → c ≡ d
-one_tables at sections items c d some count p q =
-    let tables : p.tables ≡ q.tables = one_list (zip sections items) p.tables q.tables p.are q.are in
-    let merges = subst (λ (ts : List Table). Merges ts at p.result) tables p.merges in
-    let result = one_merge q.tables at p.result q.result merges q.merges in
-    let comes = subst (λ (ts : List Table). MergeComesFrom at ts p.result c) tables p.comes in
-    one_from_tables at q.tables q.result c d (some_tables sections items q.tables some count q.are) (subst (λ (r : Result (List Func) MergeFault). MergeComesFrom at q.tables r c) result comes) q.comes
-
-one_merge_coming : (at : ℕ) (sections : List SectionWords) (items : List (List ℕ)) (fault : Option (ℕ × DecodeFault)) (c d : Coming) → 0 < length items → length items ≡ length sections → MergeComesAt at (zip sections items) fault c → MergeComesAt at (zip sections items) fault d → c ≡ d
-one_merge_coming at sections items (Some fault) c d some count p q = p ∙ sym q
-one_merge_coming at sections items None c d some count p q = one_tables at sections items c d some count p q
+use Rattle.sf_run.specs.Object.{made_object, summary_alone}
+use Rattle.sf_run.specs.Verify.{VerifyComesFrom, coming_of_verdict}
+use Rattle.sf_run.proofs.Asked.{backtrace_inputs, named_inputs}
 
 -- ---- link
 one_machine : (before : Option Arch) (objects : List Object) → 0 < length objects → (a b : Arch) → HaveMachine before objects a → HaveMachine before objects b → a ≡ b
@@ -169,7 +56,8 @@ one_machine before [] some a b p q = let none : ⊥ = omega (arith, some) in abs
 one_machine None (o ∷ os) some a b p q = sym (p 0 a (omega arith)) ∙ q 0 a (omega arith)
 one_machine (Some arch) (o ∷ os) some a b p q = sym (p 0 a (omega arith)) ∙ q 0 a (omega arith)
 
-some_objects : (inputs : List InputWords) (items : List (List ℕ)) → 0 < length inputs → length items ≡ length inputs → 0 < length (objects_in inputs items)
+-- as many inputs as items, and one at least
+some_objects : (inputs : List InputWords) (items : List (List ℕ)) → 0 < length inputs → length items ≡ length (map InputItem inputs) → 0 < length (objects_in inputs items)
 some_objects [] items some count = let none : ⊥ = omega (arith, some) in absurd none
 some_objects (s ∷ ss) [] some count = let none : ⊥ = omega (arith, count) in absurd none
 some_objects (s ∷ ss) (i ∷ is) some count = omega arith
@@ -238,10 +126,6 @@ one_backtrace : (objects : List Object) (at : ℕ) (core : List ℕ) (depth : �
 one_backtrace objects at core depth (Err fault) c d some p q = p ∙ sym q
 one_backtrace objects at core depth (Ok u) c d some p q = one_link (Some (arch_of core)) objects at (section_and_walks core depth) c d some p q
 
-behind_first : (items : List (List ℕ)) (n : ℕ) → length items ≡ suc n → length (drop 1 items) ≡ n
-behind_first [] n h = let none : ⊥ = omega (arith, h) in absurd none
-behind_first (i ∷ is) n h = omega (arith, h)
-
 -- ---- verify
 one_verified : (at : ℕ) (bytes : List ℕ) (objects : List Object) (check : Result (Unit {0}) DecodeFault) (c d : Coming) → VerifyComesFrom at bytes objects check c → VerifyComesFrom at bytes objects check d → c ≡ d
 one_verified at bytes objects (Err fault) c d p q = p ∙ sym q
@@ -251,28 +135,30 @@ one_verified at bytes objects (Ok u) c d p q =
     p.is ∙ ap coming_of_verdict result ∙ sym q.is
 
 -- ---- each command
+behind_first : (items : List (List ℕ)) (n : ℕ) → length items ≡ suc n → length (drop 1 items) ≡ n
+behind_first [] n h = let none : ⊥ = omega (arith, h) in absurd none
+behind_first (i ∷ is) n h = omega (arith, h)
+
 one_command : (command : CommandWords) (items : List (List ℕ)) (c d : Coming) → AreItems command items → CommandComes command items c → CommandComes command items d → c ≡ d
 one_command (Link link) items c d are p q =
-    one_link None (objects_in link.inputs items) link.section.at section_and_report c d (some_objects link.inputs items are.asked (are.count ∙ length-map link.inputs input_item)) p q
+    let some = named_inputs (codes "link") are.asked.0 link are.asked.1 in
+    one_link None (objects_in link.inputs items) link.section.at section_and_report c d (some_objects link.inputs items some are.count) p q
 one_command (LinkPlt link) items c d are p q =
-    one_plt_link (objects_in link.inputs items) link.section.at c d (some_objects link.inputs items are.asked (are.count ∙ length-map link.inputs input_item)) p q
-one_command (Merge merge) items c d are p q =
-    let count = are.count ∙ length-map merge.sections section_item in
-    one_merge_coming merge.out.at merge.sections items (sections_fault (zip merge.sections items)) c d (omega (arith, count, are.asked)) count p q
-one_command (Slim slim) items c d are p q =
-    one_slim_coming slim.section.at (get_or items 0 []) slim.out.at (section_check (get_or items 0 []) slim.section.at) c d p q
-one_command (Dump section) items c d are p q = one_section section.at (get_or items 0 []) Whole (section_check (get_or items 0 []) section.at) c d p q
-one_command (Lookup section pc) items c d are p q = one_section section.at (get_or items 0 []) (RowAt pc) (section_check (get_or items 0 []) section.at) c d p q
+    let some = named_inputs (codes "linkplt") are.asked.0 link are.asked.1 in
+    one_plt_link (objects_in link.inputs items) link.section.at c d (some_objects link.inputs items some are.count) p q
+one_command (Merge merge) items c d are p q = one_merge_coming merge items c d are.asked are.count p q
+one_command (Slim slim) items c d are p q = one_slim_coming slim items c d are.asked are.count p q
+one_command (Dump section) items c d are p q = one_dump_coming section items c d are.asked are.count p q
+one_command (Lookup lookup) items c d are p q = one_lookup_coming lookup items c d are.asked are.count p q
 one_command (Verify verify) items c d are p q =
     one_verified verify.section.at (get_or items 0 []) (objects_in verify.inputs (drop 1 items)) (section_check (get_or items 0 []) verify.section.at) c d p q
-one_command (Walk walk) items c d are p q =
-    one_walk walk.section.at (get_or items 0 []) (get_or items 1 []) walk.depth (section_check (get_or items 0 []) walk.section.at) (core_check (get_or items 1 [])) c d p q
+one_command (Walk walk) items c d are p q = one_walk_coming walk items c d are.asked are.count p q
 one_command (Backtrace backtrace) items c d are p q =
-    let count = behind_first items (length backtrace.inputs) (are.count ∙ ap (λ (n : ℕ). suc n) (length-map backtrace.inputs input_item)) in
-    let objects = objects_in backtrace.inputs (drop 1 items) in
-    one_backtrace objects backtrace.out.at (get_or items 0 []) backtrace.depth (core_check (get_or items 0 [])) c d (some_objects backtrace.inputs (drop 1 items) are.asked.0 count) p q
-one_command (Procwalk procwalk) items c d are p q =
-    one_procwalk (get_or items 0 []) procwalk.depth (zip procwalk.files (drop 1 items)) (core_check (get_or items 0 [])) c d p q
+    let some = backtrace_inputs are.asked.0 backtrace are.asked.1 in
+    let count = behind_first items (length (map InputItem backtrace.inputs)) are.count in
+    one_backtrace (objects_in backtrace.inputs (drop 1 items)) backtrace.out.at (get_or items 0 []) backtrace.depth (core_check (get_or items 0 [])) c d
+    (some_objects backtrace.inputs (drop 1 items) some count) p q
+one_command (Procwalk procwalk) items c d are p q = one_procwalk_coming procwalk items c d are.asked are.count p q
 one_command (Gen n) items c d are p q = one_link None (made_object n ∷ []) 0x4000000 (summary_alone n) c d (omega arith) p q
 
 one_within : (limit : Option Limit) (Then : Coming → Type 0) → ((c d : Coming) → Then c → Then d → c ≡ d) → (c d : Coming) → ComesWithin limit Then c → ComesWithin limit Then d → c ≡ d

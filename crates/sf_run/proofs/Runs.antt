@@ -11,36 +11,25 @@ use Rattle.sf_words.specs.declared.refusal.Limit.TheVariants.{Inputs}
 use Rattle.sf_words.specs.declared.refusal.Refusal.{Refusal}
 use Rattle.sf_words.specs.declared.refusal.Refusal.TheVariants as refusal
 use Rattle.sf_words.specs.Loading.{AreBytesOf, AreLoaded, Contents, IsLoadingRefusal, IsRead, NamesFailed, bytes_known}
-use Rattle.sf_words.specs.declared.item.Item.{Item}
-use Rattle.sf_words.specs.Items.{ItemWords, counted_items, item_of, items_of, names_of}
-use Rattle.sf_words.specs.Words.{CanBeAsked, CommandWords, out_name}
-use Rattle.sf_run.specs.declared.made.Made.{Made}
-use Rattle.sf_run.specs.declared.made.Outcome.{Outcome}
-use Rattle.sf_run.specs.declared.made.Outcome.TheVariants as outcome
-use Rattle.sf_run.specs.Comes.{AreItems, Comes, CommandComes, RefusesNothing, command_limit}
-use Rattle.sf_run.specs.Coming.{Coming, ComesWithin, Exceeded, Makes}
-use Rattle.sf_run.specs.Making.{ComesAs, ComesTo, coming_of}
-use Rattle.sf_run.proofs.Limits.{few_limit, many_limit}
-use Rattle.sf_run.proofs.Linked.{unmapped}
-use Rattle.sf_run.proofs.Arms.{comes_as}
+use Rattle.sf_words.specs.Files.{counted_items, items_of}
+use Rattle.sf_words.specs.Items.{ItemWords, name_of}
+use Rattle.sf_words.proofs.Limits.{few_limit, many_limit}
+use Rattle.section_commands.specs.declared.made.Made.{Made}
+use Rattle.section_commands.specs.declared.made.Outcome.{Outcome}
+use Rattle.section_commands.specs.declared.made.Outcome.TheVariants as outcome
+use Rattle.section_commands.specs.Coming.{Coming, ComesWithin, Exceeded, Makes}
+use Rattle.section_commands.specs.Making.{ComesAs, ComesTo, coming_of}
+use Rattle.section_commands.proofs.Making.{comes_as}
+use Rattle.sf_run.specs.Comes.{AreItems, Comes, RefusesNothing, command_limit}
+use Rattle.sf_run.specs.Commands.{CanBeAsked, CommandComes, CommandWords, files_of_command}
 use Rattle.sf_run.proofs.OneComing.{one_coming}
 use Rattle.sf_run.specs.declared.status.Status.{Status}
 use Rattle.sf_run.specs.declared.status.Status.TheVariants as status
-use Rattle.sf_run.specs.Ends.{AnswersFor, CanBeSaid, Delivered, NoneFailed, RunComes, RunEnds, RunIsComplete, RunRefuses, Seen, Tells, seen}
+use Rattle.sf_run.specs.Ends.{AnswersFor, Delivered, NoneFailed, RunComes, RunEnds, RunIsComplete, RunRefuses, Seen, Tells, seen}
 use Rattle.sf_run.specs.Status.{status_of}
 
--- ---- the items of a command, as the code has them
-named_items : (items : List Item) → names_of (map item_of items) ≡ map (λ (item : Item). item.name.now) items
-named_items [] = refl
-named_items (i ∷ is) = ap (λ (ns : List (List ℕ)). i.name.now ∷ ns) (named_items is)
-
-pub may_open_items : (may : List ℕ → Bool) (items : List Item) (wanted : List ItemWords) → map item_of items ≡ wanted → All (λ (name : List ℕ). IsTrue (may name)) (names_of wanted) → All (λ (item : Item). IsTrue (may item.name.now)) items
-may_open_items may items wanted are h =
-    unmapped (λ (item : Item). item.name.now) (λ (name : List ℕ). IsTrue (may name)) items
-    (subst (All (λ (name : List ℕ). IsTrue (may name))) (ap (λ (ws : List ItemWords). names_of ws) (sym are) ∙ named_items items) h)
-
 -- ---- what a run comes to, from what it loads
-pub made_runs : (command : CommandWords) (contents : Contents) (items : List (List ℕ)) → AreLoaded contents (items_of command) items → (answer : Result Made Refusal) → ComesTo (Comes command items) answer
+pub made_runs : (command : CommandWords) (contents : Contents) (items : List (List ℕ)) → AreLoaded contents (items_of (files_of_command command)) items → (answer : Result Made Refusal) → ComesTo (Comes command items) answer
     → IfOk answer (λ made. RunComes command contents (coming_of made))
 made_runs command contents items loaded (Ok made) h = record { items = items; bytes = loaded.bytes; comes = h }
 made_runs command contents items loaded (Err refused) h = tt
@@ -64,7 +53,7 @@ refused_as command contents refusal.Memory h = h
 refused_as command contents (refusal.Limit limit) h = h
 refused_as command contents (refusal.Input notice) h = h
 
-pub refused_runs : (command : CommandWords) (contents : Contents) (items : List (List ℕ)) → AreLoaded contents (items_of command) items → (answer : Result Made Refusal) → ComesTo (Comes command items) answer
+pub refused_runs : (command : CommandWords) (contents : Contents) (items : List (List ℕ)) → AreLoaded contents (items_of (files_of_command command)) items → (answer : Result Made Refusal) → ComesTo (Comes command items) answer
     → IfErr answer (RunRefuses command contents)
 refused_runs command contents items loaded (Ok made) h = tt
 refused_runs command contents items loaded (Err refused) h =
@@ -76,30 +65,24 @@ limit_comes : (command : CommandWords) (items : List (List ℕ)) (limit : Limit)
 limit_comes command items limit h = subst (λ (l : Option Limit). ComesWithin l (CommandComes command items) (Exceeded limit)) (sym h) refl
 
 -- loading refuses as the command does
-pub loading_refuses : (command : CommandWords) (contents : Contents) (refused : Refusal) → counted_items command ≤ 512 → IsLoadingRefusal contents (items_of command) refused → RunRefuses command contents refused
+pub loading_refuses : (command : CommandWords) (contents : Contents) (refused : Refusal) → counted_items (files_of_command command) ≤ 512 → IsLoadingRefusal contents (items_of (files_of_command command)) refused → RunRefuses command contents refused
 loading_refuses command contents (refusal.Read name) few h = h
 loading_refuses command contents refusal.Memory few h = tt
-loading_refuses command contents (refusal.Limit limit) few h = record { items = h.files; bytes = h.bytes; comes = limit_comes command h.files limit (few_limit command h.files few ∙ h.first) }
+loading_refuses command contents (refusal.Limit limit) few h = record { items = h.files; bytes = h.bytes; comes = limit_comes command h.files limit (few_limit (files_of_command command) h.files few ∙ h.first) }
 loading_refuses command contents (refusal.Input notice) few h = absurd h
 
 -- there are files that items name
 some_files : (contents : Contents) (items : List ItemWords) → (files : List (List ℕ)) × AreBytesOf contents items files
 some_files None items = (map (λ (item : ItemWords). []) items, record { are = tt; count = length-map items (λ (item : ItemWords). []) })
-some_files (Some known) items = (bytes_known known items, record { are = refl; count = length-map items (λ (item : ItemWords). contents_of known item.name) })
+some_files (Some known) items = (bytes_known known items, record { are = refl; count = length-map items (λ (item : ItemWords). contents_of known (name_of item)) })
 
 -- more than 512 files exceed the limit, whatever they hold
-pub too_many_runs : (command : CommandWords) (contents : Contents) → 512 < counted_items command → RunComes command contents (Exceeded Inputs)
+pub too_many_runs : (command : CommandWords) (contents : Contents) → 512 < counted_items (files_of_command command) → RunComes command contents (Exceeded Inputs)
 too_many_runs command contents many =
-    let files = some_files contents (items_of command) in
-    record { items = files.0; bytes = files.1; comes = limit_comes command files.0 Inputs (many_limit command files.0 many) }
+    let files = some_files contents (items_of (files_of_command command)) in
+    record { items = files.0; bytes = files.1; comes = limit_comes command files.0 Inputs (many_limit (files_of_command command) files.0 many) }
 
 -- ---- how a run ends that makes nothing
-pub can_be_said : (command : CommandWords) (contents : Contents) (refused : Refusal) → RunRefuses command contents refused → CanBeSaid refused
-can_be_said command contents (refusal.Read name) h = tt
-can_be_said command contents refusal.Memory h = tt
-can_be_said command contents (refusal.Limit limit) h = tt
-can_be_said command contents (refusal.Input notice) h = h.0
-
 pub ends_from_tells : (refused : Refusal) (answer : Status) (command : CommandWords) (before after : Seen) → OnlyReads before.files after.files → after.out ≡ before.out
     → (IsRead refused → Rose before.files.read_faults after.files.read_faults) → NamesFailed after.files.failed_name refused → RunRefuses command before.files.contents refused → Tells refused answer before.err after.err → RunEnds answer command before after
 ends_from_tells (refusal.Read name) answer command before after reads out rose named h t =
@@ -113,7 +96,7 @@ ends_from_tells (refusal.Input notice) answer command before after reads out ros
 
 -- ---- how a run ends that delivers what it made
 delivered : (answer : Status) (made : Outcome) (command : CommandWords) (section : Option (List ℕ)) (text : List ℕ) (before after : Seen) → RunComes command before.files.contents (Makes made section text)
-    → Delivered answer made (out_name command) section text before after → RunEnds answer command before after
+    → Delivered answer made ((files_of_command command).out) section text before after → RunEnds answer command before after
 delivered answer outcome.Done command section text before after comes (inl d) =
     subst (λ (s : Status). RunEnds s command before after) (sym d.0) record { section = section; text = text; comes = comes; left = d.1 }
 delivered answer outcome.No command section text before after comes (inl d) =
@@ -121,7 +104,7 @@ delivered answer outcome.No command section text before after comes (inl d) =
 delivered answer made command section text before after comes (inr d) =
     subst (λ (s : Status). RunEnds s command before after) (sym d.0) (made, record { section = section; text = text; comes = comes; left = d.1 })
 
-pub ends_from_delivered : (answer : Status) (made : Outcome) (command : CommandWords) (file section : Option (List ℕ)) (text : List ℕ) (f g h : FilesSeen) (o o' e e' : SinkSeen) → file ≡ out_name command → g ≡ f
+pub ends_from_delivered : (answer : Status) (made : Outcome) (command : CommandWords) (file section : Option (List ℕ)) (text : List ℕ) (f g h : FilesSeen) (o o' e e' : SinkSeen) → file ≡ (files_of_command command).out → g ≡ f
     → RunComes command f.contents (Makes made section text) → Delivered answer made file section text (seen g o e) (seen h o' e') → RunEnds answer command (seen f o e) (seen h o' e')
 ends_from_delivered answer made command file section text f g h o o' e e' n same comes d =
     delivered answer made command section text (seen f o e) (seen h o' e') comes
@@ -129,15 +112,15 @@ ends_from_delivered answer made command file section text f g h o o' e e' n same
     (subst (λ (k : FilesSeen). Delivered answer made file section text (seen k o e) (seen h o' e')) same d))
 
 -- ---- completeness
-answers_for : (answer : Status) (command : CommandWords) (known : List (List ℕ × List ℕ)) (before after : Seen) → before.files.contents ≡ Some known → AreItems command (bytes_known known (items_of command))
-    → RunEnds answer command before after → NoneFailed before after → AnswersFor answer command (bytes_known known (items_of command))
+answers_for : (answer : Status) (command : CommandWords) (known : List (List ℕ × List ℕ)) (before after : Seen) → before.files.contents ≡ Some known → AreItems command (bytes_known known (items_of (files_of_command command)))
+    → RunEnds answer command before after → NoneFailed before after → AnswersFor answer command (bytes_known known (items_of (files_of_command command)))
 answers_for answer command known before after e are ends fine = record { comes = λ coming comes. at_status coming comes answer ends; accepted = λ nothing. accepted nothing answer ends }
   where
     items : List (List ℕ)
-    items = bytes_known known (items_of command)
+    items = bytes_known known (items_of (files_of_command command))
 
     here : (coming : Coming) → RunComes command before.files.contents coming → Comes command items coming
-    here coming h = subst (λ (is : List (List ℕ)). Comes command is coming) (subst (λ (c : Contents). IfSome c (λ k. h.items ≡ bytes_known k (items_of command))) e h.bytes.are) h.comes
+    here coming h = subst (λ (is : List (List ℕ)). Comes command is coming) (subst (λ (c : Contents). IfSome c (λ k. h.items ≡ bytes_known k (items_of (files_of_command command)))) e h.bytes.are) h.comes
 
     same : (other coming : Coming) → Comes command items coming → RunComes command before.files.contents other → status_of other ≡ status_of coming
     same other coming comes h = ap status_of (one_coming command items other coming are (here other h) comes)
@@ -171,8 +154,8 @@ answers_for answer command known before after e are ends fine = record { comes =
 pub complete_from : (answer : Status) (command : CommandWords) (before after : Seen) → CanBeAsked command → RunEnds answer command before after → RunIsComplete answer command before after
 complete_from answer command before after form ends = at_contents before.files.contents refl
   where
-    at_contents : (contents : Contents) → before.files.contents ≡ contents → IfSome contents (λ known. NoneFailed before after → AnswersFor answer command (bytes_known known (items_of command)))
+    at_contents : (contents : Contents) → before.files.contents ≡ contents → IfSome contents (λ known. NoneFailed before after → AnswersFor answer command (bytes_known known (items_of (files_of_command command))))
     at_contents None e = tt
     at_contents (Some known) e =
-        let count = length-map (items_of command) (λ (item : ItemWords). contents_of known item.name) in
+        let count = length-map (items_of (files_of_command command)) (λ (item : ItemWords). contents_of known (name_of item)) in
         answers_for answer command known before after e record { asked = form; count = count } ends

@@ -2,33 +2,19 @@
 use Rattle.std.specs.Cmp.{nat_cmp_total}
 use Rattle.std.specs.Ordering.{is_lt, nat_cmp}
 use Rattle.std.specs.Option.{option_map}
-use Rattle.std.specs.List.{AllZip, zip}
-use Rattle.std.proofs.Common.{◌≡◌, ◌+◌, ◌<◌, ℕ, Bool, List, [], ◌∷◌, All, length, map, drop, get_or, Option, Some, None, Result, Ok, Err, refl, sym, subst, arith}
-use Rattle.std.proofs.lemmas.List.Elements.{All-nil, All-cons, All-head, All-map, All-tail}
+use Rattle.std.proofs.Common.{◌≡◌, ◌<◌, ℕ, Bool, List, [], ◌∷◌, All, length, map, drop, get_or, Option, Some, None, Result, Ok, Err, refl, sym, subst, arith}
+use Rattle.std.proofs.lemmas.List.Elements.{All-map, All-tail}
 use Rattle.std.proofs.lemmas.List.Sorted.{All-permutation, IsNonDecreasingBy-from_sort, ranks_by}
 use Rattle.sf_model.specs.declared.machine.Arch.{Arch}
-use Rattle.sf_model.specs.declared.function.Func.{Func}
-use Rattle.sf_model.specs.Lookup.{found_at}
 use Rattle.sf_model.specs.Section.{AreBytes}
-use Rattle.sf_model.specs.Table.{Table}
 use Rattle.sf_write.specs.Reach.{first_out_of_reach}
 use Rattle.sf_write.specs.Section.{section_bytes}
 use Rattle.sf_write.proofs.NumbersFit.{some_section}
-use Rattle.sf_decode.specs.declared.fault.DecodeFault.{DecodeFault}
 use Rattle.sf_decode.specs.Decoding.{section_check}
-use Rattle.sf_decode.specs.Decoding.{table_in}
-use Rattle.sf_decode.proofs.EntriesRead.{section_stands}
 use Rattle.elf_read.specs.Header.{arch_of}
 use Rattle.core_notes.specs.declared.fault.CoreFault.{CoreFault}
 use Rattle.core_notes.specs.Checks.{core_check}
-use Rattle.sf_merge.specs.declared.fault.MergeFault.{MergeFault}
-use Rattle.sf_merge.specs.Merging.{Merges}
 use Rattle.sf_merge.proofs.Insertion.{moved, ordered, sorted, stable}
-use Rattle.sf_merge.proofs.SomeResult.{some_order, some_result}
-use Rattle.sf_slim.specs.declared.fault.SlimFault.{SlimFault}
-use Rattle.sf_slim.specs.Slimming.{Slims}
-use Rattle.sf_slim.specs.Slimming as slim
-use Rattle.sf_slim.specs.FaultShown.{shown_of_slimming}
 use Rattle.sf_asm.specs.declared.entry.Entry.{Entry}
 use Rattle.sf_asm.specs.declared.fault.GatherFault.{GatherFault}
 use Rattle.sf_asm.specs.declared.fault.LinkFault.{LinkFault}
@@ -44,117 +30,22 @@ use Rattle.sf_asm.proofs.Described.{from_links, to_gathers, to_links}
 use Rattle.sf_asm.proofs.FaithfulSections.{linked}
 use Rattle.sf_asm.proofs.GatheredInputs.{are_read}
 use Rattle.sf_asm.proofs.Kept.{kept_of_checked}
-use Rattle.sf_text.specs.Dump.{dump_text}
-use Rattle.sf_text.specs.Found.{found_text}
-use Rattle.sf_text.specs.Merged.{merged_text}
-use Rattle.sf_text.specs.Slim.{slim_text}
 use Rattle.sf_words.specs.declared.refusal.Limit.{Limit}
-use Rattle.sf_words.specs.Words.{CommandWords, SectionWords, Link, LinkPlt, Merge, Slim, Dump, Lookup, Verify, Walk, Backtrace, Procwalk, Gen}
-use Rattle.sf_run.specs.declared.section.Query.{Query}
-use Rattle.sf_run.specs.declared.section.Query.TheVariants.{Whole, RowAt}
-use Rattle.sf_run.specs.declared.made.Outcome.{Outcome}
-use Rattle.sf_run.specs.declared.made.Outcome.TheVariants.{Done}
-use Rattle.sf_run.specs.BacktraceComes.{BacktraceComesFrom, section_and_walks}
-use Rattle.sf_run.specs.Comes.{AreItems, CommandComes, Comes, command_limit}
-use Rattle.sf_run.specs.Coming.{Coming, ComesWithin, Exceeded, Makes, Refused}
-use Rattle.sf_run.specs.FirstFault.{first_fault}
-use Rattle.sf_run.specs.GenComes.{made_object, summary_alone}
-use Rattle.sf_run.specs.LinkComes.{objects_in, section_and_report}
+use Rattle.sf_words.specs.Forms.{SectionAndInputs}
+use Rattle.section_commands.specs.Coming.{Coming, ComesWithin, Exceeded}
+use Rattle.section_commands.specs.Walks.{coming_of_core}
+use Rattle.section_commands.proofs.SomeComing.{some_dump_coming, some_lookup_coming, some_merge_coming, some_procwalk_coming, some_slim_coming, some_walk_coming}
+use Rattle.sf_run.specs.Backtrace.{BacktraceComesFrom, section_and_walks}
+use Rattle.sf_run.specs.Comes.{AreItems, Comes, command_limit}
+use Rattle.sf_run.specs.Commands.{CommandComes, CommandWords, Link, LinkPlt, Merge, Slim, Dump, Lookup, Verify, Walk, Backtrace, Procwalk, Gen}
+use Rattle.sf_run.specs.Inputs.{objects_in}
+use Rattle.sf_run.specs.Link.{section_and_report}
 use Rattle.sf_run.specs.Linked.{LinkedComes, LinkedComesFrom, Makings, coming_of_linking}
-use Rattle.sf_run.specs.MergeComes.{IsSectionOf, Item, MergeComesAt, MergeComesFrom, coming_of_merging, item_check, sections_fault}
-use Rattle.sf_run.specs.SectionComes.{SectionComesFrom, Shows, coming_of_decoding, found_outcome, pair_of}
-use Rattle.sf_run.specs.SlimComes.{SlimComesFrom, SlimmingComes}
-use Rattle.sf_run.specs.WalkComes.{WalkComesFrom, coming_of_core}
+use Rattle.sf_run.specs.Object.{made_object, summary_alone}
+use Rattle.sf_run.specs.Verify.{VerifyComes}
 use Rattle.sf_run.proofs.KeptFit.{OutcomeFits, all_kept_fit, entry_fits, entry_sound, functions_read}
-use Rattle.sf_run.proofs.Reading.{none_here}
 use Rattle.sf_run.proofs.SomePlt.{some_plt}
-use Rattle.sf_run.proofs.SomeProcwalk.{files_have_bytes, later_bytes, some_procwalk}
 use Rattle.sf_run.proofs.SomeVerified.{some_verified}
-use Rattle.sf_run.proofs.SectionsFit.{IsSaid, some_merged, some_slimmed}
-
--- ---- dump and lookup
-some_shown : (query : Query) (table : Table) → (outcome : Outcome) × (text : List ℕ) × Shows query table outcome text
-some_shown Whole table = (Done, dump_text table, (refl, refl))
-some_shown (RowAt pc) table = (found_outcome (found_at table.functions pc), found_text pc (option_map pair_of (found_at table.functions pc)), (refl, refl))
-
-pub some_section_shown : (at : ℕ) (bytes : List ℕ) (query : Query) → AreBytes bytes → (check : Result (Unit {0}) DecodeFault) → section_check bytes at ≡ check → (coming : Coming) × SectionComesFrom at bytes query check coming
-some_section_shown at bytes query are (Err fault) e = (coming_of_decoding 0 fault, refl)
-some_section_shown at bytes query are (Ok u) e =
-    let shown = some_shown query (table_in bytes at) in
-    (Makes shown.0 None shown.1, record { table = table_in bytes at; of_bytes = section_stands bytes at are e; outcome = shown.0; text = shown.1; shows = shown.2; is = refl })
-
--- ---- walk
-some_walks : (at : ℕ) (section core : List ℕ) (depth : ℕ) → AreBytes section → (check : Result (Unit {0}) DecodeFault) → section_check section at ≡ check → (core_fault : Result (Unit {0}) CoreFault)
-    → (coming : Coming) × WalkComesFrom at section core depth check core_fault coming
-some_walks at section core depth are (Err fault) e check = (coming_of_decoding 0 fault, refl)
-some_walks at section core depth are (Ok u) e (Err fault) = (coming_of_core 1 fault, refl)
-some_walks at section core depth are (Ok u) e (Ok v) = (_, record { table = table_in section at; of_bytes = section_stands section at are e; is = refl })
-
--- ---- merge
-tables_in : List Item → List Table
-tables_in items = map (λ (item : Item). table_in item.1 item.0.at) items
-
-abbrev HasBytes : Item → Type 0
-HasBytes item = AreBytes item.1
-
--- the sections of items, each of which was checked
-record AreSections (items : List Item) : Type 0 where
-  are : AllZip IsSectionOf items (tables_in items)
-  said : All IsSaid (tables_in items)
-
-next_section : (item : Item) (items : List Item) → AreBytes item.1 → section_check item.1 item.0.at ≡ Ok tt → AreSections items → AreSections (item ∷ items)
-unfolding tables_in
-next_section item items bytes e h =
-    let is = section_stands item.1 item.0.at bytes e in
-    record {
-      are = (is, h.are);
-      said = All-cons IsSaid (table_in item.1 item.0.at) (tables_in items) (record { bytes = item.1; from = item.0.at; are_bytes = bytes; is = is }) h.said;
-    }
-
-all_sections : (number : ℕ) (items : List Item) → All HasBytes items → first_fault item_check number items ≡ None → AreSections items
-unfolding first_fault tables_in
-all_sections number [] bytes e = record { are = tt; said = All-nil IsSaid }
-all_sections number (item ∷ items) bytes e =
-    let here = none_here (item_check item) number (first_fault item_check (number + 1) items) e in
-    next_section item items (All-head HasBytes item items bytes) here.0 (all_sections (number + 1) items (All-tail HasBytes item items bytes) here.1)
-
-some_merging : (at : ℕ) (tables : List Table) → All IsSaid tables → (result : Result (List Func) MergeFault) → Merges tables at result → (coming : Coming) × MergeComesFrom at tables result coming
-some_merging at tables said (Err fault) h = (coming_of_merging fault, refl)
-some_merging at tables said (Ok functions) h =
-    let made = some_merged tables at functions said h in
-    (_, record { section = made.0; text = merged_text made.1 made.2; count = made.1; rows = made.2; merged = made.3; text_is = refl; is = refl })
-
-some_merge : (at : ℕ) (items : List Item) → All HasBytes items → (fault : Option (ℕ × DecodeFault)) → sections_fault items ≡ fault → (coming : Coming) × MergeComesAt at items fault coming
-some_merge at items bytes (Some fault) e = (_, refl)
-some_merge at items bytes None e =
-    let sections = all_sections 0 items bytes e in
-    let merges = some_result (tables_in items) at in
-    let comes = some_merging at (tables_in items) sections.said merges.0 merges.1 in
-    (comes.0, record { tables = tables_in items; are = sections.are; result = merges.0; merges = merges.1; comes = comes.1 })
-
-all_items : (sections : List SectionWords) (items : List (List ℕ)) → All AreBytes items → All HasBytes (zip sections items)
-all_items [] items h = All-nil HasBytes
-all_items (section ∷ sections) [] h = All-nil HasBytes
-all_items (section ∷ sections) (bytes ∷ items) h =
-    All-cons HasBytes (section, bytes) (zip sections items) (All-head AreBytes bytes items h) (all_items sections items (All-tail AreBytes bytes items h))
-
--- ---- slim
-some_slimming : (from at : ℕ) (bytes : List ℕ) → AreBytes bytes → section_check bytes from ≡ Ok tt → (result : Result (List Func) SlimFault) → Slims bytes (table_in bytes from) at result
-    → (coming : Coming) × SlimmingComes bytes (table_in bytes from) at result coming
-some_slimming from at bytes are e (Err fault) h = (Refused (shown_of_slimming (Some 0) fault), refl)
-some_slimming from at bytes are e (Ok functions) h =
-    let made = some_slimmed bytes from at functions are e h in
-    (_, record { section = made.0; text = slim_text (length bytes) (length made.0) made.1 made.2; count = made.1; rows = made.2; slimmed = made.3; text_is = refl; is = refl })
-
-some_slim : (from at : ℕ) (bytes : List ℕ) → AreBytes bytes → (check : Result (Unit {0}) DecodeFault) → section_check bytes from ≡ check → (coming : Coming) × SlimComesFrom from bytes at check coming
-some_slim from at bytes are (Err fault) e = (coming_of_decoding 0 fault, refl)
-some_slim from at bytes are (Ok tt) e =
-    let table = table_in bytes from in
-    let order = some_order (slim.sized_in table) in
-    let result = slim.unless_fault (slim.or_later (slim.slim_overlap_fault bytes order.0) (slim.slim_reach_fault at (slim.slimmed order.0))) (slim.slimmed order.0) in
-    let slims : Slims bytes table at result = (order.0, order.1, refl) in
-    let comes = some_slimming from at bytes are e result slims in
-    (comes.0, record { table = table; of_bytes = section_stands bytes from are e; result = result; slims = slims; comes = comes.1 })
 
 -- ---- linking
 in_order : (functions : List Function) → (es : List Entry) × InOrder (map entry_of functions) es
@@ -254,31 +145,21 @@ some_backtrace objects at core depth (Err fault) = (coming_of_core 0 fault, refl
 some_backtrace objects at core depth (Ok u) = some_linked (Some (arch_of core)) objects at (section_and_walks core depth)
 
 -- ---- each command
-first_bytes : (items : List (List ℕ)) (i : ℕ) → All AreBytes items → i < length items → AreBytes (get_or items i [])
-first_bytes items i h lt = h i [] lt
+verified : (verify : SectionAndInputs) (items : List (List ℕ)) → 0 < length items → All AreBytes items → (coming : Coming) × VerifyComes verify items coming
+verified verify items some bytes =
+    some_verified verify.section.at (get_or items 0 []) (objects_in verify.inputs (drop 1 items)) (bytes 0 [] some) (section_check (get_or items 0 []) verify.section.at) refl
 
 some_command : (command : CommandWords) (items : List (List ℕ)) → AreItems command items → All AreBytes items → (coming : Coming) × CommandComes command items coming
 some_command (Link link) items are bytes = some_linked None (objects_in link.inputs items) link.section.at section_and_report
 some_command (LinkPlt link) items are bytes = some_plt (objects_in link.inputs items) link.section.at
-some_command (Merge merge) items are bytes = some_merge merge.out.at (zip merge.sections items) (all_items merge.sections items bytes) (sections_fault (zip merge.sections items)) refl
-some_command (Slim slim) items are bytes =
-    let count : length items ≡ 1 = are.count in
-    some_slim slim.section.at slim.out.at (get_or items 0 []) (first_bytes items 0 bytes (omega (count, arith))) (section_check (get_or items 0 []) slim.section.at) refl
-some_command (Dump section) items are bytes =
-    let count : length items ≡ 1 = are.count in
-    some_section_shown section.at (get_or items 0 []) Whole (first_bytes items 0 bytes (omega (count, arith))) (section_check (get_or items 0 []) section.at) refl
-some_command (Lookup section pc) items are bytes =
-    let count : length items ≡ 1 = are.count in
-    some_section_shown section.at (get_or items 0 []) (RowAt pc) (first_bytes items 0 bytes (omega (count, arith))) (section_check (get_or items 0 []) section.at) refl
-some_command (Verify verify) items are bytes =
-    let some : 0 < length items = subst (λ (n : ℕ). 0 < n) (sym are.count) (omega arith) in
-    some_verified verify.section.at (get_or items 0 []) (objects_in verify.inputs (drop 1 items)) (first_bytes items 0 bytes some) (section_check (get_or items 0 []) verify.section.at) refl
-some_command (Walk walk) items are bytes =
-    let count : length items ≡ 2 = are.count in
-    some_walks walk.section.at (get_or items 0 []) (get_or items 1 []) walk.depth (first_bytes items 0 bytes (omega (count, arith))) (section_check (get_or items 0 []) walk.section.at) refl (core_check (get_or items 1 []))
+some_command (Merge merge) items are bytes = some_merge_coming merge items are.asked are.count bytes
+some_command (Slim slim) items are bytes = some_slim_coming slim items are.asked are.count bytes
+some_command (Dump section) items are bytes = some_dump_coming section items are.asked are.count bytes
+some_command (Lookup lookup) items are bytes = some_lookup_coming lookup items are.asked are.count bytes
+some_command (Verify verify) items are bytes = verified verify items (subst (λ (n : ℕ). 0 < n) (sym are.count) (omega arith)) bytes
+some_command (Walk walk) items are bytes = some_walk_coming walk items are.asked are.count bytes
 some_command (Backtrace backtrace) items are bytes = some_backtrace _ backtrace.out.at (get_or items 0 []) backtrace.depth (core_check (get_or items 0 []))
-some_command (Procwalk procwalk) items are bytes =
-    some_procwalk (get_or items 0 []) procwalk.depth (zip procwalk.files (drop 1 items)) (files_have_bytes procwalk.files (drop 1 items) (later_bytes items bytes)) (core_check (get_or items 0 []))
+some_command (Procwalk procwalk) items are bytes = some_procwalk_coming procwalk items are.asked are.count bytes
 some_command (Gen n) items are bytes = some_linked None (made_object n ∷ []) 0x4000000 (summary_alone n)
 
 within : (command : CommandWords) (items : List (List ℕ)) → (coming : Coming) × CommandComes command items coming → (limit : Option Limit) → (coming : Coming) × ComesWithin limit (CommandComes command items) coming

@@ -18,9 +18,9 @@ use Rattle.sf_plt.proofs.Cases.{IsTable}
 use Rattle.sf_plt.proofs.Recovers.{columns, said_before}
 use Rattle.sf_plt.proofs.SomeLinked.{AreLinked, SomeSection, all_of, all_written, are_linked, first_fits, later_fit, some_plt_section, some_result}
 use Rattle.sf_plt.proofs.Writable.{first_writable, later_writable}
-use Rattle.sf_run.specs.Coming.{Coming}
+use Rattle.section_commands.specs.Coming.{Coming}
+use Rattle.sf_run.specs.LinkPlt.{ObjectsCome, PltLinkedComes}
 use Rattle.sf_run.specs.Linked.{coming_of_linking}
-use Rattle.sf_run.specs.LinkPltComes.{ObjectsCome, PltLinkedComes}
 use Rattle.sf_run.proofs.KeptFit.{ContentIn, IsRead, OutcomeFits, content_in, entry_fits, entry_sound, functions_read}
 
 -- ---- what is written of a function that was read

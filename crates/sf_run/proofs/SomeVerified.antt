@@ -19,9 +19,9 @@ use Rattle.sf_verify.specs.Agreement.{IsFitting}
 use Rattle.sf_verify.specs.Said.{section_at}
 use Rattle.sf_verify.proofs.Fitting.{RowFits, dwarf_fits, function_fits, section_fits}
 use Rattle.sf_verify.proofs.SomeVerdict.{InputsFit, some_result}
-use Rattle.sf_run.specs.Coming.{Coming}
-use Rattle.sf_run.specs.SectionComes.{coming_of_decoding}
-use Rattle.sf_run.specs.VerifyComes.{VerifyComesFrom, coming_of_verdict}
+use Rattle.section_commands.specs.Coming.{Coming}
+use Rattle.section_commands.specs.SectionComes.{coming_of_decoding}
+use Rattle.sf_run.specs.Verify.{VerifyComesFrom, coming_of_verdict}
 use Rattle.sf_run.proofs.KeptFit.{ContentIn, IsRead, content_in, functions_read}
 
 -- ---- what inputs say

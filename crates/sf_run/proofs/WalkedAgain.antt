@@ -12,14 +12,13 @@ use Rattle.core_notes.specs.Checks.{core_check}
 use Rattle.sf_asm.specs.declared.entry.Entry.{Entry}
 use Rattle.sf_asm.specs.declared.fault.LinkFault.{LinkFault}
 use Rattle.sf_asm.specs.Functions.{Object}
-use Rattle.sf_asm.specs.Inputs.{is_same}
-use Rattle.sf_words.specs.Words.{InputWords}
-use Rattle.sf_run.specs.declared.made.Outcome.TheVariants.{Done}
-use Rattle.sf_run.specs.BacktraceComes.{BacktraceComes, BacktraceComesFrom, dwarf_walks, section_and_walks}
-use Rattle.sf_run.specs.Coming.{Makes}
-use Rattle.sf_run.specs.LinkComes.{objects_in}
+use Rattle.section_commands.specs.declared.made.Outcome.TheVariants.{Done}
+use Rattle.section_commands.specs.Coming.{Makes}
+use Rattle.section_commands.specs.Walk.{WalkComes, WalkComesFrom, coming_of_walks}
+use Rattle.section_commands.specs.Walks.{coming_of_core, is_same, table_walks}
+use Rattle.sf_run.specs.Backtrace.{BacktraceComes, BacktraceComesFrom, BacktraceWords, dwarf_walks, section_and_walks, walk_by_section}
+use Rattle.sf_run.specs.Inputs.{objects_in}
 use Rattle.sf_run.specs.Linked.{LinkedComesFrom, MakesLinked}
-use Rattle.sf_run.specs.WalkComes.{WalkComes, WalkComesFrom, coming_of_core, coming_of_walks, table_walks}
 use Rattle.sf_run.proofs.Accepted.{Refuses, linking_refuses}
 use Rattle.sf_run.proofs.Backtraces.{linked_walks}
 
@@ -70,6 +69,6 @@ from_check : (objects : List Object) (at : ℕ) (core : List ℕ) (depth : ℕ) 
 from_check objects at core depth section text (Err fault) e h = absurd (subst Refuses (sym h) (core_refuses fault))
 from_check objects at core depth section text (Ok tt) e h = from_result objects at core depth section text e h.result h.comes
 
-pub walked_again : (inputs : List InputWords) (at depth : ℕ) (core : List ℕ) (items : List (List ℕ)) (section text : List ℕ)
-    → BacktraceComes inputs at depth (core ∷ items) (Makes Done (Some section) text) → WalkComes at depth (section ∷ core ∷ []) (Makes Done None text)
-walked_again inputs at depth core items section text h = from_check (objects_in inputs items) at core depth section text (core_check core) refl h
+pub walked_again : (backtrace : BacktraceWords) (core : List ℕ) (items : List (List ℕ)) (section text : List ℕ)
+    → BacktraceComes backtrace (core ∷ items) (Makes Done (Some section) text) → WalkComes (walk_by_section backtrace) (section ∷ core ∷ []) (Makes Done None text)
+walked_again backtrace core items section text h = from_check (objects_in backtrace.inputs items) backtrace.out.at core backtrace.depth section text (core_check core) refl h

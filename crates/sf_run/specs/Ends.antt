@@ -13,13 +13,13 @@ use Rattle.sf_words.specs.declared.refusal.Limit.TheVariants.{Inputs}
 use Rattle.sf_words.specs.declared.refusal.Refusal.{Refusal}
 use Rattle.sf_words.specs.declared.refusal.Refusal.TheVariants as refusal
 use Rattle.sf_words.specs.Loading.{AreBytesOf, Contents, bytes_known}
-use Rattle.sf_words.specs.Items.{item_names, items_of}
-use Rattle.sf_words.specs.Words.{CommandWords, out_name}
-use Rattle.sf_run.specs.declared.made.Outcome.{Outcome}
-use Rattle.sf_run.specs.declared.made.Outcome.TheVariants as outcome
+use Rattle.sf_words.specs.Files.{item_names, items_of}
+use Rattle.section_commands.specs.Coming.{Coming, Refused, Exceeded, Makes}
+use Rattle.section_commands.specs.declared.made.Outcome.{Outcome}
+use Rattle.section_commands.specs.declared.made.Outcome.TheVariants as outcome
+use Rattle.section_commands.specs.Making.{ComesAs}
 use Rattle.sf_run.specs.Comes.{Comes, RefusesNothing}
-use Rattle.sf_run.specs.Coming.{Coming, Refused, Exceeded, Makes}
-use Rattle.sf_run.specs.Making.{ComesAs}
+use Rattle.sf_run.specs.Commands.{CommandWords, files_of_command}
 use Rattle.sf_run.specs.declared.status.Status.{Status}
 use Rattle.sf_run.specs.declared.status.Status.TheVariants as status
 use Rattle.sf_run.specs.Lines.{Says, usage_line, read_line, write_file_line, write_output_line, memory_line, limit_line}
@@ -38,7 +38,7 @@ seen files out err = record { files = files; out = out; err = err }
 -- the command comes to this over the bytes of its items: what its files hold, where that is known
 pub record RunComes (command : CommandWords) (contents : Contents) (coming : Coming) : Type 0 where
   pub items : List (List ℕ)
-  pub bytes : AreBytesOf contents (items_of command) items
+  pub bytes : AreBytesOf contents (items_of (files_of_command command)) items
   pub comes : Comes command items coming
 
 -- Files were read alone: none was created or changed. Nothing went to the output, and the errors got this line.
@@ -103,16 +103,16 @@ pub record Leaves (command : CommandWords) (contents : Contents) (outcome : Outc
 -- how a run of a command ends with each status
 abbrev pub RunEnds : Status → CommandWords → (before after : Seen) → Type 0
 RunEnds status.Done command before after =
-    Leaves command before.files.contents outcome.Done (λ section text. Written (out_name command) section text before after)
+    Leaves command before.files.contents outcome.Done (λ section text. Written (files_of_command command).out section text before after)
 RunEnds status.No command before after =
-    Leaves command before.files.contents outcome.No (λ section text. Written (out_name command) section text before after)
+    Leaves command before.files.contents outcome.No (λ section text. Written (files_of_command command).out section text before after)
 RunEnds status.Usage command before after = ⊥
 RunEnds status.Read command before after =
-    (name : List ℕ) × Contains (item_names command) name × TurnedAway before after (read_line name) × Rose before.files.read_faults after.files.read_faults
+    (name : List ℕ) × Contains (item_names (files_of_command command)) name × TurnedAway before after (read_line name) × Rose before.files.read_faults after.files.read_faults
     × IfSome after.files.failed_name (λ failed. failed ≡ name)
 RunEnds status.Write command before after =
     (made : Outcome) × Leaves command before.files.contents made (λ section text.
-    FileFailed (out_name command) section before after ⊎ OutputFailed (out_name command) section text before after)
+    FileFailed (files_of_command command).out section before after ⊎ OutputFailed (files_of_command command).out section text before after)
 RunEnds status.Refused command before after =
     (notice : Notice) × HasLine notice × RunComes command before.files.contents (Refused (shown_by notice)) × TurnedAway before after (fault_text notice)
 RunEnds status.Memory command before after = TurnedAway before after memory_line
@@ -139,7 +139,7 @@ pub record AnswersFor (answer : Status) (command : CommandWords) (items : List (
 -- where the contents are known and no call failed, the run answers for the bytes that the files hold
 abbrev pub RunIsComplete : Status → CommandWords → (before after : Seen) → Type 0
 RunIsComplete answer command before after =
-    IfSome before.files.contents (λ known. NoneFailed before after → AnswersFor answer command (bytes_known known (items_of command)))
+    IfSome before.files.contents (λ known. NoneFailed before after → AnswersFor answer command (bytes_known known (items_of (files_of_command command))))
 
 -- A run of the words of a command line, whichever they are: they have no form, or ask for a command, or memory ran out before they were read.
 abbrev pub SomeRunEnds : Status → (before after : Seen) → Type 0
@@ -151,7 +151,7 @@ SomeRunEnds answer before after =
 -- ---- refusals and deliveries
 -- why a run makes nothing: an item could not be read, or a refusal is what the run comes to, or memory ran out
 abbrev pub RunRefuses : CommandWords → Contents → Refusal → Type 0
-RunRefuses command contents (refusal.Read name) = Contains (item_names command) name.now
+RunRefuses command contents (refusal.Read name) = Contains (item_names (files_of_command command)) name.now
 RunRefuses command contents refused = ComesAs (RunComes command contents) refused
 
 -- a refused item has a line

@@ -12,7 +12,7 @@ use Rattle.sf_asm.specs.Functions.{Function, Object}
 use Rattle.sf_asm.specs.Linking.{Links}
 use Rattle.sf_asm.specs.FaultShown.{shown_of_linking}
 use Rattle.sf_words.specs.declared.refusal.Limit.TheVariants.{Functions, Rows}
-use Rattle.sf_run.specs.Coming.{Coming, Refused, Exceeded}
+use Rattle.section_commands.specs.Coming.{Coming, Refused, Exceeded}
 
 -- what a fault of linking comes to
 abbrev pub coming_of_linking : LinkFault → Coming

@@ -1,9 +1,9 @@
 -- The exit status of a run.
 use Rattle.std.specs.Prelude.{ℕ}
-use Rattle.sf_run.specs.declared.made.Outcome.{Outcome}
-use Rattle.sf_run.specs.declared.made.Outcome.TheVariants as outcome
-use Rattle.sf_run.specs.Coming.{Coming}
-use Rattle.sf_run.specs.Coming as coming
+use Rattle.section_commands.specs.declared.made.Outcome.{Outcome}
+use Rattle.section_commands.specs.declared.made.Outcome.TheVariants as outcome
+use Rattle.section_commands.specs.Coming.{Coming}
+use Rattle.section_commands.specs.Coming as coming
 use Rattle.sf_run.specs.declared.status.Status.{Status}
 use Rattle.sf_run.specs.declared.status.Status.TheVariants.{Done, No, Usage, Read, Write, Refused, Memory, Limit}
 

@@ -1,30 +1,40 @@
-//! What `backtrace` makes.
+//! `backtrace OUT@AT CORE DEPTH IN@BASE ..` makes the section of its inputs, and walks a core file's threads by it.
 
-ghost use Rattle.std.specs.Prelude.{◌≡◌, ◌<◌, ◌≤◌, None, ◌∷◌, IfOk, length, map};
+ghost use Rattle.std.specs.Prelude.{◌≡◌, ◌≤◌, List, ℕ, None, IfOk, IfSome, IsSomeAnd, length, map};
+ghost use Rattle.std.specs.String.{string_bytes};
 ghost use Rattle.sf_model.specs.Section.{Section};
 ghost use Rattle.sf_model.specs.Table.{Table};
 ghost use Rattle.sf_model.specs.Walk.{section_walk};
-ghost use Rattle.core_notes.specs.Checks.{core_check};
 ghost use Rattle.core_notes.specs.Views.{memory_of, threads_of};
-ghost use Rattle.sf_words.specs.Loading.{bytes_limit, of_kinds};
-ghost use Rattle.sf_words.specs.declared.item.ItemKind.{ItemKind as kind};
-ghost use Rattle.sf_words.specs.Items.{input_item};
-ghost use Rattle.sf_words.specs.Parsed.{input_of};
-ghost use Rattle.sf_run.specs.BacktraceComes.{BacktraceComesFrom};
-ghost use Rattle.sf_run.specs.LinkComes.{objects_in};
-ghost use Rattle.sf_run.specs.Making.{ComesTo};
-ghost use Rattle.sf_run.specs.WalkComes as spec;
+ghost use Rattle.sf_words.specs.Files.{files_of, items_of};
+ghost use Rattle.sf_words.specs.Loading.{files_limit, loaded_bytes, loaded_items};
+ghost use Rattle.section_commands.specs.Making.{ComesTo};
+ghost use Rattle.section_commands.specs.Walks as spec;
+ghost use Rattle.sf_run.specs.Backtrace.{BacktraceComes, BacktraceWords, IsBacktrace, backtrace_files, backtrace_of};
 
-use crate::link::{inputs_in, unlinked};
-use crate::made::{Made, Outcome};
-use crate::walk::{unread_core, view_walks};
+use crate::linked::{inputs_in, unlinked};
 use core_notes::Core;
+use section_commands::{Made, Outcome, unread_core, view_walks};
 use sf_base::NoMemory;
 use sf_decode::View;
 use sf_link::link;
 use sf_text::Output;
-use sf_words::{InputFile, Refusal};
+use sf_words::{
+    CommandFiles, FileList, Item, Loaded, MOST_FRAMES, NamedInputs, Refusal, SectionFile,
+    four_and_items, number_up_to, section_file,
+};
 use std::alloc::Global;
+
+/// The section to be made, the threads to walk, and the inputs to link.
+#[derive(Clone, Copy)]
+pub struct Backtrace<'a> {
+    pub out: SectionFile<'a>,
+    /// The name of the core file.
+    pub core: &'a str,
+    /// The most frames of a thread.
+    pub depth: u32,
+    pub inputs: NamedInputs<'a>,
+}
 
 /// Returns the texts of the walks of all threads by a section that was made, each of at most `depth` frames.
 fn section_walks(
@@ -44,35 +54,71 @@ fn section_walks(
     }
 }
 
-/// Returns the section of the inputs of these bytes, and the walks of a core file's threads by this section.
-pub fn backtrace_made<'a, 'm>(
-    alloc: Global,
-    inputs: &[InputFile<'_>],
-    at: u64,
-    core: &[u8],
-    depth: u32,
-    items: &[Vec<u8>],
-) -> Result<Made<'m>, Refusal<'a>>
-    requires some { 0 < length items.now }
-    requires count { length items.now ≡ length inputs.now }
-    requires few { length items.now ≤ 512 }
-    requires within { bytes_limit 0 0 ((kind.Core, core.now) ∷ of_kinds (map input_item (map input_of inputs.now)) (map (λ v. v.items) items.now)) ≡ None }
-    ensures { ComesTo (BacktraceComesFrom (objects_in (map input_of inputs.now) (map (λ v. v.items) items.now)) at core.now depth (core_check core.now)) result }
-{
-    let core = match Core::parse(core) {
-        Ok(core) => core,
-        Err(fault) => return Err(unread_core(&fault, 0)),
-    };
-    let inputs = inputs_in(alloc, inputs, items)?;
-    match link(alloc, &inputs, at, Some(core.arch())) {
-        Ok(linked) => {
-            let text = section_walks(alloc, &linked.section, at, &core, depth)?;
-            Ok(Made {
-                outcome: Outcome::Done,
-                section: Some(linked.section),
-                output: Output::Text(text),
-            })
+impl<'a> Backtrace<'a> {
+    /// Returns the link and the walks that the words ask for, if they have the form `backtrace OUT@AT CORE DEPTH IN@BASE ..`.
+    pub fn read(words: &'a [String]) -> Option<Backtrace<'a>>
+        ensures found { IfSome result (λ backtrace. IsBacktrace (map string_bytes words.now) (backtrace_of backtrace)) }
+        ensures only { (wanted : BacktraceWords) → IsBacktrace (map string_bytes words.now) wanted → IsSomeAnd result (λ backtrace. backtrace_of backtrace ≡ wanted) }
+    {
+        let (command, out, core, depth, inputs) = four_and_items(words)?;
+        if command != "backtrace" {
+            return None;
         }
-        Err(fault) => Err(unlinked(&fault)),
+        let out = section_file(out)?;
+        if core.is_empty() {
+            return None;
+        }
+        let depth = number_up_to(depth, MOST_FRAMES)?;
+        let inputs = NamedInputs::read(inputs)?;
+        Some(Backtrace {
+            out,
+            core,
+            depth,
+            inputs,
+        })
+    }
+
+    /// Returns the section's file, the core file and the inputs' files.
+    pub fn files(&self) -> CommandFiles<'a>
+        ensures { files_of result ≡ backtrace_files (backtrace_of self.now) }
+    {
+        CommandFiles {
+            out: Some(self.out.name),
+            first: Some(Item::Core(self.core)),
+            second: None,
+            list: FileList::Inputs(self.inputs),
+        }
+    }
+
+    /// Makes the section of the inputs that were loaded after the core file, and the walks of its threads by this section.
+    ///
+    /// # Errors
+    ///
+    /// The first fault of the core file or of linking, as a refusal; memory may run out at any time.
+    pub fn make<'m>(&self, alloc: Global, loaded: &'m [Loaded<'a>]) -> Result<Made<'m>, Refusal<'a>>
+        requires asked { (words : List (List ℕ)) × IsBacktrace words (backtrace_of self.now) }
+        requires items { loaded_items loaded.now ≡ items_of (backtrace_files (backtrace_of self.now)) }
+        requires within { files_limit (backtrace_files (backtrace_of self.now)) (loaded_bytes loaded.now) ≡ None }
+        ensures { ComesTo (BacktraceComes (backtrace_of self.now) (loaded_bytes loaded.now)) result }
+    {
+        let [core, inputs @ ..] = loaded else {
+            unreachable!()
+        };
+        let core = match Core::parse(&core.bytes) {
+            Ok(core) => core,
+            Err(fault) => return Err(unread_core(&fault, 0)),
+        };
+        let inputs = inputs_in(alloc, inputs)?;
+        match link(alloc, &inputs, self.out.at, Some(core.arch())) {
+            Ok(linked) => {
+                let text = section_walks(alloc, &linked.section, self.out.at, &core, self.depth)?;
+                Ok(Made {
+                    outcome: Outcome::Done,
+                    section: Some(linked.section),
+                    output: Output::Text(text),
+                })
+            }
+            Err(fault) => Err(unlinked(&fault)),
+        }
     }
 }

@@ -9,8 +9,8 @@ ghost use Rattle.sf_run.specs.Ends.{Delivered, Stored, StoredIn, StoredPart, fil
 ghost use Rattle.sf_run.specs.Lines.{Says};
 
 use crate::lines::{say, say_name};
-use crate::made::Made;
 use crate::status::Status;
+use section_commands::Made;
 use sf_base::{Failed, Files, Sink, put_file};
 use sf_text::put_output;
 

@@ -1,83 +1,76 @@
-//! What `link` makes.
+//! `link OUT@AT IN@BASE ..` makes the section of its inputs.
 
-ghost use Rattle.std.specs.Prelude.{◌≡◌, ◌<◌, ◌≤◌, None, IfOk, IsTrue, length, map};
-ghost use Rattle.sf_asm.specs.Fault.{is_answered};
-ghost use Rattle.sf_asm.specs.Functions.{object_of};
-ghost use Rattle.sf_words.specs.Loading.{items_limit};
-ghost use Rattle.sf_words.specs.Items.{input_item};
-ghost use Rattle.sf_words.specs.Parsed.{input_of};
-ghost use Rattle.sf_run.specs.Coming.{Coming};
-ghost use Rattle.sf_run.specs.LinkComes.{LinkComes, objects_in};
-ghost use Rattle.sf_run.specs.Linked.{coming_of_linking};
-ghost use Rattle.sf_run.specs.Making.{ComesAs, ComesTo};
+ghost use Rattle.std.specs.Prelude.{◌≡◌, List, ℕ, None, IfSome, IsSomeAnd, map};
+ghost use Rattle.std.specs.String.{string_bytes};
+ghost use Rattle.sf_words.specs.Files.{files_of, items_of};
+ghost use Rattle.sf_words.specs.Forms.{SectionAndInputs};
+ghost use Rattle.sf_words.specs.Loading.{files_limit, loaded_bytes, loaded_items};
+ghost use Rattle.section_commands.specs.Making.{ComesTo};
+ghost use Rattle.sf_run.specs.Link.{IsLink, LinkComes, link_files, link_of};
 
-use crate::made::{Made, Outcome};
-use sf_asm::{GatherFault, Input, LinkFault};
-use sf_base::NoMemory;
+use crate::linked::{inputs_in, unlinked};
+use section_commands::{Made, Outcome};
 use sf_link::link;
 use sf_text::{Output, report};
-use sf_words::{InputFile, Limit, Refusal};
+use sf_words::{
+    CommandFiles, FileList, Loaded, NamedInputs, Refusal, SectionFile, section_and_inputs,
+};
 use std::alloc::Global;
 
-/// Returns why inputs were not linked, as a refusal of the run.
-pub fn unlinked<'a>(fault: &LinkFault) -> Refusal<'a>
-    requires { IsTrue (is_answered fault.now) }
-    ensures { ComesAs (λ (coming : Coming). coming ≡ coming_of_linking fault.now) result }
-{
-    match fault {
-        LinkFault::NoMemory | LinkFault::Gather(GatherFault::NoMemory) => Refusal::Memory,
-        LinkFault::Gather(GatherFault::TooManyFunctions) => Refusal::Limit(Limit::Functions),
-        LinkFault::Gather(GatherFault::TooManyRows) => Refusal::Limit(Limit::Rows),
-        LinkFault::Gather(GatherFault::Input(_, _)) => Refusal::Input(fault.notice(None)),
-        LinkFault::Gather(GatherFault::MixedArch(_, _)) => Refusal::Input(fault.notice(None)),
-        LinkFault::Gather(GatherFault::Overlap(_, _, _, _)) => Refusal::Input(fault.notice(None)),
-        LinkFault::OutOfReach(_) => Refusal::Input(fault.notice(None)),
-    }
+/// The section to be made, and the inputs to link.
+#[derive(Clone, Copy)]
+pub struct Link<'a> {
+    pub out: SectionFile<'a>,
+    pub inputs: NamedInputs<'a>,
 }
 
-/// Returns the inputs with their bytes, in order.
-pub fn inputs_in<'b>(
-    alloc: Global,
-    files: &[InputFile<'_>],
-    items: &'b [Vec<u8>],
-) -> Result<Vec<Input<'b>>, NoMemory>
-    requires { length items.now ≡ length files.now }
-    ensures { IfOk result (λ inputs. map object_of inputs.items ≡ objects_in (map input_of files.now) (map (λ v. v.items) items.now)) }
-{
-    let mut inputs = Vec::new(alloc);
-    for (file, bytes) in files.iter().zip(items) {
-        inputs.push(Input {
-            form: file.form,
-            bytes,
-            base: file.base,
-        })?;
+impl<'a> Link<'a> {
+    /// Returns the link that the words ask for, if they have the form `link OUT@AT IN@BASE ..`.
+    pub fn read(words: &'a [String]) -> Option<Link<'a>>
+        ensures found { IfSome result (λ link. IsLink (map string_bytes words.now) (link_of link)) }
+        ensures only { (named : SectionAndInputs) → IsLink (map string_bytes words.now) named → IsSomeAnd result (λ link. link_of link ≡ named) }
+    {
+        let named = section_and_inputs(words, "link")?;
+        Some(Link {
+            out: named.section,
+            inputs: named.inputs,
+        })
     }
-    Ok(inputs)
-}
 
-/// Returns the section of the inputs of these bytes.
-pub fn link_made<'a, 'm>(
-    alloc: Global,
-    inputs: &[InputFile<'_>],
-    at: u64,
-    items: &[Vec<u8>],
-) -> Result<Made<'m>, Refusal<'a>>
-    requires some { 0 < length items.now }
-    requires count { length items.now ≡ length inputs.now }
-    requires few { length items.now ≤ 512 }
-    requires within { items_limit (map input_item (map input_of inputs.now)) (map (λ v. v.items) items.now) ≡ None }
-    ensures { ComesTo (LinkComes (map input_of inputs.now) at (map (λ v. v.items) items.now)) result }
-{
-    let inputs = inputs_in(alloc, inputs, items)?;
-    match link(alloc, &inputs, at, None) {
-        Ok(linked) => {
-            let text = report(alloc, linked.kept, &linked.omitted)?;
-            Ok(Made {
-                outcome: Outcome::Done,
-                section: Some(linked.section),
-                output: Output::Text(text),
-            })
+    /// Returns the section's file and the inputs' files.
+    pub fn files(&self) -> CommandFiles<'a>
+        ensures { files_of result ≡ link_files (link_of self.now) }
+    {
+        CommandFiles {
+            out: Some(self.out.name),
+            first: None,
+            second: None,
+            list: FileList::Inputs(self.inputs),
         }
-        Err(fault) => Err(unlinked(&fault)),
+    }
+
+    /// Makes the section of the inputs that were loaded, and the report on it.
+    ///
+    /// # Errors
+    ///
+    /// The first fault of linking, as a refusal; memory may run out at any time.
+    pub fn make<'m>(&self, alloc: Global, loaded: &'m [Loaded<'a>]) -> Result<Made<'m>, Refusal<'a>>
+        requires asked { (words : List (List ℕ)) × IsLink words (link_of self.now) }
+        requires items { loaded_items loaded.now ≡ items_of (link_files (link_of self.now)) }
+        requires within { files_limit (link_files (link_of self.now)) (loaded_bytes loaded.now) ≡ None }
+        ensures { ComesTo (LinkComes (link_of self.now) (loaded_bytes loaded.now)) result }
+    {
+        let inputs = inputs_in(alloc, loaded)?;
+        match link(alloc, &inputs, self.out.at, None) {
+            Ok(linked) => {
+                let text = report(alloc, linked.kept, &linked.omitted)?;
+                Ok(Made {
+                    outcome: Outcome::Done,
+                    section: Some(linked.section),
+                    output: Output::Text(text),
+                })
+            }
+            Err(fault) => Err(unlinked(&fault)),
+        }
     }
 }

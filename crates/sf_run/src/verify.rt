@@ -1,28 +1,35 @@
-//! What `verify` makes.
+//! `verify FILE@AT IN@BASE ..` compares a section with the call frame information of its inputs.
 
-ghost use Rattle.std.specs.Prelude.{◌≡◌, ◌<◌, ◌≤◌, ◌∷◌, None, IsTrue, length, map};
-ghost use Rattle.sf_decode.specs.Decoding.{section_check};
+ghost use Rattle.std.specs.Prelude.{◌≡◌, List, ℕ, None, IfSome, IsSomeAnd, IsTrue, map};
+ghost use Rattle.std.specs.String.{string_bytes};
 ghost use Rattle.sf_verify.specs.FaultShown.{is_returned};
-ghost use Rattle.sf_words.specs.Loading.{bytes_limit, of_kinds};
-ghost use Rattle.sf_words.specs.declared.item.ItemKind.{ItemKind as kind};
-ghost use Rattle.sf_words.specs.Items.{input_item};
-ghost use Rattle.sf_words.specs.Parsed.{input_of};
-ghost use Rattle.sf_run.specs.Coming.{Coming};
-ghost use Rattle.sf_run.specs.LinkComes.{objects_in};
-ghost use Rattle.sf_run.specs.Making.{ComesAs, ComesTo};
-ghost use Rattle.sf_run.specs.VerifyComes as spec;
-ghost use Rattle.sf_run.specs.VerifyComes.{VerifyComesFrom, coming_of_verifying};
+ghost use Rattle.sf_words.specs.Files.{files_of, items_of};
+ghost use Rattle.sf_words.specs.Forms.{SectionAndInputs};
+ghost use Rattle.sf_words.specs.Loading.{files_limit, loaded_bytes, loaded_items};
+ghost use Rattle.section_commands.specs.Coming.{Coming};
+ghost use Rattle.section_commands.specs.Making.{ComesAs, ComesTo};
+ghost use Rattle.sf_run.specs.Verify as spec;
+ghost use Rattle.sf_run.specs.Verify.{IsVerify, VerifyComes, coming_of_verifying, verify_files, verify_of};
 
-use crate::link::inputs_in;
-use crate::made::{Made, Outcome};
-use crate::section::undecoded;
+use crate::linked::inputs_in;
+use section_commands::{Made, Outcome, undecoded};
 use sf_asm::GatherFault;
 use sf_decode::View;
 use sf_model::Verdict;
 use sf_text::{Output, verdict};
 use sf_verify::{VerifyFault, verify};
-use sf_words::{InputFile, Limit, Refusal};
+use sf_words::{
+    CommandFiles, FileList, Item, Limit, Loaded, NamedInputs, Refusal, SectionFile,
+    section_and_inputs,
+};
 use std::alloc::Global;
+
+/// The section to be verified, and the inputs that it is compared with.
+#[derive(Clone, Copy)]
+pub struct Verify<'a> {
+    pub section: SectionFile<'a>,
+    pub inputs: NamedInputs<'a>,
+}
 
 /// Returns why a section was not verified, as a refusal of the run. The section is item 0.
 fn unverified<'a>(fault: &VerifyFault) -> Refusal<'a>
@@ -53,34 +60,60 @@ fn outcome_of(verdict: &Verdict) -> Outcome
     }
 }
 
-/// Returns the verdict on the section of the first bytes, by the inputs of the others.
-pub fn verify_made<'a, 'm>(
-    alloc: Global,
-    section: &[u8],
-    at: u64,
-    inputs: &[InputFile<'_>],
-    items: &[Vec<u8>],
-) -> Result<Made<'m>, Refusal<'a>>
-    requires some { 0 < length items.now }
-    requires count { length items.now ≡ length inputs.now }
-    requires few { length items.now ≤ 512 }
-    requires within { bytes_limit 0 0 ((kind.Section, section.now) ∷ of_kinds (map input_item (map input_of inputs.now)) (map (λ v. v.items) items.now)) ≡ None }
-    ensures { ComesTo (VerifyComesFrom at section.now (objects_in (map input_of inputs.now) (map (λ v. v.items) items.now)) (section_check section.now at)) result }
-{
-    let view = match View::parse(section, at) {
-        Ok(view) => view,
-        Err(fault) => return Err(undecoded(fault, 0)),
-    };
-    let inputs = inputs_in(alloc, inputs, items)?;
-    match verify(alloc, &view, &inputs) {
-        Ok(found) => {
-            let text = verdict(alloc, &found)?;
-            Ok(Made {
-                outcome: outcome_of(&found),
-                section: None,
-                output: Output::Text(text),
-            })
+impl<'a> Verify<'a> {
+    /// Returns the comparison that the words ask for, if they have the form `verify FILE@AT IN@BASE ..`.
+    pub fn read(words: &'a [String]) -> Option<Verify<'a>>
+        ensures found { IfSome result (λ verify. IsVerify (map string_bytes words.now) (verify_of verify)) }
+        ensures only { (named : SectionAndInputs) → IsVerify (map string_bytes words.now) named → IsSomeAnd result (λ verify. verify_of verify ≡ named) }
+    {
+        let named = section_and_inputs(words, "verify")?;
+        Some(Verify {
+            section: named.section,
+            inputs: named.inputs,
+        })
+    }
+
+    /// Returns the section's file and the inputs' files.
+    pub fn files(&self) -> CommandFiles<'a>
+        ensures { files_of result ≡ verify_files (verify_of self.now) }
+    {
+        CommandFiles {
+            out: None,
+            first: Some(Item::Section(self.section)),
+            second: None,
+            list: FileList::Inputs(self.inputs),
         }
-        Err(fault) => Err(unverified(&fault)),
+    }
+
+    /// Makes the verdict on the section that was loaded first, by the inputs that were loaded after it.
+    ///
+    /// # Errors
+    ///
+    /// The first fault of the section or of the inputs, as a refusal; memory may run out at any time.
+    pub fn make<'m>(&self, alloc: Global, loaded: &'m [Loaded<'a>]) -> Result<Made<'m>, Refusal<'a>>
+        requires asked { (words : List (List ℕ)) × IsVerify words (verify_of self.now) }
+        requires items { loaded_items loaded.now ≡ items_of (verify_files (verify_of self.now)) }
+        requires within { files_limit (verify_files (verify_of self.now)) (loaded_bytes loaded.now) ≡ None }
+        ensures { ComesTo (VerifyComes (verify_of self.now) (loaded_bytes loaded.now)) result }
+    {
+        let [section, inputs @ ..] = loaded else {
+            unreachable!()
+        };
+        let view = match View::parse(&section.bytes, self.section.at) {
+            Ok(view) => view,
+            Err(fault) => return Err(undecoded(fault, 0)),
+        };
+        let inputs = inputs_in(alloc, inputs)?;
+        match verify(alloc, &view, &inputs) {
+            Ok(found) => {
+                let text = verdict(alloc, &found)?;
+                Ok(Made {
+                    outcome: outcome_of(&found),
+                    section: None,
+                    output: Output::Text(text),
+                })
+            }
+            Err(fault) => Err(unverified(&fault)),
+        }
     }
 }

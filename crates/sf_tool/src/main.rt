@@ -4,8 +4,8 @@
 
 ghost use Rattle.std.specs.Prelude.{◌≡◌, ◌↔◌, ◌<◌, codes, map};
 ghost use Rattle.std.specs.String.{string_bytes};
-ghost use Rattle.sf_words.specs.Items.{counted_items};
-ghost use Rattle.sf_words.specs.Words.{CommandWords, HasNoForm, IsCommand};
+ghost use Rattle.sf_words.specs.Files.{counted_items};
+ghost use Rattle.sf_run.specs.Commands.{CommandWords, HasNoForm, IsCommand, files_of_command};
 ghost use Rattle.sf_run.specs.Ends.{RunEnds, SomeRunEnds, TurnedAway, TurnedAwayUnread, seen};
 ghost use Rattle.sf_run.specs.Lines.{Says, line, memory_line, usage_line};
 
@@ -60,7 +60,7 @@ fn run_on_host<'a, O: Write + Drop, E: Write + Drop>(
     ensures turned_away { HasNoForm (map string_bytes words.now) → TurnedAway
         (seen (⟦<HostFiles<'a, HostRuntime> as Files>⟧.seen files.old) (⟦<HostSink<O> as Sink>⟧.seen out.old) (⟦<HostSink<E> as Sink>⟧.seen err.old))
         (seen (⟦<HostFiles<'a, HostRuntime> as Files>⟧.seen files.new) (⟦<HostSink<O> as Sink>⟧.seen out.new) (⟦<HostSink<E> as Sink>⟧.seen err.new)) usage_line }
-    ensures counted { (command : CommandWords) → IsCommand (map string_bytes words.now) command → 512 < counted_items command → TurnedAwayUnread result
+    ensures counted { (command : CommandWords) → IsCommand (map string_bytes words.now) command → 512 < counted_items (files_of_command command) → TurnedAwayUnread result
         (seen (⟦<HostFiles<'a, HostRuntime> as Files>⟧.seen files.old) (⟦<HostSink<O> as Sink>⟧.seen out.old) (⟦<HostSink<E> as Sink>⟧.seen err.old))
         (seen (⟦<HostFiles<'a, HostRuntime> as Files>⟧.seen files.new) (⟦<HostSink<O> as Sink>⟧.seen out.new) (⟦<HostSink<E> as Sink>⟧.seen err.new)) }
     ensures ends { (command : CommandWords) → IsCommand (map string_bytes words.now) command → RunEnds result command

@@ -1,0 +1,53 @@
+//! What the commands that link share: the inputs of loaded items, and the refusal that a fault is.
+
+ghost use Rattle.std.specs.Prelude.{◌≡◌, List, IfOk, IsTrue, map};
+ghost use Rattle.sf_asm.specs.Fault.{is_answered};
+ghost use Rattle.sf_asm.specs.Functions.{object_of};
+ghost use Rattle.sf_words.specs.Items.{Input as InputItem};
+ghost use Rattle.sf_words.specs.Loading.{loaded_bytes, loaded_items};
+ghost use Rattle.sf_words.specs.Words.{InputWords};
+ghost use Rattle.section_commands.specs.Coming.{Coming};
+ghost use Rattle.section_commands.specs.Making.{ComesAs};
+ghost use Rattle.sf_run.specs.Inputs.{objects_in};
+ghost use Rattle.sf_run.specs.Linked.{coming_of_linking};
+
+use sf_asm::{GatherFault, Input, LinkFault};
+use sf_base::NoMemory;
+use sf_words::{Item, Limit, Loaded, Refusal};
+use std::alloc::Global;
+
+/// Returns why inputs were not linked, as a refusal of the run.
+pub fn unlinked<'a>(fault: &LinkFault) -> Refusal<'a>
+    requires { IsTrue (is_answered fault.now) }
+    ensures memory { (fault.now ≡ LinkFault.NoMemory) → (result ≡ Refusal.Memory) }
+    ensures is { ComesAs (λ (coming : Coming). coming ≡ coming_of_linking fault.now) result }
+{
+    match fault {
+        LinkFault::NoMemory | LinkFault::Gather(GatherFault::NoMemory) => Refusal::Memory,
+        LinkFault::Gather(GatherFault::TooManyFunctions) => Refusal::Limit(Limit::Functions),
+        LinkFault::Gather(GatherFault::TooManyRows) => Refusal::Limit(Limit::Rows),
+        LinkFault::Gather(GatherFault::Input(_, _)) => Refusal::Input(fault.notice(None)),
+        LinkFault::Gather(GatherFault::MixedArch(_, _)) => Refusal::Input(fault.notice(None)),
+        LinkFault::Gather(GatherFault::Overlap(_, _, _, _)) => Refusal::Input(fault.notice(None)),
+        LinkFault::OutOfReach(_) => Refusal::Input(fault.notice(None)),
+    }
+}
+
+/// Returns the inputs that were loaded, in order.
+pub fn inputs_in<'b>(alloc: Global, loaded: &'b [Loaded<'_>]) -> Result<Vec<Input<'b>>, NoMemory>
+    requires { (inputs : List InputWords) × (loaded_items loaded.now ≡ map InputItem inputs) }
+    ensures { (inputs : List InputWords) → loaded_items loaded.now ≡ map InputItem inputs → IfOk result (λ made. map object_of made.items ≡ objects_in inputs (loaded_bytes loaded.now)) }
+{
+    let mut inputs = Vec::new(alloc);
+    for file in loaded {
+        let Item::Input(input) = file.item else {
+            unreachable!()
+        };
+        inputs.push(Input {
+            form: input.form,
+            bytes: &file.bytes,
+            base: input.base,
+        })?;
+    }
+    Ok(inputs)
+}

@@ -1,0 +1,107 @@
+//! One run of a command: its words, how many files they name, loading, making, and delivering.
+
+ghost use Rattle.std.specs.Prelude.{◌≡◌, ◌↔◌, ◌<◌, ◌≤◌, ℕ, List, All, map, IfSome, IsTrue};
+ghost use Rattle.std.specs.String.{string_bytes};
+ghost use Rattle.sf_words.specs.Files.{counted_items, files_of, item_names};
+ghost use Rattle.sf_run.specs.Commands.{CanBeAsked, CommandWords, HasNoForm, IsCommand, files_of_command, words_of};
+ghost use Rattle.sf_run.specs.Ends.{RunEnds, RunIsComplete, SomeRunEnds, TurnedAway, TurnedAwayUnread, seen};
+ghost use Rattle.sf_run.specs.Lines.{usage_line};
+
+use crate::command::{Command, command_words};
+use crate::deliver::deliver;
+use crate::lines::say;
+use crate::status::Status;
+use crate::tell::tell;
+use sf_base::{Files, Sink};
+use sf_words::{CommandFiles, Limit, Refusal, load_all};
+use std::alloc::Global;
+
+/// The most files that the list of a command names.
+const ITEM_COUNT: usize = 512;
+
+/// Loads the files of a command, makes what is asked for and writes it, or prints why nothing was made.
+fn load_and_deliver<'a, F: Files, O: Sink, E: Sink>(
+    alloc: Global,
+    command: &Command<'a>,
+    named: &CommandFiles<'a>,
+    files: &mut F,
+    out: &mut O,
+    err: &mut E,
+) -> Status
+    requires form { CanBeAsked (words_of command.now) }
+    requires named { files_of named.now ≡ files_of_command (words_of command.now) }
+    requires few { counted_items (files_of_command (words_of command.now)) ≤ 512 }
+    requires open { All (λ name. IsTrue (F.may_open files.old name)) (item_names (files_of_command (words_of command.now))) }
+    requires create { IfSome named.now.out (λ name. IsTrue (F.may_create files.old name.now)) }
+    ensures { RunEnds result (words_of command.now)
+        (seen (F.seen files.old) (O.seen out.old) (E.seen err.old)) (seen (F.seen files.new) (O.seen out.new) (E.seen err.new)) }
+{
+    let loaded = match load_all(alloc, named, files) {
+        Ok(loaded) => loaded,
+        Err(refusal) => return tell(&refusal, err),
+    };
+    match command.make(alloc, &loaded) {
+        Ok(made) => deliver(named.out, &made, files, out, err),
+        Err(refusal) => tell(&refusal, err),
+    }
+}
+
+/// Runs a command. Its files are counted before any memory is allocated and before a file is opened.
+fn run_command<F: Files, O: Sink, E: Sink>(
+    alloc: Global,
+    command: &Command<'_>,
+    files: &mut F,
+    out: &mut O,
+    err: &mut E,
+) -> Status
+    requires form { CanBeAsked (words_of command.now) }
+    requires open { counted_items (files_of_command (words_of command.now)) ≤ 512 → All (λ name. IsTrue (F.may_open files.old name)) (item_names (files_of_command (words_of command.now))) }
+    requires create { counted_items (files_of_command (words_of command.now)) ≤ 512 → IfSome (files_of_command (words_of command.now)).out (λ name. IsTrue (F.may_create files.old name)) }
+    ensures ends { RunEnds result (words_of command.now)
+        (seen (F.seen files.old) (O.seen out.old) (E.seen err.old)) (seen (F.seen files.new) (O.seen out.new) (E.seen err.new)) }
+    ensures counted { 512 < counted_items (files_of_command (words_of command.now)) → TurnedAwayUnread result
+        (seen (F.seen files.old) (O.seen out.old) (E.seen err.old)) (seen (F.seen files.new) (O.seen out.new) (E.seen err.new)) }
+{
+    let named = command.files();
+    if named.list.len() > ITEM_COUNT {
+        return tell(&Refusal::Limit(Limit::Inputs), err);
+    }
+    load_and_deliver(alloc, command, &named, files, out, err)
+}
+
+/// Runs the command that the words ask for, and returns how it ended. On the statuses from 2 on one line goes
+/// to `err`, whose faults change nothing.
+///
+/// The caller permits what may be opened or created: what the words name, of a command with at most 512 files.
+/// So nothing else is; and where the words have no form, or name more files, no name is opened or created at all.
+pub fn run<F: Files, O: Sink, E: Sink>(
+    alloc: Global,
+    words: &[String],
+    files: &mut F,
+    out: &mut O,
+    err: &mut E,
+) -> Status
+    requires open { (command : CommandWords) → IsCommand (map string_bytes words.now) command → counted_items (files_of_command command) ≤ 512 → All (λ name. IsTrue (F.may_open files.old name)) (item_names (files_of_command command)) }
+    requires create { (command : CommandWords) → IsCommand (map string_bytes words.now) command → counted_items (files_of_command command) ≤ 512 → IfSome (files_of_command command).out (λ name. IsTrue (F.may_create files.old name)) }
+    ensures usage { (result ≡ Status.Usage) ↔ HasNoForm (map string_bytes words.now) }
+    ensures turned_away { HasNoForm (map string_bytes words.now) → TurnedAway
+        (seen (F.seen files.old) (O.seen out.old) (E.seen err.old)) (seen (F.seen files.new) (O.seen out.new) (E.seen err.new)) usage_line }
+    // More than 512 files: no file is read, and no memory is allocated.
+    ensures counted { (command : CommandWords) → IsCommand (map string_bytes words.now) command → 512 < counted_items (files_of_command command) → TurnedAwayUnread result
+        (seen (F.seen files.old) (O.seen out.old) (E.seen err.old)) (seen (F.seen files.new) (O.seen out.new) (E.seen err.new)) }
+    // What then holds, for each status.
+    ensures ends { (command : CommandWords) → IsCommand (map string_bytes words.now) command → RunEnds result command
+        (seen (F.seen files.old) (O.seen out.old) (E.seen err.old)) (seen (F.seen files.new) (O.seen out.new) (E.seen err.new)) }
+    // Each run ends as one of them.
+    ensures some { SomeRunEnds result
+        (seen (F.seen files.old) (O.seen out.old) (E.seen err.old)) (seen (F.seen files.new) (O.seen out.new) (E.seen err.new)) }
+    // Which status is returned, if no call fails.
+    ensures complete { (command : CommandWords) → IsCommand (map string_bytes words.now) command → RunIsComplete result command
+        (seen (F.seen files.old) (O.seen out.old) (E.seen err.old)) (seen (F.seen files.new) (O.seen out.new) (E.seen err.new)) }
+{
+    let Some(command) = command_words(words) else {
+        say(err, "usage");
+        return Status::Usage;
+    };
+    run_command(alloc, &command, files, out, err)
+}
