@@ -159,7 +159,14 @@ fn begin_rows<'a>(
     match initials.find(section, InitialInstructions::of(cie)) {
         Ok(()) => {
             let initial = initials.row();
-            run.start_from(initial, section.arch, cie.code_alignment_factor, cie.data_alignment_factor, fde.insns, size);
+            run.start_from(
+                initial,
+                section.arch,
+                cie.code_alignment_factor,
+                cie.data_alignment_factor,
+                fde.insns,
+                size,
+            );
             Ok(())
         }
         Err(fault) => Err(machine_fault(section.number, fault)),

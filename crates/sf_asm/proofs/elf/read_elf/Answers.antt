@@ -17,9 +17,9 @@ returns-clause-exact c = λ signatures has.
     let same : bytes ≡ c.args.bytes.now = c.in_ok-elf.ensures.file in
     let linked : linked_check bytes ≡ Ok tt = ap linked_check same ∙ c.in_ok-elf.ensures.read in
     let all : file_functions c.args.item signatures c.args.bytes.now c.args.base ≡ sections_functions c.arch.result c.args.item sections =
-        ap (λ (f : List ℕ). file_functions c.args.item signatures f c.args.base) (sym same)
-        ∙ file_is c.args.item signatures bytes c.args.base placed linked (c.in_ok-placed.ensures.read signatures has) (c.in_ok-placed.ensures.placed signatures has)
-        ∙ ap (λ (arch : Arch). sections_functions arch c.args.item sections) (sym c.arch.ensures)
+    ap (λ (f : List ℕ). file_functions c.args.item signatures f c.args.base) (sym same)
+    ∙ file_is c.args.item signatures bytes c.args.base placed linked (c.in_ok-placed.ensures.read signatures has) (c.in_ok-placed.ensures.placed signatures has)
+    ∙ ap (λ (arch : Arch). sections_functions arch c.args.item sections) (sym c.arch.ensures)
     in
     let read = c.in_ok-read_sections.ensures.exact in
     (read.0, all ∙ read.1, read.2)
