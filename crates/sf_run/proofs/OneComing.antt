@@ -1,6 +1,5 @@
 -- A run comes to one thing at most.
 use Rattle.std.proofs.Common.{◌≡◌, ◌<◌, ℕ, suc, List, [], ◌∷◌, codes, map, length, drop, get_or, Option, Some, None, Result, Ok, Err, ap, sym, subst, ◌∙◌, arith}
-use Rattle.std.proofs.lemmas.List.{length-map}
 use Rattle.sf_model.specs.declared.machine.Arch.{Arch}
 use Rattle.sf_model.specs.declared.omission.Omitted.{Omitted}
 use Rattle.sf_model.specs.declared.omission.Span.{Span}

@@ -1,4 +1,4 @@
-use Rattle.std.proofs.Common.{◌≡◌, ◌<◌, ◌≤◌, ◌^◌, ℕ, List, ◌∷◌, Some, Result, length, map, ap, sym, subst, ◌∙◌, arith}
+use Rattle.std.proofs.Common.{◌≡◌, ◌≤◌, ◌^◌, ℕ, List, Some, Result, length, map, ap, sym, subst, ◌∙◌, arith}
 use Rattle.sf_model.specs.declared.machine.Arch.{Arch}
 use Rattle.sf_model.specs.Section.{Section}
 use Rattle.sf_model.specs.Walk.{section_walk}
@@ -19,7 +19,7 @@ use Rattle.sf_run.specs.Inputs.{objects_in}
 use Rattle.sf_run.specs.Linked.{LinkedComes}
 use Rattle.sf_run.proofs.Asked.{backtrace_inputs}
 use Rattle.sf_run.proofs.Backtraces.{linked_walks, unlinked_walks, unread_comes}
-use Rattle.sf_run.proofs.Inputs.{CanBeLinked, Later, first_fits, later_fit, later_of, with_first}
+use Rattle.sf_run.proofs.Inputs.{CanBeLinked, first_fits, later_fit, later_of, with_first}
 use Rattle.sf_run.proofs.LinkedComes.{linked_comes}
 use Rattle.sf_run.proofs.backtrace.Backtrace.make.Goals as goal
 

@@ -1,4 +1,4 @@
-use Rattle.std.proofs.Common.{◌≡◌, ◌<◌, ℕ, List, None, Some, codes, ap, map, sym, subst, ◌∙◌}
+use Rattle.std.proofs.Common.{◌≡◌, ℕ, List, None, Some, codes, ap, map, sym, subst, ◌∙◌}
 use Rattle.sf_asm.specs.Answers.{IsFirstLinked, IsLinked}
 use Rattle.sf_asm.specs.Functions.{Object, object_of}
 use Rattle.sf_text.specs.Report.{report_text}

@@ -1,15 +1,13 @@
-use Rattle.std.proofs.Common.{◌≡◌, ℕ, List, ◌∷◌, None, Ok, codes, ap, map, sym, subst, ◌∙◌}
+use Rattle.std.proofs.Common.{ℕ, List, None, Ok, codes, ap, map, sym, subst, ◌∙◌}
 use Rattle.sf_decode.specs.View.{section_bytes, table_of}
 use Rattle.sf_asm.specs.Functions.{Object, object_of}
 use Rattle.sf_words.specs.Items.{Section as SectionItem}
-use Rattle.sf_words.specs.Loading.{loaded_bytes}
 use Rattle.sf_verify.specs.Verifying.{IsFirstVerifyFault, Verifies}
-use Rattle.section_commands.specs.Coming.{Coming, Makes}
+use Rattle.section_commands.specs.Coming.{Makes}
 use Rattle.section_commands.specs.Making.{ComesAs}
-use Rattle.sf_run.specs.Inputs.{objects_in}
 use Rattle.sf_run.specs.Verify.{VerifyComes, verify_of}
 use Rattle.sf_run.proofs.Asked.{named_inputs}
-use Rattle.sf_run.proofs.Inputs.{CanBeLinked, Later, later_fit, later_of, with_first}
+use Rattle.sf_run.proofs.Inputs.{CanBeLinked, later_fit, later_of, with_first}
 use Rattle.sf_run.proofs.Verified.{undecoded_comes, unverified_comes, verified_comes}
 use Rattle.sf_run.proofs.verify.Verify.make.Goals as goal
 
