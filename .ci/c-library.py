@@ -1,6 +1,6 @@
 """Tries the Python module of the C library: on a made section, and on the stack of a core file beside `sf_tool walk`.
 
-    PYTHONPATH=python KIBLAWEN_LIBRARY=LIBRARY python3 .ci/c-library.py SF_TOOL
+    PYTHONPATH=python KIBLAWEN_LIBRARY=LIBRARY KIBLAWEN_LINK_LIBRARY=LIBRARY python3 .ci/c-library.py SF_TOOL
 
 Prints what was wrong, and a line with the counts. `.ci/c-library` runs it. The core file needs a C compiler and gdb.
 """
@@ -136,13 +136,16 @@ def try_core(tool, room):
     if not os.path.exists(core):
         print("c-library: the Python module is not tried on a core file: that needs AMD64, gdb, a C compiler and a static C library")
         return
-    section = kiblawen.link(program, tool=tool)
-    check("the report of link", re.search(r"kept \d+ omitted \d+", section.report))
+    section = kiblawen.link(program)
     sample = read_core(core)
     walk = section.walk(sample)
     table = os.path.join(room, "table")
-    module = kiblawen.module(program, 0, tool=tool)
-    said = subprocess.run([tool, "link", f"{table}@{module.size:#x}", f"{program}@0x0"], stdout=subprocess.DEVNULL, check=False).returncode
+    module = kiblawen.module(program, 0)
+    said = 0
+    for command in ("linkplt", "link"):
+        ran = subprocess.run([tool, command, f"{table}@{module.size:#x}", f"{program}@0x0"], stdout=subprocess.PIPE, check=False)
+        check(f"the report of {command}", kiblawen.link(program, 0, command).report == ran.stdout.decode())
+        said = said or ran.returncode
     shown = subprocess.run([tool, "walk", f"{table}@{module.size:#x}", core, "64"], stdout=subprocess.PIPE, check=False).stdout.decode()
     expected = [int(it, 16) for it in re.findall(r"#\d+ pc (0x\w+)", shown)]
     check("the frames of `sf_tool walk`", said == 0 and len(expected) > 20 and [it.pc for it in walk.frames] == expected)
@@ -150,7 +153,7 @@ def try_core(tool, room):
     on = Modules([Module(0, module.size, section)]).walk_on(sample)
     check("the same by modules", [(it.pc, it.cfa) for it in on.frames] == walk.frames and on.stop == walk.stop)
     try:
-        kiblawen.link(source, tool=tool)
+        kiblawen.link(source)
         check("a file that is no program", False)
     except ValueError:
         check("a file that is no program", True)

@@ -42,7 +42,8 @@ say '   compiled. From nothing this took 29 minutes on four idle processors, and
 say '   kept. A line for each crate:'
 ./x build "$out/build.log" link "$PWD/$out/one.sframe@0x3000" "eh-amd64:$PWD/crates/sf_tool/data/e1@0x2000" ||
     fail "the build failed: see $out/build.log"
-say "   The program is crates/sf_tool/out/sf_tool, and the library crates/sf_c/out/libsf_c.a; what the prover said is in $out/build.log."
+say "   The program is crates/sf_tool/out/sf_tool; the libraries are crates/sf_c/out/libsf_c.a and crates/sf_link_c/out/libkiblawen_link.a."
+say "   What the prover said is in $out/build.log."
 
 if [ -z "$file" ]; then
     file=$PWD/crates/sf_tool/out/sf_tool

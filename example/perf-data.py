@@ -71,7 +71,7 @@ def sample_of(sample_type, record):
     return time, kiblawen.Sample(registers[RIP], registers[RSP], registers[RBP], record[at + 176 : at + 176 + used])
 
 
-def read(path, tool):
+def read(path):
     """The samples of a file by time, the modules of its process, and what is mapped: (start, size, offset)."""
     samples, modules, mapped = {}, {}, []
     with open(path, "rb") as file:
@@ -89,7 +89,7 @@ def read(path, tool):
             name = record[64:].partition(b"\0")[0].decode()
             load = load_address(name, start, offset) if struct.unpack_from("<I", record, 56)[0] & PROT_EXEC else None
             if load is not None and (name, load) not in modules:
-                modules[name, load] = kiblawen.module(name, load, "linkplt", tool)
+                modules[name, load] = kiblawen.module(name, load, "linkplt")
     return samples, kiblawen.Modules(modules.values()), mapped
 
 
@@ -111,7 +111,7 @@ def is_same(ours, theirs, mapped):
 
 
 def main():
-    samples, modules, mapped = read(sys.argv[1], sys.argv[2] if len(sys.argv) > 2 else "sf_tool")
+    samples, modules, mapped = read(sys.argv[1])
     counts, early = collections.Counter(), collections.Counter()
     for time, theirs in perf_stacks(sys.argv[1]):
         if time not in samples:

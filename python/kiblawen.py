@@ -9,26 +9,33 @@
     modules.walk(sample)                                             the same with the sections of a process
     modules.walk_on(sample)                                          the same past unknown frame pointers, with modules and a state to go on from
 
-The library is $KIBLAWEN_LIBRARY, or the one that is installed with this file, or the one that the dynamic linker finds. `link` is the only
-call that starts a process: the program `sf_tool`. kiblawen.h describes each call of the library. What these return is proved; this file is
-tested, and not proved. Several threads may use one section, while none closes it.
+The library is $KIBLAWEN_LIBRARY, or the one that is installed with this file, or the one that the dynamic linker finds. `link` loads
+another one in the same way, libkiblawen_link.so.0 ($KIBLAWEN_LINK_LIBRARY), when it is first called. kiblawen.h and kiblawen-link.h
+describe the calls of the libraries. What these return is proved; this file is tested, and not proved. Several threads may use one section,
+while none closes it.
 """
 
 import collections
 import ctypes
 import enum
+import functools
 import os
 import struct
-import subprocess
-import tempfile
 import threading
 
-__all__ = ["Base", "Caller", "Fault", "Frame", "Key", "Module", "ModuleFrame", "Modules", "Refused", "Row", "Sample", "Section", "State",
-           "Stop", "Walk", "WalkOn", "link", "module"]
+__all__ = [
+    "Answer", "Base", "Caller", "Fault", "Frame", "Key", "Module", "ModuleFrame", "Modules", "NotMade", "Refused", "Row", "Sample", "Section",
+    "State", "Stop", "Walk", "WalkOn", "link", "module",
+]
 
-NAME = "libkiblawen.so.0"
+NAME, LINK_NAME = "libkiblawen.so.0", "libkiblawen_link.so.0"
 PAGE, PT_LOAD = 4096, 1
 ENTRIES = 2048
+# The names of the reasons for which a function is omitted, by the numbers of kiblawen-link.h.
+REASONS = (
+    "", "EmptyRange", "SizeTooLarge", "ReturnColumn", "SignalFrame", "NoCfa", "CfaExpression", "CfaRegister", "CfaOffset", "SpRule",
+    "RaRule", "RaOffset", "FpRule", "FpOffset", "FpWithoutRa", "SignState",
+)
 
 
 class Fault(enum.IntEnum):
@@ -61,6 +68,26 @@ class Refused(ValueError):
     def __init__(self, fault, place):
         super().__init__(f"{fault.name} at {place:#x}")
         self.fault, self.place = fault, place
+
+
+class Answer(enum.IntEnum):
+    """What a call that makes a section returns, by the names of kiblawen-link.h."""
+
+    MADE = 0
+    NO_ROOM = 1
+    REFUSED = 2
+    OVER_FUNCTIONS = 3
+    OVER_ROWS = 4
+    NO_MEMORY = 5
+    UNFIT = 6
+
+
+class NotMade(ValueError):
+    """A file of which no section is made: the call's answer, and the group and number of the fault (docs/messages.md)."""
+
+    def __init__(self, path, answer, group, number):
+        super().__init__(f"{path}: {answer.name}" + (f", group {group}, number {number}" if group else ""))
+        self.answer, self.group, self.number = answer, group, number
 
 
 class Base(enum.IntEnum):
@@ -133,6 +160,17 @@ _Cache = _struct(
 )
 _State = _struct("kiblawen_state", pc=_u64, sp=_u64, fp=_u64, lr=_u64, fp_unknown=_u32, returned=_u32)
 _ModuleFrame = _struct("kiblawen_module_frame", pc=_u64, cfa=_u64, module=_size)
+_Input = _struct("kiblawen_input", bytes=ctypes.c_char_p, len=_size, base=_u64, kind=_u32)
+_Omission = _struct(
+    "kiblawen_omission", start=_u64, size=_u64, input=_u32, section=_u32, place=_u32, reason=_u32, has_offset=_u32, offset=_u32
+)
+_Plt = _struct("kiblawen_plt", start=_u64, size=_u64, input=_u32, section=_u32, place=_u32)
+_Refusal = _struct("kiblawen_refusal", group=_u32, number=_u32, has_input=_u32, input=_u32, values=_u64 * 4)
+_Linked = _struct("kiblawen_linked", len=_size, functions=_u32, omitted=_size, plts=_size, why=_Refusal)
+_LINK_CALLS = {
+    "kiblawen_link": (_u32, _to(_Input), _size, _u64, _bytes, _size, _to(_Omission), _size, _to(_Linked)),
+    "kiblawen_linkplt": (_u32, _to(_Input), _size, _u64, _bytes, _size, _to(_Omission), _size, _to(_Plt), _size, _to(_Linked)),
+}
 _CALLS = {
     "kiblawen_open": (_u32, _to(_Section), _bytes, _size, _u64, _to(_u64)),
     "kiblawen_close": (None, _to(_Section)),
@@ -148,17 +186,21 @@ _CALLS = {
 }
 
 
-def _load():
-    beside = os.path.join(os.path.dirname(os.path.abspath(__file__)), "..", "..", "..", "lib", NAME)
-    named = os.environ.get("KIBLAWEN_LIBRARY") or (beside if os.path.exists(beside) else NAME)
-    library = ctypes.CDLL(named)
-    for name, (result, *arguments) in _CALLS.items():
-        call = getattr(library, name)
+def _load(name, variable, calls):
+    beside = os.path.join(os.path.dirname(os.path.abspath(__file__)), "..", "..", "..", "lib", name)
+    library = ctypes.CDLL(os.environ.get(variable) or (beside if os.path.exists(beside) else name))
+    for it, (result, *arguments) in calls.items():
+        call = getattr(library, it)
         call.restype, call.argtypes = result, arguments
     return library
 
 
-_library = _load()
+_library = _load(NAME, "KIBLAWEN_LIBRARY", _CALLS)
+
+
+@functools.lru_cache(maxsize=None)
+def _link_library():
+    return _load(LINK_NAME, "KIBLAWEN_LINK_LIBRARY", _LINK_CALLS)
 
 
 def _copy(content):
@@ -273,24 +315,57 @@ def _page_after(path):
     return -(-last // PAGE) * PAGE
 
 
-def link(path, load=0, command="link", tool="sf_tool"):
-    """Makes the section of a program or shared object by the program `sf_tool`, and opens it for the address at which the file is loaded.
+def _line(it):
+    """The report's line of an omitted function or a procedure linkage table."""
+    line = f"{it.start:#x} size {it.size} input {it.input} section {it.section} fde {it.place:#x}"
+    if isinstance(it, _Plt):
+        return f"plt {line}\n"
+    return f"omit {line} {REASONS[it.reason]}{f' at {it.offset}' if it.has_offset else ''}\n"
 
-    The section's `report` is what `sf_tool` prints. With the command `linkplt` plain lazy .plts have rows as well.
+
+class _Room:
+    """The rooms for what a call makes: the section, and the functions and procedure linkage tables that its report names."""
+
+    def __init__(self, section, omitted, plts):
+        self.counts = section, omitted, plts
+        self.section = (ctypes.c_uint8 * max(section, 1))()
+        self.omitted = (_Omission * max(omitted, 1))()
+        self.plts = (_Plt * max(plts, 1))()
+
+    def call(self, command, content, at, linked):
+        section, omitted, plts = self.counts
+        words = [ctypes.byref(_Input(content, len(content), 0, 0)), 1, at, self.section, section, self.omitted, omitted]
+        words += [self.plts, plts] if command == "linkplt" else []
+        return Answer(getattr(_link_library(), f"kiblawen_{command}")(*words, ctypes.byref(linked)))
+
+    def report(self, linked, command):
+        plts = f" plt {linked.plts}" if command == "linkplt" else ""
+        named = sorted((*self.plts[: linked.plts], *self.omitted[: linked.omitted]), key=lambda it: (it.start, it.input, it.section, it.place))
+        return "".join(map(_line, named)) + f"kept {linked.functions} omitted {linked.omitted}{plts}\n"
+
+
+def link(path, load=0, command="link"):
+    """Makes the section of a program or shared object, and opens it for the address at which the file is loaded.
+
+    The section's `report` is what `sf_tool link` prints. With the command `linkplt` plain lazy .plts have rows as well. Raises NotMade if the
+    file is refused.
     """
     at = _page_after(path)
-    with tempfile.TemporaryDirectory() as room:
-        out = os.path.join(room, "sframe")
-        words = [tool, command, f"{out}@{at:#x}", f"{path}@0x0"]
-        ran = subprocess.run(words, stdin=subprocess.DEVNULL, stdout=subprocess.PIPE, stderr=subprocess.PIPE, check=False)
-        if ran.returncode:
-            raise ValueError(f"{path}: {ran.stderr.decode(errors='replace').strip()}")
-        with open(out, "rb") as file:
-            section = Section(file.read(), load + at)
-    section.report = ran.stdout.decode()
+    with open(path, "rb") as file:
+        content = file.read()
+    # The first call says how much room is needed, where this isn't enough.
+    linked, room = _Linked(), _Room(len(content) // 2, 4096, 16)
+    answer = room.call(command, content, at, linked)
+    if answer == Answer.NO_ROOM or linked.omitted > 4096 or linked.plts > 16:
+        room = _Room(linked.len, linked.omitted, linked.plts)
+        answer = room.call(command, content, at, linked)
+    if answer != Answer.MADE:
+        raise NotMade(path, answer, linked.why.group, linked.why.number)
+    section = Section(bytes(room.section[: linked.len]), load + at)
+    section.report = room.report(linked, command)
     return section
 
 
-def module(path, load, command="link", tool="sf_tool"):
+def module(path, load, command="link"):
     """Makes the section of a file that is loaded at this address. Returns the file as a module."""
-    return Module(load, _page_after(path), link(path, load, command, tool))
+    return Module(load, _page_after(path), link(path, load, command))

@@ -1,60 +1,28 @@
-/* The files that a process has mapped, and their tables, which are in a store by build identifier. */
+/* The files that a process has mapped, and their tables, which are made here. */
 #define _GNU_SOURCE
-#include <fcntl.h>
-#include <spawn.h>
+#include <elf.h>
+#include <stdio.h>
+#include <stdlib.h>
+#include <string.h>
 #include <sys/auxv.h>
-#include <sys/wait.h>
+#include <sys/mman.h>
 #include <unistd.h>
 
-#include "../store.h"
+#include "kiblawen-link.h"
 #include "profiler.h"
 
-enum { MOST_HEADERS = 64, MOST_NOTES = 1 << 16 };
+enum { PAGE = 4096 };
 
-extern char **environ;
-
-/* The program headers of a file, and its notes. */
-struct headers {
-    Elf64_Phdr list[MOST_HEADERS];
-    size_t count;
-    uint8_t notes[MOST_NOTES];
-    size_t notes_len;
-};
-
-/* Reads the program headers and the notes of a file. Returns whether it is a program or a shared object. */
-static bool read_headers(struct headers *headers, const char *path)
+/* Reads a file. Its bytes are the caller's to free, or NULL. */
+static uint8_t *read_file(const char *path, size_t *len)
 {
-    Elf64_Ehdr header;
-    int file = open(path, O_RDONLY | O_CLOEXEC);
-    bool is_elf = file >= 0 && pread(file, &header, sizeof header, 0) == sizeof header && !memcmp(&header, ELFMAG "\2\1", 6)
-        && header.e_phnum > 0 && header.e_phnum <= MOST_HEADERS && header.e_phentsize == sizeof(Elf64_Phdr);
-    headers->count = is_elf ? header.e_phnum : 0;
-    headers->notes_len = 0;
-    ssize_t len = (ssize_t)(headers->count * sizeof(Elf64_Phdr));
-    is_elf = is_elf && pread(file, headers->list, (size_t)len, (off_t)header.e_phoff) == len;
-    for (size_t i = 0; is_elf && i < headers->count; i++) {
-        const Elf64_Phdr *it = &headers->list[i];
-        if (it->p_type == PT_NOTE && it->p_filesz <= MOST_NOTES - headers->notes_len
-            && pread(file, headers->notes + headers->notes_len, it->p_filesz, (off_t)it->p_offset) == (ssize_t)it->p_filesz)
-            headers->notes_len += it->p_filesz;
-    }
-    if (file >= 0)
-        close(file);
-    return is_elf;
-}
-
-/* Returns whether a file's segment is mapped from this offset, and at which address the file's address 0 then is. */
-static bool find_load(const struct headers *headers, uint64_t start, uint64_t offset, uint64_t *load)
-{
-    for (size_t i = 0; i < headers->count; i++) {
-        const Elf64_Phdr *it = &headers->list[i];
-        if (it->p_type == PT_LOAD && (it->p_flags & PF_X) && offset >= it->p_offset / STORE_PAGE * STORE_PAGE
-            && offset < it->p_offset + it->p_filesz) {
-            *load = start - (it->p_vaddr - it->p_offset + offset);
-            return true;
-        }
-    }
-    return false;
+    FILE *file = fopen(path, "rb");
+    long size = file && !fseek(file, 0, SEEK_END) ? ftell(file) : -1;
+    uint8_t *bytes = size > 0 ? malloc((size_t)size) : NULL;
+    *len = bytes && !fseek(file, 0, SEEK_SET) ? fread(bytes, 1, (size_t)size, file) : 0;
+    if (file)
+        fclose(file);
+    return bytes;
 }
 
 /* Makes the index of the modules anew. The cache belongs to other modules from now on, so it is cleared. */
@@ -79,6 +47,7 @@ static void remove_file(struct process *process, size_t at)
 {
     size_t last = --process->count;
     kiblawen_close(&process->modules[at].section);
+    free(process->files[at].table);
     process->modules[at] = process->modules[last];
     process->files[at] = process->files[last];
 }
@@ -95,38 +64,36 @@ static void add_file(struct process *process, const char *path, uint64_t load, u
     process->is_changed = true;
 }
 
-/* Writes the vDSO, which no file has, into the store. Its bytes are those of the profiler's own, as the kernel is the same. */
-static bool write_vdso(char path[PATH_ROOM], const char *store)
+/* Returns the name of a file in memory that has the vDSO, which no other file has. It is the profiler's own: the kernel is the same. */
+static const char *vdso_path(void)
 {
+    static char path[64];
     const uint8_t *bytes = (const uint8_t *)getauxval(AT_SYSINFO_EHDR);
-    if (!bytes || snprintf(path, PATH_ROOM, "%s/vdso.so", store) >= PATH_ROOM)
-        return false;
+    if (*path || !bytes)
+        return path;
     const Elf64_Ehdr *header = (const Elf64_Ehdr *)bytes;
     size_t size = header->e_shoff + (size_t)header->e_shnum * header->e_shentsize;
-    FILE *file = fopen(path, "wb");
-    bool is_written = file && fwrite(bytes, 1, size, file) == size;
-    return (!file || fclose(file) == 0) && is_written;
+    int file = memfd_create("vdso", MFD_CLOEXEC);
+    if (file >= 0 && write(file, bytes, size) == (ssize_t)size)
+        snprintf(path, sizeof path, "/proc/self/fd/%d", file);
+    return path;
 }
 
 /* Adds the file of an executable mapping, which begins at this offset of the file. */
 void add_mapping(struct process *process, uint64_t start, uint64_t offset, const char *path)
 {
-    static struct headers headers;
-    char vdso[PATH_ROOM];
-    uint64_t load, first = UINT64_MAX;
     const struct file *known = file_among(process, start, 1);
-    if (!strcmp(path, "[vdso]") && write_vdso(vdso, process->store))
-        path = vdso;
-    else if (*path != '/')
+    struct kiblawen_placed place;
+    size_t len;
+    if (!strcmp(path, "[vdso]"))
+        path = vdso_path();
+    if (*path != '/')
         return;
-    if (!read_headers(&headers, path) || !find_load(&headers, start, offset, &load))
-        return;
-    if (known && known->load == load && !strcmp(known->path, path))
-        return;
-    for (size_t i = 0; i < headers.count; i++)
-        if (headers.list[i].p_type == PT_LOAD && headers.list[i].p_vaddr < first)
-            first = headers.list[i].p_vaddr / STORE_PAGE * STORE_PAGE;
-    add_file(process, path, load, load + first, size_in_memory(headers.list, headers.count) - first);
+    uint8_t *bytes = read_file(path, &len);
+    bool is_placed = bytes && kiblawen_place(bytes, len, PAGE, start, offset, &place) == KIBLAWEN_MADE && place.has_load;
+    free(bytes);
+    if (is_placed && !(known && known->load == place.load && !strcmp(known->path, path)))
+        add_file(process, path, place.load, place.load + place.first, place.after - place.first);
 }
 
 /* Adds the files that a process has mapped. */
@@ -148,50 +115,40 @@ void read_maps(struct process *process)
         fclose(file);
 }
 
-/* Opens the table that the store has of a file. */
-static void open_table_of(struct process *process, size_t at)
+/* Makes the table of a file at its load address, and opens it. */
+static void make_table(struct kiblawen_module *module, struct file *file)
 {
-    static struct headers headers;
-    char name[STORE_NAME];
-    const struct file *file = &process->files[at];
-    if (!process->modules[at].section.is_open && read_headers(&headers, file->path)
-        && name_table(name, process->store, headers.notes, headers.notes_len))
-        open_table(&process->modules[at].section, name, file->load + size_in_memory(headers.list, headers.count));
+    struct kiblawen_input input = {KIBLAWEN_NOTHING, 0, file->load, KIBLAWEN_ELF};
+    struct kiblawen_omission omitted[1];
+    struct kiblawen_plt plts[1];
+    struct kiblawen_linked linked = {0};
+    uint64_t at = module->start + module->size, place;
+    uint8_t *bytes = read_file(file->path, &input.len);
+    uint32_t answer = KIBLAWEN_NO_ROOM;
+    if (bytes)
+        input.bytes = bytes;
+    /* A table is much shorter than its file. If it isn't, the first call says how long it is. */
+    for (size_t room = input.len / 2 + 1; answer == KIBLAWEN_NO_ROOM && room > 0; room = room == linked.len ? 0 : linked.len) {
+        free(file->table);
+        file->table = malloc(room);
+        answer = file->table ? kiblawen_linkplt(&input, 1, at, file->table, room, omitted, 0, plts, 0, &linked) : KIBLAWEN_NO_MEMORY;
+    }
+    free(bytes);
+    if (answer != KIBLAWEN_MADE || kiblawen_open(&module->section, file->table, linked.len, at, &place) != KIBLAWEN_OK)
+        fprintf(stderr, "profiler: no table of %s: answer %u, fault %u of group %u\n", file->path, answer, linked.why.number,
+                linked.why.group);
 }
 
-/* Makes the tables of files by `kiblawen-add`, in one process. Its summary goes to standard error. */
-static void make_tables(const char *store, char **paths, size_t count)
-{
-    char *words[MOST_MODULES + 6] = {"kiblawen-add", "--lenient", "--plt", "--into-store", (char *)store};
-    posix_spawn_file_actions_t actions;
-    pid_t pid;
-    int status;
-    memcpy(words + 5, paths, count * sizeof *paths);
-    posix_spawn_file_actions_init(&actions);
-    posix_spawn_file_actions_adddup2(&actions, STDERR_FILENO, STDOUT_FILENO);
-    if (posix_spawnp(&pid, words[0], &actions, NULL, words, environ))
-        fputs("profiler: there is no kiblawen-add on PATH, which makes tables\n", stderr);
-    else
-        waitpid(pid, &status, 0);
-    posix_spawn_file_actions_destroy(&actions);
-}
-
-/* Opens the tables of the files that were added. Those that the store hasn't are made first. */
+/* Makes the tables of the files that were added. */
 void open_tables(struct process *process)
 {
-    char *paths[MOST_MODULES];
-    size_t count = 0;
     if (!process->is_changed)
         return;
     process->is_changed = false;
     for (size_t i = 0; i < process->count; i++) {
-        open_table_of(process, i);
-        if (!process->modules[i].section.is_open)
-            paths[count++] = process->files[i].path;
+        if (!process->files[i].is_linked)
+            make_table(&process->modules[i], &process->files[i]);
+        process->files[i].is_linked = true;
     }
-    if (count > 0)
-        make_tables(process->store, paths, count);
-    for (size_t i = 0; i < process->count; i++)
-        open_table_of(process, i);
     index_files(process);
 }

@@ -2,14 +2,13 @@
  * Samples the stacks of a process, and prints them folded: a line for each stack, from the outermost function on, and the
  * number of its samples.
  *
- *   profiler [-F HZ] [-d SECONDS] [-s STORE] PID
- *   profiler [-F HZ] [-d SECONDS] [-s STORE] COMMAND [WORD ..]
- *   profiler [-F HZ] [-d SECONDS] [-s STORE] -T
+ *   profiler [-F HZ] [-d SECONDS] PID
+ *   profiler [-F HZ] [-d SECONDS] COMMAND [WORD ..]
+ *   profiler [-F HZ] [-d SECONDS] -T
  *
  * By default it takes 99 samples a second of each thread that runs, until the process ends or SIGINT comes. A command that still
- * runs when the time is over gets SIGTERM. The tables of the files that the process has mapped are in STORE, by build identifier
- * (by default sframe-store). Those that are missing are made by `kiblawen-add`, which has to be on PATH. With -T, or where perf
- * events aren't allowed, it samples work of its own by a timer. What a command prints goes to standard error.
+ * runs when the time is over gets SIGTERM. It makes the tables of the files that the process has mapped by kiblawen_linkplt. With
+ * -T, or where perf events aren't allowed, it samples work of its own by a timer. What a command prints goes to standard error.
  */
 #define _GNU_SOURCE
 #include <errno.h>
@@ -17,14 +16,13 @@
 #include <stdio.h>
 #include <stdlib.h>
 #include <string.h>
-#include <sys/stat.h>
 #include <unistd.h>
 
 #include "profiler.h"
 
 static int fail(void)
 {
-    fputs("usage: profiler [-F HZ] [-d SECONDS] [-s STORE] PID | COMMAND [WORD ..] | -T\n", stderr);
+    fputs("usage: profiler [-F HZ] [-d SECONDS] PID | COMMAND [WORD ..] | -T\n", stderr);
     return 2;
 }
 
@@ -58,16 +56,14 @@ static bool is_number(const char *word)
 int main(int argc, char **argv)
 {
     static struct process process;
-    struct options options = {99, 0, "sframe-store"};
+    struct options options = {99, 0};
     bool by_timer = false;
     int option, begin = -1;
-    while ((option = getopt(argc, argv, "+F:d:s:T")) != -1) {
+    while ((option = getopt(argc, argv, "+F:d:T")) != -1) {
         if (option == 'F')
             options.hertz = (unsigned)atoi(optarg);
         else if (option == 'd')
             options.seconds = atof(optarg);
-        else if (option == 's')
-            options.store = optarg;
         else if (option == 'T')
             by_timer = true;
         else
@@ -76,9 +72,7 @@ int main(int argc, char **argv)
     char **words = argv + optind;
     if (options.hertz == 0 || options.hertz > 10000 || (!by_timer && !*words))
         return fail();
-    process.store = options.store;
     process.is_changed = true;
-    mkdir(process.store, 0777);
     if (by_timer)
         return sample_by_timer(&process, &options);
     bool is_pid = is_number(words[0]) && !words[1];

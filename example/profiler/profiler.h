@@ -15,7 +15,6 @@ enum { MOST_MODULES = 1024, MOST_FRAMES = 128, ENTRIES = 2048, PATH_ROOM = 4096 
 struct options {
     unsigned hertz;
     double seconds; /* or 0: until the process ends */
-    const char *store;
 };
 
 /* Symbols of a file, by address in the file. */
@@ -34,19 +33,20 @@ struct symbols {
 struct file {
     char *path;
     uint64_t load;
+    uint8_t *table;
+    bool is_linked; /* its table was made, or can't be */
     struct symbols symbols;
 };
 
 /* The files of a process, in the order in which they came, and what the walks of its samples ended with. */
 struct process {
     pid_t pid;
-    const char *store;
     struct kiblawen_module modules[MOST_MODULES];
     size_t order[MOST_MODULES]; /* the index of the modules, and the cache that belongs to them */
     struct kiblawen_cache cache[ENTRIES];
     struct file files[MOST_MODULES];
     size_t count;
-    bool is_changed; /* files have been added since their tables were looked for */
+    bool is_changed; /* files have been added since tables were made */
     bool has_ended;
     uint64_t samples, frames, stops[4], without_fp, without_stack;
 };

@@ -1,4 +1,4 @@
-"""Proves the program, the C library and the crates below them, with a line for each, and runs the program.
+"""Proves the program, the C libraries and the crates below them, with a line for each, and runs the program.
 
     ./x build LOG [WORD ..]     the words are those of the program's run
 
@@ -20,6 +20,7 @@ import subprocess
 import sys
 import time
 
+from kiblawen import archive
 from kiblawen import crates as crate_list
 from kiblawen.common import TOP, fail
 
@@ -256,7 +257,9 @@ def main(words):
     try:
         with open(to, "w", encoding="utf-8") as log:
             failed = prove(crates(), words, log)
-        if failed:
+        if not failed:
+            archive.make(__name__)
+        else:
             print(f"   {failed} failed; its last lines:", file=sys.stderr)
             with open(f"{ROOMS}/{failed}.log", encoding="utf-8", errors="replace") as said:
                 sys.stderr.writelines(said.readlines()[-20:])

@@ -77,19 +77,37 @@ Multi-Arch: same
 Description: look-ups and walks with SFrame stack trace tables
 {ABOUT} This package has the shared library.
 """
+SHARED_LINK = """Package: libkiblawen-link0
+Section: libs
+Multi-Arch: same
+Depends: {needs}
+Description: makes SFrame stack trace tables in a program
+ The library makes SFrame Version 2 tables of ELF files and .eh_frame
+ sections, as the program sf_tool does, in the process of a profiler or
+ tracer. It also merges, shortens and verifies tables, and reads where a
+ file is loaded. It allocates by malloc.
+ .
+ It is proved for every input that a table recovers what DWARF recovers, if
+ the caller meets the header's conditions.
+ .
+ This package has the shared library.
+"""
 LIBRARY = f"""Package: libkiblawen-dev
 Section: libdevel
 Multi-Arch: same
-Depends: libkiblawen0 (= {{version}})
+Depends: libkiblawen0 (= {{version}}), libkiblawen-link0 (= {{version}})
 Suggests: kiblawen
 Description: look-ups and walks with SFrame stack trace tables, for C and C++
-{ABOUT} This package has the static library, the header and the pkg-config
- file.
+{ABOUT} A second library, kiblawen-link, makes tables.
+ .
+ This package has the static libraries, the headers and the pkg-config
+ files.
 """
 PYTHON = f"""Package: python3-kiblawen
 Section: python
 Architecture: all
 Depends: python3 (>= 3.8), libkiblawen0 (>= {FIRST_SHARED})
+Recommends: libkiblawen-link0 (>= {FIRST_SHARED})
 Suggests: kiblawen
 Description: look-ups and walks with SFrame stack trace tables, for Python
 {ABOUT} This package has a module that calls the library. The module is tested
@@ -97,12 +115,15 @@ Description: look-ups and walks with SFrame stack trace tables, for Python
 """
 # Where the stage has the Python module, and where Debian has such modules.
 MODULE, DEBIAN_MODULE = "usr/share/kiblawen/python/kiblawen.py", "usr/lib/python3/dist-packages/kiblawen.py"
-# What dpkg-shlibdeps writes for a program that is linked with the shared library, and what ldconfig is run for.
-SHLIBS = "libkiblawen 0 libkiblawen0 (>= {version})\n"
+# What dpkg-shlibdeps reads for a program that is linked with a shared library, and what ldconfig is run for.
+SHLIBS = "{base} 0 {name} (>= {version})\n"
 TRIGGERS = "activate-noawait ldconfig\n"
+# The packages with a shared library.
+SHARED_LIBRARIES = {SHARED: shared.LOOK_UP, SHARED_LINK: shared.LINK}
 # Each has its fields, and the files that it takes of those that no earlier one took.
 PACKAGES = (
-    (SHARED, re.compile(rf"usr/lib/.*/{re.escape(shared.NAME)}$")),
+    (SHARED, re.compile(rf"usr/lib/.*/{re.escape(shared.LOOK_UP.name)}$")),
+    (SHARED_LINK, re.compile(rf"usr/lib/.*/{re.escape(shared.LINK.name)}$")),
     (PYTHON, re.compile(re.escape(DEBIAN_MODULE))),
     (LIBRARY, re.compile("usr/(include|lib)/")),
     (TOOL, re.compile("")),
@@ -149,7 +170,8 @@ class Package:
     def needs(self):
         """The packages that its files need: glibc of the program's version, and Python if there is a script in Python."""
         folder = os.path.join(self.root, "usr/bin")
-        scripts = [name for name in os.listdir(folder) if is_script(os.path.join(folder, name))]
+        names = os.listdir(folder) if os.path.isdir(folder) else []
+        scripts = [name for name in names if is_script(os.path.join(folder, name))]
         glibc = self.release.glibc
         return ", ".join(([f"libc6 (>= {glibc})"] if glibc else []) + (["python3 (>= 3.8)"] if scripts else []))
 
@@ -175,11 +197,12 @@ class Package:
             elif re.match(r"usr/share/man/.*[0-9]$", name):
                 pack(os.path.join(self.root, name))
 
-    def add_shared(self):
+    def add_shared(self, library):
         """Adds what dpkg wants to know of a package with a shared library: its names, since which version they are there."""
-        symbols = "".join(f" {name} {FIRST_SHARED}\n" for name in shared.exports())
-        staging.write(os.path.join(self.root, "DEBIAN/symbols"), f"{shared.NAME} {self.name} #MINVER#\n{symbols}")
-        staging.write(os.path.join(self.root, "DEBIAN/shlibs"), SHLIBS.format(version=FIRST_SHARED))
+        symbols = "".join(f" {name} {FIRST_SHARED}\n" for name in library.exports())
+        staging.write(os.path.join(self.root, "DEBIAN/symbols"), f"{library.name} {self.name} #MINVER#\n{symbols}")
+        shlibs = SHLIBS.format(base=library.base, name=self.name, version=FIRST_SHARED)
+        staging.write(os.path.join(self.root, "DEBIAN/shlibs"), shlibs)
         staging.write(os.path.join(self.root, "DEBIAN/triggers"), TRIGGERS)
 
     def add_control(self):
@@ -219,8 +242,8 @@ def make_all(release, note, room, to):
         package.follow_policy()
         package.add_documents(note)
         package.add_control()
-        if fields is SHARED:
-            package.add_shared()
+        if fields in SHARED_LIBRARIES:
+            package.add_shared(SHARED_LIBRARIES[fields])
         made.append(package.make(to))
     return made
 

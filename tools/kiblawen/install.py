@@ -1,12 +1,12 @@
-"""Puts the program, `kiblawen-add`, the C library with its header, a Python module, man pages and documents under a prefix.
+"""Puts the program, `kiblawen-add`, the C libraries with their headers, a Python module, man pages and documents under a prefix.
 
     ./x install [PREFIX]                               by default /usr/local
-    LIBDIR=lib/x86_64-linux-gnu ./x install /usr       the folder of the C library, by default PREFIX/lib
+    LIBDIR=lib/x86_64-linux-gnu ./x install /usr       the folder of the C libraries, by default PREFIX/lib
     DESTDIR=/tmp/root ./x install /usr                 the files go below /tmp/root, for use below /usr
 
 PREFIX and DESTDIR are relative to the folder where the script is started, LIBDIR to PREFIX. DESTDIR is for packages: no installed
-file names it. First build program and library with `sh demo/run`. The shared library is made from the archive by a C compiler ($CC, or cc);
-without one it is omitted, and a line says so. Nothing else is needed, and nothing outside the prefix changes.
+file names it. First build program and libraries with `sh demo/run`. The shared libraries are made from the archives by a C compiler ($CC,
+or cc); without one they are omitted, and a line says so. Nothing else is needed, and nothing outside the prefix changes.
 """
 
 import os
@@ -28,6 +28,17 @@ Description: SFrame Version 2 sections, look-ups and walks of samples
 Version: {version}
 Cflags: -I"${{includedir}}"
 Libs: -L"${{libdir}}" -lkiblawen
+"""
+PKG_CONFIG_LINK = """prefix={prefix}
+libdir={libdir}
+includedir=${{prefix}}/include
+
+Name: kiblawen-link
+Description: SFrame Version 2 sections made of ELF files and .eh_frame sections
+Version: {version}
+Requires: kiblawen
+Cflags: -I"${{includedir}}"
+Libs: -L"${{libdir}}" -lkiblawen_link
 """
 
 
@@ -70,9 +81,11 @@ class Installation:
         for name in ("sf_tool.1", "kiblawen-add.1"):
             self.put(0o644, common.at_top("man", name), f"{self.prefix}/share/man/man1")
         self.put(0o644, program.LIBRARY, self.libdir, "libkiblawen.a")
+        self.put(0o644, program.LINK_LIBRARY, self.libdir)
         if shared.compiler():
             self.put_shared()
-        self.put(0o644, common.at_top("include", "kiblawen.h"), f"{self.prefix}/include")
+        for name in ("kiblawen.h", "kiblawen-link.h"):
+            self.put(0o644, common.at_top("include", name), f"{self.prefix}/include")
         self.put(0o644, common.at_top("python", "kiblawen.py"), f"{self.prefix}/share/kiblawen/python")
         documents = f"{self.prefix}/share/doc/kiblawen"
         for name in DOCUMENTS:
@@ -80,26 +93,28 @@ class Installation:
         for name in sorted(os.listdir(common.at_top("docs"))):
             if name.endswith((".md", ".svg")):
                 self.put(0o644, common.at_top("docs", name), f"{documents}/docs")
-        self.put_pkg_config(version)
+        self.put_pkg_config("kiblawen", PKG_CONFIG, version)
+        self.put_pkg_config("kiblawen-link", PKG_CONFIG_LINK, version)
 
     def put_shared(self):
-        """Makes the shared library, and the link that `-lkiblawen` finds."""
-        with tempfile.TemporaryDirectory() as room:
-            shared.make(__name__, os.path.join(room, shared.NAME))
-            self.put(0o644, os.path.join(room, shared.NAME), self.libdir)
-        link = f"{self.root}{self.libdir}/{shared.LINK}"
-        if os.path.lexists(link):
-            os.remove(link)
-        os.symlink(shared.NAME, link)
+        """Makes the shared libraries, and the links that `-lkiblawen` and `-lkiblawen_link` find."""
+        for library in shared.LIBRARIES:
+            with tempfile.TemporaryDirectory() as room:
+                library.make(__name__, os.path.join(room, library.name))
+                self.put(0o644, os.path.join(room, library.name), self.libdir)
+            link = f"{self.root}{self.libdir}/{library.link}"
+            if os.path.lexists(link):
+                os.remove(link)
+            os.symlink(library.name, link)
 
-    def put_pkg_config(self, version):
+    def put_pkg_config(self, name, text, version):
         folder = f"{self.root}{self.libdir}/pkgconfig"
         os.makedirs(folder, exist_ok=True)
         is_below = self.libdir.startswith(f"{self.prefix}/")
         named = f"${{prefix}}{self.libdir[len(self.prefix):]}" if is_below else self.libdir
-        with open(f"{folder}/kiblawen.pc", "w", encoding="utf-8", errors="surrogateescape") as file:
-            file.write(PKG_CONFIG.format(prefix=self.named, libdir=named, version=version))
-        os.chmod(f"{folder}/kiblawen.pc", 0o644)
+        with open(f"{folder}/{name}.pc", "w", encoding="utf-8", errors="surrogateescape") as file:
+            file.write(text.format(prefix=self.named, libdir=named, version=version))
+        os.chmod(f"{folder}/{name}.pc", 0o644)
 
 
 def main(words):
@@ -116,7 +131,7 @@ def main(words):
         common.fail(__name__, f"{top} cannot be made")
     if not os.access(top or "/", os.W_OK):
         common.fail(__name__, f"{top} is not writable")
-    for path in (program.BUILT, program.LIBRARY):
+    for path in (program.BUILT, program.LIBRARY, program.LINK_LIBRARY):
         if not os.access(path, os.R_OK):
             common.fail(__name__, f"{os.path.relpath(path, common.TOP)} is not built: sh demo/run builds it")
     version = common.version()
@@ -125,6 +140,6 @@ def main(words):
     except OSError as fault:
         common.fail(__name__, str(fault))
     if not shared.compiler():
-        print(f"{shared.NAME} is omitted: there is no C compiler, which makes it")
+        print("the shared libraries are omitted: there is no C compiler, which makes them")
     print(f"kiblawen {version} for {to.prefix} is installed{f' under {to.root}' if to.root else ''}")
     return 0

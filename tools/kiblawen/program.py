@@ -8,6 +8,9 @@ from kiblawen import common, elf
 
 BUILT = common.at_top("crates", "sf_tool", "out", "sf_tool")
 LIBRARY = common.at_top("crates", "sf_c", "out", "libsf_c.a")
+# The library that makes tables: what `rt` builds, and the archive that `./x archive` makes of it.
+BUILT_LINK_LIBRARY = common.at_top("crates", "sf_link_c", "out", "libsf_link_c.a")
+LINK_LIBRARY = common.at_top("crates", "sf_link_c", "out", "libkiblawen_link.a")
 
 
 def add_option(parser):

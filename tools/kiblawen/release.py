@@ -3,9 +3,9 @@
     ./x release
 
 The files are in dist/, which is emptied first: kiblawen-VERSION-linux-MACHINE.tar.gz, the packages kiblawen, libkiblawen0,
-libkiblawen-dev and python3-kiblawen, kiblawen-VERSION-llvm.tar.gz with the LLVM modules (see `./x help module`),
+libkiblawen-link0, libkiblawen-dev and python3-kiblawen, kiblawen-VERSION-llvm.tar.gz with the LLVM modules (see `./x help module`),
 kiblawen-VERSION-static-MACHINE.tar.gz with a program that needs no C library, kiblawen-VERSION.txt, which is the note, and SHA256SUMS.
-First run the gate, or `sh demo/run`. The tree has to be as it was committed. A C compiler makes the shared library.
+First run the gate, or `sh demo/run`. The tree has to be as it was committed. A C compiler makes the shared libraries.
 
 A commit that has the tag vVERSION is that version. Any other one is VERSION+gitDATE.COMMIT. All bytes come from the commit and from what
 was built: times are the commit's, the owner is root, names are in order. Packages need dpkg-deb. Without it they are omitted.
@@ -31,6 +31,7 @@ date            {day}
 toolchain       {kit}
 sf_tool         sha256 {program}
 libkiblawen.a   sha256 {library}
+libkiblawen_link.a sha256 {link_library}
 sf_tool needs   {needs}
 
 {functions:,} public functions have {clauses:,} clauses: theorems about each of their calls, over {definitions:,} definitions. The prover has to
@@ -96,6 +97,7 @@ def note(release):
         kit=kit()[0],
         program=staging.digest(program.BUILT),
         library=staging.digest(program.LIBRARY),
+        link_library=staging.digest(program.LINK_LIBRARY),
         needs=f"glibc {release.glibc} or later" if release.glibc else "nothing",
         functions=len(functions),
         clauses=sum(len(it.clauses) for it in functions),
@@ -113,20 +115,21 @@ def check_tree():
 
 
 def check_built():
-    """Ends the command if the program or the library is missing, older than a source, or made by another toolchain."""
+    """Ends the command if the program or a library is missing, older than a source, or made by another toolchain."""
     program.find(__name__, has_to_be_new=True)
-    if not os.access(program.LIBRARY, os.R_OK):
-        common.fail(__name__, f"there is no {program.LIBRARY}: `sh demo/run` builds it")
-    newer = program.newer_source(program.LIBRARY)
-    if newer:
-        common.fail(__name__, f"{newer} is newer than {program.LIBRARY}: build it again")
+    for library in (program.LIBRARY, program.LINK_LIBRARY):
+        if not os.access(library, os.R_OK):
+            common.fail(__name__, f"there is no {library}: `sh demo/run` builds it")
+        newer = program.newer_source(library)
+        if newer:
+            common.fail(__name__, f"{newer} is newer than {library}: build it again")
     logic = kit()[1]
-    for path in (program.BUILT, program.LIBRARY):
+    for path in (program.BUILT, program.LIBRARY, program.LINK_LIBRARY):
         with open(path, "rb") as file:
             if f"rattle logic={logic}".encode() not in file.read():
                 common.fail(__name__, f"{path} was not made by the toolchain that README.md names (logic {logic})")
     if not shared.compiler():
-        common.fail(__name__, f"there is no C compiler, which makes {shared.NAME}")
+        common.fail(__name__, "there is no C compiler, which makes the shared libraries")
 
 
 def make_tarball(release, text, room):

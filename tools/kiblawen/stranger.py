@@ -220,7 +220,7 @@ def try_library(tries, root, paths, tables):
     staging.write(f"{root.room}/walks.c", "\n".join(block("docs/library.md", "### A program", "c")) + WALKS)
     build = "cc -std=c11 -Wall -Wextra -Werror $(pkg-config --cflags kiblawen) walks.c -o walks"
     walk = "./walks echo.sframe $(cat at) 0x1139 0x4242"
-    is_shared = f"readelf -d walks | grep -c '{shared.NAME}' || true"
+    is_shared = f"readelf -d walks | grep -c '{shared.LOOK_UP.name}' || true"
     for what, script, count in (
         ("a program with the archive walks a sample", f"{build} -l:libkiblawen.a\n{walk}\n{is_shared}", 0),
         ("a program built by pkg-config walks a sample", f"{build} $(pkg-config --libs kiblawen)\n{walk}\n{is_shared}", 1),
@@ -336,7 +336,8 @@ def main(words):
     parser.add_argument("root", nargs="?", metavar="ROOT")
     given = parser.parse_args(words)
     tool, tarball = one("kiblawen_*.deb"), one("kiblawen-*-linux-*.tar.gz")
-    library, python = [one("libkiblawen0_*.deb"), one("libkiblawen-dev_*.deb")], one("python3-kiblawen_*.deb")
+    library = [one(f"{it}_*.deb") for it in ("libkiblawen0", "libkiblawen-link0", "libkiblawen-dev")]
+    python = one("python3-kiblawen_*.deb")
     modules, static = (glob.glob(os.path.join(release.DIST, f"kiblawen-*-{it}.tar.gz")) for it in ("llvm", "static-*"))
     if os.geteuid() != 0:
         common.fail(__name__, "chroot needs the rights of root")
