@@ -19,6 +19,13 @@
 
 enum { AT = 0x4000000, OTHER_BASE = 0x2000000, MOST = 1 << 16, PAGE = 4096, STACK = 1 << 18 };
 
+/* About how many of a call's allocations are made to fail, if it has many. */
+#ifdef SANITIZED
+enum { FAILING = 20 };
+#else
+enum { FAILING = 200 };
+#endif
+
 static unsigned tried, wrong;
 
 #define CHECK(test)                                                                                                   \
@@ -46,7 +53,8 @@ void *__wrap_malloc(size_t size)
 {
     if (fails())
         return NULL;
-    blocks += is_counting;
+    if (is_counting)
+        blocks++;
     return __real_malloc(size);
 }
 
@@ -54,13 +62,15 @@ void *__wrap_realloc(void *at, size_t size)
 {
     if (fails())
         return NULL;
-    blocks += is_counting && !at;
+    if (is_counting && !at)
+        blocks++;
     return __real_realloc(at, size);
 }
 
 void __wrap_free(void *at)
 {
-    blocks -= is_counting && at;
+    if (is_counting && at)
+        blocks--;
     __real_free(at);
 }
 
@@ -289,7 +299,7 @@ static void failing_calls(const char *name, uint32_t (*call)(const struct kiblaw
     allocations = blocks = 0;
     CHECK(call(section) == KIBLAWEN_MADE && blocks == 0);
     count = allocations;
-    for (long step = count > 1000 ? count / 500 : 1, i = 0; i < count; i += step, answers++) {
+    for (long step = count > 2 * FAILING ? count / FAILING : 1, i = 0; i < count; i += step, answers++) {
         failing = i;
         allocations = blocks = 0;
         out[0] = 0x11;
@@ -377,6 +387,7 @@ static void threads(const struct kiblawen_section *section)
         CHECK(pthread_join(ids[i], NULL) == 0 && jobs[i].failures == 0);
 }
 
+#ifndef SANITIZED
 static void *call_once(void *given)
 {
     struct job *job = given;
@@ -395,7 +406,8 @@ static void stacks(const struct kiblawen_section *section)
         size_t left = 0;
         memset(stack, 0xa5, sizeof stack);
         pthread_attr_init(&attributes);
-        CHECK(pthread_attr_setstack(&attributes, stack, sizeof stack) == 0 && pthread_create(&id, &attributes, call_once, &job) == 0);
+        if (pthread_attr_setstack(&attributes, stack, sizeof stack) || pthread_create(&id, &attributes, call_once, &job))
+            exit(2);
         CHECK(pthread_join(id, NULL) == 0 && job.failures == 0);
         while (left < sizeof stack && stack[left] == 0xa5)
             left++;
@@ -403,10 +415,11 @@ static void stacks(const struct kiblawen_section *section)
         CHECK(sizeof stack - left < 128 * 1024);
     }
 }
+#endif
 
 static int check_place(struct dl_phdr_info *info, size_t size, void *data)
 {
-    struct kiblawen_placed placed;
+    struct kiblawen_placed placed = {0};
     char path[4096] = "/proc/self/exe";
     (void)size, (void)data;
     if (*info->dlpi_name)
