@@ -1,8 +1,9 @@
 """Tries the Python module of the C library: on a made section, and on the stack of a core file beside `sf_tool walk`.
 
-    PYTHONPATH=python KIBLAWEN_LIBRARY=LIBRARY KIBLAWEN_LINK_LIBRARY=LIBRARY python3 .ci/c-library.py SF_TOOL
+    PYTHONPATH=python KIBLAWEN_LIBRARY=LIBRARY python3 .ci/c-library.py SF_TOOL
 
-Prints what was wrong, and a line with the counts. `.ci/c-library` runs it. The core file needs a C compiler and gdb.
+Prints what was wrong, and a line with the counts. `.ci/c-library` runs it. The core file needs a C compiler and gdb. The module's `link` is
+tried if KIBLAWEN_LINK_LIBRARY names its library.
 """
 
 import os
@@ -16,6 +17,8 @@ import tempfile
 import kiblawen
 from kiblawen import Base, Fault, Frame, Key, Module, Modules, Refused, Sample, Section, State, Stop
 
+# Where a table of the core file's program is, above the program.
+AT = 0x2000000
 # An AMD64 function at 0x1000 that pushes its frame pointer, for a section at 0x3000: as in c-library.c.
 PUSHING = bytes.fromhex(
     "e2de02050300f80001000000040000000f0000000000000014000000e4dfffff060000000000000004000000000000000003080105"
@@ -136,22 +139,31 @@ def try_core(tool, room):
     if not os.path.exists(core):
         print("c-library: the Python module is not tried on a core file: that needs AMD64, gdb, a C compiler and a static C library")
         return
-    section = kiblawen.link(program)
+    table = os.path.join(room, "table")
+    said = subprocess.run([tool, "link", f"{table}@{AT:#x}", f"{program}@0x0"], stdout=subprocess.DEVNULL, check=False).returncode
+    with open(table, "rb") as file:
+        section = Section(file.read(), AT)
     sample = read_core(core)
     walk = section.walk(sample)
-    table = os.path.join(room, "table")
-    module = kiblawen.module(program, 0)
-    said = 0
-    for command in ("linkplt", "link"):
-        ran = subprocess.run([tool, command, f"{table}@{module.size:#x}", f"{program}@0x0"], stdout=subprocess.PIPE, check=False)
-        check(f"the report of {command}", kiblawen.link(program, 0, command).report == ran.stdout.decode())
-        said = said or ran.returncode
-    shown = subprocess.run([tool, "walk", f"{table}@{module.size:#x}", core, "64"], stdout=subprocess.PIPE, check=False).stdout.decode()
+    shown = subprocess.run([tool, "walk", f"{table}@{AT:#x}", core, "64"], stdout=subprocess.PIPE, check=False).stdout.decode()
     expected = [int(it, 16) for it in re.findall(r"#\d+ pc (0x\w+)", shown)]
     check("the frames of `sf_tool walk`", said == 0 and len(expected) > 20 and [it.pc for it in walk.frames] == expected)
     check("the stop of `sf_tool walk`", f"stop {walk.stop.name.lower()} {walk.value:#x}" in shown)
-    on = Modules([Module(0, module.size, section)]).walk_on(sample)
+    on = Modules([Module(0, AT, section)]).walk_on(sample)
     check("the same by modules", [(it.pc, it.cfa) for it in on.frames] == walk.frames and on.stop == walk.stop)
+    if "KIBLAWEN_LINK_LIBRARY" in os.environ:
+        try_link(tool, room, source, program, sample, walk.frames)
+    else:
+        print("c-library: the Python module's link is not tried: libkiblawen_link is not built")
+
+
+def try_link(tool, room, source, program, sample, frames):
+    """What the module makes of a program, beside what `sf_tool` makes."""
+    module = kiblawen.module(program, 0)
+    for command in ("linkplt", "link"):
+        ran = subprocess.run([tool, command, f"{room}/linked@{module.size:#x}", f"{program}@0x0"], stdout=subprocess.PIPE, check=False)
+        check(f"the report of {command}", ran.returncode == 0 and kiblawen.link(program, 0, command).report == ran.stdout.decode())
+    check("the frames by link", kiblawen.link(program).walk(sample).frames == frames)
     try:
         kiblawen.link(source)
         check("a file that is no program", False)

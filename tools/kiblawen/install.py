@@ -5,8 +5,9 @@
     DESTDIR=/tmp/root ./x install /usr                 the files go below /tmp/root, for use below /usr
 
 PREFIX and DESTDIR are relative to the folder where the script is started, LIBDIR to PREFIX. DESTDIR is for packages: no installed
-file names it. First build program and libraries with `sh demo/run`. The shared libraries are made from the archives by a C compiler ($CC,
-or cc); without one they are omitted, and a line says so. Nothing else is needed, and nothing outside the prefix changes.
+file names it. First build program and libraries with `sh demo/run`; libkiblawen_link is omitted if it isn't built. The shared libraries
+are made from the archives by a C compiler ($CC, or cc); without one they are omitted. A line says what is omitted. Nothing else is
+needed, and nothing outside the prefix changes.
 """
 
 import os
@@ -81,11 +82,9 @@ class Installation:
         for name in ("sf_tool.1", "kiblawen-add.1"):
             self.put(0o644, common.at_top("man", name), f"{self.prefix}/share/man/man1")
         self.put(0o644, program.LIBRARY, self.libdir, "libkiblawen.a")
-        self.put(0o644, program.LINK_LIBRARY, self.libdir)
+        self.put(0o644, common.at_top("include", "kiblawen.h"), f"{self.prefix}/include")
         if shared.compiler():
-            self.put_shared()
-        for name in ("kiblawen.h", "kiblawen-link.h"):
-            self.put(0o644, common.at_top("include", name), f"{self.prefix}/include")
+            self.put_shared(shared.LOOK_UP)
         self.put(0o644, common.at_top("python", "kiblawen.py"), f"{self.prefix}/share/kiblawen/python")
         documents = f"{self.prefix}/share/doc/kiblawen"
         for name in DOCUMENTS:
@@ -94,18 +93,24 @@ class Installation:
             if name.endswith((".md", ".svg")):
                 self.put(0o644, common.at_top("docs", name), f"{documents}/docs")
         self.put_pkg_config("kiblawen", PKG_CONFIG, version)
+
+    def put_link_library(self, version):
+        """Installs the library that makes tables, with its header."""
+        self.put(0o644, program.LINK_LIBRARY, self.libdir)
+        self.put(0o644, common.at_top("include", "kiblawen-link.h"), f"{self.prefix}/include")
+        if shared.compiler():
+            self.put_shared(shared.LINK)
         self.put_pkg_config("kiblawen-link", PKG_CONFIG_LINK, version)
 
-    def put_shared(self):
-        """Makes the shared libraries, and the links that `-lkiblawen` and `-lkiblawen_link` find."""
-        for library in shared.LIBRARIES:
-            with tempfile.TemporaryDirectory() as room:
-                library.make(__name__, os.path.join(room, library.name))
-                self.put(0o644, os.path.join(room, library.name), self.libdir)
-            link = f"{self.root}{self.libdir}/{library.link}"
-            if os.path.lexists(link):
-                os.remove(link)
-            os.symlink(library.name, link)
+    def put_shared(self, library):
+        """Makes a shared library, and the link that `-lkiblawen` or `-lkiblawen_link` finds."""
+        with tempfile.TemporaryDirectory() as room:
+            library.make(__name__, os.path.join(room, library.name))
+            self.put(0o644, os.path.join(room, library.name), self.libdir)
+        link = f"{self.root}{self.libdir}/{library.link}"
+        if os.path.lexists(link):
+            os.remove(link)
+        os.symlink(library.name, link)
 
     def put_pkg_config(self, name, text, version):
         folder = f"{self.root}{self.libdir}/pkgconfig"
@@ -131,14 +136,18 @@ def main(words):
         common.fail(__name__, f"{top} cannot be made")
     if not os.access(top or "/", os.W_OK):
         common.fail(__name__, f"{top} is not writable")
-    for path in (program.BUILT, program.LIBRARY, program.LINK_LIBRARY):
+    for path in (program.BUILT, program.LIBRARY):
         if not os.access(path, os.R_OK):
             common.fail(__name__, f"{os.path.relpath(path, common.TOP)} is not built: sh demo/run builds it")
-    version = common.version()
+    version, has_link = common.version(), os.access(program.LINK_LIBRARY, os.R_OK)
     try:
         to.put_all(version)
+        if has_link:
+            to.put_link_library(version)
     except OSError as fault:
         common.fail(__name__, str(fault))
+    if not has_link:
+        print("libkiblawen_link is omitted: sh demo/run builds it")
     if not shared.compiler():
         print("the shared libraries are omitted: there is no C compiler, which makes them")
     print(f"kiblawen {version} for {to.prefix} is installed{f' under {to.root}' if to.root else ''}")

@@ -47,4 +47,3 @@ class Library:
 # Without files of the compiler's own nothing else is linked.
 LOOK_UP = Library("libkiblawen", program.LIBRARY, "-nostdlib")
 LINK = Library("libkiblawen_link", program.LINK_LIBRARY, "-nostartfiles")
-LIBRARIES = (LOOK_UP, LINK)
