@@ -15,7 +15,7 @@ use Rattle.core_notes.specs.declared.fault.CoreFault.{CoreFault}
 use Rattle.core_notes.specs.declared.fault.CoreFault.TheVariants.{NotCore, Note, NoThread, StatusSize, TooManyThreads}
 use Rattle.core_notes.specs.Checks.{Check, core_check, core_part, thread_count_check, elf_part, file_threads, is_core_kind, items_check, note_check, through_status}
 use Rattle.core_notes.specs.Core.{IsCore, after_first_status, mask_fits, status_fits}
-use Rattle.core_notes.specs.Listing.{Item, items_of, whole_notes}
+use Rattle.core_notes.specs.Listing.{NoteItem, notes_in, whole_notes}
 use Rattle.core_notes.specs.Note.{NoteView}
 use Rattle.core_notes.specs.Room.{note_room_check}
 use Rattle.core_notes.specs.Segment.{segments}
@@ -110,7 +110,7 @@ one_less arch false n ns all =
     let statuses = parts_true (status_fits arch n) (list_all (status_fits arch) ns) all.statuses in
     (record { status = statuses.0; mask = λ e. absurd (let differ : false ≡ true = e in cc) }, record { statuses = statuses.1; masks = all.masks })
 
-items_sized : (arch : Arch) (b : Bool) (items : List Item) → items_check arch b items ≡ Ok tt → NoneCut items × AllSized arch b (whole_notes items)
+items_sized : (arch : Arch) (b : Bool) (items : List NoteItem) → items_check arch b items ≡ Ok tt → NoneCut items × AllSized arch b (whole_notes items)
 unfolding items_check whole_notes
 items_sized arch b [] h = (tt, record { statuses = refl; masks = none_counting arch b })
 items_sized arch b (Ok n ∷ items) h =
@@ -159,20 +159,20 @@ fits_count n some most =
     fine_then (unless (not (n == 0)) NoThread) (unless (nat_le n 4096) TooManyThreads)
     (true_unless (not (n == 0)) NoThread (ap not (ne_eqb n 0 (λ e. omega (e, some, arith))))) (true_unless (nat_le n 4096) TooManyThreads (le-leb n 4096 most))
 
-pub checked_is_core : (file : List ℕ) → core_check file ≡ Ok tt → IsCore file (whole_notes (items_of file))
+pub checked_is_core : (file : List ℕ) → core_check file ≡ Ok tt → IsCore file (whole_notes (notes_in file))
 unfolding core_part
 checked_is_core file h =
     let arch = arch_of file in
     let elf = both_fine (elf_part (file_check file)) (core_part file) h in
     let kind = unless (is_core_kind (kind_of file)) NotCore in
     let room = elf_part (each_below (segment_count file) (note_room_check file)) in
-    let notes = items_check arch false (through_status 4097 (items_of file)) in
+    let notes = items_check arch false (through_status 4097 (notes_in file)) in
     let counted = both_fine (kind >> room >> notes) (thread_count_check (length (file_threads file))) elf.1 in
     let parts = both_fine (kind >> room) notes counted.0 in
     let first = both_fine kind room parts.0 in
     let count = count_fits (length (file_threads file)) counted.1 in
-    let all : through_status 4097 (items_of file) ≡ items_of file = all_through arch 4097 (items_of file) (omega (count.1, arith)) in
-    let sized = items_sized arch false (items_of file) (ap (items_check arch false) (sym all) ∙ parts.1) in
+    let all : through_status 4097 (notes_in file) ≡ notes_in file = all_through arch 4097 (notes_in file) (omega (count.1, arith)) in
+    let sized = items_sized arch false (notes_in file) (ap (items_check arch false) (sym all) ∙ parts.1) in
     record {
       elf = elf_fine (file_check file) elf.0;
       kind = kind_is (kind_of file) (unless_true (is_core_kind (kind_of file)) NotCore first.0);
@@ -184,23 +184,23 @@ checked_is_core file h =
       most = count.1;
     }
 
-pub core_is_checked : (file : List ℕ) (notes : List NoteView) → IsCore file notes → (core_check file ≡ Ok tt) × (whole_notes (items_of file) ≡ notes)
+pub core_is_checked : (file : List ℕ) (notes : List NoteView) → IsCore file notes → (core_check file ≡ Ok tt) × (whole_notes (notes_in file) ≡ notes)
 unfolding core_part
 core_is_checked file notes c =
     let arch = arch_of file in
-    let items : items_of file ≡ all_whole notes = notes_are_read (segments file) notes c.notes_are in
-    let read : whole_notes (items_of file) ≡ notes = ap whole_notes items ∙ whole-all notes in
+    let items : notes_in file ≡ all_whole notes = notes_are_read (segments file) notes c.notes_are in
+    let read : whole_notes (notes_in file) ≡ notes = ap whole_notes items ∙ whole-all notes in
     let sized : AllSized arch false notes = record { statuses = c.statuses; masks = c.masks } in
     let few : length (file_threads file) < 4097 = let same = ap (λ (ns : List NoteView). length (threads_in arch ns)) read in omega (same, c.most, arith) in
-    let checked : items_check arch false (through_status 4097 (items_of file)) ≡ Ok tt =
-    ap (items_check arch false) (all_through arch 4097 (items_of file) few ∙ items) ∙ sized_items arch false notes sized in
+    let checked : items_check arch false (through_status 4097 (notes_in file)) ≡ Ok tt =
+    ap (items_check arch false) (all_through arch 4097 (notes_in file) few ∙ items) ∙ sized_items arch false notes sized in
     let room : elf_part (each_below (segment_count file) (note_room_check file)) ≡ Ok tt = ap elf_part (room_is_checked file c.room) in
     let count : thread_count_check (length (file_threads file)) ≡ Ok tt = ap (λ (ns : List NoteView). thread_count_check (length (threads_in arch ns))) read ∙ fits_count (length (threads_in arch notes)) c.some c.most in
     let kind : unless (is_core_kind (kind_of file)) NotCore ≡ Ok tt = ap (λ (k : Kind). unless (is_core_kind k) NotCore) c.kind in (
       fine_then (elf_part (file_check file)) (core_part file) (ap elf_part c.elf)
-          (fine_then (unless (is_core_kind (kind_of file)) NotCore >> elf_part (each_below (segment_count file) (note_room_check file)) >> items_check arch false (through_status 4097 (items_of file)))
+          (fine_then (unless (is_core_kind (kind_of file)) NotCore >> elf_part (each_below (segment_count file) (note_room_check file)) >> items_check arch false (through_status 4097 (notes_in file)))
           (thread_count_check (length (file_threads file)))
-          (fine_then (unless (is_core_kind (kind_of file)) NotCore >> elf_part (each_below (segment_count file) (note_room_check file))) (items_check arch false (through_status 4097 (items_of file)))
+          (fine_then (unless (is_core_kind (kind_of file)) NotCore >> elf_part (each_below (segment_count file) (note_room_check file))) (items_check arch false (through_status 4097 (notes_in file)))
           (fine_then (unless (is_core_kind (kind_of file)) NotCore) (elf_part (each_below (segment_count file) (note_room_check file))) kind room) checked) count),
       read,
     )
@@ -210,5 +210,5 @@ is_fine (Ok u) h = refl
 is_fine (Err f) h = absurd (let differ : false ≡ true = h in cc)
 
 -- a core that was made
-pub made_is_core : (file : List ℕ) → IsTrue (is_ok (core_check file)) → IsCore file (whole_notes (items_of file))
+pub made_is_core : (file : List ℕ) → IsTrue (is_ok (core_check file)) → IsCore file (whole_notes (notes_in file))
 made_is_core file h = checked_is_core file (is_fine (core_check file) h)

@@ -5,7 +5,7 @@ use Rattle.sf_bytes.specs.Cursor.{Cursor}
 use Rattle.sf_bytes.proofs.Fields.{passes-past}
 use Rattle.sf_bytes.proofs.Skipped.{behind}
 use Rattle.core_notes.specs.Note.{NoteView, note_at}
-use Rattle.core_notes.specs.Listing.{Item, notes_after, notes_from}
+use Rattle.core_notes.specs.Listing.{NoteItem, notes_after, notes_from}
 use Rattle.core_notes.proofs.OneNote.{SomeBytes, note_passes, note_takes}
 
 pub notes-nil : (skipped place : ℕ) → notes_after skipped place [] ≡ []
@@ -34,7 +34,7 @@ starts_with_note place [] n after some e = absurd (omega (some, arith))
 starts_with_note place (b ∷ bs) n after some e =
     let at : Cursor = record { place = place; left = b ∷ bs } in
     let s : SomeBytes at after = note_passes n at after (note_takes at n after e) in
-    rw e (ap (λ (items : List Item). Ok n ∷ items) (behind notes_after notes-nil notes-suc (length s.run - 1) (place + 1) bs after (one_passed place b bs after s)))
+    rw e (ap (λ (items : List NoteItem). Ok n ∷ items) (behind notes_after notes-nil notes-suc (length s.run - 1) (place + 1) bs after (one_passed place b bs after s)))
 
 pub starts_with_cut : (place : ℕ) (bytes : List ℕ) (f : ByteFault) → 0 < length bytes → note_at (record { place = place; left = bytes }) ≡ Err f → notes_after 0 place bytes ≡ Err place ∷ []
 unfolding notes_after

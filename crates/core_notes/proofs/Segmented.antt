@@ -4,28 +4,28 @@ use Rattle.std.specs.List.{flat_map}
 use Rattle.std.proofs.Common.{◌≡◌, ℕ, ◌+◌, ◌<◌, ◌≤◌, Bool, true, false, cond, List, [], length, drop, sym, ap, ◌∙◌}
 use Rattle.sf_bytes.specs.Cursor.{Cursor}
 use Rattle.elf_read.specs.Sections.{segment_count}
-use Rattle.core_notes.specs.Listing.{Item, items_of, notes_after, notes_from, segment_cursor, segment_items}
+use Rattle.core_notes.specs.Listing.{NoteItem, notes_in, notes_after, notes_from, segment_cursor, segment_items}
 use Rattle.core_notes.specs.Segment.{SegmentView, holds_notes, segment_of, segments}
 use Rattle.core_notes.proofs.Listings.{notes-nil, nothing_left}
 use Rattle.core_notes.proofs.Segments.{next_segment, no_segment}
 
 -- the notes of the segments from one on
-abbrev pub later_items : List ℕ → ℕ → List Item
+abbrev pub later_items : List ℕ → ℕ → List NoteItem
 later_items file i = flat_map segment_items (drop i (segments file))
 
-pub none_yet : (file : List ℕ) (place : ℕ) (rest : List ℕ) → rest ≡ [] → (notes_after 0 place rest ++ later_items file 0) ≡ items_of file
-none_yet file place rest e = ap (λ (bytes : List ℕ). notes_after 0 place bytes ++ later_items file 0) e ∙ ap (λ (items : List Item). items ++ later_items file 0) (notes-nil 0 place)
+pub none_yet : (file : List ℕ) (place : ℕ) (rest : List ℕ) → rest ≡ [] → (notes_after 0 place rest ++ later_items file 0) ≡ notes_in file
+none_yet file place rest e = ap (λ (bytes : List ℕ). notes_after 0 place bytes ++ later_items file 0) e ∙ ap (λ (items : List NoteItem). items ++ later_items file 0) (notes-nil 0 place)
 
 pub goes_on : (file : List ℕ) (place i : ℕ) (rest : List ℕ) (part : Cursor) → length rest ≡ 0 → i < segment_count file → notes_from part ≡ segment_items (segment_of file i)
     → (notes_from part ++ later_items file (i + 1)) ≡ (notes_after 0 place rest ++ later_items file i)
 goes_on file place i rest part none lt is =
-    ap (λ (items : List Item). items ++ later_items file (i + 1)) is
+    ap (λ (items : List NoteItem). items ++ later_items file (i + 1)) is
     ∙ sym (ap (flat_map segment_items) (next_segment file i lt))
-    ∙ sym (ap (λ (items : List Item). items ++ later_items file i) (nothing_left place rest none))
+    ∙ sym (ap (λ (items : List NoteItem). items ++ later_items file i) (nothing_left place rest none))
 
 pub ends : (file : List ℕ) (place i : ℕ) (rest : List ℕ) → length rest ≡ 0 → segment_count file ≤ i → (notes_after 0 place rest ++ later_items file i) ≡ []
 ends file place i rest none le =
-    ap (λ (items : List Item). items ++ later_items file i) (nothing_left place rest none) ∙ ap (flat_map segment_items) (no_segment file i le)
+    ap (λ (items : List NoteItem). items ++ later_items file i) (nothing_left place rest none) ∙ ap (flat_map segment_items) (no_segment file i le)
 
 -- a segment without notes
 no_notes : (s : SegmentView) (place : ℕ) (b : Bool) → b ≡ false → notes_after 0 place [] ≡ cond b (notes_from (segment_cursor s)) []

@@ -5,19 +5,19 @@ use Rattle.std.proofs.Common.{◌≡◌, ℕ, ◌<◌, Bool, true, false, cond, 
 use Rattle.sf_bytes.specs.Cursor.{Cursor, Read}
 use Rattle.sf_bytes.proofs.Fields.{passes-within}
 use Rattle.core_notes.specs.Note.{NoteView, note_at}
-use Rattle.core_notes.specs.Listing.{AreAllNotes, AreNotes, AreSegmentNotes, Item, NotesStand, notes_from, segment_cursor, segment_items, whole_notes}
+use Rattle.core_notes.specs.Listing.{AreAllNotes, AreNotes, AreSegmentNotes, NoteItem, NotesStand, notes_from, segment_cursor, segment_items, whole_notes}
 use Rattle.core_notes.specs.Segment.{SegmentView, holds_notes}
 use Rattle.core_notes.proofs.OneNote.{SomeBytes, note_again, note_passes, note_takes}
 use Rattle.core_notes.proofs.Listings.{notes-nil, nothing_left, starts_with_cut, starts_with_note}
 
 -- notes, none of which is cut
-abbrev pub all_whole : List NoteView → List Item
+abbrev pub all_whole : List NoteView → List NoteItem
 all_whole [] = []
 all_whole (n ∷ ns) = Ok n ∷ all_whole ns
 
 pub all_whole-append : (xs ys : List NoteView) → all_whole (xs ++ ys) ≡ all_whole xs ++ all_whole ys
 all_whole-append [] ys = refl
-all_whole-append (x ∷ xs) ys = ap (λ (items : List Item). Ok x ∷ items) (all_whole-append xs ys)
+all_whole-append (x ∷ xs) ys = ap (λ (items : List NoteItem). Ok x ∷ items) (all_whole-append xs ys)
 
 pub whole-all : (ns : List NoteView) → whole_notes (all_whole ns) ≡ ns
 unfolding whole_notes
@@ -32,7 +32,7 @@ read_all : (ns : List NoteView) (from end : Cursor) → NotesStand ns from end �
 read_all [] from end is none = nothing_left from.place from.left (ap length (sym (ap (λ (c : Cursor). c.left) is) ∙ none))
 read_all (n ∷ ns) from end (after, first, later) none =
     starts_with_note from.place from.left n after (some_left from after (note_passes n from after first)) (note_again from n after first)
-    ∙ ap (λ (items : List Item). Ok n ∷ items) (read_all ns after end later none)
+    ∙ ap (λ (items : List NoteItem). Ok n ∷ items) (read_all ns after end later none)
 
 read_segment : (b : Bool) (s : SegmentView) (ns : List NoteView) → AreSegmentNotes b s ns → cond b (notes_from (segment_cursor s)) [] ≡ all_whole ns
 read_segment true s ns h = read_all ns (segment_cursor s) h.end h.stand h.nothing_left
@@ -41,33 +41,33 @@ read_segment false s ns h = sym (ap all_whole h)
 pub notes_are_read : (ss : List SegmentView) (ns : List NoteView) → AreNotes ss ns → flat_map segment_items ss ≡ all_whole ns
 notes_are_read [] ns h = sym (ap all_whole h)
 notes_are_read (s ∷ ss) ns (here, later, all, first, others) =
-    ap (λ (items : List Item). items ++ flat_map segment_items ss) (read_segment (holds_notes s) s here first)
-    ∙ ap (λ (items : List Item). all_whole here ++ items) (notes_are_read ss later others) ∙ sym (all_whole-append here later) ∙ ap all_whole (sym all)
+    ap (λ (items : List NoteItem). items ++ flat_map segment_items ss) (read_segment (holds_notes s) s here first)
+    ∙ ap (λ (items : List NoteItem). all_whole here ++ items) (notes_are_read ss later others) ∙ sym (all_whole-append here later) ∙ ap all_whole (sym all)
 
 -- ---- from what is read to the bytes
 -- no note is cut
-abbrev pub NoneCut : List Item → Type 0
+abbrev pub NoneCut : List NoteItem → Type 0
 NoneCut [] = Unit {0}
 NoneCut (Ok n ∷ items) = NoneCut items
 NoneCut (Err place ∷ items) = ⊥
 
-none_cut_here : (xs ys : List Item) → NoneCut (xs ++ ys) → NoneCut xs
+none_cut_here : (xs ys : List NoteItem) → NoneCut (xs ++ ys) → NoneCut xs
 none_cut_here [] ys h = tt
 none_cut_here (Ok n ∷ xs) ys h = none_cut_here xs ys h
 none_cut_here (Err place ∷ xs) ys h = h
 
-none_cut_later : (xs ys : List Item) → NoneCut (xs ++ ys) → NoneCut ys
+none_cut_later : (xs ys : List NoteItem) → NoneCut (xs ++ ys) → NoneCut ys
 none_cut_later [] ys h = h
 none_cut_later (Ok n ∷ xs) ys h = none_cut_later xs ys h
 none_cut_later (Err place ∷ xs) ys h = absurd h
 
-pub none_cut_whole : (items : List Item) → NoneCut items → items ≡ all_whole (whole_notes items)
+pub none_cut_whole : (items : List NoteItem) → NoneCut items → items ≡ all_whole (whole_notes items)
 unfolding whole_notes
 none_cut_whole [] h = refl
-none_cut_whole (Ok n ∷ items) h = ap (λ (xs : List Item). Ok n ∷ xs) (none_cut_whole items h)
+none_cut_whole (Ok n ∷ items) h = ap (λ (xs : List NoteItem). Ok n ∷ xs) (none_cut_whole items h)
 none_cut_whole (Err place ∷ items) h = absurd h
 
-whole-append : (xs ys : List Item) → whole_notes (xs ++ ys) ≡ whole_notes xs ++ whole_notes ys
+whole-append : (xs ys : List NoteItem) → whole_notes (xs ++ ys) ≡ whole_notes xs ++ whole_notes ys
 unfolding whole_notes
 whole-append [] ys = refl
 whole-append (Ok n ∷ xs) ys = ap (λ (ns : List NoteView). n ∷ ns) (whole-append xs ys)

@@ -12,7 +12,7 @@ use Rattle.core_notes.specs.declared.fault.CoreFault.{CoreFault}
 use Rattle.core_notes.specs.declared.fault.CoreFault.TheVariants.{Elf, NotCore, Note, StatusSize, NoThread, TooManyThreads}
 use Rattle.core_notes.specs.declared.status.Thread.{Thread}
 use Rattle.core_notes.specs.Note.{NoteView}
-use Rattle.core_notes.specs.Listing.{Item, items_of, whole_notes}
+use Rattle.core_notes.specs.Listing.{NoteItem, notes_in, whole_notes}
 use Rattle.core_notes.specs.Room.{note_room_check}
 use Rattle.core_notes.specs.Thread.{is_mask_note, is_status, status_size, threads_in}
 
@@ -27,13 +27,13 @@ note_check arch after_thread n =
     >> where_so (after_thread && is_mask_note arch n) (unless (length n.descriptor.left == 16) (Note n.place))
 
 -- each note in order; one that ends after its segment is a fault
-unfoldable pub items_check : Arch → (after_thread : Bool) → List Item → Check
+unfoldable pub items_check : Arch → (after_thread : Bool) → List NoteItem → Check
 items_check arch after_thread [] = Ok tt
 items_check arch after_thread (Err place ∷ items) = Err (Note place)
 items_check arch after_thread (Ok n ∷ items) = note_check arch after_thread n >> items_check arch (after_thread || is_status n) items
 
 -- the notes up to the n-th status, with it
-unfoldable pub through_status : (n : ℕ) → List Item → List Item
+unfoldable pub through_status : (n : ℕ) → List NoteItem → List NoteItem
 through_status zero items = []
 through_status (suc n) [] = []
 through_status (suc n) (Err place ∷ items) = Err place ∷ through_status (suc n) items
@@ -46,7 +46,7 @@ elf_part (Err fault) = Err (Elf fault)
 
 -- the threads of a file
 abbrev pub file_threads : List ℕ → List Thread
-file_threads file = threads_in (arch_of file) (whole_notes (items_of file))
+file_threads file = threads_in (arch_of file) (whole_notes (notes_in file))
 
 -- there are at least one thread and at most 4096
 abbrev pub thread_count_check : (threads : ℕ) → Check
@@ -65,7 +65,7 @@ unfoldable pub core_part : List ℕ → Check
 core_part file =
     unless (is_core_kind (kind_of file)) NotCore
     >> elf_part (each_below (segment_count file) (note_room_check file))
-    >> items_check (arch_of file) false (through_status 4097 (items_of file))
+    >> items_check (arch_of file) false (through_status 4097 (notes_in file))
     >> thread_count_check (length (file_threads file))
 
 -- all checks: the first that fails is the file's fault

@@ -36,8 +36,8 @@ AreNotes (s ∷ ss) notes = (here later : List NoteView) × (notes ≡ here ++ l
 
 -- ---- the notes as a list, which ends at a note that ends after its segment
 -- a note, or the place of one that ends after its segment
-abbrev pub Item : Type 0
-Item = Result NoteView ℕ
+abbrev pub NoteItem : Type 0
+NoteItem = Result NoteView ℕ
 
 -- the number of bytes after the note
 abbrev pub left_after : Read NoteView → ℕ
@@ -45,42 +45,42 @@ left_after (Ok (n, after)) = length after.left
 left_after (Err e) = 0
 
 -- the note and those after it, or the place alone
-abbrev pub front_of : (place : ℕ) → Read NoteView → List Item → List Item
-front_of place (Ok (n, after)) others = Ok n ∷ others
-front_of place (Err e) others = Err place ∷ []
+abbrev pub note_front : (place : ℕ) → Read NoteView → List NoteItem → List NoteItem
+note_front place (Ok (n, after)) others = Ok n ∷ others
+note_front place (Err e) others = Err place ∷ []
 
 -- the notes after this number of bytes, which are of a note that was read
-unfoldable pub notes_after : (skipped place : ℕ) → List ℕ → List Item
+unfoldable pub notes_after : (skipped place : ℕ) → List ℕ → List NoteItem
 notes_after skipped place [] = []
 notes_after (suc n) place (b ∷ bs) = notes_after n (place + 1) bs
 notes_after zero place (b ∷ bs) =
     let read = note_at (record { place = place; left = b ∷ bs }) in
-    front_of place read (notes_after (length bs - left_after read) (place + 1) bs)
+    note_front place read (notes_after (length bs - left_after read) (place + 1) bs)
 
 -- the notes from a cursor on
-abbrev pub notes_from : Cursor → List Item
+abbrev pub notes_from : Cursor → List NoteItem
 notes_from at = notes_after 0 at.place at.left
 
 -- the notes of a segment
-abbrev pub segment_items : SegmentView → List Item
+abbrev pub segment_items : SegmentView → List NoteItem
 segment_items s = if holds_notes s then notes_from (segment_cursor s) else []
 
 -- the notes of a file
-abbrev pub items_of : List ℕ → List Item
-items_of bytes = flat_map segment_items (segments bytes)
+abbrev pub notes_in : List ℕ → List NoteItem
+notes_in bytes = flat_map segment_items (segments bytes)
 
 -- the notes that end in their segments
-unfoldable pub whole_notes : List Item → List NoteView
+unfoldable pub whole_notes : List NoteItem → List NoteView
 whole_notes [] = []
 whole_notes (Ok n ∷ items) = n ∷ whole_notes items
 whole_notes (Err place ∷ items) = whole_notes items
 
 -- ---- an iterator
 -- the notes that an iterator has left
-abbrev pub items_left : Notes → List Item
-items_left notes = notes_from (cursor notes.rest) ++ flat_map segment_items (drop notes.segment (segments (file notes.elf)))
+abbrev pub notes_remaining : Notes → List NoteItem
+notes_remaining notes = notes_from (cursor notes.rest) ++ flat_map segment_items (drop notes.segment (segments (file notes.elf)))
 
 -- an item as the code has it
-abbrev pub item : Result Note ℕ → Item
-item (Ok n) = Ok (note_view n)
-item (Err place) = Err place
+abbrev pub note_item : Result Note ℕ → NoteItem
+note_item (Ok n) = Ok (note_view n)
+note_item (Err place) = Err place

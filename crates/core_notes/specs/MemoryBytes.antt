@@ -23,12 +23,12 @@ unfoldable pub bytes_at : List Region → (address len : ℕ) → Option (List �
 bytes_at memory address len = option_map (region_bytes address len) (find (holds_bytes address len) memory)
 
 -- the address is one of a load segment's, as it is in memory: PT_LOAD 1
-abbrev pub has_address : List ℕ → (address i : ℕ) → Bool
-has_address file address i = (p_type file i == 1) && nat_le (p_vaddr file i) address && nat_lt address (p_vaddr file i + p_memsz file i)
+abbrev pub segment_contains : List ℕ → (address i : ℕ) → Bool
+segment_contains file address i = (p_type file i == 1) && nat_le (p_vaddr file i) address && nat_lt address (p_vaddr file i + p_memsz file i)
 
 -- whether the first load segment that has an address is executable, if one has it
 unfoldable pub executable_at : List ℕ → (address : ℕ) → Option Bool
-executable_at file address = option_map (is_executable file) (find (has_address file address) (range_with_len 0 (segment_count file)))
+executable_at file address = option_map (is_executable file) (find (segment_contains file address) (range_with_len 0 (segment_count file)))
 
 -- ---- the same of segments, as they are searched
 -- the segment is memory that holds all of `len` bytes from an address on

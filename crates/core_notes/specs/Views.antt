@@ -7,7 +7,7 @@ use Rattle.core_notes.specs.declared.status.Thread.{Thread}
 use Rattle.core_notes.specs.declared.iter.ThreadIter.{ThreadIter}
 use Rattle.core_notes.specs.declared.view.Core.{Core}
 use Rattle.core_notes.specs.Note.{NoteView}
-use Rattle.core_notes.specs.Listing.{items_of, items_left, whole_notes}
+use Rattle.core_notes.specs.Listing.{notes_in, notes_remaining, whole_notes}
 use Rattle.core_notes.specs.Thread.{threads_in}
 use Rattle.core_notes.specs.Memory.{file_regions}
 
@@ -17,7 +17,7 @@ core_bytes core = file core.elf
 
 -- its notes
 abbrev pub notes_of : Core → List NoteView
-notes_of core = whole_notes (items_of (core_bytes core))
+notes_of core = whole_notes (notes_in (core_bytes core))
 
 -- its threads
 abbrev pub threads_of : Core → List Thread
@@ -29,4 +29,4 @@ memory_of core = file_regions (core_bytes core)
 
 -- the threads that an iterator has left
 abbrev pub threads_left : ThreadIter → List Thread
-threads_left it = threads_in it.arch (whole_notes (items_left it.notes))
+threads_left it = threads_in it.arch (whole_notes (notes_remaining it.notes))

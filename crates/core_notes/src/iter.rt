@@ -2,7 +2,7 @@
 
 ghost use Rattle.std.specs.Prelude.{◌≡◌};
 ghost use Rattle.sf_model.specs.declared.machine.Arch.{Arch as machine};
-ghost use Rattle.core_notes.specs.Listing.{items_left, whole_notes};
+ghost use Rattle.core_notes.specs.Listing.{notes_remaining, whole_notes};
 ghost use Rattle.core_notes.specs.Thread.{own_mask};
 ghost use Rattle.core_notes.specs.Threads.{GivesStatus};
 
@@ -24,7 +24,7 @@ impl<'a> ThreadIter<'a> {
 
     /// Returns the iterator over the threads of these notes.
     pub(crate) fn new(arch: Arch, notes: Notes<'a>) -> ThreadIter<'a>
-        ensures { threads_left result ≡ threads_in arch (whole_notes (items_left notes.entry)) }
+        ensures { threads_left result ≡ threads_in arch (whole_notes (notes_remaining notes.entry)) }
     {
         ThreadIter { arch, notes }
     }
@@ -32,7 +32,7 @@ impl<'a> ThreadIter<'a> {
 
 // Takes the next status. Notes before it are of no thread, or of the one before.
 fn next_status<'a>(notes: &mut Notes<'a>) -> Option<Note<'a>>
-    ensures { (arch : machine) → GivesStatus arch result (whole_notes (items_left notes.old)) (whole_notes (items_left notes.new)) }
+    ensures { (arch : machine) → GivesStatus arch result (whole_notes (notes_remaining notes.old)) (whole_notes (notes_remaining notes.new)) }
 {
     while let Some(item) = notes.next() {
         if let Ok(note) = item {
@@ -46,7 +46,7 @@ fn next_status<'a>(notes: &mut Notes<'a>) -> Option<Note<'a>>
 
 // Returns the last mask before the next status.
 fn own_mask(arch: Arch, notes: Notes<'_>) -> Option<u64>
-    ensures { result ≡ own_mask arch (whole_notes (items_left notes.entry)) }
+    ensures { result ≡ own_mask arch (whole_notes (notes_remaining notes.entry)) }
 {
     let mut mask = None;
     for item in notes {

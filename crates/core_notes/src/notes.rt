@@ -22,12 +22,12 @@ pub struct Notes<'a> {
 impl<'a> Notes<'a> {
     ghost use Rattle.std.specs.Prelude.{◌≡◌, []};
     ghost use Rattle.std.specs.Iterator.{YieldsFirstBy};
-    ghost use Rattle.core_notes.specs.Listing.{item, items_left, items_of};
+    ghost use Rattle.core_notes.specs.Listing.{note_item, notes_remaining, notes_in};
 
     /// Returns the iterator over the notes of a file.
     pub fn new(elf: &Elf<'a>) -> Notes<'a>
         requires { length (file elf.now) < 2 ^ 32 }
-        ensures { items_left result ≡ items_of (file elf.now) }
+        ensures { notes_remaining result ≡ notes_in (file elf.now) }
     {
         Notes {
             elf: *elf,
@@ -38,8 +38,8 @@ impl<'a> Notes<'a> {
 
     // Goes on to the next segment that has notes if this one has no note left.
     fn go_on(&mut self)
-        ensures same { items_left self.new ≡ items_left self.old }
-        ensures all { length self.new.rest.bytes.now ≡ 0 → items_left self.new ≡ [] }
+        ensures same { notes_remaining self.new ≡ notes_remaining self.old }
+        ensures all { length self.new.rest.bytes.now ≡ 0 → notes_remaining self.new ≡ [] }
     {
         while self.rest.is_empty() && self.segment < self.elf.segments() {
             self.rest = note_bytes(&self.elf, self.segment);
@@ -49,7 +49,7 @@ impl<'a> Notes<'a> {
 
     // Takes the next note, or the place of one that ends after its segment.
     fn take_item(&mut self) -> Option<Result<Note<'a>, u64>>
-        ensures { YieldsFirstBy item items_left self.old result self.new }
+        ensures { YieldsFirstBy note_item notes_remaining self.old result self.new }
     {
         self.go_on();
         if self.rest.is_empty() {
@@ -72,13 +72,13 @@ impl<'a> Notes<'a> {
 
 impl<'a> Iterator for Notes<'a> {
     ghost use Rattle.std.specs.Iterator.{YieldsFirstBy, item_count};
-    ghost use Rattle.core_notes.specs.Listing.{item, items_left};
+    ghost use Rattle.core_notes.specs.Listing.{note_item, notes_remaining};
 
     type Item = Result<Note<'a>, u64>;
 
-    ghost next_gives = { YieldsFirstBy item items_left };
+    ghost next_gives = { YieldsFirstBy note_item notes_remaining };
 
-    ghost remaining = { item_count items_left };
+    ghost remaining = { item_count notes_remaining };
 
     fn next(&mut self) -> Option<Result<Note<'a>, u64>> {
         self.take_item()

@@ -4,7 +4,7 @@ ghost use Rattle.std.specs.Prelude.{◌≡◌, ◌<◌, ◌^◌, IfOk, OnOk, ◌
 ghost use Rattle.elf_read.specs.Checking.{verdict};
 ghost use Rattle.elf_read.specs.Views.{file};
 ghost use Rattle.core_notes.specs.Checks as spec;
-ghost use Rattle.core_notes.specs.Listing.{items_left, whole_notes};
+ghost use Rattle.core_notes.specs.Listing.{notes_remaining, whole_notes};
 ghost use Rattle.core_notes.specs.Note.{note_view};
 ghost use Rattle.core_notes.specs.Thread.{threads_in};
 
@@ -41,8 +41,8 @@ fn is_core(kind: Kind) -> bool
 
 // Checks the notes, and counts their threads, up to thread 4097.
 fn count_threads(arch: Arch, notes: Notes<'_>) -> Result<u32, CoreFault>
-    ensures check { verdict result ≡ spec.items_check arch false (spec.through_status 4097 (items_left notes.entry)) }
-    ensures count { IfOk result (λ n. n ≡ min (length (threads_in arch (whole_notes (items_left notes.entry)))) 4097) }
+    ensures check { verdict result ≡ spec.items_check arch false (spec.through_status 4097 (notes_remaining notes.entry)) }
+    ensures count { IfOk result (λ n. n ≡ min (length (threads_in arch (whole_notes (notes_remaining notes.entry)))) 4097) }
 {
     let mut threads: u32 = 0;
     for item in notes {

@@ -4,8 +4,8 @@ use Rattle.sf_model.specs.Walk.{Listing, ThreadState}
 use Rattle.core_notes.specs.declared.status.Thread.{Thread}
 
 -- what a walk lists: its frames, and why it stops
-abbrev pub listing : Walk → Listing
-listing walk = record { frames = walk.frames.items; stop = walk.stop }
+abbrev pub walk_listing : Walk → Listing
+walk_listing walk = record { frames = walk.frames.items; stop = walk.stop }
 
 -- the state of a thread of a core file
 abbrev pub thread_state : Thread → ThreadState

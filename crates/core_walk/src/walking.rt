@@ -3,7 +3,7 @@
 ghost use Rattle.std.specs.Prelude.{◌≡◌, IfOk};
 ghost use Rattle.sf_model.specs.Walk.{look_up_walk, section_walk};
 ghost use Rattle.sf_decode.specs.View.{table_of};
-ghost use Rattle.core_walk.specs.Walk.{listing, thread_state};
+ghost use Rattle.core_walk.specs.Walk.{walk_listing, thread_state};
 
 use crate::look_up::LookUp;
 use crate::step::{Caller, address_before, step};
@@ -24,7 +24,7 @@ pub fn walk_by<L: LookUp, M: Memory>(
     mem: &M,
     depth: u32,
 ) -> Result<sf_model::Walk, NoMemory>
-    ensures { IfOk result (λ walk. listing walk ≡ look_up_walk (L.found_at rows.now) (thread_state thread.now) (M.regions mem.now) depth) }
+    ensures { IfOk result (λ walk. walk_listing walk ≡ look_up_walk (L.found_at rows.now) (thread_state thread.now) (M.regions mem.now) depth) }
 {
     let mut frames = Vec::new(alloc);
     let mut at = Caller {
@@ -56,7 +56,7 @@ pub fn walk<M: Memory>(
     mem: &M,
     depth: u32,
 ) -> Result<sf_model::Walk, NoMemory>
-    ensures { IfOk result (λ walk. listing walk ≡ section_walk (table_of view.now).functions (thread_state thread.now) (M.regions mem.now) depth) }
+    ensures { IfOk result (λ walk. walk_listing walk ≡ section_walk (table_of view.now).functions (thread_state thread.now) (M.regions mem.now) depth) }
 {
     walk_by(alloc, view, thread, mem, depth)
 }

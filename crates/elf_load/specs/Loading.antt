@@ -14,7 +14,7 @@ use Rattle.elf_load.specs.declared.fault.LoadFault.TheVariants.{Elf, NotLoaded}
 use Rattle.elf_load.specs.declared.mapping.Mapping.{Mapping}
 use Rattle.elf_load.specs.declared.loading.Loading.{Loading}
 use Rattle.elf_load.specs.BuildId.{build_id}
-use Rattle.elf_load.specs.Segments.{first_loaded, load_address, memory_end, page_ceiling, page_floor}
+use Rattle.elf_load.specs.Segments.{first_loaded, load_address, loaded_end, page_ceiling, page_floor}
 
 -- the page of the first loaded segment, the first page after the last loaded byte, the load address, and the build identifier
 pub record LoadingView : Type 0 where
@@ -34,7 +34,7 @@ headers_check file = file_check file >> program_headers_check file >> each_below
 -- the first page after the last loaded byte, which has to be an address
 abbrev pub page_after : (page : ℕ) → (file : List ℕ) → Result ℕ LoadFault
 page_after page file =
-    if nat_lt (page_ceiling page (memory_end file)) (2 ^ 64) then Ok (page_ceiling page (memory_end file)) else Err NotLoaded
+    if nat_lt (page_ceiling page (loaded_end file)) (2 ^ 64) then Ok (page_ceiling page (loaded_end file)) else Err NotLoaded
 
 -- where a file is loaded whose first loaded segment is i, with this page after its last loaded byte
 abbrev pub loading_to : (page : ℕ) → Mapping → (file : List ℕ) → (i : ℕ) → (after : Result ℕ LoadFault) → Result LoadingView LoadFault

@@ -37,8 +37,8 @@ greatest [] = 0
 greatest (n ∷ ns) = max n (greatest ns)
 
 -- the address after the last byte of all loaded segments
-unfoldable pub memory_end : List ℕ → ℕ
-memory_end file = greatest (map (segment_end file) (header_numbers file))
+unfoldable pub loaded_end : List ℕ → ℕ
+loaded_end file = greatest (map (segment_end file) (header_numbers file))
 
 -- ---- in the addresses of a process
 -- segment i is executable and has, in its first page or after it, the byte at this place of the file

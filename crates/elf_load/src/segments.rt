@@ -71,7 +71,7 @@ fn greater(a: u128, b: u128) -> u128
 /// Returns the address after the last byte of all loaded segments.
 pub fn memory_end(elf: &Elf<'_>, count: u32) -> u128
     requires { count ≡ segment_total (file elf.now) }
-    ensures value { result ≡ spec.memory_end (file elf.now) }
+    ensures value { result ≡ spec.loaded_end (file elf.now) }
     ensures small { result < 2 ^ 66 }
 {
     let mut end = 0;

@@ -7,7 +7,7 @@ use Rattle.elf_read.specs.Sections.{section_fields}
 use Rattle.elf_place.specs.declared.fault.PlaceFault.{PlaceFault}
 use Rattle.elf_place.specs.declared.fault.PlaceFault.TheVariants.{Align, AddressOverflow, NoBits, NoMemory}
 use Rattle.elf_place.specs.Cursor.{start_from, cursor_from, address_from, overflow_from, IsCursor, placed_below}
-use Rattle.elf_place.specs.Place.{is_placed, aligned, is_in_memory, end_of, start_of, address_of, overflow_check, Fails, is_kept_eh_frame, eh_frames_below}
+use Rattle.elf_place.specs.Place.{is_placed, aligned, has_addresses, end_of, section_start, address_of, overflow_check, Fails, is_kept_eh_frame, eh_frames_below}
 use Rattle.elf_place.proofs.Numbers.{with_one, filter_none, filter_suc}
 
 -- the cursor starts at the base
@@ -53,8 +53,8 @@ unfolding start_from
 start_from-object file base cursor i object = rw object refl
 
 -- where a section starts by the cursor is where it starts
-pub start_from-is : (file : List ℕ) (dropped : List Bool) (base i cursor : ℕ) → IsCursor file dropped base i cursor → start_from file base cursor i ≡ start_of file dropped base i
-unfolding start_from start_of
+pub start_from-is : (file : List ℕ) (dropped : List Bool) (base i cursor : ℕ) → IsCursor file dropped base i cursor → start_from file base cursor i ≡ section_start file dropped base i
+unfolding start_from section_start
 start_from-is file dropped base i cursor is =
     elim (cases_Bool (is_rel file)) [
       | inl object ↦ rw object (ap (λ (e : ℕ). aligned e (section_fields file i).sh_addralign) (is object))
@@ -69,7 +69,7 @@ address_from-is file dropped base i cursor is =
 pub overflow_from-is : (file : List ℕ) (dropped : List Bool) (base i cursor : ℕ) → IsCursor file dropped base i cursor → overflow_from file dropped base cursor i ≡ overflow_check file dropped base i
 unfolding overflow_from overflow_check
 overflow_from-is file dropped base i cursor is =
-    ap (λ (start : ℕ). where_so (is_placed file dropped i) (unless (is_in_memory start (section_fields file i).sh_size) (AddressOverflow i))) (start_from-is file dropped base i cursor is)
+    ap (λ (start : ℕ). where_so (is_placed file dropped i) (unless (has_addresses start (section_fields file i).sh_size) (AddressOverflow i))) (start_from-is file dropped base i cursor is)
 
 -- the cursor after a section is where the sections up to it end
 pub is_cursor-next : (file : List ℕ) (dropped : List Bool) (base i cursor : ℕ) → IsCursor file dropped base i cursor → IsCursor file dropped base (i + 1) (cursor_from file dropped base cursor i)

@@ -8,7 +8,7 @@ use Rattle.elf_read.specs.Checking.{unless, where_so, ◌>>◌, each_below}
 use Rattle.elf_read.specs.Sections.{section_fields}
 use Rattle.elf_place.specs.declared.fault.PlaceFault.{PlaceFault}
 use Rattle.elf_place.specs.declared.fault.PlaceFault.TheVariants.{AddressOverflow}
-use Rattle.elf_place.specs.Place.{is_placed, is_in_memory, start_of, address_of, overflow_check, LiesInMemory}
+use Rattle.elf_place.specs.Place.{is_placed, has_addresses, section_start, address_of, overflow_check, LiesInMemory}
 use Rattle.elf_place.proofs.Values.{values_below, length-values_below, get_or-values_below}
 
 abbrev okay : Result (Unit {0}) PlaceFault
@@ -36,19 +36,19 @@ both_true : (a b : Bool) → (a && b) ≡ true → (a ≡ true) × (b ≡ true)
 both_true true b h = (refl, h)
 both_true false b h = absurd cc
 
-in_memory_by : (b : Bool) (start size i : ℕ) → is_in_memory start size ≡ b → unless b (AddressOverflow i) ≡ okay → (start < 2 ^ 64) × (start + size ≤ 2 ^ 64)
+in_memory_by : (b : Bool) (start size i : ℕ) → has_addresses start size ≡ b → unless b (AddressOverflow i) ≡ okay → (start < 2 ^ 64) × (start + size ≤ 2 ^ 64)
 in_memory_by true start size i t h =
     let p = both_true (nat_lt start (2 ^ 64)) (nat_le (start + size) (2 ^ 64)) t in
     (ltb-true _ _ p.0, leb-true _ _ p.1)
 in_memory_by false start size i t h = absurd cc
 
-placed_by : (b : Bool) (start size i : ℕ) → where_so b (unless (is_in_memory start size) (AddressOverflow i)) ≡ okay → LiesInMemory (if b then Some start else None) size
-placed_by true start size i h = in_memory_by (is_in_memory start size) start size i refl h
+placed_by : (b : Bool) (start size i : ℕ) → where_so b (unless (has_addresses start size) (AddressOverflow i)) ≡ okay → LiesInMemory (if b then Some start else None) size
+placed_by true start size i h = in_memory_by (has_addresses start size) start size i refl h
 placed_by false start size i h = tt
 
 address_lies : (file : List ℕ) (dropped : List Bool) (base i : ℕ) → overflow_check file dropped base i ≡ okay → LiesInMemory (address_of file dropped base i) (section_fields file i).sh_size
 unfolding overflow_check address_of
-address_lies file dropped base i h = placed_by (is_placed file dropped i) (start_of file dropped base i) (section_fields file i).sh_size i h
+address_lies file dropped base i h = placed_by (is_placed file dropped i) (section_start file dropped base i) (section_fields file i).sh_size i h
 
 pub addresses_lie : (file : List ℕ) (dropped : List Bool) (base count : ℕ) (addresses : List (Option ℕ)) → addresses ≡ values_below count (address_of file dropped base) → each_below count (overflow_check file dropped base) ≡ okay
     → (i : ℕ) → LiesInMemory (get_or addresses i None) (section_fields file i).sh_size

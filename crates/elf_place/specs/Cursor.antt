@@ -6,7 +6,7 @@ use Rattle.elf_read.specs.Header.{is_rel}
 use Rattle.elf_read.specs.Sections.{section_fields}
 use Rattle.elf_place.specs.declared.fault.PlaceFault.{PlaceFault}
 use Rattle.elf_place.specs.declared.fault.PlaceFault.TheVariants.{AddressOverflow}
-use Rattle.elf_place.specs.Place.{is_placed, aligned, is_in_memory, end_of}
+use Rattle.elf_place.specs.Place.{is_placed, aligned, has_addresses, end_of}
 
 -- where a section starts: in an object at the cursor, as its alignment asks; else at its own address, moved by the base
 unfoldable pub start_from : List ℕ → (base cursor : ℕ) → ℕ → ℕ
@@ -23,7 +23,7 @@ address_from file dropped base cursor i = if is_placed file dropped i then Some 
 -- a section lies in memory from the cursor on
 unfoldable pub overflow_from : List ℕ → List Bool → (base cursor : ℕ) → ℕ → Result (Unit {0}) PlaceFault
 overflow_from file dropped base cursor i =
-    where_so (is_placed file dropped i) (unless (is_in_memory (start_from file base cursor i) (section_fields file i).sh_size) (AddressOverflow i))
+    where_so (is_placed file dropped i) (unless (has_addresses (start_from file base cursor i) (section_fields file i).sh_size) (AddressOverflow i))
 
 -- the numbers below n of sections that get an address, in order
 abbrev pub placed_below : List ℕ → List Bool → ℕ → List ℕ

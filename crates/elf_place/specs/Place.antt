@@ -24,13 +24,13 @@ end_of file from [] = from
 end_of file from (i ∷ sections) = end_of file (aligned from (section_fields file i).sh_addralign + (section_fields file i).sh_size) sections
 
 -- where a section starts: in an object after those before it, as its alignment asks; else at its own address, moved by the base
-unfoldable pub start_of : List ℕ → List Bool → (base i : ℕ) → ℕ
-start_of file dropped base i =
+unfoldable pub section_start : List ℕ → List Bool → (base i : ℕ) → ℕ
+section_start file dropped base i =
     if is_rel file then aligned (end_of file base (filter (is_placed file dropped) (numbers_below i))) (section_fields file i).sh_addralign else base + (section_fields file i).sh_addr
 
 -- a section's address, where it has one
 unfoldable pub address_of : List ℕ → List Bool → (base i : ℕ) → Option ℕ
-address_of file dropped base i = if is_placed file dropped i then Some (start_of file dropped base i) else None
+address_of file dropped base i = if is_placed file dropped i then Some (section_start file dropped base i) else None
 
 -- a section that has an address starts below 2^64, and ends there or before
 abbrev pub LiesInMemory : Option ℕ → (size : ℕ) → Type 0
@@ -49,7 +49,7 @@ place_check file dropped base =
     let align = (section_fields file i).sh_addralign in
     where_so (is_placed file dropped i) (unless ((align == 0) || is_power_of_two align) (Align i)))
     >> each_below (section_count file) (λ i.
-    let start = start_of file dropped base i in
+    let start = section_start file dropped base i in
     where_so (is_placed file dropped i) (unless (nat_lt start (2 ^ 64) && nat_le (start + (section_fields file i).sh_size) (2 ^ 64)) (AddressOverflow i)))
     >> each_below (section_count file) (λ i. where_so (is_kept_eh_frame file dropped i) (unless (not ((section_fields file i).sh_type == 8)) (NoBits i)))
 
@@ -85,13 +85,13 @@ unfoldable pub align_check : List ℕ → List Bool → ℕ → Result (Unit {0}
 align_check file dropped i = where_so (is_placed file dropped i) (unless (is_alignment (section_fields file i).sh_addralign) (Align i))
 
 -- it starts below 2^64 and ends there or before
-abbrev pub is_in_memory : ℕ → ℕ → Bool
-is_in_memory start size = nat_lt start (2 ^ 64) && nat_le (start + size) (2 ^ 64)
+abbrev pub has_addresses : ℕ → ℕ → Bool
+has_addresses start size = nat_lt start (2 ^ 64) && nat_le (start + size) (2 ^ 64)
 
 -- a section that gets an address lies in memory
 unfoldable pub overflow_check : List ℕ → List Bool → (base i : ℕ) → Result (Unit {0}) PlaceFault
 overflow_check file dropped base i =
-    where_so (is_placed file dropped i) (unless (is_in_memory (start_of file dropped base i) (section_fields file i).sh_size) (AddressOverflow i))
+    where_so (is_placed file dropped i) (unless (has_addresses (section_start file dropped base i) (section_fields file i).sh_size) (AddressOverflow i))
 
 -- call frame information has bytes: it isn't of type SHT_NOBITS 8
 unfoldable pub bits_check : List ℕ → List Bool → ℕ → Result (Unit {0}) PlaceFault

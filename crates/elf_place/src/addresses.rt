@@ -62,7 +62,7 @@ fn start_from(elf: &Elf<'_>, base: u64, cursor: u128, i: u32) -> u128
 // Returns whether a section starts below 2^64 and ends there or before.
 fn is_in_memory(start: u128, size: u64) -> bool
     requires { start < 2 ^ 66 }
-    ensures { result ≡ spec.is_in_memory start size }
+    ensures { result ≡ spec.has_addresses start size }
 {
     start < ADDRESS_END && start + u128::from(size) <= ADDRESS_END
 }

@@ -12,10 +12,10 @@ use Rattle.elf_reloc.specs.declared.fault.RelocFault.{RelocFault}
 use Rattle.elf_reloc.specs.declared.fault.RelocFault.TheVariants as faults
 use Rattle.elf_reloc.specs.declared.fix.RelocatedField.{RelocatedField}
 use Rattle.elf_reloc.specs.Applied.{Slot, Applied, by_place, slot_of, is_slot, slot_check, applied_of, applied_to}
-use Rattle.elf_reloc.specs.Order.{has_width, lies_on, overlap_check, place_check}
+use Rattle.elf_reloc.specs.Order.{has_width, lies_on, overlap_check, places_check}
 use Rattle.elf_reloc.specs.Table.{width_of}
 use Rattle.elf_reloc.specs.Reading.{◌>>=◌, section_fixes}
-use Rattle.elf_reloc.specs.Views.{Reads, Overlaps, Refuses}
+use Rattle.elf_reloc.specs.Views.{Reads, Overlaps, IsFirstFault}
 use Rattle.elf_reloc.proofs.Checked.{positive_width}
 use Rattle.elf_reloc.proofs.First.{nil, same, other}
 use Rattle.elf_reloc.proofs.SortedFixes.{is_by_place}
@@ -64,8 +64,8 @@ slot_lies (g ∷ gs) f apart = elim (cases_eq g.place f.place) [
       ∙ sym (other_is f g gs differ)
 ]
 
-pub slots_checked : (fields : List Field) (fixes : List RelocatedField) → AreApart fields → slot_check (map slot_of fields) fixes ≡ place_check fields fixes
-unfolding slot_check place_check
+pub slots_checked : (fields : List Field) (fixes : List RelocatedField) → AreApart fields → slot_check (map slot_of fields) fixes ≡ places_check fields fixes
+unfolding slot_check places_check
 slots_checked fields [] apart = refl
 slots_checked fields (f ∷ fs) apart =
     ap (λ (b : Bool). cond b (slot_check (map slot_of fields) fs) (Err (faults.Place f.index))) (slot_lies fields f apart)
@@ -91,14 +91,14 @@ read_is slots section given fixes r =
 checked_is : (slots : List Slot) (section : List ℕ) (fixes : List RelocatedField) (check : Result (Unit {0}) RelocFault) → slot_check slots fixes ≡ check → (slot_check slots fixes >>= λ _. Ok (applied_of fixes section slots)) ≡ (check >>= λ _. Ok (applied_of fixes section slots))
 checked_is slots section fixes check e = ap (λ (c : Result (Unit {0}) RelocFault). c >>= λ _. Ok (applied_of fixes section slots)) e
 
-pub applied : (p : Placing) (section : ℕ) (fixes : List RelocatedField) (fields : List Field) → Reads (section_fixes p section) fixes → AreApart fields → place_check fields fixes ≡ Ok tt
+pub applied : (p : Placing) (section : ℕ) (fixes : List RelocatedField) (fields : List Field) → Reads (section_fixes p section) fixes → AreApart fields → places_check fields fixes ≡ Ok tt
     → applied_to p section (map slot_of fields) ≡ Ok (applied_of fixes (section_bytes p.file section) (map slot_of fields))
 applied p section fixes fields reads apart checked =
     to_is p section (map slot_of fields)
     ∙ read_is (map slot_of fields) (section_bytes p.file section) (section_fixes p section) fixes reads
     ∙ checked_is (map slot_of fields) (section_bytes p.file section) fixes (Ok tt) (slots_checked fields fixes apart ∙ checked)
 
-pub misplaced : (p : Placing) (section : ℕ) (fixes : List RelocatedField) (fields : List Field) (e : RelocFault) → Reads (section_fixes p section) fixes → AreApart fields → place_check fields fixes ≡ Err e → applied_to p section (map slot_of fields) ≡ Err e
+pub misplaced : (p : Placing) (section : ℕ) (fixes : List RelocatedField) (fields : List Field) (e : RelocFault) → Reads (section_fixes p section) fixes → AreApart fields → places_check fields fixes ≡ Err e → applied_to p section (map slot_of fields) ≡ Err e
 misplaced p section fixes fields e reads apart checked =
     to_is p section (map slot_of fields)
     ∙ read_is (map slot_of fields) (section_bytes p.file section) (section_fixes p section) fixes reads
@@ -112,7 +112,7 @@ refused_by slots section given e (inr o) = inr (
     ∙ ap (λ (c : Result (Unit {0}) RelocFault). c >>= λ _. slot_check slots o.sorted >>= λ _. Ok (applied_of o.sorted section slots)) o.refused
     )
 
-refused_from : (slots : List Slot) (section : List ℕ) (given : Result (List RelocatedField) RelocFault) (e : RelocFault) → Refuses e given → (e ≡ faults.NoMemory) ⊎ (from_fixes slots section given ≡ Err e)
+refused_from : (slots : List Slot) (section : List ℕ) (given : Result (List RelocatedField) RelocFault) (e : RelocFault) → IsFirstFault e given → (e ≡ faults.NoMemory) ⊎ (from_fixes slots section given ≡ Err e)
 refused_from slots section given faults.NoMemory h = inl refl
 refused_from slots section given (faults.UnknownType index) h = refused_by slots section given (faults.UnknownType index) h
 refused_from slots section given (faults.Range index) h = refused_by slots section given (faults.Range index) h
@@ -121,7 +121,7 @@ refused_from slots section given (faults.Twice index) h = refused_by slots secti
 refused_from slots section given (faults.RelSection number) h = refused_by slots section given (faults.RelSection number) h
 refused_from slots section given (faults.OutOfSection index) h = refused_by slots section given (faults.OutOfSection index) h
 
-pub refused : (p : Placing) (section : ℕ) (slots : List Slot) (e : RelocFault) → Refuses e (section_fixes p section) → (e ≡ faults.NoMemory) ⊎ (applied_to p section slots ≡ Err e)
+pub refused : (p : Placing) (section : ℕ) (slots : List Slot) (e : RelocFault) → IsFirstFault e (section_fixes p section) → (e ≡ faults.NoMemory) ⊎ (applied_to p section slots ≡ Err e)
 unfolding applied_to
 refused p section slots e h = refused_from slots (section_bytes p.file section) (section_fixes p section) e h
 

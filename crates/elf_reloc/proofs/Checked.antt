@@ -18,7 +18,7 @@ use Rattle.elf_reloc.specs.declared.table.Range.{Range}
 use Rattle.elf_reloc.specs.declared.table.Range.TheVariants.{Any, Unsigned, Signed, Either}
 use Rattle.elf_reloc.specs.Fields.{fix_bits, bits_by, bits_in, dropped_by, is_dropped_field}
 use Rattle.sf_bytes.specs.Rising.{field_place, AreApart}
-use Rattle.elf_reloc.specs.Order.{overlap_check, first_at, place_of, has_width, lies_on, place_check}
+use Rattle.elf_reloc.specs.Order.{overlap_check, first_at, place_of, has_width, lies_on, places_check}
 use Rattle.elf_reloc.specs.Patched.{patched, AreInside, IsFree, AreRaw, IsUnresolved, IsDropped, FieldHolds}
 use Rattle.elf_reloc.specs.Reading.{section_fixes}
 use Rattle.elf_reloc.specs.Table.{width_of, low_bits}
@@ -82,10 +82,10 @@ passed true r e h = (refl, h)
 passed false r e h = absurd (cc h)
 
 -- each that is written lies on one of the fields
-each_lies : (fields : List Field) (fs : List RelocatedField) → place_check fields fs ≡ Ok tt → All (λ f. lies_on fields f ≡ true) fs
+each_lies : (fields : List Field) (fs : List RelocatedField) → places_check fields fs ≡ Ok tt → All (λ f. lies_on fields f ≡ true) fs
 each_lies fields [] h = All-nil (λ (f : RelocatedField). lies_on fields f ≡ true)
 each_lies fields (f ∷ fs) h =
-    let p = passed (lies_on fields f) (place_check fields fs) (faults.Place f.index) (sym (placing.cons fields f fs) ∙ h) in
+    let p = passed (lies_on fields f) (places_check fields fs) (faults.Place f.index) (sym (placing.cons fields f fs) ∙ h) in
     All-cons (λ (x : RelocatedField). lies_on fields x ≡ true) f fs p.0 (each_lies fields fs p.1)
 
 of_width : (o : Option Field) (f : RelocatedField) → has_width o f ≡ true → (h : Field) × (o ≡ Some h) × (h.width ≡ width_of f.range)
@@ -198,12 +198,12 @@ holds_by fixes section fields i d (Some f) apart inside small clear raw lie with
 
 -- the fields of a list on which all lie
 pub hold : (fixes : List RelocatedField) (section : List ℕ) (fields : List Field) → overlap_check 0 fixes ≡ Ok tt → AreInside (length section) fixes → All IsSmall fixes
-    → AreApart fields → AreRaw section fields → place_check fields fixes ≡ Ok tt → All (λ g. FieldHolds fixes section g (bits_in fixes g.place g.width g.raw)) fields
+    → AreApart fields → AreRaw section fields → places_check fields fixes ≡ Ok tt → All (λ g. FieldHolds fixes section g (bits_in fixes g.place g.width g.raw)) fields
 hold fixes section fields apart inside small clear raw checked = λ i d within.
     holds_by fixes section fields i d (first_at place_of (get_or fields i d).place fixes) apart inside small clear raw (each_lies fields fixes checked) within refl
 
 -- the same of a section's relocations
-pub reads_hold : (p : Placing) (section : ℕ) (fixes : List RelocatedField) (fields : List Field) → Reads (section_fixes p section) fixes → AreApart fields → AreRaw (section_bytes p.file section) fields → place_check fields fixes ≡ Ok tt
+pub reads_hold : (p : Placing) (section : ℕ) (fixes : List RelocatedField) (fields : List Field) → Reads (section_fixes p section) fixes → AreApart fields → AreRaw (section_bytes p.file section) fields → places_check fields fixes ≡ Ok tt
     → All (λ g. FieldHolds fixes (section_bytes p.file section) g (bits_in fixes g.place g.width g.raw)) fields
 reads_hold p section fixes fields reads clear raw checked =
     hold fixes (section_bytes p.file section) fields reads.apart
@@ -213,7 +213,7 @@ reads_hold p section fixes fields reads clear raw checked =
 
 -- what one of them holds
 pub one_holds : (p : Placing) (section : ℕ) (fixes : List RelocatedField) (fields : List Field) (g : Field) (bits : Option ℕ) → bits ≡ bits_in fixes g.place g.width g.raw
-    → Reads (section_fixes p section) fixes → AreApart fields → AreRaw (section_bytes p.file section) fields → place_check fields fixes ≡ Ok tt → Contains fields g → FieldHolds fixes (section_bytes p.file section) g bits
+    → Reads (section_fixes p section) fixes → AreApart fields → AreRaw (section_bytes p.file section) fields → places_check fields fixes ≡ Ok tt → Contains fields g → FieldHolds fixes (section_bytes p.file section) g bits
 one_holds p section fixes fields g bits is reads clear raw checked among =
     subst (FieldHolds fixes (section_bytes p.file section) g) (sym is)
     (All-contains (λ (x : Field). FieldHolds fixes (section_bytes p.file section) x (bits_in fixes x.place x.width x.raw)) fields g (reads_hold p section fixes fields reads clear raw checked) among)
@@ -261,7 +261,7 @@ drops_by fixes fields i d (Some f) apart clear lie within found =
           is ∙ ap (λ (x : RelocatedField). x.dropped) e ∙ u.gone,
     )
 
-pub reads_drop : (p : Placing) (section : ℕ) (fixes : List RelocatedField) (fields : List Field) → Reads (section_fixes p section) fixes → AreApart fields → place_check fields fixes ≡ Ok tt
+pub reads_drop : (p : Placing) (section : ℕ) (fixes : List RelocatedField) (fields : List Field) → Reads (section_fixes p section) fixes → AreApart fields → places_check fields fixes ≡ Ok tt
     → All (λ g. (is_dropped_field fixes g.place g.width ≡ true) ↔ IsDropped fixes g) fields
 reads_drop p section fixes fields reads clear checked = λ i d within.
     drops_by fixes fields i d (first_at place_of (get_or fields i d).place fixes) reads.apart clear (each_lies fields fixes checked) within refl

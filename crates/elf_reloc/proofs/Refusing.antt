@@ -4,9 +4,9 @@ use Rattle.elf_reloc.specs.declared.fault.RelocFault.{RelocFault}
 use Rattle.elf_reloc.specs.declared.fault.RelocFault.TheVariants.{UnknownType, Range, Place, Twice, RelSection, OutOfSection, NoMemory}
 use Rattle.elf_reloc.specs.declared.fix.RelocatedField.{RelocatedField}
 use Rattle.elf_reloc.specs.Reading.{Fails}
-use Rattle.elf_reloc.specs.Views.{Overlaps, Refuses}
+use Rattle.elf_reloc.specs.Views.{Overlaps, IsFirstFault}
 
-pub by_reading : (e : RelocFault) (given : Result (List RelocatedField) RelocFault) → Fails e given → Refuses e given
+pub by_reading : (e : RelocFault) (given : Result (List RelocatedField) RelocFault) → Fails e given → IsFirstFault e given
 by_reading (UnknownType k) given h = inl h
 by_reading (Range k) given h = inl h
 by_reading (Place k) given h = inl h
@@ -15,7 +15,7 @@ by_reading (RelSection k) given h = inl h
 by_reading (OutOfSection k) given h = inl h
 by_reading NoMemory given h = tt
 
-pub by_overlap : (e : RelocFault) (given : Result (List RelocatedField) RelocFault) → Overlaps given e → Refuses e given
+pub by_overlap : (e : RelocFault) (given : Result (List RelocatedField) RelocFault) → Overlaps given e → IsFirstFault e given
 by_overlap (UnknownType k) given h = inr h
 by_overlap (Range k) given h = inr h
 by_overlap (Place k) given h = inr h

@@ -39,6 +39,6 @@ abbrev pub lies_on : List Field → RelocatedField → Bool
 lies_on fields f = has_width (first_at field_place f.place fields) f
 
 -- each that is written lies on one; the first that doesn't is named
-unfoldable pub place_check : List Field → List RelocatedField → Result (Unit {0}) RelocFault
-place_check fields [] = Ok tt
-place_check fields (f ∷ fs) = if lies_on fields f then place_check fields fs else Err (Place f.index)
+unfoldable pub places_check : List Field → List RelocatedField → Result (Unit {0}) RelocFault
+places_check fields [] = Ok tt
+places_check fields (f ∷ fs) = if lies_on fields f then places_check fields fs else Err (Place f.index)

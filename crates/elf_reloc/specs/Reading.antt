@@ -19,7 +19,7 @@ use Rattle.elf_reloc.specs.declared.table.Range.{Range as range}
 use Rattle.elf_reloc.specs.declared.target.Target.{Target}
 use Rattle.elf_reloc.specs.declared.target.Target.TheVariants.{Address, Unresolved, Dropped}
 use Rattle.elf_reloc.specs.Table.{effect_of, width_of, absolute, relative, fits}
-use Rattle.elf_reloc.specs.Target.{target_of}
+use Rattle.elf_reloc.specs.Target.{symbol_target}
 pub use Rattle.sf_bytes.specs.Steps.{◌>>=◌}
 
 -- what is written where the symbol's value is known, which must fit the field; else what is known of the field
@@ -45,15 +45,15 @@ applied (Some (Relative form)) len address place index addend target =
     inside len place index form (aimed place index form (λ s. relative s addend ((address + place) % 2 ^ 64)) target)
 
 -- the address of a section that has one
-unfoldable pub section_address : Placing → ℕ → ℕ
-section_address p section = unwrap_or (address_at p section) 0
+unfoldable pub placed_address : Placing → ℕ → ℕ
+placed_address p section = unwrap_or (address_at p section) 0
 
 -- what entry k of relocation section i does, which has this number among all
 unfoldable pub entry_fix : Placing → (section index i k : ℕ) → Result (Option RelocatedField) RelocFault
 entry_fix p section index i k =
-    applied (effect_of (arch_of p.file) (rela_fields p.file i k).r_type) (length (section_bytes p.file section)) (section_address p section)
+    applied (effect_of (arch_of p.file) (rela_fields p.file i k).r_type) (length (section_bytes p.file section)) (placed_address p section)
     (rela_fields p.file i k).r_offset index (cast_unsigned w64 (rela_fields p.file i k).r_addend)
-    (target_of p (section_fields p.file i).sh_link (rela_fields p.file i k).r_sym)
+    (symbol_target p (section_fields p.file i).sh_link (rela_fields p.file i k).r_sym)
 
 -- ---- all relocations of a section
 -- relocations in another form than with addends, in a section of type SHT_RELA 4, are refused; the first of the sections that has some

@@ -12,8 +12,8 @@ placed_target (Some address) value = Address ((address + value) % 2 ^ 64)
 
 -- The target of symbol k of a table. Symbol 0 has none. SHN_ABS 0xfff1 is no section: the value is the address. SHN_UNDEF 0 and what is
 -- reserved from SHN_LORESERVE 0xff00 on is in no section of the file.
-unfoldable pub target_of : Placing → (table k : ℕ) → Target
-target_of p table k =
+unfoldable pub symbol_target : Placing → (table k : ℕ) → Target
+symbol_target p table k =
     let symbol = symbol_fields p.file table k in
     if k == 0 then Unresolved
     else (if symbol.st_shndx == 0xfff1 then Address symbol.st_value

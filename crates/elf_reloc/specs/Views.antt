@@ -27,10 +27,10 @@ pub record Overlaps (given : Result (List RelocatedField) RelocFault) (e : Reloc
   pub refused : overlap_check 0 sorted ≡ Err e
 
 -- the first fault: of reading, and then of the fields; unless memory ran out
-abbrev pub Refuses : RelocFault → Result (List RelocatedField) RelocFault → Type 0
-Refuses fault given = IfSome (reloc_refusal fault) (λ refusal. (given ≡ Err refusal) ⊎ Overlaps given refusal)
+abbrev pub IsFirstFault : RelocFault → Result (List RelocatedField) RelocFault → Type 0
+IsFirstFault fault given = IfSome (reloc_refusal fault) (λ refusal. (given ≡ Err refusal) ⊎ Overlaps given refusal)
 
 -- what a call returned is what a section's relocations give
 abbrev pub Relocated : Result Relocs RelocFault → Result (List RelocatedField) RelocFault → Type 0
 Relocated (Ok r) given = Reads given (fixes_in r)
-Relocated (Err e) given = Refuses e given
+Relocated (Err e) given = IsFirstFault e given

@@ -102,9 +102,9 @@ fn inside(
 }
 
 // Returns the address of a section that has one.
-#[tactic(auto, unfolding(crate::specs::Reading::section_address))]
+#[tactic(auto, unfolding(crate::specs::Reading::placed_address))]
 fn section_address(placed: &Placed<'_>, section: u32) -> u64
-    ensures { result ≡ spec.section_address (placing placed.now) section }
+    ensures { result ≡ spec.placed_address (placing placed.now) section }
 {
     placed.address(section).unwrap_or(0)
 }

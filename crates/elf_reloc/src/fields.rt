@@ -3,7 +3,7 @@
 ghost use Rattle.std.specs.Prelude.{◌≡◌, ◌<◌, ◌^◌, IfSome};
 ghost use Rattle.sf_bytes.specs.Rising.{AreRising};
 ghost use Rattle.elf_reloc.specs.Fields as spec;
-ghost use Rattle.elf_reloc.specs.Order.{lies_on, place_check};
+ghost use Rattle.elf_reloc.specs.Order.{lies_on, places_check};
 ghost use Rattle.elf_reloc.specs.Table as table;
 
 use crate::fault::RelocFault;
@@ -37,7 +37,7 @@ fn lies(fields: &[Field], fix: RelocatedField) -> bool
 /// Checks that each field that is written lies on one of these.
 pub fn check_places(fixes: &[RelocatedField], fields: &[Field]) -> Result<(), RelocFault>
     requires { AreRising fields.now }
-    ensures { result ≡ place_check fields.now fixes.now }
+    ensures { result ≡ places_check fields.now fixes.now }
 {
     for fix in fixes {
         if !lies(fields, *fix) {

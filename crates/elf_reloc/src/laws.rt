@@ -9,11 +9,11 @@ ghost use Rattle.sf_bytes.specs.declared.field.Field.{Field as pointer};
 ghost use Rattle.elf_reloc.specs.declared.fix.RelocatedField.{RelocatedField as written};
 ghost use Rattle.elf_reloc.specs.Fields.{fix_bits, bits_in, is_dropped_field};
 ghost use Rattle.sf_bytes.specs.Rising.{AreApart};
-ghost use Rattle.elf_reloc.specs.Order.{first_at, place_of, place_check};
+ghost use Rattle.elf_reloc.specs.Order.{first_at, place_of, places_check};
 ghost use Rattle.elf_reloc.specs.Patched.{patched, AreRaw, FieldHolds, IsFree, IsDropped, IsUnresolved};
 ghost use Rattle.elf_reloc.specs.Reading.{section_fixes};
 ghost use Rattle.elf_reloc.specs.Table.{width_of};
-ghost use Rattle.elf_reloc.specs.Views.{Reads, Refuses};
+ghost use Rattle.elf_reloc.specs.Views.{Reads, IsFirstFault};
 ghost use Rattle.elf_reloc.specs.Applied.{Slot, applied_of, applied_to, slot_of};
 ghost use Rattle.elf_reloc.specs.declared.fault.RelocFault.{RelocFault as refusal};
 ghost use Rattle.elf_reloc.specs.declared.fault.RelocFault.TheVariants.{NoMemory};
@@ -22,9 +22,9 @@ ghost use Rattle.elf_reloc.specs.declared.fault.RelocFault.TheVariants.{NoMemory
 pub fn fields_hold_what_is_patched()
     // The bits of a field of a list on which all relocations lie are the number in the copy. It has no bits exactly
     // where a relocation lies on it whose value is not known.
-    ensures checked { (p : placing) (section : ℕ) (fixes : List written) (fields : List pointer) → Reads (section_fixes p section) fixes → AreApart fields → AreRaw (section_bytes p.file section) fields → place_check fields fixes ≡ Ok tt → All (λ g. FieldHolds fixes (section_bytes p.file section) g (bits_in fixes g.place g.width g.raw)) fields }
+    ensures checked { (p : placing) (section : ℕ) (fixes : List written) (fields : List pointer) → Reads (section_fixes p section) fixes → AreApart fields → AreRaw (section_bytes p.file section) fields → places_check fields fixes ≡ Ok tt → All (λ g. FieldHolds fixes (section_bytes p.file section) g (bits_in fixes g.place g.width g.raw)) fields }
     // Such a field is dropped exactly where a relocation lies on it whose symbol lies in a dropped section.
-    ensures dropped { (p : placing) (section : ℕ) (fixes : List written) (fields : List pointer) → Reads (section_fixes p section) fixes → AreApart fields → place_check fields fixes ≡ Ok tt → All (λ g. (is_dropped_field fixes g.place g.width ≡ true) ↔ IsDropped fixes g) fields }
+    ensures dropped { (p : placing) (section : ℕ) (fixes : List written) (fields : List pointer) → Reads (section_fixes p section) fixes → AreApart fields → places_check fields fixes ≡ Ok tt → All (λ g. (is_dropped_field fixes g.place g.width ≡ true) ↔ IsDropped fixes g) fields }
     // A dropped field is unresolved as well.
     ensures unknown { (p : placing) (section : ℕ) (fixes : List written) (g : pointer) → Reads (section_fixes p section) fixes → IsDropped fixes g → IsUnresolved fixes g }
     // A field on which a relocation lies holds its bits.
@@ -37,9 +37,9 @@ pub fn fields_hold_what_is_patched()
 /// to what applying them is defined to be: the patched section, or the first fault.
 pub fn relocations_are_applied()
     // All were read, and lie on pointer fields.
-    ensures applied { (p : placing) (section : ℕ) (fixes : List written) (fields : List pointer) → Reads (section_fixes p section) fixes → AreApart fields → place_check fields fixes ≡ Ok tt → applied_to p section (map slot_of fields) ≡ Ok (applied_of fixes (section_bytes p.file section) (map slot_of fields)) }
+    ensures applied { (p : placing) (section : ℕ) (fixes : List written) (fields : List pointer) → Reads (section_fixes p section) fixes → AreApart fields → places_check fields fixes ≡ Ok tt → applied_to p section (map slot_of fields) ≡ Ok (applied_of fixes (section_bytes p.file section) (map slot_of fields)) }
     // All were read, and one lies on no pointer field.
-    ensures misplaced { (p : placing) (section : ℕ) (fixes : List written) (fields : List pointer) (e : refusal) → Reads (section_fixes p section) fixes → AreApart fields → place_check fields fixes ≡ Err e → applied_to p section (map slot_of fields) ≡ Err e }
+    ensures misplaced { (p : placing) (section : ℕ) (fixes : List written) (fields : List pointer) (e : refusal) → Reads (section_fixes p section) fixes → AreApart fields → places_check fields fixes ≡ Err e → applied_to p section (map slot_of fields) ≡ Err e }
     // One was refused as it was read, whatever the pointer fields are.
-    ensures refused { (p : placing) (section : ℕ) (slots : List Slot) (e : refusal) → Refuses e (section_fixes p section) → (e ≡ NoMemory) ⊎ (applied_to p section slots ≡ Err e) }
+    ensures refused { (p : placing) (section : ℕ) (slots : List Slot) (e : refusal) → IsFirstFault e (section_fixes p section) → (e ≡ NoMemory) ⊎ (applied_to p section slots ≡ Err e) }
 {}

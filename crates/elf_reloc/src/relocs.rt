@@ -26,7 +26,7 @@ impl Relocs {
     ghost use Rattle.elf_place.specs.Views.{placed_file, placing};
     ghost use Rattle.elf_reloc.specs.Patched.{AreInside};
     ghost use Rattle.sf_bytes.specs.Rising.{AreRising};
-    ghost use Rattle.elf_reloc.specs.Order.{place_check};
+    ghost use Rattle.elf_reloc.specs.Order.{places_check};
     ghost use Rattle.elf_reloc.specs.Fields.{is_dropped_field};
     ghost use Rattle.elf_reloc.specs.Reading.{section_fixes};
     ghost use Rattle.elf_reloc.specs.Views.{Relocated, fixes_in};
@@ -60,7 +60,7 @@ impl Relocs {
     /// with its width. `Place` names the one of the least place that doesn't.
     pub fn check(&self, fields: &[Field]) -> Result<(), RelocFault>
         requires { AreRising fields.now }
-        ensures { result ≡ place_check fields.now (fixes_in self.now) }
+        ensures { result ≡ places_check fields.now (fixes_in self.now) }
     {
         check_places(&self.fixes, fields)
     }
@@ -83,7 +83,7 @@ impl Values for Relocs {
     ghost use Rattle.sf_bytes.specs.declared.field.Field.{Field as pointer};
     ghost use Rattle.sf_bytes.specs.Rising.{AreApart};
     ghost use Rattle.elf_reloc.specs.Fields.{bits_in};
-    ghost use Rattle.elf_reloc.specs.Order.{place_check};
+    ghost use Rattle.elf_reloc.specs.Order.{places_check};
     ghost use Rattle.elf_reloc.specs.Patched.{AreRaw, FieldHolds};
     ghost use Rattle.elf_reloc.specs.Reading.{section_fixes};
     ghost use Rattle.elf_reloc.specs.Views.{Reads, fixes_in};
@@ -96,7 +96,7 @@ impl Values for Relocs {
         // Where these are the relocations of a section, each of which lies on one of its pointer fields, the bits of such a field
         // are the number in a copy of the section in which all known values are written. It has no bits exactly where a
         // relocation lies on it whose value is not known.
-        ensures holds { (p : placing) (section : ℕ) (fields : List pointer) → Reads (section_fixes p section) (fixes_in self.now) → AreApart fields → AreRaw (section_bytes p.file section) fields → place_check fields (fixes_in self.now) ≡ Ok tt → Contains fields field → FieldHolds (fixes_in self.now) (section_bytes p.file section) field result }
+        ensures holds { (p : placing) (section : ℕ) (fields : List pointer) → Reads (section_fixes p section) (fixes_in self.now) → AreApart fields → AreRaw (section_bytes p.file section) fields → places_check fields (fixes_in self.now) ≡ Ok tt → Contains fields field → FieldHolds (fixes_in self.now) (section_bytes p.file section) field result }
     {
         match find_at(&self.fixes, field.place) {
             Some(fix) if width_of(fix.range) == field.width => fix_bits(fix),

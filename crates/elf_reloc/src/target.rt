@@ -47,9 +47,9 @@ fn index_target(placed: &Placed<'_>, index: u16, value: u64) -> Target
 }
 
 /// Returns what a symbol names.
-#[tactic(auto, unfolding(crate::specs::Target::target_of, crate::specs::Target::index_target, crate::specs::Target::section_target))]
+#[tactic(auto, unfolding(crate::specs::Target::symbol_target, crate::specs::Target::index_target, crate::specs::Target::section_target))]
 pub fn target_of(placed: &Placed<'_>, table: u32, k: u32) -> Target
-    ensures { result ≡ spec.target_of (placing placed.now) table k }
+    ensures { result ≡ spec.symbol_target (placing placed.now) table k }
 {
     if k == 0 {
         return Target::Unresolved;

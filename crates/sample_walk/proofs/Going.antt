@@ -19,7 +19,7 @@ use Rattle.sf_model.specs.Walk.{Going, Listing, LookUp, address_before, behind, 
 use Rattle.sample_walk.specs.declared.state.State.{State}
 use Rattle.sample_walk.specs.declared.state.Value.{Value}
 use Rattle.sample_walk.specs.declared.state.Value.TheVariants.{Known}
-use Rattle.sample_walk.specs.Step.{asked_by, base_of, by_address, by_base, by_return, caller_value, rule_of, saved_return, saved_value, step_by, unsigned_by}
+use Rattle.sample_walk.specs.Step.{asked_by, base_register, by_address, by_base, by_return, restored_value, content_rule, saved_return, value_read, step_by, unsigned_by}
 use Rattle.sample_walk.specs.Onward.{GoesOnFromItsState, GoesOnPastFramePointers, GoesOnWhereUnread, Place, Stepping, Walked, and_then, from_frame, listing_of, stepping, then_from, walk_on}
 
 -- ---- one walk after another
@@ -86,7 +86,7 @@ by_unread on at frame base place address None = inr ((place, refl), ([], refl))
 
 by_read : (on : State → Walked) (once : Going) → Alike on once → (at : State) (frame : Frame) (base place address : ℕ) (unsigned : Option ℕ) (r : Recovery) (mask : Option ℕ) (read : Option ℕ)
     → unsigned ≡ unsigned_address r.signed mask address → r.stack_pointer ≡ base
-    → GoesOnWhereUnread (listing_of (from_frame on at frame (by_address base (saved_value place read) address unsigned)))
+    → GoesOnWhereUnread (listing_of (from_frame on at frame (by_address base (value_read place read) address unsigned)))
     (behind frame (on_by_pointer once mask r address (model.saved_value place read)))
 by_read on once alike at frame base place address unsigned r mask (Some fp) e is =
     subst (λ (o : Option ℕ). GoesOnWhereUnread (listing_of (from_frame on at frame (by_address base (Known fp) address unsigned))) (behind frame (on_by_address once r.stack_pointer fp address o))) e
@@ -97,7 +97,7 @@ by_read on once alike at frame base place address unsigned r mask None e is = by
 by_pointer : (on : State → Walked) (once : Going) → Alike on once → (mask : Option ℕ) (memory : List Region) (returned : Bool) (pc : ℕ) (regs : Regs) (content : Content) (key : Key) (address : ℕ) (offset : Option ℤ)
     → content.fp ≡ offset
     → let r = recovery content key regs memory in let base = frame_address_of content regs in let frame : Frame = record { pc = pc; cfa = Some base } in
-    GoesOnWhereUnread (listing_of (from_frame on (state_of returned pc regs) frame (by_address base (caller_value memory base (Known regs.fp) offset) address (unsigned_by content.signed mask address))))
+    GoesOnWhereUnread (listing_of (from_frame on (state_of returned pc regs) frame (by_address base (restored_value memory base (Known regs.fp) offset) address (unsigned_by content.signed mask address))))
     (behind frame (on_by_pointer once mask r address (saved_or_kept memory regs.fp (pointer_place offset base))))
 unfolding recovery
 by_pointer on once alike mask memory returned pc regs content key address (Some o) is =
@@ -113,7 +113,7 @@ by_pointer on once alike mask memory returned pc regs content key address None i
 -- a return address, as both walks have it
 by_known : (on : State → Walked) (once : Going) → Alike on once → (mask : Option ℕ) (memory : List Region) (returned : Bool) (pc : ℕ) (regs : Regs) (content : Content) (key : Key) (place : ℕ) (read : Option ℕ)
     → let r = recovery content key regs memory in let base = frame_address_of content regs in let frame : Frame = record { pc = pc; cfa = Some base } in
-    GoesOnWhereUnread (listing_of (from_frame on (state_of returned pc regs) frame (by_return (rule_of content) mask memory (state_of returned pc regs) base (saved_value place read))))
+    GoesOnWhereUnread (listing_of (from_frame on (state_of returned pc regs) frame (by_return (content_rule content) mask memory (state_of returned pc regs) base (value_read place read))))
     (behind frame (on_by once mask r (model.saved_value place read)))
 unfolding recovery
 by_known on once alike mask memory returned pc regs content key place (Some address) = by_pointer on once alike mask memory returned pc regs content key address content.fp refl
@@ -121,25 +121,25 @@ by_known on once alike mask memory returned pc regs content key place None = inl
 
 by_ra : (on : State → Walked) (once : Going) → Alike on once → (mask : Option ℕ) (memory : List Region) (returned : Bool) (pc : ℕ) (regs : Regs) (content : Content) (key : Key) (ra : Ra)
     → let r = recovery content key regs memory in let base = frame_address_of content regs in let frame : Frame = record { pc = pc; cfa = Some base } in
-    GoesOnWhereUnread (listing_of (from_frame on (state_of returned pc regs) frame (by_return (rule_of content) mask memory (state_of returned pc regs) base (caller_value memory base (Known regs.lr) (saved_return ra)))))
+    GoesOnWhereUnread (listing_of (from_frame on (state_of returned pc regs) frame (by_return (content_rule content) mask memory (state_of returned pc regs) base (restored_value memory base (Known regs.lr) (saved_return ra)))))
     (behind frame (on_by once mask r (saved_or_kept memory regs.lr (return_place ra base))))
 unfolding recovery
 by_ra on once alike mask memory returned pc regs content key Fixed = let place = moved (frame_address_of content regs) (Rattle.std.specs.Prelude.negsuc 7) in by_known on once alike mask memory returned pc regs content key place (read_eight memory place)
 by_ra on once alike mask memory returned pc regs content key Link = by_pointer on once alike mask memory returned pc regs content key regs.lr content.fp refl
 by_ra on once alike mask memory returned pc regs content key (At o) = let place = moved (frame_address_of content regs) o in by_known on once alike mask memory returned pc regs content key place (read_eight memory place)
 
-base_is : (returned : Bool) (pc : ℕ) (regs : Regs) (base : Base) → base_of base (state_of returned pc regs) ≡ Known (base_value base regs)
+base_is : (returned : Bool) (pc : ℕ) (regs : Regs) (base : Base) → base_register base (state_of returned pc regs) ≡ Known (base_value base regs)
 base_is returned pc regs Fp = refl
 base_is returned pc regs Sp = refl
 
 by_row : (on : State → Walked) (once : Going) → Alike on once → (mask : Option ℕ) (memory : List Region) (returned : Bool) (pc : ℕ) (regs : Regs) (o : Option FoundRow)
-    → let at = state_of returned pc regs in let now = step_by (option_map (λ (found : FoundRow). rule_of found.row.content) o) mask memory at in
+    → let at = state_of returned pc regs in let now = step_by (option_map (λ (found : FoundRow). content_rule found.row.content) o) mask memory at in
     GoesOnWhereUnread (listing_of (from_frame on at now.0 now.1))
     (frame_by once mask (asked_by returned pc) pc (option_map (λ (found : FoundRow). recovery found.row.content found.func.key regs memory) o))
 unfolding step_by recovery
 by_row on once alike mask memory returned pc regs (Some found) =
     let at = state_of returned pc regs in
-    let rule = rule_of found.row.content in
+    let rule = content_rule found.row.content in
     let r = recovery found.row.content found.func.key regs memory in
     subst (λ (v : Value). GoesOnWhereUnread (listing_of (from_frame on at (by_base rule mask memory at v).0 (by_base rule mask memory at v).1)) (frame_by once mask (asked_by returned pc) pc (Some r)))
     (sym (base_is returned pc regs found.row.content.base))

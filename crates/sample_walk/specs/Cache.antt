@@ -10,17 +10,17 @@ use Rattle.sample_walk.specs.declared.cache.CacheEntry.{CacheEntry}
 use Rattle.sample_walk.specs.Step.{rules_by}
 
 -- what is found at an address: the index of its module, and what its row says
-abbrev pub located : LookUp → (index : ℕ → ℕ) → (address : ℕ) → Located
-located look_up index address = record { index = index address; rule = rules_by look_up address }
+abbrev pub located_by : LookUp → (index : ℕ → ℕ) → (address : ℕ) → Located
+located_by look_up index address = record { index = index address; rule = rules_by look_up address }
 
 -- a register as a test, and back
 abbrev pub is_fp : Base → Bool
 is_fp Fp = true
 is_fp Sp = false
 
-abbrev pub base_in : (counts_from_fp : Bool) → Base
-base_in true = Fp
-base_in false = Sp
+abbrev pub base_from_test : (counts_from_fp : Bool) → Base
+base_from_test true = Fp
+base_from_test false = Sp
 
 -- an offset that may be missing, by a test and a number
 abbrev pub offset_if : (is : Bool) → ℤ → Option ℤ
@@ -30,7 +30,7 @@ offset_if false offset = None
 -- the rule that an entry has, if it has one
 abbrev pub rule_if : (has_row : Bool) → CacheEntry → Option Rule
 rule_if true entry = Some (record {
-  base = base_in entry.counts_from_fp;
+  base = base_from_test entry.counts_from_fp;
   cfa = entry.cfa_offset;
   ra = offset_if entry.ra_saved entry.ra_offset;
   fp = offset_if entry.fp_saved entry.fp_offset;
@@ -39,8 +39,8 @@ rule_if true entry = Some (record {
 rule_if false entry = None
 
 -- what an entry says
-abbrev pub said_by : CacheEntry → Located
-said_by entry = record { index = entry.index; rule = rule_if entry.has_row entry }
+abbrev pub entry_located : CacheEntry → Located
+entry_located entry = record { index = entry.index; rule = rule_if entry.has_row entry }
 
 -- an entry without a row
 abbrev pub entry_without : (address index : ℕ) → (is_used : Bool) → CacheEntry
@@ -59,9 +59,9 @@ entry_without address index is_used = record {
 }
 
 -- the entry of what is found at an address
-abbrev pub entry_of : (address index : ℕ) → Option Rule → CacheEntry
-entry_of address index None = entry_without address index true
-entry_of address index (Some rule) = record {
+abbrev pub cached : (address index : ℕ) → Option Rule → CacheEntry
+cached address index None = entry_without address index true
+cached address index (Some rule) = record {
   address = address;
   index = index;
   cfa_offset = rule.cfa;
@@ -77,4 +77,4 @@ entry_of address index (Some rule) = record {
 
 -- each entry of a cache that is used says what is found at its address
 abbrev pub AreRight : LookUp → (index : ℕ → ℕ) → List CacheEntry → Type 0
-AreRight look_up index entries = All (λ (entry : CacheEntry). IsTrue entry.is_used → said_by entry ≡ located look_up index entry.address) entries
+AreRight look_up index entries = All (λ (entry : CacheEntry). IsTrue entry.is_used → entry_located entry ≡ located_by look_up index entry.address) entries

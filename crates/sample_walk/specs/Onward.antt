@@ -58,8 +58,8 @@ abbrev pub listing_of : Walked → Listing
 listing_of walk = record { frames = map (λ (place : Place). place.frame) walk.places; stop = unwrap_or walk.stop Depth }
 
 -- the state of a thread, whose own frame is looked up at its program counter
-abbrev pub start_of : ThreadState → State
-start_of thread = record { pc = thread.pc; sp = thread.regs.sp; fp = Known thread.regs.fp; lr = thread.regs.lr; returned = false }
+abbrev pub initial_state : ThreadState → State
+initial_state thread = record { pc = thread.pc; sp = thread.regs.sp; fp = Known thread.regs.fp; lr = thread.regs.lr; returned = false }
 
 -- a listing is another one; or that one stops at a value that can't be read, and its frames are the first ones of this listing
 abbrev pub GoesOnWhereUnread : (on once : Listing) → Type 0
@@ -69,4 +69,4 @@ GoesOnWhereUnread on once =
 -- the walk of a thread from its state is `look_up_walk`, and goes on where that stops at a value that can't be read
 abbrev pub GoesOnPastFramePointers : Type 0
 GoesOnPastFramePointers = (look_up : LookUp) (thread : ThreadState) (memory : List Region) (depth : ℕ)
-    → GoesOnWhereUnread (listing_of (walk_on (stepping look_up thread.mask memory) depth (start_of thread))) (look_up_walk look_up thread memory depth)
+    → GoesOnWhereUnread (listing_of (walk_on (stepping look_up thread.mask memory) depth (initial_state thread))) (look_up_walk look_up thread memory depth)

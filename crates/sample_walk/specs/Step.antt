@@ -36,27 +36,27 @@ saved_return Link = None
 saved_return (At offset) = Some offset
 
 -- what a row says of the caller's frame
-abbrev pub rule_of : Content → Rule
-rule_of content = record { base = content.base; cfa = content.cfa; ra = saved_return content.ra; fp = content.fp; signed = content.signed }
+abbrev pub content_rule : Content → Rule
+content_rule content = record { base = content.base; cfa = content.cfa; ra = saved_return content.ra; fp = content.fp; signed = content.signed }
 
 -- what the row says that is found at an address, if there is one
 abbrev pub rules_by : LookUp → (address : ℕ) → Option Rule
-rules_by look_up address = option_map (λ (found : FoundRow). rule_of found.row.content) (look_up address)
+rules_by look_up address = option_map (λ (found : FoundRow). content_rule found.row.content) (look_up address)
 
 -- the value that is saved at a place, by what is read there
-abbrev pub saved_value : (place : ℕ) → Option ℕ → Value
-saved_value place (Some value) = Known value
-saved_value place None = Value.Unreadable place
+abbrev pub value_read : (place : ℕ) → Option ℕ → Value
+value_read place (Some value) = Known value
+value_read place None = Value.Unreadable place
 
 -- the caller's value of a register that is saved at an offset from the canonical frame address, or has its present value
-abbrev pub caller_value : List Region → (frame_address : ℕ) → (present : Value) → (offset : Option ℤ) → Value
-caller_value memory frame_address present (Some offset) = saved_value (moved frame_address offset) (read_eight memory (moved frame_address offset))
-caller_value memory frame_address present None = present
+abbrev pub restored_value : List Region → (frame_address : ℕ) → (present : Value) → (offset : Option ℤ) → Value
+restored_value memory frame_address present (Some offset) = value_read (moved frame_address offset) (read_eight memory (moved frame_address offset))
+restored_value memory frame_address present None = present
 
 -- the register that a row counts from
-abbrev pub base_of : Base → State → Value
-base_of Fp at = at.fp
-base_of Sp at = Known at.sp
+abbrev pub base_register : Base → State → Value
+base_register Fp at = at.fp
+base_register Sp at = Known at.sp
 
 -- the link register's value
 abbrev pub lr_of : State → Value
@@ -77,7 +77,7 @@ by_address frame_address frame_pointer return_address None = Err (Signed return_
 -- the caller, given its return address
 abbrev pub by_return : Rule → (mask : Option ℕ) → List Region → State → (frame_address : ℕ) → (return_address : Value) → Result State Stop
 by_return rule mask memory at frame_address (Known address) =
-    by_address frame_address (caller_value memory frame_address at.fp rule.fp) address (unsigned_by rule.signed mask address)
+    by_address frame_address (restored_value memory frame_address at.fp rule.fp) address (unsigned_by rule.signed mask address)
 by_return rule mask memory at frame_address (Value.Unreadable address) = Err (Stop.Unreadable address)
 
 -- a frame, and its caller or why the walk stops
@@ -88,11 +88,11 @@ Stepped = Frame × Result State Stop
 abbrev pub by_base : Rule → (mask : Option ℕ) → List Region → State → (base : Value) → Stepped
 by_base rule mask memory at (Known base) = let frame_address = moved base rule.cfa in (
   record { pc = at.pc; cfa = Some frame_address },
-  by_return rule mask memory at frame_address (caller_value memory frame_address (lr_of at) rule.ra),
+  by_return rule mask memory at frame_address (restored_value memory frame_address (lr_of at) rule.ra),
 )
 by_base rule mask memory at (Value.Unreadable address) = (record { pc = at.pc; cfa = None }, Err (Stop.Unreadable address))
 
 -- a step by the row that holds, if one does
 unfoldable pub step_by : Option Rule → (mask : Option ℕ) → List Region → State → Stepped
-step_by (Some rule) mask memory at = by_base rule mask memory at (base_of rule.base at)
+step_by (Some rule) mask memory at = by_base rule mask memory at (base_register rule.base at)
 step_by None mask memory at = (record { pc = at.pc; cfa = None }, Err (Outside (asked_at at)))

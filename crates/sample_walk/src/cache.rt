@@ -3,7 +3,7 @@
 ghost use Rattle.std.specs.Prelude.{◌≡◌, ◌<◌, ℕ};
 ghost use Rattle.sf_model.specs.Walk.{LookUp};
 ghost use Rattle.sample_walk.specs.Cache as spec;
-ghost use Rattle.sample_walk.specs.Cache.{AreRight, located};
+ghost use Rattle.sample_walk.specs.Cache.{AreRight, located_by};
 
 use crate::modules::{Located, Modules};
 use crate::rule::Rule;
@@ -49,7 +49,7 @@ fn is_fp(base: Base) -> bool
 
 // Returns what an entry says.
 fn said_by(entry: &CacheEntry) -> Located
-    ensures { result ≡ spec.said_by entry.now }
+    ensures { result ≡ spec.entry_located entry.now }
 {
     let base = if entry.counts_from_fp {
         Base::Fp
@@ -90,7 +90,7 @@ fn entry_without(address: u64, index: usize, is_used: bool) -> CacheEntry
 
 // Returns the entry of what is found at an address.
 fn entry_of(address: u64, found: &Located) -> CacheEntry
-    ensures { result ≡ spec.entry_of address found.now.index found.now.rule }
+    ensures { result ≡ spec.cached address found.now.index found.now.rule }
 {
     let Some(rule) = found.rule else {
         return entry_without(address, found.index, true);
@@ -122,7 +122,7 @@ fn slot_of(address: u64, len: usize) -> usize
 /// keeps nothing.
 pub fn locate<L: Modules>(modules: &L, cache: &mut [CacheEntry], address: u64) -> Located
     requires { AreRight (L.row_at modules.now) (L.index_at modules.now) cache.old }
-    ensures found { result ≡ located (L.row_at modules.now) (L.index_at modules.now) address }
+    ensures found { result ≡ located_by (L.row_at modules.now) (L.index_at modules.now) address }
     ensures cache { AreRight (L.row_at modules.now) (L.index_at modules.now) cache.new }
 {
     if cache.is_empty() {

@@ -2,7 +2,7 @@
 
 ghost use Rattle.std.specs.Prelude.{◌≡◌, ℕ};
 ghost use Rattle.sf_model.specs.Walk.{LookUp};
-ghost use Rattle.sample_walk.specs.Cache.{located};
+ghost use Rattle.sample_walk.specs.Cache.{located_by};
 
 use crate::rule::Rule;
 
@@ -24,5 +24,5 @@ pub trait Modules {
 
     /// Finds the module that has an address, and the row that holds there.
     fn find(&self, address: u64) -> Located
-        ensures { result ≡ located (row_at self.now) (index_at self.now) address };
+        ensures { result ≡ located_by (row_at self.now) (index_at self.now) address };
 }

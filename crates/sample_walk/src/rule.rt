@@ -33,7 +33,7 @@ fn saved_return(ra: Ra) -> Option<i32>
 
 /// Returns what a row's content says of the caller's frame.
 pub fn rule_of(content: &Content) -> Rule
-    ensures { result ≡ spec.rule_of content.now }
+    ensures { result ≡ spec.content_rule content.now }
 {
     Rule {
         base: content.base,

@@ -15,7 +15,7 @@ fn caller_value<M: Memory>(
     present: Value,
     offset: Option<i32>,
 ) -> Value
-    ensures { result ≡ spec.caller_value (M.regions mem.now) frame_address present offset }
+    ensures { result ≡ spec.restored_value (M.regions mem.now) frame_address present offset }
 {
     let Some(offset) = offset else {
         return present;
@@ -29,7 +29,7 @@ fn caller_value<M: Memory>(
 
 // Returns the register that a row counts from.
 fn base_of(base: Base, at: &State) -> Value
-    ensures { result ≡ spec.base_of base at.now }
+    ensures { result ≡ spec.base_register base at.now }
 {
     match base {
         Base::Fp => at.fp,
@@ -57,7 +57,7 @@ fn caller_of<M: Memory>(
     at: &State,
     frame_address: u64,
 ) -> Result<State, Stop>
-    ensures { result ≡ spec.by_return rule.now mask (M.regions mem.now) at.now frame_address (spec.caller_value (M.regions mem.now) frame_address (spec.lr_of at.now) rule.now.ra) }
+    ensures { result ≡ spec.by_return rule.now mask (M.regions mem.now) at.now frame_address (spec.restored_value (M.regions mem.now) frame_address (spec.lr_of at.now) rule.now.ra) }
 {
     let address = match caller_value(mem, frame_address, Value::Known(at.lr), rule.ra) {
         Value::Known(address) => address,

@@ -4,7 +4,7 @@ ghost use Rattle.std.specs.Prelude.{◌≡◌, length};
 ghost use Rattle.sample_walk.specs.Cache.{AreRight};
 ghost use Rattle.sample_walk.specs.Onward.{stepping};
 ghost use Rattle.sample_walk.specs.Onward as spec;
-ghost use Rattle.sample_walk.specs.Room.{ended, frame_shown, listed};
+ghost use Rattle.sample_walk.specs.Room.{walk_end, module_frame, places_listed};
 
 use crate::cache::{CacheEntry, locate};
 use crate::modules::Modules;
@@ -37,8 +37,8 @@ pub struct Ended {
 }
 
 // Returns a frame with the index of its module.
-fn frame_shown(frame: &Frame, index: usize) -> ModuleFrame
-    ensures { result ≡ frame_shown frame.now index }
+fn module_frame(frame: &Frame, index: usize) -> ModuleFrame
+    ensures { result ≡ module_frame frame.now index }
 {
     ModuleFrame {
         pc: frame.pc,
@@ -59,14 +59,14 @@ pub fn walk_on<L: Modules, M: Memory>(
 ) -> Ended
     requires { AreRight (L.row_at modules.now) (L.index_at modules.now) cache.old }
     ensures cache { AreRight (L.row_at modules.now) (L.index_at modules.now) cache.new }
-    ensures frames { frames.new ≡ listed (L.index_at modules.now) (spec.walk_on (stepping (L.row_at modules.now) mask (M.regions mem.now)) (length frames.old) start).places frames.old }
-    ensures ended { result ≡ ended (spec.walk_on (stepping (L.row_at modules.now) mask (M.regions mem.now)) (length frames.old) start) }
+    ensures frames { frames.new ≡ places_listed (L.index_at modules.now) (spec.walk_on (stepping (L.row_at modules.now) mask (M.regions mem.now)) (length frames.old) start).places frames.old }
+    ensures ended { result ≡ walk_end (spec.walk_on (stepping (L.row_at modules.now) mask (M.regions mem.now)) (length frames.old) start) }
 {
     let mut at = start;
     for count in 0..frames.len() {
         let found = locate(modules, cache, at.asked());
         let (frame, next) = step(found.rule, mask, mem, &at);
-        frames[count] = frame_shown(&frame, found.index);
+        frames[count] = module_frame(&frame, found.index);
         at = match next {
             Ok(caller) => caller,
             Err(stop) => {

@@ -8,7 +8,7 @@ use Rattle.sf_words.specs.declared.item.Item.TheVariants as item
 use Rattle.sf_words.specs.declared.words.SectionFile.{SectionFile}
 use Rattle.sf_words.specs.Items.{ItemWords, Mapped, Section, item_of}
 use Rattle.sf_words.specs.Loading.{loaded_bytes, loaded_items}
-use Rattle.sf_words.specs.Words.{SectionWords, section_of}
+use Rattle.sf_words.specs.Words.{SectionWords, words_of_section}
 
 -- what the words say, with the bytes of their files, from this place on
 abbrev pub left : {A : Type 0} (words : List A) (loaded : List Loaded) (k : ℕ) → List (A × List ℕ)
@@ -92,11 +92,11 @@ pub a_mapped_file : (names : List (List ℕ)) (loaded : List Loaded) (k : ℕ) (
 a_mapped_file names loaded k d h lt = let t = turn Mapped names loaded k d h lt in mapped_is (get_or loaded k d).item t.word t.is
 
 pub section_turn : (sections : List SectionWords) (loaded : List Loaded) (k : ℕ) (d : Loaded) (section : SectionFile) → loaded_items loaded ≡ map Section sections → k < length loaded → (get_or loaded k d).item ≡ item.Section section
-    → left sections loaded k ≡ (section_of section, (get_or loaded k d).bytes.items) ∷ left sections loaded (k + 1)
+    → left sections loaded k ≡ (words_of_section section, (get_or loaded k d).bytes.items) ∷ left sections loaded (k + 1)
 section_turn sections loaded k d section h lt is =
     let t = turn Section sections loaded k d h lt in
-    let same : Section (section_of section) ≡ Section t.word = sym (ap item_of is) ∙ t.is in
-    let word : t.word ≡ section_of section = cc in
+    let same : Section (words_of_section section) ≡ Section t.word = sym (ap item_of is) ∙ t.is in
+    let word : t.word ≡ words_of_section section = cc in
     t.are ∙ ap (λ (w : SectionWords). (w, (get_or loaded k d).bytes.items) ∷ left sections loaded (k + 1)) word
 
 pub mapped_turn : (names : List (List ℕ)) (loaded : List Loaded) (k : ℕ) (d : Loaded) (name : Bor (List ℕ)) → loaded_items loaded ≡ map Mapped names → k < length loaded → (get_or loaded k d).item ≡ item.Mapped name

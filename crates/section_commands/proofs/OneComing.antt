@@ -15,7 +15,7 @@ use Rattle.elf_read.specs.Header.{arch_of}
 use Rattle.core_notes.specs.declared.fault.CoreFault.{CoreFault}
 use Rattle.core_notes.specs.Checks.{core_check}
 use Rattle.sf_merge.specs.declared.fault.MergeFault.{MergeFault}
-use Rattle.sf_merge.specs.Merging.{Merges}
+use Rattle.sf_merge.specs.Merging.{Merges, same_arch}
 use Rattle.sf_merge.proofs.OneOrder.{one_result as one_merge}
 use Rattle.sf_slim.specs.declared.fault.SlimFault.{SlimFault}
 use Rattle.sf_slim.specs.Slimming.{Slims}
@@ -29,13 +29,13 @@ use Rattle.sf_words.proofs.NamedWords.{as_long}
 use Rattle.section_commands.specs.declared.made.Outcome.TheVariants.{Done}
 use Rattle.section_commands.specs.Coming.{Coming, Makes}
 use Rattle.section_commands.specs.Dump.{DumpComes, IsDump, dump_files, table_shown}
-use Rattle.section_commands.specs.Lookup.{IsLookup, LookupComes, LookupWords, lookup_files, row_shown}
-use Rattle.section_commands.specs.Merge.{IsMerge, Item, IsSectionOf, MakesMerge, MergeComes, MergeComesAt, MergeComesFrom, MergeWords, TablesCome, merge_files, sections_fault}
+use Rattle.section_commands.specs.Lookup.{IsLookup, LookupComes, LookupWords, lookup_files, row_outcome}
+use Rattle.section_commands.specs.Merge.{IsMerge, LoadedSection, IsSectionOf, MakesMerge, MergeComes, MergeComesAt, MergeComesFrom, MergeWords, TablesCome, merge_files, first_unsound_section}
 use Rattle.section_commands.specs.Procwalk.{IsProcwalk, ProcwalkComes, ProcwalkWords, procwalk_files}
 use Rattle.section_commands.specs.SectionComes.{Showing, ShowingComesFrom}
 use Rattle.section_commands.specs.Slim.{IsSlim, MakesSlim, SlimComes, SlimComesFrom, SlimWords, SlimmingComes, slim_files}
 use Rattle.section_commands.specs.Walk.{IsWalk, WalkComes, WalkComesFrom, WalkWords, coming_of_walks, walk_files}
-use Rattle.section_commands.specs.Walks.{is_same, table_walks}
+use Rattle.section_commands.specs.Walks.{table_walks}
 use Rattle.section_commands.proofs.OneProcwalk.{one_procwalk}
 
 -- ---- dump and lookup
@@ -50,7 +50,7 @@ one_walk at section core depth (Err fault) second c d p q = p ∙ sym q
 one_walk at section core depth (Ok u) (Err fault) c d p q = p ∙ sym q
 one_walk at section core depth (Ok u) (Ok v) c d p q =
     let tables = table_same section at p.table q.table p.of_bytes q.of_bytes in
-    p.is ∙ ap (λ (t : Table). coming_of_walks (is_same t.arch (arch_of core)) (table_walks t core depth)) tables ∙ sym q.is
+    p.is ∙ ap (λ (t : Table). coming_of_walks (same_arch t.arch (arch_of core)) (table_walks t core depth)) tables ∙ sym q.is
 
 -- ---- slim
 one_slimmed : (bytes : List ℕ) (table : Table) (at : ℕ) (c d : Coming) → MakesSlim bytes table at c → MakesSlim bytes table at d → c ≡ d
@@ -78,7 +78,7 @@ one_slim_from from bytes at (Ok u) c d p q =
     one_from_slims bytes q.table at q.result c d (subst (λ (r : Result (List Func) SlimFault). SlimmingComes bytes q.table at r c) result comes) q.comes
 
 -- ---- merge
-one_list : (items : List Item) (one other : List Table) → AllZip IsSectionOf items one → AllZip IsSectionOf items other → one ≡ other
+one_list : (items : List LoadedSection) (one other : List Table) → AllZip IsSectionOf items one → AllZip IsSectionOf items other → one ≡ other
 one_list [] [] [] p q = refl
 one_list [] [] (t ∷ ts) p q = absurd q
 one_list [] (t ∷ ts) other p q = absurd p
@@ -132,7 +132,7 @@ pub one_dump_coming : (section : SectionWords) (items : List (List ℕ)) (c d : 
 one_dump_coming section items c d asked count p q = one_shown section.at (get_or items 0 []) table_shown (section_check (get_or items 0 []) section.at) c d p q
 
 pub one_lookup_coming : (lookup : LookupWords) (items : List (List ℕ)) (c d : Coming) → ((words : List (List ℕ)) × IsLookup words lookup) → length items ≡ length (items_of (lookup_files lookup)) → LookupComes lookup items c → LookupComes lookup items d → c ≡ d
-one_lookup_coming lookup items c d asked count p q = one_shown lookup.section.at (get_or items 0 []) (row_shown lookup.pc) (section_check (get_or items 0 []) lookup.section.at) c d p q
+one_lookup_coming lookup items c d asked count p q = one_shown lookup.section.at (get_or items 0 []) (row_outcome lookup.pc) (section_check (get_or items 0 []) lookup.section.at) c d p q
 
 pub one_slim_coming : (slim : SlimWords) (items : List (List ℕ)) (c d : Coming) → ((words : List (List ℕ)) × IsSlim words slim) → length items ≡ length (items_of (slim_files slim)) → SlimComes slim items c → SlimComes slim items d → c ≡ d
 one_slim_coming slim items c d asked count p q = one_slim_from slim.section.at (get_or items 0 []) slim.out.at (section_check (get_or items 0 []) slim.section.at) c d p q
@@ -147,7 +147,7 @@ some_sections words merge h = subst (λ (n : ℕ). 0 < n) (as_long IsSectionWord
 pub one_merge_coming : (merge : MergeWords) (items : List (List ℕ)) (c d : Coming) → ((words : List (List ℕ)) × IsMerge words merge) → length items ≡ length (items_of (merge_files merge)) → MergeComes merge items c → MergeComes merge items d → c ≡ d
 one_merge_coming merge items c d asked count p q =
     let sections : length items ≡ length merge.sections = count ∙ length-map merge.sections Section in
-    one_merge_from merge.out.at merge.sections items (sections_fault (zip merge.sections items)) c d (subst (λ (n : ℕ). 0 < n) (sym sections) (some_sections asked.0 merge asked.1)) sections p q
+    one_merge_from merge.out.at merge.sections items (first_unsound_section (zip merge.sections items)) c d (subst (λ (n : ℕ). 0 < n) (sym sections) (some_sections asked.0 merge asked.1)) sections p q
 
 pub one_procwalk_coming : (procwalk : ProcwalkWords) (items : List (List ℕ)) (c d : Coming) → ((words : List (List ℕ)) × IsProcwalk words procwalk) → length items ≡ length (items_of (procwalk_files procwalk)) → ProcwalkComes procwalk items c → ProcwalkComes procwalk items d → c ≡ d
 one_procwalk_coming procwalk items c d asked count p q = one_procwalk (get_or items 0 []) procwalk.depth (zip procwalk.files (drop 1 items)) (core_check (get_or items 0 [])) c d p q

@@ -12,21 +12,21 @@ use Rattle.core_notes.specs.declared.fault.CoreFault.{CoreFault}
 use Rattle.sf_modules.specs.declared.fault.ModuleFault.{ModuleFault}
 use Rattle.sf_modules.specs.Entry.{EntryView}
 use Rattle.sf_modules.specs.Fault.{Check}
-use Rattle.sf_modules.specs.Match.{entry_of}
-use Rattle.sf_modules.specs.Module.{ModuleView, address_of}
-use Rattle.sf_modules.specs.Note.{HasEntries, entries_from, file_entries_check, file_entry_count, names_part}
-use Rattle.sf_modules.specs.Process.{ProcessView}
+use Rattle.sf_modules.specs.Match.{matching_entry}
+use Rattle.sf_modules.specs.Module.{ModuleView, loaded_address}
+use Rattle.sf_modules.specs.Note.{HasEntries, numbered_entries, file_entries_check, file_entry_count, names_part}
+use Rattle.sf_modules.specs.Process.{ProcessView, process_of}
 use Rattle.sf_modules.specs.Union.{tables_of}
 use Rattle.sf_modules.proofs.NamesRead.{names_unique}
 use Rattle.section_commands.specs.Coming.{Coming}
-use Rattle.section_commands.specs.Procwalk.{EntriesCome, File, FilesCome, IsModuleOf, NoteComes, ProcwalkComesFrom, coming_of_modules, file_note, files_fault, mixed_item, modules_walks, process_of, sums_limit}
+use Rattle.section_commands.specs.Procwalk.{EntriesCome, File, FilesCome, IsModuleOf, NoteComes, ProcwalkComesFrom, coming_of_modules, file_note, files_fault, mixed_item, modules_walks, sums_limit}
 
 -- ---- the entries of the note
 one_note : (note : Option Cursor) (p q : ℕ) (es fs : List EntryView) → HasEntries note p es → HasEntries note q fs → (p ≡ q) × (es ≡ fs)
 one_note None p q es fs h i = absurd h
 one_note (Some note) p q es fs h i =
     let names : h.names ≡ i.names = names_unique (file_entry_count note.left) (names_part note.left) h.names i.names h.names_are i.names_are in
-    (h.size ∙ sym i.size, h.are ∙ ap (entries_from note.left 0) names ∙ sym i.are)
+    (h.size ∙ sym i.size, h.are ∙ ap (numbered_entries note.left 0) names ∙ sym i.are)
 
 -- ---- the modules of files
 one_view : (m n : ModuleView) → m.name ≡ n.name → m.machine ≡ n.machine → m.table ≡ n.table → m ≡ n
@@ -41,13 +41,13 @@ one_module process file m n p q =
     let section : p.section ≡ q.section = cc in
     let two_loads : Some p.load ≡ Some q.load = sym p.load_is ∙ q.load_is in
     let load : p.load ≡ q.load = cc in
-    let at_load : entry_of process file.0 file.1 q.load ≡ Some p.entry = subst (λ (l : ℕ). entry_of process file.0 file.1 l ≡ Some p.entry) load p.entry_is in
+    let at_load : matching_entry process file.0 file.1 q.load ≡ Some p.entry = subst (λ (l : ℕ). matching_entry process file.0 file.1 l ≡ Some p.entry) load p.entry_is in
     let two_entries : Some p.entry ≡ Some q.entry = sym at_load ∙ q.entry_is in
     let entry : p.entry ≡ q.entry = cc in
     let page = process.page in
-    let at : address_of file.1 page p.entry p.load p.section ≡ address_of file.1 page q.entry q.load q.section =
-    ap (λ (e : EntryView). address_of file.1 page e p.load p.section) entry ∙ ap (λ (l : ℕ). address_of file.1 page q.entry l p.section) load ∙ ap (address_of file.1 page q.entry q.load) section in
-    let first = subst (λ (i : ℕ). Section (section_bytes file.1 i) (address_of file.1 page p.entry p.load p.section) m.table) section p.table_is in
+    let at : loaded_address file.1 page p.entry p.load p.section ≡ loaded_address file.1 page q.entry q.load q.section =
+    ap (λ (e : EntryView). loaded_address file.1 page e p.load p.section) entry ∙ ap (λ (l : ℕ). loaded_address file.1 page q.entry l p.section) load ∙ ap (loaded_address file.1 page q.entry q.load) section in
+    let first = subst (λ (i : ℕ). Section (section_bytes file.1 i) (loaded_address file.1 page p.entry p.load p.section) m.table) section p.table_is in
     let table = table_same _ _ m.table n.table (subst (λ (a : ℕ). Section (section_bytes file.1 q.section) a m.table) at first) q.table_is in
     one_view m n (p.name_is ∙ ap (λ (e : EntryView). e.name) entry ∙ sym q.name_is) (p.machine_is ∙ sym q.machine_is) table
 

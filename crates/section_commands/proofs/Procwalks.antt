@@ -13,7 +13,7 @@ use Rattle.sf_modules.specs.Entry.{EntryView}
 use Rattle.sf_modules.specs.Fault.{Check, IsFaultOf}
 use Rattle.sf_modules.specs.Module.{ModuleView}
 use Rattle.sf_modules.specs.Note.{HasEntries, file_entries_check}
-use Rattle.sf_modules.specs.Process.{ProcessView}
+use Rattle.sf_modules.specs.Process.{ProcessView, process_of}
 use Rattle.sf_modules.specs.Union.{tables_of}
 use Rattle.sf_words.specs.declared.refusal.Refusal.{Refusal}
 use Rattle.sf_words.specs.declared.refusal.Refusal.TheVariants as refusal
@@ -23,9 +23,9 @@ use Rattle.sf_words.proofs.Loads.{goes_on, within_both}
 use Rattle.sf_words.specs.Items.{Core, Mapped}
 use Rattle.section_commands.specs.declared.made.Made.{Made}
 use Rattle.section_commands.specs.Coming.{Coming}
-use Rattle.section_commands.specs.FirstFault.{first_fault}
+use Rattle.section_commands.specs.FirstFault.{first_failing}
 use Rattle.section_commands.specs.Making.{ComesAs, ComesTo}
-use Rattle.section_commands.specs.Procwalk.{File, FilesCome, IsModuleOf, NoteComes, ProcwalkComesFrom, coming_of_module, coming_of_modules, file_check, file_note, files_fault, mixed_item, modules_walks, process_of, sums_limit}
+use Rattle.section_commands.specs.Procwalk.{File, FilesCome, IsModuleOf, NoteComes, ProcwalkComesFrom, coming_of_module, coming_of_modules, module_file_check, file_note, files_fault, mixed_item, modules_walks, sums_limit}
 use Rattle.section_commands.proofs.Lists.{as_many}
 use Rattle.section_commands.proofs.Making.{comes_as, memory_comes}
 use Rattle.section_commands.proofs.Reading.{Reading, fault_step}
@@ -42,14 +42,14 @@ position_map {X} {Y} p f xs =
 
 -- ---- while modules are read
 abbrev pub ReadingFiles : ProcessView → (all : List File) → (item : ℕ) → (left : List File) → List ModuleView → Type 0
-ReadingFiles p all item left modules = Reading (file_check p) (IsModuleOf p) 1 all item left modules
+ReadingFiles p all item left modules = Reading (module_file_check p) (IsModuleOf p) 1 all item left modules
 
 -- a file of which no module is read is the first
 pub unread : (p : ProcessView) (all : List File) (item number : ℕ) (left : List File) (modules : List ModuleView) (file : File) (later : List File) (fault : ModuleFault) (refused : Refusal)
-    → ReadingFiles p all item left modules → left ≡ file ∷ later → file_check p file ≡ Err fault → number ≡ item → ComesAs (λ (c : Coming). c ≡ coming_of_module number fault) refused
+    → ReadingFiles p all item left modules → left ≡ file ∷ later → module_file_check p file ≡ Err fault → number ≡ item → ComesAs (λ (c : Coming). c ≡ coming_of_module number fault) refused
     → (depth : ℕ) → ComesAs (FilesCome p depth all (files_fault p all)) refused
 unread p all item number left modules file later fault refused h are check is tells depth =
-    let first : files_fault p all ≡ Some (item, fault) = h.fault ∙ ap (first_fault (file_check p) item) are ∙ fault_step (file_check p) item file later (Err fault) check in
+    let first : files_fault p all ≡ Some (item, fault) = h.fault ∙ ap (first_failing (module_file_check p) item) are ∙ fault_step (module_file_check p) item file later (Err fault) check in
     comes_as (λ (c : Coming). c ≡ coming_of_module number fault) (FilesCome p depth all (files_fault p all))
     (λ c e. subst (λ (f : Option (ℕ × ModuleFault)). FilesCome p depth all f c) (sym first) (e ∙ ap (λ (n : ℕ). coming_of_module n fault) is)) refused tells
 

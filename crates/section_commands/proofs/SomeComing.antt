@@ -23,9 +23,9 @@ use Rattle.sf_words.specs.Files.{items_of}
 use Rattle.sf_words.specs.Words.{SectionWords}
 use Rattle.section_commands.specs.Coming.{Coming, Refused}
 use Rattle.section_commands.specs.Dump.{DumpComes, IsDump, dump_files, table_shown}
-use Rattle.section_commands.specs.FirstFault.{first_fault}
-use Rattle.section_commands.specs.Lookup.{IsLookup, LookupComes, LookupWords, lookup_files, row_shown}
-use Rattle.section_commands.specs.Merge.{IsMerge, IsSectionOf, Item, MergeComes, MergeComesAt, MergeComesFrom, MergeWords, coming_of_merging, item_check, merge_files, sections_fault}
+use Rattle.section_commands.specs.FirstFault.{first_failing}
+use Rattle.section_commands.specs.Lookup.{IsLookup, LookupComes, LookupWords, lookup_files, row_outcome}
+use Rattle.section_commands.specs.Merge.{IsMerge, IsSectionOf, LoadedSection, MergeComes, MergeComesAt, MergeComesFrom, MergeWords, coming_of_merging, item_check, merge_files, first_unsound_section}
 use Rattle.section_commands.specs.Procwalk.{IsProcwalk, ProcwalkComes, ProcwalkWords, procwalk_files}
 use Rattle.section_commands.specs.SectionComes.{Showing, ShowingComesFrom, coming_of_decoding}
 use Rattle.section_commands.specs.Slim.{IsSlim, SlimComes, SlimComesFrom, SlimWords, SlimmingComes, slim_files}
@@ -48,18 +48,18 @@ some_walk_from at section core depth are (Ok u) e (Err fault) = (coming_of_core 
 some_walk_from at section core depth are (Ok u) e (Ok v) = (_, record { table = table_in section at; of_bytes = section_stands section at are e; is = refl })
 
 -- ---- merge
-tables_in : List Item → List Table
-tables_in items = map (λ (item : Item). table_in item.1 item.0.at) items
+tables_in : List LoadedSection → List Table
+tables_in items = map (λ (item : LoadedSection). table_in item.1 item.0.at) items
 
-abbrev HasBytes : Item → Type 0
+abbrev HasBytes : LoadedSection → Type 0
 HasBytes item = AreBytes item.1
 
 -- the sections of items, each of which was checked
-record AreSections (items : List Item) : Type 0 where
+record AreSections (items : List LoadedSection) : Type 0 where
   are : AllZip IsSectionOf items (tables_in items)
   said : All IsSaid (tables_in items)
 
-next_section : (item : Item) (items : List Item) → AreBytes item.1 → section_check item.1 item.0.at ≡ Ok tt → AreSections items → AreSections (item ∷ items)
+next_section : (item : LoadedSection) (items : List LoadedSection) → AreBytes item.1 → section_check item.1 item.0.at ≡ Ok tt → AreSections items → AreSections (item ∷ items)
 unfolding tables_in
 next_section item items bytes e h =
     let is = section_stands item.1 item.0.at bytes e in
@@ -68,11 +68,11 @@ next_section item items bytes e h =
       said = All-cons IsSaid (table_in item.1 item.0.at) (tables_in items) (record { bytes = item.1; from = item.0.at; are_bytes = bytes; is = is }) h.said;
     }
 
-all_sections : (number : ℕ) (items : List Item) → All HasBytes items → first_fault item_check number items ≡ None → AreSections items
-unfolding first_fault tables_in
+all_sections : (number : ℕ) (items : List LoadedSection) → All HasBytes items → first_failing item_check number items ≡ None → AreSections items
+unfolding first_failing tables_in
 all_sections number [] bytes e = record { are = tt; said = All-nil IsSaid }
 all_sections number (item ∷ items) bytes e =
-    let here = none_here (item_check item) number (first_fault item_check (number + 1) items) e in
+    let here = none_here (item_check item) number (first_failing item_check (number + 1) items) e in
     next_section item items (All-head HasBytes item items bytes) here.0 (all_sections (number + 1) items (All-tail HasBytes item items bytes) here.1)
 
 some_merging : (at : ℕ) (tables : List Table) → All IsSaid tables → (result : Result (List Func) MergeFault) → Merges tables at result → (coming : Coming) × MergeComesFrom at tables result coming
@@ -81,7 +81,7 @@ some_merging at tables said (Ok functions) h =
     let made = some_merged tables at functions said h in
     (_, record { section = made.0; text = merged_text made.1 made.2; count = made.1; rows = made.2; merged = made.3; text_is = refl; is = refl })
 
-some_merge_from : (at : ℕ) (items : List Item) → All HasBytes items → (fault : Option (ℕ × DecodeFault)) → sections_fault items ≡ fault → (coming : Coming) × MergeComesAt at items fault coming
+some_merge_from : (at : ℕ) (items : List LoadedSection) → All HasBytes items → (fault : Option (ℕ × DecodeFault)) → first_unsound_section items ≡ fault → (coming : Coming) × MergeComesAt at items fault coming
 some_merge_from at items bytes (Some fault) e = (_, refl)
 some_merge_from at items bytes None e =
     let sections = all_sections 0 items bytes e in
@@ -121,7 +121,7 @@ pub some_dump_coming : (section : SectionWords) (items : List (List ℕ)) → ((
 some_dump_coming section items asked count bytes = some_shown section.at (get_or items 0 []) table_shown (first_bytes items 0 bytes (omega (count, arith))) (section_check (get_or items 0 []) section.at) refl
 
 pub some_lookup_coming : (lookup : LookupWords) (items : List (List ℕ)) → ((words : List (List ℕ)) × IsLookup words lookup) → length items ≡ length (items_of (lookup_files lookup)) → All AreBytes items → (coming : Coming) × LookupComes lookup items coming
-some_lookup_coming lookup items asked count bytes = some_shown lookup.section.at (get_or items 0 []) (row_shown lookup.pc) (first_bytes items 0 bytes (omega (count, arith))) (section_check (get_or items 0 []) lookup.section.at) refl
+some_lookup_coming lookup items asked count bytes = some_shown lookup.section.at (get_or items 0 []) (row_outcome lookup.pc) (first_bytes items 0 bytes (omega (count, arith))) (section_check (get_or items 0 []) lookup.section.at) refl
 
 pub some_slim_coming : (slim : SlimWords) (items : List (List ℕ)) → ((words : List (List ℕ)) × IsSlim words slim) → length items ≡ length (items_of (slim_files slim)) → All AreBytes items → (coming : Coming) × SlimComes slim items coming
 some_slim_coming slim items asked count bytes = some_slim_from slim.section.at slim.out.at (get_or items 0 []) (first_bytes items 0 bytes (omega (count, arith))) (section_check (get_or items 0 []) slim.section.at) refl
@@ -130,7 +130,7 @@ pub some_walk_coming : (walk : WalkWords) (items : List (List ℕ)) → ((words 
 some_walk_coming walk items asked count bytes = some_walk_from walk.section.at (get_or items 0 []) (get_or items 1 []) walk.depth (first_bytes items 0 bytes (omega (count, arith))) (section_check (get_or items 0 []) walk.section.at) refl (core_check (get_or items 1 []))
 
 pub some_merge_coming : (merge : MergeWords) (items : List (List ℕ)) → ((words : List (List ℕ)) × IsMerge words merge) → length items ≡ length (items_of (merge_files merge)) → All AreBytes items → (coming : Coming) × MergeComes merge items coming
-some_merge_coming merge items asked count bytes = some_merge_from merge.out.at (zip merge.sections items) (all_items merge.sections items bytes) (sections_fault (zip merge.sections items)) refl
+some_merge_coming merge items asked count bytes = some_merge_from merge.out.at (zip merge.sections items) (all_items merge.sections items bytes) (first_unsound_section (zip merge.sections items)) refl
 
 pub some_procwalk_coming : (procwalk : ProcwalkWords) (items : List (List ℕ)) → ((words : List (List ℕ)) × IsProcwalk words procwalk) → length items ≡ length (items_of (procwalk_files procwalk)) → All AreBytes items → (coming : Coming) × ProcwalkComes procwalk items coming
 some_procwalk_coming procwalk items asked count bytes = some_procwalk (get_or items 0 []) procwalk.depth (zip procwalk.files (drop 1 items)) (files_have_bytes procwalk.files (drop 1 items) (later_bytes items bytes)) (core_check (get_or items 0 []))

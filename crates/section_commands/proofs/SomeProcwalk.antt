@@ -18,16 +18,16 @@ use Rattle.sf_modules.specs.declared.fault.ModuleFault.TheVariants.{FileNote, Ma
 use Rattle.sf_modules.specs.Entry.{EntryView}
 use Rattle.sf_modules.specs.Fault.{Check}
 use Rattle.sf_modules.specs.File.{first_load, sframe_section}
-use Rattle.sf_modules.specs.Match.{entry_of, is_candidate}
-use Rattle.sf_modules.specs.Module.{IsModule, ModuleView, address_of}
-use Rattle.sf_modules.specs.Note.{HasEntries, entries_from, file_entries_check, file_entry_check, file_entry_count, file_header_check, file_note_check, has_file_names, names_part, page_size}
-use Rattle.sf_modules.specs.Process.{ProcessView}
+use Rattle.sf_modules.specs.Match.{matching_entry, is_candidate}
+use Rattle.sf_modules.specs.Module.{IsModule, ModuleView, loaded_address}
+use Rattle.sf_modules.specs.Note.{HasEntries, numbered_entries, file_entries_check, file_entry_check, file_entry_count, file_header_check, file_note_check, has_file_names, names_part, page_size}
+use Rattle.sf_modules.specs.Process.{ProcessView, process_of}
 use Rattle.sf_modules.specs.Reading.{build_part, decode_part, entry_part, match_part, module_check, nearest_part, process_part, room_part, section_part, segments_part, table_part}
 use Rattle.sf_modules.proofs.NamesRead.{names_exist}
 use Rattle.sf_modules.proofs.Placing.{both_fine, build_fine, nearest_fine, passes}
 use Rattle.section_commands.specs.Coming.{Coming}
-use Rattle.section_commands.specs.FirstFault.{first_fault}
-use Rattle.section_commands.specs.Procwalk.{File, FilesCome, IsModuleOf, NoteComes, ProcwalkComesFrom, coming_of_module, file_check as check_of_file, file_note, files_fault, process_of}
+use Rattle.section_commands.specs.FirstFault.{first_failing}
+use Rattle.section_commands.specs.Procwalk.{File, FilesCome, IsModuleOf, NoteComes, ProcwalkComesFrom, coming_of_module, module_file_check as check_of_file, file_note, files_fault}
 use Rattle.section_commands.specs.Walks.{coming_of_core}
 use Rattle.section_commands.proofs.Reading.{none_here}
 
@@ -43,7 +43,7 @@ some_entries : (note : Option Cursor) → file_entries_check note ≡ Ok tt → 
 some_entries None e = cc
 some_entries (Some note) e =
     let names = names_exist (file_entry_count note.left) (names_part note.left) (has_names note e) in
-    (page_size note.left, entries_from note.left 0 names.0, record { size = refl; names = names.0; names_are = names.1; are = refl })
+    (page_size note.left, numbered_entries note.left 0 names.0, record { size = refl; names = names.0; names_are = names.1; are = refl })
 
 -- ---- the module of a file
 section_are_bytes : (file : List ℕ) (i : ℕ) → AreBytes file → AreBytes (section_bytes file i)
@@ -73,18 +73,18 @@ is_decoded : (check : Result (Unit {0}) DecodeFault) → decode_part check ≡ O
 is_decoded (Ok tt) e = refl
 is_decoded (Err fault) e = cc
 
-no_entry : (p : ProcessView) (word file : List ℕ) (load : ℕ) → nearest_part p word file load ≡ Ok tt → entry_of p word file load ≡ None → ⊥
+no_entry : (p : ProcessView) (word file : List ℕ) (load : ℕ) → nearest_part p word file load ≡ Ok tt → matching_entry p word file load ≡ None → ⊥
 unfolding nearest_part
 no_entry p word file load fine e =
-    let both = both_fine (unless (is_candidate word p.entries) NotMapped) (match_part p word file load (entry_of p word file load)) fine in
+    let both = both_fine (unless (is_candidate word p.entries) NotMapped) (match_part p word file load (matching_entry p word file load)) fine in
     let no : Err Mapping ≡ Ok tt = ap (match_part p word file load) (sym e) ∙ both.1 in cc
 
 by_entry : (p : ProcessView) (word file : List ℕ) (section load : ℕ) → AreBytes file → sframe_section file ≡ Some section → first_load file ≡ Some load → nearest_part p word file load ≡ Ok tt → (entry : Option EntryView)
-    → entry_of p word file load ≡ entry → entry_part p file load section entry ≡ Ok tt → (m : ModuleView) × IsModule p word file m
+    → matching_entry p word file load ≡ entry → entry_part p file load section entry ≡ Ok tt → (m : ModuleView) × IsModule p word file m
 by_entry p word file section load are s l near None e fine = absurd (no_entry p word file load near e)
 by_entry p word file section load are s l near (Some entry) e fine =
     let bytes = section_bytes file section in
-    let at = address_of file p.page entry load section in
+    let at = loaded_address file p.page entry load section in
     let placed = nearest_fine p word file load entry near e in
     let both = both_fine (build_part p file load entry) (table_part file p.page entry load section) fine in (
       record { name = entry.name; machine = arch_of file; table = table_in bytes at },
@@ -109,8 +109,8 @@ by_parts : (p : ProcessView) (word file : List ℕ) → AreBytes file → (secti
 by_parts p word file are None load s l section_fine load_fine fine = cc
 by_parts p word file are (Some section) None s l section_fine load_fine fine = cc
 by_parts p word file are (Some section) (Some load) s l section_fine load_fine fine =
-    let both = both_fine (nearest_part p word file load) (entry_part p file load section (entry_of p word file load)) fine in
-    by_entry p word file section load are s l both.0 (entry_of p word file load) refl both.1
+    let both = both_fine (nearest_part p word file load) (entry_part p file load section (matching_entry p word file load)) fine in
+    by_entry p word file section load are s l both.0 (matching_entry p word file load) refl both.1
 
 some_module : (p : ProcessView) (word file : List ℕ) → AreBytes file → module_check p word file ≡ Ok tt → (m : ModuleView) × IsModule p word file m
 some_module p word file are e =
@@ -132,12 +132,12 @@ pub later_bytes : (items : List (List ℕ)) → All AreBytes items → All AreBy
 later_bytes [] h = h
 later_bytes (first ∷ items) h = All-tail AreBytes first items h
 
-some_modules : (p : ProcessView) (item : ℕ) (files : List File) → All HasBytes files → first_fault (check_of_file p) item files ≡ None
+some_modules : (p : ProcessView) (item : ℕ) (files : List File) → All HasBytes files → first_failing (check_of_file p) item files ≡ None
     → (modules : List ModuleView) × AllZip (IsModuleOf p) files modules
-unfolding first_fault
+unfolding first_failing
 some_modules p item [] bytes e = ([], tt)
 some_modules p item (file ∷ files) bytes e =
-    let here = none_here (check_of_file p file) item (first_fault (check_of_file p) (item + 1) files) e in
+    let here = none_here (check_of_file p file) item (first_failing (check_of_file p) (item + 1) files) e in
     let one = some_module p file.0 file.1 (All-head HasBytes file files bytes) here.0 in
     let later = some_modules p (item + 1) files (All-tail HasBytes file files bytes) here.1 in
     (one.0 ∷ later.0, (one.1, later.1))

@@ -4,7 +4,7 @@ use Rattle.sf_model.specs.Table.{Table}
 use Rattle.sf_text.specs.Dump.{dump_text}
 use Rattle.sf_words.specs.Files.{FilesWords}
 use Rattle.sf_words.specs.Items.{Section}
-use Rattle.sf_words.specs.Words.{IsSectionWord, SectionWords, section_of}
+use Rattle.sf_words.specs.Words.{IsSectionWord, SectionWords, words_of_section}
 use Rattle.section_commands.specs.declared.dump.Dump.{Dump}
 use Rattle.section_commands.specs.declared.made.Outcome.{Outcome}
 use Rattle.section_commands.specs.declared.made.Outcome.TheVariants.{Done}
@@ -31,4 +31,4 @@ DumpComes section items coming = ShowingComes section.at table_shown items comin
 
 -- what the words ask for, without where they are in memory
 abbrev pub dump_of : Dump → SectionWords
-dump_of dump = section_of dump.section
+dump_of dump = words_of_section dump.section

@@ -7,6 +7,6 @@ or_in (Err fault) item later = Some (item, fault)
 or_in (Ok u) item later = later
 
 -- the first item that fails its check, of items that are numbered from this number on, and its fault
-unfoldable pub first_fault : {A F : Type 0} → (check : A → Result (Unit {0}) F) → (number : ℕ) → List A → Option (ℕ × F)
-first_fault check number [] = None
-first_fault check number (item ∷ items) = or_in (check item) number (first_fault check (number + 1) items)
+unfoldable pub first_failing : {A F : Type 0} → (check : A → Result (Unit {0}) F) → (number : ℕ) → List A → Option (ℕ × F)
+first_failing check number [] = None
+first_failing check number (item ∷ items) = or_in (check item) number (first_failing check (number + 1) items)

@@ -10,7 +10,7 @@ use Rattle.sf_decode.specs.View.{head_of}
 use Rattle.sf_text.specs.Found.{found_text}
 use Rattle.sf_words.specs.Files.{FilesWords}
 use Rattle.sf_words.specs.Items.{Section}
-use Rattle.sf_words.specs.Words.{IsSectionWord, SectionWords, section_of}
+use Rattle.sf_words.specs.Words.{IsSectionWord, SectionWords, words_of_section}
 use Rattle.section_commands.specs.declared.lookup.Lookup.{Lookup}
 use Rattle.section_commands.specs.declared.made.Outcome.{Outcome}
 use Rattle.section_commands.specs.declared.made.Outcome.TheVariants.{Done, No}
@@ -44,13 +44,13 @@ found_outcome None = No
 found_outcome (Some found) = Done
 
 -- the outcome and the text of the row that holds at an address
-abbrev pub row_shown : (pc : ℕ) → Table → Outcome × List ℕ
-row_shown pc table = (found_outcome (found_at table.functions pc), found_text pc (option_map pair_of (found_at table.functions pc)))
+abbrev pub row_outcome : (pc : ℕ) → Table → Outcome × List ℕ
+row_outcome pc table = (found_outcome (found_at table.functions pc), found_text pc (option_map pair_of (found_at table.functions pc)))
 
 -- what it comes to
 abbrev pub LookupComes : LookupWords → (items : List (List ℕ)) → Coming → Type 0
-LookupComes lookup items coming = ShowingComes lookup.section.at (row_shown lookup.pc) items coming
+LookupComes lookup items coming = ShowingComes lookup.section.at (row_outcome lookup.pc) items coming
 
 -- what the words ask for, without where they are in memory
 abbrev pub lookup_of : Lookup → LookupWords
-lookup_of lookup = record { section = section_of lookup.section; pc = lookup.pc }
+lookup_of lookup = record { section = words_of_section lookup.section; pc = lookup.pc }

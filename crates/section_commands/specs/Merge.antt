@@ -15,12 +15,12 @@ use Rattle.sf_text.specs.Merged.{merged_text}
 use Rattle.sf_words.specs.declared.refusal.Limit.TheVariants.{Functions, Rows}
 use Rattle.sf_words.specs.Files.{FilesWords}
 use Rattle.sf_words.specs.Items as item
-use Rattle.sf_words.specs.Named.{sections_of}
-use Rattle.sf_words.specs.Words.{IsSectionWord, SectionWords, section_of}
+use Rattle.sf_words.specs.Named.{named_sections}
+use Rattle.sf_words.specs.Words.{IsSectionWord, SectionWords, words_of_section}
 use Rattle.section_commands.specs.declared.merge.Merge.{Merge}
 use Rattle.section_commands.specs.declared.made.Outcome.TheVariants.{Done}
 use Rattle.section_commands.specs.Coming.{Coming, Refused, Exceeded, Makes}
-use Rattle.section_commands.specs.FirstFault.{first_fault}
+use Rattle.section_commands.specs.FirstFault.{first_failing}
 use Rattle.section_commands.specs.SectionComes.{coming_of_decoding}
 
 -- what is asked of `merge`: the merged section's file and address, and the sections
@@ -42,19 +42,19 @@ abbrev pub merge_files : MergeWords → FilesWords
 merge_files merge = record { out = Some merge.out.name; first = []; list = map item.Section merge.sections }
 
 -- a section as it is named, and its bytes
-abbrev pub Item : Type 0
-Item = SectionWords × List ℕ
+abbrev pub LoadedSection : Type 0
+LoadedSection = SectionWords × List ℕ
 
 -- the bytes of an item are a section at its address, of this table
-abbrev pub IsSectionOf : Item → Table → Type 0
+abbrev pub IsSectionOf : LoadedSection → Table → Type 0
 IsSectionOf item table = Section item.1 item.0.at table
 
-abbrev pub item_check : Item → Result (Unit {0}) DecodeFault
+abbrev pub item_check : LoadedSection → Result (Unit {0}) DecodeFault
 item_check item = section_check item.1 item.0.at
 
 -- the first item that is no section, and its first fault
-abbrev pub sections_fault : List Item → Option (ℕ × DecodeFault)
-sections_fault items = first_fault item_check 0 items
+abbrev pub first_unsound_section : List LoadedSection → Option (ℕ × DecodeFault)
+first_unsound_section items = first_failing item_check 0 items
 
 -- what a fault of merging comes to
 abbrev pub coming_of_merging : MergeFault → Coming
@@ -78,7 +78,7 @@ MergeComesFrom at tables (Err fault) coming = coming ≡ coming_of_merging fault
 MergeComesFrom at tables (Ok functions) coming = MakesMerge at tables coming
 
 -- what merging sections of these tables comes to
-pub record TablesCome (at : ℕ) (items : List Item) (coming : Coming) : Type 0 where
+pub record TablesCome (at : ℕ) (items : List LoadedSection) (coming : Coming) : Type 0 where
   pub tables : List Table
   pub are : AllZip IsSectionOf items tables
   pub result : Result (List Func) MergeFault
@@ -86,14 +86,14 @@ pub record TablesCome (at : ℕ) (items : List Item) (coming : Coming) : Type 0 
   pub comes : MergeComesFrom at tables result coming
 
 -- the first item that is no section, or else what merging comes to
-abbrev pub MergeComesAt : (at : ℕ) → (items : List Item) → Option (ℕ × DecodeFault) → Coming → Type 0
+abbrev pub MergeComesAt : (at : ℕ) → (items : List LoadedSection) → Option (ℕ × DecodeFault) → Coming → Type 0
 MergeComesAt at items (Some fault) coming = coming ≡ coming_of_decoding fault.0 fault.1
 MergeComesAt at items None coming = TablesCome at items coming
 
 -- what merging sections of these bytes comes to
 abbrev pub MergeComes : MergeWords → (items : List (List ℕ)) → Coming → Type 0
-MergeComes merge items coming = MergeComesAt merge.out.at (zip merge.sections items) (sections_fault (zip merge.sections items)) coming
+MergeComes merge items coming = MergeComesAt merge.out.at (zip merge.sections items) (first_unsound_section (zip merge.sections items)) coming
 
 -- what the words ask for, without where they are in memory
 abbrev pub merge_of : Merge → MergeWords
-merge_of merge = record { out = section_of merge.out; sections = sections_of merge.sections }
+merge_of merge = record { out = words_of_section merge.out; sections = named_sections merge.sections }

@@ -11,7 +11,7 @@ use Rattle.sf_decode.specs.declared.fault.DecodeFault.TheVariants.{TooManyFuncti
 use Rattle.elf_read.specs.Header.{arch_of}
 use Rattle.core_notes.specs.declared.fault.CoreFault.{CoreFault}
 use Rattle.core_notes.specs.Checks.{core_check, file_threads}
-use Rattle.core_notes.specs.Listing.{items_of, whole_notes}
+use Rattle.core_notes.specs.Listing.{notes_in, whole_notes}
 use Rattle.core_notes.specs.Memory.{file_regions}
 use Rattle.sf_modules.specs.declared.fault.ModuleFault.{ModuleFault}
 use Rattle.sf_modules.specs.declared.fault.ModuleFault.TheVariants.{Section}
@@ -20,11 +20,11 @@ use Rattle.sf_modules.specs.Fault.{Check}
 use Rattle.sf_modules.specs.Found.{modules_walk}
 use Rattle.sf_modules.specs.Module.{IsModule, ModuleView}
 use Rattle.sf_modules.specs.Note.{HasEntries, file_entries_check, file_note_in}
-use Rattle.sf_modules.specs.Process.{ProcessView}
+use Rattle.sf_modules.specs.Process.{ProcessView, process_of}
 use Rattle.sf_modules.specs.Reading.{module_check}
 use Rattle.sf_modules.specs.FaultShown.{shown_of_module}
 use Rattle.sf_modules.specs.Union.{tables_of}
-use Rattle.sf_merge.specs.Merging.{functions_in_all, rows_in_all}
+use Rattle.sf_merge.specs.Merging.{functions_in_all, rows_in_all, same_arch}
 use Rattle.sf_words.specs.declared.refusal.Limit.{Limit}
 use Rattle.sf_words.specs.declared.refusal.Limit.TheVariants.{Functions, Rows}
 use Rattle.sf_words.specs.Files.{FilesWords}
@@ -33,8 +33,8 @@ use Rattle.sf_words.specs.Items as item
 use Rattle.section_commands.specs.declared.procwalk.Procwalk.{Procwalk}
 use Rattle.section_commands.specs.declared.made.Outcome.TheVariants.{Done}
 use Rattle.section_commands.specs.Coming.{Coming, Exceeded, Makes, Refused}
-use Rattle.section_commands.specs.FirstFault.{first_fault}
-use Rattle.section_commands.specs.Walks.{coming_of_core, is_same, shown_of_mixed, walks_text}
+use Rattle.section_commands.specs.FirstFault.{first_failing}
+use Rattle.section_commands.specs.Walks.{coming_of_core, shown_of_mixed, walks_text}
 
 -- what is asked of `procwalk`: the core file's name, the most frames of a thread, and the names of the files that were mapped
 pub record ProcwalkWords : Type 0 where
@@ -71,20 +71,20 @@ coming_of_module item fault = Refused (shown_of_module (Some item) fault)
 abbrev pub IsModuleOf : ProcessView → File → ModuleView → Type 0
 IsModuleOf p file m = IsModule p file.0 file.1 m
 
-abbrev pub file_check : ProcessView → File → Check
-file_check p file = module_check p file.0 file.1
+abbrev pub module_file_check : ProcessView → File → Check
+module_file_check p file = module_check p file.0 file.1
 
 -- the first file whose module can't be read, and its fault: the files are the items from 1 on
 abbrev pub files_fault : ProcessView → List File → Option (ℕ × ModuleFault)
-files_fault p files = first_fault (file_check p) 1 files
+files_fault p files = first_failing (module_file_check p) 1 files
 
 -- a module's file, or its section, is for another machine
-abbrev pub is_other : Arch → ModuleView → Bool
-is_other arch m = not (is_same arch m.machine && is_same arch m.table.arch)
+abbrev pub is_for_another : Arch → ModuleView → Bool
+is_for_another arch m = not (same_arch arch m.machine && same_arch arch m.table.arch)
 
 -- the item of the first module whose file or section is for another machine
 abbrev pub mixed_item : Arch → List ModuleView → Option ℕ
-mixed_item arch modules = option_map (λ (k : ℕ). k + 1) (position (is_other arch) modules)
+mixed_item arch modules = option_map (λ (k : ℕ). k + 1) (position (is_for_another arch) modules)
 
 -- more than 2^21 functions, or more than 2^24 rows, in all sections together
 abbrev pub sums_limit : List Table → Option Limit
@@ -115,11 +115,7 @@ FilesCome p depth files None coming = ModulesCome p depth files coming
 
 -- the note on mapped files of a core file
 abbrev pub file_note : (core : List ℕ) → Option Cursor
-file_note core = file_note_in (whole_notes (items_of core))
-
--- the process that a core file shows, by the page size and the entries of that note
-abbrev pub process_of : (core : List ℕ) → (page : ℕ) → List EntryView → ProcessView
-process_of core page entries = record { core = core; page = page; entries = entries }
+file_note core = file_note_in (whole_notes (notes_in core))
 
 -- what the files come to by the page size and the entries of that note: the first whose module can't be read, or the walks
 pub record EntriesCome (core : List ℕ) (depth : ℕ) (files : List File) (coming : Coming) : Type 0 where

@@ -13,14 +13,14 @@ use Rattle.section_commands.specs.declared.made.Outcome.{Outcome}
 use Rattle.section_commands.specs.Coming.{Coming, Refused, Exceeded, Makes}
 
 -- what the line of a section's fault shows: the item, the fault's number and its place
-abbrev pub shown_of_section : (item : ℕ) → DecodeFault → FaultShown
-shown_of_section item fault = record { item = Some item; group = group.Section; number = (number_and_place fault).0; values = (number_and_place fault).1 ∷ [] }
+abbrev pub shown_of_decoding : (item : ℕ) → DecodeFault → FaultShown
+shown_of_decoding item fault = record { item = Some item; group = group.Section; number = (number_and_place fault).0; values = (number_and_place fault).1 ∷ [] }
 
 -- what a fault of the section of an item comes to
 abbrev pub coming_of_decoding : (item : ℕ) → DecodeFault → Coming
 coming_of_decoding item (TooManyFunctions place) = Exceeded Functions
 coming_of_decoding item (TooManyRows place) = Exceeded Rows
-coming_of_decoding item fault = Refused (shown_of_section item fault)
+coming_of_decoding item fault = Refused (shown_of_decoding item fault)
 
 -- how a command shows a table: its outcome and its text
 abbrev pub Showing : Type 0

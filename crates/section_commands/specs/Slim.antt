@@ -12,7 +12,7 @@ use Rattle.sf_slim.specs.FaultShown.{shown_of_slimming}
 use Rattle.sf_text.specs.Slim.{slim_text}
 use Rattle.sf_words.specs.Files.{FilesWords}
 use Rattle.sf_words.specs.Items as item
-use Rattle.sf_words.specs.Words.{IsSectionWord, SectionWords, section_of}
+use Rattle.sf_words.specs.Words.{IsSectionWord, SectionWords, words_of_section}
 use Rattle.section_commands.specs.declared.slim.Slim.{Slim}
 use Rattle.section_commands.specs.declared.made.Outcome.TheVariants.{Done}
 use Rattle.section_commands.specs.Coming.{Coming, Refused, Makes}
@@ -68,4 +68,4 @@ SlimComes slim items coming = SlimComesFrom slim.section.at (get_or items 0 []) 
 
 -- what the words ask for, without where they are in memory
 abbrev pub slim_of : Slim → SlimWords
-slim_of slim = record { out = section_of slim.out; section = section_of slim.section }
+slim_of slim = record { out = words_of_section slim.out; section = words_of_section slim.section }

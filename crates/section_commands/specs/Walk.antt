@@ -8,15 +8,16 @@ use Rattle.sf_decode.specs.Decoding.{section_check}
 use Rattle.elf_read.specs.Header.{arch_of}
 use Rattle.core_notes.specs.declared.fault.CoreFault.{CoreFault}
 use Rattle.core_notes.specs.Checks.{core_check}
+use Rattle.sf_merge.specs.Merging.{same_arch}
 use Rattle.sf_words.specs.Files.{FilesWords}
 use Rattle.sf_words.specs.Forms.{IsDepth}
 use Rattle.sf_words.specs.Items as item
-use Rattle.sf_words.specs.Words.{IsSectionWord, SectionWords, section_of}
+use Rattle.sf_words.specs.Words.{IsSectionWord, SectionWords, words_of_section}
 use Rattle.section_commands.specs.declared.walk.Walk.{Walk}
 use Rattle.section_commands.specs.declared.made.Outcome.TheVariants.{Done}
 use Rattle.section_commands.specs.Coming.{Coming, Makes, Refused}
 use Rattle.section_commands.specs.SectionComes.{coming_of_decoding}
-use Rattle.section_commands.specs.Walks.{coming_of_core, is_same, shown_of_mixed, table_walks}
+use Rattle.section_commands.specs.Walks.{coming_of_core, shown_of_mixed, table_walks}
 
 -- what is asked of `walk`: the section's file and address, the core file's name, and the most frames of a thread
 pub record WalkWords : Type 0 where
@@ -47,7 +48,7 @@ coming_of_walks false text = Refused (shown_of_mixed 1)
 pub record WalksCome (at : ℕ) (section core : List ℕ) (depth : ℕ) (coming : Coming) : Type 0 where
   pub table : Table
   pub of_bytes : Section section at table
-  pub is : coming ≡ coming_of_walks (is_same table.arch (arch_of core)) (table_walks table core depth)
+  pub is : coming ≡ coming_of_walks (same_arch table.arch (arch_of core)) (table_walks table core depth)
 
 abbrev pub WalkComesFrom : (at : ℕ) → (section core : List ℕ) → (depth : ℕ) → Result (Unit {0}) DecodeFault → Result (Unit {0}) CoreFault → Coming → Type 0
 WalkComesFrom at section core depth (Err fault) check coming = coming ≡ coming_of_decoding 0 fault
@@ -61,4 +62,4 @@ WalkComes walk items coming =
 
 -- what the words ask for, without where they are in memory
 abbrev pub walk_of : Walk → WalkWords
-walk_of walk = record { section = section_of walk.section; core = walk.core.now; depth = walk.depth }
+walk_of walk = record { section = words_of_section walk.section; core = walk.core.now; depth = walk.depth }

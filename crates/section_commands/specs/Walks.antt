@@ -1,7 +1,5 @@
 -- The walks of a core file's threads, as text, and what the commands that walk come to where the core file is refused.
-use Rattle.std.specs.Prelude.{◌+◌, ◌++◌, ℕ, Bool, true, false, List, [], ◌∷◌, Some, None}
-use Rattle.sf_model.specs.declared.machine.Arch.{Arch}
-use Rattle.sf_model.specs.declared.machine.Arch.TheVariants.{Amd64, Aarch64}
+use Rattle.std.specs.Prelude.{◌+◌, ◌++◌, ℕ, List, [], ◌∷◌, Some, None}
 use Rattle.sf_model.specs.declared.notice.Group.TheVariants as group
 use Rattle.sf_model.specs.FaultShown.{FaultShown}
 use Rattle.sf_model.specs.Table.{Table}
@@ -16,12 +14,6 @@ use Rattle.core_walk.specs.Walk.{thread_state}
 use Rattle.sf_text.specs.Frames.{walk_text}
 use Rattle.sf_words.specs.declared.refusal.Limit.TheVariants.{Threads}
 use Rattle.section_commands.specs.Coming.{Coming, Exceeded, Refused}
-
--- two machines are the same
-abbrev pub is_same : Arch → Arch → Bool
-is_same Amd64 Amd64 = true
-is_same Aarch64 Aarch64 = true
-is_same one other = false
 
 -- what the line shows where item 0 and this item are for different machines: a fault of the group of linking
 abbrev pub shown_of_mixed : (item : ℕ) → FaultShown

@@ -6,7 +6,7 @@ ghost use Rattle.sf_decode.specs.Decoding.{section_check};
 ghost use Rattle.sf_decode.specs.View.{table_of};
 ghost use Rattle.sf_words.specs.Files.{files_of, items_of};
 ghost use Rattle.sf_words.specs.Loading.{loaded_bytes, loaded_items};
-ghost use Rattle.section_commands.specs.Lookup.{IsLookup, LookupComes, LookupWords, lookup_files, lookup_of, row_shown};
+ghost use Rattle.section_commands.specs.Lookup.{IsLookup, LookupComes, LookupWords, lookup_files, lookup_of, row_outcome};
 ghost use Rattle.section_commands.specs.Making.{ComesTo, coming_of};
 ghost use Rattle.section_commands.specs.Coming.{Makes};
 ghost use Rattle.section_commands.specs.SectionComes.{ShowingComesFrom};
@@ -31,7 +31,7 @@ pub struct Lookup<'a> {
 
 /// Returns the row that holds at an address.
 fn row_at<'m>(alloc: Global, view: &View<'_>, pc: u64) -> Result<Made<'m>, NoMemory>
-    ensures { IfOk result (λ made. coming_of made ≡ Makes (row_shown pc (table_of view.now)).0 None (row_shown pc (table_of view.now)).1) }
+    ensures { IfOk result (λ made. coming_of made ≡ Makes (row_outcome pc (table_of view.now)).0 None (row_outcome pc (table_of view.now)).1) }
 {
     let (outcome, text) = match find(view, pc) {
         Some(row) => (Outcome::Done, found(alloc, pc, Some((row.func, row.row)))?),
@@ -46,7 +46,7 @@ fn row_at<'m>(alloc: Global, view: &View<'_>, pc: u64) -> Result<Made<'m>, NoMem
 
 /// Returns the row of the section of these bytes that holds at an address.
 fn looked_up<'a, 'm>(alloc: Global, bytes: &[u8], at: u64, pc: u64) -> Result<Made<'m>, Refusal<'a>>
-    ensures { ComesTo (ShowingComesFrom at bytes.now (row_shown pc) (section_check bytes.now at)) result }
+    ensures { ComesTo (ShowingComesFrom at bytes.now (row_outcome pc) (section_check bytes.now at)) result }
 {
     match View::parse(bytes, at) {
         Ok(view) => Ok(row_at(alloc, &view, pc)?),

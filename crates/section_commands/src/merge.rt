@@ -7,10 +7,10 @@ ghost use Rattle.sf_decode.specs.View.{table_of};
 ghost use Rattle.sf_words.specs.Files.{files_of, items_of};
 ghost use Rattle.sf_words.specs.Items.{Section};
 ghost use Rattle.sf_words.specs.Loading.{files_limit, loaded_bytes, loaded_items};
-ghost use Rattle.sf_words.specs.Named.{sections_of};
+ghost use Rattle.sf_words.specs.Named.{named_sections};
 ghost use Rattle.section_commands.specs.Coming.{Coming};
 ghost use Rattle.section_commands.specs.Making.{ComesAs, ComesTo};
-ghost use Rattle.section_commands.specs.Merge.{IsMerge, IsSectionOf, MergeComes, MergeComesAt, MergeWords, coming_of_merging, merge_files, merge_of, sections_fault};
+ghost use Rattle.section_commands.specs.Merge.{IsMerge, IsSectionOf, MergeComes, MergeComesAt, MergeWords, coming_of_merging, merge_files, merge_of, first_unsound_section};
 
 use crate::made::{Made, Outcome};
 use crate::section::undecoded;
@@ -50,12 +50,12 @@ fn views_of<'a, 'm>(
     sections: NamedSections<'_>,
     loaded: &'m [Loaded<'a>],
 ) -> Result<Vec<View<'m>>, Refusal<'a>>
-    requires items { loaded_items loaded.now ≡ map Section (sections_of sections) }
-    requires few { length (sections_of sections) ≤ 512 }
+    requires items { loaded_items loaded.now ≡ map Section (named_sections sections) }
+    requires few { length (named_sections sections) ≤ 512 }
     ensures count { IfOk result (λ views. length views.items ≡ length loaded.now) }
-    ensures checked { IfOk result (λ _. sections_fault (zip (sections_of sections.entry) (loaded_bytes loaded.now)) ≡ None) }
-    ensures are { IfOk result (λ views. AllZip IsSectionOf (zip (sections_of sections.entry) (loaded_bytes loaded.now)) (map table_of views.items)) }
-    ensures refused { IfErr result (λ refused. (at : ℕ) → ComesAs (MergeComesAt at (zip (sections_of sections.entry) (loaded_bytes loaded.now)) (sections_fault (zip (sections_of sections.entry) (loaded_bytes loaded.now)))) refused) }
+    ensures checked { IfOk result (λ _. first_unsound_section (zip (named_sections sections.entry) (loaded_bytes loaded.now)) ≡ None) }
+    ensures are { IfOk result (λ views. AllZip IsSectionOf (zip (named_sections sections.entry) (loaded_bytes loaded.now)) (map table_of views.items)) }
+    ensures refused { IfErr result (λ refused. (at : ℕ) → ComesAs (MergeComesAt at (zip (named_sections sections.entry) (loaded_bytes loaded.now)) (first_unsound_section (zip (named_sections sections.entry) (loaded_bytes loaded.now)))) refused) }
 {
     let mut views: Vec<View<'m>> = Vec::new(alloc);
     for file in loaded {

@@ -6,9 +6,9 @@ ghost use Rattle.std.specs.String.{string_bytes};
 ghost use Rattle.elf_read.specs.Header.{arch_of};
 ghost use Rattle.core_notes.specs.Checks.{core_check};
 ghost use Rattle.core_notes.specs.Views.{core_bytes, threads_of};
-ghost use Rattle.sf_modules.specs.Entry.{entry_view};
+ghost use Rattle.sf_modules.specs.Entry.{mapping_view};
 ghost use Rattle.sf_modules.specs.Module.{module_view};
-ghost use Rattle.sf_modules.specs.Process.{process_view};
+ghost use Rattle.sf_modules.specs.Process.{process_of, process_view};
 ghost use Rattle.sf_modules.specs.Union.{tables_of};
 ghost use Rattle.sf_words.specs.Files.{files_of, items_of};
 ghost use Rattle.sf_words.specs.Items.{Mapped};
@@ -16,7 +16,7 @@ ghost use Rattle.sf_words.specs.Loading.{files_limit, loaded_bytes, loaded_items
 ghost use Rattle.section_commands.specs.Coming.{Coming};
 ghost use Rattle.section_commands.specs.Making.{ComesAs, ComesTo};
 ghost use Rattle.section_commands.specs.Procwalk as spec;
-ghost use Rattle.section_commands.specs.Procwalk.{FilesCome, IsModuleOf, IsProcwalk, ProcwalkComes, ProcwalkComesFrom, ProcwalkWords, coming_of_module, coming_of_modules, files_fault, modules_walks, process_of, procwalk_files, procwalk_of, sums_limit};
+ghost use Rattle.section_commands.specs.Procwalk.{FilesCome, IsModuleOf, IsProcwalk, ProcwalkComes, ProcwalkComesFrom, ProcwalkWords, coming_of_module, coming_of_modules, files_fault, modules_walks, procwalk_files, procwalk_of, sums_limit};
 
 use crate::made::{Made, Outcome};
 use crate::walks::{mixed, same_machine, unread_core, walks_text};
@@ -117,9 +117,9 @@ fn mapped_modules<'a, 'p, 'm>(
     requires few { length files.now ≤ 512 }
     requires small { All (λ bytes. length bytes < 2 ^ 32) (loaded_bytes files.now) }
     ensures count { IfOk result (λ modules. length modules.items ≡ length files.now) }
-    ensures checked { IfOk result (λ _. files_fault (process_of (core_bytes core.now) page (map entry_view entries.now)) (zip (map string_bytes names.now) (loaded_bytes files.now)) ≡ None) }
-    ensures are { IfOk result (λ modules. AllZip (IsModuleOf (process_of (core_bytes core.now) page (map entry_view entries.now))) (zip (map string_bytes names.now) (loaded_bytes files.now)) (map module_view modules.items)) }
-    ensures refused { IfErr result (λ refused. (depth : ℕ) → ComesAs (FilesCome (process_of (core_bytes core.now) page (map entry_view entries.now)) depth (zip (map string_bytes names.now) (loaded_bytes files.now)) (files_fault (process_of (core_bytes core.now) page (map entry_view entries.now)) (zip (map string_bytes names.now) (loaded_bytes files.now)))) refused) }
+    ensures checked { IfOk result (λ _. files_fault (process_of (core_bytes core.now) page (map mapping_view entries.now)) (zip (map string_bytes names.now) (loaded_bytes files.now)) ≡ None) }
+    ensures are { IfOk result (λ modules. AllZip (IsModuleOf (process_of (core_bytes core.now) page (map mapping_view entries.now))) (zip (map string_bytes names.now) (loaded_bytes files.now)) (map module_view modules.items)) }
+    ensures refused { IfErr result (λ refused. (depth : ℕ) → ComesAs (FilesCome (process_of (core_bytes core.now) page (map mapping_view entries.now)) depth (zip (map string_bytes names.now) (loaded_bytes files.now)) (files_fault (process_of (core_bytes core.now) page (map mapping_view entries.now)) (zip (map string_bytes names.now) (loaded_bytes files.now)))) refused) }
 {
     let process = Process::new(alloc, core, page, entries)?;
     modules_of(alloc, &process, names, files)
@@ -127,14 +127,14 @@ fn mapped_modules<'a, 'p, 'm>(
 
 /// Returns whether a module's file or its section is for another machine.
 fn is_other(arch: Arch, mapped: &Module<'_, '_>) -> bool
-    ensures { result ≡ spec.is_other arch (module_view mapped.now) }
+    ensures { result ≡ spec.is_for_another arch (module_view mapped.now) }
 {
     !(same_machine(arch, mapped.machine) && same_machine(arch, mapped.view.arch()))
 }
 
 /// Returns the place of the first module whose file or section is for another machine.
 fn first_other(arch: Arch, modules: &[Module<'_, '_>]) -> Option<usize>
-    ensures { result ≡ position (λ m. spec.is_other arch (module_view m)) modules.now }
+    ensures { result ≡ position (λ m. spec.is_for_another arch (module_view m)) modules.now }
 {
     modules.iter().position(|mapped| is_other(arch, mapped))
 }
@@ -178,7 +178,7 @@ fn walked<'a, 'm>(
 ) -> Result<Made<'m>, Refusal<'a>>
     requires threads { length (threads_of core.now) ≤ 4096 }
     requires few { length modules.now ≤ 512 }
-    ensures { ComesTo (λ (coming : Coming). coming ≡ coming_of_modules (spec.mixed_item (arch_of (core_bytes core.now)) (map module_view modules.now)) (sums_limit (tables_of (map module_view modules.now))) (modules_walks (map entry_view entries.now) (map module_view modules.now) (core_bytes core.now) depth)) result }
+    ensures { ComesTo (λ (coming : Coming). coming ≡ coming_of_modules (spec.mixed_item (arch_of (core_bytes core.now)) (map module_view modules.now)) (sums_limit (tables_of (map module_view modules.now))) (modules_walks (map mapping_view entries.now) (map module_view modules.now) (core_bytes core.now) depth)) result }
 {
     if let Some(item) = mixed_item(core.arch(), modules) {
         return Err(mixed(item));

@@ -4,10 +4,11 @@ ghost use Rattle.std.specs.Prelude.{◌≡◌, ◌≤◌, IfOk, length};
 ghost use Rattle.sf_model.specs.Walk.{look_up_walk, section_walk};
 ghost use Rattle.sf_decode.specs.View.{table_of};
 ghost use Rattle.core_notes.specs.Views.{memory_of, threads_of};
+ghost use Rattle.sf_merge.specs.Merging.{same_arch};
 ghost use Rattle.section_commands.specs.Coming.{Coming, Refused};
 ghost use Rattle.section_commands.specs.Making.{ComesAs};
 ghost use Rattle.section_commands.specs.Walks as spec;
-ghost use Rattle.section_commands.specs.Walks.{coming_of_core, is_same, shown_of_mixed};
+ghost use Rattle.section_commands.specs.Walks.{coming_of_core, shown_of_mixed};
 
 use core_notes::{Core, CoreFault, CoreMemory};
 use core_walk::{LookUp, walk_by};
@@ -40,7 +41,7 @@ pub(crate) fn mixed<'a>(item: u32) -> Refusal<'a>
 
 /// Returns whether two machines are the same.
 pub(crate) fn same_machine(one: Arch, other: Arch) -> bool
-    ensures { result ≡ is_same one other }
+    ensures { result ≡ same_arch one other }
 {
     one == other
 }

@@ -12,7 +12,7 @@ use Rattle.elf_place.specs.Place.{Fails, address_of, eh_frames_below, place_chec
 use Rattle.elf_place.specs.Views as view
 use Rattle.elf_reloc.specs.declared.fault.RelocFault.{RelocFault}
 use Rattle.elf_reloc.specs.declared.fix.RelocatedField.{RelocatedField}
-use Rattle.elf_reloc.specs.Reading.{section_address}
+use Rattle.elf_reloc.specs.Reading.{placed_address}
 use Rattle.sf_asm.specs.declared.fault.AsmFault.{AsmFault}
 use Rattle.sf_asm.specs.declared.fault.AsmFault.TheVariants as asm
 use Rattle.sf_model.specs.declared.form.Form.TheVariants.{Elf}
@@ -55,12 +55,12 @@ place_wrapped (place_faults.NoBits section) check h = inr (named_place (place_fa
 abbrev pub frames_by : (number : ℕ) → (bytes : List ℕ) → (address shift : ℕ) → Result (List RelocatedField) RelocFault → CallFrames
 frames_by number bytes address shift relocations = record { number = number; bytes = bytes; address = address; shift = shift; relocations = relocations }
 
-pub placed_is : (p : view.Placing) (shift number address : ℕ) (bytes : List ℕ) (given : Result (List RelocatedField) RelocFault) → bytes ≡ section_bytes p.file number → address ≡ (section_address p number + (2 ^ 64 - shift)) % 2 ^ 64
+pub placed_is : (p : view.Placing) (shift number address : ℕ) (bytes : List ℕ) (given : Result (List RelocatedField) RelocFault) → bytes ≡ section_bytes p.file number → address ≡ (placed_address p number + (2 ^ 64 - shift)) % 2 ^ 64
     → given ≡ relocations_of p number → frames_by number bytes address shift given ≡ placed_section p shift number
 placed_is p shift number address bytes given e f g =
     ap (λ (x : List ℕ). frames_by number x address shift given) e
     ∙ ap (λ (x : ℕ). frames_by number (section_bytes p.file number) x shift given) f
-    ∙ ap (λ (x : Result (List RelocatedField) RelocFault). frames_by number (section_bytes p.file number) ((section_address p number + (2 ^ 64 - shift)) % 2 ^ 64) shift x) g
+    ∙ ap (λ (x : Result (List RelocatedField) RelocFault). frames_by number (section_bytes p.file number) ((placed_address p number + (2 ^ 64 - shift)) % 2 ^ 64) shift x) g
 
 -- ---- a file
 abbrev by_checks : (item : ℕ) → (seen : List (List ℕ)) → (file : List ℕ) → (base : ℕ) → Result (Unit {0}) AsmFault → Result (Unit {0}) PlaceFault → Result (List Function) AsmFault

@@ -21,7 +21,7 @@ use Rattle.elf_reloc.specs.declared.fault.RelocFault.{RelocFault}
 use Rattle.elf_reloc.specs.declared.fault.RelocFault.TheVariants as faults
 use Rattle.elf_reloc.specs.declared.fix.RelocatedField.{RelocatedField}
 use Rattle.elf_reloc.specs.Fields.{bits_in, is_dropped_field}
-use Rattle.elf_reloc.specs.Order.{first_at, has_width, lies_on, place_check}
+use Rattle.elf_reloc.specs.Order.{first_at, has_width, lies_on, places_check}
 use Rattle.elf_reloc.specs.Patched.{patched, AreInside, AreRaw, IsUnresolved, IsDropped, FieldHolds}
 use Rattle.elf_reloc.specs.Reading.{section_fixes}
 use Rattle.elf_reloc.specs.Table.{width_of}
@@ -165,11 +165,11 @@ passed : (b : Bool) (r : Result (Unit {0}) RelocFault) (e : RelocFault) → cond
 passed true r e h = (refl, h)
 passed false r e h = absurd cc
 
-all_inside : (len : ℕ) (fields : List Field) (fs : List RelocatedField) → All (Within len) fields → place_check fields fs ≡ Ok tt → AreInside len fs
-unfolding place_check
+all_inside : (len : ℕ) (fields : List Field) (fs : List RelocatedField) → All (Within len) fields → places_check fields fs ≡ Ok tt → AreInside len fs
+unfolding places_check
 all_inside len fields [] all h = tt
 all_inside len fields (f ∷ fs) all h =
-    let p = passed (lies_on fields f) (place_check fields fs) (faults.Place f.index) h in
+    let p = passed (lies_on fields f) (places_check fields fs) (faults.Place f.index) h in
     (lies_within len fields f all p.0, all_inside len fields fs all p.1)
 
 of_map : {X Y : Type 0} (P : X → Type 0) (view : Y → X) (ys : List Y) → All P (map view ys) → All (λ y. P (view y)) ys

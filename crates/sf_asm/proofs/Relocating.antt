@@ -12,9 +12,9 @@ use Rattle.elf_reloc.specs.declared.fix.RelocatedField.{RelocatedField}
 use Rattle.elf_reloc.specs.declared.relocs.Relocs.{Relocs}
 use Rattle.elf_reloc.specs.Applied.{Slot, slot_check, slot_of}
 use Rattle.elf_reloc.specs.Fields.{bits_in, is_dropped_field}
-use Rattle.elf_reloc.specs.Order.{first_at, place_check}
+use Rattle.elf_reloc.specs.Order.{first_at, places_check}
 use Rattle.elf_reloc.specs.Reading.{section_fixes}
-use Rattle.elf_reloc.specs.Views.{Reads, Overlaps, Refuses, Relocated, fixes_in}
+use Rattle.elf_reloc.specs.Views.{Reads, Overlaps, IsFirstFault, Relocated, fixes_in}
 use Rattle.sf_bytes.specs.Steps.{◌>>=◌}
 use Rattle.sf_asm.specs.Relocated.{by_place, without_overlap, relocations_of, pointer_check, pointer_slot}
 use Rattle.sf_asm.specs.Views.{AreChecked}
@@ -44,7 +44,7 @@ refused_from : (given : Result (List RelocatedField) RelocFault) (e : RelocFault
 refused_from given e (inl read) = inr (ap from_fixes read)
 refused_from given e (inr overlap) = inr (overlap_from given e overlap)
 
-refuses_from : (given : Result (List RelocatedField) RelocFault) (e : RelocFault) → Refuses e given → (e ≡ faults.NoMemory) ⊎ (from_fixes given ≡ Err e)
+refuses_from : (given : Result (List RelocatedField) RelocFault) (e : RelocFault) → IsFirstFault e given → (e ≡ faults.NoMemory) ⊎ (from_fixes given ≡ Err e)
 refuses_from given faults.NoMemory h = inl refl
 refuses_from given (faults.UnknownType index) h = refused_from given (faults.UnknownType index) h
 refuses_from given (faults.Range index) h = refused_from given (faults.Range index) h
@@ -57,7 +57,7 @@ pub relocations_read : (p : Placing) (section : ℕ) (sorted : List RelocatedFie
 unfolding relocations_of
 relocations_read p section sorted r = read_from (section_fixes p section) sorted r
 
-pub relocations_refused : (p : Placing) (section : ℕ) (e : RelocFault) → Refuses e (section_fixes p section) → (e ≡ faults.NoMemory) ⊎ (relocations_of p section ≡ Err e)
+pub relocations_refused : (p : Placing) (section : ℕ) (e : RelocFault) → IsFirstFault e (section_fixes p section) → (e ≡ faults.NoMemory) ⊎ (relocations_of p section ≡ Err e)
 unfolding relocations_of
 relocations_refused p section e r = refuses_from (section_fixes p section) e r
 
@@ -66,14 +66,14 @@ slots_viewed : (fields : List Field) → map pointer_slot (map pointer_view fiel
 slots_viewed [] = refl
 slots_viewed (g ∷ gs) = ap (λ (slots : List Slot). slot_of g ∷ slots) (slots_viewed gs)
 
-check_viewed : (fields : List Field) (fixes : List RelocatedField) → AreApart fields → pointer_check (map pointer_view fields) fixes ≡ place_check fields fixes
+check_viewed : (fields : List Field) (fixes : List RelocatedField) → AreApart fields → pointer_check (map pointer_view fields) fixes ≡ places_check fields fixes
 check_viewed fields fixes apart = ap (λ (slots : List Slot). slot_check slots fixes) (slots_viewed fields) ∙ slots_checked fields fixes apart
 
-pub checked : (pointers : List PointerField) (fields : List Field) (fixes : List RelocatedField) (r : Result (Unit {0}) RelocFault) → map pointer_view fields ≡ pointers → AreApart fields → r ≡ place_check fields fixes → pointer_check pointers fixes ≡ r
+pub checked : (pointers : List PointerField) (fields : List Field) (fixes : List RelocatedField) (r : Result (Unit {0}) RelocFault) → map pointer_view fields ≡ pointers → AreApart fields → r ≡ places_check fields fixes → pointer_check pointers fixes ≡ r
 checked pointers fields fixes r p apart q = ap (λ (gs : List PointerField). pointer_check gs fixes) (sym p) ∙ check_viewed fields fixes apart ∙ sym q
 
 -- what a call answered on the fields that it listed
-pub lies_on_fields : (pointers : List PointerField) (fields : List Field) (fixes : List RelocatedField) (r : Result (Unit {0}) RelocFault) → map pointer_view fields ≡ pointers → AreApart fields → r ≡ place_check fields fixes
+pub lies_on_fields : (pointers : List PointerField) (fields : List Field) (fixes : List RelocatedField) (r : Result (Unit {0}) RelocFault) → map pointer_view fields ≡ pointers → AreApart fields → r ≡ places_check fields fixes
     → OnOk r (AreChecked pointers fixes)
 lies_on_fields pointers fields fixes (Ok u) viewed apart e = inr (record { fields = fields; viewed = viewed; apart = apart; lie = sym e })
 lies_on_fields pointers fields fixes (Err fault) viewed apart e = tt

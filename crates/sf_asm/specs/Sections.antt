@@ -13,7 +13,7 @@ use Rattle.elf_place.specs.Place.{address_of, eh_frames_below, place_check, shif
 use Rattle.elf_place.specs.Views.{Placing}
 use Rattle.elf_reloc.specs.declared.fault.RelocFault.{RelocFault}
 use Rattle.elf_reloc.specs.declared.fix.RelocatedField.{RelocatedField}
-use Rattle.elf_reloc.specs.Reading.{section_address}
+use Rattle.elf_reloc.specs.Reading.{placed_address}
 use Rattle.sf_asm.specs.declared.fault.AsmFault.{AsmFault}
 use Rattle.sf_asm.specs.declared.fault.AsmFault.TheVariants as asm
 use Rattle.sf_model.specs.declared.form.Form.{Form}
@@ -72,7 +72,7 @@ abbrev pub placed_section : Placing → (shift section : ℕ) → CallFrames
 placed_section p shift section = record {
   number = section;
   bytes = section_bytes p.file section;
-  address = (section_address p section + (2 ^ 64 - shift)) % 2 ^ 64;
+  address = (placed_address p section + (2 ^ 64 - shift)) % 2 ^ 64;
   shift = shift;
   relocations = relocations_of p section;
 }

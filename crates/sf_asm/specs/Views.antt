@@ -7,7 +7,7 @@ use Rattle.elf_place.specs.Views.{Placing}
 use Rattle.elf_reloc.specs.declared.fault.RelocFault.{RelocFault}
 use Rattle.elf_reloc.specs.declared.fix.RelocatedField.{RelocatedField}
 use Rattle.elf_reloc.specs.Fields.{bits_in, is_dropped_field}
-use Rattle.elf_reloc.specs.Order.{place_check}
+use Rattle.elf_reloc.specs.Order.{places_check}
 use Rattle.elf_reloc.specs.Reading.{section_fixes}
 use Rattle.elf_reloc.specs.Views.{Reads, fixes_in}
 use Rattle.sf_asm.specs.declared.frames.CallFrameSection.{CallFrameSection}
@@ -43,7 +43,7 @@ pub record LieOn (pointers : List PointerField) (fixes : List RelocatedField) : 
   pub fields : List Field
   pub viewed : map pointer_view fields ≡ pointers
   pub apart : AreApart fields
-  pub lie : place_check fields fixes ≡ Ok tt
+  pub lie : places_check fields fixes ≡ Ok tt
 
 -- nothing is written, or all of it lies on the pointer fields
 abbrev pub AreChecked : List PointerField → List RelocatedField → Type 0

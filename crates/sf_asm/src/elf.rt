@@ -6,7 +6,7 @@ ghost use Rattle.elf_read.specs.Sections.{section_bytes};
 ghost use Rattle.elf_read.specs.Views.{file};
 ghost use Rattle.elf_place.specs.Place.{place_check};
 ghost use Rattle.elf_place.specs.Views as placed_views;
-ghost use Rattle.elf_reloc.specs.Reading.{section_address};
+ghost use Rattle.elf_reloc.specs.Reading.{placed_address};
 ghost use Rattle.sf_asm.specs.declared.fault.AsmFault.TheVariants as asm;
 ghost use Rattle.sf_model.specs.declared.form.Form.TheVariants as Form;
 ghost use Rattle.sf_asm.specs.Fault.{wraps_place};
@@ -77,13 +77,13 @@ fn place<'a>(
 }
 
 /// Returns a call frame section of a placed file.
-#[tactic(auto, unfolding(elf_reloc::specs::Reading::section_address))]
+#[tactic(auto, unfolding(elf_reloc::specs::Reading::placed_address))]
 fn frames_at<'a>(arch: Arch, item: u32, placed: &Placed<'a>, number: u32) -> CallFrameSection<'a>
     ensures arch { result.arch ≡ arch }
     ensures item { result.item ≡ item }
     ensures number { result.number ≡ number }
     ensures bytes { result.bytes.now ≡ section_bytes (placed_views.placed_file placed.now) number }
-    ensures address { result.address ≡ (section_address (placed_views.placing placed.now) number + (2 ^ 64 - placed_views.shift_in placed.now)) % 2 ^ 64 }
+    ensures address { result.address ≡ (placed_address (placed_views.placing placed.now) number + (2 ^ 64 - placed_views.shift_in placed.now)) % 2 ^ 64 }
     ensures shift { result.shift ≡ placed_views.shift_in placed.now }
 {
     let shift = placed.shift();

@@ -14,7 +14,7 @@ use Rattle.core_walk.proofs.Frames.{IsWalk, after_frames, ends, goes_on, stops, 
 use Rattle.sf_c.specs.declared.walking.KiblawenFrame.{KiblawenFrame}
 use Rattle.sf_c.specs.declared.sample.KiblawenSample.{KiblawenSample}
 use Rattle.sf_c.specs.Sample.{mask_of, stack_memory}
-use Rattle.sf_c.specs.Walk.{frame_shown, listed}
+use Rattle.sf_c.specs.Walk.{frame_shown, frames_listed}
 
 -- the frames so far are in the room from its first place on, and what comes after them is as it was
 pub record Shown (frames : List Frame) (count : ℕ) (now before : List KiblawenFrame) : Type 0 where
@@ -50,12 +50,12 @@ pub none_shown : (before : List KiblawenFrame) → Shown [] 0 before before
 none_shown before = record { as_many = refl; within = omega arith; first = refl; kept = refl; room = refl }
 
 -- all frames of a walk are shown
-pub all_shown : (frames : List Frame) (count : ℕ) (now before : List KiblawenFrame) (whole : Listing) → whole.frames ≡ frames → Shown frames count now before → now ≡ listed whole.frames before
+pub all_shown : (frames : List Frame) (count : ℕ) (now before : List KiblawenFrame) (whole : Listing) → whole.frames ≡ frames → Shown frames count now before → now ≡ frames_listed whole.frames before
 all_shown frames count now before whole e h =
     sym (take-append-drop count now) ∙ ap (λ (xs : List KiblawenFrame). xs ++ drop count now) h.first
     ∙ ap (λ (xs : List KiblawenFrame). map frame_shown frames ++ xs) h.kept
     ∙ ap (λ (n : ℕ). map frame_shown frames ++ drop n before) (sym h.as_many)
-    ∙ ap (λ (fs : List Frame). listed fs before) (sym e)
+    ∙ ap (λ (fs : List Frame). frames_listed fs before) (sym e)
 
 -- ---- the walk, from its first frame to its stop
 pub begins : (recovering : Recovering) (thread : ThreadState) (before : List KiblawenFrame) (regs : Regs) → regs ≡ thread.regs
@@ -92,7 +92,7 @@ goes look_up sample {memory} {mask} {count} {asked} {next} {at} {caller} {now} {
 
 -- what a walk that stopped has in the room, and how many frames it has
 pub record Stopped (stop : Stop) (count : ℕ) (now before : List KiblawenFrame) (whole : Listing) : Type 0 where
-  pub room : now ≡ listed whole.frames before
+  pub room : now ≡ frames_listed whole.frames before
   pub frames : count ≡ length whole.frames
   pub reason : stop ≡ whole.stop
 
@@ -119,7 +119,7 @@ halts look_up sample {memory} {mask} {count} {asked} {at} {now} {before} {frame}
 
 -- the room is full, and then it has as many places as frames were listed
 pub record Full (count : ℕ) (now before : List KiblawenFrame) (whole : Listing) : Type 0 where
-  pub room : now ≡ listed whole.frames before
+  pub room : now ≡ frames_listed whole.frames before
   pub frames : length now ≡ length whole.frames
   pub reason : Depth ≡ whole.stop
 

@@ -7,8 +7,8 @@ use Rattle.sf_decode.specs.Kept.{functions_lent}
 use Rattle.sf_c.specs.declared.modules.KiblawenModule.{KiblawenModule}
 
 -- the module's range has the address
-abbrev pub holds : (address : ℕ) → KiblawenModule → Bool
-holds address m = nat_le m.start address && nat_lt address (m.start + m.size)
+abbrev pub module_contains : (address : ℕ) → KiblawenModule → Bool
+module_contains address m = nat_le m.start address && nat_lt address (m.start + m.size)
 
 -- each module ends where the next one starts, or before
 abbrev pub ModulesRise : List KiblawenModule → Type 0
@@ -21,7 +21,7 @@ functions_if_found None = []
 
 -- the functions in which an address is looked up: those of the section of the module that has the address in its range
 abbrev pub functions_at : List KiblawenModule → (address : ℕ) → List Func
-functions_at modules address = functions_if_found (find (holds address) modules)
+functions_at modules address = functions_if_found (find (module_contains address) modules)
 
 -- the row that holds at an address, by the functions of its module's section
 abbrev pub module_row : List KiblawenModule → (address : ℕ) → Option FoundRow

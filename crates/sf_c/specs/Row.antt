@@ -1,26 +1,19 @@
 -- GNU SFrame specification, Version 2, function descriptor entries and frame row entries: a row that was found, as C has it.
-use Rattle.std.specs.Prelude.{ℕ, ℤ, pos, negsuc, zero, Bool, true, false, Option, Some, None, is_some, unwrap_or}
+use Rattle.std.specs.Prelude.{ℕ, pos, zero, Bool, true, false, Option, Some, None, is_some, unwrap_or}
 use Rattle.std.specs.Bool.{then_some}
-use Rattle.sf_model.specs.declared.machine.Base.{Base}
-use Rattle.sf_model.specs.declared.machine.Base.TheVariants.{Fp, Sp}
 use Rattle.sf_model.specs.declared.machine.Key.{Key}
 use Rattle.sf_model.specs.declared.machine.Key.TheVariants.{A, B}
-use Rattle.sf_model.specs.declared.content.Ra.{Ra}
-use Rattle.sf_model.specs.declared.content.Ra.TheVariants.{Fixed, Link, At}
 use Rattle.sf_model.specs.declared.function.Shape.{Shape}
 use Rattle.sf_model.specs.declared.function.Shape.TheVariants.{Plain, Repeat}
+use Rattle.sf_model.specs.RowBytes.{base_number}
 use Rattle.sf_lookup.specs.declared.lookup.Found.{Found}
+use Rattle.sample_walk.specs.Step.{saved_return}
 use Rattle.sf_c.specs.declared.finding.KiblawenRow.{KiblawenRow}
 
 -- the header's number of a test
 abbrev pub flag : Bool → ℕ
 flag false = 0
 flag true = 1
-
--- the header's number of the base of the canonical frame address
-abbrev pub base_code : Base → ℕ
-base_code Fp = 0
-base_code Sp = 1
 
 -- the header's number of the key of a signed return address, 0 if it is unsigned
 abbrev pub key_code : Option Key → ℕ
@@ -33,12 +26,6 @@ abbrev pub block_size : Shape → ℕ
 block_size Plain = 0
 block_size (Repeat size) = size
 
--- the offset from the canonical frame address at which the return address is saved, if it is not in the link register
-abbrev pub saved_return : Ra → Option ℤ
-saved_return Fixed = Some (negsuc 7)
-saved_return Link = None
-saved_return (At offset) = Some offset
-
 -- a function and its row, as C has them
 abbrev pub row_shown : Found → KiblawenRow
 row_shown found = let content = found.row.content in record {
@@ -46,7 +33,7 @@ row_shown found = let content = found.row.content in record {
   function_size = found.func.size;
   block_size = block_size found.func.shape;
   row_start = found.row.start;
-  base = base_code content.base;
+  base = base_number content.base;
   cfa_offset = content.cfa;
   ra_saved = flag (is_some (saved_return content.ra));
   ra_offset = unwrap_or (saved_return content.ra) (pos zero);

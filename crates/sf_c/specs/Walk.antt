@@ -37,5 +37,5 @@ abbrev pub stop_shown : Stop → KiblawenStop
 stop_shown stop = record { kind = stop_number stop; value = stop_value stop }
 
 -- a room that lists these frames from its first place on; what comes after them is as it was
-abbrev pub listed : List Frame → (before : List KiblawenFrame) → List KiblawenFrame
-listed frames before = map frame_shown frames ++ drop (length frames) before
+abbrev pub frames_listed : List Frame → (before : List KiblawenFrame) → List KiblawenFrame
+frames_listed frames before = map frame_shown frames ++ drop (length frames) before

@@ -3,8 +3,10 @@
 ghost use Rattle.std.specs.Prelude.{◌≡◌, is_some, unwrap_or, pos, zero};
 ghost use Rattle.std.specs.Option.{option_map};
 ghost use Rattle.sf_model.specs.Lookup.{found_at};
+ghost use Rattle.sf_model.specs.RowBytes.{base_number};
 ghost use Rattle.sf_decode.specs.Kept.{functions_lent};
 ghost use Rattle.sf_lookup.specs.Lookup.{shown};
+ghost use Rattle.sample_walk.specs.Step.{saved_return};
 ghost use Rattle.sf_c.specs.Row as spec;
 
 use crate::section::row_in;
@@ -61,7 +63,7 @@ pub fn key_number(key: Option<Key>) -> u32
 
 /// Returns the number of the base of the canonical frame address.
 fn base_number(base: Base) -> u32
-    ensures { result ≡ spec.base_code base }
+    ensures { result ≡ base_number base }
 {
     match base {
         Base::Fp => 0,
@@ -81,7 +83,7 @@ fn block_size(shape: Shape) -> u32
 
 /// Returns the offset at which the return address is saved, or `None` if it is in the link register.
 fn return_offset(ra: Ra) -> Option<i32>
-    ensures { result ≡ spec.saved_return ra }
+    ensures { result ≡ saved_return ra }
 {
     match ra {
         Ra::Fixed => Some(-8),

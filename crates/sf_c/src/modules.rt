@@ -23,7 +23,7 @@ pub struct KiblawenModule<'a> {
 
 /// Returns whether a module's range has the address.
 pub fn holds(range: &KiblawenModule<'_>, address: u64) -> bool
-    ensures { result ≡ spec.holds address range.now }
+    ensures { result ≡ spec.module_contains address range.now }
 {
     range.start <= address && address - range.start < range.size
 }

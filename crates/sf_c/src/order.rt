@@ -2,13 +2,13 @@
 
 ghost use Rattle.std.specs.Prelude.{◌≡◌, ◌↔◌, IsTrue, length};
 ghost use Rattle.sf_c.specs.Order as spec;
-ghost use Rattle.sf_c.specs.Order.{AreApart, AreByStart};
+ghost use Rattle.sf_c.specs.Order.{AreDisjoint, AreByStart};
 
 use crate::modules::KiblawenModule;
 
 /// Returns where the module with an index starts, 0 for an index past the last.
 pub fn start_in(modules: &[KiblawenModule<'_>], index: usize) -> u64
-    ensures { result ≡ spec.start_in modules.now index }
+    ensures { result ≡ spec.module_start modules.now index }
 {
     match modules.get(index) {
         Some(module) => module.start,
@@ -40,7 +40,7 @@ fn put_in_order(modules: &[KiblawenModule<'_>], order: &mut [usize])
 
 // Returns whether each module ends where the next one in order starts, or before.
 fn are_apart(modules: &[KiblawenModule<'_>], order: &[usize]) -> bool
-    ensures { IsTrue result ↔ AreApart modules.now order.now }
+    ensures { IsTrue result ↔ AreDisjoint modules.now order.now }
 {
     for i in 1..order.len() {
         let before = order[i - 1];

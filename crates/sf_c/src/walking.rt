@@ -66,7 +66,7 @@ fn walk_into<L: LookUp>(
     frames: &mut [KiblawenFrame],
     stop: &mut KiblawenStop,
 ) -> usize
-    ensures frames { frames.new ≡ spec.listed (spec.sample_walk (L.found_at rows.now) sample.now (length frames.old)).frames frames.old }
+    ensures frames { frames.new ≡ spec.frames_listed (spec.sample_walk (L.found_at rows.now) sample.now (length frames.old)).frames frames.old }
     ensures count { result ≡ length (spec.sample_walk (L.found_at rows.now) sample.now (length frames.old)).frames }
     ensures stop { stop.new ≡ spec.stop_shown (spec.sample_walk (L.found_at rows.now) sample.now (length frames.old)).stop }
 {
@@ -102,7 +102,7 @@ pub extern "C" fn kiblawen_walk(
     frames: &mut [KiblawenFrame],
     stop: &mut KiblawenStop,
 ) -> usize
-    ensures frames { frames.new ≡ spec.listed (section_walk (functions_lent section.now) (sample_thread sample.now) (stack_memory sample.now) (length frames.old)).frames frames.old }
+    ensures frames { frames.new ≡ spec.frames_listed (section_walk (functions_lent section.now) (sample_thread sample.now) (stack_memory sample.now) (length frames.old)).frames frames.old }
     ensures count { result ≡ length (section_walk (functions_lent section.now) (sample_thread sample.now) (stack_memory sample.now) (length frames.old)).frames }
     ensures stop { stop.new ≡ spec.stop_shown (section_walk (functions_lent section.now) (sample_thread sample.now) (stack_memory sample.now) (length frames.old)).stop }
 {
@@ -119,7 +119,7 @@ pub extern "C" fn kiblawen_walk_modules(
     stop: &mut KiblawenStop,
 ) -> usize
     requires { ModulesRise modules.now }
-    ensures frames { frames.new ≡ spec.listed (spec.sample_walk (module_row modules.now) sample.now (length frames.old)).frames frames.old }
+    ensures frames { frames.new ≡ spec.frames_listed (spec.sample_walk (module_row modules.now) sample.now (length frames.old)).frames frames.old }
     ensures count { result ≡ length (spec.sample_walk (module_row modules.now) sample.now (length frames.old)).frames }
     ensures stop { stop.new ≡ spec.stop_shown (spec.sample_walk (module_row modules.now) sample.now (length frames.old)).stop }
 {

@@ -3,7 +3,7 @@
 ghost use Rattle.std.specs.Prelude.{◌≡◌, length, ℕ};
 ghost use Rattle.sf_model.specs.Walk.{LookUp};
 ghost use Rattle.sample_walk.specs.Cache.{AreRight};
-ghost use Rattle.sample_walk.specs.Room.{listed};
+ghost use Rattle.sample_walk.specs.Room.{places_listed};
 ghost use Rattle.sf_c.specs.Modules.{module_row};
 ghost use Rattle.sf_c.specs.Order.{IsIndex, index_in};
 ghost use Rattle.sf_c.specs.WalkOn as spec;
@@ -105,7 +105,7 @@ pub extern "C" fn kiblawen_walk_on(
     requires index { IsIndex modules.now.modules.now modules.now.order.now }
     requires cache { AreRight (module_row modules.now.modules.now) (index_in modules.now.modules.now) cache.old }
     ensures cache { AreRight (module_row modules.now.modules.now) (index_in modules.now.modules.now) cache.new }
-    ensures frames { frames.new ≡ listed (index_in modules.now.modules.now) (spec.sample_walk_on (module_row modules.now.modules.now) sample.now (length frames.old) (spec.state_in state.old)).places frames.old }
+    ensures frames { frames.new ≡ places_listed (index_in modules.now.modules.now) (spec.sample_walk_on (module_row modules.now.modules.now) sample.now (length frames.old) (spec.state_in state.old)).places frames.old }
     ensures count { result ≡ length (spec.sample_walk_on (module_row modules.now.modules.now) sample.now (length frames.old) (spec.state_in state.old)).places }
     ensures stop { stop.new ≡ spec.end_shown (spec.sample_walk_on (module_row modules.now.modules.now) sample.now (length frames.old) (spec.state_in state.old)).stop }
     ensures state { spec.state_in state.new ≡ (spec.sample_walk_on (module_row modules.now.modules.now) sample.now (length frames.old) (spec.state_in state.old)).at }

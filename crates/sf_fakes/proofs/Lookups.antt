@@ -10,8 +10,8 @@ use Rattle.std.proofs.lemmas.Iterator.Adapters.{position_from-zero}
 use Rattle.std.proofs.lemmas.Slice.Eq.{bytes_eq-Decides}
 use Rattle.sf_base.specs.Contents.{contents_of, Changes}
 use Rattle.std.specs.Result.{OnOk, OnErr}
-use Rattle.sf_fakes.specs.Reading.{name_of}
-use Rattle.sf_fakes.specs.Pairs.{pairs_of, has_name, place_of, with_file, name_at, bytes_at, AddsName}
+use Rattle.sf_fakes.specs.Reading.{created_file_name}
+use Rattle.sf_fakes.specs.Pairs.{pairs_of, has_name, place_named, with_file, name_at, contents_at, AddsName}
 
 abbrev pub Stored : Type 0
 Stored = String Global × Vec ℕ Global
@@ -20,11 +20,11 @@ shifted : (i : ℕ) (found : Option ℕ) → option_map (λ k. i + 1 + k) found 
 shifted i None = refl
 shifted i (Some k) = let e : i + 1 + k ≡ i + suc k = omega arith in ap (λ n. Some n) e
 
-from_place : (files : List Stored) (name : List ℕ) (i : ℕ) → position_from (λ (file : Stored). bytes_eq (string_bytes file.0) name) i files ≡ option_map (λ k. i + k) (place_of (pairs_of files) name)
+from_place : (files : List Stored) (name : List ℕ) (i : ℕ) → position_from (λ (file : Stored). bytes_eq (string_bytes file.0) name) i files ≡ option_map (λ k. i + k) (place_named (pairs_of files) name)
 from_place [] name i = refl
 from_place (file ∷ files) name i =
-    let rest = from_place files name (i + 1) ∙ shifted i (place_of (pairs_of files) name) in
-    elim (bytes_eq (string_bytes file.0) name) as (λ b. cond b (Some i) (position_from (λ (f : Stored). bytes_eq (string_bytes f.0) name) (i + 1) files) ≡ option_map (λ k. i + k) (cond b (Some 0) (option_map (λ k. suc k) (place_of (pairs_of files) name))))
+    let rest = from_place files name (i + 1) ∙ shifted i (place_named (pairs_of files) name) in
+    elim (bytes_eq (string_bytes file.0) name) as (λ b. cond b (Some i) (position_from (λ (f : Stored). bytes_eq (string_bytes f.0) name) (i + 1) files) ≡ option_map (λ k. i + k) (cond b (Some 0) (option_map (λ k. suc k) (place_named (pairs_of files) name))))
     [ true ↦ (let e : i ≡ i + 0 = omega arith in ap (λ n. Some n) e) | false ↦ rest ]
 
 whole : (found : Option ℕ) → option_map (λ k. 0 + k) found ≡ found
@@ -32,8 +32,8 @@ whole None = refl
 whole (Some k) = let e : 0 + k ≡ k = omega arith in ap (λ n. Some n) e
 
 -- std's `position` finds that place
-pub position_is_place : (files : List Stored) (name : List ℕ) → position (λ (file : Stored). bytes_eq (string_bytes file.0) name) files ≡ place_of (pairs_of files) name
-position_is_place files name = position_from-zero (λ (file : Stored). bytes_eq (string_bytes file.0) name) files ∙ from_place files name 0 ∙ whole (place_of (pairs_of files) name)
+pub position_is_place : (files : List Stored) (name : List ℕ) → position (λ (file : Stored). bytes_eq (string_bytes file.0) name) files ≡ place_named (pairs_of files) name
+position_is_place files name = position_from-zero (λ (file : Stored). bytes_eq (string_bytes file.0) name) files ∙ from_place files name 0 ∙ whole (place_named (pairs_of files) name)
 
 -- it is the first pair, or one after it
 place_cases : (b : Bool) (found : Option ℕ) (k : ℕ) → cond b (Some 0) (option_map (λ j. suc j) found) ≡ Some k
@@ -56,24 +56,24 @@ itself xs = (bytes_eq-Decides xs xs).1 refl
 other_text : (xs ys : List ℕ) → bytes_eq xs ys ≡ false → xs ≢ ys
 other_text xs ys h e = let t : bytes_eq xs ys ≡ true = (bytes_eq-Decides xs ys).1 e in cc
 
-pub found_below : (files : List Stored) (name : List ℕ) (k : ℕ) → place_of (pairs_of files) name ≡ Some k → k < length files
+pub found_below : (files : List Stored) (name : List ℕ) (k : ℕ) → place_named (pairs_of files) name ≡ Some k → k < length files
 found_below [] name k h = absurd (cc)
 found_below (file ∷ files) name k h =
     ⊎_elim (λ first. omega arith)
     (λ later. let below : later.1.0 < length files = found_below files name later.1.0 later.1.1.0 in omega arith)
-    (place_cases (bytes_eq (string_bytes file.0) name) (place_of (pairs_of files) name) k h)
+    (place_cases (bytes_eq (string_bytes file.0) name) (place_named (pairs_of files) name) k h)
 
-pub found_has : (files : List Stored) (name : List ℕ) (k : ℕ) → place_of (pairs_of files) name ≡ Some k → has_name (pairs_of files) name ≡ true
+pub found_has : (files : List Stored) (name : List ℕ) (k : ℕ) → place_named (pairs_of files) name ≡ Some k → has_name (pairs_of files) name ≡ true
 found_has [] name k h = absurd (cc)
 found_has (file ∷ files) name k h =
     ⊎_elim (λ first. rw first.0)
     (λ later. rw later.0 (found_has files name later.1.0 later.1.1.0))
-    (place_cases (bytes_eq (string_bytes file.0) name) (place_of (pairs_of files) name) k h)
+    (place_cases (bytes_eq (string_bytes file.0) name) (place_named (pairs_of files) name) k h)
 
-pub absent_has : (files : List Stored) (name : List ℕ) → place_of (pairs_of files) name ≡ None → has_name (pairs_of files) name ≡ false
+pub absent_has : (files : List Stored) (name : List ℕ) → place_named (pairs_of files) name ≡ None → has_name (pairs_of files) name ≡ false
 absent_has [] name h = refl
 absent_has (file ∷ files) name h =
-    let both = absent_cases (bytes_eq (string_bytes file.0) name) (place_of (pairs_of files) name) h in
+    let both = absent_cases (bytes_eq (string_bytes file.0) name) (place_named (pairs_of files) name) h in
     rw both.0 (absent_has files name both.1)
 
 pub lacking : (files : List (List ℕ × List ℕ)) (name : List ℕ) → has_name files name ≡ false → contents_of files name ≡ []
@@ -82,27 +82,27 @@ lacking (file ∷ files) name h =
     let P : Bool → Type 0 = λ b. b || has_name files name ≡ false → cond b file.1 (contents_of files name) ≡ [] in
     elim (bytes_eq file.0 name) as P [ true ↦ λ never. absurd (cc) | false ↦ λ rest. lacking files name rest ] h
 
-pub found_bytes : (files : List Stored) (name : List ℕ) (k : ℕ) (d : Stored) → place_of (pairs_of files) name ≡ Some k → (get_or files k d).1.items ≡ contents_of (pairs_of files) name
+pub found_bytes : (files : List Stored) (name : List ℕ) (k : ℕ) (d : Stored) → place_named (pairs_of files) name ≡ Some k → (get_or files k d).1.items ≡ contents_of (pairs_of files) name
 found_bytes [] name k d h = absurd (cc)
 found_bytes (file ∷ files) name k d h =
     ⊎_elim (λ first. rw (first.1, first.0))
     (λ later. rw (later.1.1.1, later.0) (found_bytes files name later.1.0 d later.1.1.0))
-    (place_cases (bytes_eq (string_bytes file.0) name) (place_of (pairs_of files) name) k h)
+    (place_cases (bytes_eq (string_bytes file.0) name) (place_named (pairs_of files) name) k h)
 
-pub found_name : (files : List Stored) (name : List ℕ) (k : ℕ) (d : Stored) → place_of (pairs_of files) name ≡ Some k → string_bytes (get_or files k d).0 ≡ name
+pub found_name : (files : List Stored) (name : List ℕ) (k : ℕ) (d : Stored) → place_named (pairs_of files) name ≡ Some k → string_bytes (get_or files k d).0 ≡ name
 found_name [] name k d h = absurd (cc)
 found_name (file ∷ files) name k d h =
     ⊎_elim (λ first. rw first.1 (same_text (string_bytes file.0) name first.0))
     (λ later. rw later.1.1.1 (found_name files name later.1.0 d later.1.1.0))
-    (place_cases (bytes_eq (string_bytes file.0) name) (place_of (pairs_of files) name) k h)
+    (place_cases (bytes_eq (string_bytes file.0) name) (place_named (pairs_of files) name) k h)
 
 -- the name at the place that was found
-pub name_found : (files : List (List ℕ × List ℕ)) (name : List ℕ) (k : ℕ) → place_of files name ≡ Some k → name_at files k ≡ name
+pub name_found : (files : List (List ℕ × List ℕ)) (name : List ℕ) (k : ℕ) → place_named files name ≡ Some k → name_at files k ≡ name
 name_found [] name k h = absurd (cc)
 name_found (file ∷ files) name k h =
     ⊎_elim (λ first. rw first.1 (same_text file.0 name first.0))
     (λ later. rw later.1.1.1 (name_found files name later.1.0 later.1.1.0))
-    (place_cases (bytes_eq file.0 name) (place_of files name) k h)
+    (place_cases (bytes_eq file.0 name) (place_named files name) k h)
 
 -- the name of the file at a place
 pub name_is : (files : List Stored) (k : ℕ) (d : Stored) → k < length files → string_bytes (get_or files k d).0 ≡ name_at (pairs_of files) k
@@ -110,34 +110,34 @@ name_is [] k d below = absurd (omega arith)
 name_is (file ∷ files) zero d below = refl
 name_is (file ∷ files) (suc k) d below = let smaller : k < length files = omega arith in name_is files k d smaller
 
-pub name_held : (files : List Stored) (k : ℕ) → k < length files → place_of (pairs_of files) (name_at (pairs_of files) k) ≡ None → ⊥
+pub name_held : (files : List Stored) (k : ℕ) → k < length files → place_named (pairs_of files) (name_at (pairs_of files) k) ≡ None → ⊥
 name_held [] k below h = omega arith
 name_held (file ∷ files) zero below h =
-    let both = absent_cases (bytes_eq (string_bytes file.0) (string_bytes file.0)) (place_of (pairs_of files) (string_bytes file.0)) h in
+    let both = absent_cases (bytes_eq (string_bytes file.0) (string_bytes file.0)) (place_named (pairs_of files) (string_bytes file.0)) h in
     let same = itself (string_bytes file.0) in
     let no = both.0 in
     cc
 name_held (file ∷ files) (suc k) below h =
     let smaller : k < length files = omega arith in
     let name = name_at (pairs_of files) k in
-    let both = absent_cases (bytes_eq (string_bytes file.0) name) (place_of (pairs_of files) name) h in
+    let both = absent_cases (bytes_eq (string_bytes file.0) name) (place_named (pairs_of files) name) h in
     name_held files k smaller both.1
 
 -- other bytes at the place that was found
-pub set_there : (files : List Stored) (name : List ℕ) (k : ℕ) (file : Stored) → place_of (pairs_of files) name ≡ Some k → string_bytes file.0 ≡ name_at (pairs_of files) k
+pub set_there : (files : List Stored) (name : List ℕ) (k : ℕ) (file : Stored) → place_named (pairs_of files) name ≡ Some k → string_bytes file.0 ≡ name_at (pairs_of files) k
     → pairs_of (slice_set files k file) ≡ with_file (pairs_of files) name file.1.items
 set_there [] name k new h same = absurd (cc)
 set_there (file ∷ files) name k new h same =
     ⊎_elim (λ first. let e : string_bytes new.0 ≡ string_bytes file.0 = rw first.1 at same in rw (first.1, first.0) (ap (λ n. (n, new.1.items) ∷ pairs_of files) e))
     (λ later. let e : string_bytes new.0 ≡ name_at (pairs_of files) later.1.0 = rw later.1.1.1 at same in rw (later.1.1.1, later.0) (ap (λ rest. (string_bytes file.0, file.1.items) ∷ rest) (set_there files name later.1.0 new later.1.1.0 e)))
-    (place_cases (bytes_eq (string_bytes file.0) name) (place_of (pairs_of files) name) k h)
+    (place_cases (bytes_eq (string_bytes file.0) name) (place_named (pairs_of files) name) k h)
 
 -- one more file at the end
-pub pushed_there : (files : List Stored) (name : List ℕ) (new : Stored) → place_of (pairs_of files) name ≡ None → string_bytes new.0 ≡ name
+pub pushed_there : (files : List Stored) (name : List ℕ) (new : Stored) → place_named (pairs_of files) name ≡ None → string_bytes new.0 ≡ name
     → pairs_of (files ++ new ∷ []) ≡ with_file (pairs_of files) name new.1.items
 pushed_there [] name new h same = ap (λ n. (n, new.1.items) ∷ []) same
 pushed_there (file ∷ files) name new h same =
-    let both = absent_cases (bytes_eq (string_bytes file.0) name) (place_of (pairs_of files) name) h in
+    let both = absent_cases (bytes_eq (string_bytes file.0) name) (place_named (pairs_of files) name) h in
     rw both.0 (ap (λ rest. (string_bytes file.0, file.1.items) ∷ rest) (pushed_there files name new both.1 same))
 
 pub name_pushed : (files : List Stored) (new : Stored) → name_at (pairs_of (files ++ new ∷ [])) (length files) ≡ string_bytes new.0
@@ -179,14 +179,14 @@ set_same (file ∷ files) (suc k) d new below name bytes =
 
 -- a name that is at a place is found
 pub first_there : (files : List Stored) (place : ℕ) (found : Option ℕ) (name : List ℕ) → place < length files → name ≡ name_at (pairs_of files) place
-    → found ≡ place_of (pairs_of files) name → place_of (pairs_of files) (name_at (pairs_of files) place) ≡ Some (unwrap_or found place)
+    → found ≡ place_named (pairs_of files) name → place_named (pairs_of files) (name_at (pairs_of files) place) ≡ Some (unwrap_or found place)
 first_there files place None name below is found =
-    let nowhere : place_of (pairs_of files) (name_at (pairs_of files) place) ≡ None = rw (← is) (sym found) in
+    let nowhere : place_named (pairs_of files) (name_at (pairs_of files) place) ≡ None = rw (← is) (sym found) in
     absurd (name_held files place below nowhere)
 first_there files place (Some k) name below is found = rw (← is) (sym found)
 
 -- more bytes at the end of the file that was found
-pub append_there : (files : List Stored) (name : List ℕ) (first : ℕ) (piece : List ℕ) (d new : Stored) → place_of (pairs_of files) name ≡ Some first
+pub append_there : (files : List Stored) (name : List ℕ) (first : ℕ) (piece : List ℕ) (d new : Stored) → place_named (pairs_of files) name ≡ Some first
     → string_bytes new.0 ≡ string_bytes (get_or files first d).0 → new.1.items ≡ (get_or files first d).1.items ++ piece
     → pairs_of (slice_set files first new) ≡ with_file (pairs_of files) name (contents_of (pairs_of files) name ++ piece)
 append_there files name first piece d new there same grown =
@@ -196,7 +196,7 @@ append_there files name first piece d new there same grown =
     set_there files name first new there named ∙ ap (λ xs. with_file (pairs_of files) name xs) bytes
 
 -- other bytes for the file that was found
-pub replaced : (files : List Stored) (name : List ℕ) (k : ℕ) (old new : Stored) → Some k ≡ place_of (pairs_of files) name → old ≡ get_or files k old
+pub replaced : (files : List Stored) (name : List ℕ) (k : ℕ) (old new : Stored) → Some k ≡ place_named (pairs_of files) name → old ≡ get_or files k old
     → string_bytes new.0 ≡ string_bytes old.0 → pairs_of (slice_set files k new) ≡ with_file (pairs_of files) name new.1.items
 replaced files name k old new found held same =
     let inside : k < length files = found_below files name k (sym found) in
@@ -207,19 +207,19 @@ name_of_set [] k new below = absurd (omega arith)
 name_of_set (file ∷ files) zero new below = refl
 name_of_set (file ∷ files) (suc k) new below = let smaller : k < length files = omega arith in name_of_set files k new smaller
 
-pub not_found : (found : Option ℕ) (files : List Stored) (name : List ℕ) → found ≡ place_of (pairs_of files) name → ((k : ℕ) → found ≡ Some k → ⊥) → place_of (pairs_of files) name ≡ None
+pub not_found : (found : Option ℕ) (files : List Stored) (name : List ℕ) → found ≡ place_named (pairs_of files) name → ((k : ℕ) → found ≡ Some k → ⊥) → place_named (pairs_of files) name ≡ None
 not_found None files name e never = sym e
 not_found (Some k) files name e never = absurd (never k refl)
 
-pub found_there : (files : List (List ℕ × List ℕ)) (name : List ℕ) (k : ℕ) → place_of files name ≡ Some k → bytes_at files k ≡ contents_of files name
+pub found_there : (files : List (List ℕ × List ℕ)) (name : List ℕ) (k : ℕ) → place_named files name ≡ Some k → contents_at files k ≡ contents_of files name
 found_there [] name k h = absurd (cc)
 found_there (file ∷ files) name k h =
     ⊎_elim (λ first. rw (first.1, first.0))
     (λ later. rw (later.1.1.1, later.0) (found_there files name later.1.0 later.1.1.0))
-    (place_cases (bytes_eq file.0 name) (place_of files name) k h)
+    (place_cases (bytes_eq file.0 name) (place_named files name) k h)
 
 -- the bytes at a place are those of the file there
-pub bytes_is : (files : List Stored) (k : ℕ) (d : Stored) → k < length files → (get_or files k d).1.items ≡ bytes_at (pairs_of files) k
+pub bytes_is : (files : List Stored) (k : ℕ) (d : Stored) → k < length files → (get_or files k d).1.items ≡ contents_at (pairs_of files) k
 bytes_is [] k d below = absurd (omega arith)
 bytes_is (file ∷ files) zero d below = refl
 bytes_is (file ∷ files) (suc k) d below = let smaller : k < length files = omega arith in bytes_is files k d smaller
@@ -244,16 +244,16 @@ on_err (Err e) P Q step h = step h
 -- the created file grew, and all else stayed
 pub grew : (files new : List (List ℕ × List ℕ)) (created : Option ℕ) (place : ℕ) (piece : List ℕ) → created ≡ Some place
     → new ≡ with_file files (name_at files place) (contents_of files (name_at files place) ++ piece)
-    → Changes (name_of files created) (contents_of files (name_of files created) ++ piece) files new
+    → Changes (created_file_name files created) (contents_of files (created_file_name files created) ++ piece) files new
 grew files new created place piece is e =
-    let P : Option ℕ → Type 0 = λ o. Changes (name_of files o) (contents_of files (name_of files o) ++ piece) files new in
+    let P : Option ℕ → Type 0 = λ o. Changes (created_file_name files o) (contents_of files (created_file_name files o) ++ piece) files new in
     let Q : List (List ℕ × List ℕ) → Type 0 = λ fs. Changes (name_at files place) (contents_of files (name_at files place) ++ piece) files fs in
     subst P (sym is) (subst Q (sym e) (file_changes files (name_at files place) (contents_of files (name_at files place) ++ piece)))
 
 pub created_kept : (files : List Stored) (new : List (List ℕ × List ℕ)) (created : Option ℕ) (place : ℕ) (name bytes : List ℕ) → created ≡ Some place → place < length files
-    → new ≡ with_file (pairs_of files) name bytes → name_of new created ≡ name_of (pairs_of files) created
+    → new ≡ with_file (pairs_of files) name bytes → created_file_name new created ≡ created_file_name (pairs_of files) created
 created_kept files new created place name bytes is below e =
-    let P : Option ℕ → Type 0 = λ o. name_of new o ≡ name_of (pairs_of files) o in
+    let P : Option ℕ → Type 0 = λ o. created_file_name new o ≡ created_file_name (pairs_of files) o in
     subst P (sym is) (ap (λ fs. name_at fs place) e ∙ name_kept files name bytes place below)
 
 has_there : (files : List (List ℕ × List ℕ)) (name bytes : List ℕ) → has_name (with_file files name bytes) name ≡ true
@@ -277,7 +277,7 @@ name_added files new name bytes is =
 
 -- the created file keeps its name
 pub created_stays : (files : List Stored) (new : List (List ℕ × List ℕ)) (created : Option ℕ) (n : ℕ) (name bytes : List ℕ) → n ≡ length files → ForSome created (λ place. place < n)
-    → new ≡ with_file (pairs_of files) name bytes → name_of new created ≡ name_of (pairs_of files) created
+    → new ≡ with_file (pairs_of files) name bytes → created_file_name new created ≡ created_file_name (pairs_of files) created
 created_stays files new None n name bytes long stands is = refl
 created_stays files new (Some place) n name bytes long stands is =
     let below : place < n = stands place refl in

@@ -17,9 +17,9 @@ has_name [] name = false
 has_name (file ∷ files) name = bytes_eq file.0 name || has_name files name
 
 -- the place of the first pair with this name
-abbrev pub place_of : List (List ℕ × List ℕ) → List ℕ → Option ℕ
-place_of [] name = None
-place_of (file ∷ files) name = if bytes_eq file.0 name then Some 0 else option_map (λ place. suc place) (place_of files name)
+abbrev pub place_named : List (List ℕ × List ℕ) → List ℕ → Option ℕ
+place_named [] name = None
+place_named (file ∷ files) name = if bytes_eq file.0 name then Some 0 else option_map (λ place. suc place) (place_named files name)
 
 -- the pairs with these bytes in the first pair with this name, or in a new pair at the end if there was none
 abbrev pub with_file : List (List ℕ × List ℕ) → List ℕ → List ℕ → List (List ℕ × List ℕ)
@@ -33,14 +33,14 @@ name_at (file ∷ files) zero = file.0
 name_at (file ∷ files) (suc place) = name_at files place
 
 -- the bytes at a place
-abbrev pub bytes_at : List (List ℕ × List ℕ) → ℕ → List ℕ
-bytes_at [] place = []
-bytes_at (file ∷ files) zero = file.1
-bytes_at (file ∷ files) (suc place) = bytes_at files place
+abbrev pub contents_at : List (List ℕ × List ℕ) → ℕ → List ℕ
+contents_at [] place = []
+contents_at (file ∷ files) zero = file.1
+contents_at (file ∷ files) (suc place) = contents_at files place
 
 -- the pairs with these bytes appended to the first file with the name at a place
-abbrev pub with_more : List (List ℕ × List ℕ) → ℕ → List ℕ → List (List ℕ × List ℕ)
-with_more files place piece = with_file files (name_at files place) (contents_of files (name_at files place) ++ piece)
+abbrev pub with_appended : List (List ℕ × List ℕ) → ℕ → List ℕ → List (List ℕ × List ℕ)
+with_appended files place piece = with_file files (name_at files place) (contents_of files (name_at files place) ++ piece)
 
 -- afterwards there is a file of this name, and one of each other name exactly if there was one before
 pub record AddsName (name : List ℕ) (old new : List (List ℕ × List ℕ)) : Type 0 where

@@ -3,7 +3,7 @@ ghost use Rattle.std.specs.Prelude.{◌≡◌, ◌<◌, ◌≤◌, length, IfOk,
 ghost use Rattle.std.specs.Option.{option_map};
 ghost use Rattle.std.specs.Str.{bytes_eq};
 ghost use Rattle.sf_base.specs.Contents.{contents_of};
-ghost use Rattle.sf_fakes.specs.Pairs.{pairs_of, has_name, place_of, with_file, with_more, name_at, bytes_at};
+ghost use Rattle.sf_fakes.specs.Pairs.{pairs_of, has_name, place_named, with_file, with_appended, name_at, contents_at};
 
 use sf_base::NoMemory;
 use std::alloc::Global;
@@ -16,11 +16,11 @@ fn first_named(files: &[(String, Vec<u8>)], name: &str) -> Option<usize>
 
 // Returns the place of the first file with this name.
 pub(crate) fn find_file(files: &[(String, Vec<u8>)], name: &str) -> Option<usize>
-    ensures place { result ≡ place_of (pairs_of files.now) name.now }
+    ensures place { result ≡ place_named (pairs_of files.now) name.now }
     ensures below { IfSome result (λ place. place < length files.now) }
     ensures found { is_some result ≡ has_name (pairs_of files.now) name.now }
     ensures bytes { IfSome result (λ place.
-        bytes_at (pairs_of files.now) place ≡ contents_of (pairs_of files.now) name.now) }
+        contents_at (pairs_of files.now) place ≡ contents_of (pairs_of files.now) name.now) }
     ensures name { IfSome result (λ place. name_at (pairs_of files.now) place ≡ name.now) }
 {
     first_named(files, name)
@@ -86,7 +86,7 @@ pub(crate) fn set_file(
 // Returns the place of the first file with the name of the file at this place.
 fn first_like(files: &[(String, Vec<u8>)], place: usize) -> usize
     requires { place < length files.now }
-    ensures first { place_of (pairs_of files.now) (name_at (pairs_of files.now) place) ≡ Some result }
+    ensures first { place_named (pairs_of files.now) (name_at (pairs_of files.now) place) ≡ Some result }
     ensures below { result < length files.now }
 {
     let name = files[place].0.as_str();
@@ -96,7 +96,7 @@ fn first_like(files: &[(String, Vec<u8>)], place: usize) -> usize
 // Appends the bytes to the first file with the name of the file at this place.
 fn append_to(files: &mut [(String, Vec<u8>)], place: usize, piece: &[u8]) -> Result<(), NoMemory>
     requires { place < length files.old }
-    ensures ok { OnOk result (pairs_of files.new ≡ with_more (pairs_of files.old) place piece.now) }
+    ensures ok { OnOk result (pairs_of files.new ≡ with_appended (pairs_of files.old) place piece.now) }
     ensures err { OnErr result (pairs_of files.new ≡ pairs_of files.old) }
 {
     let first = first_like(files, place);
@@ -112,7 +112,7 @@ pub(crate) fn append_file(
     piece: &[u8],
 ) -> Result<(), NoMemory>
     requires { place < vec_len files.old }
-    ensures ok { OnOk result (pairs_of files.new.items ≡ with_more (pairs_of files.old.items) place piece.now) }
+    ensures ok { OnOk result (pairs_of files.new.items ≡ with_appended (pairs_of files.old.items) place piece.now) }
     ensures err { OnErr result (pairs_of files.new.items ≡ pairs_of files.old.items) }
     ensures len { vec_len files.new ≡ vec_len files.old }
 {

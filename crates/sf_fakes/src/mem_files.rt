@@ -6,7 +6,7 @@ ghost use Rattle.sf_base.specs.Contents.{contents_of, Changes, Holds, Grows, Mov
 ghost use Rattle.sf_base.specs.Faults.{Cause, one_more};
 ghost use Rattle.sf_fakes.specs.Calls.{IsListed, next_call};
 ghost use Rattle.sf_fakes.specs.Pairs.{pairs_of, has_name, AddsName};
-ghost use Rattle.sf_fakes.specs.Reading.{rest_at, whole_at, name_of, opened_name_of};
+ghost use Rattle.sf_fakes.specs.Reading.{rest_at, whole_at, created_file_name, opened_name_of};
 
 use crate::calls::Calls;
 use crate::lookup::{append_file, copy_name, find_bytes, find_file, name_in, set_file};
@@ -107,7 +107,7 @@ impl MemFiles {
 }
 
 impl Files for MemFiles {
-    ghost seen = { λ files. record { contents = Some (pairs_of files.files.items); created = is_some files.created; created_name = name_of (pairs_of files.files.items) files.created; read_faults = files.read_faults; write_faults = files.write_faults; failed_name = option_map string_bytes files.failed } };
+    ghost seen = { λ files. record { contents = Some (pairs_of files.files.items); created = is_some files.created; created_name = created_file_name (pairs_of files.files.items) files.created; read_faults = files.read_faults; write_faults = files.write_faults; failed_name = option_map string_bytes files.failed } };
 
     ghost opened = { λ files. is_some files.opened };
 
@@ -260,7 +260,7 @@ impl Files for MemFiles {
         ensures failed { IsListed self.old.calls.fails.items self.old.calls.made → IsErr result }
         ensures created { is_some self.new.created ≡ is_ok result }
         ensures created_name { OnOk result (
-            name_of (pairs_of self.new.files.items) self.new.created ≡ name.now) }
+            created_file_name (pairs_of self.new.files.items) self.new.created ≡ name.now) }
         ensures holds { OnOk result (
             Changes name.now [] (pairs_of self.old.files.items) (pairs_of self.new.files.items)) }
         ensures names { OnOk result (
@@ -298,11 +298,11 @@ impl Files for MemFiles {
         ensures within { IfOk result (λ n. (1 ≤ n) × (n ≤ length piece.now)) }
         ensures grows { IfOk result (λ n. Grows
             (Some (pairs_of self.old.files.items)) (Some (pairs_of self.new.files.items))
-            (name_of (pairs_of self.old.files.items) self.old.created) (take n piece.now)) }
+            (created_file_name (pairs_of self.old.files.items) self.old.created) (take n piece.now)) }
         ensures unchanged { OnErr result (pairs_of self.new.files.items ≡ pairs_of self.old.files.items) }
         ensures created { self.new.created ≡ self.old.created }
-        ensures created_name { name_of (pairs_of self.new.files.items) self.new.created
-            ≡ name_of (pairs_of self.old.files.items) self.old.created }
+        ensures created_name { created_file_name (pairs_of self.new.files.items) self.new.created
+            ≡ created_file_name (pairs_of self.old.files.items) self.old.created }
         ensures opened { self.new.opened ≡ None }
         ensures write_faults { self.new.write_faults ≡
             (if is_ok result then self.old.write_faults else one_more self.old.write_faults) }

@@ -1,6 +1,6 @@
 // An open file in memory.
 ghost use Rattle.std.specs.Prelude.{◌≡◌, ◌+◌, ◌<◌, ◌^◌, length, drop, min, take};
-ghost use Rattle.sf_fakes.specs.Pairs.{pairs_of, bytes_at};
+ghost use Rattle.sf_fakes.specs.Pairs.{pairs_of, contents_at};
 
 use crate::copying::copy_front;
 
@@ -21,8 +21,8 @@ pub(crate) fn read_at(
 ) -> usize
     requires { place < length files.now }
     ensures count { result ≡
-        min (min (length (drop done (bytes_at (pairs_of files.now) place))) (length buf.old)) most }
-    ensures copied { take result buf.new ≡ take result (drop done (bytes_at (pairs_of files.now) place)) }
+        min (min (length (drop done (contents_at (pairs_of files.now) place))) (length buf.old)) most }
+    ensures copied { take result buf.new ≡ take result (drop done (contents_at (pairs_of files.now) place)) }
     ensures fits { done + result < 2 ^ 64 }
 {
     let bytes = files[place].1.as_slice();
@@ -32,7 +32,7 @@ pub(crate) fn read_at(
 // Returns how many bytes the file at a place of the list has.
 pub(crate) fn len_at(files: &[(String, Vec<u8>)], place: usize) -> u64
     requires { place < length files.now }
-    ensures { result ≡ length (bytes_at (pairs_of files.now) place) }
+    ensures { result ≡ length (contents_at (pairs_of files.now) place) }
 {
     files[place].1.len() as u64
 }

@@ -5,10 +5,10 @@ use Rattle.std.specs.List.{flat_map, range_with_len}
 use Rattle.std.specs.Prelude.{Bool, true, false, ◌==◌, cond}
 use Rattle.byteorder.specs.Numbers.{length-bytes_low_first}
 use Rattle.sf_gen.specs.Number.{half, word, xword}
-use Rattle.sf_gen.specs.Instruction.{filled, frame_pointer, instructions, locals, other_register}
+use Rattle.sf_gen.specs.Instruction.{filled, frame_pointer_instructions, instructions, locals, other_register}
 use Rattle.sf_gen.specs.Pattern.{kind}
 use Rattle.sf_gen.specs.Frames.{cie, eh_frame, fde}
-use Rattle.sf_gen.specs.Object.{all_contents, all_headers, file_header, file_kind, object_bytes, padded, padding, rela, relas, section_header, section_headers, sections, section_names, start_rela, string_table, symbol, symbols, text}
+use Rattle.sf_gen.specs.Object.{all_contents, all_headers, file_header, file_kind, object_bytes, padded, padding_to_eight, rela, relas, section_header_bytes, section_headers, object_sections, section_names, start_rela, string_table, symbol, symbols, text}
 use Rattle.sf_gen.proofs.Ranges.{length-range}
 
 length-half : (n : ℕ) → length (half n) ≡ 2
@@ -24,7 +24,7 @@ unfolding xword
 length-xword n = length-bytes_low_first 0 8 n
 
 -- a part whose length is a multiple of 8 is followed at once
-no_padding : (m : ℕ) → padding (8 * m) ≡ 0
+no_padding : (m : ℕ) → padding_to_eight (8 * m) ≡ 0
 no_padding m = let none : (8 * m) % 8 ≡ 0 = omega arith in rw none refl
 
 whole : (part : List ℕ) (m : ℕ) → length part ≡ 8 * m → padded part ≡ part
@@ -41,7 +41,7 @@ length-cie = simp (length-append, length-word) refl
 length-filled : (k : ℕ) → length (filled 15 (instructions k)) ≡ 15
 length-filled k = at_test (k == 0) (k == 1) (k == 2)
   where
-    at_test : (a b c : Bool) → length (filled 15 (cond a [] (cond b frame_pointer (cond c locals other_register)))) ≡ 15
+    at_test : (a b c : Bool) → length (filled 15 (cond a [] (cond b frame_pointer_instructions (cond c locals other_register)))) ≡ 15
     at_test true b c = refl
     at_test false true c = refl
     at_test false false true = refl
@@ -64,8 +64,8 @@ length-symbol : (a b c d e f : ℕ) → length (symbol a b c d e f) ≡ 24
 unfolding symbol
 length-symbol a b c d e f = simp (length-append, length-xword, length-word, length-half) refl
 
-length-header : (a b c d e f g h i : ℕ) → length (section_header a b c d e f g h i) ≡ 64
-unfolding section_header
+length-header : (a b c d e f g h i : ℕ) → length (section_header_bytes a b c d e f g h i) ≡ 64
+unfolding section_header_bytes
 length-header a b c d e f g h i = simp (length-append, length-xword, length-word) refl
 
 pub length-eh_frame : (n : ℕ) → length (eh_frame n) ≡ 24 + 32 * n
@@ -101,12 +101,12 @@ unfolding padded
 length-names = refl
 
 -- all contents, by their parts
-pub contents_are : (n : ℕ) → all_contents (sections n)
+pub contents_are : (n : ℕ) → all_contents (object_sections n)
     ≡ text n ++ (eh_frame n ++ (relas n ++ (symbols ++ (padded (string_table []) ++ (padded (string_table section_names) ++ [])))))
 unfolding all_contents
 contents_are n = rw (text_whole n, eh_frame_whole n, relas_whole n, symbols_whole) refl
 
-pub length-contents : (n : ℕ) → length (all_contents (sections n)) ≡ 144 + 88 * n
+pub length-contents : (n : ℕ) → length (all_contents (object_sections n)) ≡ 144 + 88 * n
 length-contents n =
     ap length (contents_are n)
     ∙ sums (text n) (eh_frame n) (relas n) symbols (padded (string_table [])) (padded (string_table section_names)) n
@@ -122,13 +122,13 @@ place_after : (part : List ℕ) (place len next : ℕ) → padded part ≡ part 
 place_after part place len next e f g = rw (e, f) g
 
 -- the headers, with their places by number
-pub headers_are : (n : ℕ) → section_headers 1 64 section_names (sections n)
-    ≡ section_header 1 1 6 64 (32 * n) 0 0 16 0
-    ++ (section_header 7 1 2 (64 + 32 * n) (24 + 32 * n) 0 0 8 0
-    ++ (section_header 17 4 0x40 (88 + 64 * n) (24 * n) 4 2 8 24
-    ++ (section_header 32 2 0 (88 + 88 * n) 48 5 2 8 24
-    ++ (section_header 40 3 0 (136 + 88 * n) 1 0 0 1 0
-    ++ (section_header 48 3 0 (144 + 88 * n) 58 0 0 1 0 ++ [])))))
+pub headers_are : (n : ℕ) → section_headers 1 64 section_names (object_sections n)
+    ≡ section_header_bytes 1 1 6 64 (32 * n) 0 0 16 0
+    ++ (section_header_bytes 7 1 2 (64 + 32 * n) (24 + 32 * n) 0 0 8 0
+    ++ (section_header_bytes 17 4 0x40 (88 + 64 * n) (24 * n) 4 2 8 24
+    ++ (section_header_bytes 32 2 0 (88 + 88 * n) 48 5 2 8 24
+    ++ (section_header_bytes 40 3 0 (136 + 88 * n) 1 0 0 1 0
+    ++ (section_header_bytes 48 3 0 (144 + 88 * n) 58 0 0 1 0 ++ [])))))
 headers_are n =
     rw (
       place_after (text n) 64 (32 * n) (64 + 32 * n) (text_whole n) (length-text n) refl,
@@ -147,8 +147,8 @@ pub length-all_headers : (n : ℕ) → length (all_headers n) ≡ 448
 length-all_headers n =
     let first : List ℕ = replicate 64 0 in
     let zeros : length first ≡ 64 = refl in
-    let later : length (section_headers 1 64 section_names (sections n)) ≡ 384 = ap length (headers_are n) ∙ simp (length-append, length-header) refl in
-    length-append first (section_headers 1 64 section_names (sections n)) ∙ omega (arith, later, zeros)
+    let later : length (section_headers 1 64 section_names (object_sections n)) ≡ 384 = ap length (headers_are n) ∙ simp (length-append, length-header) refl in
+    length-append first (section_headers 1 64 section_names (object_sections n)) ∙ omega (arith, later, zeros)
 
 length-file_kind : length file_kind ≡ 40
 unfolding file_kind
@@ -161,8 +161,8 @@ length-file_header e_shoff e_shnum e_shstrndx = simp (length-append, length-half
 pub length-object : (n : ℕ) → length (object_bytes n) ≡ 656 + 88 * n
 unfolding object_bytes
 length-object n =
-    sums (file_header (64 + length (all_contents (sections n))) 7 6) (all_contents (sections n)) (all_headers n) n
-    (length-file_header (64 + length (all_contents (sections n))) 7 6) (length-contents n) (length-all_headers n)
+    sums (file_header (64 + length (all_contents (object_sections n))) 7 6) (all_contents (object_sections n)) (all_headers n) n
+    (length-file_header (64 + length (all_contents (object_sections n))) 7 6) (length-contents n) (length-all_headers n)
   where
     sums : (a b c : List ℕ) (n : ℕ) → length a ≡ 64 → length b ≡ 144 + 88 * n → length c ≡ 448 → length (a ++ b ++ c) ≡ 656 + 88 * n
     sums a b c n p q r = simp (length-append, p, q, r) (omega arith)
@@ -174,5 +174,5 @@ pub object_is : (n : ℕ) → object_bytes n
     ++ all_headers n
 unfolding object_bytes
 object_is n =
-    let place : 64 + length (all_contents (sections n)) ≡ 208 + 88 * n = omega (arith, length-contents n) in
+    let place : 64 + length (all_contents (object_sections n)) ≡ 208 + 88 * n = omega (arith, length-contents n) in
     rw (place, contents_are n) refl

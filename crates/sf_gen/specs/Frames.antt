@@ -3,15 +3,15 @@ use Rattle.std.specs.Prelude.{◌+◌, ◌*◌, ◌++◌, ℕ, List, [], ◌∷�
 use Rattle.std.specs.List.{flat_map, range_with_len}
 use Rattle.sf_gen.specs.Number.{word}
 use Rattle.sf_gen.specs.Pattern.{kind}
-use Rattle.sf_gen.specs.Instruction.{def_cfa, filled, instructions, offset, return_address, rsp}
+use Rattle.sf_gen.specs.Instruction.{def_cfa, filled, instructions, offset, return_address_column, rsp}
 
 -- The fields of the common information entry after its length and its id: version 1, augmentation "zR", code alignment 1, data
 -- alignment -8 as a LEB128 number, the return address's column, one byte of augmentation data (DW_EH_PE_pcrel and
 -- DW_EH_PE_sdata4), and the instructions: the CFA is rsp+8, with the return address saved below it.
 abbrev pub cie_fields : List ℕ
 cie_fields =
-    (1 ∷ []) ++ codes "zR" ++ (0 ∷ []) ++ (1 ∷ 0x78 ∷ return_address ∷ []) ++ (1 ∷ 0x1b ∷ [])
-    ++ filled 7 (def_cfa rsp 8 ++ offset return_address 1)
+    (1 ∷ []) ++ codes "zR" ++ (0 ∷ []) ++ (1 ∷ 0x78 ∷ return_address_column ∷ []) ++ (1 ∷ 0x1b ∷ [])
+    ++ filled 7 (def_cfa rsp 8 ++ offset return_address_column 1)
 
 -- the one common information entry, of 24 bytes
 unfoldable pub cie : List ℕ

@@ -14,8 +14,8 @@ abbrev pub r10 : ℕ
 r10 = 10
 
 -- the return address's column
-abbrev pub return_address : ℕ
-return_address = 16
+abbrev pub return_address_column : ℕ
+return_address_column = 16
 
 -- DW_CFA_advance_loc
 abbrev pub advance_loc : (delta : ℕ) → List ℕ
@@ -42,8 +42,8 @@ abbrev pub nops : (count : ℕ) → List ℕ
 nops count = replicate count 0
 
 -- rbp is saved and becomes the frame's base; the last byte of the function returns
-abbrev pub frame_pointer : List ℕ
-frame_pointer =
+abbrev pub frame_pointer_instructions : List ℕ
+frame_pointer_instructions =
     advance_loc 1 ++ def_cfa_offset 16 ++ offset rbp 2 ++ advance_loc 3 ++ def_cfa_register rbp ++ advance_loc 27 ++ def_cfa rsp 8
 
 -- the stack pointer moves by 40 and back
@@ -57,7 +57,7 @@ other_register = advance_loc 5 ++ def_cfa r10 0
 -- the instructions of a function of this kind
 abbrev pub instructions : (kind : ℕ) → List ℕ
 instructions kind =
-    if kind == 0 then [] else (if kind == 1 then frame_pointer else (if kind == 2 then locals else other_register))
+    if kind == 0 then [] else (if kind == 1 then frame_pointer_instructions else (if kind == 2 then locals else other_register))
 
 -- instructions with nops after them, up to this length
 abbrev pub filled : (len : ℕ) → List ℕ → List ℕ

@@ -123,18 +123,18 @@ shstrtab_section = record {
 }
 
 -- sections 1 to 6
-abbrev pub sections : (n : ℕ) → List Section
-sections n =
+abbrev pub object_sections : (n : ℕ) → List Section
+object_sections n =
     text_section n ∷ eh_frame_section n ∷ rela_section n ∷ symtab_section ∷ strtab_section ∷ shstrtab_section ∷ []
 
 -- ---- the file
 -- the number of zero bytes up to the next multiple of 8
-abbrev pub padding : (len : ℕ) → ℕ
-padding len = (8 - len % 8) % 8
+abbrev pub padding_to_eight : (len : ℕ) → ℕ
+padding_to_eight len = (8 - len % 8) % 8
 
 -- a part of the file, with zero bytes up to the next multiple of 8
 unfoldable pub padded : List ℕ → List ℕ
-padded part = part ++ replicate (padding (length part)) 0
+padded part = part ++ replicate (padding_to_eight (length part)) 0
 
 -- the contents of sections, consecutive
 unfoldable pub all_contents : List Section → List ℕ
@@ -142,8 +142,8 @@ all_contents parts = flat_map (λ (s : Section). padded s.contents) parts
 
 -- an Elf64_Shdr: the name by its place in the string table, type, flags, address, place and length in the file, link, info,
 -- alignment, and the length of an entry
-unfoldable pub section_header : (sh_name sh_type sh_flags sh_offset sh_size sh_link sh_info sh_addralign sh_entsize : ℕ) → List ℕ
-section_header sh_name sh_type sh_flags sh_offset sh_size sh_link sh_info sh_addralign sh_entsize =
+unfoldable pub section_header_bytes : (sh_name sh_type sh_flags sh_offset sh_size sh_link sh_info sh_addralign sh_entsize : ℕ) → List ℕ
+section_header_bytes sh_name sh_type sh_flags sh_offset sh_size sh_link sh_info sh_addralign sh_entsize =
     word sh_name ++ word sh_type ++ xword sh_flags ++ xword 0 ++ xword sh_offset ++ xword sh_size ++ word sh_link ++ word sh_info
     ++ xword sh_addralign ++ xword sh_entsize
 
@@ -152,7 +152,7 @@ abbrev pub section_headers : (sh_name sh_offset : ℕ) → List (List ℕ) → L
 section_headers sh_name sh_offset [] parts = []
 section_headers sh_name sh_offset names [] = []
 section_headers sh_name sh_offset (name ∷ names) (s ∷ later) =
-    section_header sh_name s.sh_type s.sh_flags sh_offset (length s.contents) s.sh_link s.sh_info s.sh_addralign s.sh_entsize
+    section_header_bytes sh_name s.sh_type s.sh_flags sh_offset (length s.contents) s.sh_link s.sh_info s.sh_addralign s.sh_entsize
     ++ section_headers (sh_name + (length name + 1)) (sh_offset + length (padded s.contents)) names later
 
 -- e_ident: the magic number, ELFCLASS64, ELFDATA2LSB, EV_CURRENT, and zero bytes
@@ -170,8 +170,8 @@ file_header e_shoff e_shnum e_shstrndx =
 
 -- the headers of all sections; that of section 0 is zero
 abbrev pub all_headers : (n : ℕ) → List ℕ
-all_headers n = replicate 64 0 ++ section_headers 1 64 section_names (sections n)
+all_headers n = replicate 64 0 ++ section_headers 1 64 section_names (object_sections n)
 
 -- the file with n functions: its header, sections 1 to 6, and the section headers 0 to 6
 unfoldable pub object_bytes : (n : ℕ) → List ℕ
-object_bytes n = file_header (64 + length (all_contents (sections n))) 7 6 ++ all_contents (sections n) ++ all_headers n
+object_bytes n = file_header (64 + length (all_contents (object_sections n))) 7 6 ++ all_contents (object_sections n) ++ all_headers n

@@ -12,9 +12,9 @@ state_after seed zero = seed
 state_after seed (suc steps) = next (state_after seed steps)
 
 -- a state's kind, from 0 to 3
-unfoldable pub kind_of : (state : ℕ) → ℕ
-kind_of state = state / 65536 % 4
+unfoldable pub state_kind : (state : ℕ) → ℕ
+state_kind state = state / 65536 % 4
 
 -- the kind of a function, numbered from 0, of n in all
 abbrev pub kind : (n i : ℕ) → ℕ
-kind n i = kind_of (state_after n (i + 1))
+kind n i = state_kind (state_after n (i + 1))

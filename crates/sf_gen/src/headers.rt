@@ -115,7 +115,7 @@ pub(crate) fn push_section_headers(bytes: &mut Vec<u8>, n: u32) -> Result<(), Al
 }
 
 /// Appends a section header, with the section's name at this place of the string table.
-#[tactic(auto, unfolding(crate::specs::Object::section_header))]
+#[tactic(auto, unfolding(crate::specs::Object::section_header_bytes))]
 fn push_header(
     bytes: &mut Vec<u8>,
     name: u32,
@@ -123,7 +123,7 @@ fn push_header(
     size: u32,
     header: &Header,
 ) -> Result<(), AllocError>
-    ensures { OnOk result (bytes.new.items ≡ bytes.old.items ++ spec.section_header name header.now.kind header.now.flags offset size header.now.link header.now.info header.now.align header.now.entry_size) }
+    ensures { OnOk result (bytes.new.items ≡ bytes.old.items ++ spec.section_header_bytes name header.now.kind header.now.flags offset size header.now.link header.now.info header.now.align header.now.entry_size) }
 {
     push_word(bytes, name)?;
     push_word(bytes, header.kind)?;

@@ -20,9 +20,9 @@ pub(crate) fn next(state: u32) -> u32
 }
 
 /// Returns the kind that a state of the generator picks.
-#[tactic(auto, unfolding(crate::specs::Pattern::kind_of))]
+#[tactic(auto, unfolding(crate::specs::Pattern::state_kind))]
 pub(crate) fn kind_of(state: u32) -> u32
-    ensures value { result ≡ spec.kind_of state }
+    ensures value { result ≡ spec.state_kind state }
     ensures most { result < 4 }
 {
     state / 0x1_0000 % 4

@@ -9,7 +9,7 @@ use Rattle.sf_link_c.specs.declared.inputs.KiblawenInput.{KiblawenInput}
 use Rattle.sf_link_c.specs.declared.linked.KiblawenLinked.{KiblawenLinked}
 use Rattle.sf_link_c.specs.declared.omissions.KiblawenOmission.{KiblawenOmission}
 use Rattle.sf_link_c.specs.declared.refusals.KiblawenRefusal.{KiblawenRefusal}
-use Rattle.sf_link_c.specs.Inputs.{AreFit, object_in}
+use Rattle.sf_link_c.specs.Inputs.{AreFit, object_of_input}
 use Rattle.sf_link_c.specs.Linking.{Answers, Made, nothing_linked}
 use Rattle.sf_link_c.specs.Omissions.{listed, omission_shown}
 use Rattle.sf_link_c.specs.Refusals.{fault_answer, no_refusal, refusal_of}
@@ -27,7 +27,7 @@ linked_as {len} {len'} {kept} {omitted} {omitted'} {plts} {plts'} {why} l o p w 
     ∙ ap (λ (r : KiblawenRefusal). shown_as len' kept omitted' plts' r) w
 
 pub made_answers : (inputs : List KiblawenInput) (at answer : ℕ) (out out' : List ℕ) (omitted omitted' : List KiblawenOmission) (made : Made) (len count : ℕ) (section : List ℕ) (given : List Omitted) (why : KiblawenRefusal)
-    → AreFit inputs → IsLinked None (map object_in inputs) at made.section made.kept made.omitted
+    → AreFit inputs → IsLinked None (map object_of_input inputs) at made.section made.kept made.omitted
     → section ≡ made.section → given ≡ made.omitted → len ≡ length made.section → count ≡ length made.omitted → why ≡ no_refusal
     → answer ≡ room_answer section (length out) → out' ≡ section_written section out → omitted' ≡ listed omission_shown given omitted
     → Answers inputs at answer out out' omitted omitted' (shown_as len made.kept count 0 why)
@@ -41,7 +41,7 @@ made_answers inputs at answer out out' omitted omitted' made len count section g
 }
 
 pub refused_answers : (inputs : List KiblawenInput) (at answer : ℕ) (out : List ℕ) (omitted : List KiblawenOmission) (fault : LinkFault) (why : KiblawenRefusal) (linked : KiblawenLinked)
-    → AreFit inputs → IsFirstLinked None (map object_in inputs) at fault → IsTrue (is_answered fault) → answer ≡ fault_answer fault → linked ≡ nothing_linked why → why ≡ refusal_of fault
+    → AreFit inputs → IsFirstLinked None (map object_of_input inputs) at fault → IsTrue (is_answered fault) → answer ≡ fault_answer fault → linked ≡ nothing_linked why → why ≡ refusal_of fault
     → Answers inputs at answer out out omitted omitted linked
 refused_answers inputs at answer out omitted fault why linked fit first answered is nothing shown = record {
   coming = Some (Err fault);

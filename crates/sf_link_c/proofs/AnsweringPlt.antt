@@ -11,7 +11,7 @@ use Rattle.sf_link_c.specs.declared.linked.KiblawenLinked.{KiblawenLinked}
 use Rattle.sf_link_c.specs.declared.omissions.KiblawenOmission.{KiblawenOmission}
 use Rattle.sf_link_c.specs.declared.omissions.KiblawenPlt.{KiblawenPlt}
 use Rattle.sf_link_c.specs.declared.refusals.KiblawenRefusal.{KiblawenRefusal}
-use Rattle.sf_link_c.specs.Inputs.{AreFit, object_in}
+use Rattle.sf_link_c.specs.Inputs.{AreFit, object_of_input}
 use Rattle.sf_link_c.specs.Linking.{nothing_linked}
 use Rattle.sf_link_c.specs.LinkingPlt.{Answers, Made}
 use Rattle.sf_link_c.specs.Omissions.{listed, omission_shown, plt_shown}
@@ -20,7 +20,7 @@ use Rattle.sf_link_c.specs.Room.{room_answer, section_written}
 use Rattle.sf_link_c.proofs.Answering.{linked_as, shown_as}
 
 pub made_answers : (inputs : List KiblawenInput) (at answer : ℕ) (out out' : List ℕ) (omitted omitted' : List KiblawenOmission) (plts plts' : List KiblawenPlt) (made : Made) (len count tables : ℕ) (section : List ℕ) (given : List Omitted) (given_plts : List Span) (why : KiblawenRefusal)
-    → AreFit inputs → IsPltLinked None (map object_in inputs) at made.section made.kept made.omitted made.plts
+    → AreFit inputs → IsPltLinked None (map object_of_input inputs) at made.section made.kept made.omitted made.plts
     → section ≡ made.section → given ≡ made.omitted → given_plts ≡ made.plts → len ≡ length made.section → count ≡ length made.omitted → tables ≡ length made.plts → why ≡ no_refusal
     → answer ≡ room_answer section (length out) → out' ≡ section_written section out → omitted' ≡ listed omission_shown given omitted → plts' ≡ listed plt_shown given_plts plts
     → Answers inputs at answer out out' omitted omitted' plts plts' (shown_as len made.kept count tables why)
@@ -35,7 +35,7 @@ made_answers inputs at answer out out' omitted omitted' plts plts' made len coun
 }
 
 pub refused_answers : (inputs : List KiblawenInput) (at answer : ℕ) (out : List ℕ) (omitted : List KiblawenOmission) (plts : List KiblawenPlt) (fault : LinkFault) (why : KiblawenRefusal) (linked : KiblawenLinked)
-    → AreFit inputs → IsFirstPltLinked None (map object_in inputs) at fault → IsTrue (is_answered fault) → answer ≡ fault_answer fault → linked ≡ nothing_linked why → why ≡ refusal_of fault
+    → AreFit inputs → IsFirstPltLinked None (map object_of_input inputs) at fault → IsTrue (is_answered fault) → answer ≡ fault_answer fault → linked ≡ nothing_linked why → why ≡ refusal_of fault
     → Answers inputs at answer out out omitted omitted plts plts linked
 refused_answers inputs at answer out omitted plts fault why linked fit first answered is nothing shown = record {
   coming = Some (Err fault);

@@ -1,17 +1,11 @@
 -- The content of a row, as C has it (GNU SFrame specification, Version 2, frame row entries).
-use Rattle.std.specs.Prelude.{ℕ, ℤ, pos, negsuc, zero, Option, Some, None, is_some, unwrap_or}
-use Rattle.sf_model.specs.declared.machine.Base.{Base}
-use Rattle.sf_model.specs.declared.machine.Base.TheVariants.{Fp, Sp}
+use Rattle.std.specs.Prelude.{ℤ, pos, negsuc, zero, Option, Some, None, is_some, unwrap_or}
 use Rattle.sf_model.specs.declared.content.Content.{Content}
 use Rattle.sf_model.specs.declared.content.Ra.{Ra}
 use Rattle.sf_model.specs.declared.content.Ra.TheVariants.{Fixed, Link, At}
+use Rattle.sf_model.specs.RowBytes.{base_number}
 use Rattle.sf_link_c.specs.declared.contents.KiblawenContent.{KiblawenContent}
 use Rattle.sf_link_c.specs.Omissions.{flag}
-
--- the header's number of the base of the canonical frame address
-abbrev pub base_number : Base → ℕ
-base_number Fp = 0
-base_number Sp = 1
 
 -- the offset from the canonical frame address at which the return address is saved, if it is not in the link register
 abbrev pub saved_return : Ra → Option ℤ

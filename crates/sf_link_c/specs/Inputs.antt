@@ -11,8 +11,8 @@ abbrev pub form_by : (kind : ℕ) → Form
 form_by kind = if kind == 0 then Elf else (if kind == 1 then Bare Amd64 else Bare Aarch64)
 
 -- an input as it is linked
-abbrev pub object_in : KiblawenInput → Object
-object_in input = record { form = form_by input.kind; bytes = input.bytes.now; base = input.base }
+abbrev pub object_of_input : KiblawenInput → Object
+object_of_input input = record { form = form_by input.kind; bytes = input.bytes.now; base = input.base }
 
 -- the kind is one of the header's, and there are fewer than 2^32 bytes
 abbrev pub IsFit : KiblawenInput → Type 0

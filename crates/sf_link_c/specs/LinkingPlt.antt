@@ -9,7 +9,7 @@ use Rattle.sf_link_c.specs.declared.inputs.KiblawenInput.{KiblawenInput}
 use Rattle.sf_link_c.specs.declared.omissions.KiblawenOmission.{KiblawenOmission}
 use Rattle.sf_link_c.specs.declared.omissions.KiblawenPlt.{KiblawenPlt}
 use Rattle.sf_link_c.specs.declared.linked.KiblawenLinked.{KiblawenLinked}
-use Rattle.sf_link_c.specs.Inputs.{AreFit, object_in}
+use Rattle.sf_link_c.specs.Inputs.{AreFit, object_of_input}
 use Rattle.sf_link_c.specs.Linking.{nothing_linked}
 use Rattle.sf_link_c.specs.Omissions.{listed, omission_shown, plt_shown}
 use Rattle.sf_link_c.specs.Refusals.{fault_answer, no_refusal, refusal_of}
@@ -23,16 +23,16 @@ pub record Made : Type 0 where
   pub plts : List Span
 
 -- what inputs come to: nothing if they are not fit, or the section of them, or the first fault
-abbrev pub ComesTo : List KiblawenInput → (at : ℕ) → Option (Result Made LinkFault) → Type 0
-ComesTo inputs at None = AreFit inputs → ⊥
-ComesTo inputs at (Some (Ok made)) = AreFit inputs × IsPltLinked None (map object_in inputs) at made.section made.kept made.omitted made.plts
-ComesTo inputs at (Some (Err fault)) = AreFit inputs × IsFirstPltLinked None (map object_in inputs) at fault × IsTrue (is_answered fault)
+abbrev pub HasOutcome : List KiblawenInput → (at : ℕ) → Option (Result Made LinkFault) → Type 0
+HasOutcome inputs at None = AreFit inputs → ⊥
+HasOutcome inputs at (Some (Ok made)) = AreFit inputs × IsPltLinked None (map object_of_input inputs) at made.section made.kept made.omitted made.plts
+HasOutcome inputs at (Some (Err fault)) = AreFit inputs × IsFirstPltLinked None (map object_of_input inputs) at fault × IsTrue (is_answered fault)
 
 -- the header's number of the answer
-abbrev pub answer_of : Option (Result Made LinkFault) → (room : ℕ) → ℕ
-answer_of None room = 6
-answer_of (Some (Ok made)) room = room_answer made.section room
-answer_of (Some (Err fault)) room = fault_answer fault
+abbrev pub answer_number : Option (Result Made LinkFault) → (room : ℕ) → ℕ
+answer_number None room = 6
+answer_number (Some (Ok made)) room = room_answer made.section room
+answer_number (Some (Err fault)) room = fault_answer fault
 
 -- the room for the section after the call
 abbrev pub section_in : Option (Result Made LinkFault) → (before : List ℕ) → List ℕ
@@ -59,8 +59,8 @@ linked_shown (Some (Err fault)) = nothing_linked (refusal_of fault)
 -- The answer to inputs: there is one thing that they come to, and it decides all that is returned and written.
 pub record Answers (inputs : List KiblawenInput) (at : ℕ) (answer : ℕ) (out out' : List ℕ) (omitted omitted' : List KiblawenOmission) (plts plts' : List KiblawenPlt) (linked : KiblawenLinked) : Type 0 where
   pub coming : Option (Result Made LinkFault)
-  pub comes : ComesTo inputs at coming
-  pub answer_is : answer ≡ answer_of coming (length out)
+  pub comes : HasOutcome inputs at coming
+  pub answer_is : answer ≡ answer_number coming (length out)
   pub section_is : out' ≡ section_in coming out
   pub omissions_are : omitted' ≡ omissions_in coming omitted
   pub plts_are : plts' ≡ plts_in coming plts

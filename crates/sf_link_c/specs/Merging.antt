@@ -40,10 +40,10 @@ ComeTo sections at None = AreOpen sections → ⊥
 ComeTo sections at (Some coming) = AreOpen sections × OpenComeTo (filter_map table_lent sections) at coming
 
 -- the header's number of the answer
-abbrev pub answer_of : Option (Result Made MergeFault) → (room : ℕ) → ℕ
-answer_of None room = 6
-answer_of (Some (Ok made)) room = room_answer made.section room
-answer_of (Some (Err fault)) room = fault_answer fault
+abbrev pub answer_number : Option (Result Made MergeFault) → (room : ℕ) → ℕ
+answer_number None room = 6
+answer_number (Some (Ok made)) room = room_answer made.section room
+answer_number (Some (Err fault)) room = fault_answer fault
 
 -- the room for the section after the call
 abbrev pub section_in : Option (Result Made MergeFault) → (before : List ℕ) → List ℕ
@@ -60,6 +60,6 @@ merged_shown (Some (Err fault)) = nothing_made (refusal_of fault)
 pub record Answers (sections : List LentSection) (at : ℕ) (answer : ℕ) (out out' : List ℕ) (merged : KiblawenMade) : Type 0 where
   pub coming : Option (Result Made MergeFault)
   pub comes : ComeTo sections at coming
-  pub answer_is : answer ≡ answer_of coming (length out)
+  pub answer_is : answer ≡ answer_number coming (length out)
   pub section_is : out' ≡ section_in coming out
   pub merged_is : merged ≡ merged_shown coming

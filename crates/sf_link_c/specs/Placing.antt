@@ -34,16 +34,16 @@ place_shown loading = record {
 }
 
 -- the file is refused for a fault; it is the only item
-abbrev pub refused : ElfFault → KiblawenPlaced
-refused fault = no_place (refusal_shown (shown_of_elf (Some 0) fault))
+abbrev pub refused_file : ElfFault → KiblawenPlaced
+refused_file fault = no_place (refusal_shown (shown_of_elf (Some 0) fault))
 
 -- what is returned and written
-abbrev pub placed : Result LoadingView LoadFault → ℕ × KiblawenPlaced
-placed (Ok loading) = (0, place_shown loading)
-placed (Err NotLoaded) = (1, no_place no_refusal)
-placed (Err (Elf fault)) = (2, refused fault)
+abbrev pub loading_answer : Result LoadingView LoadFault → ℕ × KiblawenPlaced
+loading_answer (Ok loading) = (0, place_shown loading)
+loading_answer (Err NotLoaded) = (1, no_place no_refusal)
+loading_answer (Err (Elf fault)) = (2, refused_file fault)
 
 -- the answer to a file, the size of a page and an executable mapping
-abbrev pub place_of : (bytes : List ℕ) → (page : ℕ) → (start offset : ℕ) → ℕ × KiblawenPlaced
-place_of bytes page start offset =
-    if is_fit bytes page then placed (loading_of page (record { start = start; offset = offset }) bytes) else (6, no_place no_refusal)
+abbrev pub placing_answer : (bytes : List ℕ) → (page : ℕ) → (start offset : ℕ) → ℕ × KiblawenPlaced
+placing_answer bytes page start offset =
+    if is_fit bytes page then loading_answer (loading_of page (record { start = start; offset = offset }) bytes) else (6, no_place no_refusal)

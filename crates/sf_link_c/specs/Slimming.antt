@@ -41,15 +41,15 @@ OpenComesTo bytes table at (Ok made) = IsSlimmed bytes table at made.section mad
 OpenComesTo bytes table at (Err fault) = IsFirstSlimFault bytes table at fault
 
 -- what a section comes to: nothing while it is closed
-abbrev pub ComesTo : LentSection → (at : ℕ) → Option (Result Made SlimFault) → Type 0
-ComesTo section at None = table_lent section ≡ None
-ComesTo section at (Some coming) = (table : Table) × (table_lent section ≡ Some table) × OpenComesTo (bytes_lent section) table at coming
+abbrev pub HasOutcome : LentSection → (at : ℕ) → Option (Result Made SlimFault) → Type 0
+HasOutcome section at None = table_lent section ≡ None
+HasOutcome section at (Some coming) = (table : Table) × (table_lent section ≡ Some table) × OpenComesTo (bytes_lent section) table at coming
 
 -- the header's number of the answer
-abbrev pub answer_of : Option (Result Made SlimFault) → (room : ℕ) → ℕ
-answer_of None room = 6
-answer_of (Some (Ok made)) room = room_answer made.section room
-answer_of (Some (Err fault)) room = fault_answer fault
+abbrev pub answer_number : Option (Result Made SlimFault) → (room : ℕ) → ℕ
+answer_number None room = 6
+answer_number (Some (Ok made)) room = room_answer made.section room
+answer_number (Some (Err fault)) room = fault_answer fault
 
 -- the room for the section after the call
 abbrev pub section_in : Option (Result Made SlimFault) → (before : List ℕ) → List ℕ
@@ -65,7 +65,7 @@ slimmed_shown (Some (Err fault)) = nothing_made (refusal_of fault)
 -- The answer to a section: there is one thing that it comes to, and it decides all that is returned and written.
 pub record Answers (section : LentSection) (at : ℕ) (answer : ℕ) (out out' : List ℕ) (slimmed : KiblawenMade) : Type 0 where
   pub coming : Option (Result Made SlimFault)
-  pub comes : ComesTo section at coming
-  pub answer_is : answer ≡ answer_of coming (length out)
+  pub comes : HasOutcome section at coming
+  pub answer_is : answer ≡ answer_number coming (length out)
   pub section_is : out' ≡ section_in coming out
   pub slimmed_is : slimmed ≡ slimmed_shown coming

@@ -15,7 +15,7 @@ use Rattle.sf_link_c.specs.declared.inputs.KiblawenInput.{KiblawenInput}
 use Rattle.sf_link_c.specs.declared.refusals.KiblawenRefusal.{KiblawenRefusal}
 use Rattle.sf_link_c.specs.declared.verifying.KiblawenVerdict.{KiblawenVerdict}
 use Rattle.sf_link_c.specs.Contents.{content_or_none, content_shown, no_content}
-use Rattle.sf_link_c.specs.Inputs.{AreFit, object_in}
+use Rattle.sf_link_c.specs.Inputs.{AreFit, object_of_input}
 use Rattle.sf_link_c.specs.Refusals.{no_refusal, refusal_shown}
 
 -- a fault, as C has it: the section is item 0, and inputs are numbered from 1 on; a limit and out of memory have no line
@@ -47,10 +47,10 @@ OpenComesTo bytes table objects (Ok verdict) = Verifies bytes table objects (Ok 
 OpenComesTo bytes table objects (Err fault) = IsFirstVerifyFault bytes table objects fault × IsTrue (is_returned fault)
 
 -- what a section and inputs come to: nothing while it is closed, or if they are not fit
-abbrev pub ComesTo : LentSection → List KiblawenInput → Option (Result Verdict VerifyFault) → Type 0
-ComesTo section inputs None = (table : Table) → table_lent section ≡ Some table → AreFit inputs → ⊥
-ComesTo section inputs (Some coming) =
-    AreFit inputs × ((table : Table) × (table_lent section ≡ Some table) × OpenComesTo (bytes_lent section) table (map object_in inputs) coming)
+abbrev pub HasOutcome : LentSection → List KiblawenInput → Option (Result Verdict VerifyFault) → Type 0
+HasOutcome section inputs None = (table : Table) → table_lent section ≡ Some table → AreFit inputs → ⊥
+HasOutcome section inputs (Some coming) =
+    AreFit inputs × ((table : Table) × (table_lent section ≡ Some table) × OpenComesTo (bytes_lent section) table (map object_of_input inputs) coming)
 
 -- what is returned and written
 abbrev pub answered : Option (Result Verdict VerifyFault) → ℕ × KiblawenVerdict
@@ -61,5 +61,5 @@ answered (Some (Err fault)) = (fault_answer fault, no_verdict (refusal_of fault)
 -- The answer to a section and inputs: there is one thing that they come to, and it decides what is returned and written.
 pub record Answers (section : LentSection) (inputs : List KiblawenInput) (answer : ℕ) (verdict : KiblawenVerdict) : Type 0 where
   pub coming : Option (Result Verdict VerifyFault)
-  pub comes : ComesTo section inputs coming
+  pub comes : HasOutcome section inputs coming
   pub answer_is : (answer, verdict) ≡ answered coming

@@ -1,6 +1,7 @@
 //! The content of a row, as C has it (SFrame Version 2, frame row entries).
 
 ghost use Rattle.std.specs.Prelude.{◌≡◌};
+ghost use Rattle.sf_model.specs.RowBytes.{base_number};
 ghost use Rattle.sf_link_c.specs.Contents as spec;
 
 use crate::omissions::flag;
@@ -30,7 +31,7 @@ pub struct KiblawenContent {
 
 // Returns the header's number of the base of the canonical frame address.
 fn base_number(base: Base) -> u32
-    ensures { result ≡ spec.base_number base }
+    ensures { result ≡ base_number base }
 {
     match base {
         Base::Fp => 0,

@@ -2,7 +2,7 @@
 
 ghost use Rattle.std.specs.Prelude.{◌≡◌, ◌↔◌, ◌<◌, ◌^◌, All, IfOk, IsTrue, length, map};
 ghost use Rattle.sf_asm.specs.Functions.{object_of};
-ghost use Rattle.sf_link_c.specs.Inputs.{AreFit, IsFit, form_by, object_in};
+ghost use Rattle.sf_link_c.specs.Inputs.{AreFit, IsFit, form_by, object_of_input};
 
 use sf_asm::Input;
 use sf_base::NoMemory;
@@ -71,7 +71,7 @@ pub fn inputs_of<'a>(
     inputs: &[KiblawenInput<'a>],
 ) -> Result<Vec<Input<'a>>, NoMemory>
     requires { All IsFit inputs.now }
-    ensures objects { IfOk result (λ all. map object_of all.items ≡ map object_in inputs.now) }
+    ensures objects { IfOk result (λ all. map object_of all.items ≡ map object_of_input inputs.now) }
     ensures small { IfOk result (λ all. All (λ input. length input.bytes.now < 2 ^ 32) all.items) }
 {
     let mut all = Vec::new(alloc);

@@ -3,7 +3,7 @@
 ghost use Rattle.std.specs.Prelude.{◌≡◌, IfOk, IfErr, IsTrue, None, map};
 ghost use Rattle.sf_asm.specs.Answers.{IsFirstLinked, IsLinked};
 ghost use Rattle.sf_asm.specs.Fault.{is_answered};
-ghost use Rattle.sf_link_c.specs.Inputs.{AreFit, object_in};
+ghost use Rattle.sf_link_c.specs.Inputs.{AreFit, object_of_input};
 ghost use Rattle.sf_link_c.specs.Linking as spec;
 
 use crate::answer::UNFIT;
@@ -20,8 +20,8 @@ use std::alloc::Global;
 // Makes the section of inputs that are fit.
 fn link_inputs(alloc: Global, inputs: &[KiblawenInput<'_>], at: u64) -> Result<Linked, LinkFault>
     requires { AreFit inputs.now }
-    ensures linked { IfOk result (λ linked. IsLinked None (map object_in inputs.now) at linked.section.items linked.kept linked.omitted.items) }
-    ensures fault { IfErr result (IsFirstLinked None (map object_in inputs.now) at) }
+    ensures linked { IfOk result (λ linked. IsLinked None (map object_of_input inputs.now) at linked.section.items linked.kept linked.omitted.items) }
+    ensures fault { IfErr result (IsFirstLinked None (map object_of_input inputs.now) at) }
     ensures answered { IfErr result (λ fault. IsTrue (is_answered fault)) }
 {
     match inputs_of(alloc, inputs) {

@@ -3,7 +3,7 @@
 ghost use Rattle.std.specs.Prelude.{◌≡◌, IfOk, IfErr, IsTrue, None, map};
 ghost use Rattle.sf_asm.specs.Fault.{is_answered};
 ghost use Rattle.sf_plt.specs.Answers.{IsFirstPltLinked, IsPltLinked};
-ghost use Rattle.sf_link_c.specs.Inputs.{AreFit, object_in};
+ghost use Rattle.sf_link_c.specs.Inputs.{AreFit, object_of_input};
 ghost use Rattle.sf_link_c.specs.LinkingPlt as spec;
 
 use crate::answer::UNFIT;
@@ -20,8 +20,8 @@ use std::alloc::Global;
 // Makes the section of inputs that are fit, with their procedure linkage tables.
 fn link_inputs(alloc: Global, inputs: &[KiblawenInput<'_>], at: u64) -> Result<PltLinked, LinkFault>
     requires { AreFit inputs.now }
-    ensures linked { IfOk result (λ linked. IsPltLinked None (map object_in inputs.now) at linked.section.items linked.kept linked.omitted.items linked.plts.items) }
-    ensures fault { IfErr result (IsFirstPltLinked None (map object_in inputs.now) at) }
+    ensures linked { IfOk result (λ linked. IsPltLinked None (map object_of_input inputs.now) at linked.section.items linked.kept linked.omitted.items linked.plts.items) }
+    ensures fault { IfErr result (IsFirstPltLinked None (map object_of_input inputs.now) at) }
     ensures answered { IfErr result (λ fault. IsTrue (is_answered fault)) }
 {
     match inputs_of(alloc, inputs) {

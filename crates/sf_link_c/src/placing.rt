@@ -73,14 +73,14 @@ fn place_shown(loading: &Loading<'_>) -> KiblawenPlaced
 
 // Returns that a file is refused.
 fn refused(fault: ElfFault) -> KiblawenPlaced
-    ensures { result ≡ spec.refused fault }
+    ensures { result ≡ spec.refused_file fault }
 {
     no_place(refusal_shown(&fault.notice(Some(0))))
 }
 
 // Returns the answer by what was read of a file, and what C has of it.
 fn placed(loading: Result<Loading<'_>, LoadFault>) -> (u32, KiblawenPlaced)
-    ensures { result ≡ spec.placed (loading_seen loading.entry) }
+    ensures { result ≡ spec.loading_answer (loading_seen loading.entry) }
 {
     match loading {
         Ok(loading) => (MADE, place_shown(&loading)),
@@ -91,7 +91,7 @@ fn placed(loading: Result<Loading<'_>, LoadFault>) -> (u32, KiblawenPlaced)
 
 // Returns the answer to a file, and what C has of it.
 fn place_of(bytes: &[u8], page: u64, mapping: &Mapping) -> (u32, KiblawenPlaced)
-    ensures { result ≡ spec.place_of bytes.now page mapping.now.start mapping.now.offset }
+    ensures { result ≡ spec.placing_answer bytes.now page mapping.now.start mapping.now.offset }
 {
     if is_fit(bytes, page) {
         placed(read_loading(bytes, page, mapping))
@@ -111,7 +111,7 @@ pub extern "C" fn kiblawen_place(
     offset: u64,
     place: &mut KiblawenPlaced,
 ) -> u32
-    ensures { (result, place.new) ≡ spec.place_of bytes.now page start offset }
+    ensures { (result, place.new) ≡ spec.placing_answer bytes.now page start offset }
 {
     let (answer, found) = place_of(bytes, page, &Mapping { start, offset });
     *place = found;

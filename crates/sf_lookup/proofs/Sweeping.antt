@@ -13,22 +13,22 @@ use Rattle.std.proofs.lemmas.List.{get_or_default, take_all}
 use Rattle.std.proofs.lemmas.List.Elements.{All-cons, All-contains, All-from_recursion, All-head, All-push, All-tail, All-weaker, Contains-append_left, Contains-append_right, Contains-push}
 use Rattle.std.proofs.lemmas.List.Sorted.{All-permutation, Contains-permutation}
 use Rattle.sf_lookup.specs.declared.span.Span.{Span}
-use Rattle.sf_lookup.specs.Begins.{AreByStart, start_of}
+use Rattle.sf_lookup.specs.Begins.{AreByStart, span_start}
 use Rattle.sf_lookup.specs.Span.{answer_of, covers}
 use Rattle.sf_lookup.specs.Sweep.{HasBegun, IsAtPoint, IsKept, last_first}
 use Rattle.sf_lookup.proofs.Covering.{covered}
 use Rattle.sf_lookup.proofs.Numbered.{first_passes, none_passes}
 
 -- ---- where spans begin
-pub start_is : {A : Type 0} (spans : List (Span A)) (k : ℕ) (d : Span A) → k < length spans → (get_or spans k d).start ≡ start_of spans k
+pub start_is : {A : Type 0} (spans : List (Span A)) (k : ℕ) (d : Span A) → k < length spans → (get_or spans k d).start ≡ span_start spans k
 start_is [] k d lt = absurd (omega (lt, arith))
 start_is (s ∷ spans) zero d lt = refl
 start_is (s ∷ spans) (suc k) d lt = start_is spans k d (omega (lt, arith))
 
-pub start_got : {A : Type 0} (spans : List (Span A)) (k : ℕ) (s : Span A) → k < length spans → s ≡ get_or spans k s → s.start ≡ start_of spans k
+pub start_got : {A : Type 0} (spans : List (Span A)) (k : ℕ) (s : Span A) → k < length spans → s ≡ get_or spans k s → s.start ≡ span_start spans k
 start_got spans k s lt is = ap (λ (x : Span _). x.start) is ∙ start_is spans k s lt
 
-pub start_past : {A : Type 0} (spans : List (Span A)) (k : ℕ) → length spans ≤ k → 0 ≡ start_of spans k
+pub start_past : {A : Type 0} (spans : List (Span A)) (k : ℕ) → length spans ≤ k → 0 ≡ span_start spans k
 start_past [] k le = refl
 start_past (x ∷ spans) zero le = absurd (omega (le, arith))
 start_past (x ∷ spans) (suc k) le = start_past spans k (omega (le, arith))
@@ -51,7 +51,7 @@ one_number n numbers new grown h = subst (AreNumbers (n + 1)) (sym grown) (recor
     upto k (inl before) within = Contains-append_left numbers (n ∷ []) k (h.all k before)
     upto k (inr from) within = let here : n ≡ k = omega (from, within, arith) in subst (Contains (numbers ++ n ∷ [])) here (Contains-push numbers n)
 
-pub put_in_order : {A : Type 0} (spans : List (Span A)) (n : ℕ) (numbers new : List ℕ) → n ≡ length spans → AreNumbers n numbers → IsPermutation numbers new → IsNonDecreasingBy (start_of spans) new → AreByStart spans new
+pub put_in_order : {A : Type 0} (spans : List (Span A)) (n : ℕ) (numbers new : List ℕ) → n ≡ length spans → AreNumbers n numbers → IsPermutation numbers new → IsNonDecreasingBy (span_start spans) new → AreByStart spans new
 put_in_order spans n numbers new all h moved rise = record {
   rise = rise;
   each = All-weaker (λ (k : ℕ). k < n) (λ (k : ℕ). k < length spans) (λ k lt. omega (lt, all, arith)) new (All-permutation (λ (k : ℕ). k < n) numbers new moved h.each);
@@ -69,14 +69,14 @@ in_more x y xs c = Contains-append_right (y ∷ []) xs x c
 rise_after : (start : ℕ → ℕ) (k : ℕ) (later : List ℕ) → IsNonDecreasingBy start (k ∷ later) → IsNonDecreasingBy start later
 rise_after start k later rise = λ i j d le lt. rise (suc i) (suc j) d (omega (le, arith)) (omega (lt, arith))
 
-pub one_waits : {A : Type 0} (spans : List (Span A)) (point : ℕ) (begun new : List (Reverse ℕ)) (n : ℕ) (later : List ℕ) → start_of spans n ≤ point → IsPermutation (record { 0 = n } ∷ begun) new → (IsHeap last_first begun → IsHeap last_first new)
+pub one_waits : {A : Type 0} (spans : List (Span A)) (point : ℕ) (begun new : List (Reverse ℕ)) (n : ℕ) (later : List ℕ) → span_start spans n ≤ point → IsPermutation (record { 0 = n } ∷ begun) new → (IsHeap last_first begun → IsHeap last_first new)
     → IsAtPoint spans point begun (n ∷ later) → IsAtPoint spans point new later
 one_waits {A} spans point begun new n later le moved heap h = record {
   order = heap h.order;
   by =
       All-permutation (HasBegun spans point) (this ∷ begun) new moved
       (All-cons (HasBegun spans point) this begun (record { within = All-head (λ (k : ℕ). k < length spans) n later h.each; by = le }) h.by);
-  rise = rise_after (start_of spans) n later h.rise;
+  rise = rise_after (span_start spans) n later h.rise;
   each = All-tail (λ (k : ℕ). k < length spans) n later h.each;
   kept = λ k d lt. still k d (h.kept k d lt);
 }
@@ -94,16 +94,16 @@ one_waits {A} spans point begun new n later le moved heap h = record {
     still k d (inr (inr ended)) = inr (inr ended)
 
 -- one more span waits: the first of a list
-pub first_waits : {A : Type 0} (spans : List (Span A)) (point : ℕ) (begun new : List (Reverse ℕ)) (later : List ℕ) (d : ℕ) → 1 ≤ length later → start_of spans (get_or later 0 d) ≤ point
+pub first_waits : {A : Type 0} (spans : List (Span A)) (point : ℕ) (begun new : List (Reverse ℕ)) (later : List ℕ) (d : ℕ) → 1 ≤ length later → span_start spans (get_or later 0 d) ≤ point
     → IsPermutation (record { 0 = get_or later 0 d } ∷ begun) new → (IsHeap last_first begun → IsHeap last_first new) → IsAtPoint spans point begun later → IsAtPoint spans point new (take (length later - 1) (drop 1 later))
 first_waits spans point begun new [] d some le moved heap h = absurd (omega (some, arith))
 first_waits spans point begun new (n ∷ later) d some le moved heap h = subst (IsAtPoint spans point new) (sym (take_all (length (n ∷ later) - 1) later (omega arith))) (one_waits spans point begun new n later le moved heap h)
 
 -- where the first of the others begins after the point, all do
-pub others_later : {A : Type 0} (spans : List (Span A)) (point : ℕ) (later : List ℕ) (d : ℕ) → point < start_of spans (get_or later 0 d) → IsNonDecreasingBy (start_of spans) later → All (λ (k : ℕ). point < start_of spans k) later
+pub others_later : {A : Type 0} (spans : List (Span A)) (point : ℕ) (later : List ℕ) (d : ℕ) → point < span_start spans (get_or later 0 d) → IsNonDecreasingBy (span_start spans) later → All (λ (k : ℕ). point < span_start spans k) later
 others_later spans point later d lt rise = λ k e within.
     let up = rise 0 k d (omega arith) within in
-    let same = ap (start_of spans) (get_or_default later k d e within) in
+    let same = ap (span_start spans) (get_or_default later k d e within) in
     omega (lt, up, same, arith)
 
 -- ---- a span that has ended waits no longer
@@ -166,10 +166,10 @@ ends_before s point le = ap (λ (b : Bool). nat_le s.start point && b) (le-ltb p
     and_false false = refl
 
 -- a span that does not wait doesn't have the point
-absent : {A : Type 0} (spans : List (Span A)) (point : ℕ) (later : List ℕ) (k : ℕ) (d : Span A) → k < length spans → All (λ (k : ℕ). point < start_of spans k) later
+absent : {A : Type 0} (spans : List (Span A)) (point : ℕ) (later : List ℕ) (k : ℕ) (d : Span A) → k < length spans → All (λ (k : ℕ). point < span_start spans k) later
     → Contains later k ⊎ ((get_or spans k d).start + (get_or spans k d).size ≤ point) → covers point (get_or spans k d) ≡ false
 absent spans point later k d within after (inl c) =
-    begins_after (get_or spans k d) point (omega (All-contains (λ (n : ℕ). point < start_of spans n) later k after c, start_is spans k d within, arith))
+    begins_after (get_or spans k d) point (omega (All-contains (λ (n : ℕ). point < span_start spans n) later k after c, start_is spans k d within, arith))
 absent spans point later k d within after (inr le) = ends_before (get_or spans k d) point le
 
 not_before : (k n : ℕ) → is_lt (nat_cmp k n) ≡ false → k < n → ⊥
@@ -177,7 +177,7 @@ not_before k n h lt =
     let less : is_lt (nat_cmp k n) ≡ true = ap (λ (b : Bool). is_lt (cond b Less (cond (k == n) Equal Greater))) (lt-ltb k n lt) in
     let differ : false ≡ true = sym h ∙ less in cc
 
-pub top_decides : {A : Type 0} (spans : List (Span A)) (point : ℕ) (begun : List (Reverse ℕ)) (later : List ℕ) (top : Reverse ℕ) (s : Span A) → IsAtPoint spans point begun later → All (λ (k : ℕ). point < start_of spans k) later
+pub top_decides : {A : Type 0} (spans : List (Span A)) (point : ℕ) (begun : List (Reverse ℕ)) (later : List ℕ) (top : Reverse ℕ) (s : Span A) → IsAtPoint spans point begun later → All (λ (k : ℕ). point < span_start spans k) later
     → (IsHeap last_first begun → IsUpperBound last_first top begun) → top.0 < length spans → covers point (get_or spans top.0 s) ≡ true → Some (get_or spans top.0 s).leads_to ≡ answer_of spans point
 top_decides {A} spans point begun later top s h after greatest within has =
     sym (ap (option_map (λ (x : Span _). x.leads_to)) (first_passes (covers point) spans top.0 s within fails has))
@@ -192,7 +192,7 @@ top_decides {A} spans point begun later top s h after greatest within has =
     fails : (k : ℕ) (d : Span A) → k < top.0 → covers point (get_or spans k d) ≡ false
     fails k d before = let lt : k < length spans = omega (before, within, arith) in earlier k d before lt (h.kept k d lt)
 
-pub none_waits : {A : Type 0} (spans : List (Span A)) (point : ℕ) (begun : List (Reverse ℕ)) (later : List ℕ) → IsAtPoint spans point begun later → All (λ (k : ℕ). point < start_of spans k) later → length begun ≡ 0 → None ≡ answer_of spans point
+pub none_waits : {A : Type 0} (spans : List (Span A)) (point : ℕ) (begun : List (Reverse ℕ)) (later : List ℕ) → IsAtPoint spans point begun later → All (λ (k : ℕ). point < span_start spans k) later → length begun ≡ 0 → None ≡ answer_of spans point
 none_waits {A} spans point begun later h after none = sym (ap (option_map (λ (x : Span _). x.leads_to)) (none_passes (covers point) spans (λ k d lt. fails k d lt (h.kept k d lt))))
   where
     fails : (k : ℕ) (d : Span A) → k < length spans → IsKept spans point begun later k d → covers point (get_or spans k d) ≡ false

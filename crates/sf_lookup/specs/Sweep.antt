@@ -8,12 +8,12 @@ use Rattle.std.specs.declared.cmp.Ordering.{Ordering}
 use Rattle.std.specs.declared.cmp.Reverse.{Reverse}
 use Rattle.sf_lookup.specs.declared.span.Span.{Span}
 use Rattle.sf_lookup.specs.declared.sweep.Sweep.{Sweep}
-use Rattle.sf_lookup.specs.Begins.{start_of}
+use Rattle.sf_lookup.specs.Begins.{span_start}
 
 -- a span of the list that begins by the point
 pub record HasBegun {A : Type 0} (spans : List (Span A)) (point : ℕ) (r : Reverse ℕ) : Type 0 where
   pub within : r.0 < length spans
-  pub by : start_of spans r.0 ≤ point
+  pub by : span_start spans r.0 ≤ point
 
 -- the span with a number waits, begins later, or has ended by the point
 abbrev pub IsKept : {A : Type 0} → List (Span A) → (point : ℕ) → List (Reverse ℕ) → List ℕ → (k : ℕ) → (d : Span A) → Type 0
@@ -30,7 +30,7 @@ last_first x y = nat_cmp y.0 x.0
 pub record IsAtPoint {A : Type 0} (spans : List (Span A)) (point : ℕ) (begun : List (Reverse ℕ)) (later : List ℕ) : Type 0 where
   pub order : IsHeap last_first begun
   pub by : All (HasBegun spans point) begun
-  pub rise : IsNonDecreasingBy (start_of spans) later
+  pub rise : IsNonDecreasingBy (span_start spans) later
   pub each : All (λ (k : ℕ). k < length spans) later
   pub kept : (k : ℕ) (d : Span A) → k < length spans → IsKept spans point begun later k d
 
@@ -40,4 +40,4 @@ IsAt point sweep = IsAtPoint sweep.spans.now point (heap_items sweep.begun) swee
 
 -- all spans that have not begun begin after the point
 abbrev pub AllLater : {A : Type 0} → (point : ℕ) → Sweep A → Type 0
-AllLater point sweep = All (λ (k : ℕ). point < start_of sweep.spans.now k) sweep.later.now
+AllLater point sweep = All (λ (k : ℕ). point < span_start sweep.spans.now k) sweep.later.now

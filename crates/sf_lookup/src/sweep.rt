@@ -1,7 +1,7 @@
 //! A scan of spans from the least address up.
 
 ghost use Rattle.std.specs.Prelude.{◌≡◌, IfOk};
-ghost use Rattle.sf_lookup.specs.Begins.{AreByStart, start_of};
+ghost use Rattle.sf_lookup.specs.Begins.{AreByStart, span_start};
 
 use crate::span::{Span, covers};
 use std::alloc::{AllocError, Global};
@@ -9,8 +9,8 @@ use std::cmp::Reverse;
 use std::collections::BinaryHeap;
 
 /// Returns where the span with a number begins, 0 for a number past the last.
-fn start_of<A>(spans: &[Span<A>], number: u32) -> u64
-    ensures { result ≡ start_of spans.now number }
+fn span_start<A>(spans: &[Span<A>], number: u32) -> u64
+    ensures { result ≡ span_start spans.now number }
 {
     match spans.get(number as usize) {
         Some(span) => span.start,
@@ -31,7 +31,7 @@ pub fn numbers_of<A>(alloc: Global, spans: &[Span<A>]) -> Result<Vec<u32>, Alloc
     for number in 0..count {
         numbers.push(number)?;
     }
-    numbers.sort_unstable_by_key(|number| start_of(spans, *number));
+    numbers.sort_unstable_by_key(|number| span_start(spans, *number));
     Ok(numbers)
 }
 
@@ -74,7 +74,7 @@ impl<'a, A: Copy> Sweep<'a, A> {
         ensures spans { self.new.spans.now ≡ self.old.spans.now }
     {
         while let [number, later @ ..] = self.later {
-            if start_of(self.spans, *number) > point {
+            if span_start(self.spans, *number) > point {
                 return Ok(());
             }
             self.begun.push(Reverse(*number))?;

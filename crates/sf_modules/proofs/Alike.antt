@@ -8,8 +8,8 @@ use Rattle.std.proofs.lemmas.List.{drop-drop, drop_all, drop_more, length-drop, 
 use Rattle.std.proofs.lemmas.Slice.Eq.{bytes_eq-Decides}
 use Rattle.sf_modules.specs.declared.entry.Entry.{Entry}
 use Rattle.sf_modules.specs.Candidates.{alike, candidates, ends_in, last_parts, next_same}
-use Rattle.sf_modules.specs.Entry.{EntryView, entry_view}
-use Rattle.sf_modules.specs.Fit.{fits}
+use Rattle.sf_modules.specs.Entry.{EntryView, mapping_view}
+use Rattle.sf_modules.specs.Fit.{all_segments_fit}
 use Rattle.sf_modules.specs.Match.{longest_tail, matches, matches_too}
 use Rattle.sf_modules.specs.Name.{common_tail, last_part}
 use Rattle.sf_modules.specs.Process.{ProcessView}
@@ -22,13 +22,13 @@ use Rattle.sf_modules.proofs.Tails.{longest-cons}
 parts_count : (entries : List EntryView) → length (last_parts entries) ≡ length entries
 parts_count entries = length-map entries (λ (e : EntryView). last_part e.name)
 
-views_count : (entries : List Entry) → length (map entry_view entries) ≡ length entries
-views_count entries = length-map entries entry_view
+views_count : (entries : List Entry) → length (map mapping_view entries) ≡ length entries
+views_count entries = length-map entries mapping_view
 
-pub parts_of_entries : (entries : List Entry) → length (last_parts (map entry_view entries)) ≡ length entries
-parts_of_entries entries = parts_count (map entry_view entries) ∙ views_count entries
+pub parts_of_entries : (entries : List Entry) → length (last_parts (map mapping_view entries)) ≡ length entries
+parts_of_entries entries = parts_count (map mapping_view entries) ∙ views_count entries
 
-pub part_at : (entries : List Entry) (k : ℕ) (d : List ℕ) (e : Entry) → k < length entries → get_or (last_parts (map entry_view entries)) k d ≡ last_part (get_or entries k e).name.now
+pub part_at : (entries : List Entry) (k : ℕ) (d : List ℕ) (e : Entry) → k < length entries → get_or (last_parts (map mapping_view entries)) k d ≡ last_part (get_or entries k e).name.now
 part_at [] k d e lt = absurd (omega (lt, arith))
 part_at (x ∷ xs) zero d e lt = refl
 part_at (x ∷ xs) (suc k) d e lt = part_at xs k d e (omega (lt, arith))
@@ -78,8 +78,8 @@ length-next : (number : ℕ) (parts : List (List ℕ)) → length (next_same num
 length-next number [] = ap length (next-nil number)
 length-next number (part ∷ parts) = ap length (next-cons number part parts) ∙ ap suc (length-next (number + 1) parts)
 
-pub next_count : (entries : List Entry) → length (next_same 0 (last_parts (map entry_view entries))) ≡ length entries
-next_count entries = length-next 0 (last_parts (map entry_view entries)) ∙ parts_of_entries entries
+pub next_count : (entries : List Entry) → length (next_same 0 (last_parts (map mapping_view entries))) ≡ length entries
+next_count entries = length-next 0 (last_parts (map mapping_view entries)) ∙ parts_of_entries entries
 
 next_at : (number k : ℕ) (parts : List (List ℕ)) (d : Option ℕ) (p : List ℕ) → k < length parts
     → get_or (next_same number parts) k d ≡ position_from (bytes_eq (get_or parts k p)) (number + k + 1) (drop (k + 1) parts)
@@ -122,11 +122,11 @@ from_first part all number (e ∷ es) is = at_test (bytes_eq part (last_part e.n
     at_test false t later = later
 
 -- an entry, and those after it of its part
-pub goes_on : (all : List Entry) (at : ℕ) (e : Entry) (next : List (Option ℕ)) (d : Option ℕ) → at < length all → e ≡ get_or all at e → next ≡ next_same 0 (last_parts (map entry_view all))
-    → from_number (map entry_view all) (Some at) ≡ entry_view e ∷ from_number (map entry_view all) (get_or next at d)
+pub goes_on : (all : List Entry) (at : ℕ) (e : Entry) (next : List (Option ℕ)) (d : Option ℕ) → at < length all → e ≡ get_or all at e → next ≡ next_same 0 (last_parts (map mapping_view all))
+    → from_number (map mapping_view all) (Some at) ≡ mapping_view e ∷ from_number (map mapping_view all) (get_or next at d)
 goes_on all at e next d lt is are =
-    let views = map entry_view all in
-    let v = entry_view e in
+    let views = map mapping_view all in
+    let v = mapping_view e in
     let count = views_count all in
     let parts = parts_of_entries all in
     let own : get_or (last_parts views) at [] ≡ last_part v.name = part_at all at [] e lt ∙ ap (λ (x : Entry). last_part x.name.now) (sym is) in
@@ -141,22 +141,22 @@ goes_on all at e next d lt is are =
     ap alike here ∙ alike-cons v (drop (at + 1) views)
     ∙ ap (λ (es : List EntryView). v ∷ es) (sym (ap (from_number views) later ∙ from_first (last_part v.name) views (at + 1) (drop (at + 1) views) refl))
   where
-    drop-views : (i : ℕ) (entries : List Entry) → drop i (map entry_view entries) ≡ map entry_view (drop i entries)
+    drop-views : (i : ℕ) (entries : List Entry) → drop i (map mapping_view entries) ≡ map mapping_view (drop i entries)
     drop-views zero entries = refl
     drop-views (suc i) [] = refl
     drop-views (suc i) (x ∷ xs) = drop-views i xs
 
-    view_at : (all : List Entry) (at : ℕ) (e : Entry) → at < length all → e ≡ get_or all at e → drop at (map entry_view all) ≡ entry_view e ∷ drop (at + 1) (map entry_view all)
-    view_at all at e lt is = drop-views at all ∙ ap (map entry_view) (drop_more all at e lt ∙ ap (λ (x : Entry). x ∷ drop (at + 1) all) (sym is)) ∙ ap (λ (es : List EntryView). entry_view e ∷ es) (sym (drop-views (at + 1) all))
+    view_at : (all : List Entry) (at : ℕ) (e : Entry) → at < length all → e ≡ get_or all at e → drop at (map mapping_view all) ≡ mapping_view e ∷ drop (at + 1) (map mapping_view all)
+    view_at all at e lt is = drop-views at all ∙ ap (map mapping_view) (drop_more all at e lt ∙ ap (λ (x : Entry). x ∷ drop (at + 1) all) (sym is)) ∙ ap (λ (es : List EntryView). mapping_view e ∷ es) (sym (drop-views (at + 1) all))
 
 -- from the first of a word's last part on come its candidates
 pub from_word : (word : List ℕ) (entries : List EntryView) (at : Option ℕ) → at ≡ position_from (bytes_eq (last_part word)) 0 (last_parts entries) → from_number entries at ≡ candidates word entries
 from_word word entries at is = ap (from_number entries) is ∙ from_first (last_part word) entries 0 entries refl
 
 -- a number that leads on is that of an entry
-pub leads_within : (all : List Entry) (at k : ℕ) (next : List (Option ℕ)) (d : Option ℕ) → at < length all → next ≡ next_same 0 (last_parts (map entry_view all)) → get_or next at d ≡ Some k → k < length all
+pub leads_within : (all : List Entry) (at k : ℕ) (next : List (Option ℕ)) (d : Option ℕ) → at < length all → next ≡ next_same 0 (last_parts (map mapping_view all)) → get_or next at d ≡ Some k → k < length all
 leads_within all at k next d lt are e =
-    let views = map entry_view all in
+    let views = map mapping_view all in
     let count = views_count all in
     let parts = parts_of_entries all in
     let rest = drop (at + 1) (last_parts views) in
@@ -168,9 +168,9 @@ leads_within all at k next d lt are e =
     let short = length-drop (at + 1) (last_parts views) in
     omega (from, within, short, parts, arith)
 
-pub first_within : (word : List ℕ) (all : List Entry) (k : ℕ) → position_from (bytes_eq (last_part word)) 0 (last_parts (map entry_view all)) ≡ Some k → k < length all
+pub first_within : (word : List ℕ) (all : List Entry) (k : ℕ) → position_from (bytes_eq (last_part word)) 0 (last_parts (map mapping_view all)) ≡ Some k → k < length all
 first_within word all k e =
-    let h = first_is (bytes_eq (last_part word)) 0 k (last_parts (map entry_view all)) e in
+    let h = first_is (bytes_eq (last_part word)) 0 k (last_parts (map mapping_view all)) e in
     let within = h.within in
     let parts = parts_of_entries all in
     omega (within, parts, arith)
@@ -209,9 +209,9 @@ no_tail word tail e some t = ap (λ (n : ℕ). n == tail) (other_last word e.nam
 
 pub match_among : (p : ProcessView) (word file : List ℕ) (load tail : ℕ) (entries : List EntryView) → (tail ≡ 0 → ⊥) → find (matches p word file load tail) (candidates word entries) ≡ find (matches p word file load tail) entries
 match_among p word file load tail entries some =
-    find_among (matches p word file load tail) (ends_in (last_part word)) (λ e t. ap (λ (b : Bool). b && fits p file load e) (no_tail word tail e some t)) entries
+    find_among (matches p word file load tail) (ends_in (last_part word)) (λ e t. ap (λ (b : Bool). b && all_segments_fit p file load e) (no_tail word tail e some t)) entries
 
 pub others_among : (p : ProcessView) (word file : List ℕ) (load tail : ℕ) (found : EntryView) (entries : List EntryView) → (tail ≡ 0 → ⊥)
     → list_any (matches_too p word file load tail found) (candidates word entries) ≡ list_any (matches_too p word file load tail found) entries
 others_among p word file load tail found entries some =
-    any_among (matches_too p word file load tail found) (ends_in (last_part word)) (λ e t. ap (λ (b : Bool). b && not (bytes_eq e.name found.name) && fits p file load e) (no_tail word tail e some t)) entries
+    any_among (matches_too p word file load tail found) (ends_in (last_part word)) (λ e t. ap (λ (b : Bool). b && not (bytes_eq e.name found.name) && all_segments_fit p file load e) (no_tail word tail e some t)) entries

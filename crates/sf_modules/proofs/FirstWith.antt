@@ -8,10 +8,10 @@ use Rattle.std.proofs.lemmas.List.{map-append, take_more}
 use Rattle.std.proofs.lemmas.Slice.Eq.{bytes_eq-Decides}
 use Rattle.sf_lookup.specs.declared.span.Span.{Span}
 use Rattle.sf_modules.specs.declared.entry.Entry.{Entry}
-use Rattle.sf_modules.specs.Entry.{entry_view}
+use Rattle.sf_modules.specs.Entry.{mapping_view}
 use Rattle.sf_modules.specs.Module.{ModuleView}
 use Rattle.sf_modules.specs.Name.{name_number}
-use Rattle.sf_modules.specs.Span.{number_of, span_of}
+use Rattle.sf_modules.specs.Span.{number_of, entry_span}
 
 -- the first that passes, with one more at the end
 position_more : {X : Type 0} (p : X → Bool) (first : ℕ) (old : List X) (x : X) → position_from p first (old ++ x ∷ []) ≡ option_or (position_from p first old) (cond (p x) (Some (first + length old)) None)
@@ -87,11 +87,11 @@ of_modules name first (m ∷ ms) = ap (λ (o : Option ℕ). cond (bytes_eq name 
 -- one span more
 pub spans_more : (modules : List ModuleView) (entries : List Entry) (i : ℕ) (d : Entry) (spans new : List (Span (Option ℕ))) (size : ℕ) (number : Option ℕ) → i < length entries
     → new ≡ spans ++ record { start = (get_or entries i d).start; size = size; leads_to = number } ∷ [] → size ≡ (get_or entries i d).end - (get_or entries i d).start
-    → number ≡ number_of (get_or entries i d).name.now modules → spans ≡ map (span_of modules) (map entry_view (take i entries)) → new ≡ map (span_of modules) (map entry_view (take (i + 1) entries))
+    → number ≡ number_of (get_or entries i d).name.now modules → spans ≡ map (entry_span modules) (map mapping_view (take i entries)) → new ≡ map (entry_span modules) (map mapping_view (take (i + 1) entries))
 spans_more modules entries i d spans new size number lt grown sized leads h =
     let e = get_or entries i d in
     grown ∙ ap (λ (ss : List (Span (Option ℕ))). ss ++ record { start = e.start; size = size; leads_to = number } ∷ []) h
-    ∙ ap (λ (n : ℕ). map (span_of modules) (map entry_view (take i entries)) ++ record { start = e.start; size = n; leads_to = number } ∷ []) sized
-    ∙ ap (λ (o : Option ℕ). map (span_of modules) (map entry_view (take i entries)) ++ record { start = e.start; size = e.end - e.start; leads_to = o } ∷ []) leads
-    ∙ sym (map-append (span_of modules) (map entry_view (take i entries)) (entry_view e ∷ []))
-    ∙ ap (map (span_of modules)) (sym (ap (map entry_view) (take_more entries i d lt) ∙ map-append entry_view (take i entries) (e ∷ [])))
+    ∙ ap (λ (n : ℕ). map (entry_span modules) (map mapping_view (take i entries)) ++ record { start = e.start; size = n; leads_to = number } ∷ []) sized
+    ∙ ap (λ (o : Option ℕ). map (entry_span modules) (map mapping_view (take i entries)) ++ record { start = e.start; size = e.end - e.start; leads_to = o } ∷ []) leads
+    ∙ sym (map-append (entry_span modules) (map mapping_view (take i entries)) (mapping_view e ∷ []))
+    ∙ ap (map (entry_span modules)) (sym (ap (map mapping_view) (take_more entries i d lt) ∙ map-append mapping_view (take i entries) (e ∷ [])))

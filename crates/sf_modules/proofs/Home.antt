@@ -9,7 +9,7 @@ use Rattle.sf_model.specs.Lookup.{FoundRow, contains, found_at}
 use Rattle.sf_model.specs.Table.{Table}
 use Rattle.sf_model.specs.Union.{IsUnion}
 use Rattle.sf_model.proofs.Unions.{Member, answered, contained, found, found_by, unanswered}
-use Rattle.sf_modules.specs.Entry.{EntryView, holds}
+use Rattle.sf_modules.specs.Entry.{EntryView, entry_contains}
 use Rattle.sf_modules.specs.Found.{found_in, module_at, module_of}
 use Rattle.sf_modules.specs.Module.{ModuleView}
 use Rattle.sf_modules.specs.Union.{LeadsHome, tables_of}
@@ -40,7 +40,7 @@ has_function functions pc r e = at_found (find (contains pc) functions) refl
 -- a module to which an address leads is one of them
 module_there : (entries : List EntryView) (modules : List ModuleView) (pc : ℕ) (m : ModuleView) → module_at entries modules pc ≡ Some m → Member modules m
 unfolding module_at
-module_there entries modules pc m e = at_entry (find (holds pc) entries) e
+module_there entries modules pc m e = at_entry (find (entry_contains pc) entries) e
   where
     at_entry : (o : Option EntryView) → option_and_then (λ (x : EntryView). module_of modules x.name) o ≡ Some m → Member modules m
     at_entry None e = let no : None ≡ Some m = e in cc

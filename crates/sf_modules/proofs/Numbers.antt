@@ -9,10 +9,10 @@ use Rattle.sf_model.specs.Lookup.{found_at}
 use Rattle.sf_model.specs.Table.{Table}
 use Rattle.sf_lookup.specs.declared.span.Span.{Span}
 use Rattle.sf_lookup.specs.Span.{answer_of, covers}
-use Rattle.sf_modules.specs.Entry.{EntryView, holds}
+use Rattle.sf_modules.specs.Entry.{EntryView, entry_contains}
 use Rattle.sf_modules.specs.Found.{found_in, module_at, module_of}
 use Rattle.sf_modules.specs.Module.{ModuleView}
-use Rattle.sf_modules.specs.Span.{module_number_at, number_of, span_of}
+use Rattle.sf_modules.specs.Span.{module_number_at, number_of, entry_span}
 use Rattle.sf_modules.specs.Union.{tables_of}
 
 -- ---- an entry's span has its addresses
@@ -23,7 +23,7 @@ same_end start end pc from =
       | inr after ↦ le-ltb pc (start + (end - start)) (omega (from, after, arith)) ∙ sym (le-ltb pc end after)
     ]
 
-same_holds : (modules : List ModuleView) (e : EntryView) (pc : ℕ) → covers pc (span_of modules e) ≡ holds pc e
+same_holds : (modules : List ModuleView) (e : EntryView) (pc : ℕ) → covers pc (entry_span modules e) ≡ entry_contains pc e
 same_holds modules e pc = at_test (nat_le e.start pc) refl
   where
     at_test : (b : Bool) → nat_le e.start pc ≡ b → (b && nat_lt pc (e.start + (e.end - e.start))) ≡ (b && nat_lt pc e.end)
@@ -31,13 +31,13 @@ same_holds modules e pc = at_test (nat_le e.start pc) refl
     at_test false t = refl
 
 -- what the first span leads to
-pub led : (modules : List ModuleView) (entries : List EntryView) (pc : ℕ) → option_and_then (λ (o : Option ℕ). o) (answer_of (map (span_of modules) entries) pc) ≡ module_number_at entries modules pc
+pub led : (modules : List ModuleView) (entries : List EntryView) (pc : ℕ) → option_and_then (λ (o : Option ℕ). o) (answer_of (map (entry_span modules) entries) pc) ≡ module_number_at entries modules pc
 led modules [] pc = refl
-led modules (e ∷ es) pc = at_test (covers pc (span_of modules e)) (holds pc e) (same_holds modules e pc) (led modules es pc)
+led modules (e ∷ es) pc = at_test (covers pc (entry_span modules e)) (entry_contains pc e) (same_holds modules e pc) (led modules es pc)
   where
-    at_test : (a b : Bool) → a ≡ b → option_and_then (λ (o : Option ℕ). o) (answer_of (map (span_of modules) es) pc) ≡ module_number_at es modules pc
-        → option_and_then (λ (o : Option ℕ). o) (option_map (λ (s : Span (Option ℕ)). s.leads_to) (cond a (Some (span_of modules e)) (find (covers pc) (map (span_of modules) es))))
-        ≡ option_and_then (λ (x : EntryView). number_of x.name modules) (cond b (Some e) (find (holds pc) es))
+    at_test : (a b : Bool) → a ≡ b → option_and_then (λ (o : Option ℕ). o) (answer_of (map (entry_span modules) es) pc) ≡ module_number_at es modules pc
+        → option_and_then (λ (o : Option ℕ). o) (option_map (λ (s : Span (Option ℕ)). s.leads_to) (cond a (Some (entry_span modules e)) (find (covers pc) (map (entry_span modules) es))))
+        ≡ option_and_then (λ (x : EntryView). number_of x.name modules) (cond b (Some e) (find (entry_contains pc) es))
     at_test true true same later = refl
     at_test false false same later = later
     at_test true false same later = absurd (cc)
@@ -98,7 +98,7 @@ numbered_by modules k (Some entry) e =
 
 pub numbered : (entries : List EntryView) (modules : List ModuleView) (pc k : ℕ) → module_number_at entries modules pc ≡ Some k → IsNumbered entries modules pc k
 unfolding module_at
-numbered entries modules pc k e = let h = numbered_by modules k (find (holds pc) entries) e in record { within = h.0; is = h.1 }
+numbered entries modules pc k e = let h = numbered_by modules k (find (entry_contains pc) entries) e in record { within = h.0; is = h.1 }
 
 unnumbered_by : (modules : List ModuleView) (o : Option EntryView) → option_and_then (λ (e : EntryView). number_of e.name modules) o ≡ None
     → option_and_then (λ (e : EntryView). module_of modules e.name) o ≡ None
@@ -107,7 +107,7 @@ unnumbered_by modules (Some entry) e = none_passes (λ (m : ModuleView). bytes_e
 
 unnumbered : (entries : List EntryView) (modules : List ModuleView) (pc : ℕ) → module_number_at entries modules pc ≡ None → module_at entries modules pc ≡ None
 unfolding module_at
-unnumbered entries modules pc e = unnumbered_by modules (find (holds pc) entries) e
+unnumbered entries modules pc e = unnumbered_by modules (find (entry_contains pc) entries) e
 
 -- the table of a module's number
 table_at : (modules : List ModuleView) (k : ℕ) (m : ModuleView) (t : Table) → k < length modules → get_or (tables_of modules) k t ≡ (get_or modules k m).table

@@ -9,7 +9,7 @@ use Rattle.sf_modules.specs.declared.fault.ModuleFault.TheVariants.{NotMapped, A
 use Rattle.sf_modules.specs.Build.{is_same_build}
 use Rattle.sf_modules.specs.Entry.{EntryView}
 use Rattle.sf_modules.specs.Fault.{Check}
-use Rattle.sf_modules.specs.Match.{entry_of, is_ambiguous, is_candidate, longest_tail, matches, matches_too}
+use Rattle.sf_modules.specs.Match.{matching_entry, is_ambiguous, is_candidate, longest_tail, matches, matches_too}
 use Rattle.sf_modules.specs.Module.{file_base}
 use Rattle.sf_modules.specs.Process.{ProcessView}
 use Rattle.sf_modules.specs.Reading.{build_part, match_part, nearest_part}
@@ -17,7 +17,7 @@ use Rattle.sf_modules.specs.Reading.{build_part, match_part, nearest_part}
 -- ---- how a file's entry is found
 pub no_candidate : (p : ProcessView) (word file : List ℕ) (load tail : ℕ) → tail ≡ longest_tail word p.entries → tail ≡ 0 → Err NotMapped ≡ nearest_part p word file load
 unfolding nearest_part
-no_candidate p word file load tail is zero = ap (λ (n : ℕ). unless (nat_lt 0 n) NotMapped >> match_part p word file load (entry_of p word file load)) (sym zero ∙ is)
+no_candidate p word file load tail is zero = ap (λ (n : ℕ). unless (nat_lt 0 n) NotMapped >> match_part p word file load (matching_entry p word file load)) (sym zero ∙ is)
 
 pub by_match : (p : ProcessView) (word file : List ℕ) (load tail : ℕ) (o : Option EntryView) → tail ≡ longest_tail word p.entries → (tail ≡ 0 → ⊥) → o ≡ find (matches p word file load tail) p.entries
     → match_part p word file load o ≡ nearest_part p word file load
@@ -26,7 +26,7 @@ by_match p word file load tail o is some found =
     let more : 0 < tail = omega (some, arith) in
     let candidate : nat_lt 0 (longest_tail word p.entries) ≡ true = ap (nat_lt 0) (sym is) ∙ lt-ltb 0 tail more in
     ap (match_part p word file load) (found ∙ ap (λ (n : ℕ). find (matches p word file load n) p.entries) is)
-    ∙ ap (λ (b : Bool). unless b NotMapped >> match_part p word file load (entry_of p word file load)) (sym candidate)
+    ∙ ap (λ (b : Bool). unless b NotMapped >> match_part p word file load (matching_entry p word file load)) (sym candidate)
 
 -- whether it fits at another name too
 pub by_others : (p : ProcessView) (word file : List ℕ) (load tail : ℕ) (e : EntryView) (b : Bool) → tail ≡ longest_tail word p.entries → b ≡ list_any (matches_too p word file load tail e) p.entries
@@ -51,10 +51,10 @@ pub record IsPlaced (p : ProcessView) (word file : List ℕ) (load : ℕ) (e : E
   pub named : is_candidate word p.entries ≡ true
   pub alone : is_ambiguous p word file load e ≡ false
 
-pub nearest_fine : (p : ProcessView) (word file : List ℕ) (load : ℕ) (e : EntryView) → nearest_part p word file load ≡ Ok tt → entry_of p word file load ≡ Some e → IsPlaced p word file load e
+pub nearest_fine : (p : ProcessView) (word file : List ℕ) (load : ℕ) (e : EntryView) → nearest_part p word file load ≡ Ok tt → matching_entry p word file load ≡ Some e → IsPlaced p word file load e
 unfolding nearest_part
 nearest_fine p word file load e fine is =
-    let both = both_fine (unless (is_candidate word p.entries) NotMapped) (match_part p word file load (entry_of p word file load)) fine in
+    let both = both_fine (unless (is_candidate word p.entries) NotMapped) (match_part p word file load (matching_entry p word file load)) fine in
     let alone : unless (not (is_ambiguous p word file load e)) Ambiguous ≡ Ok tt = ap (match_part p word file load) (sym is) ∙ both.1 in
     record {
       named = passes (is_candidate word p.entries) NotMapped both.0;

@@ -9,7 +9,7 @@ use Rattle.std.proofs.lemmas.List.Folds.{list_any-append}
 use Rattle.std.proofs.lemmas.Slice.Eq.{bytes_eq-Decides}
 use Rattle.sf_modules.specs.declared.entry.Entry.{Entry}
 use Rattle.sf_modules.specs.declared.stretch.Stretch.{Stretch}
-use Rattle.sf_modules.specs.Entry.{EntryView, entry_view, maps}
+use Rattle.sf_modules.specs.Entry.{EntryView, mapping_view, maps}
 use Rattle.sf_modules.specs.Name.{name_number}
 use Rattle.sf_modules.specs.Stretch.{AreOf, ends_after, has_at, has_place, has_point, names_in, start_point}
 use Rattle.sf_modules.proofs.Lines.{both, same_test}
@@ -70,18 +70,18 @@ has_number names k d lt e =
     let no : false ≡ true = sym (none_passes (bytes_eq own) 0 names e k d lt) ∙ equal_bytes own own refl in cc
 
 -- an entry's name does
-name_at : (entries : List Entry) (k : ℕ) (d : List ℕ) (e : Entry) → k < length entries → get_or (names_in (map entry_view entries)) k d ≡ (get_or entries k e).name.now
+name_at : (entries : List Entry) (k : ℕ) (d : List ℕ) (e : Entry) → k < length entries → get_or (names_in (map mapping_view entries)) k d ≡ (get_or entries k e).name.now
 name_at [] k d e lt = absurd (omega (lt, arith))
 name_at (x ∷ xs) zero d e lt = refl
 name_at (x ∷ xs) (suc k) d e lt = name_at xs k d e (omega (lt, arith))
 
-names_count : (entries : List Entry) → length (names_in (map entry_view entries)) ≡ length entries
+names_count : (entries : List Entry) → length (names_in (map mapping_view entries)) ≡ length entries
 names_count [] = refl
 names_count (x ∷ xs) = ap suc (names_count xs)
 
-pub entry_has_number : (entries : List Entry) (k : ℕ) (e : Entry) → k < length entries → name_number (get_or entries k e).name.now (names_in (map entry_view entries)) ≡ None → ⊥
+pub entry_has_number : (entries : List Entry) (k : ℕ) (e : Entry) → k < length entries → name_number (get_or entries k e).name.now (names_in (map mapping_view entries)) ≡ None → ⊥
 entry_has_number entries k e lt h =
-    let names = names_in (map entry_view entries) in
+    let names = names_in (map mapping_view entries) in
     let count = names_count entries in
     has_number names k [] (omega (lt, count, arith)) (ap (λ (x : List ℕ). name_number x names) (name_at entries k [] e lt) ∙ h)
 
@@ -103,13 +103,13 @@ no_name name first address place (x ∷ xs) e = at_test (bytes_eq name x.name) r
 -- ---- one entry more
 pub one_more : (all : List EntryView) (entries : List Entry) (i : ℕ) (e : Entry) (number : ℕ) (stretches new : List Stretch) (s : Stretch) → i < length entries → e ≡ get_or entries i e
     → name_number e.name.now (names_in all) ≡ Some number
-    → ((other address place : ℕ) → address < 2 ^ 64 → place < 2 ^ 64 → has_place other address place s ≡ (has_at address place (entry_view e) && (number == other)))
-    → new ≡ stretches ++ s ∷ [] → AreOf all (map entry_view (take i entries)) stretches → AreOf all (map entry_view (take (i + 1) entries)) new
+    → ((other address place : ℕ) → address < 2 ^ 64 → place < 2 ^ 64 → has_place other address place s ≡ (has_at address place (mapping_view e) && (number == other)))
+    → new ≡ stretches ++ s ∷ [] → AreOf all (map mapping_view (take i entries)) stretches → AreOf all (map mapping_view (take (i + 1) entries)) new
 one_more all entries i e number stretches new s lt is own at grown h name other address place numbered a p =
-    let v = entry_view e in
-    let old = map entry_view (take i entries) in
-    let views : map entry_view (take (i + 1) entries) ≡ old ++ v ∷ [] =
-    ap (map entry_view) (take_more entries i e lt) ∙ map-append entry_view (take i entries) (get_or entries i e ∷ []) ∙ ap (λ (x : Entry). old ++ entry_view x ∷ []) (sym is) in
+    let v = mapping_view e in
+    let old = map mapping_view (take i entries) in
+    let views : map mapping_view (take (i + 1) entries) ≡ old ++ v ∷ [] =
+    ap (map mapping_view) (take_more entries i e lt) ∙ map-append mapping_view (take i entries) (get_or entries i e ∷ []) ∙ ap (λ (x : Entry). old ++ mapping_view x ∷ []) (sym is) in
     let last : has_place other address place s ≡ maps name address place v =
     at other address place a p ∙ ap (λ (b : Bool). has_at address place v && b) (numbers_tell v.name name number other (names_in all) own numbered) in
     ap (list_any (has_place other address place)) grown

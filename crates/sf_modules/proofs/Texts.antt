@@ -3,7 +3,7 @@ use Rattle.std.specs.Prelude.{is_some}
 use Rattle.std.specs.Option.{option_and_then, option_map}
 use Rattle.std.proofs.Common.{◌≡◌, ℕ, suc, ◌+◌, ◌-◌, ◌<◌, ◌≤◌, ◌++◌, List, [], ◌∷◌, Option, Some, None, refl, sym, ap, ◌∙◌, ◌*◌, drop, arith, append_assoc, append-nil}
 use Rattle.sf_modules.specs.Entry.{EntryView}
-use Rattle.sf_modules.specs.Note.{AreEntries, entries_from, entry_at, file_entry_count, names_part, page_size}
+use Rattle.sf_modules.specs.Note.{AreEntries, numbered_entries, numbered_entry, file_entry_count, names_part, page_size}
 use Rattle.sf_modules.specs.TextsRead.{text_front, texts_in}
 use Rattle.sf_modules.proofs.NamesRead.{texts_are}
 
@@ -45,26 +45,26 @@ has-next count k bytes text rest lt e = ap (λ (o : Texts). is_some o) (texts-ne
 
 -- ---- the entries so far, and those of the texts that are left
 abbrev pub with_left : List ℕ → List EntryView → (k : ℕ) → Texts → Option (List EntryView)
-with_left note entries k left = option_map (λ (names : List (List ℕ)). entries ++ entries_from note k names) left
+with_left note entries k left = option_map (λ (names : List (List ℕ)). entries ++ numbered_entries note k names) left
 
 abbrev pub all_entries : List ℕ → Option (List EntryView)
-all_entries note = option_map (entries_from note 0) (texts_in (file_entry_count note) (names_part note))
+all_entries note = option_map (numbered_entries note 0) (texts_in (file_entry_count note) (names_part note))
 
 one_more : (note : List ℕ) (entries : List EntryView) (k : ℕ) (text : List ℕ) (left : Texts)
-    → with_left note entries k (option_map (λ (texts : List (List ℕ)). text ∷ texts) left) ≡ with_left note (entries ++ entry_at note k text ∷ []) (k + 1) left
+    → with_left note entries k (option_map (λ (texts : List (List ℕ)). text ∷ texts) left) ≡ with_left note (entries ++ numbered_entry note k text ∷ []) (k + 1) left
 one_more note entries k text None = refl
-one_more note entries k text (Some names) = ap Some (sym (append_assoc entries (entry_at note k text ∷ []) (entries_from note (k + 1) names)))
+one_more note entries k text (Some names) = ap Some (sym (append_assoc entries (numbered_entry note k text ∷ []) (numbered_entries note (k + 1) names)))
 
 pub entries-next : (note : List ℕ) (entries more : List EntryView) (count k : ℕ) (bytes text rest : List ℕ) → k < count → Some (text, rest) ≡ text_front bytes
-    → more ≡ entries ++ entry_at note k text ∷ [] → with_left note entries k (texts_in (count - k) bytes) ≡ all_entries note → with_left note more (k + 1) (texts_in (count - (k + 1)) rest) ≡ all_entries note
+    → more ≡ entries ++ numbered_entry note k text ∷ [] → with_left note entries k (texts_in (count - k) bytes) ≡ all_entries note → with_left note more (k + 1) (texts_in (count - (k + 1)) rest) ≡ all_entries note
 entries-next note entries more count k bytes text rest lt e grown h =
     ap (λ (es : List EntryView). with_left note es (k + 1) (texts_in (count - (k + 1)) rest)) grown
     ∙ sym (one_more note entries k text (texts_in (count - (k + 1)) rest))
     ∙ ap (with_left note entries k) (sym (texts-next count k bytes text rest lt e)) ∙ h
 
-from_all : (note : List ℕ) (entries : List EntryView) (o : Texts) → texts_in (file_entry_count note) (names_part note) ≡ o → Some entries ≡ option_map (entries_from note 0) o → AreEntries note (page_size note) entries
+from_all : (note : List ℕ) (entries : List EntryView) (o : Texts) → texts_in (file_entry_count note) (names_part note) ≡ o → Some entries ≡ option_map (numbered_entries note 0) o → AreEntries note (page_size note) entries
 from_all note entries None e h = absurd (let differ : Some entries ≡ None = h in cc)
-from_all note entries (Some names) e h = let are : entries ≡ entries_from note 0 names = cc in record { size = refl; names = names; names_are = texts_are (file_entry_count note) (names_part note) names e; are = are }
+from_all note entries (Some names) e h = let are : entries ≡ numbered_entries note 0 names = cc in record { size = refl; names = names; names_are = texts_are (file_entry_count note) (names_part note) names e; are = are }
 
 pub entries-all : (note : List ℕ) (entries : List EntryView) (count k : ℕ) (bytes : List ℕ) → count ≤ k → with_left note entries k (texts_in (count - k) bytes) ≡ all_entries note → AreEntries note (page_size note) entries
 entries-all note entries count k bytes le h =

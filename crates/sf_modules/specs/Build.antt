@@ -1,6 +1,6 @@
 -- Whether a file is the build that the process had: its build identifiers are those in the process's memory (ELF64 gABI, "Note Section"
 -- and "Program Header"; GNU NT_GNU_BUILD_ID).
-use Rattle.std.specs.Prelude.{ℕ, ◌+◌, ◌-◌, Bool, true, ◌&&◌, ◌||◌, not, nat_le, bytes_eq, List, [], ◌∷◌, length}
+use Rattle.std.specs.Prelude.{ℕ, ◌+◌, ◌-◌, Bool, true, ◌&&◌, ◌||◌, not, nat_le, bytes_eq, List, length}
 use Rattle.std.specs.List.{list_all, list_any, range_with_len}
 use Rattle.std.specs.Option.{option_map_or}
 use Rattle.elf_read.specs.Header.{p_filesz, p_offset, p_vaddr}
@@ -10,25 +10,17 @@ use Rattle.core_notes.specs.Memory.{file_regions}
 use Rattle.core_notes.specs.MemoryBytes.{bytes_at}
 use Rattle.core_notes.specs.Note.{NoteView}
 use Rattle.core_notes.specs.SegmentNotes.{segment_notes}
-use Rattle.core_notes.specs.Thread.{has_name_and_type}
+use Rattle.elf_load.specs.BuildId.{is_build_id}
 use Rattle.sf_modules.specs.File.{is_load_header}
 use Rattle.sf_modules.specs.Fit.{process_address}
-
--- "GNU" and its zero byte
-abbrev pub gnu_name : List ℕ
-gnu_name = 71 ∷ 78 ∷ 85 ∷ 0 ∷ []
-
--- the note is a build identifier: NT_GNU_BUILD_ID 3
-abbrev pub is_build_id : NoteView → Bool
-is_build_id n = has_name_and_type gnu_name 3 n
 
 -- the addresses of segment i are some of the loaded segment k
 abbrev pub is_within : List ℕ → (i k : ℕ) → Bool
 is_within file i k = is_load_header file k && nat_le (p_vaddr file k) (p_vaddr file i) && nat_le (p_vaddr file i + p_filesz file i) (p_vaddr file k + p_memsz file k)
 
 -- the segment is loaded with another
-abbrev pub is_loaded : List ℕ → (i : ℕ) → Bool
-is_loaded file i = list_any (is_within file i) (range_with_len 0 (segment_total file))
+abbrev pub is_within_any : List ℕ → (i : ℕ) → Bool
+is_within_any file i = list_any (is_within file i) (range_with_len 0 (segment_total file))
 
 -- where the descriptor of a note of segment i was
 abbrev pub descriptor_address : (file : List ℕ) → (base i : ℕ) → NoteView → ℕ
@@ -45,7 +37,7 @@ note_agrees core file base i n = not (is_build_id n) || descriptor_agrees core f
 
 -- each build identifier of segment i agrees, or the segment isn't loaded
 unfoldable pub segment_agrees : (core file : List ℕ) → (base i : ℕ) → Bool
-segment_agrees core file base i = list_all (note_agrees core file base i) (segment_notes file i) || not (is_loaded file i)
+segment_agrees core file base i = list_all (note_agrees core file base i) (segment_notes file i) || not (is_within_any file i)
 
 -- each segment of the file agrees
 abbrev pub is_same_build : (core file : List ℕ) → (base : ℕ) → Bool

@@ -10,13 +10,13 @@ pub record EntryView : Type 0 where
   pub name : List ℕ
 
 -- an entry as the code has it
-abbrev pub entry_view : Entry → EntryView
-entry_view e = record { start = e.start; end = e.end; offset = e.offset; name = e.name.now }
+abbrev pub mapping_view : Entry → EntryView
+mapping_view e = record { start = e.start; end = e.end; offset = e.offset; name = e.name.now }
 
 -- the address is one of the entry's
-abbrev pub holds : (pc : ℕ) → EntryView → Bool
-holds pc e = nat_le e.start pc && nat_lt pc e.end
+abbrev pub entry_contains : (pc : ℕ) → EntryView → Bool
+entry_contains pc e = nat_le e.start pc && nat_lt pc e.end
 
 -- the entry has this place of the file of this name at the address
 abbrev pub maps : (name : List ℕ) → (address place : ℕ) → EntryView → Bool
-maps name address place e = holds address e && (e.offset + (address - e.start) == place) && bytes_eq e.name name
+maps name address place e = entry_contains address e && (e.offset + (address - e.start) == place) && bytes_eq e.name name

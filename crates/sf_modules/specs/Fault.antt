@@ -10,14 +10,14 @@ abbrev pub Check : Type 0
 Check = Result (Unit {0}) ModuleFault
 
 -- the fault, if it is one that a check has: any but out of memory
-abbrev pub refusal_of : ModuleFault → Option ModuleFault
-refusal_of NoMemory = None
-refusal_of fault = Some fault
+abbrev pub module_refusal : ModuleFault → Option ModuleFault
+module_refusal NoMemory = None
+module_refusal fault = Some fault
 
 -- a fault is the check's, or out of memory
 abbrev pub IsFaultOf : Check → ModuleFault → Type 0
-IsFaultOf check fault = Fails refusal_of fault check
+IsFaultOf check fault = Fails module_refusal fault check
 
 -- a call returns a value exactly where the check passes, and else the check's fault, unless it is out of memory
-abbrev pub Answers : {X : Type 0} → Check → Result X ModuleFault → Type 0
-Answers check result = Gives refusal_of (λ x. tt) result check
+abbrev pub FollowsCheck : {X : Type 0} → Check → Result X ModuleFault → Type 0
+FollowsCheck check result = Gives module_refusal (λ x. tt) result check

@@ -1,6 +1,6 @@
 -- The parts of an executable or a shared object that a walk needs: its SFrame section, and its first loaded segment (ELF64 gABI,
 -- "Sections" and "Program Header").
-use Rattle.std.specs.Prelude.{ℕ, ◌-◌, ◌%◌, ◌==◌, Bool, true, false, ◌&&◌, not, List, [], ◌∷◌, bytes_eq, Option}
+use Rattle.std.specs.Prelude.{ℕ, ◌==◌, Bool, true, false, ◌&&◌, not, List, [], ◌∷◌, bytes_eq, Option}
 use Rattle.std.specs.List.{find, range_with_len}
 use Rattle.elf_read.specs.declared.kind.Kind.{Kind}
 use Rattle.elf_read.specs.declared.kind.Kind.TheVariants.{Rel, Exec, Dyn, Core}
@@ -33,7 +33,3 @@ is_load_header file i = p_type file i == 1
 -- the number of the first loaded segment
 unfoldable pub first_load : List ℕ → Option ℕ
 first_load file = find (is_load_header file) (range_with_len 0 (segment_total file))
-
--- where the page of a number begins
-abbrev pub page_floor : (page n : ℕ) → ℕ
-page_floor page n = n - n % page

@@ -6,13 +6,14 @@ use Rattle.elf_read.specs.Header.{p_filesz, p_offset, p_vaddr}
 use Rattle.elf_read.specs.SegmentFields.{is_executable}
 use Rattle.elf_read.specs.Sections.{segment_total}
 use Rattle.core_notes.specs.MemoryBytes.{executable_at}
+use Rattle.elf_load.specs.Segments.{page_floor}
 use Rattle.sf_modules.specs.Entry.{EntryView, maps}
-use Rattle.sf_modules.specs.File.{is_load_header, page_floor}
+use Rattle.sf_modules.specs.File.{is_load_header}
 use Rattle.sf_modules.specs.Process.{ProcessView}
 
 -- how far up a file was mapped: from where the page of its first loaded segment's address begins to its entry's start
-abbrev pub base_of : (page : ℕ) → EntryView → (vaddr : ℕ) → ℕ
-base_of page entry vaddr = (entry.start + (2 ^ 64 - page_floor page vaddr)) % 2 ^ 64
+abbrev pub mapping_base : (page : ℕ) → EntryView → (vaddr : ℕ) → ℕ
+mapping_base page entry vaddr = (entry.start + (2 ^ 64 - page_floor page vaddr)) % 2 ^ 64
 
 -- where an address of the file was
 abbrev pub process_address : (base vaddr : ℕ) → ℕ
@@ -35,7 +36,7 @@ unfoldable pub segment_fits : ProcessView → (file : List ℕ) → (name : List
 segment_fits p file name base i = not (has_file_bytes file i) || (is_mapped p file name base i && may_execute p file base i)
 
 -- each segment was where it has to be, by the base that the entry gives
-unfoldable pub fits : ProcessView → (file : List ℕ) → (load : ℕ) → EntryView → Bool
-fits p file load e =
+unfoldable pub all_segments_fit : ProcessView → (file : List ℕ) → (load : ℕ) → EntryView → Bool
+all_segments_fit p file load e =
     (e.offset == page_floor p.page (p_offset file load))
-    && list_all (segment_fits p file e.name (base_of p.page e (p_vaddr file load))) (range_with_len 0 (segment_total file))
+    && list_all (segment_fits p file e.name (mapping_base p.page e (p_vaddr file load))) (range_with_len 0 (segment_total file))

@@ -6,7 +6,7 @@ use Rattle.std.specs.Option.{option_and_then}
 use Rattle.sf_model.specs.Lookup.{found_at}
 use Rattle.sf_model.specs.Memory.{Region}
 use Rattle.sf_model.specs.Walk.{Listing, LookUp, ThreadState, look_up_walk}
-use Rattle.sf_modules.specs.Entry.{EntryView, holds}
+use Rattle.sf_modules.specs.Entry.{EntryView, entry_contains}
 use Rattle.sf_modules.specs.Module.{ModuleView}
 
 -- the first module of a name
@@ -15,7 +15,7 @@ module_of modules name = find (λ (m : ModuleView). bytes_eq name m.name) module
 
 -- the module at an address
 unfoldable pub module_at : List EntryView → List ModuleView → (pc : ℕ) → Option ModuleView
-module_at entries modules pc = option_and_then (λ (e : EntryView). module_of modules e.name) (find (holds pc) entries)
+module_at entries modules pc = option_and_then (λ (e : EntryView). module_of modules e.name) (find (entry_contains pc) entries)
 
 -- the function and the row that hold at an address
 unfoldable pub found_in : List EntryView → List ModuleView → LookUp

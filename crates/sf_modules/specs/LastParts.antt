@@ -10,7 +10,7 @@ use Rattle.std.specs.Ordering.{nat_cmp}
 use Rattle.sf_modules.specs.declared.candidates.Candidates.{Candidates}
 use Rattle.sf_modules.specs.declared.last_parts.LastParts.{LastParts}
 use Rattle.sf_modules.specs.Candidates.{alike, last_parts, next_same}
-use Rattle.sf_modules.specs.Entry.{EntryView, entry_view}
+use Rattle.sf_modules.specs.Entry.{EntryView, mapping_view}
 
 -- a map has the number of the first of these parts that is a part: they are numbered from this number on
 abbrev pub AreFirst : BTreeMap (Bor (List ℕ)) ℕ → (number : ℕ) → List (List ℕ) → Type 0
@@ -23,4 +23,4 @@ pub record AreByPart (p : LastParts) (entries : List EntryView) : Type 0 where
 
 -- the entries that an iterator has left
 abbrev pub candidates_left : Candidates → List EntryView
-candidates_left c = option_map_or (λ (i : ℕ). alike (drop i (map entry_view c.entries.now))) c.at []
+candidates_left c = option_map_or (λ (i : ℕ). alike (drop i (map mapping_view c.entries.now))) c.at []

@@ -3,7 +3,7 @@
 use Rattle.std.specs.Prelude.{ℕ, max, ◌==◌, Bool, ◌&&◌, not, nat_lt, bytes_eq, List, [], ◌∷◌, Option}
 use Rattle.std.specs.List.{find, list_any}
 use Rattle.sf_modules.specs.Entry.{EntryView}
-use Rattle.sf_modules.specs.Fit.{fits}
+use Rattle.sf_modules.specs.Fit.{all_segments_fit}
 use Rattle.sf_modules.specs.Name.{common_tail}
 use Rattle.sf_modules.specs.Process.{ProcessView}
 
@@ -18,19 +18,19 @@ is_candidate word entries = nat_lt 0 (longest_tail word entries)
 
 -- the entry's name has `tail` parts in common with the word, and the file fits there
 abbrev pub matches : ProcessView → (word file : List ℕ) → (load tail : ℕ) → EntryView → Bool
-matches p word file load tail e = (common_tail word e.name == tail) && fits p file load e
+matches p word file load tail e = (common_tail word e.name == tail) && all_segments_fit p file load e
 
 -- the entry's name is nearest to the word, and the file fits there
 abbrev pub is_match : ProcessView → (word file : List ℕ) → (load : ℕ) → EntryView → Bool
 is_match p word file load e = matches p word file load (longest_tail word p.entries) e
 
 -- the first such entry
-abbrev pub entry_of : ProcessView → (word file : List ℕ) → (load : ℕ) → Option EntryView
-entry_of p word file load = find (is_match p word file load) p.entries
+abbrev pub matching_entry : ProcessView → (word file : List ℕ) → (load : ℕ) → Option EntryView
+matching_entry p word file load = find (is_match p word file load) p.entries
 
 -- another entry of another name has as many parts in common, and the file fits there too
 abbrev pub matches_too : ProcessView → (word file : List ℕ) → (load tail : ℕ) → (e other : EntryView) → Bool
-matches_too p word file load tail e other = (common_tail word other.name == tail) && not (bytes_eq other.name e.name) && fits p file load other
+matches_too p word file load tail e other = (common_tail word other.name == tail) && not (bytes_eq other.name e.name) && all_segments_fit p file load other
 
 -- there is such another entry
 abbrev pub is_ambiguous : ProcessView → (word file : List ℕ) → (load : ℕ) → EntryView → Bool

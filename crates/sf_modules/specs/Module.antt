@@ -11,8 +11,8 @@ use Rattle.sf_modules.specs.declared.mapped.Module.{Module}
 use Rattle.sf_modules.specs.Build.{is_same_build}
 use Rattle.sf_modules.specs.Entry.{EntryView}
 use Rattle.sf_modules.specs.File.{first_load, sframe_section}
-use Rattle.sf_modules.specs.Fit.{base_of, process_address}
-use Rattle.sf_modules.specs.Match.{entry_of, is_ambiguous, is_candidate}
+use Rattle.sf_modules.specs.Fit.{mapping_base, process_address}
+use Rattle.sf_modules.specs.Match.{matching_entry, is_ambiguous, is_candidate}
 use Rattle.sf_modules.specs.Process.{ProcessView}
 
 -- the name that the process had for a module's file, the file's machine, and its section's table
@@ -27,11 +27,11 @@ module_view m = record { name = m.name.now; machine = m.machine; table = table_o
 
 -- how far up a file was mapped, by the entry that is its
 abbrev pub file_base : List ℕ → (page : ℕ) → EntryView → (load : ℕ) → ℕ
-file_base file page entry load = base_of page entry (p_vaddr file load)
+file_base file page entry load = mapping_base page entry (p_vaddr file load)
 
 -- the address at which a section was
-abbrev pub address_of : List ℕ → (page : ℕ) → EntryView → (load section : ℕ) → ℕ
-address_of file page entry load section = process_address (file_base file page entry load) (section_fields file section).sh_addr
+abbrev pub loaded_address : List ℕ → (page : ℕ) → EntryView → (load section : ℕ) → ℕ
+loaded_address file page entry load section = process_address (file_base file page entry load) (section_fields file section).sh_addr
 
 -- this is the module of a file, for which the word is given
 pub record IsModule (p : ProcessView) (word file : List ℕ) (m : ModuleView) : Type 0 where
@@ -41,9 +41,9 @@ pub record IsModule (p : ProcessView) (word file : List ℕ) (m : ModuleView) : 
   pub section_is : sframe_section file ≡ Some section
   pub load_is : first_load file ≡ Some load
   pub named : is_candidate word p.entries ≡ true
-  pub entry_is : entry_of p word file load ≡ Some entry
+  pub entry_is : matching_entry p word file load ≡ Some entry
   pub alone : is_ambiguous p word file load entry ≡ false
   pub build : is_same_build p.core file (file_base file p.page entry load) ≡ true
   pub name_is : m.name ≡ entry.name
   pub machine_is : m.machine ≡ arch_of file
-  pub table_is : Section (section_bytes file section) (address_of file p.page entry load section) m.table
+  pub table_is : Section (section_bytes file section) (loaded_address file p.page entry load section) m.table

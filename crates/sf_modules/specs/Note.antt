@@ -40,23 +40,23 @@ abbrev pub names_part : List ℕ → List ℕ
 names_part note = drop (24 * file_entry_count note + 16) note
 
 -- the byte is zero
-abbrev pub is_zero : ℕ → Bool
-is_zero byte = byte == 0
+abbrev pub is_zero_byte : ℕ → Bool
+is_zero_byte byte = byte == 0
 
 -- a name and the zero byte that ends it
-abbrev pub ended : List ℕ → List ℕ
-ended name = name ++ 0 ∷ []
+abbrev pub zero_ended : List ℕ → List ℕ
+zero_ended name = name ++ 0 ∷ []
 
 -- n names are at the front of bytes, each ended by a zero byte; no name has a zero byte itself
 pub record AreNames (n : ℕ) (bytes : List ℕ) (names : List (List ℕ)) : Type 0 where
   pub count : length names ≡ n
-  pub no_zero : list_any (list_any is_zero) names ≡ false
+  pub no_zero : list_any (list_any is_zero_byte) names ≡ false
   pub rest : List ℕ
-  pub are : bytes ≡ flat_map ended names ++ rest
+  pub are : bytes ≡ flat_map zero_ended names ++ rest
 
 -- the bytes end n names or more: they have as many zero bytes
 abbrev pub has_file_names : (n : ℕ) → List ℕ → Bool
-has_file_names n bytes = nat_le n (length (filter is_zero bytes))
+has_file_names n bytes = nat_le n (length (filter is_zero_byte bytes))
 
 -- ---- the entries
 -- the text " (deleted)", which Linux adds to the name of a file that was deleted
@@ -68,12 +68,12 @@ unfoldable pub pathname_in : List ℕ → List ℕ
 pathname_in text = if bytes_eq (drop (length text - 10) text) deleted_text then take (length text - 10) text else text
 
 -- entry k, with this name
-abbrev pub entry_at : List ℕ → (k : ℕ) → (text : List ℕ) → EntryView
-entry_at note k text = record { start = entry_start note k; end = entry_end note k; offset = entry_pages note k * page_size note; name = pathname_in text }
+abbrev pub numbered_entry : List ℕ → (k : ℕ) → (text : List ℕ) → EntryView
+numbered_entry note k text = record { start = entry_start note k; end = entry_end note k; offset = entry_pages note k * page_size note; name = pathname_in text }
 
 -- the entries of these names, which are numbered from this number on
-abbrev pub entries_from : List ℕ → (number : ℕ) → (texts : List (List ℕ)) → List EntryView
-entries_from note number texts = map (λ (e : ℕ × List ℕ). entry_at note e.0 e.1) (enumerate_from number texts)
+abbrev pub numbered_entries : List ℕ → (number : ℕ) → (texts : List (List ℕ)) → List EntryView
+numbered_entries note number texts = map (λ (e : ℕ × List ℕ). numbered_entry note e.0 e.1) (enumerate_from number texts)
 
 -- the descriptor of the first note on mapped files, with its place
 abbrev pub file_note_in : List NoteView → Option Cursor
@@ -84,7 +84,7 @@ pub record AreEntries (note : List ℕ) (page : ℕ) (entries : List EntryView) 
   pub size : page ≡ page_size note
   pub names : List (List ℕ)
   pub names_are : AreNames (file_entry_count note) (names_part note) names
-  pub are : entries ≡ entries_from note 0 names
+  pub are : entries ≡ numbered_entries note 0 names
 
 -- there is a note on mapped files, with this page size and these entries
 abbrev pub HasEntries : Option Cursor → (page : ℕ) → (entries : List EntryView) → Type 0
@@ -93,12 +93,12 @@ HasEntries None page entries = ⊥
 
 -- ---- the checks, in their order
 -- entry k ends where it starts or after, and its offset in the file is a number of eight bytes
-abbrev pub entry_fits : List ℕ → (k : ℕ) → Bool
-entry_fits note k = nat_le (entry_start note k) (entry_end note k) && nat_lt (entry_pages note k * page_size note) (2 ^ 64)
+abbrev pub is_sound_entry : List ℕ → (k : ℕ) → Bool
+is_sound_entry note k = nat_le (entry_start note k) (entry_end note k) && nat_lt (entry_pages note k * page_size note) (2 ^ 64)
 
 -- an entry that doesn't fit is a fault
 unfoldable pub file_entry_check : Cursor → (k : ℕ) → Check
-file_entry_check note k = unless (entry_fits note.left k) (FileNote (note.place + (24 * k + 16)))
+file_entry_check note k = unless (is_sound_entry note.left k) (FileNote (note.place + (24 * k + 16)))
 
 -- the note has the numbers and the names of its entries, and its page size is a power of two
 unfoldable pub file_header_check : Cursor → Check

@@ -2,7 +2,7 @@
 use Rattle.std.specs.Prelude.{ℕ, List, map}
 use Rattle.core_notes.specs.MemoryMap.{core_in}
 use Rattle.sf_modules.specs.declared.process.Process.{Process}
-use Rattle.sf_modules.specs.Entry.{EntryView, entry_view}
+use Rattle.sf_modules.specs.Entry.{EntryView, mapping_view}
 
 -- the core file's bytes, and the page size and the entries of its note on mapped files
 pub record ProcessView : Type 0 where
@@ -16,4 +16,4 @@ process_of core page entries = record { core = core; page = page; entries = entr
 
 -- a process as the code has it
 abbrev pub process_view : Process → ProcessView
-process_view p = process_of (core_in p.memory) p.page (map entry_view p.entries.now)
+process_view p = process_of (core_in p.memory) p.page (map mapping_view p.entries.now)

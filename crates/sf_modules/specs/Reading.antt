@@ -15,8 +15,8 @@ use Rattle.sf_modules.specs.Build.{is_same_build}
 use Rattle.sf_modules.specs.Entry.{EntryView}
 use Rattle.sf_modules.specs.Fault.{Check}
 use Rattle.sf_modules.specs.File.{first_load, is_program, sframe_section}
-use Rattle.sf_modules.specs.Match.{entry_of, is_ambiguous, is_candidate}
-use Rattle.sf_modules.specs.Module.{address_of, file_base}
+use Rattle.sf_modules.specs.Match.{matching_entry, is_ambiguous, is_candidate}
+use Rattle.sf_modules.specs.Module.{loaded_address, file_base}
 use Rattle.sf_modules.specs.Process.{ProcessView}
 
 -- a check of the ELF file, whose fault is the module's
@@ -54,7 +54,7 @@ match_part p word file load (Some entry) = unless (not (is_ambiguous p word file
 
 -- the file is found among the entries
 unfoldable pub nearest_part : ProcessView → (word file : List ℕ) → (load : ℕ) → Check
-nearest_part p word file load = unless (is_candidate word p.entries) NotMapped >> match_part p word file load (entry_of p word file load)
+nearest_part p word file load = unless (is_candidate word p.entries) NotMapped >> match_part p word file load (matching_entry p word file load)
 
 -- the file is the build that the process had
 abbrev pub build_part : ProcessView → (file : List ℕ) → (load : ℕ) → EntryView → Check
@@ -67,7 +67,7 @@ decode_part (Err fault) = Err (Section fault)
 
 -- the section has no fault at the address at which it was
 abbrev pub table_part : List ℕ → (page : ℕ) → EntryView → (load section : ℕ) → Check
-table_part file page entry load section = decode_part (section_check (section_bytes file section) (address_of file page entry load section))
+table_part file page entry load section = decode_part (section_check (section_bytes file section) (loaded_address file page entry load section))
 
 -- the file's build and its section, at its entry
 abbrev pub entry_part : ProcessView → (file : List ℕ) → (load section : ℕ) → Option EntryView → Check
@@ -76,7 +76,7 @@ entry_part p file load section (Some entry) = build_part p file load entry >> ta
 
 -- the checks of the file in the process, once its section and its first loaded segment are known
 abbrev pub process_part : ProcessView → (word file : List ℕ) → (load section : Option ℕ) → Check
-process_part p word file (Some load) (Some section) = nearest_part p word file load >> entry_part p file load section (entry_of p word file load)
+process_part p word file (Some load) (Some section) = nearest_part p word file load >> entry_part p file load section (matching_entry p word file load)
 process_part p word file load section = Ok tt
 
 -- all checks: the first that fails is the file's fault

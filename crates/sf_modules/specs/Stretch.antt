@@ -8,7 +8,7 @@ use Rattle.std.specs.Cmp.Lexicographic.{slice_cmp}
 use Rattle.std.specs.List.{list_any}
 use Rattle.std.specs.Ordering.{nat_cmp}
 use Rattle.sf_modules.specs.declared.stretch.Stretch.{Stretch}
-use Rattle.sf_modules.specs.Entry.{EntryView, holds, maps}
+use Rattle.sf_modules.specs.Entry.{EntryView, entry_contains, maps}
 use Rattle.sf_modules.specs.Name.{name_number}
 
 -- a stretch, under a name that code may have for a value
@@ -45,7 +45,7 @@ has_place number address place s = has_point (point (line_of number address plac
 
 -- the entry has this place of its file at the address
 abbrev pub has_at : (address place : ℕ) → EntryView → Bool
-has_at address place e = holds address e && (e.offset + (address - e.start) == place)
+has_at address place e = entry_contains address e && (e.offset + (address - e.start) == place)
 
 -- the names of entries
 abbrev pub names_in : List EntryView → List (List ℕ)

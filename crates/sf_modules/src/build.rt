@@ -7,6 +7,7 @@ ghost use Rattle.elf_read.specs.Views.{file};
 ghost use Rattle.core_notes.specs.Note.{note_view};
 ghost use Rattle.core_notes.specs.SegmentNotes.{segment_notes};
 ghost use Rattle.core_notes.specs.MemoryMap.{core_in};
+ghost use Rattle.elf_load.specs.BuildId.{is_build_id};
 ghost use Rattle.sf_modules.specs.Build as spec;
 
 use crate::file::Program;
@@ -17,7 +18,7 @@ use elf_read::Elf;
 // Returns whether a note is a build identifier.
 #[tactic(auto, unfolding(core_notes::specs::Thread::has_name_and_type))]
 fn is_build_id(note: &Note<'_>) -> bool
-    ensures { result ≡ spec.is_build_id (note_view note.now) }
+    ensures { result ≡ is_build_id (note_view note.now) }
 {
     note.kind == NT_GNU_BUILD_ID && note.name == GNU
 }
@@ -36,7 +37,7 @@ fn is_within(elf: &Elf<'_>, i: u32, k: u32) -> bool
 
 // Returns whether a segment is loaded with another.
 fn is_loaded(program: &Program<'_>, i: u32) -> bool
-    ensures { result ≡ spec.is_loaded (file program.now.elf) i }
+    ensures { result ≡ spec.is_within_any (file program.now.elf) i }
 {
     for k in 0..program.count {
         if is_within(&program.elf, i, k) {

@@ -6,6 +6,7 @@ ghost use Rattle.elf_read.specs.Header.{kind_of};
 ghost use Rattle.elf_read.specs.Sections.{section_count, segment_total};
 ghost use Rattle.elf_read.specs.Views.{file};
 ghost use Rattle.core_notes.specs.Room.{HeadersLie};
+ghost use Rattle.elf_load.specs.Segments.{page_floor};
 ghost use Rattle.sf_modules.specs.Fault.{verdict};
 ghost use Rattle.sf_modules.specs.File as spec;
 ghost use Rattle.sf_modules.specs.Reading.{headers_part, kind_part, section_part, segments_part};
@@ -18,7 +19,7 @@ use elf_read::{Elf, ElfFault, Kind};
 /// Returns where the page of a number begins.
 pub fn page_floor(page: u64, n: u64) -> u64
     requires { 0 < page }
-    ensures { result ≡ spec.page_floor page n }
+    ensures { result ≡ page_floor page n }
 {
     n - n % page
 }

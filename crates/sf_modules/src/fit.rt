@@ -4,7 +4,7 @@ ghost use Rattle.std.specs.Prelude.{◌≡◌, ◌<◌};
 ghost use Rattle.std.specs.List.{list_all, range_with_len};
 ghost use Rattle.elf_read.specs.Sections.{segment_total};
 ghost use Rattle.elf_read.specs.Views.{file};
-ghost use Rattle.sf_modules.specs.Entry.{entry_view};
+ghost use Rattle.sf_modules.specs.Entry.{mapping_view};
 ghost use Rattle.sf_modules.specs.Fit as spec;
 ghost use Rattle.sf_modules.specs.Process.{process_view};
 ghost use Rattle.sf_modules.specs.Stretches.{IsNamed};
@@ -19,7 +19,7 @@ use elf_read::Elf;
 /// Returns how far up a file was mapped: from where the page of its first loaded segment's address begins to its entry's start.
 pub fn base_of(page: u64, entry: &Entry<'_>, vaddr: u64) -> u64
     requires { 0 < page }
-    ensures { result ≡ spec.base_of page (entry_view entry.now) vaddr }
+    ensures { result ≡ spec.mapping_base page (mapping_view entry.now) vaddr }
 {
     entry.start.wrapping_sub(page_floor(page, vaddr))
 }
@@ -88,14 +88,14 @@ fn all_fit(
 }
 
 /// Returns whether a program was mapped as an entry says. `misfit` becomes the number of a segment that was not where it has to be.
-#[tactic(auto, unfolding(crate::specs::Fit::fits))]
+#[tactic(auto, unfolding(crate::specs::Fit::all_segments_fit))]
 pub fn fits(
     process: &Process<'_>,
     program: &Program<'_>,
     misfit: &mut u32,
     entry: &Entry<'_>,
 ) -> bool
-    ensures { result ≡ spec.fits (process_view process.now) (file program.now.elf) program.now.load (entry_view entry.now) }
+    ensures { result ≡ spec.all_segments_fit (process_view process.now) (file program.now.elf) program.now.load (mapping_view entry.now) }
 {
     let segment = program.elf.segment(program.load);
     entry.offset == page_floor(process.page, segment.place)

@@ -1,7 +1,7 @@
 //! The entries of a process by the last parts of their names: those of a word's last part are found in order.
 
 ghost use Rattle.std.specs.Prelude.{◌≡◌, IfOk, map};
-ghost use Rattle.sf_modules.specs.Entry.{entry_view};
+ghost use Rattle.sf_modules.specs.Entry.{mapping_view};
 ghost use Rattle.sf_modules.specs.LastParts.{AreByPart};
 
 use crate::entry::Entry;
@@ -23,7 +23,7 @@ pub struct LastParts<'n> {
 ///
 /// `NoMemory` if out of memory, and for 2^32 entries or more.
 pub fn last_parts_of<'n>(alloc: Global, entries: &[Entry<'n>]) -> Result<LastParts<'n>, NoMemory>
-    ensures { IfOk result (λ p. AreByPart p (map entry_view entries.now)) }
+    ensures { IfOk result (λ p. AreByPart p (map mapping_view entries.now)) }
 {
     let Ok(count) = u32::try_from(entries.len()) else {
         return Err(NoMemory);

@@ -2,7 +2,7 @@
 
 ghost use Rattle.std.specs.Prelude.{◌≡◌, ◌<◌, ◌^◌, IfOk, length};
 ghost use Rattle.elf_read.specs.Views.{file};
-ghost use Rattle.sf_modules.specs.Entry.{entry_view};
+ghost use Rattle.sf_modules.specs.Entry.{mapping_view};
 ghost use Rattle.sf_modules.specs.Fault.{verdict};
 ghost use Rattle.sf_modules.specs.Module as spec;
 ghost use Rattle.sf_modules.specs.Module.{IsModule, module_view};
@@ -36,7 +36,7 @@ pub struct Module<'c, 'a> {
 // Returns how far up a program was mapped.
 fn file_base(page: u64, program: &Program<'_>, entry: &Entry<'_>) -> u64
     requires { 0 < page }
-    ensures { result ≡ spec.file_base (file program.now.elf) page (entry_view entry.now) program.now.load }
+    ensures { result ≡ spec.file_base (file program.now.elf) page (mapping_view entry.now) program.now.load }
 {
     base_of(page, entry, program.elf.segment(program.load).vaddr)
 }
@@ -48,7 +48,7 @@ fn check_build(
     entry: &Entry<'_>,
 ) -> Result<(), ModuleFault>
     requires { length (file program.now.elf) < 2 ^ 32 }
-    ensures { result ≡ build_part (process_view process.now) (file program.now.elf) program.now.load (entry_view entry.now) }
+    ensures { result ≡ build_part (process_view process.now) (file program.now.elf) program.now.load (mapping_view entry.now) }
 {
     if is_same_build(
         &process.memory,
@@ -74,7 +74,7 @@ fn check_notes(bytes: &[u8], program: &Program<'_>) -> Result<(), ModuleFault>
 // Returns the address at which a section was.
 fn address_of(page: u64, program: &Program<'_>, entry: &Entry<'_>, section: u32) -> u64
     requires { 0 < page }
-    ensures { result ≡ spec.address_of (file program.now.elf) page (entry_view entry.now) program.now.load section }
+    ensures { result ≡ spec.loaded_address (file program.now.elf) page (mapping_view entry.now) program.now.load section }
 {
     file_base(page, program, entry).wrapping_add(program.elf.section(section).addr)
 }

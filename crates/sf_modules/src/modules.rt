@@ -3,9 +3,9 @@
 ghost use Rattle.std.specs.Prelude.{◌≡◌, IfOk, map};
 ghost use Rattle.sf_lookup.specs.Indexed.{indexed_table};
 ghost use Rattle.sf_lookup.specs.Spans.{InOrder};
-ghost use Rattle.sf_modules.specs.Entry.{entry_view};
+ghost use Rattle.sf_modules.specs.Entry.{mapping_view};
 ghost use Rattle.sf_modules.specs.Module.{module_view};
-ghost use Rattle.sf_modules.specs.Span.{span_of};
+ghost use Rattle.sf_modules.specs.Span.{entry_span};
 ghost use Rattle.sf_modules.specs.Union.{tables_of};
 
 use crate::entry::Entry;
@@ -26,7 +26,7 @@ pub struct Modules<'m> {
     modules: &'m [Module<'m, 'm>],
     spans: Spans<Option<u32>>,
     sections: Vec<Indexed<'m>>,
-    ghost ordered: { InOrder spans (map (span_of (map module_view modules.now)) (map entry_view entries.now)) },
+    ghost ordered: { InOrder spans (map (entry_span (map module_view modules.now)) (map mapping_view entries.now)) },
     ghost indexed: { map indexed_table sections.items ≡ tables_of (map module_view modules.now) },
 }
 
@@ -43,12 +43,12 @@ fn sections_of<'a>(alloc: Global, modules: &[Module<'_, 'a>]) -> Result<Vec<Inde
 
 impl<'m> Modules<'m> {
     ghost use Rattle.std.specs.Prelude.{◌≡◌, IfOk, map};
-    ghost use Rattle.core_walk.specs.Walk.{listing, thread_state};
-    ghost use Rattle.sf_modules.specs.Entry.{entry_view};
+    ghost use Rattle.core_walk.specs.Walk.{walk_listing, thread_state};
+    ghost use Rattle.sf_modules.specs.Entry.{mapping_view};
     ghost use Rattle.sf_modules.specs.Found.{modules_walk};
     ghost use Rattle.sf_modules.specs.Module.{module_view};
     ghost use Rattle.sf_modules.specs.Span.{module_number_at};
-    ghost use Rattle.sf_modules.specs.Views.{entries_in, modules_in};
+    ghost use Rattle.sf_modules.specs.Views.{entry_views, modules_in};
 
     /// Puts the entries and the modules in order, once for all walks of a process.
     ///
@@ -58,7 +58,7 @@ impl<'m> Modules<'m> {
         entries: &'m [Entry<'m>],
         modules: &'m [Module<'m, 'm>],
     ) -> Result<Modules<'m>, NoMemory>
-        ensures entries { IfOk result (λ m. entries_in m ≡ map entry_view entries.now) }
+        ensures entries { IfOk result (λ m. entry_views m ≡ map mapping_view entries.now) }
         ensures modules { IfOk result (λ m. modules_in m ≡ map module_view modules.now) }
     {
         let spans = Spans::new(alloc, &spans_of(alloc, entries, modules)?)?;
@@ -73,7 +73,7 @@ impl<'m> Modules<'m> {
 
     // Finds the number of the module at an address.
     fn number_at(&self, pc: u64) -> Option<u32>
-        ensures { result ≡ module_number_at (entries_in self.now) (modules_in self.now) pc }
+        ensures { result ≡ module_number_at (entry_views self.now) (modules_in self.now) pc }
     {
         self.spans.first_at(pc)?
     }
@@ -89,7 +89,7 @@ impl<'m> Modules<'m> {
         mem: &M,
         depth: u32,
     ) -> Result<Walk, NoMemory>
-        ensures { IfOk result (λ walk. listing walk ≡ modules_walk (entries_in self.now) (modules_in self.now) (thread_state thread.now) (M.regions mem.now) depth) }
+        ensures { IfOk result (λ walk. walk_listing walk ≡ modules_walk (entry_views self.now) (modules_in self.now) (thread_state thread.now) (M.regions mem.now) depth) }
     {
         walk_by(alloc, self, thread, mem, depth)
     }
@@ -98,9 +98,9 @@ impl<'m> Modules<'m> {
 /// The rows of all modules.
 impl<'m> LookUp for Modules<'m> {
     ghost use Rattle.sf_modules.specs.Found.{found_in};
-    ghost use Rattle.sf_modules.specs.Views.{entries_in, modules_in};
+    ghost use Rattle.sf_modules.specs.Views.{entry_views, modules_in};
 
-    ghost found_at = { λ m. found_in (entries_in m) (modules_in m) };
+    ghost found_at = { λ m. found_in (entry_views m) (modules_in m) };
 
     fn look_up(&self, pc: u64) -> Option<(Arch, Found)> {
         let number = self.number_at(pc)?;

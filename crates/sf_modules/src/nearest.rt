@@ -5,7 +5,7 @@ ghost use Rattle.std.specs.List.{find, list_any};
 ghost use Rattle.std.specs.Option.{option_map};
 ghost use Rattle.elf_read.specs.Views.{file};
 ghost use Rattle.sf_modules.specs.Candidates.{candidates};
-ghost use Rattle.sf_modules.specs.Entry.{entry_view};
+ghost use Rattle.sf_modules.specs.Entry.{mapping_view};
 ghost use Rattle.sf_modules.specs.Fault.{verdict};
 ghost use Rattle.sf_modules.specs.Match as spec;
 ghost use Rattle.sf_modules.specs.Process.{process_view};
@@ -20,7 +20,7 @@ use crate::process::Process;
 
 // Returns the most parts that an entry's name has in common with a word.
 fn longest_tail(process: &Process<'_>, word: &[u8]) -> u128
-    ensures { result ≡ spec.longest_tail word.now (map entry_view process.now.entries.now) }
+    ensures { result ≡ spec.longest_tail word.now (map mapping_view process.now.entries.now) }
 {
     let mut longest = 0;
     for entry in process.candidates(word) {
@@ -38,7 +38,7 @@ fn matches(
     misfit: &mut u32,
     entry: &Entry<'_>,
 ) -> bool
-    ensures { result ≡ spec.matches (process_view process.now) word.now (file program.now.elf) program.now.load tail (entry_view entry.now) }
+    ensures { result ≡ spec.matches (process_view process.now) word.now (file program.now.elf) program.now.load tail (mapping_view entry.now) }
 {
     common_tail(word, entry.name) == tail && fits(process, program, misfit, entry)
 }
@@ -50,7 +50,7 @@ fn first_match<'p>(
     tail: u128,
     program: &Program<'_>,
 ) -> Option<&'p Entry<'p>>
-    ensures { option_map (λ e. entry_view e.now) result ≡ find (spec.matches (process_view process.now) word.now (file program.now.elf) program.now.load tail) (candidates word.now (map entry_view process.now.entries.now)) }
+    ensures { option_map (λ e. mapping_view e.now) result ≡ find (spec.matches (process_view process.now) word.now (file program.now.elf) program.now.load tail) (candidates word.now (map mapping_view process.now.entries.now)) }
 {
     let mut misfit = program.load;
     for entry in process.candidates(word) {
@@ -72,7 +72,7 @@ fn matches_too(
     found: &Entry<'_>,
     entry: &Entry<'_>,
 ) -> bool
-    ensures { result ≡ spec.matches_too (process_view process.now) word.now (file program.now.elf) program.now.load tail (entry_view found.now) (entry_view entry.now) }
+    ensures { result ≡ spec.matches_too (process_view process.now) word.now (file program.now.elf) program.now.load tail (mapping_view found.now) (mapping_view entry.now) }
 {
     common_tail(word, entry.name) == tail
         && entry.name != found.name
@@ -87,7 +87,7 @@ fn other_matches(
     program: &Program<'_>,
     found: &Entry<'_>,
 ) -> bool
-    ensures { result ≡ list_any (spec.matches_too (process_view process.now) word.now (file program.now.elf) program.now.load tail (entry_view found.now)) (candidates word.now (map entry_view process.now.entries.now)) }
+    ensures { result ≡ list_any (spec.matches_too (process_view process.now) word.now (file program.now.elf) program.now.load tail (mapping_view found.now)) (candidates word.now (map mapping_view process.now.entries.now)) }
 {
     let mut misfit = program.load;
     for entry in process.candidates(word) {
@@ -105,7 +105,7 @@ pub fn entry_of<'p>(
     program: &Program<'_>,
 ) -> Result<&'p Entry<'p>, ModuleFault>
     ensures check { verdict result ≡ nearest_part (process_view process.now) word.now (file program.now.elf) program.now.load }
-    ensures value { IfOk result (λ e. spec.entry_of (process_view process.now) word.now (file program.now.elf) program.now.load ≡ Some (entry_view e.now)) }
+    ensures value { IfOk result (λ e. spec.matching_entry (process_view process.now) word.now (file program.now.elf) program.now.load ≡ Some (mapping_view e.now)) }
 {
     let tail = longest_tail(process, word);
     if tail == 0 {

@@ -6,8 +6,8 @@ ghost use Rattle.std.specs.Option.{option_map};
 ghost use Rattle.sf_bytes.specs.Cursor.{cursor};
 ghost use Rattle.elf_read.specs.Checking.{each_below};
 ghost use Rattle.core_notes.specs.Views.{notes_of};
-ghost use Rattle.sf_modules.specs.Entry.{entry_view};
-ghost use Rattle.sf_modules.specs.Fault.{Answers, verdict};
+ghost use Rattle.sf_modules.specs.Entry.{mapping_view};
+ghost use Rattle.sf_modules.specs.Fault.{FollowsCheck, verdict};
 ghost use Rattle.sf_modules.specs.Note as spec;
 ghost use Rattle.sf_modules.specs.TextsRead.{text_front};
 
@@ -24,7 +24,7 @@ use std::alloc::Global;
 
 // Finds the place of the first zero byte.
 fn text_len(bytes: &[u8]) -> Option<usize>
-    ensures { result ≡ position spec.is_zero bytes.now }
+    ensures { result ≡ position spec.is_zero_byte bytes.now }
 {
     bytes.iter().position(|byte| *byte == 0)
 }
@@ -119,7 +119,7 @@ fn entry_at<'a>(
     requires within { 24 * k + 40 ≤ length note.now.bytes.now }
     requires page { page ≡ spec.page_size note.now.bytes.now }
     ensures check { verdict result ≡ spec.file_entry_check (cursor note.now) k }
-    ensures value { IfOk result (λ e. entry_view e ≡ spec.entry_at note.now.bytes.now k text.now) }
+    ensures value { IfOk result (λ e. mapping_view e ≡ spec.numbered_entry note.now.bytes.now k text.now) }
 {
     let place = FILE_ENTRY_LEN * k + FILE_NOTE_HEADER_LEN;
     let start = u64_at(note.bytes, place);
@@ -146,8 +146,8 @@ fn take_entries<'a>(
     requires page { header.now.page ≡ spec.page_size note.now.bytes.now }
     requires within { 24 * header.now.count + 16 ≤ length note.now.bytes.now }
     requires names { spec.has_file_names (spec.file_entry_count note.now.bytes.now) (spec.names_part note.now.bytes.now) ≡ true }
-    ensures check { Answers (each_below (spec.file_entry_count note.now.bytes.now) (spec.file_entry_check (cursor note.now))) result }
-    ensures value { IfOk result (λ entries. spec.AreEntries note.now.bytes.now (spec.page_size note.now.bytes.now) (map entry_view entries.items)) }
+    ensures check { FollowsCheck (each_below (spec.file_entry_count note.now.bytes.now) (spec.file_entry_check (cursor note.now))) result }
+    ensures value { IfOk result (λ entries. spec.AreEntries note.now.bytes.now (spec.page_size note.now.bytes.now) (map mapping_view entries.items)) }
 {
     let mut entries = Vec::with_capacity(alloc, header.count as usize)?;
     let mut rest = names_part(note.bytes, header.count);
@@ -166,8 +166,8 @@ fn take_entries<'a>(
 // Reads the page size and the entries of a note.
 #[tactic(auto, unfolding(crate::specs::Note::file_note_check))]
 fn read_note<'a>(alloc: Global, note: &Part<'a>) -> Result<(u64, Vec<Entry<'a>>), ModuleFault>
-    ensures sound { IfOk result (λ r. spec.AreEntries note.now.bytes.now r.0 (map entry_view r.1.items)) }
-    ensures exact { Answers (spec.file_note_check (cursor note.now)) result }
+    ensures sound { IfOk result (λ r. spec.AreEntries note.now.bytes.now r.0 (map mapping_view r.1.items)) }
+    ensures exact { FollowsCheck (spec.file_note_check (cursor note.now)) result }
     ensures page { IfOk result (λ r. 0 < r.0) }
 {
     let header = read_header(note)?;
@@ -184,9 +184,9 @@ fn read_note<'a>(alloc: Global, note: &Part<'a>) -> Result<(u64, Vec<Entry<'a>>)
 /// core file. `NoMemory` if out of memory.
 pub fn entries<'a>(alloc: Global, core: &Core<'a>) -> Result<(u64, Vec<Entry<'a>>), ModuleFault>
     // What was read is the content of the note.
-    ensures sound { IfOk result (λ r. spec.HasEntries (spec.file_note_in (notes_of core.now)) r.0 (map entry_view r.1.items)) }
+    ensures sound { IfOk result (λ r. spec.HasEntries (spec.file_note_in (notes_of core.now)) r.0 (map mapping_view r.1.items)) }
     // It is read where no check fails; else the fault is that of the first that does.
-    ensures exact { Answers (spec.file_entries_check (spec.file_note_in (notes_of core.now))) result }
+    ensures exact { FollowsCheck (spec.file_entries_check (spec.file_note_in (notes_of core.now))) result }
     ensures page { IfOk result (λ r. 0 < r.0) }
 {
     match core.file_note() {

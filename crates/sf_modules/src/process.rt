@@ -1,7 +1,7 @@
 //! A process as its core file shows it.
 
 ghost use Rattle.std.specs.Prelude.{◌<◌, map};
-ghost use Rattle.sf_modules.specs.Entry.{entry_view};
+ghost use Rattle.sf_modules.specs.Entry.{mapping_view};
 ghost use Rattle.sf_modules.specs.LastParts.{AreByPart};
 ghost use Rattle.sf_modules.specs.Stretches.{AreStretchesOf};
 
@@ -29,15 +29,15 @@ pub struct Process<'p> {
     /// The entries by the last parts of their names.
     pub(crate) last_parts: LastParts<'p>,
     ghost some: { 0 < page },
-    ghost ordered: { AreStretchesOf stretches (map entry_view entries.now) },
-    ghost by_part: { AreByPart last_parts (map entry_view entries.now) },
+    ghost ordered: { AreStretchesOf stretches (map mapping_view entries.now) },
+    ghost by_part: { AreByPart last_parts (map mapping_view entries.now) },
 }
 
 impl<'p> Process<'p> {
     ghost use Rattle.std.specs.Prelude.{◌≡◌, IfOk, map};
     ghost use Rattle.core_notes.specs.Views.{core_bytes};
     ghost use Rattle.sf_modules.specs.Candidates.{candidates};
-    ghost use Rattle.sf_modules.specs.Entry.{entry_view};
+    ghost use Rattle.sf_modules.specs.Entry.{mapping_view};
     ghost use Rattle.sf_modules.specs.LastParts.{candidates_left};
     ghost use Rattle.sf_modules.specs.Process.{process_of, process_view};
 
@@ -51,7 +51,7 @@ impl<'p> Process<'p> {
         entries: &'p [Entry<'p>],
     ) -> Result<Process<'p>, NoMemory>
         requires { 0 < page }
-        ensures { IfOk result (λ p. process_view p ≡ process_of (core_bytes core.now) page (map entry_view entries.now)) }
+        ensures { IfOk result (λ p. process_view p ≡ process_of (core_bytes core.now) page (map mapping_view entries.now)) }
     {
         let memory = MemoryMap::new(alloc, core)?;
         let stretches = Stretches::new(alloc, entries)?;
@@ -67,7 +67,7 @@ impl<'p> Process<'p> {
 
     /// Returns the entries whose names have the last part of a word.
     pub(crate) fn candidates(&self, word: &[u8]) -> Candidates<'_, 'p>
-        ensures { candidates_left result ≡ candidates word.now (map entry_view self.now.entries.now) }
+        ensures { candidates_left result ≡ candidates word.now (map mapping_view self.now.entries.now) }
     {
         Candidates {
             entries: self.entries,

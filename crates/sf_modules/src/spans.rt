@@ -1,7 +1,7 @@
 //! The entries of a process as spans of addresses.
 
 ghost use Rattle.std.specs.Prelude.{◌≡◌, IfOk, map};
-ghost use Rattle.sf_modules.specs.Entry.{entry_view};
+ghost use Rattle.sf_modules.specs.Entry.{mapping_view};
 ghost use Rattle.sf_modules.specs.Module.{ModuleView, module_view};
 ghost use Rattle.sf_modules.specs.Span as spec;
 
@@ -29,7 +29,7 @@ pub fn spans_of(
     entries: &[Entry<'_>],
     modules: &[Module<'_, '_>],
 ) -> Result<Vec<Span<Option<u32>>>, NoMemory>
-    ensures { IfOk result (λ spans. spans.items ≡ map (spec.span_of (map module_view modules.now)) (map entry_view entries.now)) }
+    ensures { IfOk result (λ spans. spans.items ≡ map (spec.entry_span (map module_view modules.now)) (map mapping_view entries.now)) }
 {
     let numbers = numbers_by_name(alloc, &names_of(alloc, modules)?)?;
     let mut spans = Vec::with_capacity(alloc, entries.len())?;

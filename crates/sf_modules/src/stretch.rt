@@ -8,7 +8,7 @@ ghost use Rattle.std.specs.Prelude.{◌≡◌, ◌≤◌, ◌<◌, ◌^◌, ◌&
 ghost use Rattle.std.specs.List.{list_any};
 ghost use Rattle.std.specs.List.Sorted.{IsNonDecreasingBy, IsPermutation};
 ghost use Rattle.std.specs.Ordering.{nat_cmp};
-ghost use Rattle.sf_modules.specs.Entry.{entry_view};
+ghost use Rattle.sf_modules.specs.Entry.{mapping_view};
 ghost use Rattle.sf_modules.specs.Stretch as spec;
 
 use crate::entry::Entry;
@@ -37,7 +37,7 @@ pub fn line_of(number: u32, address: u64, place: u64) -> u128
 
 // Returns the stretch of an entry, by the number of its name.
 fn stretch_of(entry: &Entry<'_>, number: u32) -> Stretch
-    ensures { (other address place : ℕ) → address < 2 ^ 64 → place < 2 ^ 64 → spec.has_place other address place result ≡ (spec.has_at address place (entry_view entry.now) && (number == other)) }
+    ensures { (other address place : ℕ) → address < 2 ^ 64 → place < 2 ^ 64 → spec.has_place other address place result ≡ (spec.has_at address place (mapping_view entry.now) && (number == other)) }
 {
     Stretch {
         line: line_of(number, entry.start, entry.offset),
@@ -48,7 +48,7 @@ fn stretch_of(entry: &Entry<'_>, number: u32) -> Stretch
 
 /// Returns the names of entries.
 pub fn names_of<'n>(alloc: Global, entries: &[Entry<'n>]) -> Result<Vec<&'n [u8]>, NoMemory>
-    ensures { IfOk result (λ names. map (λ n. n.now) names.items ≡ spec.names_in (map entry_view entries.now)) }
+    ensures { IfOk result (λ names. map (λ n. n.now) names.items ≡ spec.names_in (map mapping_view entries.now)) }
 {
     let mut names = Vec::with_capacity(alloc, entries.len())?;
     for entry in entries {
@@ -63,8 +63,8 @@ pub fn stretches_of(
     entries: &[Entry<'_>],
     numbers: &BTreeMap<&[u8], u32>,
 ) -> Result<Vec<Stretch>, NoMemory>
-    requires { spec.AreNumbers numbers.now (map entry_view entries.now) }
-    ensures { IfOk result (λ stretches. spec.AreOf (map entry_view entries.now) (map entry_view entries.now) stretches.items) }
+    requires { spec.AreNumbers numbers.now (map mapping_view entries.now) }
+    ensures { IfOk result (λ stretches. spec.AreOf (map mapping_view entries.now) (map mapping_view entries.now) stretches.items) }
 {
     let mut stretches = Vec::with_capacity(alloc, entries.len())?;
     for entry in entries {

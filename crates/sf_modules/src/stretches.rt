@@ -36,7 +36,7 @@ pub struct Named<'a> {
 impl<'n> Stretches<'n> {
     ghost use Rattle.std.specs.Prelude.{◌≡◌, List, IfOk, map};
     ghost use Rattle.std.specs.List.{list_any};
-    ghost use Rattle.sf_modules.specs.Entry.{EntryView, entry_view, maps};
+    ghost use Rattle.sf_modules.specs.Entry.{EntryView, mapping_view, maps};
     ghost use Rattle.sf_modules.specs.Stretch.{has_place};
     ghost use Rattle.sf_modules.specs.Stretches.{AreStretchesOf, IsNamed};
 
@@ -44,7 +44,7 @@ impl<'n> Stretches<'n> {
     ///
     /// `NoMemory` if out of memory, and for 2^32 entries or more.
     pub fn new(alloc: Global, entries: &[Entry<'n>]) -> Result<Stretches<'n>, NoMemory>
-        ensures { IfOk result (λ s. AreStretchesOf s (map entry_view entries.now)) }
+        ensures { IfOk result (λ s. AreStretchesOf s (map mapping_view entries.now)) }
     {
         let numbers = numbers_by_name(alloc, &names_of(alloc, entries)?)?;
         let mut stretches = stretches_of(alloc, entries, &numbers)?;

@@ -14,7 +14,7 @@ use Rattle.sf_words.specs.Files.{FilesWords}
 use Rattle.sf_words.specs.Forms.{IsDepth}
 use Rattle.sf_words.specs.Items.{Input, Core}
 use Rattle.sf_words.specs.Named.{inputs_of}
-use Rattle.sf_words.specs.Words.{InputWords, IsInputWord, IsSectionWord, SectionWords, section_of}
+use Rattle.sf_words.specs.Words.{InputWords, IsInputWord, IsSectionWord, SectionWords, words_of_section}
 use Rattle.section_commands.specs.Coming.{Coming, Makes}
 use Rattle.section_commands.specs.declared.made.Outcome.TheVariants.{Done}
 use Rattle.section_commands.specs.Walk.{WalkWords}
@@ -32,7 +32,7 @@ pub record BacktraceWords : Type 0 where
 
 -- the same, of the command as the code has it
 abbrev pub backtrace_of : Backtrace → BacktraceWords
-backtrace_of backtrace = record { out = section_of backtrace.out; core = backtrace.core.now; depth = backtrace.depth; inputs = inputs_of backtrace.inputs }
+backtrace_of backtrace = record { out = words_of_section backtrace.out; core = backtrace.core.now; depth = backtrace.depth; inputs = inputs_of backtrace.inputs }
 
 -- the words ask for this link and these walks
 pub record IsBacktrace (words : List (List ℕ)) (backtrace : BacktraceWords) : Type 0 where

@@ -12,7 +12,7 @@ use Rattle.sf_words.specs.Files.{FilesWords}
 use Rattle.sf_words.specs.Forms.{NameInputs, SectionAndInputs}
 use Rattle.sf_words.specs.Items.{Input}
 use Rattle.sf_words.specs.Named.{inputs_of}
-use Rattle.sf_words.specs.Words.{section_of}
+use Rattle.sf_words.specs.Words.{words_of_section}
 use Rattle.section_commands.specs.Coming.{Coming, Makes}
 use Rattle.section_commands.specs.declared.made.Outcome.TheVariants.{Done}
 use Rattle.sf_run.specs.declared.link_plt.LinkPlt.{LinkPlt}
@@ -21,7 +21,7 @@ use Rattle.sf_run.specs.Linked.{coming_of_linking}
 
 -- the section to be made, and what is linked, without where the words are in memory
 abbrev pub link_plt_of : LinkPlt → SectionAndInputs
-link_plt_of link = record { section = section_of link.out; inputs = inputs_of link.inputs }
+link_plt_of link = record { section = words_of_section link.out; inputs = inputs_of link.inputs }
 
 -- the words ask for this link
 abbrev pub IsLinkPlt : List (List ℕ) → SectionAndInputs → Type 0

@@ -13,7 +13,7 @@ use Rattle.sf_model.specs.declared.function.Func.{Func}
 use Rattle.sf_model.specs.declared.function.FuncHead.{FuncHead}
 use Rattle.sf_model.specs.Table.{Table, row_count}
 use Rattle.sf_decode.specs.View.{head_of}
-use Rattle.sf_text.specs.Number.{hexadecimal}
+use Rattle.sf_text.specs.Number.{hexadecimal_text}
 use Rattle.sf_text.specs.Content.{row_text}
 
 -- the machine
@@ -34,13 +34,13 @@ key_text B = codes "b"
 -- `sframe 2 ARCH flags FLAGS functions COUNT rows COUNT`
 unfoldable pub section_line : Arch → (flags functions rows : ℕ) → List ℕ
 section_line arch flags functions rows =
-    codes "sframe 2 " ++ arch_text arch ++ codes " flags " ++ hexadecimal flags
+    codes "sframe 2 " ++ arch_text arch ++ codes " flags " ++ hexadecimal_text flags
     ++ codes " functions " ++ decimal functions ++ codes " rows " ++ decimal rows ++ codes "\n"
 
 -- `func START size SIZE KIND key KEY rows COUNT`
 unfoldable pub function_line : FuncHead → List ℕ
 function_line head =
-    codes "func " ++ hexadecimal head.start ++ codes " size " ++ decimal head.size ++ codes " " ++ kind_text head.shape
+    codes "func " ++ hexadecimal_text head.start ++ codes " size " ++ decimal head.size ++ codes " " ++ kind_text head.shape
     ++ codes " key " ++ key_text head.key ++ codes " rows " ++ decimal head.rows ++ codes "\n"
 
 -- two blanks, `+START`, a blank and the content

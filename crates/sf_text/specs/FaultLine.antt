@@ -4,7 +4,7 @@ use Rattle.std.specs.List.{flat_map}
 use Rattle.std.specs.Fmt.{decimal}
 use Rattle.sf_model.specs.declared.notice.Notice.{Notice}
 use Rattle.sf_model.specs.Notice.{shows_item}
-use Rattle.sf_text.specs.Number.{hexadecimal}
+use Rattle.sf_text.specs.Number.{hexadecimal_text}
 use Rattle.sf_text.specs.Names.{group_name, fault_name}
 
 -- the item and a blank
@@ -14,7 +14,7 @@ item_text (Some item) = decimal item ++ codes " "
 
 -- a blank and the value
 unfoldable pub value_text : ℕ → List ℕ
-value_text value = codes " " ++ hexadecimal value
+value_text value = codes " " ++ hexadecimal_text value
 
 -- `refused ITEM GROUP FAULT VALUES`, without the item in the group `link`
 unfoldable pub fault_text : Notice → List ℕ

@@ -4,7 +4,7 @@ use Rattle.std.specs.Fmt.{decimal}
 use Rattle.sf_model.specs.declared.walk.Frame.{Frame}
 use Rattle.sf_model.specs.declared.walk.Stop.{Stop}
 use Rattle.sf_model.specs.declared.walk.Stop.TheVariants.{Depth, Outside, Unreadable, Signed}
-use Rattle.sf_text.specs.Number.{hexadecimal}
+use Rattle.sf_text.specs.Number.{hexadecimal_text}
 
 -- `thread NUMBER pid PID`
 unfoldable pub thread_line : (number pid : ℕ) → List ℕ
@@ -12,12 +12,12 @@ thread_line number pid = codes "thread " ++ decimal number ++ codes " pid " ++ d
 
 -- ` cfa ADDRESS`, where the canonical frame address is known
 abbrev pub cfa_text : Option ℕ → List ℕ
-cfa_text (Some address) = codes " cfa " ++ hexadecimal address
+cfa_text (Some address) = codes " cfa " ++ hexadecimal_text address
 cfa_text None = []
 
 -- two blanks, `#NUMBER pc PC`, and the canonical frame address
 unfoldable pub frame_line : (number : ℕ) → Frame → List ℕ
-frame_line number frame = codes "  #" ++ decimal number ++ codes " pc " ++ hexadecimal frame.pc ++ cfa_text frame.cfa ++ codes "\n"
+frame_line number frame = codes "  #" ++ decimal number ++ codes " pc " ++ hexadecimal_text frame.pc ++ cfa_text frame.cfa ++ codes "\n"
 
 -- the lines of frames that are numbered from `first` on
 unfoldable pub frame_lines : (first : ℕ) → List Frame → List ℕ
@@ -27,9 +27,9 @@ frame_lines first (frame ∷ frames) = frame_line first frame ++ frame_lines (fi
 -- why a walk stopped, with the address
 abbrev pub stop_text : Stop → List ℕ
 stop_text Depth = codes "depth"
-stop_text (Outside address) = codes "outside " ++ hexadecimal address
-stop_text (Unreadable address) = codes "unreadable " ++ hexadecimal address
-stop_text (Signed address) = codes "signed " ++ hexadecimal address
+stop_text (Outside address) = codes "outside " ++ hexadecimal_text address
+stop_text (Unreadable address) = codes "unreadable " ++ hexadecimal_text address
+stop_text (Signed address) = codes "signed " ++ hexadecimal_text address
 
 -- two blanks, and why the walk stopped
 unfoldable pub stop_line : Stop → List ℕ

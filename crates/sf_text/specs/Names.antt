@@ -73,8 +73,8 @@ machine_name n =
     if n == 3 then codes "StateDepth" else codes "NoCfaRegister"))
 
 -- the faults of reading an SFrame section, 1 to 17
-abbrev pub section_name : ℕ → List ℕ
-section_name n =
+abbrev pub section_fault_name : ℕ → List ℕ
+section_fault_name n =
     if n == 1 then codes "Short" else (if n == 2 then codes "Magic" else (if n == 3 then codes "Version" else (
     if n == 4 then codes "Flags" else (if n == 5 then codes "Abi" else (if n == 6 then codes "FixedOffset" else (
     if n == 7 then codes "Layout" else (if n == 8 then codes "Count" else (if n == 9 then codes "RowType" else (
@@ -83,8 +83,8 @@ section_name n =
     if n == 16 then codes "Overlap" else codes "AddressRange")))))))))))))))
 
 -- the faults of reading a core file, 2 to 5
-abbrev pub core_name : ℕ → List ℕ
-core_name n =
+abbrev pub core_fault_name : ℕ → List ℕ
+core_fault_name n =
     if n == 2 then codes "NotCore" else (if n == 3 then codes "Note" else (if n == 4 then codes "StatusSize" else codes "NoThread"))
 
 -- the faults of finding the modules of a process, 1, 2 and 4 to 9
@@ -106,7 +106,7 @@ fault_name Reloc n = reloc_name n
 fault_name Record n = record_name n
 fault_name Insn n = insn_name n
 fault_name Machine n = machine_name n
-fault_name Section n = section_name n
-fault_name Core n = core_name n
+fault_name Section n = section_fault_name n
+fault_name Core n = core_fault_name n
 fault_name Module n = module_name n
 fault_name Link n = link_name n

@@ -3,5 +3,5 @@ use Rattle.std.specs.Prelude.{◌++◌, ℕ, false, List, codes}
 use Rattle.std.specs.Fmt.{digits}
 
 -- the number in base 16
-unfoldable pub hexadecimal : ℕ → List ℕ
-hexadecimal n = codes "0x" ++ digits 16 false n
+unfoldable pub hexadecimal_text : ℕ → List ℕ
+hexadecimal_text n = codes "0x" ++ digits 16 false n

@@ -6,12 +6,12 @@ use Rattle.std.specs.Fmt.{decimal}
 use Rattle.sf_model.specs.declared.omission.Omitted.{Omitted}
 use Rattle.sf_model.specs.declared.omission.Origin.{Origin}
 use Rattle.sf_model.specs.declared.omission.Span.{Span}
-use Rattle.sf_text.specs.Number.{hexadecimal}
+use Rattle.sf_text.specs.Number.{hexadecimal_text}
 use Rattle.sf_text.specs.Report.{omitted_line, origin_text}
 
 -- `plt START size SIZE`
 unfoldable pub table_text : (start size : ℕ) → List ℕ
-table_text start size = codes "plt " ++ hexadecimal start ++ codes " size " ++ decimal size
+table_text start size = codes "plt " ++ hexadecimal_text start ++ codes " size " ++ decimal size
 
 -- `plt START size SIZE input ITEM section NUMBER fde PLACE`
 unfoldable pub table_line : Span → List ℕ

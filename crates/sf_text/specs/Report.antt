@@ -5,7 +5,7 @@ use Rattle.std.specs.Fmt.{decimal}
 use Rattle.sf_model.specs.declared.omission.Omission.{Omission}
 use Rattle.sf_model.specs.declared.omission.Origin.{Origin}
 use Rattle.sf_model.specs.declared.omission.Omitted.{Omitted}
-use Rattle.sf_text.specs.Number.{hexadecimal}
+use Rattle.sf_text.specs.Number.{hexadecimal_text}
 use Rattle.sf_text.specs.Names.{reason_name}
 
 -- the offset at which the reason holds, if it is a row's reason
@@ -15,12 +15,12 @@ offset_text (Some offset) = codes " at " ++ decimal offset
 
 -- `omit START size SIZE`
 unfoldable pub span_text : (start size : ℕ) → List ℕ
-span_text start size = codes "omit " ++ hexadecimal start ++ codes " size " ++ decimal size
+span_text start size = codes "omit " ++ hexadecimal_text start ++ codes " size " ++ decimal size
 
 -- ` input ITEM section NUMBER fde PLACE`
 unfoldable pub origin_text : Origin → List ℕ
 origin_text origin =
-    codes " input " ++ decimal origin.item ++ codes " section " ++ decimal origin.section ++ codes " fde " ++ hexadecimal origin.place
+    codes " input " ++ decimal origin.item ++ codes " section " ++ decimal origin.section ++ codes " fde " ++ hexadecimal_text origin.place
 
 -- ` REASON`, and ` at OFFSET` for a row's reason
 unfoldable pub omission_text : Omission → List ℕ

@@ -5,7 +5,7 @@ use Rattle.sf_model.specs.declared.content.Content.{Content}
 use Rattle.sf_model.specs.declared.verdict.Verdict.{Verdict}
 use Rattle.sf_model.specs.declared.verdict.Verdict.TheVariants.{Agrees, Differs}
 use Rattle.sf_text.specs.Content.{content_text}
-use Rattle.sf_text.specs.Number.{hexadecimal}
+use Rattle.sf_text.specs.Number.{hexadecimal_text}
 
 -- a name and a count
 unfoldable pub counted_text : (name : List ℕ) → (count : ℕ) → List ℕ
@@ -23,7 +23,7 @@ dwarf_text None = codes "none"
 
 -- `differs HEX section CONTENT dwarf CONTENT`
 unfoldable pub differs_text : (pc : ℕ) → (section : Content) → (dwarf : Option Content) → List ℕ
-differs_text pc section dwarf = codes "differs " ++ hexadecimal pc ++ codes " section " ++ content_text section ++ codes " dwarf " ++ dwarf_text dwarf ++ codes "\n"
+differs_text pc section dwarf = codes "differs " ++ hexadecimal_text pc ++ codes " section " ++ content_text section ++ codes " dwarf " ++ dwarf_text dwarf ++ codes "\n"
 
 -- the line of a verdict
 abbrev pub verdict_text : Verdict → List ℕ

@@ -6,7 +6,7 @@ ghost use Rattle.arrayvec.specs.ArrayVec.{array_vec_len};
 ghost use Rattle.sf_base.specs.Written.{AppendsPrefix};
 ghost use Rattle.sf_base.specs.Faults.{Cause};
 ghost use Rattle.sf_text.specs.Gathered.{Gathers};
-ghost use Rattle.sf_text.specs.Number.{hexadecimal};
+ghost use Rattle.sf_text.specs.Number.{hexadecimal_text};
 
 use crate::digits::{MOST, digits_in, glyph, write_decimal};
 use arrayvec::ArrayVec;
@@ -84,10 +84,10 @@ fn push_long_decimal(buffer: &mut Buffer, number: u64)
 }
 
 /// Appends a number as `0x` and lower-case digits of base 16.
-#[tactic(auto, unfolding(crate::specs::Number::hexadecimal))]
+#[tactic(auto, unfolding(crate::specs::Number::hexadecimal_text))]
 pub(crate) fn push_hexadecimal(buffer: &mut Buffer, number: u64)
     requires { array_vec_len buffer.old + 22 ≤ 8192 }
-    ensures items { buffer.new.items ≡ buffer.old.items ++ hexadecimal number }
+    ensures items { buffer.new.items ≡ buffer.old.items ++ hexadecimal_text number }
     ensures len { array_vec_len buffer.new ≤ array_vec_len buffer.old + 22 }
 {
     push_text(buffer, b"0x");

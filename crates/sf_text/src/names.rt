@@ -2,7 +2,7 @@
 
 ghost use Rattle.std.specs.Prelude.{◌≡◌, ◌≤◌, length, IsTrue, IsSome};
 ghost use Rattle.sf_model.specs.Notice.{up_to, values_shown};
-ghost use Rattle.sf_text.specs.Names.{reason_name, group_name, elf_name, place_name, reloc_name, record_name, insn_name, machine_name, section_name, core_name, module_name, link_name, fault_name as name_of_fault};
+ghost use Rattle.sf_text.specs.Names.{reason_name, group_name, elf_name, place_name, reloc_name, record_name, insn_name, machine_name, section_fault_name, core_fault_name, module_name, link_name, fault_name as name_of_fault};
 
 use sf_model::{Group, Reason};
 
@@ -168,7 +168,7 @@ fn name_of_machine(number: u8) -> &'static str
 /// Returns the name of a fault of reading an SFrame section.
 fn name_of_section(number: u8) -> &'static str
     requires { IsTrue (up_to 17 number) }
-    ensures value { result.now ≡ section_name number }
+    ensures value { result.now ≡ section_fault_name number }
     ensures short { length result.now ≤ 15 }
 {
     match number {
@@ -195,7 +195,7 @@ fn name_of_section(number: u8) -> &'static str
 /// Returns the name of a fault of reading a core file.
 fn name_of_core(number: u8) -> &'static str
     requires { (2 ≤ number) × (number ≤ 5) }
-    ensures value { result.now ≡ core_name number }
+    ensures value { result.now ≡ core_fault_name number }
     ensures short { length result.now ≤ 15 }
 {
     match number {

@@ -2,7 +2,7 @@
 
 ghost use Rattle.std.specs.Prelude.{◌≡◌, ◌++◌, OnOk};
 ghost use Rattle.std.specs.Fmt.{decimal};
-ghost use Rattle.sf_text.specs.Number.{hexadecimal};
+ghost use Rattle.sf_text.specs.Number.{hexadecimal_text};
 
 use crate::digits::{MOST, digits_in, write_decimal};
 use std::alloc::AllocError;
@@ -17,9 +17,9 @@ pub(crate) fn push_decimal(text: &mut Vec<u8>, number: u64) -> Result<(), AllocE
 }
 
 /// Appends a number as `0x` and lower-case digits of base 16.
-#[tactic(auto, unfolding(crate::specs::Number::hexadecimal))]
+#[tactic(auto, unfolding(crate::specs::Number::hexadecimal_text))]
 pub(crate) fn push_hexadecimal(text: &mut Vec<u8>, number: u64) -> Result<(), AllocError>
-    ensures { OnOk result (text.new.items ≡ text.old.items ++ hexadecimal number) }
+    ensures { OnOk result (text.new.items ≡ text.old.items ++ hexadecimal_text number) }
 {
     text.extend_from_slice(b"0x")?;
     text.extend_from_slice(digits_in(16, number).as_bytes())

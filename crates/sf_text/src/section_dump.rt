@@ -9,7 +9,7 @@ ghost use Rattle.sf_base.specs.Written.{Appends, AppendsPrefix};
 ghost use Rattle.sf_decode.specs.View.{function_of, rows_left, table_of};
 ghost use Rattle.sf_text.specs.Dump.{arch_text, kind_text, key_text, section_line, function_line, row_line, function_text, dump_text};
 ghost use Rattle.sf_text.specs.Gathered.{Gathers};
-ghost use Rattle.sf_text.specs.Number.{hexadecimal};
+ghost use Rattle.sf_text.specs.Number.{hexadecimal_text};
 
 use crate::buffer::{Buffer, make_room, push_decimal, push_hexadecimal, push_text};
 use crate::content::push_row;
@@ -53,7 +53,7 @@ fn push_section(buffer: &mut Buffer, arch: Arch, flags: u8, functions: u32, rows
 /// Appends the machine and the flags.
 fn push_machine(buffer: &mut Buffer, arch: Arch, flags: u8)
     requires { array_vec_len buffer.old + 50 ≤ 8192 }
-    ensures items { buffer.new.items ≡ buffer.old.items ++ (codes "sframe 2 " ++ arch_text arch ++ codes " flags " ++ hexadecimal flags) }
+    ensures items { buffer.new.items ≡ buffer.old.items ++ (codes "sframe 2 " ++ arch_text arch ++ codes " flags " ++ hexadecimal_text flags) }
     ensures len { array_vec_len buffer.new ≤ array_vec_len buffer.old + 50 }
 {
     push_text(buffer, b"sframe 2 ");
@@ -123,7 +123,7 @@ fn push_head(buffer: &mut Buffer, head: &FuncHead)
 /// Appends a function's start and size.
 fn push_span(buffer: &mut Buffer, start: u64, size: u32)
     requires { array_vec_len buffer.old + 54 ≤ 8192 }
-    ensures items { buffer.new.items ≡ buffer.old.items ++ (codes "func " ++ hexadecimal start ++ codes " size " ++ decimal size ++ codes " ") }
+    ensures items { buffer.new.items ≡ buffer.old.items ++ (codes "func " ++ hexadecimal_text start ++ codes " size " ++ decimal size ++ codes " ") }
     ensures len { array_vec_len buffer.new ≤ array_vec_len buffer.old + 54 }
 {
     push_text(buffer, b"func ");

@@ -1,7 +1,7 @@
 //! Numbers as they are printed where memory may be allocated.
 
 ghost use Rattle.std.specs.Prelude.{Some};
-ghost use Rattle.sf_text.specs.Number.{hexadecimal};
+ghost use Rattle.sf_text.specs.Number.{hexadecimal_text};
 
 use std::fmt;
 
@@ -9,9 +9,9 @@ use std::fmt;
 #[derive(Clone, Copy)]
 pub(crate) struct Hexadecimal(pub(crate) u64);
 
-#[tactic(auto, unfolding(crate::specs::Number::hexadecimal))]
+#[tactic(auto, unfolding(crate::specs::Number::hexadecimal_text))]
 impl fmt::Display for Hexadecimal {
-    ghost output = { λ n. Some (hexadecimal n.0) };
+    ghost output = { λ n. Some (hexadecimal_text n.0) };
 
     fn fmt<W: fmt::Write>(&self, f: &mut fmt::Formatter<W>) -> fmt::Result {
         write!(f, "0x{:x}", self.0)

@@ -7,7 +7,7 @@ use Rattle.sf_words.specs.declared.files.FileList.{FileList}
 use Rattle.sf_words.specs.declared.files.FileList.TheVariants as list
 use Rattle.sf_words.specs.declared.item.Item.{Item}
 use Rattle.sf_words.specs.Items.{ItemWords, Input, Section, Mapped, item_of, names_of}
-use Rattle.sf_words.specs.Named.{inputs_of, sections_of}
+use Rattle.sf_words.specs.Named.{inputs_of, named_sections}
 
 -- the name of the file that a command makes, the files that it reads first, and those that its list names
 pub record FilesWords : Type 0 where
@@ -35,7 +35,7 @@ items_in (Some item) = item_of item ∷ []
 abbrev pub list_items : FileList → List ItemWords
 list_items list.None = []
 list_items (list.Inputs inputs) = map Input (inputs_of inputs)
-list_items (list.Sections sections) = map Section (sections_of sections)
+list_items (list.Sections sections) = map Section (named_sections sections)
 list_items (list.Mapped names) = map Mapped (map string_bytes names.now)
 
 abbrev pub files_of : CommandFiles → FilesWords

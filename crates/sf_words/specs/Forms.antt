@@ -4,7 +4,7 @@ use Rattle.std.specs.Prelude.{◌≡◌, ℕ, ◌<◌, ◌≤◌, List, ◌∷�
 use Rattle.std.specs.List.{AllZip}
 use Rattle.sf_words.specs.declared.forms.SectionAndInputs.{SectionAndInputs as Parts}
 use Rattle.sf_words.specs.Named.{inputs_of}
-use Rattle.sf_words.specs.Words.{InputWords, IsInputWord, IsSectionWord, SectionWords, section_of}
+use Rattle.sf_words.specs.Words.{InputWords, IsInputWord, IsSectionWord, SectionWords, words_of_section}
 
 -- what is asked of a command such as `link`: the section's file and address, and the inputs
 pub record SectionAndInputs : Type 0 where
@@ -27,4 +27,4 @@ pub record IsDepth (depth : ℕ) : Type 0 where
 
 -- what the words ask for, without where they are in memory
 abbrev pub section_and_inputs_of : Parts → SectionAndInputs
-section_and_inputs_of parts = record { section = section_of parts.section; inputs = inputs_of parts.inputs }
+section_and_inputs_of parts = record { section = words_of_section parts.section; inputs = inputs_of parts.inputs }

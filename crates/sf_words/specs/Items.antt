@@ -2,7 +2,7 @@
 use Rattle.std.specs.Prelude.{◌^◌, ℕ, List, map}
 use Rattle.sf_words.specs.declared.item.Item.{Item}
 use Rattle.sf_words.specs.declared.item.Item.TheVariants as item
-use Rattle.sf_words.specs.Words.{InputWords, SectionWords, input_of, section_of}
+use Rattle.sf_words.specs.Words.{InputWords, SectionWords, input_of, words_of_section}
 
 -- a file that a command reads: an input, a section, the core file of this name, or the ELF file of this name that was mapped
 pub data ItemWords : Type 0 where
@@ -14,7 +14,7 @@ pub data ItemWords : Type 0 where
 -- the item, without where its name is in memory
 abbrev pub item_of : Item → ItemWords
 item_of (item.Input input) = Input (input_of input)
-item_of (item.Section section) = Section (section_of section)
+item_of (item.Section section) = Section (words_of_section section)
 item_of (item.Core name) = Core name.now
 item_of (item.Mapped name) = Mapped name.now
 

@@ -7,5 +7,5 @@ use Rattle.sf_words.specs.Words.{InputWords, SectionWords}
 abbrev pub inputs_of : NamedInputs → List InputWords
 inputs_of named = named.said.0
 
-abbrev pub sections_of : NamedSections → List SectionWords
-sections_of named = named.said.0
+abbrev pub named_sections : NamedSections → List SectionWords
+named_sections named = named.said.0

@@ -52,5 +52,5 @@ pub record IsSectionWord (word : List ℕ) (section : SectionWords) : Type 0 whe
 abbrev pub input_of : InputFile → InputWords
 input_of input = record { form = input.form; name = input.name.now; base = input.base }
 
-abbrev pub section_of : SectionFile → SectionWords
-section_of section = record { name = section.name.now; at = section.at }
+abbrev pub words_of_section : SectionFile → SectionWords
+words_of_section section = record { name = section.name.now; at = section.at }

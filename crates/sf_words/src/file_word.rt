@@ -1,7 +1,7 @@
 //! Words that each name a file of one kind, such as an input or a section.
 
 ghost use Rattle.std.specs.Prelude.{◌≡◌, List, ℕ, IfSome, IsSomeAnd};
-ghost use Rattle.sf_words.specs.Words.{InputWords, IsInputWord, IsSectionWord, SectionWords, input_of, section_of};
+ghost use Rattle.sf_words.specs.Words.{InputWords, IsInputWord, IsSectionWord, SectionWords, input_of, words_of_section};
 
 use crate::words::{InputFile, SectionFile, input_file, section_file};
 
@@ -37,7 +37,7 @@ impl<'a> FileWord<'a> for InputFile<'a> {
 impl<'a> FileWord<'a> for SectionFile<'a> {
     ghost Said = { SectionWords };
 
-    ghost said = { λ section. section_of section };
+    ghost said = { λ section. words_of_section section };
 
     ghost Says = { λ word section. IsSectionWord word section };
 

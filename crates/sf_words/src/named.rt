@@ -61,13 +61,13 @@ impl<'a> NamedInputs<'a> {
 impl<'a> NamedSections<'a> {
     ghost use Rattle.std.specs.Prelude.{◌≡◌, ◌<◌, List, get_or, length, IfSome, IsSomeAnd};
     ghost use Rattle.std.specs.List.{AllZip};
-    ghost use Rattle.sf_words.specs.Named.{sections_of};
-    ghost use Rattle.sf_words.specs.Words.{IsSectionWord, SectionWords, section_of};
+    ghost use Rattle.sf_words.specs.Named.{named_sections};
+    ghost use Rattle.sf_words.specs.Words.{IsSectionWord, SectionWords, words_of_section};
 
     /// Returns the words as names of sections, if each names one. Allocates nothing.
     pub fn read(words: &'a [String]) -> Option<NamedSections<'a>>
-        ensures found { IfSome result (λ named. AllZip IsSectionWord (map string_bytes words.now) (sections_of named)) }
-        ensures only { (sections : List SectionWords) → AllZip IsSectionWord (map string_bytes words.now) sections → IsSomeAnd result (λ named. sections_of named ≡ sections) }
+        ensures found { IfSome result (λ named. AllZip IsSectionWord (map string_bytes words.now) (named_sections named)) }
+        ensures only { (sections : List SectionWords) → AllZip IsSectionWord (map string_bytes words.now) sections → IsSomeAnd result (λ named. named_sections named ≡ sections) }
     {
         if !are_files::<SectionFile<'_>>(words) {
             return None;
@@ -77,15 +77,15 @@ impl<'a> NamedSections<'a> {
 
     /// Returns how many sections the words name.
     pub fn len(&self) -> usize
-        ensures { result ≡ length (sections_of self.now) }
+        ensures { result ≡ length (named_sections self.now) }
     {
         self.words.len()
     }
 
     /// Returns the section that the word at a place names.
     pub fn get(&self, index: usize) -> SectionFile<'a>
-        requires { index < length (sections_of self.now) }
-        ensures { (other : SectionWords) → section_of result ≡ get_or (sections_of self.now) index other }
+        requires { index < length (named_sections self.now) }
+        ensures { (other : SectionWords) → words_of_section result ≡ get_or (named_sections self.now) index other }
     {
         match section_file(&self.words[index]) {
             Some(section) => section,

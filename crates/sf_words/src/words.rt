@@ -3,7 +3,7 @@
 ghost use Rattle.std.specs.Prelude.{◌≡◌, ℕ, ◌++◌, List, IfSome, IsSomeAnd};
 ghost use Rattle.sf_model.specs.declared.machine.Arch.{Arch as machine};
 ghost use Rattle.sf_model.specs.declared.form.Form.{Form as input_form};
-ghost use Rattle.sf_words.specs.Words.{IsPlaced, IsInputWord, IsSectionWord, InputWords, SectionWords, Spells, input_of, prefix_of, section_of};
+ghost use Rattle.sf_words.specs.Words.{IsPlaced, IsInputWord, IsSectionWord, InputWords, SectionWords, Spells, input_of, prefix_of, words_of_section};
 
 use sf_base::hex_word;
 use sf_model::{Arch, Form};
@@ -82,8 +82,8 @@ pub fn input_file(word: &str) -> Option<InputFile<'_>>
 
 /// Returns the section that a word names, if it names one.
 pub fn section_file(word: &str) -> Option<SectionFile<'_>>
-    ensures found { IfSome result (λ s. IsSectionWord word.now (section_of s)) }
-    ensures only { (section : SectionWords) → IsSectionWord word.now section → IsSomeAnd result (λ s. section_of s ≡ section) }
+    ensures found { IfSome result (λ s. IsSectionWord word.now (words_of_section s)) }
+    ensures only { (section : SectionWords) → IsSectionWord word.now section → IsSomeAnd result (λ s. words_of_section s ≡ section) }
 {
     let placed = name_and_address(word)?;
     if placed.name.is_empty() {

@@ -5,7 +5,7 @@ use Rattle.sf_decode.specs.Decoding.{section_check}
 use Rattle.sf_decode.specs.View.{table_of}
 use Rattle.sf_words.specs.declared.loading.Loaded.{Loaded}
 use Rattle.sf_words.specs.Loading.{loaded_bytes}
-use Rattle.sf_words.specs.Named.{sections_of}
+use Rattle.sf_words.specs.Named.{named_sections}
 use Rattle.section_commands.specs.Merge.{IsSectionOf, item_check}
 use Rattle.section_commands.proofs.Lists.{a_section, none_left, section_turn}
 use Rattle.section_commands.proofs.Merged.{unread}
@@ -15,12 +15,12 @@ use Rattle.section_commands.proofs.merge.views_of.Goals as goal
 pub unreachable-requires : goal.unreachable-requires
 unreachable-requires c =
     let lt : c.loop-file.file-index < length c.args.loaded.now = omega arith in
-    let section = a_section (sections_of c.args.sections) c.args.loaded.now c.loop-file.file-index c.file-item.result c.requires.items lt in
+    let section = a_section (named_sections c.args.sections) c.args.loaded.now c.loop-file.file-index c.file-item.result c.requires.items lt in
     c.in_default.not-Section section.0 (ap (λ (l : Loaded). l.item) c.file-item.is ∙ section.1)
 
 pub loop-file-preserved : goal.loop-file-preserved
 loop-file-preserved c =
-    let sections = sections_of c.args.sections in
+    let sections = named_sections c.args.sections in
     let loaded = c.args.loaded.now in
     let k = c.loop-file.file-index in
     let lt : k < length loaded = omega arith in
@@ -38,7 +38,7 @@ loop-file-preserved c =
 
 pub returns-in-Err-clause-refused : goal.returns-in-Err-clause-refused
 returns-in-Err-clause-refused c =
-    let sections = sections_of c.args.sections in
+    let sections = named_sections c.args.sections in
     let loaded = c.args.loaded.now in
     let k = c.loop-file.file-index in
     let lt : k < length loaded = omega arith in
@@ -51,14 +51,14 @@ returns-in-Err-clause-refused c =
 
 pub returns-clause-checked : goal.returns-clause-checked
 returns-clause-checked c =
-    let sections = sections_of c.args.sections in
+    let sections = named_sections c.args.sections in
     let loaded = c.args.loaded.now in
     all_fine item_check IsSectionOf 0 (zip sections (loaded_bytes loaded)) c.loop-file.file-index _ (map table_of c.loop-file.views.items) c.loop-file.invariant.reading
     (none_left sections loaded c.loop-file.file-index (omega arith))
 
 pub returns-clause-are : goal.returns-clause-are
 returns-clause-are c =
-    let sections = sections_of c.args.sections in
+    let sections = named_sections c.args.sections in
     let loaded = c.args.loaded.now in
     all_made item_check IsSectionOf 0 (zip sections (loaded_bytes loaded)) c.loop-file.file-index _ (map table_of c.loop-file.views.items) c.loop-file.invariant.reading
     (none_left sections loaded c.loop-file.file-index (omega arith))

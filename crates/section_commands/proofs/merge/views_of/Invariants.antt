@@ -2,7 +2,7 @@ use Rattle.std.proofs.Common.{◌≡◌, map, length}
 use Rattle.std.specs.List.{zip}
 use Rattle.sf_decode.specs.View.{table_of}
 use Rattle.sf_words.specs.Loading.{loaded_bytes}
-use Rattle.sf_words.specs.Named.{sections_of}
+use Rattle.sf_words.specs.Named.{named_sections}
 use Rattle.section_commands.proofs.Lists.{left}
 use Rattle.section_commands.proofs.Merged.{ReadingSections}
 use Rattle.section_commands.proofs.merge.views_of.Given as goal
@@ -10,5 +10,5 @@ use Rattle.section_commands.proofs.merge.views_of.Given as goal
 abbrev pub invariant-loop-file : goal.invariant-loop-file
 invariant-loop-file l = record {
   count : length l.views.items ≡ l.file-index;
-  reading : ReadingSections (zip (sections_of l.sections) (loaded_bytes l.loaded)) l.file-index (left (sections_of l.sections) l.loaded l.file-index) (map table_of l.views.items);
+  reading : ReadingSections (zip (named_sections l.sections) (loaded_bytes l.loaded)) l.file-index (left (named_sections l.sections) l.loaded l.file-index) (map table_of l.views.items);
 }

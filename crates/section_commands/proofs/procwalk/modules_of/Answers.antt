@@ -9,7 +9,7 @@ use Rattle.sf_modules.specs.Process.{process_view}
 use Rattle.sf_modules.specs.ReadFile.{AreRead, IsRead}
 use Rattle.sf_words.specs.declared.loading.Loaded.{Loaded}
 use Rattle.sf_words.specs.Loading.{loaded_bytes}
-use Rattle.section_commands.specs.Procwalk.{File, IsModuleOf, file_check}
+use Rattle.section_commands.specs.Procwalk.{File, IsModuleOf, module_file_check}
 use Rattle.section_commands.proofs.Lists.{a_mapped_file, bytes_at, mapped_turn, none_left}
 use Rattle.section_commands.proofs.Procwalks.{unread}
 use Rattle.section_commands.proofs.Reading.{all_fine, all_made, one_more_read}
@@ -44,12 +44,12 @@ loop-file-preserved c =
     let bytes = (get_or files k c.file-item.result).bytes.items in
     let read : (c.as_bytes-word.result.now, c.as_slice-bytes.result.now) ≡ (c.in-Mapped.name.now, bytes) =
     ap (λ (b : List ℕ). (c.as_bytes-word.result.now, b)) (c.as_slice-bytes.ensures.value ∙ ap (λ (l : Loaded). l.bytes.items) c.file-item.is) ∙ ap (λ (n : List ℕ). (n, bytes)) c.as_bytes-word.ensures.value in
-    let check = subst (λ (f : File). file_check p f ≡ Ok tt) read (sym c.in-Ok.ensures.exact) in
+    let check = subst (λ (f : File). module_file_check p f ≡ Ok tt) read (sym c.in-Ok.ensures.exact) in
     let is = subst (λ (f : File). IsModuleOf p f (module_view c.in-Ok.module)) read c.in-Ok.ensures.sound in
     record {
       count = omega (arith, c.in_ok-push-in-Ok.ensures.len, c.push.new.self.ok.0, c.loop-file.modules.ok.0, c.loop-file.invariant.count);
       reading =
-          one_more_read (file_check p) (IsModuleOf p) module_view 1 (zip names (loaded_bytes files)) (k + 1) _ c.loop-file.modules.items c.push.new.self.items c.in-Ok.module _ _ c.loop-file.invariant.reading here check is
+          one_more_read (module_file_check p) (IsModuleOf p) module_view 1 (zip names (loaded_bytes files)) (k + 1) _ c.loop-file.modules.items c.push.new.self.items c.in-Ok.module _ _ c.loop-file.invariant.reading here check is
           c.in_ok-push-in-Ok.ensures.items;
       read =
           subst (λ (fs : List ReadFile). AreRead p fs) (sym c.in_ok-push-in-Ok-2.ensures.items)
@@ -69,7 +69,7 @@ returns-in-Err-clause-refused c =
     let bytes = (get_or files k c.file-item.result).bytes.items in
     let read : (c.as_bytes-word.result.now, c.as_slice-bytes.result.now) ≡ (c.in-Mapped.name.now, bytes) =
     ap (λ (b : List ℕ). (c.as_bytes-word.result.now, b)) (c.as_slice-bytes.ensures.value ∙ ap (λ (l : Loaded). l.bytes.items) c.file-item.is) ∙ ap (λ (n : List ℕ). (n, bytes)) c.as_bytes-word.ensures.value in
-    let check = subst (λ (f : File). file_check p f ≡ Err c.in-Err.fault) read (sym c.in-Err.ensures.exact) in
+    let check = subst (λ (f : File). module_file_check p f ≡ Err c.in-Err.fault) read (sym c.in-Err.ensures.exact) in
     let number : c.len.result + 1 ≡ k + 1 = omega (arith, c.len.ensures, c.loop-file.modules.ok.0, c.loop-file.invariant.count) in
     unread p (zip names (loaded_bytes files)) (k + 1) (c.len.result + 1) _ (map module_view c.loop-file.modules.items) _ _ c.in-Err.fault c.unread_module.result c.loop-file.invariant.reading here check number c.unread_module.ensures.is
 
@@ -77,12 +77,12 @@ pub returns-clause-checked : goal.returns-clause-checked
 returns-clause-checked c =
     let names = map string_bytes c.args.names.now in
     let p = process_view c.args.process.now in
-    all_fine (file_check p) (IsModuleOf p) 1 (zip names (loaded_bytes c.args.files.now)) (c.loop-file.file-index + 1) _ (map module_view c.loop-file.modules.items) c.loop-file.invariant.reading
+    all_fine (module_file_check p) (IsModuleOf p) 1 (zip names (loaded_bytes c.args.files.now)) (c.loop-file.file-index + 1) _ (map module_view c.loop-file.modules.items) c.loop-file.invariant.reading
     (none_left names c.args.files.now c.loop-file.file-index (omega arith))
 
 pub returns-clause-are : goal.returns-clause-are
 returns-clause-are c =
     let names = map string_bytes c.args.names.now in
     let p = process_view c.args.process.now in
-    all_made (file_check p) (IsModuleOf p) 1 (zip names (loaded_bytes c.args.files.now)) (c.loop-file.file-index + 1) _ (map module_view c.loop-file.modules.items) c.loop-file.invariant.reading
+    all_made (module_file_check p) (IsModuleOf p) 1 (zip names (loaded_bytes c.args.files.now)) (c.loop-file.file-index + 1) _ (map module_view c.loop-file.modules.items) c.loop-file.invariant.reading
     (none_left names c.args.files.now c.loop-file.file-index (omega arith))

@@ -1,10 +1,11 @@
 use Rattle.std.proofs.Common.{◌≡◌, ℕ, List, Ok, map, string_bytes, sym, subst}
 use Rattle.std.specs.List.{zip}
 use Rattle.std.proofs.lemmas.Result.{err_from_is_err_and}
-use Rattle.sf_modules.specs.Entry.{entry_view}
+use Rattle.sf_modules.specs.Entry.{mapping_view}
 use Rattle.sf_modules.specs.Note.{HasEntries, file_entries_check}
+use Rattle.sf_modules.specs.Process.{process_of}
 use Rattle.section_commands.specs.Making.{ComesAs}
-use Rattle.section_commands.specs.Procwalk.{FilesCome, file_note, files_fault, process_of}
+use Rattle.section_commands.specs.Procwalk.{FilesCome, file_note, files_fault}
 use Rattle.sf_words.specs.Loading.{loaded_bytes}
 use Rattle.section_commands.proofs.Procwalks.{files_unread}
 use Rattle.section_commands.proofs.procwalk.procwalk_made.Goals as goal
@@ -14,11 +15,11 @@ returns-in_err-modules c =
     let p = err_from_is_err_and c.from_residual.result c.from_residual.ensures.1 in
     let core = c.args.core.now in
     let page = c.in-Ok-entries.note.0 in
-    let entries = map entry_view c.deref.result.now in
+    let entries = map mapping_view c.deref.result.now in
     let note : file_entries_check (file_note core) ≡ Ok tt = subst (λ (file : List ℕ). file_entries_check (file_note file) ≡ Ok tt) c.in-Ok.ensures.bytes c.in-Ok-entries.ensures.exact in
     let are : HasEntries (file_note core) page entries =
-    subst (λ es. HasEntries (file_note core) page (map entry_view es)) (sym c.deref.ensures.value)
-    (subst (λ (file : List ℕ). HasEntries (file_note file) page (map entry_view c.in-Ok-entries.note.1.items)) c.in-Ok.ensures.bytes c.in-Ok-entries.ensures.sound) in
+    subst (λ es. HasEntries (file_note core) page (map mapping_view es)) (sym c.deref.ensures.value)
+    (subst (λ (file : List ℕ). HasEntries (file_note file) page (map mapping_view c.in-Ok-entries.note.1.items)) c.in-Ok.ensures.bytes c.in-Ok-entries.ensures.sound) in
     let files = zip (map string_bytes c.args.names.now) (loaded_bytes c.args.files.now) in
     rw (p.1, p.2) (files_unread core c.args.depth page entries files _ (sym c.in-Ok.ensures.exact) note are
     (subst (λ (file : List ℕ). ComesAs (FilesCome (process_of file page entries) c.args.depth files (files_fault (process_of file page entries) files)) c.in_err-modules.field-0.0) c.in-Ok.ensures.bytes

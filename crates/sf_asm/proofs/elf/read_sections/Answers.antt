@@ -1,7 +1,7 @@
 use Rattle.std.proofs.Common.{◌≡◌, ◌+◌, ◌-◌, ◌%◌, ◌^◌, ℕ, Some, get_or, refl, sym}
 use Rattle.elf_place.specs.Views.{Placing, placing, shift_in}
 use Rattle.elf_read.specs.Sections.{section_bytes}
-use Rattle.elf_reloc.specs.Reading.{section_address}
+use Rattle.elf_reloc.specs.Reading.{placed_address}
 use Rattle.sf_asm.specs.declared.frames.CallFrameSection.{CallFrameSection}
 use Rattle.sf_asm.specs.Sections.{placed_section}
 use Rattle.sf_asm.specs.Views.{relocations_by, seen_section}
@@ -9,7 +9,7 @@ use Rattle.sf_asm.proofs.ReadFunctions.{section_more}
 use Rattle.sf_asm.proofs.elf.read_sections.Goals as goal
 
 -- a section of a placed file, as it is read
-is_placed : (s : CallFrameSection) (p : Placing) (shift number : ℕ) → s.number ≡ number → s.bytes.now ≡ section_bytes p.file number → s.address ≡ (section_address p number + (2 ^ 64 - shift)) % 2 ^ 64 → s.shift ≡ shift
+is_placed : (s : CallFrameSection) (p : Placing) (shift number : ℕ) → s.number ≡ number → s.bytes.now ≡ section_bytes p.file number → s.address ≡ (placed_address p number + (2 ^ 64 - shift)) % 2 ^ 64 → s.shift ≡ shift
     → seen_section s (relocations_by (Some p) s.number) ≡ placed_section p shift number
 is_placed s p shift number numbered bytes address shifted = rw (numbered, bytes, address, shifted) refl
 

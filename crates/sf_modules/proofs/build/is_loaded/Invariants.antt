@@ -3,8 +3,8 @@ use Rattle.std.proofs.Common.{◌≡◌}
 use Rattle.elf_read.specs.Sections.{segment_total}
 use Rattle.elf_read.specs.Views.{file}
 use Rattle.core_notes.proofs.Numbered.{left_of}
-use Rattle.sf_modules.specs.Build.{is_loaded, is_within}
+use Rattle.sf_modules.specs.Build.{is_within_any, is_within}
 use Rattle.sf_modules.proofs.build.is_loaded.Given as goal
 
 abbrev pub invariant-loop-k : goal.invariant-loop-k
-invariant-loop-k l = list_any (is_within (file l.program.elf) l.i) (left_of (segment_total (file l.program.elf)) l.k) ≡ is_loaded (file l.program.elf) l.i
+invariant-loop-k l = list_any (is_within (file l.program.elf) l.i) (left_of (segment_total (file l.program.elf)) l.k) ≡ is_within_any (file l.program.elf) l.i

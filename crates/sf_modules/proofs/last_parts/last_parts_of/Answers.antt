@@ -6,17 +6,17 @@ use Rattle.std.specs.Ordering.{nat_cmp}
 use Rattle.std.proofs.Common.{◌≡◌, ℕ, ◌+◌, ◌-◌, ◌<◌, List, None, Bor, drop, get_or, length, map, reverse, sym, ap, ◌∙◌, arith, rules}
 use Rattle.std.proofs.lemmas.Map.Text.{btree_map_updates_str}
 use Rattle.sf_modules.specs.Candidates.{last_parts, next_same}
-use Rattle.sf_modules.specs.Entry.{entry_view}
+use Rattle.sf_modules.specs.Entry.{mapping_view}
 use Rattle.sf_modules.proofs.Alike.{first_more, next_more, none_first, none_next, part_at, parts_of_entries}
 use Rattle.sf_modules.proofs.last_parts.last_parts_of.Goals as goal
 
 pub loop-passed-init : goal.loop-passed-init
 loop-passed-init c =
     let entries = c.args.entries.now in
-    let parts = last_parts (map entry_view entries) in
+    let parts = last_parts (map mapping_view entries) in
     let count : c.in-Ok.count ≡ length c.args.entries.now = search rules in
     let some = parts_of_entries entries in
-    let all : c.in-Ok.count - 0 ≡ length (last_parts (map entry_view c.args.entries.now)) = omega (count, some, arith) in
+    let all : c.in-Ok.count - 0 ≡ length (last_parts (map mapping_view c.args.entries.now)) = omega (count, some, arith) in
     record {
       first = λ part.
           let none : tree.get_by (λ (k : Bor (List ℕ)). slice_cmp nat_cmp part k.now) c.new-first.result ≡ None = search rules in
@@ -27,7 +27,7 @@ loop-passed-init c =
 pub loop-passed-preserved : goal.loop-passed-preserved
 loop-passed-preserved c =
     let entries = c.args.entries.now in
-    let parts = last_parts (map entry_view entries) in
+    let parts = last_parts (map mapping_view entries) in
     let own = c.last_part-part.result.now in
     let before = c.in-Ok.count - c.loop-passed.passed in
     let number = c.in-Ok.count - 1 - c.loop-passed.passed in

@@ -1,7 +1,7 @@
 use Rattle.std.specs.List.{find}
 use Rattle.std.proofs.Common.{ℕ, None, Some, false, true, sym, ap, ◌∙◌}
 use Rattle.elf_read.specs.Views.{file}
-use Rattle.sf_modules.specs.Entry.{entry_view}
+use Rattle.sf_modules.specs.Entry.{mapping_view}
 use Rattle.sf_modules.specs.Match.{matches}
 use Rattle.sf_modules.specs.Process.{process_view}
 use Rattle.sf_modules.proofs.Alike.{match_among, others_among}
@@ -26,7 +26,7 @@ returns-then-other_matches-clause-check c =
     let program = c.args.program.now in
     let p = process_view c.args.process.now in
     let tail = c.longest_tail-tail.result in
-    let e = entry_view c.in-Some.entry.now in
+    let e = mapping_view c.in-Some.entry.now in
     by_others p c.args.word.now (file program.elf) program.load tail e true c.longest_tail-tail.ensures
     (c.if-other_matches.ensures ∙ others_among p c.args.word.now (file program.elf) program.load tail e p.entries c.if-tail-eq0.false)
     ∙ by_match p c.args.word.now (file program.elf) program.load tail (Some e) c.longest_tail-tail.ensures c.if-tail-eq0.false
@@ -37,7 +37,7 @@ returns-clause-check c =
     let program = c.args.program.now in
     let p = process_view c.args.process.now in
     let tail = c.longest_tail-tail.result in
-    let e = entry_view c.in-Some.entry.now in
+    let e = mapping_view c.in-Some.entry.now in
     by_others p c.args.word.now (file program.elf) program.load tail e false c.longest_tail-tail.ensures
     (c.if-other_matches.ensures ∙ others_among p c.args.word.now (file program.elf) program.load tail e p.entries c.if-tail-eq0.false)
     ∙ by_match p c.args.word.now (file program.elf) program.load tail (Some e) c.longest_tail-tail.ensures c.if-tail-eq0.false

@@ -2,7 +2,7 @@ use Rattle.std.specs.List.{list_any}
 use Rattle.std.proofs.Common.{◌≡◌, map}
 use Rattle.elf_read.specs.Views.{file}
 use Rattle.sf_modules.specs.Candidates.{candidates}
-use Rattle.sf_modules.specs.Entry.{entry_view}
+use Rattle.sf_modules.specs.Entry.{mapping_view}
 use Rattle.sf_modules.specs.LastParts.{candidates_left}
 use Rattle.sf_modules.specs.Match.{matches_too}
 use Rattle.sf_modules.specs.Process.{process_view}
@@ -10,5 +10,5 @@ use Rattle.sf_modules.proofs.nearest.other_matches.Given as goal
 
 abbrev pub invariant-loop-entry : goal.invariant-loop-entry
 invariant-loop-entry l =
-    list_any (matches_too (process_view l.process) l.word (file l.program.elf) l.program.load l.tail (entry_view l.found)) (candidates_left l.entry-iterator)
-    ≡ list_any (matches_too (process_view l.process) l.word (file l.program.elf) l.program.load l.tail (entry_view l.found)) (candidates l.word (map entry_view l.process.entries.now))
+    list_any (matches_too (process_view l.process) l.word (file l.program.elf) l.program.load l.tail (mapping_view l.found)) (candidates_left l.entry-iterator)
+    ≡ list_any (matches_too (process_view l.process) l.word (file l.program.elf) l.program.load l.tail (mapping_view l.found)) (candidates l.word (map mapping_view l.process.entries.now))

@@ -7,7 +7,7 @@ use Rattle.sf_bytes.specs.Cursor.{cursor}
 use Rattle.elf_read.specs.Checking.{each_below}
 use Rattle.elf_read.proofs.Each.{each_below-more, each_below-none, each_below-stop}
 use Rattle.sf_modules.specs.declared.entry.Entry.{Entry}
-use Rattle.sf_modules.specs.Entry.{EntryView, entry_view}
+use Rattle.sf_modules.specs.Entry.{EntryView, mapping_view}
 use Rattle.sf_modules.specs.Note.{file_entry_check, file_entry_count, names_part}
 use Rattle.sf_modules.specs.TextsRead.{text_front, texts_in}
 use Rattle.sf_modules.proofs.NamesRead.{texts_some}
@@ -28,7 +28,7 @@ loop-k-init c =
     record {
       left = ap (λ (o : Option (List (List ℕ))). is_some o) start ∙ texts_some (file_entry_count note) (names_part note) ∙ c.requires.names;
       passed = each_below-none (file_entry_check (cursor c.args.note.now));
-      so_far = ap (λ (es : List Entry). with_left note (map entry_view es) 0 (texts_in (count - 0) rest)) c.in_ok-entries.ensures.items ∙ ap (with_left note [] 0) start;
+      so_far = ap (λ (es : List Entry). with_left note (map mapping_view es) 0 (texts_in (count - 0) rest)) c.in_ok-entries.ensures.items ∙ ap (with_left note [] 0) start;
     }
 
 pub unreachable-requires : goal.unreachable-requires
@@ -56,11 +56,11 @@ loop-k-preserved c =
       left = sym (has-next count k c.loop-k.rest.now text.0.now text.1.now c.loop-k-test.true front) ∙ c.loop-k.invariant.left;
       passed = each_below-more k (file_entry_check (cursor c.args.note.now)) c.loop-k.invariant.passed (sym c.in_ok-entry.ensures.check);
       so_far =
-          entries-next note (map entry_view entries) (map entry_view c.push.new.self.items) count k c.loop-k.rest.now text.0.now text.1.now c.loop-k-test.true front
-          (ap (map entry_view) c.in_ok-push.ensures.items ∙ map-append entry_view entries (c.in_ok-entry.entry ∷ []) ∙ ap (λ (e : EntryView). map entry_view entries ++ e ∷ []) c.in_ok-entry.ensures.value)
+          entries-next note (map mapping_view entries) (map mapping_view c.push.new.self.items) count k c.loop-k.rest.now text.0.now text.1.now c.loop-k-test.true front
+          (ap (map mapping_view) c.in_ok-push.ensures.items ∙ map-append mapping_view entries (c.in_ok-entry.entry ∷ []) ∙ ap (λ (e : EntryView). map mapping_view entries ++ e ∷ []) c.in_ok-entry.ensures.value)
           c.loop-k.invariant.so_far;
     }
 
 pub returns-clause-value : goal.returns-clause-value
 returns-clause-value c =
-    entries-all c.args.note.now.bytes.now (map entry_view c.loop-k.entries.items) c.args.header.now.count c.loop-k.k c.loop-k.rest.now c.loop-k-test.false c.loop-k.invariant.so_far
+    entries-all c.args.note.now.bytes.now (map mapping_view c.loop-k.entries.items) c.args.header.now.count c.loop-k.k c.loop-k.rest.now c.loop-k-test.false c.loop-k.invariant.so_far

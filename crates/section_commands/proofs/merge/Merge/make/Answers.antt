@@ -3,7 +3,7 @@ use Rattle.std.proofs.lemmas.List.{length-map}
 use Rattle.std.proofs.lemmas.Result.{err_from_is_err_and}
 use Rattle.sf_words.specs.Items.{Section}
 use Rattle.sf_words.specs.Loading.{loaded_bytes}
-use Rattle.sf_words.specs.Named.{sections_of}
+use Rattle.sf_words.specs.Named.{named_sections}
 use Rattle.sf_words.proofs.Limits.{within_limits}
 use Rattle.section_commands.specs.Merge.{merge_files, merge_of}
 use Rattle.section_commands.proofs.Lists.{as_many}
@@ -13,8 +13,8 @@ use Rattle.section_commands.proofs.merge.Merge.make.Goals as goal
 pub views_of-requires-clause-few : goal.views_of-requires-clause-few
 views_of-requires-clause-few c =
     let limits = within_limits (merge_files (merge_of c.args.self.now)) (loaded_bytes c.args.loaded.now) c.requires.within in
-    let few : length (map Section (sections_of c.args.self.now.sections)) ≤ 512 = limits.0 in
-    let count = length-map (sections_of c.args.self.now.sections) Section in
+    let few : length (map Section (named_sections c.args.self.now.sections)) ≤ 512 = limits.0 in
+    let count = length-map (named_sections c.args.self.now.sections) Section in
     omega (arith, few, count)
 
 pub returns-in_err-views : goal.returns-in_err-views
@@ -24,7 +24,7 @@ returns-in_err-views c =
 
 pub merge-requires-clause-some : goal.merge-requires-clause-some
 merge-requires-clause-some c =
-    let sections = sections_of c.args.self.now.sections in
+    let sections = named_sections c.args.self.now.sections in
     let some : 0 < length sections = some_sections c.requires.asked.0 (merge_of c.args.self.now) c.requires.asked.1 in
     let long : length c.args.loaded.now ≡ length (map Section sections) = as_many c.args.loaded.now (map Section sections) c.requires.items in
     let views : length c.in_ok-views.views.items ≡ length c.args.loaded.now = c.in_ok-views.ensures.count in
@@ -33,7 +33,7 @@ merge-requires-clause-some c =
 
 pub merge-requires-clause-few : goal.merge-requires-clause-few
 merge-requires-clause-few c =
-    let sections = sections_of c.args.self.now.sections in
+    let sections = named_sections c.args.self.now.sections in
     let limits = within_limits (merge_files (merge_of c.args.self.now)) (loaded_bytes c.args.loaded.now) c.requires.within in
     let few : length (map Section sections) ≤ 512 = limits.0 in
     let long : length c.args.loaded.now ≡ length (map Section sections) = as_many c.args.loaded.now (map Section sections) c.requires.items in

@@ -1,7 +1,7 @@
 use Rattle.std.proofs.Common.{length, sym}
 use Rattle.std.proofs.lemmas.Bool.{ltb-true}
 use Rattle.sf_lookup.proofs.Sweeping.{start_got, start_past}
-use Rattle.sf_lookup.proofs.sweep.start_of.Goals as goal
+use Rattle.sf_lookup.proofs.sweep.span_start.Goals as goal
 
 pub returns-in-Some : goal.returns-in-Some
 returns-in-Some g c =
