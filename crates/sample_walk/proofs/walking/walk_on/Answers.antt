@@ -3,17 +3,17 @@ use Rattle.sample_walk.proofs.walking.walk_on.Goals as goal
 
 pub loop-count-preserved : goal.loop-count-preserved
 loop-count-preserved g c =
-    let step = taken (g.L.Modules.row_at c.args.modules.now) (g.L.Modules.index_at c.args.modules.now) c.args.mask (g.M.Memory.regions c.args.mem.now) c.asked.ensures c.locate-found.ensures.found c.step-next.ensures c.frame_shown.ensures c.in-Ok.is in
+    let step = taken (g.L.Modules.row_at c.args.modules.now) (g.L.Modules.index_at c.args.modules.now) c.args.mask (g.M.Memory.regions c.args.mem.now) c.asked.ensures c.locate-found.ensures.found c.step-next.ensures c.module_frame.ensures c.in-Ok.is in
     record { right = c.locate-found.ensures.cache; so_far = goes c.loop-count-test.true step c.loop-count.invariant.so_far }
 
 pub returns-in-Err-clause-frames : goal.returns-in-Err-clause-frames
 returns-in-Err-clause-frames g c =
-    let step = taken (g.L.Modules.row_at c.args.modules.now) (g.L.Modules.index_at c.args.modules.now) c.args.mask (g.M.Memory.regions c.args.mem.now) c.asked.ensures c.locate-found.ensures.found c.step-next.ensures c.frame_shown.ensures c.in-Err.is in
+    let step = taken (g.L.Modules.row_at c.args.modules.now) (g.L.Modules.index_at c.args.modules.now) c.args.mask (g.M.Memory.regions c.args.mem.now) c.asked.ensures c.locate-found.ensures.found c.step-next.ensures c.module_frame.ensures c.in-Err.is in
     (halts c.loop-count-test.true step c.loop-count.invariant.so_far).room
 
 pub returns-in-Err-clause-ended : goal.returns-in-Err-clause-ended
 returns-in-Err-clause-ended g c =
-    let step = taken (g.L.Modules.row_at c.args.modules.now) (g.L.Modules.index_at c.args.modules.now) c.args.mask (g.M.Memory.regions c.args.mem.now) c.asked.ensures c.locate-found.ensures.found c.step-next.ensures c.frame_shown.ensures c.in-Err.is in
+    let step = taken (g.L.Modules.row_at c.args.modules.now) (g.L.Modules.index_at c.args.modules.now) c.args.mask (g.M.Memory.regions c.args.mem.now) c.asked.ensures c.locate-found.ensures.found c.step-next.ensures c.module_frame.ensures c.in-Err.is in
     (halts c.loop-count-test.true step c.loop-count.invariant.so_far).end
 
 pub returns-clause-frames : goal.returns-clause-frames
