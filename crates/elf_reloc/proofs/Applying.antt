@@ -11,12 +11,12 @@ use Rattle.elf_place.specs.Views.{Placing}
 use Rattle.elf_reloc.specs.declared.fault.RelocFault.{RelocFault}
 use Rattle.elf_reloc.specs.declared.fault.RelocFault.TheVariants as faults
 use Rattle.elf_reloc.specs.declared.fix.RelocatedField.{RelocatedField}
-use Rattle.elf_reloc.specs.Applied.{Slot, Applied, by_place, slot_of, is_slot, slot_check, applied_of, applied_to}
+use Rattle.elf_reloc.specs.Applied.{Slot, Applied, by_place, slot_of, is_slot, slot_check, applied_by_first, applied_of, applied_to}
 use Rattle.elf_reloc.specs.Order.{has_width, lies_on, overlap_check, places_check}
 use Rattle.elf_reloc.specs.Table.{width_of}
 use Rattle.elf_reloc.specs.Reading.{◌>>=◌, section_fixes}
 use Rattle.elf_reloc.specs.Views.{Reads, Overlaps, IsFirstFault}
-use Rattle.elf_reloc.proofs.Checked.{positive_width}
+use Rattle.elf_reloc.proofs.Checked.{passed, positive_width}
 use Rattle.elf_reloc.proofs.First.{nil, same, other}
 use Rattle.elf_reloc.proofs.SortedFixes.{is_by_place}
 
@@ -71,6 +71,25 @@ slots_checked fields (f ∷ fs) apart =
     ap (λ (b : Bool). cond b (slot_check (map slot_of fields) fs) (Err (faults.Place f.index))) (slot_lies fields f apart)
     ∙ ap (λ (r : Result (Unit {0}) RelocFault). cond (lies_on fields f) r (Err (faults.Place f.index))) (slots_checked fields fs apart)
 
+-- what lies on the first field at its place lies on one of them
+lies_slot : (fields : List Field) (f : RelocatedField) → lies_on fields f ≡ true → is_slot (map slot_of fields) f ≡ true
+lies_slot [] f t = absurd (cc (sym (ap (λ (found : Option Field). has_width found f) (nil field_place f.place)) ∙ t))
+lies_slot (g ∷ gs) f t = elim (cases_eq g.place f.place) [
+  | inl here ↦
+      ap (λ (b : Bool). (b && (g.width == width_of f.range)) || is_slot (map slot_of gs) f) (eq-eqb g.place f.place here)
+      ∙ ap (λ (b : Bool). b || is_slot (map slot_of gs) f) (sym (first_is f g gs here) ∙ t)
+  | inr differ ↦
+      ap (λ (b : Bool). (b && (g.width == width_of f.range)) || is_slot (map slot_of gs) f) (ne_eqb g.place f.place differ)
+      ∙ lies_slot gs f (sym (other_is f g gs differ) ∙ t)
+]
+
+slots_pass : (fields : List Field) (fixes : List RelocatedField) → places_check fields fixes ≡ Ok tt → slot_check (map slot_of fields) fixes ≡ Ok tt
+unfolding slot_check places_check
+slots_pass fields [] checked = refl
+slots_pass fields (f ∷ fs) checked =
+    let p = passed (lies_on fields f) (places_check fields fs) (faults.Place f.index) checked in
+    ap (λ (b : Bool). cond b (slot_check (map slot_of fields) fs) (Err (faults.Place f.index))) (lies_slot fields f p.0) ∙ slots_pass fields fs p.1
+
 -- ---- what it comes to
 abbrev in_order : List Slot → List ℕ → List RelocatedField → Result Applied RelocFault
 in_order slots section fixes = overlap_check 0 fixes >>= λ _. slot_check slots fixes >>= λ _. Ok (applied_of fixes section slots)
@@ -91,19 +110,54 @@ read_is slots section given fixes r =
 checked_is : (slots : List Slot) (section : List ℕ) (fixes : List RelocatedField) (check : Result (Unit {0}) RelocFault) → slot_check slots fixes ≡ check → (slot_check slots fixes >>= λ _. Ok (applied_of fixes section slots)) ≡ (check >>= λ _. Ok (applied_of fixes section slots))
 checked_is slots section fixes check e = ap (λ (c : Result (Unit {0}) RelocFault). c >>= λ _. Ok (applied_of fixes section slots)) e
 
-pub applied : (p : Placing) (section : ℕ) (fixes : List RelocatedField) (fields : List Field) → Reads (section_fixes p section) fixes → AreApart fields → places_check fields fixes ≡ Ok tt
+pub applied : (p : Placing) (section : ℕ) (fixes : List RelocatedField) (fields : List Field) → Reads (section_fixes p section) fixes → places_check fields fixes ≡ Ok tt
     → applied_to p section (map slot_of fields) ≡ Ok (applied_of fixes (section_bytes p.file section) (map slot_of fields))
-applied p section fixes fields reads apart checked =
+applied p section fixes fields reads checked =
     to_is p section (map slot_of fields)
     ∙ read_is (map slot_of fields) (section_bytes p.file section) (section_fixes p section) fixes reads
-    ∙ checked_is (map slot_of fields) (section_bytes p.file section) fixes (Ok tt) (slots_checked fields fixes apart ∙ checked)
+    ∙ checked_is (map slot_of fields) (section_bytes p.file section) fixes (Ok tt) (slots_pass fields fixes checked)
 
-pub misplaced : (p : Placing) (section : ℕ) (fixes : List RelocatedField) (fields : List Field) (e : RelocFault) → Reads (section_fixes p section) fixes → AreApart fields → places_check fields fixes ≡ Err e → applied_to p section (map slot_of fields) ≡ Err e
-misplaced p section fixes fields e reads apart checked =
-    to_is p section (map slot_of fields)
-    ∙ read_is (map slot_of fields) (section_bytes p.file section) (section_fixes p section) fixes reads
-    ∙ checked_is (map slot_of fields) (section_bytes p.file section) fixes (Err e) (slots_checked fields fixes apart ∙ checked)
+-- ---- where of fields at one place the first counts
+abbrev first_in_order : List Field → List ℕ → List RelocatedField → Result Applied RelocFault
+first_in_order fields section fixes = overlap_check 0 fixes >>= λ _. places_check fields fixes >>= λ _. Ok (applied_of fixes section (map slot_of fields))
 
+abbrev first_from_fixes : List Field → List ℕ → Result (List RelocatedField) RelocFault → Result Applied RelocFault
+first_from_fixes fields section given = given >>= λ fixes. first_in_order fields section (by_place fixes)
+
+first_is_from : (p : Placing) (section : ℕ) (fields : List Field) → applied_by_first p section fields ≡ first_from_fixes fields (section_bytes p.file section) (section_fixes p section)
+unfolding applied_by_first
+first_is_from p section fields = refl
+
+first_read : (fields : List Field) (section : List ℕ) (given : Result (List RelocatedField) RelocFault) (fixes : List RelocatedField) (check : Result (Unit {0}) RelocFault) → Reads given fixes → places_check fields fixes ≡ check
+    → first_from_fixes fields section given ≡ (check >>= λ _. Ok (applied_of fixes section (map slot_of fields)))
+first_read fields section given fixes check r checked =
+    ap (first_from_fixes fields section) r.read
+    ∙ ap (first_in_order fields section) (is_by_place r.fixes fixes r.order)
+    ∙ ap (λ (c : Result (Unit {0}) RelocFault). c >>= λ _. places_check fields fixes >>= λ _. Ok (applied_of fixes section (map slot_of fields))) r.apart
+    ∙ ap (λ (c : Result (Unit {0}) RelocFault). c >>= λ _. Ok (applied_of fixes section (map slot_of fields))) checked
+
+pub first_applied : (p : Placing) (section : ℕ) (fixes : List RelocatedField) (fields : List Field) → Reads (section_fixes p section) fixes → places_check fields fixes ≡ Ok tt
+    → applied_by_first p section fields ≡ Ok (applied_of fixes (section_bytes p.file section) (map slot_of fields))
+first_applied p section fixes fields reads checked = first_is_from p section fields ∙ first_read fields (section_bytes p.file section) (section_fixes p section) fixes (Ok tt) reads checked
+
+pub first_misplaced : (p : Placing) (section : ℕ) (fixes : List RelocatedField) (fields : List Field) (e : RelocFault) → Reads (section_fixes p section) fixes → places_check fields fixes ≡ Err e → applied_by_first p section fields ≡ Err e
+first_misplaced p section fixes fields e reads checked = first_is_from p section fields ∙ first_read fields (section_bytes p.file section) (section_fixes p section) fixes (Err e) reads checked
+
+order_alike : (fields : List Field) (section : List ℕ) (fixes : List RelocatedField) → AreApart fields → first_in_order fields section fixes ≡ in_order (map slot_of fields) section fixes
+order_alike fields section fixes apart =
+    ap (λ (c : Result (Unit {0}) RelocFault). overlap_check 0 fixes >>= λ _. c >>= λ _. Ok (applied_of fixes section (map slot_of fields))) (sym (slots_checked fields fixes apart))
+
+from_alike : (fields : List Field) (section : List ℕ) (given : Result (List RelocatedField) RelocFault) → AreApart fields → first_from_fixes fields section given ≡ from_fixes (map slot_of fields) section given
+from_alike fields section (Ok fixes) apart = order_alike fields section (by_place fixes) apart
+from_alike fields section (Err e) apart = refl
+
+pub alike : (p : Placing) (section : ℕ) (fields : List Field) → AreApart fields → applied_by_first p section fields ≡ applied_to p section (map slot_of fields)
+alike p section fields apart =
+    first_is_from p section fields
+    ∙ from_alike fields (section_bytes p.file section) (section_fixes p section) apart
+    ∙ sym (to_is p section (map slot_of fields))
+
+-- ---- what is refused as it is read
 refused_by : (slots : List Slot) (section : List ℕ) (given : Result (List RelocatedField) RelocFault) (e : RelocFault) → (given ≡ Err e) ⊎ Overlaps given e → (e ≡ faults.NoMemory) ⊎ (from_fixes slots section given ≡ Err e)
 refused_by slots section given e (inl read) = inr (ap (from_fixes slots section) read)
 refused_by slots section given e (inr o) = inr (

@@ -77,7 +77,7 @@ each_first end (f ∷ fs) h =
     let differ : f.place ≡ (get_or fs k d).place → ⊥ = λ e. omega (arith, e, up, wide) in
     other place_of (get_or fs k d).place f fs differ ∙ each_first (f.place + width_of f.range) fs p.1 k d within)
 
-passed : (b : Bool) (r : Result (Unit {0}) RelocFault) (e : RelocFault) → (if b then r else Err e) ≡ Ok tt → (b ≡ true) × (r ≡ Ok tt)
+pub passed : (b : Bool) (r : Result (Unit {0}) RelocFault) (e : RelocFault) → (if b then r else Err e) ≡ Ok tt → (b ≡ true) × (r ≡ Ok tt)
 passed true r e h = (refl, h)
 passed false r e h = absurd (cc h)
 

@@ -1,6 +1,6 @@
 -- A section to which its relocations are applied (ELF64 gABI, "Relocation"): the patched bytes, and those of its pointer fields whose
 -- values can't be known yet or are places in a dropped section; or the first fault.
-use Rattle.std.specs.Prelude.{ℕ, Bool, ◌==◌, ◌&&◌, nat_le, List, [], ◌∷◌, is_none, Result, Ok, Err, if◌then◌else◌}
+use Rattle.std.specs.Prelude.{ℕ, Bool, ◌==◌, ◌&&◌, nat_le, List, [], ◌∷◌, map, is_none, Result, Ok, Err, if◌then◌else◌}
 use Rattle.std.specs.List.{filter, list_any}
 use Rattle.sf_bytes.specs.declared.field.Field.{Field}
 use Rattle.elf_read.specs.Sections.{section_bytes}
@@ -8,7 +8,7 @@ use Rattle.elf_place.specs.Views.{Placing}
 use Rattle.elf_reloc.specs.declared.fault.RelocFault.{RelocFault}
 use Rattle.elf_reloc.specs.declared.fault.RelocFault.TheVariants.{Place}
 use Rattle.elf_reloc.specs.declared.fix.RelocatedField.{RelocatedField}
-use Rattle.elf_reloc.specs.Order.{overlap_check}
+use Rattle.elf_reloc.specs.Order.{overlap_check, places_check}
 use Rattle.elf_reloc.specs.Patched.{patched}
 use Rattle.elf_reloc.specs.Reading.{◌>>=◌, section_fixes}
 use Rattle.elf_reloc.specs.Table.{width_of}
@@ -77,3 +77,12 @@ applied_to p section slots = do
   _ ← overlap_check 0 (by_place fixes)
   _ ← slot_check slots (by_place fixes)
   Ok (applied_of (by_place fixes) (section_bytes p.file section) slots)
+
+-- ---- for the law `relocations_are_applied` alone
+-- the same, where of pointer fields at one place the first counts
+unfoldable pub applied_by_first : Placing → (section : ℕ) → List Field → Result Applied RelocFault
+applied_by_first p section fields = do
+  fixes ← section_fixes p section
+  _ ← overlap_check 0 (by_place fixes)
+  _ ← places_check fields (by_place fixes)
+  Ok (applied_of (by_place fixes) (section_bytes p.file section) (map slot_of fields))

@@ -14,7 +14,7 @@ ghost use Rattle.elf_reloc.specs.Patched.{patched, AreRaw, FieldHolds, IsFree, I
 ghost use Rattle.elf_reloc.specs.Reading.{section_fixes};
 ghost use Rattle.elf_reloc.specs.Table.{width_of};
 ghost use Rattle.elf_reloc.specs.Views.{Reads, IsFirstFault};
-ghost use Rattle.elf_reloc.specs.Applied.{Slot, applied_of, applied_to, slot_of};
+ghost use Rattle.elf_reloc.specs.Applied.{Slot, applied_by_first, applied_of, applied_to, slot_of};
 ghost use Rattle.elf_reloc.specs.declared.fault.RelocFault.{RelocFault as refusal};
 ghost use Rattle.elf_reloc.specs.declared.fault.RelocFault.TheVariants.{NoMemory};
 
@@ -37,9 +37,11 @@ pub fn fields_hold_what_is_patched()
 /// to what applying them is defined to be: the patched section, or the first fault.
 pub fn relocations_are_applied()
     // All were read, and lie on pointer fields.
-    ensures applied { (p : placing) (section : ℕ) (fixes : List written) (fields : List pointer) → Reads (section_fixes p section) fixes → AreApart fields → places_check fields fixes ≡ Ok tt → applied_to p section (map slot_of fields) ≡ Ok (applied_of fixes (section_bytes p.file section) (map slot_of fields)) }
-    // All were read, and one lies on no pointer field.
-    ensures misplaced { (p : placing) (section : ℕ) (fixes : List written) (fields : List pointer) (e : refusal) → Reads (section_fixes p section) fixes → AreApart fields → places_check fields fixes ≡ Err e → applied_to p section (map slot_of fields) ≡ Err e }
+    ensures applied { (p : placing) (section : ℕ) (fixes : List written) (fields : List pointer) → Reads (section_fixes p section) fixes → places_check fields fixes ≡ Ok tt → (applied_to p section (map slot_of fields) ≡ Ok (applied_of fixes (section_bytes p.file section) (map slot_of fields))) × (applied_by_first p section fields ≡ Ok (applied_of fixes (section_bytes p.file section) (map slot_of fields))) }
+    // All were read, and one lies on no pointer field that is the first at its place.
+    ensures misplaced { (p : placing) (section : ℕ) (fixes : List written) (fields : List pointer) (e : refusal) → Reads (section_fixes p section) fixes → places_check fields fixes ≡ Err e → applied_by_first p section fields ≡ Err e }
+    // Of fields that lie apart each is the first at its place.
+    ensures alike { (p : placing) (section : ℕ) (fields : List pointer) → AreApart fields → applied_by_first p section fields ≡ applied_to p section (map slot_of fields) }
     // One was refused as it was read, whatever the pointer fields are.
     ensures refused { (p : placing) (section : ℕ) (slots : List Slot) (e : refusal) → IsFirstFault e (section_fixes p section) → (e ≡ NoMemory) ⊎ (applied_to p section slots ≡ Err e) }
 {}
