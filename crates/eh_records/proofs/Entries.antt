@@ -4,7 +4,8 @@ use Rattle.std.proofs.lemmas.List.Elements.{All-nil}
 use Rattle.sf_model.specs.declared.machine.Arch.{Arch}
 use Rattle.eh_records.specs.declared.fault.RecordFault.{RecordFault}
 use Rattle.eh_records.specs.RawRecord.{RawRecordView}
-use Rattle.eh_records.specs.Records.{AreRecords, AreEntries, all_split, start}
+use Rattle.eh_records.specs.Records.{AreRecords, all_split, start}
+use Rattle.eh_records.specs.Refused.{AreReadAs}
 use Rattle.eh_records.specs.Section.{EntryView, SplitRecord, records_of, entry_at, with_place, entries_in, entries_of}
 use Rattle.eh_records.specs.Step.{◌>>=◌}
 use Rattle.eh_records.proofs.EntriesStand.{IsAgain, at_start, give, stand}
@@ -52,13 +53,13 @@ given_entries arch section es h =
     let r = all_read arch section [] (records_of section) es h in
     record { records = r.records; raw = read_split r.records (start section) r.raw; given = r.read }
 
-pub entries_read : (arch : Arch) (section : List ℕ) (es : List EntryView) → AreEntries arch section es → entries_of arch section ≡ Ok es
+pub entries_read : (arch : Arch) (section : List ℕ) (es : List EntryView) → AreReadAs arch section (Ok es) → entries_of arch section ≡ Ok es
 unfolding entries_of
 entries_read arch section es (ps, raw, read) =
     ap (entries_in arch section []) (split_read ps (start section) raw)
     ∙ read_all arch section [] ps es (give arch section [] [] ps es (start section) refl (All-nil (IsAgain arch section)) (at_start section) raw read)
 
-pub read_entries : (arch : Arch) (section : List ℕ) (es : List EntryView) → entries_of arch section ≡ Ok es → AreEntries arch section es
+pub read_entries : (arch : Arch) (section : List ℕ) (es : List EntryView) → entries_of arch section ≡ Ok es → AreReadAs arch section (Ok es)
 read_entries arch section es h =
     let g = given_entries arch section es h in
     (g.records, g.raw, stand arch section [] [] g.records es (start section) refl (All-nil (IsAgain arch section)) (at_start section) g.raw g.given)

@@ -17,7 +17,7 @@ use Rattle.eh_records.specs.RawRecord.{RawRecordView, raw_record_at, record_of_l
 use Rattle.eh_records.specs.Records.{with_cie, start}
 use Rattle.eh_records.specs.Fde.{cie_at_place, lsda_in, lsda_at, entry_of, fde_of}
 use Rattle.eh_records.specs.Fields.{StringStands}
-use Rattle.eh_records.specs.Refused.{RecordFails, LetterFails, LettersFail, AugmentationFails, CieFails, no_version, other_version, no_string, no_code_alignment_factor, no_data_alignment_factor, no_return_address_register, no_data, FrameDataFails, FdeFails, FrameFails, FailsFrom, IsRefused}
+use Rattle.eh_records.specs.Refused.{RecordFails, LetterFails, LettersFail, AugmentationFails, CieFails, no_version, other_version, no_string, no_code_alignment_factor, no_data_alignment_factor, no_return_address_register, no_data, DataFails, FdeFails, FrameFails, FailsFrom, AreReadAs}
 use Rattle.eh_records.proofs.FailParts.{ReturnAddressRegisterFails, NamesNone, EntryFails}
 use Rattle.eh_records.specs.Section.{SplitRecord, EntryView, Common, Frame, records_from, records_of, entry_here, entry_at, place_among, entry_cie_place, with_place, entries_in, entries_of}
 use Rattle.eh_records.specs.Step.{Step, ◌>>=◌, PointerField, number_field, uleb_field, sleb_field, part_field, pointer_field}
@@ -156,14 +156,14 @@ with_lsda encoding inner = Ok (lsda_in encoding inner.0, inner.1)
 abbrev without_lsda : Cursor → Step (Option PointerField)
 without_lsda at = Ok (None, at)
 
-frame_data_by : (b : Bool) (encoding : Option ℕ) (at : Cursor) (e : RecordFault) → (if b then (data_at at >>= with_lsda encoding) else without_lsda at) ≡ failed e → FrameDataFails b at e
+frame_data_by : (b : Bool) (encoding : Option ℕ) (at : Cursor) (e : RecordFault) → (if b then (data_at at >>= with_lsda encoding) else without_lsda at) ≡ failed e → (b ≡ true) × DataFails at e
 frame_data_by true encoding at e h = elim (split (data_at at) (with_lsda encoding) e h) [
-  | inl one ↦ data_fails at e one
+  | inl one ↦ (refl, data_fails at e one)
   | inr w ↦ absurd (not_both _ e w.2)
 ]
-frame_data_by false encoding at e h = not_both _ e h
+frame_data_by false encoding at e h = absurd (not_both _ e h)
 
-frame_data_fails : (full : FullCieView) (at : Cursor) (e : RecordFault) → lsda_at full at ≡ failed e → FrameDataFails full.augmented at e
+frame_data_fails : (full : FullCieView) (at : Cursor) (e : RecordFault) → lsda_at full at ≡ failed e → (full.augmented ≡ true) × DataFails at e
 unfolding lsda_at
 frame_data_fails full at e h = frame_data_by full.augmented full.lsda at e h
 
@@ -174,7 +174,9 @@ fde_fails full p e h = elim (split (pointer_field full.width p.body) _ e h) [
   | inr begin ↦ elim (split (pointer_field full.width begin.0.1) _ e begin.2) [
     | inl one ↦ inr (begin.0.0, begin.0.1, pointer_stands full.width p.body begin.0 begin.1, inl (pointer_lacks full.width begin.0.1 e one))
     | inr range ↦ elim (split (lsda_at full range.0.1) _ e range.2) [
-      | inl one ↦ inr (begin.0.0, begin.0.1, pointer_stands full.width p.body begin.0 begin.1, inr (range.0.0, range.0.1, pointer_stands full.width begin.0.1 range.0 range.1, frame_data_fails full range.0.1 e one))
+      | inl one ↦
+          let missing = frame_data_fails full range.0.1 e one in
+          inr (begin.0.0, begin.0.1, pointer_stands full.width p.body begin.0 begin.1, inr (range.0.0, range.0.1, pointer_stands full.width begin.0.1 range.0 range.1, missing.0, missing.1))
       | inr w ↦ absurd (not_both _ e w.2)
     ]
   ]
@@ -367,6 +369,6 @@ fails_from arch section cies before (Ok p ∷ others) at e is known here raw h =
           ]
     ]
 
-pub is_refused : (arch : Arch) (section : List ℕ) (e : RecordFault) → entries_of arch section ≡ failed e → IsRefused arch section e
+pub is_refused : (arch : Arch) (section : List ℕ) (e : RecordFault) → entries_of arch section ≡ failed e → AreReadAs arch section (Err e)
 unfolding entries_of
 is_refused arch section e h = fails_from arch section [] [] (records_of section) (start section) e refl (All-nil (IsAgain arch section)) (at_start section) refl h

@@ -16,7 +16,7 @@ use Rattle.eh_records.specs.RawRecord.{RawRecordView, raw_record_at, record_of_l
 use Rattle.eh_records.specs.Records.{with_cie, start}
 use Rattle.eh_records.specs.Fde.{FdeView, cie_at_place, lsda_in, lsda_at, entry_of, fde_of}
 use Rattle.eh_records.specs.Fields.{with_letter_value, StringStands}
-use Rattle.eh_records.specs.Refused.{Lacks, RecordFails, LetterFails, LettersFail, AugmentationFails, CieFails, no_version, other_version, no_string, no_code_alignment_factor, no_data_alignment_factor, no_return_address_register, no_data, FrameDataFails, FdeFails, FailsFrom, IsRefused, AreReadAs}
+use Rattle.eh_records.specs.Refused.{Lacks, RecordFails, LetterFails, LettersFail, AugmentationFails, CieFails, no_version, other_version, no_string, no_code_alignment_factor, no_data_alignment_factor, no_return_address_register, no_data, DataFails, FdeFails, FailsFrom, AreReadAs}
 use Rattle.eh_records.proofs.FailParts.{ReturnAddressRegisterFails, NamesNone, EntryFails}
 use Rattle.eh_records.specs.Section.{SplitRecord, EntryView, Common, Frame, records_from, entry_here, entry_at, place_among, entry_cie_place, with_place, entries_in, entries_of}
 use Rattle.eh_records.specs.Step.{Step, ◌>>=◌, PointerField, number_field, uleb_field, sleb_field, pointer_field}
@@ -111,11 +111,11 @@ with_lsda encoding inner = Ok (lsda_in encoding inner.0, inner.1)
 abbrev without_lsda : Cursor → Step (Option PointerField)
 without_lsda at = Ok (None, at)
 
-frame_data_by : (b : Bool) (encoding : Option ℕ) (at : Cursor) (e : RecordFault) → FrameDataFails b at e → (if b then (data_at at >>= with_lsda encoding) else without_lsda at) ≡ failed e
-frame_data_by true encoding at e h = ap (λ (r : Step Cursor). r >>= with_lsda encoding) (data_refused at e h)
-frame_data_by false encoding at e h = absurd h
+frame_data_by : (b : Bool) (encoding : Option ℕ) (at : Cursor) (e : RecordFault) → (b ≡ true) × DataFails at e → (if b then (data_at at >>= with_lsda encoding) else without_lsda at) ≡ failed e
+frame_data_by true encoding at e h = ap (λ (r : Step Cursor). r >>= with_lsda encoding) (data_refused at e h.1)
+frame_data_by false encoding at e h = absurd (cc h.0)
 
-frame_data_refused : (full : FullCieView) (at : Cursor) (e : RecordFault) → FrameDataFails full.augmented at e → lsda_at full at ≡ failed e
+frame_data_refused : (full : FullCieView) (at : Cursor) (e : RecordFault) → (full.augmented ≡ true) × DataFails at e → lsda_at full at ≡ failed e
 unfolding lsda_at
 frame_data_refused full at e h = frame_data_by full.augmented full.lsda at e h
 
@@ -134,10 +134,10 @@ fde_refused full p e (inl h) = ap (λ (r : Step PointerField). r >>= behind_begi
 fde_refused full p e (inr (begin, a1, stands, inl h)) =
     ap (λ (r : Step PointerField). r >>= behind_begin full p) (pointer_read full.width begin p.body a1 stands)
     ∙ ap (λ (r : Step PointerField). r >>= behind_range full p begin) (pointer_refused full.width a1 e h)
-fde_refused full p e (inr (begin, a1, stands, inr (range, a2, range_stands, h))) =
+fde_refused full p e (inr (begin, a1, stands, inr (range, a2, range_stands, augmented, h))) =
     ap (λ (r : Step PointerField). r >>= behind_begin full p) (pointer_read full.width begin p.body a1 stands)
     ∙ ap (λ (r : Step PointerField). r >>= behind_range full p begin) (pointer_read full.width range a1 a2 range_stands)
-    ∙ ap (λ (r : Step (Option PointerField)). r >>= all_fields full p begin range) (frame_data_refused full a2 e h)
+    ∙ ap (λ (r : Step (Option PointerField)). r >>= all_fields full p begin range) (frame_data_refused full a2 e (augmented, h))
 
 -- ---- the entry that is named
 abbrev Named : Type 0
@@ -280,7 +280,7 @@ refused_from arch section cies before (p ∷ ps) (v ∷ vs) at e is known here (
     (refused_from arch section (with_place cies p) (with_cie before v) ps vs after e (places_by cies before arch p v is fields) (known_by arch section before at p after v here stands known fields)
     (at_after section at p after here stands) rest)
 
-pub refused_is : (arch : Arch) (section : List ℕ) (e : RecordFault) → IsRefused arch section e → entries_of arch section ≡ failed e
+pub refused_is : (arch : Arch) (section : List ℕ) (e : RecordFault) → AreReadAs arch section (Err e) → entries_of arch section ≡ failed e
 unfolding entries_of
 refused_is arch section e (ps, vs, h) = refused_from arch section [] [] ps vs (start section) e refl (All-nil (IsAgain arch section)) (at_start section) h
 

@@ -1,7 +1,9 @@
 -- Each field at which the reader stops isn't there, and names the fault.
 use Rattle.std.specs.Prelude.{◌≢◌, ◌==◌, ◌&&◌, nat_lt, position}
+use Rattle.std.specs.List.{All}
 use Rattle.std.proofs.Common.{◌≡◌, ◌⊎◌, ℕ, ℤ, zero, suc, ◌%◌, ◌<◌, ◌≤◌, ◌^◌, Bool, true, false, cond, List, [], ◌∷◌, length, take, Option, Some, None, Result, Ok, Err, refl, sym, ap, ◌∙◌, arith, inl, inr, eq-eqb, if◌then◌else◌}
 use Rattle.std.proofs.lemmas.Bool.{cases_lt, eqb-true, eqb-false, ltb-true}
+use Rattle.std.proofs.lemmas.List.Elements.{All-cons, All-head, All-nil, All-tail}
 use Rattle.byteorder.specs.Endian.{little_number}
 use Rattle.sf_bytes.specs.Cursor.{Cursor, Read, past, number_at, part_at}
 use Rattle.sf_bytes.specs.Leb.{IsRun, leb_sum, leb_signed, fits_i64, longer, run_length, uleb_at, sleb_at}
@@ -19,7 +21,7 @@ use Rattle.eh_pointer.specs.Skipping.{as_pointer_fault, passed, passed_width, po
 use Rattle.eh_records.specs.declared.fault.RecordFault.{RecordFault}
 use Rattle.eh_records.specs.declared.fault.RecordFault.TheVariants as faults
 use Rattle.eh_records.specs.Augmentation.{Form, are_letters, letters_in, letters_at, data_at, form_of, form_at, personality_field, personality_in, personality_at, pointer_fault}
-use Rattle.eh_records.specs.Refused.{Lacks, LacksText, GoOn, IsLebFault, LacksUleb, LacksSleb, DataFails, StringFails, FormFails, PassedFails, PersonalityFails}
+use Rattle.eh_records.specs.Refused.{Lacks, IsLebFault, LacksUleb, LacksSleb, DataFails, StringFails, FormFails, PassedFails, PersonalityFails}
 use Rattle.eh_records.specs.Step.{Step, ◌>>=◌, fault_of, at_field, PointerField, number_field, uleb_field, sleb_field, text_field, part_field, pointer_field}
 use Rattle.eh_records.proofs.FieldsStand.{number_stands, uleb_stands, uleb_read, sleb_read, text_stands, text_read}
 
@@ -70,6 +72,10 @@ text_named : (at : Cursor) (e : RecordFault) → text_field at ≡ failed e → 
 unfolding text_field text_at
 text_named at e h = text_short (position (λ b. b == 0) at.left) at e h
 
+-- no text is there: no byte is zero
+abbrev pub LacksText : Cursor → RecordFault → Type 0
+LacksText at e = ((text : List ℕ) (to : Cursor) → FieldStands Text text at to → ⊥) × (e ≡ faults.Short at.place)
+
 pub text_lacks : (at : Cursor) (e : RecordFault) → text_field at ≡ failed e → LacksText at e
 text_lacks at e h = (λ text to s. not_both (text, to) e (sym (text_read at text to s) ∙ h), text_named at e h)
 
@@ -83,6 +89,19 @@ run_same d f h = cc
 longer_failed : (r : Result ℕ ByteFault) (f : ByteFault) → longer r ≡ run_failed f → r ≡ run_failed f
 longer_failed (Ok n) f h = absurd cc
 longer_failed (Err d) f h = h
+
+-- each byte continues the number: it is 128 or more
+abbrev GoOn : List ℕ → Type 0
+GoOn [] = Unit {0}
+GoOn (b ∷ bs) = (128 ≤ b) × GoOn bs
+
+go_all : (xs : List ℕ) → GoOn xs → All (λ (b : ℕ). 128 ≤ b) xs
+go_all [] g = All-nil (λ (b : ℕ). 128 ≤ b)
+go_all (b ∷ bs) g = All-cons (λ (x : ℕ). 128 ≤ x) b bs g.0 (go_all bs g.1)
+
+all_go : (xs : List ℕ) → All (λ (b : ℕ). 128 ≤ b) xs → GoOn xs
+all_go [] g = tt
+all_go (b ∷ bs) g = (All-head (λ (x : ℕ). 128 ≤ x) b bs g, all_go bs (All-tail (λ (x : ℕ). 128 ≤ x) b bs g))
 
 abbrev RunFault : (place most : ℕ) → List ℕ → ByteFault → Type 0
 RunFault place most left f = ((length left < most) × GoOn left × (f ≡ bytes.Short place)) ⊎ ((most ≤ length left) × (f ≡ bytes.Leb place))
@@ -115,13 +134,13 @@ go_take (suc n) [] g = tt
 go_take (suc n) (b ∷ bs) g = (g.0, go_take n bs g.1)
 
 leb_named : (at : Cursor) (f : ByteFault) (e : RecordFault) → RunFault at.place 10 at.left f → fault_of at.place f ≡ e → IsLebFault at e
-leb_named at f e (inl h) named = inl (h.0, h.1, sym named ∙ ap (fault_of at.place) h.2)
+leb_named at f e (inl h) named = inl (h.0, go_all at.left h.1, sym named ∙ ap (fault_of at.place) h.2)
 leb_named at f e (inr h) named = let long : 10 ≤ length at.left = h.0 in inr (λ g. long, sym named ∙ ap (fault_of at.place) h.1)
 
 -- a run that is there, whose number doesn't fit
 too_large : {X : Type 0} (b : Bool) (at : Cursor) (n : ℕ) (x : X × Cursor) (e : RecordFault) → Begins 10 n at.left → at_field at.place (cond {A = Read X} b (Ok x) (Err (bytes.Leb at.place))) ≡ failed e → IsLebFault at e
 too_large true at n x e begins h = absurd (not_both x e h)
-too_large {X = X} false at n x e begins h = inr (λ g. absurd (no_run (take n at.left) begins.ends (go_take n at.left g)), sym (fault_same {X = X × Cursor} (faults.Leb at.place) e h))
+too_large {X = X} false at n x e begins h = inr (λ g. absurd (no_run (take n at.left) begins.ends (go_take n at.left (all_go at.left g))), sym (fault_same {X = X × Cursor} (faults.Leb at.place) e h))
 
 abbrev and_then : {X : Type 0} → Result ℕ ByteFault → (ℕ → Read X) → Read X
 and_then (Ok n) f = f n

@@ -15,9 +15,9 @@ use Rattle.eh_pointer.specs.Skipping.{as_pointer_fault, passed, passed_width, po
 use Rattle.eh_records.specs.declared.fault.RecordFault.{RecordFault}
 use Rattle.eh_records.specs.declared.fault.RecordFault.TheVariants as faults
 use Rattle.eh_records.specs.Augmentation.{Form, are_letters, letters_in, letters_at, data_at, form_of, form_at, personality_in, personality_at, pointer_fault}
-use Rattle.eh_records.specs.Refused.{Lacks, LacksText, IsLebFault, LacksUleb, LacksSleb, DataFails, StringFails, FormFails, PassedFails, PersonalityFails}
+use Rattle.eh_records.specs.Refused.{Lacks, IsLebFault, LacksUleb, LacksSleb, DataFails, StringFails, FormFails, PassedFails, PersonalityFails}
 use Rattle.eh_records.specs.Step.{Step, ◌>>=◌, fault_of, at_field, PointerField, number_field, uleb_field, sleb_field, text_field, part_field, pointer_field}
-use Rattle.eh_records.proofs.FieldsFail.{failed, fault_same, went, text_lacks, uleb_lacks, sleb_lacks}
+use Rattle.eh_records.proofs.FieldsFail.{LacksText, failed, fault_same, went, text_lacks, uleb_lacks, sleb_lacks}
 use Rattle.eh_records.proofs.FieldsStand.{number_read, uleb_stands, uleb_read, sleb_stands, text_stands, text_read}
 
 abbrev pub stopped : {X : Type 0} {d e : RecordFault} → d ≡ e → failed {X = X} d ≡ failed {X = X} e

@@ -24,7 +24,7 @@ use Rattle.eh_records.proofs.LetterLoop.{is_new}
 use Rattle.eh_records.specs.Cie.{CieView, FullCieView, version_at, return_address_register_at, passed_data, augmentation_at, cie_of}
 use Rattle.eh_records.specs.RawRecord.{RawRecordView}
 use Rattle.eh_records.specs.Fde.{FdeView, read_there, lsda_of_width, lsda_in, lsda_at, entry_of}
-use Rattle.eh_records.specs.Fields.{PointerStands, PassedStands, StringStands, LetterValue, pointers, personality, lsda, signal, key_b, PersonalityStands, LetterValueStands, LetterValuesStand, with_letter_value, with_letter_values, DataStands, AugmentationStands, ReturnAddressRegisterStands, CieStands, LsdaStands, FrameData, FrameDataStands, FdeStands}
+use Rattle.eh_records.specs.Fields.{PointerStands, PassedStands, StringStands, LetterValue, pointers, personality, lsda, signal, key_b, PersonalityStands, LetterValueStands, LetterValuesStand, with_letter_value, with_letter_values, DataStands, AugmentationStands, ReturnAddressRegisterStands, CieStands, LsdaStands, FrameDataStands, FdeStands}
 use Rattle.eh_records.specs.Step.{Step, ◌>>=◌, at_field, PointerField, number_field, uleb_field, sleb_field, text_field, part_field, pointer_field}
 use Rattle.eh_records.proofs.RawRecords.{through, then_is, ok_same}
 
@@ -581,16 +581,16 @@ frame_data_by : (b : Bool) (encoding : Option ℕ) (at : Cursor) (x : Option Poi
 frame_data_by true encoding at x e =
     let t = through (data_at at) _ x e in
     let same : (lsda_in encoding t.first.0, t.first.1) ≡ x = ok_same _ x t.rest in
-    subst (λ (y : Option PointerField × Cursor). FrameData encoding y.0 at y.1) same (record { data_ = t.first.0; data_stands = data_stands at t.first t.read; lsda_stands = lsda_stands encoding t.first.0 })
+    subst (λ (y : Option PointerField × Cursor). FrameDataStands true encoding y.0 at y.1) same (t.first.0, data_stands at t.first t.read, lsda_stands encoding t.first.0)
 frame_data_by false encoding at x e =
     let same : (None, at) ≡ x = ok_same _ x e in
     (sym (ap (λ (y : Option PointerField × Cursor). y.0) same), sym (ap (λ (y : Option PointerField × Cursor). y.1) same))
 
 frame_data_again : (b : Bool) (encoding : Option ℕ) (field : Option PointerField) (at after : Cursor) → FrameDataStands b encoding field at after
     → (if b then (data_at at >>= with_lsda encoding) else without_lsda at) ≡ Ok (field, after)
-frame_data_again true encoding field at after s =
-    ap (λ (r : Step Cursor). r >>= with_lsda encoding) (data_read s.data_ at after s.data_stands)
-    ∙ ap (λ (f : Option PointerField). Ok (f, after)) (lsda_read encoding field s.data_ s.lsda_stands)
+frame_data_again true encoding field at after (inner, data_there, lsda_there) =
+    ap (λ (r : Step Cursor). r >>= with_lsda encoding) (data_read inner at after data_there)
+    ∙ ap (λ (f : Option PointerField). Ok (f, after)) (lsda_read encoding field inner lsda_there)
 frame_data_again false encoding field at after s = ap (λ (f : Option PointerField). Ok (f, at)) (sym s.0) ∙ ap (λ (c : Cursor). Ok (field, c)) (sym s.1)
 
 frame_data_stands : (full : FullCieView) (at : Cursor) (x : Option PointerField × Cursor) → lsda_at full at ≡ Ok x → FrameDataStands full.augmented full.lsda x.0 at x.1

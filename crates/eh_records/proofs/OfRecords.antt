@@ -1,5 +1,5 @@
 -- Each fault of reading records is one that records can have.
-use Rattle.std.proofs.Common.{◌≡◌, ◌⊎◌, ℕ, Bool, true, false, List, [], ◌∷◌, Option, Some, None, sym, subst, inl, inr}
+use Rattle.std.proofs.Common.{◌≡◌, ◌⊎◌, ℕ, true, List, [], ◌∷◌, Option, Some, None, Err, sym, subst, inl, inr}
 use Rattle.sf_bytes.specs.Cursor.{Cursor}
 use Rattle.sf_model.specs.declared.machine.Arch.{Arch}
 use Rattle.eh_records.specs.declared.fault.RecordFault.{RecordFault}
@@ -7,7 +7,7 @@ use Rattle.eh_records.specs.declared.fault.RecordFault.TheVariants.{Short, Exten
 use Rattle.eh_records.specs.Cie.{FullCieView}
 use Rattle.eh_records.specs.RawRecord.{RawRecordView}
 use Rattle.eh_records.specs.Records.{start, with_cie}
-use Rattle.eh_records.specs.Refused.{Lacks, IsLebFault, RecordFails, DataFails, StringFails, FormFails, PassedFails, PersonalityFails, LetterFails, LettersFail, AugmentationFails, CieFails, no_version, other_version, no_string, no_code_alignment_factor, no_data_alignment_factor, no_return_address_register, no_data, FrameDataFails, FdeFails, FrameFails, FailsFrom, IsRefused, IsOfRecords}
+use Rattle.eh_records.specs.Refused.{Lacks, IsLebFault, RecordFails, DataFails, StringFails, FormFails, PassedFails, PersonalityFails, LetterFails, LettersFail, AugmentationFails, CieFails, no_version, other_version, no_string, no_code_alignment_factor, no_data_alignment_factor, no_return_address_register, no_data, FdeFails, FrameFails, FailsFrom, AreReadAs, IsOfRecords}
 use Rattle.eh_records.proofs.FailParts.{ReturnAddressRegisterFails, EntryFails}
 use Rattle.eh_records.specs.Fields.{PointerStands}
 use Rattle.eh_records.specs.Section.{EntryView}
@@ -78,13 +78,9 @@ of_cie arch p e (no_data_alignment_factor version code letters a1 a2 a3 byte kno
 of_cie arch p e (no_return_address_register version code factor letters a1 a2 a3 a4 byte known string c f h) = of_register version a4 e h
 of_cie arch p e (no_data version code register factor letters a1 a2 a3 a4 a5 byte known string c f k h) = of_augmentation letters a5 e h
 
-of_frame_data : (augmented : Bool) (at : Cursor) (e : RecordFault) → FrameDataFails augmented at e → IsOfRecords e
-of_frame_data true at e h = of_data at e h
-of_frame_data false at e h = absurd h
-
-of_range : (full : FullCieView) (at : Cursor) (e : RecordFault) → Lacks full.width at e ⊎ ((range : PointerField) × (after : Cursor) × PointerStands full.width range at after × FrameDataFails full.augmented after e) → IsOfRecords e
+of_range : (full : FullCieView) (at : Cursor) (e : RecordFault) → Lacks full.width at e ⊎ ((range : PointerField) × (after : Cursor) × PointerStands full.width range at after × (full.augmented ≡ true) × DataFails after e) → IsOfRecords e
 of_range full at e (inl h) = of_lack full.width at e h
-of_range full at e (inr h) = of_frame_data full.augmented h.1 e h.3
+of_range full at e (inr (range, after, stands, augmented, h)) = of_data after e h
 
 of_fde : (full : FullCieView) (p : RawRecordView) (e : RecordFault) → FdeFails full p e → IsOfRecords e
 of_fde full p e (inl h) = of_lack full.width p.body e h
@@ -110,5 +106,5 @@ of_from arch before [] (v ∷ vs) at e h = absurd h
 of_from arch before (p ∷ ps) [] at e h = absurd h
 of_from arch before (p ∷ ps) (v ∷ vs) at e h = of_from arch (with_cie before v) ps vs h.0 e h.3
 
-pub of_records : (arch : Arch) (section : List ℕ) (e : RecordFault) → IsRefused arch section e → IsOfRecords e
+pub of_records : (arch : Arch) (section : List ℕ) (e : RecordFault) → AreReadAs arch section (Err e) → IsOfRecords e
 of_records arch section e h = of_from arch [] h.0 h.1 (start section) e h.2

@@ -137,15 +137,9 @@ abbrev pub LsdaStands : (encoding : Option ℕ) → Option PointerField → Curs
 LsdaStands encoding (Some field) at = (e : ℕ) × (width : ℕ) × (rest : Cursor) × (encoding ≡ Some e) × (pointer_width e ≡ Some width) × PointerStands width field at rest
 LsdaStands encoding None at = (e width : ℕ) → encoding ≡ Some e → pointer_width e ≡ Some width → length at.left < width
 
--- augmentation data, and the pointer to the language-specific data area in it
-pub record FrameData (encoding : Option ℕ) (field : Option PointerField) (from to : Cursor) : Type 0 where
-  pub data_ : Cursor
-  pub data_stands : DataStands data_ from to
-  pub lsda_stands : LsdaStands encoding field data_
-
--- there is augmentation data if the common information entry has a string
+-- there is augmentation data, and in it the pointer to the language-specific data area, if the common information entry has a string
 abbrev pub FrameDataStands : (augmented : Bool) → (encoding : Option ℕ) → Option PointerField → (from to : Cursor) → Type 0
-FrameDataStands true encoding field from to = FrameData encoding field from to
+FrameDataStands true encoding field from to = (data_ : Cursor) × DataStands data_ from to × LsdaStands encoding field data_
 FrameDataStands false encoding field from to = (field ≡ None) × (to ≡ from)
 
 -- start, size, augmentation data; the instructions are the rest of the record

@@ -54,7 +54,3 @@ AreEntriesOf arch before [] [] = Unit {0}
 AreEntriesOf arch before [] (e ∷ es) = ⊥
 AreEntriesOf arch before (p ∷ ps) [] = ⊥
 AreEntriesOf arch before (p ∷ ps) (e ∷ es) = EntryStands arch before p e × AreEntriesOf arch (with_cie before e) ps es
-
--- these are the entries of a section: those of its records
-abbrev pub AreEntries : Arch → List ℕ → List EntryView → Type 0
-AreEntries arch section es = (ps : List RawRecordView) × AreRecords ps (start section) × AreEntriesOf arch [] ps es

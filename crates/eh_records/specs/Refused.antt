@@ -1,8 +1,8 @@
 -- The first fault of a section's records (LSB Core, "The .eh_frame section"): records with their entries come before it, and the
 -- next record can't be split off, or one of its fields isn't there. All fields before that field are there, and it determines the
 -- fault.
-use Rattle.std.specs.Prelude.{◌≡◌, ◌≢◌, ◌⊎◌, ℕ, ℤ, ◌+◌, ◌%◌, ◌<◌, ◌≤◌, Bool, true, false, List, [], ◌∷◌, length, take, Option, Some, None, Result, Ok, Err}
-use Rattle.std.specs.List.{Contains}
+use Rattle.std.specs.Prelude.{◌≡◌, ◌≢◌, ◌⊎◌, ℕ, ℤ, ◌+◌, ◌%◌, ◌<◌, ◌≤◌, true, false, List, [], ◌∷◌, length, take, Option, Some, None, Result, Ok, Err}
+use Rattle.std.specs.List.{All, Contains}
 use Rattle.byteorder.specs.Endian.{little_number}
 use Rattle.sf_bytes.specs.Cursor.{Cursor}
 use Rattle.sf_bytes.specs.Leb.{Uleb, Sleb}
@@ -14,7 +14,7 @@ use Rattle.eh_records.specs.declared.fault.RecordFault.TheVariants.{Short, Exten
 use Rattle.eh_records.specs.Augmentation.{are_letters}
 use Rattle.eh_records.specs.Cie.{FullCieView}
 use Rattle.eh_records.specs.RawRecord.{RawRecordView}
-use Rattle.eh_records.specs.Records.{Stands, AreEntries, with_cie, start}
+use Rattle.eh_records.specs.Records.{Stands, AreRecords, AreEntriesOf, with_cie, start}
 use Rattle.eh_records.specs.Fields.{PointerStands, StringStands, LetterValue, LetterValueStands, ReturnAddressRegisterStands, DataStands, EntryStands}
 use Rattle.eh_records.specs.Section.{EntryView}
 use Rattle.eh_records.specs.Step.{PointerField}
@@ -24,18 +24,12 @@ use Rattle.eh_records.specs.Step.{PointerField}
 abbrev pub Lacks : (n : ℕ) → Cursor → RecordFault → Type 0
 Lacks n at e = (length at.left < n) × (e ≡ Short at.place)
 
--- no text is there: no byte is zero
-abbrev pub LacksText : Cursor → RecordFault → Type 0
-LacksText at e = ((text : List ℕ) (to : Cursor) → FieldStands Text text at to → ⊥) × (e ≡ Short at.place)
-
--- each byte continues the number: it is 128 or more
-abbrev pub GoOn : List ℕ → Type 0
-GoOn [] = Unit {0}
-GoOn (b ∷ bs) = (128 ≤ b) × GoOn bs
-
--- the fault of a LEB128 number that isn't there: Short if fewer than ten bytes are left and all continue, else Leb
+-- the fault of a LEB128 number that isn't there: Short if fewer than ten bytes are left and each continues the number, as it is 128
+-- or more; else Leb
 abbrev pub IsLebFault : Cursor → RecordFault → Type 0
-IsLebFault at e = ((length at.left < 10) × GoOn at.left × (e ≡ Short at.place)) ⊎ ((GoOn at.left → 10 ≤ length at.left) × (e ≡ Leb at.place))
+IsLebFault at e =
+    ((length at.left < 10) × All (λ (b : ℕ). 128 ≤ b) at.left × (e ≡ Short at.place))
+    ⊎ ((All (λ (b : ℕ). 128 ≤ b) at.left → 10 ≤ length at.left) × (e ≡ Leb at.place))
 
 -- no unsigned LEB128 number is there
 abbrev pub LacksUleb : Cursor → RecordFault → Type 0
@@ -68,7 +62,7 @@ DataFails at e = LacksUleb at e ⊎ ((len : ℕ) × (after : Cursor) × FieldSta
 -- no text is there, or one that is neither empty nor a `z` (122) and known letters, none of them twice
 abbrev pub StringFails : Arch → Cursor → RecordFault → Type 0
 StringFails arch at e =
-    LacksText at e
+    (((word : List ℕ) (to : Cursor) → FieldStands Text word at to → ⊥) × (e ≡ Short at.place))
     ⊎ ((text : List ℕ) × (after : Cursor) × FieldStands Text text at after
     × (text ≢ []) × ((letters : List ℕ) → text ≡ 122 ∷ letters → are_letters arch [] letters ≡ false) × (e ≡ Augmentation at.place))
 
@@ -120,18 +114,13 @@ pub data CieFails (arch : Arch) (p : RawRecordView) (e : RecordFault) : Type 0 w
       → FieldStands Uleb code a2 a3 → FieldStands Sleb data_ a3 a4 → ReturnAddressRegisterStands version register a4 a5 → AugmentationFails letters a5 e → CieFails arch p e
 
 -- ---- frame description entries
--- the augmentation data isn't there, in an entry that has some
-abbrev pub FrameDataFails : (augmented : Bool) → Cursor → RecordFault → Type 0
-FrameDataFails true at e = DataFails at e
-FrameDataFails false at e = ⊥
-
 -- the first of the fields that isn't there: start, size, augmentation data
 abbrev pub FdeFails : FullCieView → RawRecordView → RecordFault → Type 0
 FdeFails full p e =
     Lacks full.width p.body e
     ⊎ ((begin : PointerField) × (a1 : Cursor) × PointerStands full.width begin p.body a1
     × (Lacks full.width a1 e
-    ⊎ ((range : PointerField) × (a2 : Cursor) × PointerStands full.width range a1 a2 × FrameDataFails full.augmented a2 e)))
+    ⊎ ((range : PointerField) × (a2 : Cursor) × PointerStands full.width range a1 a2 × (full.augmented ≡ true) × DataFails a2 e)))
 
 -- no common information entry before the record is at the place that it names, or a field isn't there
 abbrev pub FrameFails : (before : List FullCieView) → RawRecordView → RecordFault → Type 0
@@ -149,14 +138,10 @@ FailsFrom arch before [] (v ∷ vs) at e = ⊥
 FailsFrom arch before (p ∷ ps) [] at e = ⊥
 FailsFrom arch before (p ∷ ps) (v ∷ vs) at e = (after : Cursor) × Stands at p after × EntryStands arch before p v × FailsFrom arch (with_cie before v) ps vs after e
 
--- the first fault of a section
-abbrev pub IsRefused : Arch → List ℕ → RecordFault → Type 0
-IsRefused arch section e = (ps : List RawRecordView) × (vs : List EntryView) × FailsFrom arch [] ps vs (start section) e
-
--- reading a section's records gives this: its entries, or its first fault
+-- reading a section's records gives this: the entries of all its records; or its first fault, and the entries before it
 abbrev pub AreReadAs : Arch → (section : List ℕ) → Result (List EntryView) RecordFault → Type 0
-AreReadAs arch section (Ok es) = AreEntries arch section es
-AreReadAs arch section (Err e) = IsRefused arch section e
+AreReadAs arch section (Ok es) = (ps : List RawRecordView) × AreRecords ps (start section) × AreEntriesOf arch [] ps es
+AreReadAs arch section (Err e) = (ps : List RawRecordView) × (es : List EntryView) × FailsFrom arch [] ps es (start section) e
 
 -- ---- which faults there are
 -- all faults but those of a function's values and out of memory
