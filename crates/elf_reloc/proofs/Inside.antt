@@ -21,7 +21,7 @@ use Rattle.elf_reloc.specs.declared.target.Target.TheVariants.{Address, Unresolv
 use Rattle.elf_reloc.specs.Patched.{AreInside}
 use Rattle.elf_reloc.specs.Reading as spec
 use Rattle.elf_reloc.specs.Reading.{◌>>=◌, Relocation, written, aimed, inside, applied, entry_fix, fixes_from, rel_check, relocations_in, object_fixes, section_fixes}
-use Rattle.elf_reloc.specs.Table.{width_of, fits, absolute, relative}
+use Rattle.elf_reloc.specs.Table.{width_of, fits}
 
 -- a value that is known is a number of 64 bits
 abbrev pub IsSmall : RelocatedField → Type 0
@@ -80,12 +80,10 @@ aimed_at place index form value Dropped f small h =
     let e : spec.fix place index form None true ≡ f = cc h in
     (sym (ap (λ (g : RelocatedField). g.place) e), sym (ap (λ (g : RelocatedField). g.range) e), small_value f None (ap (λ (g : RelocatedField). g.value) e) none_small, λ _. sym (ap (λ (g : RelocatedField). g.value) e))
 
-absolute_small : (addend s : ℕ) → absolute s addend < 2 ^ 64
-unfolding absolute
+absolute_small : (addend s : ℕ) → (s + addend) % 2 ^ 64 < 2 ^ 64
 absolute_small addend s = mod-lt (s + addend) (omega arith)
 
-relative_small : (addend place s : ℕ) → relative s addend place < 2 ^ 64
-unfolding relative
+relative_small : (addend place s : ℕ) → (s + addend + (2 ^ 64 - place)) % 2 ^ 64 < 2 ^ 64
 relative_small addend place s = mod-lt (s + addend + (2 ^ 64 - place)) (omega arith)
 
 inside_is : (len place index : ℕ) (form : Range) (value : ℕ → ℕ) (target : Target) (f : RelocatedField) → ((s : ℕ) → value s < 2 ^ 64) → inside len place index form (aimed place index form value target) ≡ Ok (Some f) → IsInside len f
@@ -102,8 +100,8 @@ inside_is len place index form value target f small h =
 applied_inside : (effect : Option Effect) (len address place index addend : ℕ) (target : Target) (f : RelocatedField) → applied effect len address place index addend target ≡ Ok (Some f) → IsInside len f
 applied_inside None len address place index addend target f h = absurd (cc h)
 applied_inside (Some Nothing) len address place index addend target f h = absurd (cc h)
-applied_inside (Some (Absolute form)) len address place index addend target f h = inside_is len place index form (λ s. absolute s addend) target f (absolute_small addend) h
-applied_inside (Some (Relative form)) len address place index addend target f h = inside_is len place index form (λ s. relative s addend ((address + place) % 2 ^ 64)) target f (relative_small addend ((address + place) % 2 ^ 64)) h
+applied_inside (Some (Absolute form)) len address place index addend target f h = inside_is len place index form (λ s. (s + addend) % 2 ^ 64) target f (absolute_small addend) h
+applied_inside (Some (Relative form)) len address place index addend target f h = inside_is len place index form (λ s. (s + addend + (2 ^ 64 - (address + place) % 2 ^ 64)) % 2 ^ 64) target f (relative_small addend ((address + place) % 2 ^ 64)) h
 
 entry_inside : (p : Placing) (section index i k : ℕ) (f : RelocatedField) → entry_fix p section index i k ≡ Ok (Some f) → IsInside (length (section_bytes p.file section)) f
 unfolding entry_fix

