@@ -407,21 +407,15 @@ augmentation_stands arch (Some letters) before start at x s e =
     let t = through (data_at at) _ x e in
     let d = data_augmentation t.first.1 (augmentation_by letters plain_augmentation t.first.0) x t.rest in
     let all = letter_values_stand arch letters plain_augmentation t.first.0 x.0 (string_known arch letters before start s) d.0 in
-    record {
-      data_ = t.first.0;
-      values = all.values;
-      data_stands = subst (DataStands t.first.0 at) (sym d.1) (data_stands at t.first t.read);
-      letter_values_stand = all.stand;
-      together = all.is;
-    }
+    (t.first.0, all.values, subst (DataStands t.first.0 at) (sym d.1) (data_stands at t.first t.read), all.stand, all.is)
 
 augmentation_read : (letters : Option (List ℕ)) (augmentation : AugmentationView) (at after : Cursor) → AugmentationStands letters augmentation at after → augmentation_at letters at ≡ Ok (augmentation, after)
 unfolding augmentation_at
 augmentation_read None augmentation at after s = ap (λ (d : AugmentationView). Ok (d, at)) (sym s.0) ∙ ap (λ (c : Cursor). Ok (augmentation, c)) (sym s.1)
-augmentation_read (Some letters) augmentation at after s =
-    ap (λ (r : Step Cursor). r >>= λ inner. passed_data inner.1 (augmentation_by letters plain_augmentation inner.0)) (data_read s.data_ at after s.data_stands)
-    ∙ ap (passed_data after) (letter_values_read letters s.values plain_augmentation s.data_ s.letter_values_stand)
-    ∙ ap (λ (d : AugmentationView). Ok (d, after)) (sym s.together)
+augmentation_read (Some letters) augmentation at after (inner, values, data_there, stand, together) =
+    ap (λ (r : Step Cursor). r >>= λ data_. passed_data data_.1 (augmentation_by letters plain_augmentation data_.0)) (data_read inner at after data_there)
+    ∙ ap (passed_data after) (letter_values_read letters values plain_augmentation inner stand)
+    ∙ ap (λ (d : AugmentationView). Ok (d, after)) (sym together)
 
 -- ---- common information entries
 pub known_version : (version : ℕ) → (version ≡ 1) ⊎ (version ≡ 3) → ((version == 1) || (version == 3)) ≡ true

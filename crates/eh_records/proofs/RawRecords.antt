@@ -9,7 +9,7 @@ use Rattle.sf_bytes.specs.declared.fault.ByteFault.TheVariants as byte_faults
 use Rattle.sf_bytes.specs.Cursor.{Cursor, Read, past, number_at, part_at}
 use Rattle.eh_records.specs.declared.fault.RecordFault.{RecordFault}
 use Rattle.eh_records.specs.declared.fault.RecordFault.TheVariants.{Short, Extended}
-use Rattle.eh_records.specs.Records.{Stands, EndsWithZero}
+use Rattle.eh_records.specs.Records.{Stands}
 use Rattle.eh_records.specs.RawRecord.{RawRecordView, raw_record_at, record_of_length, whole, of_length}
 use Rattle.eh_records.specs.Step.{Step, ◌>>=◌, at_field, number_field, part_field}
 
@@ -115,6 +115,10 @@ record_split len at at1 x word short enough four e1 e =
     subst (λ (c : Cursor). IsRead len c (record { place = c.place; left = take len c.left }) s1.first) e1 p1 in
     built len at x.0 x.1 s1.first.0 s1.first.1 s2.first.0 s2.first.1 word short enough four p1' p2 (ap (λ (y : RawRecordView × Cursor). y.0) (ok_same _ _ s2.rest)) (ap (λ (y : RawRecordView × Cursor). y.1) (ok_same _ _ s2.rest))
 
+-- a length word of 0
+abbrev pub EndsWithZero : Cursor → Type 0
+EndsWithZero at = (4 ≤ length at.left) × (little_number 4 (take 4 at.left) ≡ 0)
+
 -- the first record of a cursor
 abbrev pub FrontIs : Cursor → Result (Option (RawRecordView × Cursor)) RecordFault → Type 0
 FrontIs at (Ok (Some x)) = Stands at x.0 x.1
@@ -127,7 +131,7 @@ front_some len at at1 word short enough four e1 (Err f) e = tt
 
 front_sized : (len : ℕ) (at at1 : Cursor) → little_number 4 (take 4 at.left) ≡ len → 4 ≤ length at.left → at1 ≡ past 4 at → (a b c : Bool) → (len == 0) ≡ a → (len == 4294967295) ≡ b → nat_lt len 4 ≡ c
     → FrontIs at (cond a (Ok None) (cond b (Err (Extended at.place)) (cond c (Err (Short at.place)) (record_of_length at.place len at1 >>= λ p. Ok (Some p)))))
-front_sized len at at1 word four e1 true b c ta tb tc = inr (record { within = four; word = word ∙ eqb-true len 0 ta })
+front_sized len at at1 word four e1 true b c ta tb tc = inr (four, word ∙ eqb-true len 0 ta)
 front_sized len at at1 word four e1 false true c ta tb tc = tt
 front_sized len at at1 word four e1 false false true ta tb tc = tt
 front_sized len at at1 word four e1 false false false ta tb tc =

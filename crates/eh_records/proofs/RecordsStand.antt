@@ -10,11 +10,11 @@ use Rattle.sf_bytes.specs.Cursor.{Cursor, Read, past, number_at, part_at}
 use Rattle.eh_records.specs.declared.fault.RecordFault.{RecordFault}
 use Rattle.eh_records.specs.declared.fault.RecordFault.TheVariants.{Short, Extended}
 use Rattle.eh_records.specs.RawRecord.{RawRecordView, raw_record_at, record_of_length, whole, of_length}
-use Rattle.eh_records.specs.Records.{Stands, EndsWithZero, AreRecords, all_split}
+use Rattle.eh_records.specs.Records.{Stands, AreRecords, all_split}
 use Rattle.eh_records.specs.Section.{SplitRecord, records_from}
 use Rattle.eh_records.specs.Step.{Step, ◌>>=◌, at_field, number_field, part_field}
 use Rattle.eh_records.proofs.FirstRecord.{starts_with_record, stops, faults}
-use Rattle.eh_records.proofs.RawRecords.{past-past, split_is, end_is}
+use Rattle.eh_records.proofs.RawRecords.{EndsWithZero, past-past, split_is, end_is}
 
 -- a field that lies in the bytes is read
 there_if : {X : Type 0} (n place : ℕ) (at : Cursor) (v : X) (b : Bool) → nat_lt (length at.left) n ≡ b → n ≤ length at.left
@@ -88,7 +88,7 @@ end_if at false e = ap (λ (r : Step ℕ). r >>= λ len. of_length at.place len.
 
 end_zero : (at : Cursor) → EndsWithZero at → raw_record_at at ≡ Ok None
 unfolding raw_record_at
-end_zero at z = end_if at (length at.left == 0) (number_there 4 at z.within ∙ ap (λ (n : ℕ). Ok (n, past 4 at)) z.word)
+end_zero at z = end_if at (length at.left == 0) (number_there 4 at z.0 ∙ ap (λ (n : ℕ). Ok (n, past 4 at)) z.1)
 
 end_nothing : (at : Cursor) → at.left ≡ [] → raw_record_at at ≡ Ok None
 unfolding raw_record_at

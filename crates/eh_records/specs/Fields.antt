@@ -90,18 +90,12 @@ pub record DataStands (data_ : Cursor) (from to : Cursor) : Type 0 where
   pub bytes_stand : Stands (Bytes len) data_.left after to
   pub place : data_.place ≡ after.place
 
--- the augmentation, from its data by the letters
-pub record LettersStand (letters : List ℕ) (augmentation : AugmentationView) (from to : Cursor) : Type 0 where
-  pub data_ : Cursor
-  pub values : List LetterValue
-  pub data_stands : DataStands data_ from to
-  pub letter_values_stand : LetterValuesStand letters values data_
-  pub together : augmentation ≡ with_letter_values plain_augmentation values
-
--- the augmentation, from its data if there is a string; without one there is no data
+-- the augmentation, from its data by the letters if there is a string; without one there is no data
 abbrev pub AugmentationStands : Option (List ℕ) → AugmentationView → (from to : Cursor) → Type 0
 AugmentationStands None augmentation from to = (augmentation ≡ plain_augmentation) × (to ≡ from)
-AugmentationStands (Some letters) augmentation from to = LettersStand letters augmentation from to
+AugmentationStands (Some letters) augmentation from to =
+    (data_ : Cursor) × (values : List LetterValue) × DataStands data_ from to × LetterValuesStand letters values data_
+    × (augmentation ≡ with_letter_values plain_augmentation values)
 
 -- ---- common information entries
 -- the return address register: a byte in version 1 (LSB Core), a LEB128 number in version 3 (DWARF 3, section 6.4.1)

@@ -24,14 +24,9 @@ pub record Stands (at : Cursor) (p : RawRecordView) (after : Cursor) : Type 0 wh
   }
   pub behind : after ≡ past (4 + len) at
 
--- what follows the last record is empty or begins with a length word of 0
-pub record EndsWithZero (at : Cursor) : Type 0 where
-  pub within : 4 ≤ length at.left
-  pub word : little_number 4 (take 4 at.left) ≡ 0
-
--- these are the records from a cursor on
+-- these are the records from a cursor on; what follows the last is empty or begins with a length word of 0
 abbrev pub AreRecords : List RawRecordView → Cursor → Type 0
-AreRecords [] at = (at.left ≡ []) ⊎ EndsWithZero at
+AreRecords [] at = (at.left ≡ []) ⊎ ((4 ≤ length at.left) × (little_number 4 (take 4 at.left) ≡ 0))
 AreRecords (p ∷ ps) at = (after : Cursor) × Stands at p after × AreRecords ps after
 
 -- these records, as the reader splits them off

@@ -10,7 +10,7 @@ use Rattle.std.proofs.lemmas.Map.Views.{Contains-from_any}
 use Rattle.std.proofs.lemmas.Slice.Eq.{bytes_eq-Decides}
 use Rattle.std.proofs.Math.Seq.{get_or-append_seam}
 use Rattle.elf_read.specs.Sections.{section_count}
-use Rattle.elf_groups.specs.Dropped.{AreDroppedGroups, HasAmong, HasBelow, IsDroppedGroup, signature_of}
+use Rattle.elf_groups.specs.Dropped.{AreDroppedGroups, HasBelow, IsDroppedGroup, signature_of}
 use Rattle.elf_read.specs.Number.{field_at}
 use Rattle.elf_read.specs.Sections.{section_bytes, section_fields, member_count}
 use Rattle.elf_read.specs.Used.{is_group}
@@ -73,6 +73,10 @@ to_below seen file (suc n) m s low is = as_seen seen file (suc n) s (seen_suc se
   | inl same ↦ now_seen (seen_below seen file n) (group_signature file n) s (ap (group_signature file) (sym same) ∙ sym (signature_is file m) ∙ is)
   | inr other ↦ still_seen (seen_below seen file n) (group_signature file n) s (to_below seen file n m s (omega (arith, low, other)) is)
 ])
+
+-- one of the groups of these files has it
+abbrev HasAmong : (files : List (List ℕ)) → (signature : List ℕ) → Type 0
+HasAmong files signature = (file : List ℕ) × Contains files file × HasBelow file (section_count file) signature
 
 -- of all groups of files, and before them
 from_files : (seen files : List (List ℕ)) (s : List ℕ) → Contains (seen_in seen files) s → Contains seen s ⊎ HasAmong files s

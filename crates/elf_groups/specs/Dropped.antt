@@ -18,16 +18,13 @@ signature_of file i =
 abbrev pub HasBelow : (file : List ℕ) → (number : ℕ) → (signature : List ℕ) → Type 0
 HasBelow file number signature = (n : ℕ) × (n < number) × (signature_of file n ≡ Some signature)
 
--- one of the groups of these files has it
-abbrev pub HasAmong : (files : List (List ℕ)) → (signature : List ℕ) → Type 0
-HasAmong files signature = (file : List ℕ) × Contains files file × HasBelow file (section_count file) signature
-
--- the group of this number is dropped, in a file that comes after these
+-- the group of this number is dropped, in a file that comes after these: one of their groups has its signature, or one before it in the
+-- file
 pub record IsDroppedGroup (earlier : List (List ℕ)) (file : List ℕ) (number : ℕ) : Type 0 where
   pub inside : number < section_count file
   pub signature : List ℕ
   pub has : signature_of file number ≡ Some signature
-  pub before : HasAmong earlier signature ⊎ HasBelow file number signature
+  pub before : ((other : List ℕ) × Contains earlier other × HasBelow other (section_count other) signature) ⊎ HasBelow file number signature
 
 -- these are the dropped groups of the file, by rising number
 pub record AreDroppedGroups (earlier : List (List ℕ)) (file : List ℕ) (numbers : List ℕ) : Type 0 where
