@@ -1,6 +1,6 @@
 -- What is read, brought into order and checked is what the section's relocations come to.
 use Rattle.std.specs.Prelude.{◌⊎◌, ◌==◌, ◌&&◌, ◌||◌}
-use Rattle.std.specs.List.{All}
+use Rattle.std.specs.List.{All, list_any}
 use Rattle.std.proofs.lemmas.Bool.{cases_eq}
 use Rattle.std.proofs.lemmas.List.Elements.{All-head, All-tail}
 use Rattle.std.proofs.Common.{◌≡◌, ℕ, suc, ◌+◌, ◌<◌, ◌≤◌, Bool, true, false, cond, List, [], ◌∷◌, get_or, map, Option, Result, Ok, Err, refl, sym, ap, ◌∙◌, inl, inr, arith, eq-eqb, ne_eqb}
@@ -11,7 +11,7 @@ use Rattle.elf_place.specs.Views.{Placing}
 use Rattle.elf_reloc.specs.declared.fault.RelocFault.{RelocFault}
 use Rattle.elf_reloc.specs.declared.fault.RelocFault.TheVariants as faults
 use Rattle.elf_reloc.specs.declared.fix.RelocatedField.{RelocatedField}
-use Rattle.elf_reloc.specs.Applied.{Slot, Applied, by_place, slot_of, is_slot, slot_check, applied_by_first, applied_of, applied_to}
+use Rattle.elf_reloc.specs.Applied.{Slot, Applied, by_place, slot_of, slot_check, applied_by_first, applied_of, applied_to}
 use Rattle.elf_reloc.specs.Order.{has_width, lies_on, overlap_check, places_check}
 use Rattle.elf_reloc.specs.Table.{width_of}
 use Rattle.elf_reloc.specs.Reading.{◌>>=◌, section_fixes}
@@ -21,6 +21,10 @@ use Rattle.elf_reloc.proofs.First.{nil, same, other}
 use Rattle.elf_reloc.proofs.SortedFixes.{is_by_place}
 
 -- ---- fields and their slots
+-- what is written is a pointer field, at its place and of its width
+abbrev pub is_slot : List Slot → RelocatedField → Bool
+is_slot slots f = list_any (λ (g : Slot). (g.place == f.place) && (g.width == width_of f.range)) slots
+
 abbrev is_at : RelocatedField → Field → Bool
 is_at f g = (g.place == f.place) && (g.width == width_of f.range)
 

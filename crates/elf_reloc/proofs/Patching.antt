@@ -1,4 +1,5 @@
 -- What stands in a patched section.
+use Rattle.std.specs.Option.{option_map, option_map_or}
 use Rattle.std.proofs.Common.{◌≡◌, ◌⊎◌, ℕ, zero, suc, ◌+◌, ◌-◌, ◌*◌, ◌<◌, ◌≤◌, ◌^◌, Bool, true, false, List, [], ◌∷◌, ◌++◌, length, get_or, take, drop, Option, Some, None, Result, Ok, Err, refl, sym, ap, ◌∙◌, subst, arith, inl, inr, nat_lt, ltb-false, if◌then◌else◌, length-append, length-drop}
 use Rattle.std.proofs.lemmas.Bool.{cases_eq}
 use Rattle.std.proofs.lemmas.List.{get_or-take, get_or-drop, get_or_append_left, get_or-append_right, length-take-le}
@@ -9,8 +10,8 @@ use Rattle.elf_reloc.specs.declared.fault.RelocFault.TheVariants.{Twice}
 use Rattle.elf_reloc.specs.declared.fix.RelocatedField.{RelocatedField}
 use Rattle.elf_reloc.specs.Fields.{fix_bits}
 use Rattle.elf_reloc.specs.Order.{overlap_check, first_at, place_of}
-use Rattle.elf_reloc.specs.Patched.{overwritten, with_bits, patched, AreInside, IsFree}
-use Rattle.elf_reloc.specs.Table.{width_of}
+use Rattle.elf_reloc.specs.Patched.{overwritten, patched, AreInside, IsFree}
+use Rattle.elf_reloc.specs.Table.{low_bits, width_of}
 use Rattle.elf_reloc.proofs.First.{nil, same, other}
 
 -- numbers of the same bytes are the same
@@ -59,6 +60,11 @@ abbrev Clear : ℕ → List RelocatedField → Type 0
 Clear k [] = Unit {0}
 Clear k (f ∷ fs) = ((k < f.place) ⊎ (f.place + width_of f.range ≤ k)) × Clear k fs
 
+-- the field's bits in its place, where they are known
+abbrev with_bits : RelocatedField → Option ℕ → List ℕ → List ℕ
+with_bits f None section = section
+with_bits f (Some bits) section = overwritten f.place (little_bytes (width_of f.range) bits) section
+
 length-with_bits : (f : RelocatedField) (o : Option ℕ) (xs : List ℕ) → f.place + width_of f.range ≤ length xs → length (with_bits f o xs) ≡ length xs
 length-with_bits f None xs within = refl
 length-with_bits f (Some v) xs within =
@@ -78,9 +84,13 @@ patched-nil : (xs : List ℕ) → patched [] xs ≡ xs
 unfolding patched
 patched-nil xs = refl
 
+of_value : (f : RelocatedField) (o : Option ℕ) (xs : List ℕ) → option_map_or (λ (value : ℕ). overwritten f.place (little_bytes (width_of f.range) (low_bits f.range value)) xs) o xs ≡ with_bits f (option_map (low_bits f.range) o) xs
+of_value f None xs = refl
+of_value f (Some value) xs = refl
+
 patched-cons : (f : RelocatedField) (fs : List RelocatedField) (xs : List ℕ) → patched (f ∷ fs) xs ≡ patched fs (with_bits f (fix_bits f) xs)
 unfolding patched
-patched-cons f fs xs = refl
+patched-cons f fs xs = ap (patched fs) (of_value f f.value xs)
 
 inside_still : (f : RelocatedField) (fs : List RelocatedField) (xs : List ℕ) → AreInside (length xs) (f ∷ fs) → AreInside (length (with_bits f (fix_bits f) xs)) fs
 inside_still f fs xs inside = subst (λ (n : ℕ). AreInside n fs) (sym (length-with_bits f (fix_bits f) xs inside.0)) inside.1

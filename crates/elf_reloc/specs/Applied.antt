@@ -34,14 +34,11 @@ pub record Slot : Type 0 where
 abbrev pub slot_of : Field → Slot
 slot_of g = record { place = g.place; width = g.width }
 
--- what is written is a pointer field, at its place and of its width
-abbrev pub is_slot : List Slot → RelocatedField → Bool
-is_slot slots f = list_any (λ (g : Slot). (g.place == f.place) && (g.width == width_of f.range)) slots
-
--- the first by place that isn't
+-- what is written is each a pointer field, at its place and of its width; the first by place that isn't is named
 unfoldable pub slot_check : List Slot → List RelocatedField → Result (Unit {0}) RelocFault
 slot_check slots [] = Ok tt
-slot_check slots (f ∷ fs) = if is_slot slots f then slot_check slots fs else Err (Place f.index)
+slot_check slots (f ∷ fs) =
+    if list_any (λ (g : Slot). (g.place == f.place) && (g.width == width_of f.range)) slots then slot_check slots fs else Err (Place f.index)
 
 -- a relocation at this place has no value yet
 abbrev pub is_unresolved_at : List RelocatedField → (place : ℕ) → Bool

@@ -2,7 +2,7 @@
 -- bits of each known value are in the place of its field.
 use Rattle.std.specs.Prelude.{◌≡◌, ℕ, ◌+◌, ◌≤◌, ◌⊎◌, true, List, [], ◌∷◌, ◌++◌, length, take, drop, Option, Some, None}
 use Rattle.std.specs.List.{All, Contains}
-use Rattle.std.specs.Option.{option_map}
+use Rattle.std.specs.Option.{option_map_or}
 use Rattle.byteorder.specs.Endian.{little_bytes, little_number}
 use Rattle.sf_bytes.specs.declared.field.Field.{Field}
 use Rattle.elf_reloc.specs.declared.fix.RelocatedField.{RelocatedField}
@@ -12,15 +12,11 @@ use Rattle.elf_reloc.specs.Table.{width_of, low_bits}
 unfoldable pub overwritten : ℕ → (bytes section : List ℕ) → List ℕ
 overwritten place bytes section = take place section ++ (bytes ++ drop (place + length bytes) section)
 
--- the field's bits in its place, where they are known
-abbrev pub with_bits : RelocatedField → Option ℕ → List ℕ → List ℕ
-with_bits f None section = section
-with_bits f (Some bits) section = overwritten f.place (little_bytes (width_of f.range) bits) section
-
--- the section with all known values
+-- the section with the low bits of all known values, each at the place of its field
 unfoldable pub patched : List RelocatedField → List ℕ → List ℕ
 patched [] section = section
-patched (f ∷ fs) section = patched fs (with_bits f (option_map (low_bits f.range) f.value) section)
+patched (f ∷ fs) section =
+    patched fs (option_map_or (λ (value : ℕ). overwritten f.place (little_bytes (width_of f.range) (low_bits f.range value)) section) f.value section)
 
 -- each field that is written lies in `len` bytes
 abbrev pub AreInside : ℕ → List RelocatedField → Type 0

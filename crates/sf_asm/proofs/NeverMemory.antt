@@ -25,6 +25,7 @@ use Rattle.eh_records.specs.Fde.{FdeView}
 use Rattle.eh_records.specs.Refused.{IsOfRecords}
 use Rattle.eh_records.specs.Section.{EntryView, entries_of, frames, pointer_fields}
 use Rattle.eh_records.specs.Span.{span_of}
+use Rattle.elf_reloc.proofs.Applying.{is_slot}
 use Rattle.eh_records.proofs.EntriesFail.{is_refused}
 use Rattle.eh_records.proofs.OfRecords.{of_records}
 use Rattle.eh_pointer.specs.Pointer.{pointer_bits, pointer_value}
@@ -39,7 +40,7 @@ use Rattle.elf_place.specs.Place.{align_check, bits_check, eh_frames_below, over
 use Rattle.elf_place.specs.Relocations.{relocation_sections}
 use Rattle.elf_groups.specs.Groups.{dropped_groups}
 use Rattle.elf_place.specs.Views.{Placing}
-use Rattle.elf_reloc.specs.Applied.{Slot, is_slot, slot_check}
+use Rattle.elf_reloc.specs.Applied.{Slot, slot_check}
 use Rattle.elf_reloc.specs.declared.fault.RelocFault.{RelocFault}
 use Rattle.elf_reloc.specs.declared.fix.RelocatedField.{RelocatedField}
 use Rattle.elf_reloc.specs.declared.table.Effect.{Effect as RelocEffect}
