@@ -32,6 +32,7 @@ abbrev pub nop_front : List ℕ → Bool
 nop_front [] = false
 nop_front (op ∷ bytes) = op == DW_CFA_nop
 
+-- ---- Inside the crate
 -- none if no byte is left; else the first byte, and a part with the others
 abbrev pub GivesByte : Option (ℕ × Part) → Cursor → Type 0
 GivesByte None at = at.left ≡ []

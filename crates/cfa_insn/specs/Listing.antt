@@ -39,6 +39,7 @@ abbrev pub item : Result (ℕ × Insn) InsnFault → Item
 item (Ok x) = Ok (x.0, instruction x.1)
 item (Err e) = Err e
 
+-- ---- Inside the crate
 -- none if no item is left; else the first item, and a part with the others
 abbrev pub GivesFirst : Option (Result (ℕ × Insn) InsnFault × Part) → List Item → Type 0
 GivesFirst None items = items ≡ []

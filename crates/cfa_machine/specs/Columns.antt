@@ -70,7 +70,7 @@ changed arch place (SetCfaRegister r) c = with_cfa_register place r c.cfa c
 changed arch place (SetCfaOffset n) c = with_cfa_offset place n c.cfa c
 changed arch place NegateSign c = with_sign_inverted arch place c
 
--- what a call returned, and the row that it left, are what the change gives
+-- Inside the crate: what a call returned, and the row that it left, are what the change gives
 abbrev pub Changes : {U : Type 0} → (new : Columns) → Result U MachineFault → (given : Result Columns MachineFault) → Type 0
 Changes new result given = Is (λ u. new) result given
 

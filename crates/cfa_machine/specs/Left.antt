@@ -41,7 +41,7 @@ limit r = r.setup.size
 abbrev pub behind_row : ℕ → Columns → Result (List DwRow) MachineFault → Result (List DwRow) MachineFault
 behind_row start c after = after >>= λ rows. Ok (row_from start c ∷ rows)
 
--- what a call returned is the next row, or that the instructions are over, or their fault
+-- Inside the crate: what a call returned is the next row, or that the instructions are over, or their fault
 abbrev pub Reaches : Columns → Result (Option ℕ) MachineFault → (before after end : Result (List DwRow) MachineFault) → Type 0
 Reaches c (Ok (Some start)) before after end = before ≡ behind_row start c after
 Reaches c (Ok None) before after end = before ≡ end
@@ -59,7 +59,7 @@ OnRow (Ok (Some start)) P = P start
 OnRow (Ok None) P = Unit {0}
 OnRow (Err e) P = Unit {0}
 
--- no instruction was left, and all is as it was; or the first was run, and the others are left
+-- Inside the crate: no instruction was left, and all is as it was; or the first was run, and the others are left
 abbrev pub RunsNext : FunctionContext → ℤ → (old new : Machine) → Option (Result (Option ℕ) MachineFault) → (before after : List Item) → Type 0
 RunsNext k f old new None before after = (before ≡ []) × (after ≡ []) × (new ≡ old)
 RunsNext k f old new (Some answer) before after = (x : Item) × (before ≡ x ∷ after) × MachineSteps new answer (item_step k f x (state old)) × StartsBelow k.size answer

@@ -106,6 +106,7 @@ latest_first stack = reverse stack.items
 abbrev pub state : Machine → State
 state m = record { columns = m.columns; remembered = latest_first m.remembered; offset = m.offset }
 
+-- ---- Inside the crate
 -- the row that ends, by its start: its columns are the present ones
 abbrev pub ended : Columns → Option ℕ → Option DwRow
 ended c None = None

@@ -80,6 +80,7 @@ whole_notes (Err place ∷ items) = whole_notes items
 abbrev pub notes_remaining : Notes → List NoteItem
 notes_remaining notes = notes_from (cursor notes.rest) ++ flat_map segment_items (drop notes.segment (segments (file notes.elf)))
 
+-- ---- Inside the crate
 -- an item as the code has it
 abbrev pub note_item : Result Note ℕ → NoteItem
 note_item (Ok n) = Ok (note_view n)

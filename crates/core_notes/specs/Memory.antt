@@ -17,6 +17,7 @@ regions_in ss = map region_of (filter is_load ss)
 abbrev pub file_regions : List ℕ → List Region
 file_regions file = regions_in (segments file)
 
+-- ---- Inside the crate
 -- the segment is memory that holds the eight bytes from an address on
 abbrev pub is_holder : (address : ℕ) → SegmentView → Bool
 is_holder address s = is_load s && holds_eight address (region_of s)

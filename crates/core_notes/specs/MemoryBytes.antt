@@ -30,7 +30,7 @@ segment_contains file address i = (p_type file i == 1) && nat_le (p_vaddr file i
 unfoldable pub executable_at : List ℕ → (address : ℕ) → Option Bool
 executable_at file address = option_map (is_executable file) (find (segment_contains file address) (range_with_len 0 (segment_count file)))
 
--- ---- the same of segments, as they are searched
+-- ---- Inside the crate: the same of segments, as they are searched
 -- the segment is memory that holds all of `len` bytes from an address on
 abbrev pub is_bytes_holder : (address len : ℕ) → SegmentView → Bool
 is_bytes_holder address len s = is_load s && holds_bytes address len (region_of s)

@@ -1,4 +1,4 @@
--- What is known of the order of segments.
+-- Inside the crate. What is known of the order of segments.
 use Rattle.std.specs.Prelude.{◌≡◌, true, List}
 use Rattle.sf_lookup.specs.Spans.{InOrder}
 use Rattle.core_notes.specs.declared.memory.Order.{Order}

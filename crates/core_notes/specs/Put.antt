@@ -1,4 +1,4 @@
--- Segments that were put in order.
+-- Inside the crate. Segments that were put in order.
 use Rattle.std.specs.Prelude.{◌≡◌, ℕ, List, Option, Some}
 use Rattle.sf_lookup.specs.declared.spans.Spans.{Spans}
 use Rattle.sf_lookup.specs.Spans.{InOrder}

@@ -13,7 +13,7 @@ pub record SegmentView : Type 0 where
   pub place : ℕ
   pub bytes : List ℕ
 
--- a segment as the code has it
+-- Inside the crate: a segment as the code has it
 abbrev pub segment_view : Segment → SegmentView
 segment_view s = record { kind = s.kind; vaddr = s.vaddr; place = s.place; bytes = s.bytes.now }
 

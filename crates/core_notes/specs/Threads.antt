@@ -1,4 +1,4 @@
--- The next status of a list of notes.
+-- Inside the crate. The next status of a list of notes.
 use Rattle.std.specs.Prelude.{◌≡◌, List, [], ◌∷◌, Option, Some, None}
 use Rattle.sf_model.specs.declared.machine.Arch.{Arch}
 use Rattle.core_notes.specs.declared.note.Note.{Note}

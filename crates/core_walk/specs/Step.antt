@@ -1,4 +1,4 @@
--- One step of a walk, from a frame to its caller (GNU SFrame specification, Version 2: what an SFrame section is for).
+-- Inside the crate. One step of a walk, from a frame to its caller (GNU SFrame specification, Version 2: what an SFrame section is for).
 use Rattle.std.specs.Prelude.{◌≡◌, ℕ, List, Option, Result, Ok, Err}
 use Rattle.sf_model.specs.declared.content.Content.{Content}
 use Rattle.sf_model.specs.declared.machine.Key.{Key}

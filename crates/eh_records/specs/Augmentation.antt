@@ -32,11 +32,11 @@ pub record AugmentationView : Type 0 where
   pub signal : Bool
   pub key : Key
 
--- the view of a form
+-- Inside the crate: the view of a form
 abbrev pub form_view : PointerForm → Form
 form_view f = record { encoding = f.encoding; width = f.width }
 
--- the view of an augmentation
+-- Inside the crate: the view of an augmentation
 abbrev pub augmentation_view : Augmentation → AugmentationView
 augmentation_view a = record { pointers = form_view a.pointers; lsda = a.lsda; personality = option_map pointer_view a.personality; signal = a.signal; key = a.key }
 

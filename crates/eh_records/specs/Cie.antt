@@ -45,7 +45,7 @@ pub record FullCieView : Type 0 where
   pub augmented : Bool
   pub lsda : Option ℕ
 
--- the view of an entry with what only its frame description entries read
+-- Inside the crate: the view of an entry with what only its frame description entries read
 abbrev pub full_cie_view : FullCie → FullCieView
 full_cie_view s = record { cie = cie_view s.cie; width = s.width; augmented = s.augmented; lsda = s.lsda }
 

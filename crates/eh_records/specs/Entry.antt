@@ -1,4 +1,4 @@
--- Entries of both kinds, as they are lent (LSB Core, "The .eh_frame section").
+-- Inside the crate. Entries of both kinds, as they are lent (LSB Core, "The .eh_frame section").
 use Rattle.std.specs.Prelude.{◌≡◌, List, [], ◌∷◌, Option, Some, None}
 use Rattle.eh_records.specs.declared.entry.Entry.{Entry}
 use Rattle.eh_records.specs.declared.entry.Entry.TheVariants as entries

@@ -1,4 +1,4 @@
--- The next record, and the next record of a frame description entry (LSB Core, "The .eh_frame section").
+-- Inside the crate. The next record, and the next record of a frame description entry (LSB Core, "The .eh_frame section").
 use Rattle.std.specs.Prelude.{◌≡◌, ℕ, true, is_ok, List, [], ◌∷◌, Option, Some, None, Result, Ok}
 use Rattle.sf_bytes.specs.Cursor.{Cursor}
 use Rattle.sf_model.specs.declared.machine.Arch.{Arch}

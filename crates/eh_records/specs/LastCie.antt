@@ -1,4 +1,4 @@
--- The common information entry that was read last.
+-- Inside the crate. The common information entry that was read last.
 use Rattle.std.specs.Prelude.{◌≡◌, ℕ, List, Option, Some, None, Result, Ok, Err}
 use Rattle.std.specs.Option.{ForSome}
 use Rattle.sf_model.specs.declared.machine.Arch.{Arch}

@@ -1,4 +1,4 @@
--- Places in the order of a section.
+-- Inside the crate. Places in the order of a section.
 use Rattle.std.specs.Prelude.{ℕ, ◌<◌, ◌≤◌, List, length, slice_index}
 
 -- places that rise

@@ -15,7 +15,7 @@ pub record RawRecordView : Type 0 where
   pub id : ℕ
   pub body : Cursor
 
--- the view of a record
+-- Inside the crate: the view of a record
 abbrev pub raw_record_view : RawRecord → RawRecordView
 raw_record_view raw = record { place = raw.place; id_place = raw.id_place; id = raw.id; body = reader_cursor raw.body }
 
@@ -49,7 +49,7 @@ raw_record_at at =
 unfoldable pub named_place : RawRecordView → Result ℕ RecordFault
 named_place p = if nat_lt p.id_place p.id then Err (CiePointer p.id_place) else Ok (p.id_place - p.id)
 
--- what a call returned is the record, and the reader is what is left
+-- Inside the crate: what a call returned is the record, and the reader is what is left
 abbrev pub RawRecordGives : Reader → Result (Option RawRecord) RecordFault → Result (Option (RawRecordView × Cursor)) RecordFault → Type 0
 RawRecordGives new (Ok None) read = read ≡ Ok None
 RawRecordGives new (Ok (Some raw)) read = read ≡ Ok (Some (raw_record_view raw, reader_cursor new))

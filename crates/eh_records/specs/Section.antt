@@ -110,6 +110,7 @@ entries_before arch section [] = []
 entries_before arch section (Err e ∷ others) = []
 entries_before arch section (Ok p ∷ others) = entry_before (entry_here arch section p) (entries_before arch section others)
 
+-- ---- Inside the crate
 -- each of these records is read
 unfoldable pub are_read : Arch → List ℕ → List SplitRecord → Bool
 are_read arch section [] = true

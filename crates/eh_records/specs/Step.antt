@@ -61,7 +61,7 @@ pointer_field width at = do
   raw ← number_field width at
   Ok (record { place = at.place; width = width; raw = raw.0 }, raw.1)
 
--- what a call on a reader returned, seen through `view`, is what the step gives, and the reader is what the step leaves
+-- Inside the crate: what a call on a reader returned, seen through `view`, is what the step gives, and the reader is what the step leaves
 abbrev pub StepGives : {X Y : Type 0} → (X → Y) → Reader → Result X RecordFault → Step Y → Type 0
 StepGives view new result step = Reads view new.part result step
 

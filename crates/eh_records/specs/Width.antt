@@ -1,4 +1,4 @@
--- The width of function pointers (LSB Core, "DWARF Exception Header Encoding").
+-- Inside the crate. The width of function pointers (LSB Core, "DWARF Exception Header Encoding").
 use Rattle.std.specs.Prelude.{ℕ, Bool, false, ◌==◌, Option, Some, None}
 use Rattle.eh_pointer.specs.Pointer.{usable_width}
 

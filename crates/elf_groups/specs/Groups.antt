@@ -7,7 +7,7 @@ use Rattle.elf_read.specs.Checking.{numbers_below}
 use Rattle.elf_read.specs.Sections.{section_count}
 use Rattle.elf_read.specs.Views.{GroupView, group_of}
 
--- the signature of a COMDAT group
+-- Inside the crate: the signature of a COMDAT group
 abbrev pub if_comdat : GroupView → Option (List ℕ)
 if_comdat g = if g.comdat then Some g.signature else None
 

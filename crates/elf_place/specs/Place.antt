@@ -67,7 +67,7 @@ abbrev pub place_refusal : PlaceFault → Option PlaceFault
 place_refusal NoMemory = None
 place_refusal fault = Some fault
 
--- a fault is that of the check, unless memory ran out
+-- Inside the crate: a fault is that of the check, unless memory ran out
 abbrev pub Fails : PlaceFault → Result (Unit {0}) PlaceFault → Type 0
 Fails fault check = answers.Fails place_refusal fault check
 

@@ -46,7 +46,7 @@ abbrev pub relocation_sections_below : List ℕ → (target : ℕ) → ℕ → L
 relocation_sections_below file target n = filter (is_relocation_section file target) (numbers_below n)
 
 -- ---- lists of them, as they are kept
--- the section that the relocations are applied to
+-- Inside the crate: the section that the relocations are applied to
 abbrev pub target_of : RelocationSection → ℕ
 target_of s = s.target
 
@@ -54,19 +54,19 @@ target_of s = s.target
 abbrev pub numbers_of : List RelocationSection → List ℕ
 numbers_of list = map (λ (s : RelocationSection). s.number) list
 
--- those of a list that are applied to this section
+-- Inside the crate: those of a list that are applied to this section
 abbrev pub with_target : ℕ → List RelocationSection → List RelocationSection
 with_target target list = filter (λ (s : RelocationSection). s.target == target) list
 
--- section i as it is listed
+-- Inside the crate: section i as it is listed
 abbrev pub as_listed : List ℕ → ℕ → RelocationSection
 as_listed file i = record { target = (section_fields file i).sh_info; number = i }
 
--- the sections below n that have relocations, in order of their numbers
+-- Inside the crate: the sections below n that have relocations, in order of their numbers
 unfoldable pub listed_below : List ℕ → ℕ → List RelocationSection
 listed_below file zero = []
 listed_below file (suc n) = if has_relocations file n then listed_below file n ++ as_listed file n ∷ [] else listed_below file n
 
--- a list has the sections with relocations of each section, in order of their numbers
+-- Inside the crate: a list has the sections with relocations of each section, in order of their numbers
 abbrev pub HasAll : List ℕ → List RelocationSection → Type 0
 HasAll file list = (target : ℕ) → numbers_of (with_target target list) ≡ relocation_sections file target

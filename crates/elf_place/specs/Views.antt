@@ -19,7 +19,7 @@ dropped p = p.dropped.items
 abbrev pub eh_frames : Placed → List ℕ
 eh_frames p = p.eh_frames.items
 
--- how far the addresses are moved
+-- Inside the crate: how far the addresses are moved
 abbrev pub shift_in : Placed → ℕ
 shift_in p = p.shift
 
@@ -37,7 +37,7 @@ pub record Placing : Type 0 where
   pub addresses : List (Option ℕ)
   pub dropped : List Bool
 
--- the view of a placed file
+-- Inside the crate: the view of a placed file
 abbrev pub placing : Placed → Placing
 placing p = record { file = placed_file p; addresses = addresses p; dropped = dropped p }
 
@@ -45,6 +45,6 @@ placing p = record { file = placed_file p; addresses = addresses p; dropped = dr
 abbrev pub address_at : Placing → ℕ → Option ℕ
 address_at p i = slice_index_or p.addresses i None
 
--- whether a section is dropped in such a view
+-- Inside the crate: whether a section is dropped in such a view
 abbrev pub is_dropped_at : Placing → ℕ → Bool
 is_dropped_at p i = slice_index_or p.dropped i false

@@ -95,25 +95,25 @@ abbrev pub reloc_refusal : RelocFault → Option RelocFault
 reloc_refusal NoMemory = None
 reloc_refusal fault = Some fault
 
--- a fault is that of the reading, unless memory ran out
+-- Inside the crate: a fault is that of the reading, unless memory ran out
 abbrev pub Fails : {X : Type 0} → RelocFault → Result X RelocFault → Type 0
 Fails fault given = answers.Fails reloc_refusal fault given
 
--- all fields, where these relocations are left: those so far, and what these write
+-- Inside the crate: all fields, where these relocations are left: those so far, and what these write
 abbrev pub going_on : Placing → (section : ℕ) → FixesSoFar → List Relocation → Result (List RelocatedField) RelocFault
 going_on p section read left = fixes_from p section read.next left >>= λ fixes. Ok (read.fixes.items ++ fixes)
 
--- a call read on: all fields are those so far and what is left then
+-- Inside the crate: a call read on: all fields are those so far and what is left then
 abbrev pub GoesOn : {X : Type 0} → Placing → (section : ℕ) → Result X RelocFault → FixesSoFar → Result (List RelocatedField) RelocFault → (left : List Relocation) → Type 0
 GoesOn p section (Ok x) new all left = all ≡ going_on p section new left
 GoesOn p section (Err e) new all left = Fails e all
 
--- a call read all fields
+-- Inside the crate: a call read all fields
 abbrev pub HoldsAll : {X : Type 0} → Result X RelocFault → FixesSoFar → Result (List RelocatedField) RelocFault → Type 0
 HoldsAll (Ok x) new all = all ≡ Ok new.fixes.items
 HoldsAll (Err e) new all = Fails e all
 
--- what a call returned is what is read, unless memory ran out
+-- Inside the crate: what a call returned is what is read, unless memory ran out
 abbrev pub Gives : Result FixesSoFar RelocFault → Result (List RelocatedField) RelocFault → Type 0
 Gives result given = answers.Gives reloc_refusal (λ (r : FixesSoFar). r.fixes.items) result given
 

@@ -13,7 +13,7 @@ use Rattle.sample_walk.specs.Step.{rules_by}
 abbrev pub located_by : LookUp → (index : ℕ → ℕ) → (address : ℕ) → Located
 located_by look_up index address = record { index = index address; rule = rules_by look_up address }
 
--- a register as a test, and back
+-- Inside the crate: a register as a test, and back
 abbrev pub is_fp : Base → Bool
 is_fp Fp = true
 is_fp Sp = false
@@ -42,7 +42,7 @@ rule_if false entry = None
 abbrev pub entry_located : CacheEntry → Located
 entry_located entry = record { index = entry.index; rule = rule_if entry.has_row entry }
 
--- an entry without a row
+-- Inside the crate: an entry without a row
 abbrev pub entry_without : (address index : ℕ) → (is_used : Bool) → CacheEntry
 entry_without address index is_used = record {
   address = address;
@@ -58,7 +58,7 @@ entry_without address index is_used = record {
   signed = false;
 }
 
--- the entry of what is found at an address
+-- Inside the crate: the entry of what is found at an address
 abbrev pub cached : (address index : ℕ) → Option Rule → CacheEntry
 cached address index None = entry_without address index true
 cached address index (Some rule) = record {

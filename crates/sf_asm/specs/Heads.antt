@@ -14,30 +14,30 @@ use Rattle.sf_asm.specs.declared.entry.Outcome.TheVariants as outcome
 use Rattle.sf_asm.specs.declared.entry.Head.{Head}
 use Rattle.sf_asm.specs.declared.entry.Head.TheVariants.{Kept, Left}
 
--- its addresses and origin
+-- Inside the crate: its addresses and origin
 abbrev pub head_span : Head → Span
 head_span (Kept f origin) = record { start = f.head.start; size = f.head.size; origin = origin }
 head_span (Left o) = record { start = o.start; size = o.size; origin = o.origin }
 
--- what became of it
+-- Inside the crate: what became of it
 abbrev pub outcome_in : StoredRows → Head → Outcome
 outcome_in rows (Kept f origin) = outcome.Kept (stored_in rows f)
 outcome_in rows (Left o) = outcome.Left o.omission
 
--- the function of a head, with its rows
+-- Inside the crate: the function of a head, with its rows
 abbrev pub entry_in : StoredRows → Head → Entry
 entry_in rows h = record { span = head_span h; outcome = outcome_in rows h }
 
--- the functions of all heads
+-- Inside the crate: the functions of all heads
 abbrev pub entries_in : StoredRows → List Head → List Entry
 entries_in rows heads = map (entry_in rows) heads
 
--- the rows of a kept function are in the list
+-- Inside the crate: the rows of a kept function are in the list
 abbrev pub HasRows : StoredRows → Head → Type 0
 HasRows rows (Kept f origin) = IsStored rows f
 HasRows rows (Left o) = Unit {0}
 
--- the rows of all kept functions are in the list
+-- Inside the crate: the rows of all kept functions are in the list
 abbrev pub HaveRows : StoredRows → List Head → Type 0
 HaveRows rows heads = All (HasRows rows) heads
 
@@ -54,11 +54,11 @@ head_at heads p = get_or heads p.index no_head
 abbrev pub heads_at : List Head → List Place → List Head
 heads_at heads places = map (head_at heads) places
 
--- a head is there, and begins at this address
+-- Inside the crate: a head is there, and begins at this address
 abbrev pub IsPlaceIn : List Head → Place → Type 0
 IsPlaceIn heads p = (p.index < length heads) × (p.start ≡ (head_span (head_at heads p)).start)
 
--- one place for each head, in order
+-- Inside the crate: one place for each head, in order
 abbrev pub ArePlacesOf : List Head → List Place → Type 0
 ArePlacesOf heads places = (heads_at heads places ≡ heads) × All (IsPlaceIn heads) places
 
@@ -80,11 +80,11 @@ is_kept_head (Left o) = false
 abbrev pub IsKeptIn : List Head → Place → Type 0
 IsKeptIn heads p = (p.index < length heads) × (is_kept_head (head_at heads p) ≡ true)
 
--- the function of a head, if it is omitted
+-- Inside the crate: the function of a head, if it is omitted
 abbrev pub left_at : Head → Option Omitted
 left_at (Kept f origin) = None
 left_at (Left o) = Some o
 
--- the omitted functions, in order
+-- Inside the crate: the omitted functions, in order
 abbrev pub left_of : List Head → List Omitted
 left_of heads = filter_map left_at heads

@@ -51,7 +51,7 @@ pub record IsSaidUpTo (answers : Answers) (f : Function) (pc : ℕ) (said : Said
   pub same : SaidTo answers pc last said
   pub greatest : (other : ℕ) → IsTrue (holds_address other f) → SaidTo answers pc other said → other ≤ last
 
--- what a function says at one of its addresses, and up to where
+-- Inside the crate: what a function says at one of its addresses, and up to where
 abbrev pub SaysUpTo : Answers → Function → (pc : ℕ) → Option (Content × Key × ℕ) → Type 0
 SaysUpTo answers f pc None = answers pc ≡ None
 SaysUpTo answers f pc (Some row) = IsSaidUpTo answers f pc (with_key row.1 row.0) row.2

@@ -40,6 +40,7 @@ SpellsHexadecimal text number = (digits : List ℕ) × IsHexadecimal text number
 abbrev pub SpellsDecimal : List ℕ → ℕ → Type 0
 SpellsDecimal text number = (first : ℕ) × ((digits : List ℕ) × IsDecimal text number first digits)
 
+-- ---- Inside the crate
 -- the digit below 16 that a character is
 abbrev pub character_digit : ℕ → Option ℕ
 character_digit c =

@@ -1,4 +1,4 @@
--- What a call returned, compared with what a definition gives.
+-- Inside the crate. What a call returned, compared with what a definition gives.
 use Rattle.std.specs.Prelude.{◌≡◌, Result, Ok, Err}
 
 -- the result, seen through `view`, is what the definition gives

@@ -31,7 +31,7 @@ abbrev pub Gives : {X Y : Type 0} → (X → Y) → Part → Part → Result X B
 Gives view old new (Ok x) read = read ≡ Ok (view x, cursor new)
 Gives view old new (Err e) read = (read ≡ Err e) × (cursor new ≡ cursor old)
 
--- what a call returned, seen through `view`, is what the read gives, and the part is what the read leaves; on a fault
+-- Inside the crate: what a call returned, seen through `view`, is what the read gives, and the part is what the read leaves; on a fault
 -- nothing is claimed of the part
 abbrev pub Reads : {X Y F : Type 0} → (X → Y) → (new : Part) → Result X F → Result (Y × Cursor) F → Type 0
 Reads view new result read = Is (λ x. (view x, cursor new)) result read

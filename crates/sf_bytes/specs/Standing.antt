@@ -20,7 +20,7 @@ pub record Number (n : ℕ) (run : List ℕ) (x : ℕ) : Type 0 where
   pub width : length run ≡ n
   pub value : x ≡ little_number n run
 
--- a signed little-endian number of n bytes
+-- Inside the crate: a signed little-endian number of n bytes
 pub record Signed (n : ℕ) (run : List ℕ) (z : ℤ) : Type 0 where
   pub width : length run ≡ n
   pub value : z ≡ twos_complement n (little_number n run)

@@ -19,7 +19,7 @@ mask_of sample = if sample.has_mask == 0 then None else Some sample.mask
 abbrev pub sample_thread : KiblawenSample → ThreadState
 sample_thread sample = record { pc = sample.pc; regs = registers_of sample; mask = mask_of sample }
 
--- the memory of a copied stack is one run of bytes
+-- Inside the crate: the memory of a copied stack is one run of bytes
 abbrev pub one_region : Stack → List Region
 one_region stack = record { start = stack.start; bytes = stack.bytes.now } ∷ []
 

@@ -1,4 +1,4 @@
--- GNU SFrame specification, Version 2: the row that holds at an address by a section that C keeps.
+-- Inside the crate. GNU SFrame specification, Version 2: the row that holds at an address by a section that C keeps.
 use Rattle.std.specs.Prelude.{ℕ, Option}
 use Rattle.sf_model.specs.Lookup.{FoundRow, found_at}
 use Rattle.sf_decode.specs.declared.kept.LentSection.{LentSection}

@@ -28,7 +28,7 @@ state_in s = record {
   returned = not (s.returned == 0);
 }
 
--- a state, as C has it: an unknown frame pointer is the address where it was to be read
+-- Inside the crate: a state, as C has it: an unknown frame pointer is the address where it was to be read
 abbrev pub state_by : (pc sp lr : ℕ) → (returned : Bool) → Value → KiblawenState
 state_by pc sp lr returned (Known value) = record { pc = pc; sp = sp; fp = value; lr = lr; fp_unknown = 0; returned = flag returned }
 state_by pc sp lr returned (Unreadable address) = record { pc = pc; sp = sp; fp = address; lr = lr; fp_unknown = 1; returned = flag returned }

@@ -1,4 +1,4 @@
--- Where the function of an entry starts and ends, both moved up by 2^31.
+-- Inside the crate. Where the function of an entry starts and ends, both moved up by 2^31.
 use Rattle.std.specs.Prelude.{ℕ, List}
 use Rattle.sf_decode.specs.declared.entry.Bounds.{Bounds}
 use Rattle.sf_decode.specs.Entry.{raised_start, raised_end}

@@ -105,7 +105,7 @@ abbrev pub function_by : Arch → FdeFacts → List DwRow → Result Func Omissi
 function_by arch facts rows = with_rows facts (reason_of arch facts) (expressed_rows arch None rows)
 
 -- ---- what a call returned is what the definition gives
--- the row was returned, or the omission, and memory didn't run out
+-- Inside the crate: the row was returned, or the omission, and memory didn't run out
 abbrev pub Makes : Result Row ExpressFault → Result Row Omission → Type 0
 Makes (Ok row) given = given ≡ Ok row
 Makes (Err (Omit omission)) given = given ≡ Err omission
@@ -116,7 +116,7 @@ abbrev pub omission_of : ExpressFault → Option Omission
 omission_of (Omit omission) = Some omission
 omission_of NoMemory = None
 
--- the omission was returned, or memory ran out
+-- Inside the crate: the omission was returned, or memory ran out
 abbrev pub Fails : {Y : Type 0} → ExpressFault → Result Y Omission → Type 0
 Fails fault given = answers.Fails omission_of fault given
 

@@ -27,7 +27,7 @@ fits_i32 (negsuc n) = nat_lt n (2 ^ 31)
 abbrev pub narrowed : ℤ → Option ℤ
 narrowed z = if fits_i32 z then Some z else None
 
--- the value, or else a reason
+-- Inside the crate: the value, or else a reason
 abbrev pub or_reason : {A : Type 0} → Reason → Option A → Result A Reason
 or_reason reason (Some x) = Ok x
 or_reason reason None = Err reason

@@ -16,12 +16,12 @@ abbrev pub on_rows : {Y : Type 0} → (List DwRow → Y) → Result (List DwRow)
 on_rows f (Ok rows) = Ok (f rows)
 on_rows f (Err e) = Err e
 
--- every instruction was run, or this is the first fault
+-- Inside the crate: every instruction was run, or this is the first fault
 abbrev pub RunsAll : {U : Type 0} → Result U MachineFault → Result (List DwRow) MachineFault → Type 0
 RunsAll (Ok u) left = is_ok left ≡ true
 RunsAll (Err e) left = left ≡ Err e
 
--- the rows are packed, or the omission or the fault was returned in their place
+-- Inside the crate: the rows are packed, or the omission or the fault was returned in their place
 abbrev pub PacksRows : {U : Type 0} → PackedRows → Result (Result U Omission) MachineFault → Result (Result (List Row) Omission) MachineFault → Type 0
 PacksRows packed (Ok (Ok u)) given = (rows : List Row) × ArePacked packed rows × (given ≡ Ok (Ok rows))
 PacksRows packed (Ok (Err omission)) given = given ≡ Ok (Err omission)

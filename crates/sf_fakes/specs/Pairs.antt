@@ -16,12 +16,12 @@ abbrev pub has_name : List (List ℕ × List ℕ) → List ℕ → Bool
 has_name [] name = false
 has_name (file ∷ files) name = bytes_eq file.0 name || has_name files name
 
--- the place of the first pair with this name
+-- Inside the crate: the place of the first pair with this name
 abbrev pub place_named : List (List ℕ × List ℕ) → List ℕ → Option ℕ
 place_named [] name = None
 place_named (file ∷ files) name = if bytes_eq file.0 name then Some 0 else option_map (λ place. suc place) (place_named files name)
 
--- the pairs with these bytes in the first pair with this name, or in a new pair at the end if there was none
+-- Inside the crate: the pairs with these bytes in the first pair with this name, or in a new pair at the end if there was none
 abbrev pub with_file : List (List ℕ × List ℕ) → List ℕ → List ℕ → List (List ℕ × List ℕ)
 with_file [] name bytes = (name, bytes) ∷ []
 with_file (file ∷ files) name bytes = if bytes_eq file.0 name then (file.0, bytes) ∷ files else file ∷ with_file files name bytes
@@ -38,7 +38,7 @@ contents_at [] place = []
 contents_at (file ∷ files) zero = file.1
 contents_at (file ∷ files) (suc place) = contents_at files place
 
--- the pairs with these bytes appended to the first file with the name at a place
+-- Inside the crate: the pairs with these bytes appended to the first file with the name at a place
 abbrev pub with_appended : List (List ℕ × List ℕ) → ℕ → List ℕ → List (List ℕ × List ℕ)
 with_appended files place piece = with_file files (name_at files place) (contents_of files (name_at files place) ++ piece)
 

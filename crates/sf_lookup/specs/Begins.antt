@@ -1,4 +1,4 @@
--- Spans of addresses in the order in which they begin.
+-- Inside the crate. Spans of addresses in the order in which they begin.
 use Rattle.std.specs.Prelude.{ℕ, zero, suc, ◌<◌, List, [], ◌∷◌, All, length}
 use Rattle.std.specs.List.{Contains}
 use Rattle.std.specs.List.Sorted.{IsNonDecreasingBy}

@@ -7,7 +7,7 @@ use Rattle.sf_decode.specs.declared.view.View.{View}
 use Rattle.sf_decode.specs.View.{function_of, rows_left, table_of}
 use Rattle.sf_lookup.specs.declared.marks.Mark.{Mark}
 
--- a mark: a row of a function of the section whose number is a positive multiple of 64, and those after it
+-- Inside the crate: a mark: a row of a function of the section whose number is a positive multiple of 64, and those after it
 pub record IsMark (view : View) (m : Mark) : Type 0 where
   pub within : m.function < length (table_of view).functions
   pub numbered : m.number < length (function_of view m.function).rows
@@ -17,15 +17,15 @@ pub record IsMark (view : View) (m : Mark) : Type 0 where
   pub start_below : m.start < 2 ^ 32
   pub rows : rows_left m.rows ≡ drop m.number (function_of view m.function).rows
 
--- row k of function f comes before row n of function g
+-- Inside the crate: row k of function f comes before row n of function g
 abbrev pub IsEarlier : (f k g n : ℕ) → Type 0
 IsEarlier f k g n = (f ≤ g) × (f ≡ g → k < n)
 
--- the mark is that of row k of function f
+-- Inside the crate: the mark is that of row k of function f
 abbrev pub is_at : (f k : ℕ) → Mark → Bool
 is_at f k m = m.function == f && m.number == k
 
--- all marks of the rows before row n of function g, in order
+-- Inside the crate: all marks of the rows before row n of function g, in order
 pub record AreMarksUpto (view : View) (g n : ℕ) (marks : List Mark) : Type 0 where
   pub each : All (IsMark view) marks
   pub upto : All (λ (m : Mark). IsEarlier m.function m.number g n) marks
@@ -35,7 +35,7 @@ pub record AreMarksUpto (view : View) (g n : ℕ) (marks : List Mark) : Type 0 w
   -- there are at least 64 rows for each mark
   pub count : 64 * length marks ≤ row_count (take g (table_of view).functions) + (n - 1) / 64 * 64
 
--- all marks of the section, in order
+-- Inside the crate: all marks of the section, in order
 abbrev pub AreMarks : View → List Mark → Type 0
 AreMarks view marks = AreMarksUpto view (length (table_of view).functions) 0 marks
 

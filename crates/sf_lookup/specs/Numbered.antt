@@ -1,4 +1,4 @@
--- GNU SFrame specification, Version 2, function descriptor entries: functions as spans of addresses.
+-- Inside the crate. GNU SFrame specification, Version 2, function descriptor entries: functions as spans of addresses.
 use Rattle.std.specs.Prelude.{◌≡◌, ℕ, ◌+◌, List, [], ◌∷◌, Option, Some}
 use Rattle.sf_model.specs.declared.function.Func.{Func}
 use Rattle.sf_lookup.specs.declared.span.Span.{Span}

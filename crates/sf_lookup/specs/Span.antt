@@ -13,7 +13,7 @@ covers pc s = nat_le s.start pc && nat_lt pc (s.start + s.size)
 abbrev pub answer_of : {A : Type 0} → List (Span A) → (pc : ℕ) → Option A
 answer_of spans pc = option_map (λ (s : Span _). s.leads_to) (find (covers pc) spans)
 
--- those ends of a span that are addresses are points
+-- Inside the crate: those ends of a span that are addresses are points
 pub record HasEnds {A : Type 0} (points : List ℕ) (s : Span A) : Type 0 where
   pub start : Contains points s.start
   pub end : s.start + s.size < 2 ^ 64 → Contains points (s.start + s.size)

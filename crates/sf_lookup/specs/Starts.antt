@@ -8,7 +8,7 @@ use Rattle.sf_model.specs.declared.function.Func.{Func}
 abbrev pub starts_of : List Func → List ℕ
 starts_of functions = map (λ (f : Func). f.start) functions
 
--- each function ends where the next one starts, or before
+-- Inside the crate: each function ends where the next one starts, or before
 abbrev pub Apart : List Func → Type 0
 Apart functions = AllAdjacentBelow (λ (f : Func) (g : Func). f.start + f.size ≤ g.start) functions (length functions)
 

@@ -8,7 +8,7 @@ use Rattle.sf_model.specs.Table.{row_count}
 abbrev pub IsWithinDigits : (k n : ℕ) → Type 0
 IsWithinDigits k n = 2 ^ k ≤ 2 * n + 1
 
--- the number of rows up to and including the first that starts above the offset
+-- Inside the crate: the number of rows up to and including the first that starts above the offset
 abbrev pub rows_read : (offset : ℕ) → List Row → ℕ
 rows_read offset [] = 0
 rows_read offset (r ∷ rows) = if nat_le r.start offset then 1 + rows_read offset rows else 1

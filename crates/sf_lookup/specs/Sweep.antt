@@ -1,4 +1,4 @@
--- A scan of spans from the least address up.
+-- Inside the crate. A scan of spans from the least address up.
 use Rattle.std.specs.Prelude.{ℕ, ◌+◌, ◌<◌, ◌≤◌, ◌⊎◌, List, All, length, slice_index_or}
 use Rattle.std.specs.BinaryHeap.{IsHeap, heap_items}
 use Rattle.std.specs.List.{Contains}

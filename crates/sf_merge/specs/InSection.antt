@@ -32,6 +32,7 @@ pub record AreSectionEntries (entries : List SectionEntry) (functions : List Loc
 abbrev pub entry_rank : SectionEntry → Rank
 entry_rank e = record { start = e.start; item = 0; number = e.number }
 
+-- ---- Inside the crate
 -- the function of the second entry begins before the end of that of the first
 abbrev pub entries_overlap : SectionEntry × SectionEntry → Bool
 entries_overlap = overlap_by (λ (e : SectionEntry). e.start) (λ (e : SectionEntry). e.size)

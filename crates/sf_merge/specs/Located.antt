@@ -46,7 +46,7 @@ rank_of l = record { start = l.func.start; item = l.item; number = l.number }
 abbrev pub compared : Located → Located → Ordering
 compared a b = compared_ranks (rank_of a) (rank_of b)
 
--- the first function comes before the second
+-- Inside the crate: the first function comes before the second
 abbrev pub before : Located → Located → Bool
 before a b = is_lt (compared a b)
 

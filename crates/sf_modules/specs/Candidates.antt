@@ -5,7 +5,7 @@ use Rattle.std.specs.List.{filter, position_from}
 use Rattle.sf_modules.specs.Entry.{EntryView}
 use Rattle.sf_modules.specs.Name.{last_part}
 
--- the last parts of the names of entries
+-- Inside the crate: the last parts of the names of entries
 abbrev pub last_parts : List EntryView → List (List ℕ)
 last_parts entries = map (λ (e : EntryView). last_part e.name) entries
 
@@ -22,7 +22,7 @@ unfoldable pub alike : List EntryView → List EntryView
 alike [] = []
 alike (e ∷ es) = e ∷ filter (ends_in (last_part e.name)) es
 
--- for each of these parts the number of the next one that is the same: they are numbered from this number on
+-- Inside the crate: for each of these parts the number of the next one that is the same: they are numbered from this number on
 unfoldable pub next_same : (number : ℕ) → List (List ℕ) → List (Option ℕ)
 next_same number [] = []
 next_same number (part ∷ parts) = position_from (bytes_eq part) (number + 1) parts ∷ next_same (number + 1) parts

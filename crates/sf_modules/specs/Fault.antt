@@ -14,7 +14,7 @@ abbrev pub module_refusal : ModuleFault → Option ModuleFault
 module_refusal NoMemory = None
 module_refusal fault = Some fault
 
--- a fault is the check's, or out of memory
+-- Inside the crate: a fault is the check's, or out of memory
 abbrev pub IsFaultOf : Check → ModuleFault → Type 0
 IsFaultOf check fault = Fails module_refusal fault check
 

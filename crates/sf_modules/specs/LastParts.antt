@@ -12,11 +12,11 @@ use Rattle.sf_modules.specs.declared.last_parts.LastParts.{LastParts}
 use Rattle.sf_modules.specs.Candidates.{alike, last_parts, next_same}
 use Rattle.sf_modules.specs.Entry.{EntryView, mapping_view}
 
--- a map has the number of the first of these parts that is a part: they are numbered from this number on
+-- Inside the crate: a map has the number of the first of these parts that is a part: they are numbered from this number on
 abbrev pub AreFirst : BTreeMap (Bor (List ℕ)) ℕ → (number : ℕ) → List (List ℕ) → Type 0
 AreFirst first number parts = (part : List ℕ) → tree.get_by (λ (k : Bor (List ℕ)). slice_cmp nat_cmp part k.now) first ≡ position_from (bytes_eq part) number parts
 
--- the map and the numbers are those of these entries
+-- Inside the crate: the map and the numbers are those of these entries
 pub record AreByPart (p : LastParts) (entries : List EntryView) : Type 0 where
   pub first : AreFirst p.first 0 (last_parts entries)
   pub next : p.next.items ≡ next_same 0 (last_parts entries)

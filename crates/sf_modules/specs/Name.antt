@@ -35,6 +35,7 @@ up_to_slash (byte ∷ bytes) = if is_slash byte then [] else byte ∷ up_to_slas
 abbrev pub last_part : (name : List ℕ) → List ℕ
 last_part name = reverse (up_to_slash (reverse name))
 
+-- ---- Inside the crate
 -- the number of the first of these names that is a name
 abbrev pub name_number : (name : List ℕ) → (names : List (List ℕ)) → Option ℕ
 name_number name names = position_from (bytes_eq name) 0 names

@@ -1,4 +1,4 @@
--- A process's entries as spans of addresses, each leading to the module that it names.
+-- Inside the crate. A process's entries as spans of addresses, each leading to the module that it names.
 use Rattle.std.specs.Prelude.{ℕ, ◌-◌, bytes_eq, List, Option}
 use Rattle.std.specs.List.{find, position_from}
 use Rattle.std.specs.Option.{option_and_then}

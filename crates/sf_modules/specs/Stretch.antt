@@ -1,4 +1,4 @@
--- The entries of a process put in order (Linux core files, NT_FILE). Those of one name whose addresses are equally far from their
+-- Inside the crate. The entries of a process put in order (Linux core files, NT_FILE). Those of one name whose addresses are equally far from their
 -- places in the file are on one line: they have a place of the file at an address exactly where one of them has the address.
 use Rattle.std.specs.Prelude.{◌≡◌, ℕ, ◌+◌, ◌-◌, ◌*◌, ◌^◌, ◌<◌, ◌==◌, Bool, ◌&&◌, nat_le, nat_lt, List, length, map, take, slice_index, slice_index_or, Some}
 use Rattle.std.specs.Borrow.{Bor}

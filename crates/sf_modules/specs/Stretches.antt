@@ -1,4 +1,4 @@
--- The entries of a process that were put in order.
+-- Inside the crate. The entries of a process that were put in order.
 use Rattle.std.specs.Prelude.{◌≡◌, ℕ, List}
 use Rattle.std.specs.Borrow.{Bor}
 use Rattle.std.specs.BTreeMap as tree

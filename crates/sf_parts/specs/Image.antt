@@ -1,4 +1,4 @@
--- All bytes of a file of which parts were read: what the file holds, if that is known; else what the parts say, with zero bytes where none
+-- Inside the crate. All bytes of a file of which parts were read: what the file holds, if that is known; else what the parts say, with zero bytes where none
 -- was read.
 use Rattle.std.specs.Prelude.{ℕ, ◌+◌, List, [], ◌∷◌, ◌++◌, length, take, drop, replicate, Option, Some, None}
 use Rattle.sf_bytes.specs.declared.file_part.FilePart.{FilePart}

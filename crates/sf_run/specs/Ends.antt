@@ -148,7 +148,7 @@ SomeRunEnds answer before after =
     ⊎ (((command : CommandWords) × RunEnds answer command before after)
     ⊎ ((answer ≡ status.Memory) × TurnedAway before after memory_line))
 
--- ---- refusals and deliveries
+-- ---- Inside the crate: refusals and deliveries
 -- why a run makes nothing: an item could not be read, or a refusal is what the run comes to, or memory ran out
 abbrev pub RunRefuses : CommandWords → Contents → Refusal → Type 0
 RunRefuses command contents (refusal.Read name) = Contains (item_names (files_of_command command)) name.now

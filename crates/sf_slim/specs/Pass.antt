@@ -1,4 +1,4 @@
--- The needed rows and functions, by one pass over the rows.
+-- Inside the crate. The needed rows and functions, by one pass over the rows.
 use Rattle.std.specs.Prelude.{ℕ, Bool, false, true, not, ◌&&◌, nat_lt, List, [], ◌∷◌, Option, Some, None, if◌then◌else◌}
 use Rattle.sf_model.specs.declared.content.Content.{Content}
 use Rattle.sf_model.specs.declared.function.Func.{Func}

@@ -1,4 +1,4 @@
--- Bytes that go to a sink through a buffer.
+-- Inside the crate. Bytes that go to a sink through a buffer.
 use Rattle.std.specs.Prelude.{◌≡◌, ◌++◌, ℕ, List, Option}
 use Rattle.sf_base.specs.Told.{OnTold}
 

@@ -1,4 +1,4 @@
--- The functions of the inputs that a section has, and those that it lacks.
+-- Inside the crate. The functions of the inputs that a section has, and those that it lacks.
 use Rattle.std.specs.Prelude.{◌<◌, ◌==◌, ◌&&◌, ℕ, Bool, not, List, length, get_or}
 use Rattle.std.specs.List.{list_any}
 use Rattle.sf_model.specs.declared.function.Func.{Func}

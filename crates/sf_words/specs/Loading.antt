@@ -61,12 +61,12 @@ abbrev pub loaded_bytes : List Loaded → List (List ℕ)
 loaded_bytes loaded = map (λ (file : Loaded). file.bytes.items) loaded
 
 -- ---- refusals
--- an item of this name could not be read
+-- Inside the crate: an item of this name could not be read
 abbrev pub IsReadOf : (name : List ℕ) → Refusal → Type 0
 IsReadOf name (refusal.Read unread) = unread.now ≡ name
 IsReadOf name refused = ⊥
 
--- the refusal that a fault of loading the item of this number and name makes
+-- Inside the crate: the refusal that a fault of loading the item of this number and name makes
 abbrev pub IsLoadRefusal : LoadFault → (item : ℕ) → (name : List ℕ) → Refusal → Type 0
 IsLoadRefusal load.Read item name refused = IsReadOf name refused
 IsLoadRefusal (load.TooLong limit) item name refused = refused ≡ refusal.Limit (File item)

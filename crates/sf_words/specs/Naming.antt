@@ -1,4 +1,4 @@
--- The files that lists of words name: there is one list at most for each list of words.
+-- Inside the crate. The files that lists of words name: there is one list at most for each list of words.
 use Rattle.std.specs.Prelude.{ℕ, List}
 use Rattle.std.specs.List.{AllZip}
 use Rattle.sf_words.specs.Words.{InputWords, IsInputWord, IsSectionWord, SectionWords}

@@ -20,6 +20,7 @@ offsets_fit row = holds_row_offsets row.content (offset_width row.content)
 unfoldable pub rows_fit : Func → Bool
 rows_fit f = list_all offsets_fit f.rows
 
+-- ---- Inside the crate
 -- a function's size and its repeat size have room
 unfoldable pub head_fits : FuncHead → Bool
 head_fits head = nat_lt head.size (2 ^ 32) && nat_lt (repeat_size head.shape) 256

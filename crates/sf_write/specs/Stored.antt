@@ -46,6 +46,7 @@ pub record IsStored (rows : StoredRows) (f : StoredFunction) : Type 0 where
 
 -- What the writer goes by: the heads of stored functions, the widths of their row starts and the lengths of their ranges.
 
+-- ---- Inside the crate
 -- how many rows the functions have
 abbrev pub stored_count : List StoredFunction → ℕ
 stored_count functions = sum_by (λ (f : StoredFunction). f.head.rows) functions
