@@ -4,7 +4,7 @@
     ./x closure --list TITLE   prints the definitions below a row of the table, with their files
     ./x closure --unreached    prints the definitions that no contract of a public function reaches
     ./x closure --write        writes the table into docs/proof.md, between its two marks
-    ./x closure --check        fails if docs/proof.md has another table
+    ./x closure --check        fails if docs/proof.md has another table, or a file's first line says wrongly that it is inside the crate, or doesn't say so
 
 A definition is an item of a file crates/NAME/specs/*.antt; types that the source declares don't count. It rests on each
 definition that its text names, as its file imports them. The fields of records are not definitions.
@@ -174,6 +174,16 @@ def unreached(found):
     return [it for it in found.lines if it not in reached]
 
 
+def mismarked(found):
+    """The files that begin with "Inside the crate" though a public contract reaches them, or don't though none does."""
+    reached = {it[:2] for it in found.below(cited(found))}
+    for crate, file in sorted({it[:2] for it in found.lines}):
+        path = f"crates/{crate}/specs/{file}.antt"
+        with open(f"{TOP}/{path}", encoding="utf-8") as text:
+            if text.readline().startswith("-- Inside the crate") == ((crate, file) in reached):
+                yield path
+
+
 def show(found, definitions):
     for crate, file, name in definitions:
         print(f"{crate}/specs/{file}.antt {name}")
@@ -209,6 +219,9 @@ def main(words):
         show(found, sorted(found.below(rows(found)[words[1]])))
     elif words == ["--unreached"]:
         show(found, unreached(found))
+    elif words == ["--check"] and (wrong := list(mismarked(found))):
+        print(f"./x closure: the first line says wrongly whether it is inside the crate: {', '.join(wrong)}", file=sys.stderr)
+        return 1
     else:
         return keep(words, "closure", "proof.md", lambda: table(found), __doc__)
     return 0
