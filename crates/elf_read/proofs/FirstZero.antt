@@ -72,12 +72,6 @@ zero_from-later bytes place n low =
     let all : n + before_zero (drop n (drop place bytes)) ≡ before_zero (drop place bytes) = before_zero-drop n (drop place bytes) low in
     omega (arith, rest, all)
 
--- a place that lies between another one and the first zero byte from there on has the same one
-pub zero_from-between : (bytes : List ℕ) (before place found : ℕ) → found ≡ zero_from bytes before → before ≤ place → place ≤ found → found ≡ zero_from bytes place
-zero_from-between bytes before place found is less low =
-    let sum : before + (place - before) ≡ place = omega (arith, less) in
-    is ∙ sym (zero_from-later bytes before (place - before) (omega (arith, is, low, less))) ∙ ap (zero_from bytes) sum
-
 -- pieces without a zero byte are passed over
 pub zero_from-past_pieces : (bytes : List ℕ) (len piece n : ℕ) → ((j : ℕ) → j < n → HasNoZero bytes ((piece + j) * len) len) → zero_from bytes ((piece + n) * len) ≡ zero_from bytes (piece * len)
 zero_from-past_pieces bytes len piece zero free = let same : piece + 0 ≡ piece = omega arith in ap (λ (m : ℕ). zero_from bytes (m * len)) same

@@ -5,6 +5,6 @@ pub mod FirstZero
 pub mod ReadSizes
 pub mod Rules
 mod LeastCompressed
-mod Masks
+mod Pieces
 mod HeadersKept
 mod LinkedSound

@@ -1,5 +1,5 @@
 -- An executable or a shared object passes all checks if its headers, its names and its one section with call frame information do.
-use Rattle.std.proofs.Common.{◌≡◌, ℕ, zero, suc, ◌+◌, ◌-◌, ◌*◌, ◌<◌, ◌≤◌, ◌==◌, ◌&&◌, ◌||◌, Bool, true, false, not, cond, List, [], length, drop, Ok, Err, refl, sym, ap, subst, ◌∙◌, arith, inl, inr, le-leb}
+use Rattle.std.proofs.Common.{◌≡◌, ℕ, zero, suc, ◌+◌, ◌*◌, ◌<◌, ◌≤◌, ◌==◌, ◌&&◌, ◌||◌, Bool, true, false, not, cond, List, [], length, drop, Ok, Err, refl, sym, ap, subst, ◌∙◌, arith, inl, inr, le-leb}
 use Rattle.std.proofs.lemmas.Bool.{cases_lt}
 use Rattle.std.proofs.lemmas.List.{length-drop, length-take}
 use Rattle.elf_read.specs.declared.fault.ElfFault.TheVariants.{EntrySize, Strings, OutOfFile}

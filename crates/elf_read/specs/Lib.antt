@@ -11,5 +11,6 @@ pub mod Parsing
 pub mod InTurn
 pub mod Views
 pub mod FaultShown
+pub mod Masks
 pub mod Zeros
 pub mod Linked

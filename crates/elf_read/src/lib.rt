@@ -14,8 +14,8 @@
 //!
 //! The caller owes a file of fewer than 2^32 bytes. Nothing allocates. Each check goes once over the
 //! headers, and those of relocations and group members once over the ones that are used, which have room in the
-//! file together ([`room_law`]). A text in a string table that doesn't end with a zero byte is looked through as far as
-//! the next of 2048 parts of the file.
+//! file together ([`room_law`]). A text in a string table that doesn't end with a zero byte is looked through to the end of
+//! its piece of the file, of 65,536, and then the bits of the pieces are. They take 8 kB of stack.
 #![tactic(auto)]
 
 mod check;
@@ -33,6 +33,7 @@ pub mod layout;
 mod linked;
 mod linked_elf;
 mod linked_sections;
+mod masks;
 mod names;
 mod notice;
 mod number;

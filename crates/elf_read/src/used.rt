@@ -14,6 +14,7 @@ use crate::entries::{
 use crate::fault::ElfFault;
 use crate::header::is_object;
 use crate::layout::{ENTRY_LEN, GROUP_WORD_LEN, SHT_GROUP, SHT_RELA, SHT_SYMTAB};
+use crate::masks::MASKS;
 use crate::names::is_string_table;
 use crate::section_header::{
     header_place, sh_entsize, sh_info, sh_link, sh_offset, sh_size, sh_type,
@@ -102,7 +103,7 @@ pub fn check_relas(file: &[u8], count: u32) -> Result<(), ElfFault>
 
 // Returns whether the name of a group's symbol is in its table's string table.
 #[tactic(auto, unfolding(crate::specs::Used::has_signature))]
-fn has_signature(file: &[u8], zeros: &Zeros, i: u32) -> bool
+fn has_signature(file: &[u8], zeros: &Zeros<'_>, i: u32) -> bool
     requires small { length file.now < 2 ^ 32 }
     requires zeros { AreZeros file.now zeros.now }
     ensures { result ≡ spec.has_signature file.now i }
@@ -124,7 +125,7 @@ fn is_word_table(file: &[u8], i: u32) -> bool
 
 // Checks a group's size, its symbol table, its symbol, and the symbol's name.
 #[tactic(auto, unfolding(crate::specs::Used::group_tables))]
-fn check_group_tables(file: &[u8], zeros: &Zeros, i: u32) -> Result<(), ElfFault>
+fn check_group_tables(file: &[u8], zeros: &Zeros<'_>, i: u32) -> Result<(), ElfFault>
     requires small { length file.now < 2 ^ 32 }
     requires headers { (header_fields file.now).e_shoff < 2 ^ 32 }
     requires zeros { AreZeros file.now zeros.now }
@@ -171,7 +172,7 @@ fn check_members_upto(file: &[u8], i: u32, count: u32) -> Result<(), ElfFault>
 
 // Checks a group's tables and members, where the section is one.
 #[tactic(auto, unfolding(crate::specs::Used::group_check, crate::specs::Used::members_check))]
-fn check_group(file: &[u8], zeros: &Zeros, i: u32) -> Result<(), ElfFault>
+fn check_group(file: &[u8], zeros: &Zeros<'_>, i: u32) -> Result<(), ElfFault>
     requires small { length file.now < 2 ^ 32 }
     requires headers { (header_fields file.now).e_shoff < 2 ^ 32 }
     requires zeros { AreZeros file.now zeros.now }
@@ -190,7 +191,8 @@ pub fn check_groups(file: &[u8], count: u32) -> Result<(), ElfFault>
     requires headers { (header_fields file.now).e_shoff < 2 ^ 32 }
     ensures { result ≡ each_below count (spec.group_check file.now) }
 {
-    let zeros = Zeros::of_tables(file, count);
+    let mut masks = [0; MASKS];
+    let zeros = Zeros::of_tables(file, count, &mut masks);
     for i in 0..count {
         check_group(file, &zeros, i)?;
     }

@@ -1,34 +1,24 @@
 //! Where the zero bytes of a file are. Where a string table doesn't end with one, a text is looked through only to the end of
 //! its piece of the file, and from the next piece on that has a zero byte.
 
-ghost use Rattle.std.specs.Prelude.{◌≡◌, ◌<◌, ◌≤◌, ◌==◌, ◌^◌, ◌+◌, ◌*◌, ℕ, length};
-ghost use Rattle.std.specs.Int.{bit_at};
+ghost use Rattle.std.specs.Prelude.{◌≡◌, ◌<◌, ◌≤◌, ◌^◌, ◌*◌, length};
 ghost use Rattle.elf_read.specs.Number as spec;
-ghost use Rattle.elf_read.specs.Number.{HasNoZero};
 
 use crate::first_zero::bytes_before_zero;
 use crate::layout::SHT_STRTAB;
+use crate::masks::{MASKS, PIECES, next_piece, write_masks};
 use crate::number::{bytes_at, bytes_from};
 use crate::section_header::{sh_offset, sh_type};
 use crate::sections::section_bytes;
 
-/// The most parts of a file.
-const PARTS: usize = 2048;
-
-/// How many pieces a part has.
-const PIECES: u64 = 64;
-
-/// The first zero byte from the first byte of each part of a file on, and the pieces of each part that have one; or nothing.
-#[derive(Drop)]
-pub struct Zeros {
-    known: usize,
+/// The pieces of a file that have a zero byte, as far as they are known.
+#[derive(Clone, Copy)]
+pub struct Zeros<'a> {
     piece_len: u64,
-    places: [u64; PARTS],
-    /// A bit for each piece of a part, from the lowest on. Where it's 0, no byte of the piece is zero.
-    masks: [u64; PARTS],
-    ghost within: { known ≤ 2048 },
+    masks: &'a [u64],
     ghost some: { 0 < piece_len },
     ghost small: { piece_len ≤ 2 ^ 32 },
+    ghost few: { length masks.now ≤ 1024 },
 }
 
 // Returns the place of the first zero byte from a place on, or else the first place past the file.
@@ -39,77 +29,47 @@ fn zero_from(file: &[u8], place: u64) -> u64
     place + bytes_before_zero(bytes_from(file, place)) as u64
 }
 
-// Returns the mask of a part: a bit for each piece from this one on, 0 where no byte of the piece is zero.
-fn mask_from(file: &[u8], first: u64, piece_len: u64) -> u64
-    requires small { (first < 2 ^ 24) × (piece_len ≤ 2 ^ 32) }
-    ensures { (k : ℕ) → k < 64 → bit_at result k ≡ 0 → HasNoZero file.now ((first + k) * piece_len) piece_len }
-{
-    let mut mask = 0;
-    for k in 0..PIECES {
-        let piece = bytes_at(file, (first + k) * piece_len, piece_len);
-        if (bytes_before_zero(piece) as u64) < piece_len {
-            mask |= 1u64 << k;
+// Returns whether one of the first `count` sections is a string table that doesn't end with a zero byte.
+fn has_open_table(file: &[u8], count: u32) -> bool {
+    for i in 0..count {
+        if sh_type(file, i) == SHT_STRTAB && !matches!(section_bytes(file, i), [.., 0]) {
+            return true;
         }
     }
-    mask
+    false
 }
 
-impl Zeros {
+impl<'a> Zeros<'a> {
     ghost use Rattle.std.specs.Prelude.{ℕ, List};
     ghost use Rattle.elf_read.specs.Sections.{section_bytes as bytes_of};
     ghost use Rattle.elf_read.specs.Zeros.{AreZeros};
 
-    // Returns what is known of no part.
-    fn unknown() -> Zeros
-        ensures { (file : List ℕ) → AreZeros file result }
-    {
-        Zeros {
-            known: 0,
-            piece_len: 1,
-            places: [0; PARTS],
-            masks: [0; PARTS],
-        }
-    }
-
-    // Returns what is known of each part. Each byte of the file is looked at twice.
-    fn of_parts(file: &[u8]) -> Zeros
+    // Returns what is known of all pieces. Their masks are written into the room.
+    fn of_pieces(file: &[u8], room: &'a mut [u64; MASKS]) -> Zeros<'a>
         requires { length file.now < 2 ^ 32 }
         ensures { AreZeros file.now result }
     {
         let len = file.len() as u64;
-        let piece_len = len / (PARTS as u64 * PIECES) + PIECES;
-        let known = PARTS.min((len / (piece_len * PIECES)) as usize + 1);
-        let mut places = [0; PARTS];
-        let mut masks = [0; PARTS];
-        let mut zero = zero_from(file, 0);
-        for at in 0..known {
-            let first = at as u64 * PIECES;
-            if zero < first * piece_len {
-                zero = zero_from(file, first * piece_len);
-            }
-            places[at] = zero;
-            masks[at] = mask_from(file, first, piece_len);
-        }
-        Zeros {
-            known,
-            piece_len,
-            places,
-            masks,
-        }
+        let piece_len = len / (MASKS as u64 * PIECES) + PIECES;
+        let count = MASKS.min((len / (piece_len * PIECES)) as usize + 1);
+        let (masks, _) = room.split_at_mut(count);
+        write_masks(file, piece_len, masks);
+        Zeros { piece_len, masks }
     }
 
-    /// Returns what is known of each part, where one of the first `count` sections is a string table that doesn't end with a zero
-    /// byte.
-    pub fn of_tables(file: &[u8], count: u32) -> Zeros
+    /// Returns what is known of all pieces, where one of the first `count` sections is a string table that doesn't end with a
+    /// zero byte, and else of none. Their masks are written into the room.
+    pub fn of_tables(file: &[u8], count: u32, room: &'a mut [u64; MASKS]) -> Zeros<'a>
         requires { length file.now < 2 ^ 32 }
         ensures { AreZeros file.now result }
     {
-        for i in 0..count {
-            if sh_type(file, i) == SHT_STRTAB && !matches!(section_bytes(file, i), [.., 0]) {
-                return Zeros::of_parts(file);
-            }
+        if has_open_table(file, count) {
+            return Zeros::of_pieces(file, room);
         }
-        Zeros::unknown()
+        Zeros {
+            piece_len: PIECES,
+            masks: &[],
+        }
     }
 
     // Returns the place of the first zero byte from a piece's first byte on, or else the first place past the file.
@@ -118,22 +78,7 @@ impl Zeros {
         requires small { piece * self.now.piece_len < 2 ^ 61 }
         ensures { result ≡ spec.zero_from file.now (piece * self.now.piece_len) }
     {
-        let part = piece / PIECES;
-        if part >= self.known as u64 {
-            return zero_from(file, piece * self.piece_len);
-        }
-        let rest = self.masks[part as usize] >> (piece % PIECES);
-        if rest != 0 {
-            return zero_from(
-                file,
-                (piece + u64::from(rest.trailing_zeros())) * self.piece_len,
-            );
-        }
-        if part + 1 < self.known as u64 {
-            self.places[part as usize + 1]
-        } else {
-            zero_from(file, (part + 1) * PIECES * self.piece_len)
-        }
+        zero_from(file, next_piece(self.masks, piece) * self.piece_len)
     }
 
     // Returns the place of the first zero byte from a place on, or else the first place past the file.

@@ -1,39 +1,20 @@
-use Rattle.std.proofs.Common.{rules, ◌<◌, ◌≤◌, ◌^◌, ◌+◌, ◌*◌, ◌/◌, ◌%◌, ℕ, get_or, ap, ◌∙◌, arith, w64}
-use Rattle.std.proofs.lemmas.Nat.{mul-le, shr_le}
-use Rattle.std.specs.Int.{trailing_zeros}
+use Rattle.std.proofs.Common.{rules, ◌≡◌, ◌+◌, ◌-◌, ◌*◌, ℕ, ap, sym, ◌∙◌, arith}
 use Rattle.elf_read.specs.Number.{zero_from}
-use Rattle.elf_read.proofs.Masks.{lowest_within, past_lowest, past_part}
+use Rattle.elf_read.proofs.FirstZero.{zero_from-past_pieces}
+use Rattle.elf_read.proofs.Pieces.{next_place}
 use Rattle.elf_read.proofs.zeros.Zeros.first_from_piece.Goals as goal
 
-pub zero_from-requires-then-rest-ne0 : goal.zero_from-requires-then-rest-ne0
-zero_from-requires-then-rest-ne0 c =
+pub zero_from-requires : goal.zero_from-requires
+zero_from-requires c = next_place c.args.piece c.args.self.now.piece_len c.next_piece.result c.next_piece.ensures.within (search rules) c.requires.small
+
+pub returns : goal.returns
+returns c =
+    let file = c.args.file.now in
     let piece = c.args.piece in
-    let mask = get_or c.args.self.now.masks (piece / 64) 0 in
-    let small : mask < 2 ^ 64 = search rules in
-    let some : 0 < mask / 2 ^ (piece % 64) = omega (arith, c.if-rest-ne0.true) in
-    let rest_small : mask / 2 ^ (piece % 64) < 2 ^ 64 = omega (arith, shr_le mask (piece % 64), small) in
-    let within : piece % 64 + trailing_zeros w64 (mask / 2 ^ (piece % 64)) < 64 = lowest_within c.args.file.now c.args.self.now piece c.requires.zeros c.if-part-self.false some small rest_small in
-    let len : c.args.self.now.piece_len ≤ 2 ^ 32 = search rules in
-    let more : c.from.result * c.args.self.now.piece_len ≤ 64 * 2 ^ 32 = mul-le c.from.result c.args.self.now.piece_len 64 (2 ^ 32) (omega (arith, within, c.from.ensures)) len in
-    omega (arith, more, c.requires.small)
-
-pub returns-then-rest-ne0 : goal.returns-then-rest-ne0
-returns-then-rest-ne0 c =
-    let piece = c.args.piece in
-    let mask = get_or c.args.self.now.masks (piece / 64) 0 in
-    let small : mask < 2 ^ 64 = search rules in
-    let some : 0 < mask / 2 ^ (piece % 64) = omega (arith, c.if-rest-ne0.true) in
-    let rest_small : mask / 2 ^ (piece % 64) < 2 ^ 64 = omega (arith, shr_le mask (piece % 64), small) in
-    c.zero_from-then-rest-ne0.ensures
-    ∙ ap (λ (n : ℕ). zero_from c.args.file.now ((piece + n) * c.args.self.now.piece_len)) c.from.ensures
-    ∙ past_lowest c.args.file.now c.args.self.now piece c.requires.zeros c.if-part-self.false some small rest_small
-
-pub returns-then-part-self-2 : goal.returns-then-part-self-2
-returns-then-part-self-2 c =
-    c.requires.zeros.0 (c.args.piece / 64 + 1) c.if-part-self-2.true
-    ∙ past_part c.args.file.now c.args.self.now c.args.piece c.requires.zeros c.if-part-self.false c.if-rest-ne0.false
-
-pub returns-else-part-self-2 : goal.returns-else-part-self-2
-returns-else-part-self-2 c =
-    c.zero_from-else-part-self-2.ensures
-    ∙ past_part c.args.file.now c.args.self.now c.args.piece c.requires.zeros c.if-part-self.false c.if-rest-ne0.false
+    let len = c.args.self.now.piece_len in
+    let next = c.next_piece.result in
+    let sum : piece + (next - piece) ≡ next = omega (arith, c.next_piece.ensures.later) in
+    c.zero_from.ensures
+    ∙ ap (λ (n : ℕ). zero_from file (n * len)) (sym sum)
+    ∙ zero_from-past_pieces file len piece (next - piece)
+    (λ j below. c.requires.zeros (piece + j) (c.next_piece.ensures.clear (piece + j) (omega arith) (omega (arith, below, c.next_piece.ensures.later))))

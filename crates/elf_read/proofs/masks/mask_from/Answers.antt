@@ -4,8 +4,8 @@ use Rattle.std.proofs.lemmas.Nat.Bits.{bit_at_set_same, bit_at_set_other}
 use Rattle.std.specs.Int.{bit_at}
 use Rattle.elf_read.specs.Number.{HasNoZero}
 use Rattle.elf_read.proofs.FirstZero.{before_zero, is_free}
-use Rattle.elf_read.proofs.zeros.mask_from.Goals as goal
-use Rattle.elf_read.proofs.zeros.mask_from.Goals.{then-bytes_before_zero-piece_len, else-bytes_before_zero-piece_len}
+use Rattle.elf_read.proofs.masks.mask_from.Goals as goal
+use Rattle.elf_read.proofs.masks.mask_from.Goals.{then-bytes_before_zero-piece_len, else-bytes_before_zero-piece_len}
 
 pub loop-k-init : goal.loop-k-init
 loop-k-init c = λ j below _. absurd (omega (arith, below))

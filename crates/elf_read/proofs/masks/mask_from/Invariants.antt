@@ -1,7 +1,7 @@
 use Rattle.std.proofs.Common.{◌≡◌, ◌<◌, ◌+◌, ◌*◌, ℕ}
 use Rattle.std.specs.Int.{bit_at}
 use Rattle.elf_read.specs.Number.{HasNoZero}
-use Rattle.elf_read.proofs.zeros.mask_from.Given as goal
+use Rattle.elf_read.proofs.masks.mask_from.Given as goal
 
 -- the bits of the pieces before
 abbrev pub invariant-loop-k : goal.invariant-loop-k
