@@ -38,7 +38,9 @@ fn refused(section: Option<VerifyFault>, fault: GatherFault) -> VerifyFault
     }
 }
 
-/// Returns the verdict on a section whose functions are given in order, by the functions of the inputs.
+/// Returns the verdict on a section whose functions are given in order, by the functions of the inputs. It is not inlined, so
+/// that the 12 kB of its machine are not on the stack while the inputs are read.
+#[inline(never)]
 fn verdict_on(
     alloc: Global,
     view: &View<'_>,
