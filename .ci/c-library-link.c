@@ -17,7 +17,10 @@
 
 #include "kiblawen-link.h"
 
-enum { AT = 0x4000000, OTHER_BASE = 0x2000000, MOST = 1 << 16, PAGE = 4096, STACK = 1 << 18 };
+enum { AT = 0x4000000, OTHER_BASE = 0x2000000, MOST = 1 << 16, PAGE = 4096 };
+
+/* The stack of a thread that calls, and less than that what a call takes of it. */
+enum { STACK = 64 * 1024, MOST_STACK = 32 * 1024 };
 
 /* About how many of a call's allocations are made to fail, if it has many. */
 #ifdef SANITIZED
@@ -395,7 +398,7 @@ static void *call_once(void *given)
     return NULL;
 }
 
-/* The stack that each call takes, by what it leaves of a thread's stack that was painted. */
+/* The stack that each call takes, with what the thread itself takes, by what it leaves of a small stack that was painted. */
 static void stacks(const struct kiblawen_section *section)
 {
     static _Alignas(PAGE) uint8_t stack[STACK];
@@ -412,7 +415,7 @@ static void stacks(const struct kiblawen_section *section)
         while (left < sizeof stack && stack[left] == 0xa5)
             left++;
         printf("c-library-link: %s takes %zu bytes of stack\n", calls[i].name, sizeof stack - left);
-        CHECK(sizeof stack - left < 128 * 1024);
+        CHECK(sizeof stack - left < MOST_STACK);
     }
 }
 #endif
