@@ -25,7 +25,7 @@ BOXES = (
     ("", "sf_asm sf_link sf_plt sf_verify sf_link_c", "linking", 1, 10, 730),
     ("merging", "sf_merge sf_slim", "SFrame", 2, 310, 490),
     ("walks", "core_walk sample_walk sf_modules sf_c", "SFrame", 2, 750, 930),
-    ("writing", "sf_express sf_sizes sf_write", "SFrame", 3, 310, 490),
+    ("writing", "sf_express sf_sizes sf_write sf_functions", "SFrame", 3, 310, 490),
     ("core files, pages", "core_notes elf_load", "ELF", 3, 510, 680),
     ("records", "eh_pointer eh_records", "DWARF", 4, 10, 190),
     ("instructions", "cfa_insn cfa_machine", "DWARF", 4, 210, 390),

@@ -29,11 +29,12 @@ use Rattle.sf_write.proofs.NumbersFit.{some_section}
 use Rattle.sf_decode.specs.declared.view.View.{View}
 use Rattle.sf_decode.specs.Decoding.{section_check, table_in}
 use Rattle.sf_decode.proofs.EntriesRead.{section_stands}
+use Rattle.sf_functions.specs.Order.{IsInOrder}
 use Rattle.sf_merge.specs.declared.fault.MergeFault.{MergeFault}
 use Rattle.sf_merge.specs.declared.fault.MergeFault.TheVariants.{OutOfReach}
 use Rattle.sf_merge.specs.declared.located.Located.{Located}
 use Rattle.sf_merge.specs.Answers.{IsMerged}
-use Rattle.sf_merge.specs.Located.{AreByRank, at_entry, is_sized, located, sized_in_all}
+use Rattle.sf_merge.specs.Located.{at_entry, is_sized, located, sized_in_all, located_start}
 use Rattle.sf_merge.specs.Merging.{Merges, MergesUnless, ordered_fault, is_other, limits_fault_in_all, other_machine_fault, mixed_with_first, or_later, shared_address_fault, reach_fault, same_arch, sections_fault, unless_fault, merged_functions}
 use Rattle.sf_merge.proofs.Apart.{function_of}
 use Rattle.sf_merge.proofs.Checks.{one_machine}
@@ -142,7 +143,7 @@ accepted None functions all e = refl
 accepted (Some fault) functions all e = cc
 
 -- the section of functions in order
-from_order : (tables : List Table) (at : ℕ) (ordered : List Located) → All IsSaid tables → sections_fault tables ≡ None → AreByRank (sized_in_all tables) ordered → ordered_fault at ordered ≡ None
+from_order : (tables : List Table) (at : ℕ) (ordered : List Located) → All IsSaid tables → sections_fault tables ≡ None → IsInOrder located_start (sized_in_all tables) ordered → ordered_fault at ordered ≡ None
     → (section : List ℕ) × (count : ℕ) × (rows : ℕ) × IsMerged tables at section count rows
 from_order tables at ordered said none order clear =
     let sections = both_none (other_machine_fault tables) (limits_fault_in_all tables) none in
@@ -214,7 +215,7 @@ entries_all P item number (f ∷ functions) h =
     All-cons (λ (l : Located). P (function_of l)) (at_entry item (number, f)) (map (at_entry item) (enumerate_from (number + 1) functions)) (All-head P f functions h)
     (entries_all P item (number + 1) functions (All-tail P f functions h))
 
-ordered_fit : (table : Table) (ordered : List Located) → AreByRank (slim.sized_in table) ordered → All NumbersFit table.functions → All NumbersFit (map function_of ordered)
+ordered_fit : (table : Table) (ordered : List Located) → IsInOrder located_start (slim.sized_in table) ordered → All NumbersFit table.functions → All NumbersFit (map function_of ordered)
 ordered_fit table ordered order h =
     All-map NumbersFit function_of ordered (All-permutation (λ (l : Located). NumbersFit (function_of l)) (slim.sized_in table) ordered order.moved
     (All-filter is_sized (λ (l : Located). NumbersFit (function_of l)) (located 0 table) (entries_all NumbersFit 0 0 table.functions h)))

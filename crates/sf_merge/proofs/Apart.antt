@@ -1,6 +1,6 @@
 -- Functions in order, no two of which share an address.
 use Rattle.std.specs.Prelude.{nat_lt}
-use Rattle.std.specs.List.{find, AllAdjacentBelow, AllPairs}
+use Rattle.std.specs.List.{AllAdjacentBelow, AllPairs}
 use Rattle.std.specs.Option.{option_map}
 use Rattle.std.proofs.Common.{◌≡◌, ◌+◌, ◌<◌, ◌≤◌, Bool, true, false, cond, List, [], ◌∷◌, All, length, get_or, map, Option, Some, None, refl, arith, inl, inr}
 use Rattle.std.proofs.lemmas.Bool.{and_parts, ltb-true, ltb-false}
@@ -8,8 +8,10 @@ use Rattle.std.proofs.lemmas.List.Elements.{All-nil, All-cons, All-head, All-tai
 use Rattle.std.proofs.lemmas.List.Kept.{AllPairs-cons, AllPairs-filter}
 use Rattle.sf_model.specs.declared.function.Func.{Func}
 use Rattle.sf_model.specs.Union.{is_of_use, IsApart}
+use Rattle.sf_functions.specs.Neighbours.{first_overlap, overlap_by}
 use Rattle.sf_merge.specs.declared.located.Located.{Located}
-use Rattle.sf_merge.specs.Merging.{each_with_next, functions_overlap, shared_address_fault, shared_by, merged_functions}
+use Rattle.sf_merge.specs.Located.{located_size, located_start}
+use Rattle.sf_merge.specs.Merging.{shared_address_fault, shared_by, merged_functions}
 use Rattle.sf_model.proofs.Unions.{pairs_head, pairs_tail}
 
 -- the one ends where the other begins, or before
@@ -38,10 +40,10 @@ pub adjacent : {X : Type 0} (R : X → X → Type 0) (xs : List X) → AllPairs 
 adjacent R xs h = λ k d lt. h k (k + 1) d (omega arith) lt
 
 -- ---- no neighbours share an address, and so no two functions do
-not_shared : (a b : Located) (later : Option (Located × Located)) → cond (functions_overlap (a, b)) (Some (a, b)) later ≡ None → EndsBy a.func b.func × (later ≡ None)
-not_shared a b later e = at_test (functions_overlap (a, b)) refl e
+not_shared : (a b : Located) (later : Option (Located × Located)) → cond (overlap_by located_start located_size (a, b)) (Some (a, b)) later ≡ None → EndsBy a.func b.func × (later ≡ None)
+not_shared a b later e = at_test (overlap_by located_start located_size (a, b)) refl e
   where
-    at_test : (t : Bool) → functions_overlap (a, b) ≡ t → cond t (Some (a, b)) later ≡ None → EndsBy a.func b.func × (later ≡ None)
+    at_test : (t : Bool) → overlap_by located_start located_size (a, b) ≡ t → cond t (Some (a, b)) later ≡ None → EndsBy a.func b.func × (later ≡ None)
     at_test true t e = cc
     at_test false t e = (ltb-false b.func.start (a.func.start + a.func.size) t, e)
 
@@ -49,13 +51,13 @@ record Follow (a : Located) (ls : List Located) : Type 0 where
   behind : All (λ (l : Located). EndsBy a.func l.func) ls
   pairs : AllPairs (λ (l : Located) (m : Located). EndsBy l.func m.func) (a ∷ ls)
 
-follow : (a : Located) (ls : List Located) → find functions_overlap (each_with_next (a ∷ ls)) ≡ None → Follow a ls
+follow : (a : Located) (ls : List Located) → first_overlap located_start located_size (a ∷ ls) ≡ None → Follow a ls
 follow a [] e = record {
   behind = All-nil (λ (l : Located). EndsBy a.func l.func);
   pairs = AllPairs-cons (λ (l : Located) (m : Located). EndsBy l.func m.func) a [] (All-nil (λ (l : Located). EndsBy a.func l.func)) (pairs_none (λ (l : Located) (m : Located). EndsBy l.func m.func));
 }
 follow a (b ∷ ls) e =
-    let first = not_shared a b (find functions_overlap (each_with_next (b ∷ ls))) e in
+    let first = not_shared a b (first_overlap located_start located_size (b ∷ ls)) e in
     let rest = follow b ls first.1 in
     let behind = All-cons (λ (l : Located). EndsBy a.func l.func) b ls first.0 (All-weaker (λ (l : Located). EndsBy b.func l.func) (λ (l : Located). EndsBy a.func l.func) (λ l h. omega (first.0, h, arith)) ls rest.behind) in
     record { behind = behind; pairs = AllPairs-cons (λ (l : Located) (m : Located). EndsBy l.func m.func) a (b ∷ ls) behind rest.pairs }
@@ -67,7 +69,7 @@ none_found (Some pair) e = cc
 pub none_share : (ls : List Located) → shared_address_fault ls ≡ None → AllPairs (λ (l : Located) (m : Located). EndsBy l.func m.func) ls
 unfolding shared_address_fault
 none_share [] e = pairs_none (λ (l : Located) (m : Located). EndsBy l.func m.func)
-none_share (l ∷ ls) e = (follow l ls (none_found (find functions_overlap (each_with_next (l ∷ ls))) e)).pairs
+none_share (l ∷ ls) e = (follow l ls (none_found (first_overlap located_start located_size (l ∷ ls)) e)).pairs
 
 -- ---- the functions that are written
 pub written_apart : (ls : List Located) → shared_address_fault ls ≡ None → AllPairs EndsBy (merged_functions ls)

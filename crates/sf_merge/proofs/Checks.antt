@@ -1,9 +1,7 @@
 -- The checks of sections, in order.
-use Rattle.std.specs.Prelude.{nat_lt}
 use Rattle.std.specs.List.{enumerate_from, find}
 use Rattle.std.specs.Option.{option_map}
-use Rattle.std.proofs.Common.{◌≡◌, ℕ, ◌+◌, ◌^◌, ◌<◌, ◌≤◌, Bool, true, false, cond, List, [], ◌∷◌, ◌++◌, length, map, take, drop, get_or, Option, Some, None, refl, sym, ap, ◌∙◌, arith}
-use Rattle.std.proofs.lemmas.Bool.{lt-ltb, le-ltb, ltb-false}
+use Rattle.std.proofs.Common.{◌≡◌, ℕ, ◌+◌, ◌^◌, ◌<◌, ◌≤◌, true, false, List, [], ◌∷◌, ◌++◌, length, map, take, drop, get_or, Option, Some, None, refl, sym, ap, ◌∙◌, arith}
 use Rattle.std.proofs.lemmas.List.{map-append, drop_more, take_more, take_all, drop_all}
 use Rattle.std.proofs.lemmas.List.Sums.{sum_by_push}
 use Rattle.sf_model.specs.declared.machine.Arch.{Arch}
@@ -11,10 +9,16 @@ use Rattle.sf_model.specs.declared.machine.Arch.TheVariants.{Amd64, Aarch64}
 use Rattle.sf_model.specs.Table.{Table, row_count}
 use Rattle.sf_decode.specs.declared.view.View.{View}
 use Rattle.sf_decode.specs.View.{table_of}
+use Rattle.sf_functions.specs.declared.limits.Limit.{Limit}
+use Rattle.sf_functions.specs.Limits.{exceeded}
+use Rattle.sf_functions.specs.Neighbours.{overlap_by}
+use Rattle.sf_functions.proofs.LimitsHeld as limits
+use Rattle.sf_functions.proofs.LimitsHeld.{none_exceeded, none_over}
 use Rattle.sf_merge.specs.declared.fault.MergeFault.{MergeFault}
 use Rattle.sf_merge.specs.declared.fault.MergeFault.TheVariants as merge
 use Rattle.sf_merge.specs.declared.located.Located.{Located}
-use Rattle.sf_merge.specs.Merging.{same_arch, is_other, mixed_with_first, other_machine_fault, functions_in_all, rows_in_all, limits_fault_in_all, functions_overlap, shared_address_fault}
+use Rattle.sf_merge.specs.Located.{located_size, located_start}
+use Rattle.sf_merge.specs.Merging.{same_arch, is_other, mixed_with_first, other_machine_fault, fault_of_limit, functions_in_all, rows_in_all, limits_fault_in_all, shared_address_fault}
 
 -- the tables of the sections from a number on
 pub tables_more : (views : List View) (i : ℕ) (v : View) → i < length views → v ≡ get_or views i v → map table_of (drop i views) ≡ table_of v ∷ map table_of (drop (i + 1) views)
@@ -46,34 +50,17 @@ one_machine Aarch64 Amd64 e = cc
 one_machine Aarch64 Aarch64 e = refl
 
 -- ---- limits
-abbrev by_tests : (functions rows : Bool) → Option MergeFault
-by_tests functions rows = cond functions (Some merge.TooManyFunctions) (cond rows (Some merge.TooManyRows) None)
-
-tested : (tables : List Table) (functions rows : Bool) → nat_lt (2 ^ 21) (functions_in_all tables) ≡ functions → nat_lt (2 ^ 24) (rows_in_all tables) ≡ rows → limits_fault_in_all tables ≡ by_tests functions rows
-tested tables functions rows p q = rw (p, q) refl
-
-pub too_many_functions : (tables : List Table) → 2 ^ 21 < functions_in_all tables → limits_fault_in_all tables ≡ Some merge.TooManyFunctions
-too_many_functions tables many = tested tables true (nat_lt (2 ^ 24) (rows_in_all tables)) (lt-ltb (2 ^ 21) (functions_in_all tables) many) refl
-
-pub too_many_rows : (tables : List Table) → functions_in_all tables ≤ 2 ^ 21 → 2 ^ 24 < rows_in_all tables → limits_fault_in_all tables ≡ Some merge.TooManyRows
-too_many_rows tables few many = tested tables false true (le-ltb (2 ^ 21) (functions_in_all tables) few) (lt-ltb (2 ^ 24) (rows_in_all tables) many)
+abbrev limit_of : List Table → Option Limit
+limit_of tables = exceeded (functions_in_all tables) (rows_in_all tables)
 
 pub within_limits : (tables : List Table) → functions_in_all tables ≤ 2 ^ 21 → rows_in_all tables ≤ 2 ^ 24 → limits_fault_in_all tables ≡ None
-within_limits tables few small = tested tables false false (le-ltb (2 ^ 21) (functions_in_all tables) few) (le-ltb (2 ^ 24) (rows_in_all tables) small)
-
-functions_within : (tables : List Table) (b : Bool) → nat_lt (2 ^ 21) (functions_in_all tables) ≡ b → limits_fault_in_all tables ≡ None → b ≡ false
-functions_within tables false p h = refl
-functions_within tables true p h = let is = sym (tested tables true (nat_lt (2 ^ 24) (rows_in_all tables)) p refl) ∙ h in cc
-
-rows_within : (tables : List Table) (b : Bool) → nat_lt (2 ^ 24) (rows_in_all tables) ≡ b → limits_fault_in_all tables ≡ None → b ≡ false
-rows_within tables false p h = refl
-rows_within tables true p h = let is = sym (tested tables false true (functions_within tables (nat_lt (2 ^ 21) (functions_in_all tables)) refl h) p) ∙ h in cc
+within_limits tables few small = ap (option_map fault_of_limit) (none_exceeded (functions_in_all tables) (rows_in_all tables) few small)
 
 pub few_functions : (tables : List Table) → limits_fault_in_all tables ≡ None → functions_in_all tables ≤ 2 ^ 21
-few_functions tables h = ltb-false (2 ^ 21) (functions_in_all tables) (functions_within tables (nat_lt (2 ^ 21) (functions_in_all tables)) refl h)
+few_functions tables h = limits.few_functions (functions_in_all tables) (rows_in_all tables) (none_over fault_of_limit (limit_of tables) h)
 
 pub few_rows : (tables : List Table) → limits_fault_in_all tables ≡ None → rows_in_all tables ≤ 2 ^ 24
-few_rows tables h = ltb-false (2 ^ 24) (rows_in_all tables) (rows_within tables (nat_lt (2 ^ 24) (rows_in_all tables)) refl h)
+few_rows tables h = limits.few_rows (functions_in_all tables) (rows_in_all tables) (none_over fault_of_limit (limit_of tables) h)
 
 -- the sums so far
 pub functions_more : (views : List View) (i : ℕ) (v : View) → i < length views → v ≡ get_or views i v
@@ -93,7 +80,7 @@ pub no_tables_left : (views : List View) (i : ℕ) → length views ≤ i → ma
 no_tables_left views i le = ap (map table_of) (drop_all i views le)
 
 -- ---- overlaps
-pub overlap_goes_on : (before l : Located) (later : List Located) → functions_overlap (before, l) ≡ false → shared_address_fault (before ∷ l ∷ later) ≡ shared_address_fault (l ∷ later)
+pub overlap_goes_on : (before l : Located) (later : List Located) → overlap_by located_start located_size (before, l) ≡ false → shared_address_fault (before ∷ l ∷ later) ≡ shared_address_fault (l ∷ later)
 unfolding shared_address_fault
 overlap_goes_on before l later e = rw e refl
 

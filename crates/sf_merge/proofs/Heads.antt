@@ -1,24 +1,25 @@
 -- Functions whose rows are stored in one list.
-use Rattle.std.specs.List.{AllByRecursion, filter, find, zip}
-use Rattle.std.specs.List.Sorted.{IsPermutation, IsSorted, IsSortedByKey}
+use Rattle.std.specs.List.{AllByRecursion, filter}
 use Rattle.std.specs.Option.{is_some, option_map}
-use Rattle.std.specs.Ordering.{is_lt}
 use Rattle.std.proofs.Common.{◌≡◌, ◌+◌, ◌<◌, ◌&&◌, ℕ, Bool, true, false, cond, All, List, [], ◌∷◌, ◌++◌, length, get_or, map, Option, Some, None, refl, sym, ap, ◌∙◌, arith}
 use Rattle.std.specs.Prelude.{nat_lt}
 use Rattle.std.proofs.lemmas.List.{get_or-map, length-map, map-append}
 use Rattle.std.proofs.lemmas.List.Elements.{All-from_recursion, recursion_from_All}
-use Rattle.std.proofs.lemmas.List.Sorted.{IsPermutation-map}
 use Rattle.sf_model.specs.declared.function.Func.{Func}
 use Rattle.sf_write.specs.declared.stored.StoredFunction.{StoredFunction}
 use Rattle.sf_write.specs.declared.stored.StoredRows.{StoredRows}
 use Rattle.sf_write.specs.Stored.{IsStored, function_by, stored_in}
+use Rattle.sf_functions.specs.Neighbours.{first_overlap}
+use Rattle.sf_functions.specs.Order.{IsInOrder}
+use Rattle.sf_functions.proofs.ByStart.{seen_in_order}
+use Rattle.sf_functions.proofs.OverlapsSeen.{made_of_overlap}
 use Rattle.sf_merge.specs.declared.head.FunctionHead.{FunctionHead}
 use Rattle.sf_merge.specs.declared.head.FunctionHead.TheVariants.{WithRows, WithoutRows}
 use Rattle.sf_merge.specs.declared.head.LocatedHead.{LocatedHead}
 use Rattle.sf_merge.specs.declared.located.Located.{Located}
-use Rattle.sf_merge.specs.Heads.{AreHeads, AreWithRows, RowsAreStored, AllRowsAreStored, all_in, function_of_head, head_rank, heads_overlap, is_with_rows, located_in, plain_head, shared_by_heads, stored_head, stored_heads}
-use Rattle.sf_merge.specs.Located.{AreByRank, compared, compared_ranks, rank_of}
-use Rattle.sf_merge.specs.Merging.{each_with_next, functions_overlap, shared_address_fault, shared_by, merged_functions}
+use Rattle.sf_merge.specs.Heads.{AreHeads, AreWithRows, RowsAreStored, AllRowsAreStored, all_in, function_of_head, head_size, head_start, is_with_rows, located_in, plain_head, shared_by_heads, stored_head, stored_heads}
+use Rattle.sf_merge.specs.Located.{located_size, located_start}
+use Rattle.sf_merge.specs.Merging.{shared_address_fault, shared_by, merged_functions}
 
 -- ---- more rows are stored
 -- each function that is stored in one list is the same in the other
@@ -56,65 +57,20 @@ size_is rows (WithRows f) = refl
 size_is rows (WithoutRows head) = refl
 
 -- ---- in order
-rank_is : (rows : StoredRows) (h : LocatedHead) → rank_of (located_in rows h) ≡ head_rank h
-rank_is rows h = ap (λ (n : ℕ). record { start = n; item = h.item; number = h.number }) (start_is rows h.head)
-
-order_is : (rows : StoredRows) (x y : LocatedHead) → compared (located_in rows x) (located_in rows y) ≡ compared_ranks (head_rank x) (head_rank y)
-order_is rows x y = ap (λ r. compared_ranks r (rank_of (located_in rows y))) (rank_is rows x) ∙ ap (compared_ranks (head_rank x)) (rank_is rows y)
-
--- a head of this function
-abbrev some_head : Located → LocatedHead
-some_head l = record { head = WithoutRows record { start = l.func.start; size = l.func.size; shape = l.func.shape; key = l.func.key; rows = 0 }; item = l.item; number = l.number }
-
-rising : (rows : StoredRows) (heads : List LocatedHead) → IsSortedByKey head_rank compared_ranks heads → IsSorted compared (all_in rows heads)
-rising rows heads up = λ k d low lt.
-    let e = some_head d in
-    let same = length-map heads (located_in rows) in
-    let here = get_or-map (located_in rows) heads k e d (omega (arith, lt, same)) in
-    let next = get_or-map (located_in rows) heads (k + 1) e d (omega (arith, lt, same)) in
-    ap (λ (l : Located). is_lt (compared l (get_or (all_in rows heads) k d))) next
-    ∙ ap (λ (l : Located). is_lt (compared (located_in rows (get_or heads (k + 1) e)) l)) here
-    ∙ ap is_lt (order_is rows (get_or heads (k + 1) e) (get_or heads k e)) ∙ up k e low (omega (arith, lt, same))
-
-pub in_order : (rows : StoredRows) (old new : List LocatedHead) → IsPermutation old new → IsSortedByKey head_rank compared_ranks new → AreByRank (all_in rows old) (all_in rows new)
-in_order rows old new moved up = record {
-  moved = IsPermutation-map (located_in rows) old new moved;
-  rising = rising rows new up;
-}
+pub in_order : (rows : StoredRows) (old new : List LocatedHead) → IsInOrder head_start old new → IsInOrder located_start (all_in rows old) (all_in rows new)
+in_order rows old new order = seen_in_order (located_in rows) head_start located_start old new (λ k d lt. start_is rows (get_or old k d).head) order
 
 -- ---- overlaps
-overlap_is : (rows : StoredRows) (x y : LocatedHead) → functions_overlap (located_in rows x, located_in rows y) ≡ heads_overlap (x, y)
-overlap_is rows x y =
-    ap (λ (n : ℕ). nat_lt n ((function_of_head rows x.head).start + (function_of_head rows x.head).size)) (start_is rows y.head)
-    ∙ ap (λ (n : ℕ). nat_lt (plain_head y.head).start (n + (function_of_head rows x.head).size)) (start_is rows x.head)
-    ∙ ap (λ (n : ℕ). nat_lt (plain_head y.head).start ((plain_head x.head).start + n)) (size_is rows x.head)
-
 shared_is : (rows : StoredRows) (x y : LocatedHead) → shared_by (located_in rows x, located_in rows y) ≡ shared_by_heads (x, y)
 shared_is rows x y = rw (start_is rows x.head, start_is rows y.head) refl
 
-first_one : (rows : StoredRows) (x y : LocatedHead) (ys : List LocatedHead) (b : Bool) → functions_overlap (located_in rows x, located_in rows y) ≡ b
-    → option_map shared_by (find functions_overlap (zip (all_in rows (y ∷ ys)) (all_in rows ys))) ≡ option_map shared_by_heads (find heads_overlap (zip (y ∷ ys) ys))
-    → option_map shared_by (find functions_overlap (zip (all_in rows (x ∷ y ∷ ys)) (all_in rows (y ∷ ys)))) ≡ option_map shared_by_heads (find heads_overlap (zip (x ∷ y ∷ ys) (y ∷ ys)))
-first_one rows x y ys true e later =
-    ap (λ (b : Bool). option_map shared_by (cond b (Some (located_in rows x, located_in rows y)) (find functions_overlap (zip (all_in rows (y ∷ ys)) (all_in rows ys))))) e
-    ∙ ap Some (shared_is rows x y)
-    ∙ sym (ap (λ (b : Bool). option_map shared_by_heads (cond b (Some (x, y)) (find heads_overlap (zip (y ∷ ys) ys)))) (sym (overlap_is rows x y) ∙ e))
-first_one rows x y ys false e later =
-    ap (λ (b : Bool). option_map shared_by (cond b (Some (located_in rows x, located_in rows y)) (find functions_overlap (zip (all_in rows (y ∷ ys)) (all_in rows ys))))) e
-    ∙ later
-    ∙ sym (ap (λ (b : Bool). option_map shared_by_heads (cond b (Some (x, y)) (find heads_overlap (zip (y ∷ ys) ys)))) (sym (overlap_is rows x y) ∙ e))
-
-first_is : (rows : StoredRows) (x : LocatedHead) (xs : List LocatedHead)
-    → option_map shared_by (find functions_overlap (zip (all_in rows (x ∷ xs)) (all_in rows xs))) ≡ option_map shared_by_heads (find heads_overlap (zip (x ∷ xs) xs))
-first_is rows x [] = refl
-first_is rows x (y ∷ ys) = first_one rows x y ys (functions_overlap (located_in rows x, located_in rows y)) refl (first_is rows y ys)
-
-overlaps_in : (rows : StoredRows) (heads : List LocatedHead) → shared_address_fault (all_in rows heads) ≡ option_map shared_by_heads (find heads_overlap (each_with_next heads))
+overlaps_in : (rows : StoredRows) (heads : List LocatedHead) → shared_address_fault (all_in rows heads) ≡ option_map shared_by_heads (first_overlap head_start head_size heads)
 unfolding shared_address_fault
-overlaps_in rows [] = refl
-overlaps_in rows (x ∷ xs) = first_is rows x xs
+overlaps_in rows heads =
+    made_of_overlap (located_in rows) head_start head_size located_start located_size shared_by shared_by_heads (λ pair. shared_is rows pair.0 pair.1) heads
+    (λ k d lt. (start_is rows (get_or heads k d).head, size_is rows (get_or heads k d).head))
 
-pub overlaps_are : (heads : List LocatedHead) (ordered : List Located) → AreHeads heads ordered → option_map shared_by_heads (find heads_overlap (each_with_next heads)) ≡ shared_address_fault ordered
+pub overlaps_are : (heads : List LocatedHead) (ordered : List Located) → AreHeads heads ordered → option_map shared_by_heads (first_overlap head_start head_size heads) ≡ shared_address_fault ordered
 overlaps_are heads ordered h = sym (ap shared_address_fault h.are ∙ overlaps_in h.rows heads)
 
 -- ---- those that are written

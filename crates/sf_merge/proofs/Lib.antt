@@ -1,5 +1,4 @@
 pub mod Permutations
-pub mod Ranked
 pub mod Checks
 pub mod Read
 pub mod Apart

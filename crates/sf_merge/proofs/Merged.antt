@@ -18,11 +18,12 @@ use Rattle.sf_model.specs.Union.{IsUnion, all_functions, is_of_use}
 use Rattle.sf_model.proofs.Unions.{answered, unanswered}
 use Rattle.sf_write.specs.Reach.{first_out_of_reach}
 use Rattle.sf_write.specs.Section.{table_of}
+use Rattle.sf_functions.specs.Order.{IsInOrder}
 use Rattle.sf_merge.specs.declared.fault.MergeFault.{MergeFault}
 use Rattle.sf_merge.specs.declared.fault.MergeFault.TheVariants as merge
 use Rattle.sf_merge.specs.declared.located.Located.{Located}
 use Rattle.sf_merge.specs.Answers.{FindAlike, IsMerged}
-use Rattle.sf_merge.specs.Located.{sized_in_all, AreByRank}
+use Rattle.sf_merge.specs.Located.{located_start, sized_in_all}
 use Rattle.sf_merge.specs.Merging.{rows_in_all, other_machine_fault, limits_fault_in_all, shared_address_fault, reach_fault, or_later, unless, unless_fault, merged_functions, Merges, MergesUnless}
 use Rattle.sf_merge.proofs.Apart.{EndsBy, adjacent, useful, written_apart}
 use Rattle.sf_merge.proofs.Checks.{few_functions, few_rows}
@@ -58,7 +59,7 @@ rows_in_tables (t ∷ ts) =
     let rest = rows_in_tables ts in
     split ∙ omega (here, rest, arith)
 
-pub are_writable : (arch : Arch) (tables : List Table) (ordered : List Located) → All (IsSound arch) (all_functions tables) → AreByRank (sized_in_all tables) ordered → shared_address_fault ordered ≡ None → limits_fault_in_all tables ≡ None
+pub are_writable : (arch : Arch) (tables : List Table) (ordered : List Located) → All (IsSound arch) (all_functions tables) → IsInOrder located_start (sized_in_all tables) ordered → shared_address_fault ordered ≡ None → limits_fault_in_all tables ≡ None
     → AreWritable arch (merged_functions ordered)
 are_writable arch tables ordered sound order e limits =
     let moved = taken tables ordered order in
@@ -84,7 +85,7 @@ no_fault x (Some fault) e = cc
 none_later : (one other : Option MergeFault) → one ≡ None → other ≡ None → or_later one other ≡ None
 none_later one other e f = ap (λ o. or_later o other) e ∙ f
 
-pub comes_to : (tables : List Table) (at : ℕ) (ordered : List Located) → other_machine_fault tables ≡ None → limits_fault_in_all tables ≡ None → AreByRank (sized_in_all tables) ordered → shared_address_fault ordered ≡ None
+pub comes_to : (tables : List Table) (at : ℕ) (ordered : List Located) → other_machine_fault tables ≡ None → limits_fault_in_all tables ≡ None → IsInOrder located_start (sized_in_all tables) ordered → shared_address_fault ordered ≡ None
     → first_out_of_reach at 0 (merged_functions ordered) ≡ None → Merges tables at (Ok (merged_functions ordered))
 comes_to tables at ordered mixed limits order overlaps reach =
     let none = none_later (shared_address_fault ordered) (reach_fault at (merged_functions ordered)) overlaps (ap (option_map merge.OutOfReach) reach) in
@@ -95,7 +96,7 @@ find_alike : (arch : Arch) (tables : List Table) (functions : List Func) → IsU
 find_alike arch tables functions union = record { found = answered arch tables functions union; none = unanswered arch tables functions union }
 
 pub merged : (arch : Arch) (tables : List Table) (at : ℕ) (section : List ℕ) (ordered : List Located) → All (λ (table : Table). table.arch ≡ arch) tables → other_machine_fault tables ≡ None → limits_fault_in_all tables ≡ None
-    → AreByRank (sized_in_all tables) ordered → shared_address_fault ordered ≡ None → first_out_of_reach at 0 (merged_functions ordered) ≡ None → Tight section at (table_of arch (merged_functions ordered)) → Narrow section (table_of arch (merged_functions ordered))
+    → IsInOrder located_start (sized_in_all tables) ordered → shared_address_fault ordered ≡ None → first_out_of_reach at 0 (merged_functions ordered) ≡ None → Tight section at (table_of arch (merged_functions ordered)) → Narrow section (table_of arch (merged_functions ordered))
     → AreBytes section → IsMerged tables at section (length (merged_functions ordered)) (row_count (merged_functions ordered))
 merged arch tables at section ordered machines mixed limits order overlaps reach tight narrow bytes = record {
   arch = arch;

@@ -1,15 +1,11 @@
 -- Where sections can be merged at once, those that remain after merging some can be merged as well, unless a function
 -- is too far.
-use Rattle.std.specs.Cmp.{nat_cmp_is}
 use Rattle.std.specs.List.{AllPairs, enumerate_from, filter, find}
-use Rattle.std.specs.List.Sorted.{IsPermutation, IsSorted}
+use Rattle.std.specs.List.Sorted.{IsPermutation, IsNonDecreasingBy}
 use Rattle.std.specs.Option.{option_map}
-use Rattle.std.specs.Ordering.{is_lt, nat_cmp, ordering_then}
-use Rattle.std.specs.declared.cmp.Ordering.{Ordering}
-use Rattle.std.specs.declared.cmp.Ordering.TheVariants.{Less}
 use Rattle.std.specs.Prelude.{not}
-use Rattle.std.proofs.Common.{◌≡◌, ◌<◌, ◌≤◌, ◌+◌, ◌^◌, ℕ, Bool, true, false, cond, List, [], ◌∷◌, ◌++◌, All, length, map, Option, Some, None, Ok, Err, refl, sym, ap, subst, ◌∙◌, arith, inl, inr}
-use Rattle.std.proofs.lemmas.Bool.{cases_lt, le-ltb, ltb-true}
+use Rattle.std.proofs.Common.{◌≡◌, ◌<◌, ◌≤◌, ◌+◌, ◌^◌, ℕ, Bool, true, false, cond, List, [], ◌∷◌, ◌++◌, All, length, map, Option, Some, None, Ok, Err, refl, sym, ap, subst, ◌∙◌, arith}
+use Rattle.std.proofs.lemmas.Bool.{le-ltb, ltb-true}
 use Rattle.std.proofs.lemmas.List.{length-map, map-append}
 use Rattle.std.proofs.lemmas.List.Concat.{flat_map-append, length-flat_map}
 use Rattle.std.proofs.lemmas.List.Elements.{All-nil, All-cons, All-head, All-tail, All-append, All-filter, filter_passes}
@@ -21,13 +17,15 @@ use Rattle.sf_model.specs.declared.machine.Arch.TheVariants.{Amd64, Aarch64}
 use Rattle.sf_model.specs.declared.function.Func.{Func}
 use Rattle.sf_model.specs.Table.{Table, row_count}
 use Rattle.sf_model.specs.Union.{IsApart, all_functions, is_of_use}
+use Rattle.sf_model.proofs.StableOrder.{tail_rises}
 use Rattle.sf_model.proofs.Unions.{pairs_head, pairs_tail}
 use Rattle.sf_write.specs.Reach.{first_out_of_reach}
 use Rattle.sf_write.specs.Section.{table_of}
+use Rattle.sf_functions.specs.Order.{IsInOrder}
 use Rattle.sf_merge.specs.declared.fault.MergeFault.{MergeFault}
 use Rattle.sf_merge.specs.declared.fault.MergeFault.TheVariants.{OutOfReach}
 use Rattle.sf_merge.specs.declared.located.Located.{Located}
-use Rattle.sf_merge.specs.Located.{AreByRank, all_located, before, compared, is_sized, sized_in_all}
+use Rattle.sf_merge.specs.Located.{all_located, is_sized, located_start, sized_in_all}
 use Rattle.sf_merge.specs.Merging.{Merges, MergesUnless, ordered_fault, functions_in_all, is_other, limits_fault_in_all, other_machine_fault, mixed_with_first, or_later, shared_address_fault, reach_fault, rows_in_all, same_arch, sections_fault, unless_fault, merged_functions}
 use Rattle.sf_merge.specs.Parts.{AreMerged, AreMergedInParts, IsTooFar, Part, SomeAreMerged, part_tables}
 use Rattle.sf_merge.proofs.Apart.{all_back, function_of, pairs_none, turned}
@@ -37,7 +35,6 @@ use Rattle.sf_merge.proofs.Joined.{apart_by}
 use Rattle.sf_merge.proofs.Merged.{few_in_filter, few_rows_in_filter, rows_in_tables}
 use Rattle.sf_merge.proofs.OneRising.{one_rising}
 use Rattle.sf_merge.proofs.Permutations.{flat_map_permuted, pairs_permuted}
-use Rattle.sf_merge.proofs.Ranked.{first_least, rest_sorted}
 use Rattle.sf_merge.proofs.United.{functions_are, united}
 
 -- ---- pairs
@@ -184,29 +181,23 @@ no_mixed : (arch : Arch) (tables : List Table) → All (Has arch) tables → oth
 no_mixed arch [] h = refl
 no_mixed arch (t ∷ ts) h = none_mixed arch t.arch 0 (t ∷ ts) (All-head (Has arch) t ts h) h
 
-starts_rise : (l m : Located) → before m l ≡ false → l.func.start ≤ m.func.start
-starts_rise l m e = elim (cases_lt m.func.start l.func.start) [
-  | inl lt ↦ let earlier : before m l ≡ true = ap (λ (c : Ordering). is_lt (ordering_then c (ordering_then (nat_cmp m.item l.item) (nat_cmp m.number l.number)))) (sym (nat_cmp_is m.func.start l.func.start Less lt)) in cc
-  | inr le ↦ le
-]
-
 abbrev Holds : Located → Type 0
 Holds l = is_sized l ≡ true
 
 abbrev AreApart : Located → Located → Type 0
 AreApart l m = IsApart l.func m.func
 
-no_overlap : (ordered : List Located) → IsSorted compared ordered → All Holds ordered → AllPairs AreApart ordered → shared_address_fault ordered ≡ None
+no_overlap : (ordered : List Located) → IsNonDecreasingBy located_start ordered → All Holds ordered → AllPairs AreApart ordered → shared_address_fault ordered ≡ None
 no_overlap [] up sizes apart = none_at_all
 no_overlap (l ∷ []) up sizes apart = one_alone l
 no_overlap (l ∷ m ∷ ls) up sizes apart =
     let rest = All-tail Holds l (m ∷ ls) sizes in
-    let le = starts_rise l m (All-head (λ y. before y l ≡ false) m ls (All-tail (λ y. before y l ≡ false) l (m ∷ ls) (first_least l (m ∷ ls) up))) in
+    let le : l.func.start ≤ m.func.start = up 0 1 l (omega arith) (omega arith) in
     let ends = apart_by l.func m.func (ltb-true 0 l.func.size (All-head Holds l (m ∷ ls) sizes)) (ltb-true 0 m.func.size (All-head Holds m ls rest)) le
     (All-head (AreApart l) m ls (pairs_head AreApart l (m ∷ ls) apart)) in
-    overlap_goes_on l m ls (le-ltb m.func.start (l.func.start + l.func.size) ends) ∙ no_overlap (m ∷ ls) (rest_sorted l (m ∷ ls) up) rest (pairs_tail AreApart l (m ∷ ls) apart)
+    overlap_goes_on l m ls (le-ltb m.func.start (l.func.start + l.func.size) ends) ∙ no_overlap (m ∷ ls) (tail_rises located_start l (m ∷ ls) up) rest (pairs_tail AreApart l (m ∷ ls) apart)
 
-none_overlap : (arch : Arch) (tables : List Table) (ordered : List Located) → CanBe arch tables → AreByRank (sized_in_all tables) ordered → shared_address_fault ordered ≡ None
+none_overlap : (arch : Arch) (tables : List Table) (ordered : List Located) → CanBe arch tables → IsInOrder located_start (sized_in_all tables) ordered → shared_address_fault ordered ≡ None
 none_overlap arch tables ordered h order =
     let of_all : AllPairs AreApart (all_located tables) = pairs_back IsApart function_of (all_located tables) (subst (AllPairs IsApart) (sym (functions_are tables)) h.apart) in
     let of_sized = AllPairs-filter AreApart is_sized (all_located tables) of_all in
@@ -216,13 +207,13 @@ none_overlap arch tables ordered h order =
 -- their fault is a function that is too far
 record IsReach (tables : List Table) (at : ℕ) (fault : MergeFault) : Type 0 where
   ordered : List Located
-  order : AreByRank (sized_in_all tables) ordered
+  order : IsInOrder located_start (sized_in_all tables) ordered
   clear : shared_address_fault ordered ≡ None
   start : ℕ
   far : first_out_of_reach at 0 (merged_functions ordered) ≡ Some start
   is : fault ≡ OutOfReach start
 
-by_reach : (tables : List Table) (at : ℕ) (ordered : List Located) (fault : MergeFault) (far : Option ℕ) → AreByRank (sized_in_all tables) ordered → shared_address_fault ordered ≡ None → first_out_of_reach at 0 (merged_functions ordered) ≡ far
+by_reach : (tables : List Table) (at : ℕ) (ordered : List Located) (fault : MergeFault) (far : Option ℕ) → IsInOrder located_start (sized_in_all tables) ordered → shared_address_fault ordered ≡ None → first_out_of_reach at 0 (merged_functions ordered) ≡ far
     → Err fault ≡ unless_fault (option_map OutOfReach far) (merged_functions ordered) → IsReach tables at fault
 by_reach tables at ordered fault None order clear e h = cc
 by_reach tables at ordered fault (Some start) order clear e h = record { ordered = ordered; order = order; clear = clear; start = start; far = e; is = cc }

@@ -1,16 +1,16 @@
--- Merging has a result: functions can be sorted by start, section and entry.
+-- Merging has a result: functions can be sorted by their starts.
 use Rattle.std.proofs.Common.{ℕ, List, Option, Some, None, Result, Err, refl}
 use Rattle.sf_model.specs.declared.function.Func.{Func}
 use Rattle.sf_model.specs.Table.{Table}
+use Rattle.sf_functions.specs.Order.{IsInOrder}
+use Rattle.sf_functions.proofs.ByStart.{by_key, in_order}
 use Rattle.sf_merge.specs.declared.fault.MergeFault.{MergeFault}
 use Rattle.sf_merge.specs.declared.located.Located.{Located}
-use Rattle.sf_merge.specs.Located.{before, sized_in_all, AreByRank}
+use Rattle.sf_merge.specs.Located.{located_start, sized_in_all}
 use Rattle.sf_merge.specs.Merging.{Merges, MergesUnless, ordered_fault, sections_fault, unless_fault, merged_functions}
-use Rattle.sf_merge.proofs.Insertion.{moved, ordered, sorted}
-use Rattle.sf_merge.proofs.Ranked.{order}
 
-pub some_order : (all : List Located) → (ordered : List Located) × AreByRank all ordered
-some_order all = (ordered before order all, record { moved = moved before order all; rising = sorted before order all })
+pub some_order : (all : List Located) → (ordered : List Located) × IsInOrder located_start all ordered
+some_order all = (by_key located_start all, in_order located_start all)
 
 some_from : (tables : List Table) (at : ℕ) (fault : Option MergeFault) → (result : Result (List Func) MergeFault) × MergesUnless fault tables at result
 some_from tables at (Some fault) = (Err fault, refl)

@@ -12,8 +12,9 @@ use Rattle.sf_model.specs.declared.machine.Arch.{Arch}
 use Rattle.sf_model.specs.declared.function.Func.{Func}
 use Rattle.sf_model.specs.Table.{Table}
 use Rattle.sf_model.specs.Union.{is_of_use, all_functions, IsApart, IsUnion}
+use Rattle.sf_functions.specs.Order.{IsInOrder}
 use Rattle.sf_merge.specs.declared.located.Located.{Located}
-use Rattle.sf_merge.specs.Located.{at_entry, located, all_located, is_sized, sized_in_all, AreByRank}
+use Rattle.sf_merge.specs.Located.{all_located, at_entry, is_sized, located, located_start, sized_in_all}
 use Rattle.sf_merge.specs.Merging.{shared_address_fault, merged_functions}
 use Rattle.sf_merge.proofs.Apart.{EndsBy, function_of, none_share, pairs_map, pairs_none, pairs_weaker, written_apart, adjacent, rises, turned, useful}
 use Rattle.sf_merge.proofs.Permutations.{filter_permuted, pairs_permuted}
@@ -46,7 +47,7 @@ use_sized (l ∷ ls) = at_size (nat_lt 0 l.func.size) refl (use_sized ls)
     at_size true e others = ap (λ fs. cond (is_of_use l.func) (l.func ∷ fs) fs) others
     at_size false e others = others ∙ sym (ap (λ (b : Bool). cond (b && nat_lt 0 (length l.func.rows)) (l.func ∷ rest) rest) e)
 
-pub taken : (tables : List Table) (ordered : List Located) → AreByRank (sized_in_all tables) ordered → IsPermutation (filter is_of_use (all_functions tables)) (merged_functions ordered)
+pub taken : (tables : List Table) (ordered : List Located) → IsInOrder located_start (sized_in_all tables) ordered → IsPermutation (filter is_of_use (all_functions tables)) (merged_functions ordered)
 taken tables ordered order =
     subst (λ fs. IsPermutation fs (merged_functions ordered)) (use_sized (all_located tables) ∙ ap (filter is_of_use) (functions_are tables))
     (filter_permuted is_of_use (map function_of (sized_in_all tables)) (map function_of ordered) (IsPermutation-map function_of (sized_in_all tables) ordered order.moved))
@@ -75,7 +76,7 @@ pairs_apart (l ∷ ls) h = at_size (is_sized l) refl h (pairs_apart ls)
         AllPairs-cons AreApart l ls (all_apart l ls (pairs_head AreApart l (filter is_sized ls) h)) (others (pairs_tail AreApart l (filter is_sized ls) h))
     at_size false e h others = AllPairs-cons AreApart l ls (λ k d lt. inl (no_bytes l e)) (others h)
 
-pub apart : (tables : List Table) (ordered : List Located) → AreByRank (sized_in_all tables) ordered → shared_address_fault ordered ≡ None → AllPairs IsApart (all_functions tables)
+pub apart : (tables : List Table) (ordered : List Located) → IsInOrder located_start (sized_in_all tables) ordered → shared_address_fault ordered ≡ None → AllPairs IsApart (all_functions tables)
 apart tables ordered order e =
     let in_order = pairs_weaker (λ (l : Located) (m : Located). EndsBy l.func m.func) AreApart (λ l m h. inr (inr (inl h))) ordered (none_share ordered e) in
     let of_sized = pairs_permuted AreApart (λ l m h. turned l.func m.func h) ordered (sized_in_all tables) (IsPermutation-sym (sized_in_all tables) ordered order.moved) in_order in
@@ -85,7 +86,7 @@ apart tables ordered order e =
 pub written_sizes : (ls : List Located) → All (λ (f : Func). 0 < f.size) (merged_functions ls)
 written_sizes ls = All-weaker (λ (f : Func). is_of_use f ≡ true) (λ (f : Func). 0 < f.size) (λ f e. (useful f e).size) (merged_functions ls) (filter_passes is_of_use (map function_of ls))
 
-pub united : (arch : Arch) (tables : List Table) (ordered : List Located) → All (λ (table : Table). table.arch ≡ arch) tables → AreByRank (sized_in_all tables) ordered → shared_address_fault ordered ≡ None
+pub united : (arch : Arch) (tables : List Table) (ordered : List Located) → All (λ (table : Table). table.arch ≡ arch) tables → IsInOrder located_start (sized_in_all tables) ordered → shared_address_fault ordered ≡ None
     → IsUnion arch tables (merged_functions ordered)
 united arch tables ordered machines order e = record {
   one_machine = machines;

@@ -1,6 +1,6 @@
 -- Inside the crate. GNU SFrame specification, Version 2, function descriptor entries: functions of several sections, with a head for each
 -- and their rows stored in one list.
-use Rattle.std.specs.Prelude.{◌≡◌, ◌<◌, Bool, true, List, [], All, map, length, Option, Some, None}
+use Rattle.std.specs.Prelude.{◌≡◌, ◌<◌, ℕ, Bool, true, List, [], All, map, length, Option, Some, None}
 use Rattle.std.specs.List.{filter_map}
 use Rattle.std.specs.Option.{is_some}
 use Rattle.sf_model.specs.declared.machine.Arch.{Arch}
@@ -17,17 +17,19 @@ use Rattle.sf_merge.specs.declared.head.FunctionHead.{FunctionHead}
 use Rattle.sf_merge.specs.declared.head.FunctionHead.TheVariants.{WithRows, WithoutRows}
 use Rattle.sf_merge.specs.declared.head.LocatedHead.{LocatedHead}
 use Rattle.sf_merge.specs.declared.located.Located.{Located}
-use Rattle.sf_merge.specs.declared.located.Rank.{Rank}
-use Rattle.sf_merge.specs.Merging.{overlap_by}
 
 -- the function without its rows
 abbrev pub plain_head : FunctionHead → FuncHead
 plain_head (WithRows f) = f.head
 plain_head (WithoutRows head) = head
 
--- the function's place in the order of all functions
-abbrev pub head_rank : LocatedHead → Rank
-head_rank h = record { start = (plain_head h.head).start; item = h.item; number = h.number }
+-- the function's first address
+abbrev pub head_start : LocatedHead → ℕ
+head_start h = (plain_head h.head).start
+
+-- the function's size in bytes
+abbrev pub head_size : LocatedHead → ℕ
+head_size h = (plain_head h.head).size
 
 -- the function with its rows
 abbrev pub function_of_head : StoredRows → FunctionHead → Func
@@ -77,10 +79,6 @@ is_with_rows h = is_some (stored_head h.head)
 abbrev pub AreWithRows : List LocatedHead → Type 0
 AreWithRows heads = All (λ (h : LocatedHead). is_with_rows h ≡ true) heads
 
--- the second function begins before the end of the first
-abbrev pub heads_overlap : LocatedHead × LocatedHead → Bool
-heads_overlap = overlap_by (λ (h : LocatedHead). (plain_head h.head).start) (λ (h : LocatedHead). (plain_head h.head).size)
-
 -- the fault of two functions that share an address
 abbrev pub shared_by_heads : LocatedHead × LocatedHead → MergeFault
-shared_by_heads pair = Overlap (plain_head pair.0.head).start pair.0.item (plain_head pair.1.head).start pair.1.item
+shared_by_heads pair = Overlap (head_start pair.0) pair.0.item (head_start pair.1) pair.1.item

@@ -1,12 +1,10 @@
 -- GNU SFrame specification, Version 2, function descriptor entries: the functions of one section. Their rows stay in
 -- the section.
-use Rattle.std.specs.Prelude.{◌≡◌, ◌<◌, Bool, All, List, map, length}
+use Rattle.std.specs.Prelude.{◌≡◌, ◌<◌, ℕ, All, List, map, length}
 use Rattle.sf_decode.specs.declared.view.View.{View}
 use Rattle.sf_decode.specs.View.{function_of, table_of}
 use Rattle.sf_merge.specs.declared.in_section.SectionEntry.{SectionEntry}
 use Rattle.sf_merge.specs.declared.located.Located.{Located}
-use Rattle.sf_merge.specs.declared.located.Rank.{Rank}
-use Rattle.sf_merge.specs.Merging.{overlap_by}
 
 -- the function of an entry of the section
 abbrev pub located_at : View → SectionEntry → Located
@@ -28,11 +26,10 @@ pub record AreSectionEntries (entries : List SectionEntry) (functions : List Loc
   pub are : functions ≡ all_at view entries
   pub each : All (IsEntry view) entries
 
--- the entry's place in the order of the section's functions
-abbrev pub entry_rank : SectionEntry → Rank
-entry_rank e = record { start = e.start; item = 0; number = e.number }
+-- the first address of the entry's function
+abbrev pub entry_start : SectionEntry → ℕ
+entry_start e = e.start
 
--- ---- Inside the crate
--- the function of the second entry begins before the end of that of the first
-abbrev pub entries_overlap : SectionEntry × SectionEntry → Bool
-entries_overlap = overlap_by (λ (e : SectionEntry). e.start) (λ (e : SectionEntry). e.size)
+-- the size of the entry's function in bytes
+abbrev pub entry_size : SectionEntry → ℕ
+entry_size e = e.size

@@ -2,13 +2,9 @@
 -- addresses.
 use Rattle.std.specs.Prelude.{ℕ, Bool, nat_lt, List, map}
 use Rattle.std.specs.List.{enumerate_from, filter, flat_map}
-use Rattle.std.specs.List.Sorted.{IsPermutation, IsSorted}
-use Rattle.std.specs.Ordering.{is_lt, nat_cmp, ordering_then}
-use Rattle.std.specs.declared.cmp.Ordering.{Ordering}
 use Rattle.sf_model.specs.declared.function.Func.{Func}
 use Rattle.sf_model.specs.Table.{Table}
 use Rattle.sf_merge.specs.declared.located.Located.{Located}
-use Rattle.sf_merge.specs.declared.located.Rank.{Rank}
 
 -- a function by its section and its entry, both numbered from 0
 abbrev pub at_entry : (item : ℕ) → ℕ × Func → Located
@@ -34,23 +30,11 @@ sized_in_all tables = filter is_sized (all_located tables)
 abbrev pub located_functions : List Located → List Func
 located_functions ordered = map (λ (l : Located). l.func) ordered
 
--- the order of functions: by start, then by section, then by entry
-abbrev pub compared_ranks : Rank → Rank → Ordering
-compared_ranks a b = ordering_then (nat_cmp a.start b.start) (ordering_then (nat_cmp a.item b.item) (nat_cmp a.number b.number))
+-- the function's first address. Functions in the order of their starts (IsInOrder) have those of one start in the order of sections,
+-- and then of entries
+abbrev pub located_start : Located → ℕ
+located_start l = l.func.start
 
--- a function's place in the order of functions
-abbrev pub rank_of : Located → Rank
-rank_of l = record { start = l.func.start; item = l.item; number = l.number }
-
--- two functions compared by the order of functions
-abbrev pub compared : Located → Located → Ordering
-compared a b = compared_ranks (rank_of a) (rank_of b)
-
--- Inside the crate: the first function comes before the second
-abbrev pub before : Located → Located → Bool
-before a b = is_lt (compared a b)
-
--- the second list has the functions of the first one, sorted by the order of functions
-pub record AreByRank (all ordered : List Located) : Type 0 where
-  pub moved : IsPermutation all ordered
-  pub rising : IsSorted compared ordered
+-- the function's size in bytes
+abbrev pub located_size : Located → ℕ
+located_size l = l.func.size

@@ -1,18 +1,23 @@
 -- Sections merged as a linker does it (GNU SFrame specification, Version 2): the functions that are written, or the first
 -- fault. The faults are checked in the order in which they are here.
-use Rattle.std.specs.Prelude.{◌≡◌, ◌+◌, ◌^◌, ℕ, Bool, true, false, not, nat_lt, List, [], ◌∷◌, length, drop, sum_by, Option, Some, None, Result, Err, if◌then◌else◌}
+use Rattle.std.specs.Prelude.{◌≡◌, ℕ, Bool, true, false, not, List, [], ◌∷◌, length, sum_by, Option, Some, None, Result, Err}
 use Rattle.std.specs.Option.{option_map}
-use Rattle.std.specs.List.{enumerate_from, filter, find, zip}
+use Rattle.std.specs.List.{enumerate_from, filter, find}
 use Rattle.sf_model.specs.declared.machine.Arch.{Arch}
 use Rattle.sf_model.specs.declared.machine.Arch.TheVariants.{Amd64, Aarch64}
 use Rattle.sf_model.specs.declared.function.Func.{Func}
 use Rattle.sf_model.specs.Table.{Table, row_count}
 use Rattle.sf_model.specs.Union.{is_of_use}
 use Rattle.sf_write.specs.Reach.{first_out_of_reach}
+use Rattle.sf_functions.specs.declared.limits.Limit.{Limit}
+use Rattle.sf_functions.specs.declared.limits.Limit.TheVariants.{Functions, Rows}
+use Rattle.sf_functions.specs.Limits.{exceeded}
+use Rattle.sf_functions.specs.Neighbours.{first_overlap}
+use Rattle.sf_functions.specs.Order.{IsInOrder}
 use Rattle.sf_merge.specs.declared.located.Located.{Located}
 use Rattle.sf_merge.specs.declared.fault.MergeFault.{MergeFault}
 use Rattle.sf_merge.specs.declared.fault.MergeFault.TheVariants.{MixedArch, TooManyFunctions, TooManyRows, Overlap, OutOfReach}
-use Rattle.sf_merge.specs.Located.{AreByRank, located_functions, sized_in_all}
+use Rattle.sf_merge.specs.Located.{located_functions, located_size, located_start, sized_in_all}
 pub use Rattle.sf_model.specs.Firsts.{or_later, unless_fault, unless}
 
 -- ---- machines
@@ -44,32 +49,23 @@ functions_in_all tables = sum_by (λ (table : Table). length table.functions) ta
 abbrev pub rows_in_all : List Table → ℕ
 rows_in_all tables = sum_by (λ (table : Table). row_count table.functions) tables
 
+-- the fault of a limit
+abbrev pub fault_of_limit : Limit → MergeFault
+fault_of_limit Functions = TooManyFunctions
+fault_of_limit Rows = TooManyRows
+
 -- the fault of more than 2^21 functions in all sections together, or else of more than 2^24 rows
 abbrev pub limits_fault_in_all : List Table → Option MergeFault
-limits_fault_in_all tables =
-    if nat_lt (2 ^ 21) (functions_in_all tables) then Some TooManyFunctions else
-    if nat_lt (2 ^ 24) (rows_in_all tables) then Some TooManyRows else None
+limits_fault_in_all tables = option_map fault_of_limit (exceeded (functions_in_all tables) (rows_in_all tables))
 
 -- ---- overlaps
--- each element but the last, with the one after it
-abbrev pub each_with_next : {X : Type 0} → List X → List (X × X)
-each_with_next ordered = zip ordered (drop 1 ordered)
-
--- by these starts and sizes, the second begins before the end of the first
-abbrev pub overlap_by : {X : Type 0} (start size : X → ℕ) → X × X → Bool
-overlap_by start size pair = nat_lt (start pair.1) (start pair.0 + size pair.0)
-
--- the second function begins before the end of the first
-abbrev pub functions_overlap : Located × Located → Bool
-functions_overlap = overlap_by (λ (l : Located). l.func.start) (λ (l : Located). l.func.size)
-
 -- the fault of two functions that share an address
 abbrev pub shared_by : Located × Located → MergeFault
 shared_by pair = Overlap pair.0.func.start pair.0.item pair.1.func.start pair.1.item
 
 -- the fault of the first two neighbours that share an address, of functions in order
 unfoldable pub shared_address_fault : List Located → Option MergeFault
-shared_address_fault ordered = option_map shared_by (find functions_overlap (each_with_next ordered))
+shared_address_fault ordered = option_map shared_by (first_overlap located_start located_size ordered)
 
 -- ---- reach
 -- the functions that are written: those that hold an address and have a row
@@ -94,7 +90,7 @@ ordered_fault at ordered = or_later (shared_address_fault ordered) (reach_fault 
 abbrev pub MergesUnless : Option MergeFault → List Table → (at : ℕ) → Result (List Func) MergeFault → Type 0
 MergesUnless (Some fault) tables at result = result ≡ Err fault
 MergesUnless None tables at result =
-    (ordered : List Located) × AreByRank (sized_in_all tables) ordered × (result ≡ unless_fault (ordered_fault at ordered) (merged_functions ordered))
+    (ordered : List Located) × IsInOrder located_start (sized_in_all tables) ordered × (result ≡ unless_fault (ordered_fault at ordered) (merged_functions ordered))
 
 -- merging these sections into one at this address has this result
 abbrev pub Merges : List Table → (at : ℕ) → Result (List Func) MergeFault → Type 0

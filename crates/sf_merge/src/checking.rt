@@ -1,25 +1,19 @@
 //! The checks of sections that are to be merged.
 
-ghost use Rattle.std.specs.Prelude.{◌≡◌, ◌<◌, ◌≤◌, ◌+◌, Some, None, map, length, All, IfOk, OnOk, IfErr};
-ghost use Rattle.std.specs.List.{find};
+ghost use Rattle.std.specs.Prelude.{◌≡◌, ◌<◌, ◌≤◌, Some, None, map, length, All, IfOk, OnOk, IfErr};
 ghost use Rattle.std.specs.Option.{option_map};
 ghost use Rattle.sf_model.specs.Table.{Table as table_fact};
 ghost use Rattle.sf_decode.specs.View.{table_of};
-ghost use Rattle.sf_merge.specs.Heads.{heads_overlap, shared_by_heads};
-ghost use Rattle.sf_merge.specs.Merging.{each_with_next, same_arch, other_machine_fault, limits_fault_in_all, shared_address_fault, unless};
+ghost use Rattle.sf_functions.specs.Neighbours as neighbours;
+ghost use Rattle.sf_merge.specs.Heads.{head_size, head_start, shared_by_heads};
+ghost use Rattle.sf_merge.specs.Merging.{fault_of_limit, limits_fault_in_all, other_machine_fault, same_arch, shared_address_fault, unless};
 
 use crate::fault::MergeFault;
 use crate::functions::LocatedFunctions;
 use crate::head::LocatedHead;
-use crate::overlap::{HasAddresses, first_overlap};
 use sf_decode::View;
+use sf_functions::{HasStart, Limit, exceeded, first_overlap};
 use sf_model::Arch;
-
-/// The most functions of all sections together.
-const FUNCTION_LIMIT: u64 = 1 << 21;
-
-/// The most rows of all sections together.
-const ROW_LIMIT: u64 = 1 << 24;
 
 /// Returns whether two machines are the same.
 fn same_arch(one: Arch, other: Arch) -> bool
@@ -47,6 +41,16 @@ pub fn check_machines(views: &[View<'_>]) -> Result<Arch, MergeFault>
     Ok(arch)
 }
 
+/// Returns the fault of a limit of all sections together.
+fn fault_of_limit(limit: Limit) -> MergeFault
+    ensures { result ≡ fault_of_limit limit }
+{
+    match limit {
+        Limit::Functions => MergeFault::TooManyFunctions,
+        Limit::Rows => MergeFault::TooManyRows,
+    }
+}
+
 /// Checks the limits: functions first, then rows.
 pub fn check_limits(views: &[View<'_>]) -> Result<(), MergeFault>
     requires { length views.now ≤ 512 }
@@ -55,21 +59,18 @@ pub fn check_limits(views: &[View<'_>]) -> Result<(), MergeFault>
     let mut functions = 0;
     let mut rows = 0;
     for view in views {
-        functions += u64::from(view.len());
-        rows += u64::from(view.row_count());
+        functions += view.len() as usize;
+        rows += view.row_count() as usize;
     }
-    if functions > FUNCTION_LIMIT {
-        return Err(MergeFault::TooManyFunctions);
+    match exceeded(functions, rows) {
+        Some(limit) => Err(fault_of_limit(limit)),
+        None => Ok(()),
     }
-    if rows > ROW_LIMIT {
-        return Err(MergeFault::TooManyRows);
-    }
-    Ok(())
 }
 
 /// Checks the head of each function against the one before it.
 fn check_heads(heads: &[LocatedHead]) -> Result<(), MergeFault>
-    ensures { result ≡ unless (option_map shared_by_heads (find heads_overlap (each_with_next heads.now))) }
+    ensures { result ≡ unless (option_map shared_by_heads (neighbours.first_overlap head_start head_size heads.now)) }
 {
     match first_overlap(heads) {
         Some((before, function)) => Err(MergeFault::Overlap(

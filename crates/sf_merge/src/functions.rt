@@ -1,13 +1,15 @@
 //! Functions of several sections. Their rows are stored in one list.
 
 ghost use Rattle.std.specs.Prelude.{◌≡◌, ◌++◌, [], ◌∷◌, IfOk, OnOk};
+ghost use Rattle.sf_functions.specs.Order.{IsInOrder};
 ghost use Rattle.sf_merge.specs.Heads.{AreHeads, RowsAreStored, AllRowsAreStored, IsStorable, all_in, function_of_head};
-ghost use Rattle.sf_merge.specs.Located.{AreByRank};
+ghost use Rattle.sf_merge.specs.Located.{located_start};
 ghost use Rattle.sf_write.specs.declared.stored.StoredFunction.{StoredFunction as stored_fact};
 ghost use Rattle.sf_write.specs.Stored.{IsStored, stored_in};
 
 use crate::head::{FunctionHead, LocatedHead};
 use sf_base::NoMemory;
+use sf_functions::sort_by_start;
 use sf_model::{Arch, Func, FuncHead};
 use sf_write::StoredRows;
 use std::alloc::{AllocError, Global};
@@ -74,11 +76,11 @@ impl LocatedFunctions {
         Ok(())
     }
 
-    /// Sorts the functions by rank. If they are in order already, this takes one pass.
+    /// Sorts the functions by rising start. Those of one start stay in their order.
     pub fn order(&mut self) -> Result<(), NoMemory>
-        ensures { OnOk result (AreByRank self.old self.new) }
+        ensures { OnOk result (IsInOrder located_start self.old self.new) }
     {
-        self.heads.sort_by_key(|head| head.rank())?;
+        sort_by_start(&mut self.heads)?;
         Ok(())
     }
 

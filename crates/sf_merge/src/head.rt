@@ -1,10 +1,9 @@
 //! Functions of several sections without their rows, each with its section and its entry.
 
 ghost use Rattle.std.specs.Prelude.{◌≡◌};
-ghost use Rattle.sf_merge.specs.Heads.{head_rank, plain_head};
+ghost use Rattle.sf_merge.specs.Heads.{plain_head};
 
-use crate::located::Rank;
-use crate::overlap::HasAddresses;
+use sf_functions::{HasSize, HasStart};
 use sf_model::FuncHead;
 use sf_write::StoredFunction;
 
@@ -41,31 +40,21 @@ pub struct LocatedHead {
     pub number: u32,
 }
 
-impl LocatedHead {
-    /// Returns the function's place in the order of all functions.
-    #[inline(always)]
-    pub fn rank(&self) -> Rank
-        ensures { result ≡ head_rank self.now }
-    {
-        Rank {
-            start: self.head.plain().start,
-            item: self.item,
-            number: self.number,
-        }
-    }
-}
+impl HasStart for LocatedHead {
+    ghost use Rattle.sf_merge.specs.Heads.{head_start};
 
-impl HasAddresses for LocatedHead {
-    ghost use Rattle.sf_merge.specs.Heads.{plain_head};
-
-    ghost first_address = { λ h. (plain_head h.head).start };
-
-    ghost size_of = { λ h. (plain_head h.head).size };
+    ghost first_address = { head_start };
 
     #[inline(always)]
     fn start(&self) -> u64 {
         self.head.plain().start
     }
+}
+
+impl HasSize for LocatedHead {
+    ghost use Rattle.sf_merge.specs.Heads.{head_size};
+
+    ghost size_of = { head_size };
 
     #[inline(always)]
     fn size(&self) -> u32 {

@@ -2,12 +2,11 @@
 
 ghost use Rattle.std.specs.Prelude.{◌≡◌, ◌<◌, length, get_or};
 ghost use Rattle.sf_decode.specs.View.{head_of, rows_left};
-ghost use Rattle.sf_merge.specs.InSection.{AreSectionEntries, IsEntry, all_at, entry_rank};
+ghost use Rattle.sf_merge.specs.InSection.{AreSectionEntries, IsEntry, all_at};
 ghost use Rattle.sf_merge.specs.declared.located.Located.{Located as located_fact};
 
-use crate::located::Rank;
-use crate::overlap::HasAddresses;
 use sf_decode::{RowIter, View};
+use sf_functions::{HasSize, HasStart};
 use sf_model::FuncHead;
 use std::marker::Model;
 
@@ -20,29 +19,17 @@ pub struct SectionEntry {
     pub number: u32,
 }
 
-impl SectionEntry {
-    /// Returns the entry's place in the order of the section's functions.
-    #[inline(always)]
-    pub fn rank(&self) -> Rank
-        ensures { result ≡ entry_rank self.now }
-    {
-        Rank {
-            start: self.start,
-            item: 0,
-            number: self.number,
-        }
-    }
-}
-
-impl HasAddresses for SectionEntry {
+impl HasStart for SectionEntry {
     ghost first_address = { λ e. e.start };
-
-    ghost size_of = { λ e. e.size };
 
     #[inline(always)]
     fn start(&self) -> u64 {
         self.start
     }
+}
+
+impl HasSize for SectionEntry {
+    ghost size_of = { λ e. e.size };
 
     #[inline(always)]
     fn size(&self) -> u32 {

@@ -38,7 +38,7 @@ pub use fault::MergeFault;
 pub use in_section::{SectionEntry, SectionFunctions};
 pub use joining::join;
 pub use laws::{merging_comes_to_a_result, merging_comes_to_one_result, merging_in_parts};
-pub use located::{Located, Rank};
+pub use located::Located;
 pub use merging::{MergedSection, merge};
 pub use overlap::shared_entry;
 pub use reading::in_order;

@@ -2,14 +2,6 @@
 
 use sf_model::Func;
 
-/// The place of a function in the order of all: by start, then by section, then by entry.
-#[derive(Clone, Copy, PartialEq, Eq, PartialOrd, Ord)]
-pub struct Rank {
-    pub start: u64,
-    pub item: u32,
-    pub number: u32,
-}
-
 /// A function of one of several sections.
 #[derive(Drop)]
 pub struct Located {

@@ -1,8 +1,8 @@
 //! Sections made into one.
 
-ghost use Rattle.std.specs.Prelude.{◌≡◌, ◌<◌, ◌≤◌, ◌^◌, All, map, length, IfOk, IfErr};
+ghost use Rattle.std.specs.Prelude.{◌≡◌, ◌<◌, ◌≤◌, All, map, length, IfOk, IfErr};
 ghost use Rattle.sf_decode.specs.View.{table_of};
-ghost use Rattle.sf_write.specs.Stored.{IsStored, stored_count, stored_in};
+ghost use Rattle.sf_write.specs.Stored.{IsStored, stored_in};
 ghost use Rattle.sf_merge.specs.Answers.{IsMerged, IsFirstMergeFault};
 ghost use Rattle.sf_merge.specs.Merging.{merged_functions};
 
@@ -12,6 +12,7 @@ use crate::functions::LocatedFunctions;
 use crate::reading::all_in_order;
 use crate::with_rows::FunctionsWithRows;
 use sf_decode::View;
+use sf_functions::count_rows;
 use sf_write::{StoredList, StoredRows, write_stored};
 use std::alloc::Global;
 
@@ -30,18 +31,6 @@ pub struct MergedSection {
     pub section: Vec<u8>,
     pub functions: u32,
     pub rows: u32,
-}
-
-/// Counts the rows of the functions.
-fn count_rows(functions: &FunctionsWithRows) -> u32
-    requires { stored_count functions.now ≤ 2 ^ 24 }
-    ensures { result ≡ stored_count functions.now }
-{
-    let mut rows = 0;
-    for number in 0..functions.len() {
-        rows += functions.function(number).head.rows;
-    }
-    rows
 }
 
 /// Merges sections into one, for the address `at`, as a linker does. Each function that holds an address and

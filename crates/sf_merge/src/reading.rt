@@ -4,7 +4,8 @@ ghost use Rattle.std.specs.Prelude.{◌≡◌, ◌<◌, ◌≤◌, ◌++◌, len
 ghost use Rattle.std.specs.List.{filter};
 ghost use Rattle.sf_decode.specs.View.{table_of, function_of};
 ghost use Rattle.sf_merge.specs.InSection.{IsEntry, all_at};
-ghost use Rattle.sf_merge.specs.Located.{is_sized, located, sized_in_all, AreByRank};
+ghost use Rattle.sf_functions.specs.Order.{IsInOrder};
+ghost use Rattle.sf_merge.specs.Located.{is_sized, located, located_start, sized_in_all};
 ghost use Rattle.sf_merge.specs.OneSection.{sized_in};
 ghost use Rattle.sf_merge.specs.Views.{IsViewOfSection};
 
@@ -12,6 +13,7 @@ use crate::functions::LocatedFunctions;
 use crate::in_section::{SectionEntry, SectionFunctions};
 use sf_base::NoMemory;
 use sf_decode::{View, functions_are_numbered, view_is_a_section};
+use sf_functions::sort_by_start;
 use sf_model::{Func, Key, Rows, Shape};
 use std::alloc::Global;
 
@@ -80,12 +82,12 @@ fn entries_of(alloc: Global, view: &View<'_>) -> Result<Vec<SectionEntry>, NoMem
 ///
 /// `NoMemory` alone.
 pub fn in_order<'a>(alloc: Global, view: &View<'a>) -> Result<SectionFunctions<'a>, NoMemory>
-    ensures order { IfOk result (λ functions. AreByRank (sized_in (table_of view.now)) functions) }
+    ensures order { IfOk result (λ functions. IsInOrder located_start (sized_in (table_of view.now)) functions) }
     ensures read { IsViewOfSection view.now }
 {
     view_is_a_section(view);
     let mut entries = entries_of(alloc, view)?;
-    entries.sort_by_key(|entry| entry.rank())?;
+    sort_by_start(&mut entries)?;
     Ok(SectionFunctions {
         view: *view,
         entries,
@@ -128,7 +130,7 @@ fn count_functions(views: &[View<'_>]) -> usize
 /// sorting takes one pass.
 pub fn all_in_order(alloc: Global, views: &[View<'_>]) -> Result<LocatedFunctions, NoMemory>
     requires { length views.now ≤ 512 }
-    ensures order { IfOk result (λ all. AreByRank (sized_in_all (map table_of views.now)) all) }
+    ensures order { IfOk result (λ all. IsInOrder located_start (sized_in_all (map table_of views.now)) all) }
     ensures read { OnOk result (All IsViewOfSection views.now) }
 {
     let mut all = LocatedFunctions::with_capacity(alloc, count_functions(views))?;

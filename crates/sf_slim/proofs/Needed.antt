@@ -22,8 +22,9 @@ use Rattle.sf_model.specs.Table.{Table, row_count}
 use Rattle.sf_model.specs.Union.{IsApart}
 use Rattle.sf_decode.specs.declared.view.View.{View}
 use Rattle.sf_decode.specs.View.{section_bytes, table_of}
+use Rattle.sf_functions.specs.Order.{IsInOrder}
 use Rattle.sf_merge.specs.declared.located.Located.{Located}
-use Rattle.sf_merge.specs.Located.{located, is_sized, AreByRank}
+use Rattle.sf_merge.specs.Located.{located, is_sized, located_start}
 use Rattle.sf_merge.specs.Views.{IsViewOfSection}
 use Rattle.sf_merge.proofs.Apart.{EndsBy, adjacent, function_of, none_share, pairs_map, rises}
 use Rattle.sf_merge.proofs.OneSection as section
@@ -157,7 +158,7 @@ fewer_rows (f ∷ functions) =
     at_test false e rest own = omega (e, rest, arith)
 
 -- ---- the functions in order
-pub ordered_sound : (view : View) (ordered : List Located) → IsViewOfSection view → AreByRank (sized_in (table_of view)) ordered → All (IsSound (table_of view).arch) (map function_of ordered)
+pub ordered_sound : (view : View) (ordered : List Located) → IsViewOfSection view → IsInOrder located_start (sized_in (table_of view)) ordered → All (IsSound (table_of view).arch) (map function_of ordered)
 ordered_sound view ordered read order =
     All-map (IsSound (table_of view).arch) function_of ordered (section.ordered_sound view ordered read order)
 
@@ -170,7 +171,7 @@ needed_apart bytes ordered e =
     let pairs = pairs_map EndsBy function_of ordered (none_share ordered (none_shared bytes ordered e)) in
     pairs_map EndsBy kept_function (filter has_row (map function_of ordered)) (AllPairs-filter EndsBy has_row (map function_of ordered) pairs)
 
-few_functions : (table : Table) (ordered : List Located) → AreByRank (sized_in table) ordered → length (map function_of ordered) ≤ length table.functions
+few_functions : (table : Table) (ordered : List Located) → IsInOrder located_start (sized_in table) ordered → length (map function_of ordered) ≤ length table.functions
 few_functions table ordered order =
     let same = length_permutation (sized_in table) ordered order.moved in
     let mapped = length-map ordered function_of in
@@ -187,7 +188,7 @@ sum_mapped (l ∷ ls) =
     let rest = sum_mapped ls in
     omega (one, other, rest, arith)
 
-few_rows : (table : Table) (ordered : List Located) → AreByRank (sized_in table) ordered → row_count (map function_of ordered) ≤ row_count table.functions
+few_rows : (table : Table) (ordered : List Located) → IsInOrder located_start (sized_in table) ordered → row_count (map function_of ordered) ≤ row_count table.functions
 few_rows table ordered order =
     let rows : Located → ℕ = λ (l : Located). length l.func.rows in
     let same = sum_by-IsPermutation rows (sized_in table) ordered order.moved in
@@ -197,7 +198,7 @@ few_rows table ordered order =
     let sum = sum_by-filter_both is_sized (λ l. not (is_sized l)) (λ l. refl) rows (located 0 table) in
     omega (same, mapped, all, all_mapped, sum, arith)
 
-pub are_writable : (view : View) (ordered : List Located) → IsViewOfSection view → AreByRank (sized_in (table_of view)) ordered → slim_overlap_fault (section_bytes view) ordered ≡ None
+pub are_writable : (view : View) (ordered : List Located) → IsViewOfSection view → IsInOrder located_start (sized_in (table_of view)) ordered → slim_overlap_fault (section_bytes view) ordered ≡ None
     → AreWritable (table_of view).arch (needed (map function_of ordered))
 are_writable view ordered read order e =
     let table = table_of view in
@@ -214,7 +215,7 @@ are_writable view ordered read order e =
     }
 
 -- each function that has a row at some address can be written
-pub answering_writable : (view : View) (ordered : List Located) → IsViewOfSection view → AreByRank (sized_in (table_of view)) ordered → All (λ (l : Located). has_row l.func ≡ true → IsWritable (table_of view).arch (kept_function l.func)) ordered
+pub answering_writable : (view : View) (ordered : List Located) → IsViewOfSection view → IsInOrder located_start (sized_in (table_of view)) ordered → All (λ (l : Located). has_row l.func ≡ true → IsWritable (table_of view).arch (kept_function l.func)) ordered
 answering_writable view ordered read order = λ k d lt e. writable (table_of view).arch (get_or ordered k d).func (section.ordered_sound view ordered read order k d lt) e
 
 -- ---- the functions that are needed
@@ -243,7 +244,7 @@ needed_sizes functions =
     let passed = filter_passes has_row functions in
     All-map (λ (f : Func). 0 < f.size) kept_function (filter has_row functions) (λ k d lt. (answering (get_or (filter has_row functions) k d) (passed k d lt)).size)
 
-taken : (view : View) (ordered : List Located) → IsViewOfSection view → AreByRank (sized_in (table_of view)) ordered
+taken : (view : View) (ordered : List Located) → IsViewOfSection view → IsInOrder located_start (sized_in (table_of view)) ordered
     → IsPermutation (map slim_function (filter is_live (table_of view).functions)) (map slim_function (filter is_live (map function_of ordered)))
 taken view ordered read order =
     let table = table_of view in
@@ -255,7 +256,7 @@ taken view ordered read order =
     IsPermutation-map slim_function (filter is_live table.functions) (filter is_live (map function_of ordered))
     (subst (λ fs. IsPermutation fs (filter is_live (map function_of ordered))) same moved)
 
-pub is_slim : (view : View) (ordered : List Located) → IsViewOfSection view → AreByRank (sized_in (table_of view)) ordered → slim_overlap_fault (section_bytes view) ordered ≡ None
+pub is_slim : (view : View) (ordered : List Located) → IsViewOfSection view → IsInOrder located_start (sized_in (table_of view)) ordered → slim_overlap_fault (section_bytes view) ordered ≡ None
     → AreNeeded (table_of view) (needed (map function_of ordered))
 is_slim view ordered read order e =
     let functions = map function_of ordered in

@@ -1,6 +1,5 @@
 -- The result of slimming, by the results of its steps.
 use Rattle.std.specs.Option.{option_map}
-use Rattle.std.specs.List.Sorted.{IsPermutation, IsSorted}
 use Rattle.std.proofs.Common.{◌≡◌, ℕ, List, length, map, Option, Some, None, Ok, Err, sym, ap, ◌∙◌, arith}
 use Rattle.sf_model.specs.declared.function.Func.{Func}
 use Rattle.sf_model.specs.Section.{AreBytes}
@@ -10,8 +9,9 @@ use Rattle.sf_write.specs.Reach.{first_out_of_reach}
 use Rattle.sf_write.specs.Section.{section_len, table_of}
 use Rattle.sf_decode.specs.declared.view.View.{View}
 use Rattle.sf_decode.specs.View as view
+use Rattle.sf_functions.specs.Order.{IsInOrder}
 use Rattle.sf_merge.specs.declared.located.Located.{Located}
-use Rattle.sf_merge.specs.Located.{compared, AreByRank}
+use Rattle.sf_merge.specs.Located.{located_start}
 use Rattle.sf_merge.specs.Views.{IsViewOfSection}
 use Rattle.sf_merge.proofs.Apart.{function_of}
 use Rattle.sf_slim.specs.declared.fault.SlimFault.{SlimFault}
@@ -22,11 +22,8 @@ use Rattle.sf_slim.proofs.Alike.{alike}
 use Rattle.sf_slim.proofs.Needed.{is_slim, needed, ordered_sound, slimmed_is}
 use Rattle.sf_slim.proofs.Shorter.{none_is_shorter_than, rows_least, table_rises}
 
-pub in_order : (given : View) (ordered : List Located) → IsPermutation (sized_in (view.table_of given)) ordered → IsSorted compared ordered → AreByRank (sized_in (view.table_of given)) ordered
-in_order given ordered moved rising = record { moved = moved; rising = rising }
-
 -- a function is out of reach
-pub is_far : (given : View) (at start : ℕ) (ordered : List Located) → IsViewOfSection given → AreByRank (sized_in (view.table_of given)) ordered → slim_overlap_fault (view.section_bytes given) ordered ≡ None
+pub is_far : (given : View) (at start : ℕ) (ordered : List Located) → IsViewOfSection given → IsInOrder located_start (sized_in (view.table_of given)) ordered → slim_overlap_fault (view.section_bytes given) ordered ≡ None
     → first_out_of_reach at 0 (needed (map function_of ordered)) ≡ Some start → Slims (view.section_bytes given) (view.table_of given) at (Err (OutOfReach start))
 is_far given at start ordered read order apart far =
     let written = slimmed_is (view.table_of given).arch ordered (ordered_sound given ordered read order) in
@@ -35,7 +32,7 @@ is_far given at start ordered read order apart far =
     (ordered, order, sym (ap (λ (o : Option SlimFault). unless_fault o (slimmed ordered)) fault))
 
 -- there is no fault
-pub is_slimmed : (given : View) (at : ℕ) (section : List ℕ) (functions rows : ℕ) (ordered : List Located) → IsViewOfSection given → AreByRank (sized_in (view.table_of given)) ordered
+pub is_slimmed : (given : View) (at : ℕ) (section : List ℕ) (functions rows : ℕ) (ordered : List Located) → IsViewOfSection given → IsInOrder located_start (sized_in (view.table_of given)) ordered
     → slim_overlap_fault (view.section_bytes given) ordered ≡ None → first_out_of_reach at 0 (needed (map function_of ordered)) ≡ None
     → Tight section at (table_of (view.table_of given).arch (needed (map function_of ordered))) → Narrow section (table_of (view.table_of given).arch (needed (map function_of ordered)))
     → length section ≡ section_len (needed (map function_of ordered)) → functions ≡ length (needed (map function_of ordered)) → rows ≡ row_count (needed (map function_of ordered))

@@ -6,8 +6,9 @@ use Rattle.std.specs.List.{filter}
 use Rattle.sf_model.specs.declared.function.Func.{Func}
 use Rattle.sf_model.specs.Table.{Table}
 use Rattle.sf_write.specs.Reach.{first_out_of_reach}
+use Rattle.sf_functions.specs.Order.{IsInOrder}
 use Rattle.sf_merge.specs.declared.located.Located.{Located}
-use Rattle.sf_merge.specs.Located.{AreByRank, located_functions}
+use Rattle.sf_merge.specs.Located.{located_functions, located_start}
 use Rattle.sf_merge.specs.OneSection.{shared_entry}
 use Rattle.sf_slim.specs.declared.fault.SlimFault.{SlimFault}
 use Rattle.sf_slim.specs.declared.fault.SlimFault.TheVariants.{Overlap, OutOfReach}
@@ -31,5 +32,5 @@ slim_reach_fault at functions = option_map OutOfReach (first_out_of_reach at 0 f
 -- are in the order of their starts, and then of their entries
 abbrev pub Slims : (bytes : List ℕ) → Table → (at : ℕ) → Result (List Func) SlimFault → Type 0
 Slims bytes table at result =
-    (ordered : List Located) × AreByRank (sized_in table) ordered
+    (ordered : List Located) × IsInOrder located_start (sized_in table) ordered
     × (result ≡ unless_fault (or_later (slim_overlap_fault bytes ordered) (slim_reach_fault at (slimmed ordered))) (slimmed ordered))

@@ -1,10 +1,10 @@
 //! A section slimmed.
 
-ghost use Rattle.std.specs.Prelude.{◌≡◌, ◌≤◌, ◌^◌, true, map, IfOk, IfErr, All};
+ghost use Rattle.std.specs.Prelude.{◌≡◌, true, map, IfOk, IfErr, All};
 ghost use Rattle.std.specs.List.{filter};
 ghost use Rattle.sf_model.specs.Function.{IsWritable};
 ghost use Rattle.sf_decode.specs.View.{section_bytes, table_of};
-ghost use Rattle.sf_write.specs.Stored.{IsStored, stored_count, stored_in};
+ghost use Rattle.sf_write.specs.Stored.{IsStored, stored_in};
 ghost use Rattle.sf_merge.specs.declared.located.Located.{Located as located};
 ghost use Rattle.sf_slim.specs.Answers.{IsFirstSlimFault, IsSlimmed};
 ghost use Rattle.sf_slim.specs.Pass as pass;
@@ -14,6 +14,7 @@ use crate::overlap::check_overlap;
 use crate::passing::{empty_function, has_row, keep_function};
 use sf_base::NoMemory;
 use sf_decode::View;
+use sf_functions::count_rows;
 use sf_merge::{SectionFunctions, in_order};
 use sf_model::Arch;
 use sf_write::{StoredFunction, StoredRows, WriteFault, write_stored};
@@ -55,18 +56,6 @@ fn needed(alloc: Global, arch: Arch, ordered: &SectionFunctions<'_>) -> Result<W
         }
     }
     Ok(Written { functions, rows })
-}
-
-/// Counts all rows.
-fn count_rows(functions: &[StoredFunction]) -> u32
-    requires { stored_count functions.now ≤ 2 ^ 24 }
-    ensures { result ≡ stored_count functions.now }
-{
-    let mut rows = 0;
-    for function in functions {
-        rows += function.head.rows;
-    }
-    rows
 }
 
 /// Makes the shortest section for the address `at` that recovers at every address what a section recovers:

@@ -1,14 +1,14 @@
 -- Verifying comes to one result.
-use Rattle.std.proofs.Common.{◌≡◌, ℕ, ◌<◌, List, [], ◌∷◌, map, Option, Some, None, Result, Ok, Err, sym, ap, subst, ◌∙◌, arith, inl, inr}
+use Rattle.std.proofs.Common.{◌≡◌, ℕ, ◌<◌, List, map, Option, Some, None, Result, Ok, Err, sym, ap, subst, ◌∙◌, arith, inl, inr}
 use Rattle.std.proofs.lemmas.Bool.{cases_lt}
 use Rattle.sf_model.specs.declared.content.Content.{Content}
 use Rattle.sf_model.specs.declared.function.Func.{Func}
 use Rattle.sf_model.specs.declared.verdict.Verdict.{Verdict}
 use Rattle.sf_model.specs.declared.verdict.Verdict.TheVariants.{Agrees, Differs}
 use Rattle.sf_model.specs.Table.{Table}
+use Rattle.sf_functions.proofs.ByStart.{one_order as one_section_order}
 use Rattle.sf_merge.specs.declared.located.Located.{Located}
-use Rattle.sf_merge.proofs.OneOrder.{one_order as one_section_order}
-use Rattle.sf_merge.proofs.OneSection.{in_tables}
+use Rattle.sf_merge.specs.Located.{located_start}
 use Rattle.sf_asm.specs.declared.entry.Entry.{Entry}
 use Rattle.sf_asm.specs.declared.fault.GatherFault.{GatherFault}
 use Rattle.sf_asm.specs.Functions.{Function, Object}
@@ -21,7 +21,7 @@ use Rattle.sf_verify.specs.declared.fault.VerifyFault.{VerifyFault}
 use Rattle.sf_verify.specs.Agreement.{DifferFirst, IsVerdict, content_said}
 use Rattle.sf_asm.specs.Said.{dwarf_at}
 use Rattle.sf_verify.specs.Said.{section_at}
-use Rattle.sf_verify.specs.Verifying.{Verifies, VerdictUnless, first_verify_fault, section_fault}
+use Rattle.sf_verify.specs.Verifying.{Verifies, VerdictUnless, first_verify_fault, section_fault, sized_in}
 
 -- ---- the inputs
 gathered_one : (given : Result (List Function) GatherFault) (r r' : Result (List Entry) GatherFault) → GathersFrom given r → GathersFrom given r' → r ≡ r'
@@ -66,6 +66,6 @@ unless_one None table objects r r' (functions, are, v, is, e) (functions', are',
 pub one_result : (bytes : List ℕ) (table : Table) (objects : List Object) (r r' : Result Verdict VerifyFault) → Verifies bytes table objects r → Verifies bytes table objects r' → r ≡ r'
 one_result bytes table objects r r' (inputs, gathers, ordered, order, p) (inputs', gathers', ordered', order', q) =
     let same = gathered_one (all_functions (Some table.arch) objects) inputs inputs' (from_gathers (Some table.arch) objects inputs gathers) (from_gathers (Some table.arch) objects inputs' gathers') in
-    let one = one_section_order (table ∷ []) ordered ordered' (in_tables table ordered order) (in_tables table ordered' order') in
+    let one = one_section_order located_start (sized_in table) ordered ordered' order order' in
     let moved = subst (λ (i : Result (List Entry) GatherFault). VerdictUnless (first_verify_fault i (section_fault bytes ordered)) table objects r) same p in
     unless_one (first_verify_fault inputs' (section_fault bytes ordered')) table objects r r' (subst (λ (ls : List Located). VerdictUnless (first_verify_fault inputs' (section_fault bytes ls)) table objects r) one moved) q

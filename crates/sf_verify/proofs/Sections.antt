@@ -11,8 +11,9 @@ use Rattle.sf_model.specs.Lookup.{contains, found_at, row_in_first}
 use Rattle.sf_model.specs.Table.{Table}
 use Rattle.sf_decode.specs.declared.view.View.{View}
 use Rattle.sf_decode.specs.View.{section_bytes, table_of}
+use Rattle.sf_functions.specs.Order.{IsInOrder}
 use Rattle.sf_merge.specs.declared.located.Located.{Located}
-use Rattle.sf_merge.specs.Located.{AreByRank, is_sized, located, located_functions}
+use Rattle.sf_merge.specs.Located.{is_sized, located, located_functions, located_start}
 use Rattle.sf_merge.specs.Merging.{shared_address_fault}
 use Rattle.sf_merge.specs.Views.{IsViewOfSection}
 use Rattle.sf_merge.proofs.Apart.{none_share}
@@ -29,7 +30,7 @@ use Rattle.sf_asm.proofs.Members.{placed}
 use Rattle.sf_verify.proofs.Gathered.{mapped}
 
 -- ---- they have bytes
-ordered_bytes : (table : Table) (ordered : List Located) → AreByRank (sized_in table) ordered → All (λ (l : Located). is_sized l ≡ true) ordered
+ordered_bytes : (table : Table) (ordered : List Located) → IsInOrder located_start (sized_in table) ordered → All (λ (l : Located). is_sized l ≡ true) ordered
 ordered_bytes table ordered order = All-permutation (λ (l : Located). is_sized l ≡ true) (sized_in table) ordered order.moved (filter_passes is_sized (located 0 table))
 
 -- ---- they share no address
@@ -40,13 +41,13 @@ none_shared bytes ls e = section.none_shared Overlap bytes ls e
 apart : (bytes : List ℕ) (ls : List Located) → section_fault bytes ls ≡ None → (i j : ℕ) (d : Located) → i < j → j < length ls → (get_or ls i d).func.start + (get_or ls i d).func.size ≤ (get_or ls j d).func.start
 apart bytes ls e = none_share ls (none_shared bytes ls e)
 
-pub comparable : (view : View) (ordered : List Located) → IsViewOfSection view → AreByRank (sized_in (table_of view)) ordered → section_fault (section_bytes view) ordered ≡ None → AreComparable (table_of view).arch ordered
+pub comparable : (view : View) (ordered : List Located) → IsViewOfSection view → IsInOrder located_start (sized_in (table_of view)) ordered → section_fault (section_bytes view) ordered ≡ None → AreComparable (table_of view).arch ordered
 comparable view ordered read order e = record {
   each = λ k d lt. let s = ordered_sound view ordered read order k d lt in record { end = s.end; rise = s.rise; fits = s.fits };
   apart = apart (section_bytes view) ordered e;
 }
 
-pub starts_rise : (bytes : List ℕ) (table : Table) (ordered : List Located) → AreByRank (sized_in table) ordered → section_fault bytes ordered ≡ None → StartsRise ordered
+pub starts_rise : (bytes : List ℕ) (table : Table) (ordered : List Located) → IsInOrder located_start (sized_in table) ordered → section_fault bytes ordered ≡ None → StartsRise ordered
 starts_rise bytes table ordered order e i j d lt within =
     let ends = apart bytes ordered e i j d lt within in
     let some = ltb-true 0 (get_or ordered i d).func.size (ordered_bytes table ordered order i d (omega (arith, lt, within))) in
@@ -95,7 +96,7 @@ find_sized pc (l ∷ ls) = at_size (is_sized l) refl (find_sized pc ls)
     at_size false e others = others ∙ sym (ap (λ (b : Bool). cond b (Some l.func) (find (contains pc) (located_functions ls))) (not_there (contains pc l.func) refl e))
 
 -- what the section says, by its functions in order
-pub section_says : (bytes : List ℕ) (table : Table) (ordered : List Located) → AreByRank (sized_in table) ordered → section_fault bytes ordered ≡ None → (pc : ℕ) → section_at (located_functions ordered) pc ≡ section_at table.functions pc
+pub section_says : (bytes : List ℕ) (table : Table) (ordered : List Located) → IsInOrder located_start (sized_in table) ordered → section_fault bytes ordered ≡ None → (pc : ℕ) → section_at (located_functions ordered) pc ≡ section_at table.functions pc
 unfolding section_at found_at
 section_says bytes table ordered order e pc =
     let found : find (contains pc) table.functions ≡ find (contains pc) (located_functions ordered) =
@@ -104,7 +105,7 @@ section_says bytes table ordered order e pc =
     sym (ap (λ (f : Option Func). option_and_then by_row (row_in_first pc f)) found)
 
 -- a test that only functions with bytes pass
-pub any_sized : (p : Func → Bool) (table : Table) (ordered : List Located) → AreByRank (sized_in table) ordered → ((f : Func) → p f ≡ true → 0 < f.size) → list_any p (located_functions ordered) ≡ list_any p table.functions
+pub any_sized : (p : Func → Bool) (table : Table) (ordered : List Located) → IsInOrder located_start (sized_in table) ordered → ((f : Func) → p f ≡ true → 0 < f.size) → list_any p (located_functions ordered) ≡ list_any p table.functions
 any_sized p table ordered order some =
     sym (list_any-IsPermutation p (located_functions (sized_in table)) (located_functions ordered) (IsPermutation-map (λ (l : Located). l.func) (sized_in table) ordered order.moved))
     ∙ any_of (located 0 table) ∙ ap (list_any p) (located_are table)

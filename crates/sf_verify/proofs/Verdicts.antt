@@ -1,7 +1,7 @@
 -- What verifying comes to, by what the code found.
 use Rattle.std.specs.Prelude.{◌&&◌, ◌==◌}
 use Rattle.std.specs.List.{AllAdjacentBelow, filter, list_any}
-use Rattle.std.specs.List.Sorted.{IsPermutation, IsSorted}
+use Rattle.std.specs.List.Sorted.{IsPermutation}
 use Rattle.std.proofs.Common.{◌≡◌, ℕ, zero, suc, ◌+◌, ◌-◌, ◌<◌, ◌≤◌, true, List, get_or, length, map, Option, Some, None, Ok, Err, refl, sym, ap, subst, ◌∙◌, arith, inl, inr}
 use Rattle.std.proofs.lemmas.Bool.{and_parts, eqb-true}
 use Rattle.std.proofs.lemmas.List.Elements.{All-head}
@@ -13,8 +13,9 @@ use Rattle.sf_model.specs.declared.verdict.Verdict.TheVariants.{Agrees, Differs}
 use Rattle.sf_model.specs.Function.{AreWritable}
 use Rattle.sf_decode.specs.declared.view.View.{View}
 use Rattle.sf_decode.specs.View.{section_bytes, table_of}
+use Rattle.sf_functions.specs.Order.{IsInOrder}
 use Rattle.sf_merge.specs.declared.located.Located.{Located}
-use Rattle.sf_merge.specs.Located.{AreByRank, compared, located_functions}
+use Rattle.sf_merge.specs.Located.{located_functions, located_start}
 use Rattle.sf_merge.specs.Views.{IsViewOfSection}
 use Rattle.sf_asm.specs.declared.fault.GatherFault.{GatherFault}
 use Rattle.sf_asm.specs.declared.fault.GatherFault.TheVariants as gather
@@ -102,7 +103,7 @@ covered_size f g kept some e =
     omega (arith, same, some)
 
 pub is_verified : (view : View) (objects : List Object) (arch : Arch) (kept : List Func) (omitted : List Omitted) (sources : List Function) (ordered : List Located) (verdict : Verdict)
-    → (h : AreWithSources (Some (table_of view).arch) objects arch kept omitted sources) → HaveMachine (Some (table_of view).arch) objects arch → AreByRank (sized_in (table_of view)) ordered → section_fault (section_bytes view) ordered ≡ None
+    → (h : AreWithSources (Some (table_of view).arch) objects arch kept omitted sources) → HaveMachine (Some (table_of view).arch) objects arch → IsInOrder located_start (sized_in (table_of view)) ordered → section_fault (section_bytes view) ordered ≡ None
     → IsVerdictBy (table_of view).functions (located_functions ordered) kept (answers_of kept sources) verdict → Verifies (section_bytes view) (table_of view) objects (Ok verdict)
 is_verified view objects arch kept omitted sources ordered verdict h machine order none is =
     let table = table_of view in
@@ -112,7 +113,7 @@ is_verified view objects arch kept omitted sources ordered verdict h machine ord
     (λ f k. any_sized (represents_kept (expressed_of f)) table ordered order (λ g e. covered_size f g k (kept_size f k) e)) is in
     (Ok (map entry_of h.sorted), h.is, ordered, order, subst (λ (fault : Option VerifyFault). VerdictUnless fault table objects (Ok verdict)) (sym none) (h.functions, h.are, verdict, verdict', refl))
 
-pub is_refused : (view : View) (objects : List Object) (ordered : List Located) (fault : GatherFault) → AreByRank (sized_in (table_of view)) ordered → IsFirstGathered (Some (table_of view).arch) objects fault
+pub is_refused : (view : View) (objects : List Object) (ordered : List Located) (fault : GatherFault) → IsInOrder located_start (sized_in (table_of view)) ordered → IsFirstGathered (Some (table_of view).arch) objects fault
     → IsFirstVerifyFault (section_bytes view) (table_of view) objects (refused (section_fault (section_bytes view) ordered) fault)
 is_refused view objects ordered fault order (inl none) = inl (subst (λ (f : GatherFault). refused (section_fault (section_bytes view) ordered) f ≡ verify.NoMemory) (sym none) (no_memory (section_fault (section_bytes view) ordered)))
   where
@@ -121,7 +122,7 @@ is_refused view objects ordered fault order (inl none) = inl (subst (λ (f : Gat
     no_memory (Some fault) = refl
 is_refused view objects ordered fault order (inr is) = inr (Err fault, is, ordered, order, refl)
 
-pub is_shared : (view : View) (objects : List Object) (arch : Arch) (kept : List Func) (omitted : List Omitted) (sources : List Function) (ordered : List Located) (fault : VerifyFault) → AreWithSources (Some (table_of view).arch) objects arch kept omitted sources → AreByRank (sized_in (table_of view)) ordered
+pub is_shared : (view : View) (objects : List Object) (arch : Arch) (kept : List Func) (omitted : List Omitted) (sources : List Function) (ordered : List Located) (fault : VerifyFault) → AreWithSources (Some (table_of view).arch) objects arch kept omitted sources → IsInOrder located_start (sized_in (table_of view)) ordered
     → section_fault (section_bytes view) ordered ≡ Some fault → IsFirstVerifyFault (section_bytes view) (table_of view) objects fault
 is_shared view objects arch kept omitted sources ordered fault h order is =
     inr (Ok (map entry_of h.sorted), h.is, ordered, order, subst (λ (f : Option VerifyFault). VerdictUnless f (table_of view) objects (Err fault)) (sym is) refl)
@@ -129,7 +130,7 @@ is_shared view objects arch kept omitted sources ordered fault h order is =
 -- ---- what the comparison asks for
 pub record ArePrepared (view : View) (arch : Arch) (kept : List Func) (sources : List Function) (ordered : List Located) : Type 0 where
   pub machine : arch ≡ (table_of view).arch
-  pub order : AreByRank (sized_in (table_of view)) ordered
+  pub order : IsInOrder located_start (sized_in (table_of view)) ordered
   pub none : section_fault (section_bytes view) ordered ≡ None
   pub comparable : AreComparable arch ordered
   pub rise : StartsRise ordered
@@ -137,10 +138,9 @@ pub record ArePrepared (view : View) (arch : Arch) (kept : List Func) (sources :
   pub kept_rises : KeptRise kept
 
 pub prepared : (view : View) (objects : List Object) (before arch : Arch) (kept : List Func) (omitted : List Omitted) (sources : List Function) (ordered asked : List Located) (shared : Option VerifyFault) → before ≡ (table_of view).arch
-    → AreWithSources (Some before) objects arch kept omitted sources → HaveMachine (Some before) objects arch → IsViewOfSection view → IsPermutation (sized_in (table_of view)) ordered → IsSorted compared ordered
+    → AreWithSources (Some before) objects arch kept omitted sources → HaveMachine (Some before) objects arch → IsViewOfSection view → IsInOrder located_start (sized_in (table_of view)) ordered
     → asked ≡ ordered → shared ≡ section_fault (section_bytes view) asked → shared ≡ None → ArePrepared view arch kept sources ordered
-prepared view objects before arch kept omitted sources ordered asked shared before_is h machine read moved sorted asked_is shared_is none =
-    let order : AreByRank (sized_in (table_of view)) ordered = record { moved = moved; rising = sorted } in
+prepared view objects before arch kept omitted sources ordered asked shared before_is h machine read order asked_is shared_is none =
     let no_fault : section_fault (section_bytes view) ordered ≡ None = subst (λ (ls : List Located). section_fault (section_bytes view) ls ≡ None) asked_is (sym shared_is ∙ none) in
     let arch_is : arch ≡ (table_of view).arch = sym (same_machine before arch objects machine) ∙ before_is in
     record {

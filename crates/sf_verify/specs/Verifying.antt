@@ -4,8 +4,9 @@ use Rattle.std.specs.Prelude.{◌≡◌, ◌⊎◌, ℕ, List, Option, Some, Non
 use Rattle.std.specs.Option.{option_map}
 use Rattle.sf_model.specs.declared.verdict.Verdict.{Verdict}
 use Rattle.sf_model.specs.Table.{Table}
+use Rattle.sf_functions.specs.Order.{IsInOrder}
 use Rattle.sf_merge.specs.declared.located.Located.{Located}
-use Rattle.sf_merge.specs.Located.{AreByRank}
+use Rattle.sf_merge.specs.Located.{located_start}
 use Rattle.sf_merge.specs.OneSection.{shared_entry}
 use Rattle.sf_asm.specs.Described.{Describe}
 use Rattle.sf_asm.specs.declared.entry.Entry.{Entry}
@@ -44,7 +45,7 @@ VerdictUnless None table objects result =
 abbrev pub Verifies : (bytes : List ℕ) → Table → List Object → Result Verdict VerifyFault → Type 0
 Verifies bytes table objects result =
     (inputs : Result (List Entry) GatherFault) × Gathers (Some table.arch) objects inputs
-    × (ordered : List Located) × AreByRank (sized_in table) ordered
+    × (ordered : List Located) × IsInOrder located_start (sized_in table) ordered
     × VerdictUnless (first_verify_fault inputs (section_fault bytes ordered)) table objects result
 
 -- the fault is the first one, or memory ran out

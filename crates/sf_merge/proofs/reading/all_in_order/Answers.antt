@@ -3,8 +3,9 @@ use Rattle.std.specs.List.{filter}
 use Rattle.std.proofs.lemmas.List.{take_all}
 use Rattle.std.proofs.lemmas.List.Elements.{All-more}
 use Rattle.sf_decode.specs.View.{table_of}
+use Rattle.sf_functions.specs.Order.{IsInOrder}
 use Rattle.sf_merge.specs.declared.located.Located.{Located}
-use Rattle.sf_merge.specs.Located.{AreByRank, is_sized, located, sized_in_all}
+use Rattle.sf_merge.specs.Located.{is_sized, located, located_start, sized_in_all}
 use Rattle.sf_merge.specs.Views.{IsViewOfSection}
 use Rattle.sf_merge.proofs.Read.{sized_from, section_left, none_left}
 use Rattle.sf_merge.proofs.reading.all_in_order.Goals as goal
@@ -29,7 +30,7 @@ pub returns-clause-order : goal.returns-clause-order
 returns-clause-order c =
     let views = c.args.views.now in
     let all = none_left (sized_in_all (map table_of views)) c.loop-view.all c.loop-view.item views c.loop-view.view-index c.loop-view-test.false c.loop-view.invariant.all in
-    subst (λ (ls : List Located). AreByRank ls c.order.new.self) (sym all) c.in_ok-order.ensures
+    subst (λ (ls : List Located). IsInOrder located_start ls c.order.new.self) (sym all) c.in_ok-order.ensures
 
 pub returns-clause-read : goal.returns-clause-read
 returns-clause-read c = subst (All IsViewOfSection) (take_all c.loop-view.view-index c.args.views.now c.loop-view-test.false) c.loop-view.invariant.read

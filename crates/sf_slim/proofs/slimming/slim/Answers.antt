@@ -1,5 +1,5 @@
 use Rattle.std.specs.Prelude.{All}
-use Rattle.std.proofs.Common.{◌≡◌, ◌≤◌, true, None, Some, List, length, map, ap, sym, subst, ◌∙◌, inr}
+use Rattle.std.proofs.Common.{◌≡◌, true, None, Some, List, length, map, ap, sym, subst, ◌∙◌, inr}
 use Rattle.std.proofs.lemmas.List.{length-map}
 use Rattle.sf_model.specs.Function.{AreWritable, IsWritable}
 use Rattle.sf_model.specs.declared.function.Func.{Func}
@@ -8,8 +8,7 @@ use Rattle.sf_model.specs.Table.{row_count}
 use Rattle.sf_decode.specs.View.{section_bytes}
 use Rattle.sf_write.specs.Reach.{first_out_of_reach, Refuses}
 use Rattle.sf_write.specs.declared.fault.WriteFault.{WriteFault}
-use Rattle.sf_write.specs.declared.stored.StoredFunction.{StoredFunction}
-use Rattle.sf_write.specs.Stored.{stored_count, stored_in}
+use Rattle.sf_write.specs.Stored.{stored_in}
 use Rattle.sf_write.proofs.StoredEntries.{counts, few_rows}
 use Rattle.sf_merge.specs.declared.located.Located.{Located}
 use Rattle.sf_merge.proofs.Apart.{function_of}
@@ -42,8 +41,7 @@ count_rows-requires c =
     let before = (goal.at.count_rows-requires c).After-needed in
     let arch = c.arch-arch.result in
     let stored = c.in_ok-needed.needed in
-    let few = few_rows arch stored.rows stored.functions.items c.in_ok-needed.ensures.stored (subst (λ (fs : List Func). AreWritable arch fs) (sym c.in_ok-needed.ensures.needed) (writable before)) in
-    subst (λ (fs : List StoredFunction). stored_count fs ≤ 16777216) (sym c.deref.ensures.value) few
+    few_rows arch stored.rows stored.functions.items c.in_ok-needed.ensures.stored (subst (λ (fs : List Func). AreWritable arch fs) (sym c.in_ok-needed.ensures.needed) (writable before))
 
 pub returns-in-Ok-clause-slimmed : goal.returns-in-Ok-clause-slimmed
 returns-in-Ok-clause-slimmed c =
@@ -57,7 +55,7 @@ returns-in-Ok-clause-slimmed c =
     written.in_reach written.tight written.narrow
     (sym c.in-Ok.section.ok.0 ∙ written.len)
     (c.len.ensures ∙ (stored.functions.ok.0 ∙ as_long))
-    (c.count_rows.ensures ∙ ap stored_count c.deref.ensures.value ∙ counts stored.rows stored.functions.items c.in_ok-needed.ensures.stored ∙ ap (λ (fs : List Func). row_count fs) are)
+    (c.count_rows.ensures ∙ counts stored.rows stored.functions.items c.in_ok-needed.ensures.stored ∙ ap (λ (fs : List Func). row_count fs) are)
     written.are_bytes
 
 pub returns-in-Err-OutOfReach-clause-fault : goal.returns-in-Err-OutOfReach-clause-fault

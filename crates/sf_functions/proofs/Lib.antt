@@ -1,0 +1,3 @@
+pub mod LimitsHeld
+pub mod OverlapsSeen
+pub mod ByStart

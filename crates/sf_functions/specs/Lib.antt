@@ -1,0 +1,3 @@
+pub mod Order
+pub mod Neighbours
+pub mod Limits
