@@ -1,11 +1,13 @@
 -- Words that name things, one after the other.
-use Rattle.std.proofs.Common.{◌≡◌, ℕ, zero, suc, ◌<◌, List, [], ◌∷◌, map, length, get_or, refl, ap, sym, ◌∙◌, Option, Some, None, true, false, arith}
+use Rattle.std.proofs.Common.{◌≡◌, ℕ, zero, suc, ◌<◌, List, [], ◌∷◌, map, length, get_or, refl, ap, sym, subst, ◌∙◌, Option, Some, None, true, false, arith}
 use Rattle.std.specs.Prelude.{IfSome, IsSomeAnd}
 use Rattle.std.specs.Option.{is_some}
 use Rattle.std.proofs.lemmas.List.{length-map}
-use Rattle.std.specs.Coded.{Coded-set, coded_ℕ}
+use Rattle.std.specs.Coded.{Coded, Coded-set, coded_ℕ}
 use mathlib.Core.Logic.{∥∥₁_elim}
 use Rattle.std.specs.List.{All, AllZip}
+use Rattle.sf_words.specs.Naming.{FilesNamed}
+use Rattle.sf_words.specs.OneReading.{the_list}
 use Rattle.std.proofs.lemmas.List.Elements.{All-nil, All-cons, All-head, All-tail}
 
 -- a word among words that name things names one
@@ -25,6 +27,16 @@ all_named {A} {X} text Is (w ∷ ws) h =
     let rest = all_named text Is ws (All-tail (λ (v : A). (thing : X) × Is (text v) thing) w ws h) in
     (first.0 ∷ rest.0, (first.1, rest.1))
 
+pub are_named : {A X : Type 0} (text : A → List ℕ) (Is : List ℕ → X → Type 0) (words : List A) → All (λ (w : A). (thing : X) × Is (text w) thing) words → FilesNamed Is (map text words)
+are_named text Is words h = let named = all_named text Is words h in (named.0, ∣ named.1 ∣₁)
+
+-- the things that are known to be named are those that such words name
+pub known_named : {A X : Type 0} → Coded X → (text : A → List ℕ) (Is : List ℕ → X → Type 0) → ((word : List ℕ) (one other : X) → Is word one → Is word other → one ≡ other)
+    → (words : List A) → All (λ (w : A). (thing : X) × Is (text w) thing) words → (said : FilesNamed Is (map text words)) → AllZip Is (map text words) said.0
+known_named {A} {X} code text Is one words h said =
+    let named = all_named text Is words h in
+    subst (λ (things : List X). AllZip Is (map text words) things) (sym (the_list code Is one (map text words) said named.0 named.1)) named.1
+
 -- what holds of the text of each word, as a list of texts or as a list of words
 pub all_seen : {A X : Type 0} (text : A → X) (P : X → Type 0) (words : List A) → All P (map text words) → All (λ (w : A). P (text w)) words
 all_seen text P [] h = All-nil (λ w. P (text w))
@@ -38,7 +50,7 @@ as_long R (x ∷ xs) [] h = absurd h
 as_long R (x ∷ xs) (y ∷ ys) h = ap (λ (n : ℕ). suc n) (as_long R xs ys h.1)
 
 -- there are as many things as words that name them
-pub named_count : {A X : Type 0} (text : A → List ℕ) (Is : List ℕ → X → Type 0) (words : List A) (said : (things : List X) × ∥ AllZip Is (map text words) things ∥₁) → length words ≡ length said.0
+pub named_count : {A X : Type 0} (text : A → List ℕ) (Is : List ℕ → X → Type 0) (words : List A) (said : FilesNamed Is (map text words)) → length words ≡ length said.0
 named_count text Is words said = ∥∥₁_elim said.1 (Coded-set coded_ℕ _ _) (λ h. sym (length-map words text) ∙ as_long Is (map text words) said.0 h)
 
 -- the word at a place names the thing at that place

@@ -8,7 +8,7 @@ use Rattle.sf_model.specs.declared.machine.Arch.{Arch}
 use Rattle.sf_model.specs.declared.machine.Arch.TheVariants.{Amd64, Aarch64}
 use Rattle.sf_model.specs.declared.form.Form.{Form}
 use Rattle.sf_model.specs.declared.form.Form.TheVariants.{Elf, Bare}
-use Rattle.sf_words.specs.Naming.{InputsNamed, SectionsNamed}
+use Rattle.sf_words.specs.Naming.{FilesNamed}
 use Rattle.sf_words.specs.Words.{InputWords, IsInputWord, IsPlaced, IsSectionWord, SectionWords, Spells, prefix_of}
 use Rattle.sf_words.specs.AtSigns.{HasNoAt-address, cut_once}
 use mathlib.Core.HLevel.{Σ_prop_path}
@@ -71,8 +71,9 @@ pub the_list : {X : Type 0} → Coded X → (Is : List ℕ → X → Type 0) →
     → (words : List (List ℕ)) (said : (things : List X) × ∥ AllZip Is words things ∥₁) (things : List X) → AllZip Is words things → said.0 ≡ things
 the_list code Is one words said things h = ∥∥₁_elim said.1 (Coded-set (coded_list code) said.0 things) (λ i. one_list Is one words said.0 things i h)
 
-one_naming : {X : Type 0} → Coded X → (Is : List ℕ → X → Type 0) → ((word : List ℕ) (one other : X) → Is word one → Is word other → one ≡ other)
-    → (words : List (List ℕ)) → IsProp ((things : List X) × ∥ AllZip Is words things ∥₁)
+-- words name one list of files at most
+pub one_naming : {X : Type 0} → Coded X → (Is : List ℕ → X → Type 0) → ((word : List ℕ) (one other : X) → Is word one → Is word other → one ≡ other)
+    → (words : List (List ℕ)) → IsProp (FilesNamed Is words)
 one_naming code Is one words s t =
     Σ_prop_path (λ things. ∥∥₁_prop)
     (∥∥₁_elim t.1 (Coded-set (coded_list code) s.0 t.0) (λ h. the_list code Is one words s t.0 h))
@@ -100,11 +101,3 @@ input_code =
 
 pub section_code : Coded SectionWords
 section_code = code_by (List ℕ × ℕ) (coded× (coded_list coded_ℕ) coded_ℕ) (λ s. (s.name, s.at)) (λ c. record { name = c.0; at = c.1 }) (λ s. refl)
-
--- words name one list of inputs at most
-pub one_list_of_inputs : (words : List (List ℕ)) → IsProp (InputsNamed words)
-one_list_of_inputs words = one_naming input_code IsInputWord one_input words
-
--- words name one list of sections at most
-pub one_list_of_sections : (words : List (List ℕ)) → IsProp (SectionsNamed words)
-one_list_of_sections words = one_naming section_code IsSectionWord one_section words

@@ -1,11 +1,16 @@
 //! The files of a command: what it makes and what it reads.
 
 ghost use Rattle.std.specs.Prelude.{◌≡◌, ◌++◌, length, map, IfOk, OnOk};
+ghost use Rattle.std.specs.String.{string_bytes};
 ghost use Rattle.sf_words.specs.Files.{files_of, items_in, items_of, list_items};
 ghost use Rattle.sf_words.specs.Items.{item_of};
+ghost use Rattle.sf_words.specs.Naming.{FilesNamed};
 
+use crate::file_word::FileWord;
 use crate::item::Item;
+use crate::lists::file_at;
 use crate::named::{NamedInputs, NamedSections};
+use crate::words::{InputFile, SectionFile};
 use sf_base::NoMemory;
 use std::alloc::{AllocError, Global};
 
@@ -54,25 +59,16 @@ fn push_item<'a>(items: &mut Vec<Item<'a>>, item: Option<Item<'a>>) -> Result<()
     Ok(())
 }
 
-/// Appends the inputs that the words name.
-fn push_inputs<'a>(items: &mut Vec<Item<'a>>, inputs: NamedInputs<'a>) -> Result<(), AllocError>
-    ensures { OnOk result (map item_of items.new.items ≡ map item_of items.old.items ++ list_items (FileList.Inputs inputs.entry)) }
-{
-    for i in 0..inputs.len() {
-        items.push(Item::Input(inputs.get(i)))?;
-    }
-    Ok(())
-}
-
-/// Appends the sections that the words name.
-fn push_sections<'a>(
+/// Appends the files that the words name.
+fn push_files<'a, F: FileWord<'a>>(
     items: &mut Vec<Item<'a>>,
-    sections: NamedSections<'a>,
+    words: &'a [String],
 ) -> Result<(), AllocError>
-    ensures { OnOk result (map item_of items.new.items ≡ map item_of items.old.items ++ list_items (FileList.Sections sections.entry)) }
+    requires { FilesNamed F.Says (map string_bytes words.now) }
+    ensures { (named : FilesNamed F.Says (map string_bytes words.now)) → OnOk result (map item_of items.new.items ≡ map item_of items.old.items ++ map F.item_said named.0) }
 {
-    for i in 0..sections.len() {
-        items.push(Item::Section(sections.get(i)))?;
+    for index in 0..words.len() {
+        items.push(file_at::<F>(words, index).item())?;
     }
     Ok(())
 }
@@ -93,8 +89,8 @@ fn push_list<'a>(items: &mut Vec<Item<'a>>, list: FileList<'a>) -> Result<(), Al
 {
     match list {
         FileList::None => Ok(()),
-        FileList::Inputs(inputs) => push_inputs(items, inputs),
-        FileList::Sections(sections) => push_sections(items, sections),
+        FileList::Inputs(inputs) => push_files::<InputFile<'_>>(items, inputs.words),
+        FileList::Sections(sections) => push_files::<SectionFile<'_>>(items, sections.words),
         FileList::Mapped(names) => push_mapped(items, names),
     }
 }

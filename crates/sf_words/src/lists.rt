@@ -1,8 +1,9 @@
 //! Lists of words that name files of one kind.
 
-ghost use Rattle.std.specs.Prelude.{◌≡◌, ◌<◌, List, map, length, IsTrue, All};
+ghost use Rattle.std.specs.Prelude.{◌≡◌, ◌<◌, List, get_or, map, length, IsTrue, All};
 ghost use Rattle.std.specs.List.{AllZip};
 ghost use Rattle.std.specs.String.{string_bytes};
+ghost use Rattle.sf_words.specs.Naming.{FilesNamed};
 
 use crate::file_word::FileWord;
 
@@ -17,6 +18,18 @@ pub(crate) fn are_files<'a, F: FileWord<'a>>(words: &'a [String]) -> bool
         }
     }
     true
+}
+
+/// Returns the file that the word at a place names.
+pub(crate) fn file_at<'a, F: FileWord<'a>>(words: &'a [String], index: usize) -> F
+    requires named { FilesNamed F.Says (map string_bytes words.now) }
+    requires within { index < length words.now }
+    ensures { (named : FilesNamed F.Says (map string_bytes words.now)) (other : F.Said) → F.said result ≡ get_or named.0 index other }
+{
+    match F::read(&words[index]) {
+        Some(file) => file,
+        None => unreachable!(),
+    }
 }
 
 /// Returns whether no word is empty.

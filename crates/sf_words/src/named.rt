@@ -2,31 +2,32 @@
 
 ghost use Rattle.std.specs.Prelude.{map};
 ghost use Rattle.std.specs.String.{string_bytes};
-ghost use Rattle.sf_words.specs.Naming.{InputsNamed, SectionsNamed};
-ghost use Rattle.sf_words.specs.OneReading.{one_list_of_inputs, one_list_of_sections};
+ghost use Rattle.sf_words.specs.Naming.{FilesNamed};
+ghost use Rattle.sf_words.specs.OneReading.{input_code, one_input, one_naming, one_section, section_code};
+ghost use Rattle.sf_words.specs.Words.{IsInputWord, IsSectionWord};
 
 use crate::lists::are_files;
-use crate::words::{InputFile, SectionFile, input_file, section_file};
+use crate::words::{InputFile, SectionFile};
 
 /// Words that each name an input.
 #[derive(Clone, Copy)]
 pub struct NamedInputs<'a> {
-    words: &'a [String],
-    pub ghost said: { InputsNamed (map string_bytes words.now) } by { one_list_of_inputs (map string_bytes words.now) },
+    pub(crate) words: &'a [String],
+    pub ghost said: { FilesNamed IsInputWord (map string_bytes words.now) } by { one_naming input_code IsInputWord one_input (map string_bytes words.now) },
 }
 
 /// Words that each name a section.
 #[derive(Clone, Copy)]
 pub struct NamedSections<'a> {
-    words: &'a [String],
-    pub ghost said: { SectionsNamed (map string_bytes words.now) } by { one_list_of_sections (map string_bytes words.now) },
+    pub(crate) words: &'a [String],
+    pub ghost said: { FilesNamed IsSectionWord (map string_bytes words.now) } by { one_naming section_code IsSectionWord one_section (map string_bytes words.now) },
 }
 
 impl<'a> NamedInputs<'a> {
-    ghost use Rattle.std.specs.Prelude.{◌≡◌, ◌<◌, List, get_or, length, IfSome, IsSomeAnd};
+    ghost use Rattle.std.specs.Prelude.{◌≡◌, List, length, IfSome, IsSomeAnd};
     ghost use Rattle.std.specs.List.{AllZip};
     ghost use Rattle.sf_words.specs.Named.{inputs_of};
-    ghost use Rattle.sf_words.specs.Words.{InputWords, IsInputWord, input_of};
+    ghost use Rattle.sf_words.specs.Words.{InputWords};
 
     /// Returns the words as names of inputs, if each names one. Allocates nothing.
     pub fn read(words: &'a [String]) -> Option<NamedInputs<'a>>
@@ -45,24 +46,13 @@ impl<'a> NamedInputs<'a> {
     {
         self.words.len()
     }
-
-    /// Returns the input that the word at a place names.
-    pub fn get(&self, index: usize) -> InputFile<'a>
-        requires { index < length (inputs_of self.now) }
-        ensures { (other : InputWords) → input_of result ≡ get_or (inputs_of self.now) index other }
-    {
-        match input_file(&self.words[index]) {
-            Some(input) => input,
-            None => unreachable!(),
-        }
-    }
 }
 
 impl<'a> NamedSections<'a> {
-    ghost use Rattle.std.specs.Prelude.{◌≡◌, ◌<◌, List, get_or, length, IfSome, IsSomeAnd};
+    ghost use Rattle.std.specs.Prelude.{◌≡◌, List, length, IfSome, IsSomeAnd};
     ghost use Rattle.std.specs.List.{AllZip};
     ghost use Rattle.sf_words.specs.Named.{named_sections};
-    ghost use Rattle.sf_words.specs.Words.{IsSectionWord, SectionWords, words_of_section};
+    ghost use Rattle.sf_words.specs.Words.{SectionWords};
 
     /// Returns the words as names of sections, if each names one. Allocates nothing.
     pub fn read(words: &'a [String]) -> Option<NamedSections<'a>>
@@ -80,16 +70,5 @@ impl<'a> NamedSections<'a> {
         ensures { result ≡ length (named_sections self.now) }
     {
         self.words.len()
-    }
-
-    /// Returns the section that the word at a place names.
-    pub fn get(&self, index: usize) -> SectionFile<'a>
-        requires { index < length (named_sections self.now) }
-        ensures { (other : SectionWords) → words_of_section result ≡ get_or (named_sections self.now) index other }
-    {
-        match section_file(&self.words[index]) {
-            Some(section) => section,
-            None => unreachable!(),
-        }
     }
 }
