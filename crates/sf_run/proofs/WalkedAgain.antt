@@ -12,10 +12,11 @@ use Rattle.core_notes.specs.Checks.{core_check}
 use Rattle.sf_asm.specs.declared.entry.Entry.{Entry}
 use Rattle.sf_asm.specs.declared.fault.LinkFault.{LinkFault}
 use Rattle.sf_asm.specs.Functions.{Object}
+use Rattle.sf_merge.specs.Merging.{same_arch}
 use Rattle.section_commands.specs.declared.made.Outcome.TheVariants.{Done}
 use Rattle.section_commands.specs.Coming.{Makes}
 use Rattle.section_commands.specs.Walk.{WalkComes, WalkComesFrom, coming_of_walks}
-use Rattle.section_commands.specs.Walks.{coming_of_core, is_same, table_walks}
+use Rattle.section_commands.specs.Walks.{coming_of_core, table_walks}
 use Rattle.sf_run.specs.Backtrace.{BacktraceComes, BacktraceComesFrom, BacktraceWords, dwarf_walks, section_and_walks, walk_by_section}
 use Rattle.sf_run.specs.Inputs.{objects_in}
 use Rattle.sf_run.specs.Linked.{LinkedComesFrom, MakesLinked}
@@ -30,7 +31,7 @@ core_refuses (core_fault.StatusSize place) = tt
 core_refuses core_fault.NoThread = tt
 core_refuses core_fault.TooManyThreads = tt
 
-same_as_itself : (arch : Arch) → is_same arch arch ≡ true
+same_as_itself : (arch : Arch) → same_arch arch arch ≡ true
 same_as_itself Amd64 = refl
 same_as_itself Aarch64 = refl
 
@@ -44,7 +45,7 @@ from_made objects at core depth section text e h =
     let sections : h.section ≡ section = cc in
     let texts : walks ≡ text = cc in
     let machine : f.table.arch ≡ arch_of core = f.holds.machine ∙ sym (h.linked.machine 0 f.table.arch (omega arith)) in
-    let same : is_same f.table.arch (arch_of core) ≡ true = ap (λ (a : Arch). is_same a (arch_of core)) machine ∙ same_as_itself (arch_of core) in
+    let same : same_arch f.table.arch (arch_of core) ≡ true = ap (λ (a : Arch). same_arch a (arch_of core)) machine ∙ same_as_itself (arch_of core) in
     let table_text : table_walks f.table core depth ≡ walks = linked_walks (arch_of core) objects at h.section h.kept h.omitted h.linked core depth in
     let comes : WalkComesFrom at h.section core depth (Ok tt) (Ok tt) (Makes Done None walks) = record {
       table = f.table;
