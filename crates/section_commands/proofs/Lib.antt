@@ -4,10 +4,13 @@ pub mod Lists
 pub mod Sums
 pub mod WalkTexts
 pub mod Merged
-pub mod Slimmed
 pub mod SectionsFit
 pub mod Procwalks
 pub mod OneProcwalk
 pub mod SomeProcwalk
-pub mod OneComing
-pub mod SomeComing
+pub mod ComesToOne
+pub mod ShownComes
+pub mod WalkComes
+pub mod SlimComes
+pub mod MergeComes
+pub mod ProcwalkComes

@@ -16,7 +16,7 @@ use Rattle.sf_run.specs.Commands.{CommandComes, CommandWords, Link}
 use Rattle.sf_run.specs.Inputs.{objects_in}
 use Rattle.sf_run.specs.Link.{LinkComes, section_and_report}
 use Rattle.sf_run.specs.Linked.{LinkedComesFrom, MakesLinked, coming_of_linking}
-use Rattle.sf_run.proofs.SomeComing.{links_some}
+use Rattle.sf_run.proofs.SomeLinked.{links_some}
 
 -- it is a refusal, or a limit
 abbrev pub Refuses : Coming → Type 0

@@ -22,7 +22,7 @@ use Rattle.section_commands.specs.Making.{ComesAs, ComesTo, coming_of}
 use Rattle.section_commands.proofs.Making.{comes_as}
 use Rattle.sf_run.specs.Comes.{AreItems, Comes, RefusesNothing, command_limit}
 use Rattle.sf_run.specs.Commands.{CanBeAsked, CommandComes, CommandWords, files_of_command}
-use Rattle.sf_run.proofs.OneComing.{one_coming}
+use Rattle.sf_run.proofs.EachCommand.{one_coming}
 use Rattle.sf_run.specs.declared.status.Status.{Status}
 use Rattle.sf_run.specs.declared.status.Status.TheVariants as status
 use Rattle.sf_run.specs.Ends.{AnswersFor, Delivered, NoneFailed, RunComes, RunEnds, RunIsComplete, RunRefuses, Seen, Tells, seen}

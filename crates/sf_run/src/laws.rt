@@ -17,13 +17,13 @@ ghost use Rattle.sf_run.specs.Commands.{CommandWords, Link};
 ghost use Rattle.sf_run.specs.Inputs.{objects_in};
 
 /// States that a command and the bytes of its items come to at most one thing.
-#[tactic(auto, using(crate::proofs::OneComing::one_coming))]
+#[tactic(auto, using(crate::proofs::EachCommand::one_coming))]
 pub fn a_run_comes_to_one()
     ensures { (command : CommandWords) (items : List (List ℕ)) (one other : Coming) → AreItems command items → Comes command items one → Comes command items other → one ≡ other }
 {}
 
 /// States that a command and the bytes of its items come to something: a refusal, a limit, or what is made.
-#[tactic(auto, using(crate::proofs::SomeComing::some_coming))]
+#[tactic(auto, using(crate::proofs::EachCommand::some_coming))]
 pub fn a_run_comes_to_something()
     ensures { (command : CommandWords) (items : List (List ℕ)) → AreItems command items → All AreBytes items → (coming : Coming) × Comes command items coming }
 {}
@@ -35,7 +35,7 @@ pub fn a_backtrace_is_the_walk_by_its_section()
 {}
 
 /// States that linking inputs comes to a result: the functions in order, or a fault.
-#[tactic(auto, using(crate::proofs::SomeComing::links_some))]
+#[tactic(auto, using(crate::proofs::SomeLinked::links_some))]
 pub fn linking_comes_to_a_result()
     ensures { (objects : List Object) (at : ℕ) → (result : Result (List Entry) LinkFault) × Links None objects at result }
 {}

@@ -4,8 +4,8 @@
 //! it: first the section to its file, then the text to the output. Its clauses are in specs/Ends.antt.
 //!
 //! A command is a value of [`Command`], which borrows its words. Each has a file here or in `section_commands`, with
-//! its form of words, its files and its making, and a file of specs/ of the same name; [`Command`] and
-//! specs/Commands.antt have an arm for each.
+//! its form of words, its files and its making, and a file of specs/ of the same name. [`Command`],
+//! specs/Commands.antt and proofs/EachCommand.antt have an arm for each.
 //!
 //! [`Command::make`] is the middle of a run, and knows no file and no stream: what it returns is what the command comes
 //! to by `Comes` (specs/Comes.antt). Two laws say that this is defined: a command and the bytes of its items come to one

@@ -1,7 +1,7 @@
 use Rattle.std.proofs.Common.{◌≡◌, ℕ, length, sym, ap, ◌∙◌}
 use Rattle.sf_decode.specs.View.{section_bytes, table_of}
 use Rattle.sf_text.specs.Slim.{slim_text}
-use Rattle.section_commands.proofs.Slimmed.{slimmed_comes, unslimmed_comes}
+use Rattle.section_commands.proofs.SlimComes.{slimmed_comes, unslimmed_comes}
 use Rattle.section_commands.proofs.slim.slim_made.Goals as goal
 
 pub returns-in_ok-text-in-Ok-slim : goal.returns-in_ok-text-in-Ok-slim

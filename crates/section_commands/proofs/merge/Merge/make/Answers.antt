@@ -7,7 +7,7 @@ use Rattle.sf_words.specs.Named.{named_sections}
 use Rattle.sf_words.proofs.Limits.{within_limits}
 use Rattle.section_commands.specs.Merge.{merge_files, merge_of}
 use Rattle.section_commands.proofs.Lists.{as_many}
-use Rattle.section_commands.proofs.OneComing.{some_sections}
+use Rattle.section_commands.proofs.MergeComes.{some_sections}
 use Rattle.section_commands.proofs.merge.Merge.make.Goals as goal
 
 pub views_of-requires-clause-few : goal.views_of-requires-clause-few

@@ -1,8 +1,8 @@
--- A run comes to something: each command on every list of bytes of its items.
+-- Linking comes to something.
 use Rattle.std.specs.Cmp.{nat_cmp_total}
 use Rattle.std.specs.Ordering.{is_lt, nat_cmp}
 use Rattle.std.specs.Option.{option_map}
-use Rattle.std.proofs.Common.{◌≡◌, ◌<◌, ℕ, Bool, List, [], ◌∷◌, All, length, map, drop, get_or, Option, Some, None, Result, Ok, Err, refl, sym, subst, arith}
+use Rattle.std.proofs.Common.{◌≡◌, ℕ, Bool, List, All, length, map, get_or, Option, Some, None, Result, Ok, Err, refl, subst}
 use Rattle.std.proofs.lemmas.List.Elements.{All-map, All-tail}
 use Rattle.std.proofs.lemmas.List.Sorted.{All-permutation, IsNonDecreasingBy-from_sort, ranks_by}
 use Rattle.sf_model.specs.declared.machine.Arch.{Arch}
@@ -10,10 +10,8 @@ use Rattle.sf_model.specs.Section.{AreBytes}
 use Rattle.sf_write.specs.Reach.{first_out_of_reach}
 use Rattle.sf_write.specs.Section.{section_bytes}
 use Rattle.sf_write.proofs.NumbersFit.{some_section}
-use Rattle.sf_decode.specs.Decoding.{section_check}
 use Rattle.elf_read.specs.Header.{arch_of}
 use Rattle.core_notes.specs.declared.fault.CoreFault.{CoreFault}
-use Rattle.core_notes.specs.Checks.{core_check}
 use Rattle.sf_merge.proofs.Insertion.{moved, ordered, sorted, stable}
 use Rattle.sf_asm.specs.declared.entry.Entry.{Entry}
 use Rattle.sf_asm.specs.declared.fault.GatherFault.{GatherFault}
@@ -30,22 +28,11 @@ use Rattle.sf_asm.proofs.Described.{from_links, to_gathers, to_links}
 use Rattle.sf_asm.proofs.FaithfulSections.{linked}
 use Rattle.sf_asm.proofs.GatheredInputs.{are_read}
 use Rattle.sf_asm.proofs.Kept.{kept_of_checked}
-use Rattle.sf_words.specs.declared.refusal.Limit.{Limit}
-use Rattle.sf_words.specs.Forms.{SectionAndInputs}
-use Rattle.section_commands.specs.Coming.{Coming, ComesWithin, Exceeded}
+use Rattle.section_commands.specs.Coming.{Coming}
 use Rattle.section_commands.specs.Walks.{coming_of_core}
-use Rattle.section_commands.proofs.SomeComing.{some_dump_coming, some_lookup_coming, some_merge_coming, some_procwalk_coming, some_slim_coming, some_walk_coming}
 use Rattle.sf_run.specs.Backtrace.{BacktraceComesFrom, section_and_walks}
-use Rattle.sf_run.specs.Comes.{AreItems, Comes, command_limit}
-use Rattle.sf_run.specs.Commands.{CommandComes, CommandWords, Link, LinkPlt, Merge, Slim, Dump, Lookup, Verify, Walk, Backtrace, Procwalk, Gen}
-use Rattle.sf_run.specs.Inputs.{objects_in}
-use Rattle.sf_run.specs.Link.{section_and_report}
 use Rattle.sf_run.specs.Linked.{LinkedComes, LinkedComesFrom, Makings, coming_of_linking}
-use Rattle.sf_run.specs.Object.{made_object, summary_alone}
-use Rattle.sf_run.specs.Verify.{VerifyComes}
 use Rattle.sf_run.proofs.KeptFit.{OutcomeFits, all_kept_fit, entry_fits, entry_sound, functions_read}
-use Rattle.sf_run.proofs.SomePlt.{some_plt}
-use Rattle.sf_run.proofs.SomeVerified.{some_verified}
 
 -- ---- linking
 in_order : (functions : List Function) → (es : List Entry) × InOrder (map entry_of functions) es
@@ -134,37 +121,12 @@ some_linking before objects at made (Ok entries) h =
     let s = some_linked_section before objects at entries h in
     (_, record { section = s.section; kept = s.kept; omitted = omitted_of s.entries; are_bytes = s.are_bytes; linked = s.linked; is = refl })
 
-some_linked : (before : Option Arch) (objects : List Object) (at : ℕ) (made : Makings) → (coming : Coming) × LinkedComes before objects at made coming
+pub some_linked : (before : Option Arch) (objects : List Object) (at : ℕ) (made : Makings) → (coming : Coming) × LinkedComes before objects at made coming
 some_linked before objects at made =
     let links = some_links before objects at in
     let comes = some_linking before objects at made links.0 links.1 in
     (comes.0, record { result = links.0; links = links.1; comes = comes.1 })
 
-some_backtrace : (objects : List Object) (at : ℕ) (core : List ℕ) (depth : ℕ) (check : Result (Unit {0}) CoreFault) → (coming : Coming) × BacktraceComesFrom objects at core depth check coming
+pub some_backtrace : (objects : List Object) (at : ℕ) (core : List ℕ) (depth : ℕ) (check : Result (Unit {0}) CoreFault) → (coming : Coming) × BacktraceComesFrom objects at core depth check coming
 some_backtrace objects at core depth (Err fault) = (coming_of_core 0 fault, refl)
 some_backtrace objects at core depth (Ok u) = some_linked (Some (arch_of core)) objects at (section_and_walks core depth)
-
--- ---- each command
-verified : (verify : SectionAndInputs) (items : List (List ℕ)) → 0 < length items → All AreBytes items → (coming : Coming) × VerifyComes verify items coming
-verified verify items some bytes =
-    some_verified verify.section.at (get_or items 0 []) (objects_in verify.inputs (drop 1 items)) (bytes 0 [] some) (section_check (get_or items 0 []) verify.section.at) refl
-
-some_command : (command : CommandWords) (items : List (List ℕ)) → AreItems command items → All AreBytes items → (coming : Coming) × CommandComes command items coming
-some_command (Link link) items are bytes = some_linked None (objects_in link.inputs items) link.section.at section_and_report
-some_command (LinkPlt link) items are bytes = some_plt (objects_in link.inputs items) link.section.at
-some_command (Merge merge) items are bytes = some_merge_coming merge items are.asked are.count bytes
-some_command (Slim slim) items are bytes = some_slim_coming slim items are.asked are.count bytes
-some_command (Dump section) items are bytes = some_dump_coming section items are.asked are.count bytes
-some_command (Lookup lookup) items are bytes = some_lookup_coming lookup items are.asked are.count bytes
-some_command (Verify verify) items are bytes = verified verify items (subst (λ (n : ℕ). 0 < n) (sym are.count) (omega arith)) bytes
-some_command (Walk walk) items are bytes = some_walk_coming walk items are.asked are.count bytes
-some_command (Backtrace backtrace) items are bytes = some_backtrace _ backtrace.out.at (get_or items 0 []) backtrace.depth (core_check (get_or items 0 []))
-some_command (Procwalk procwalk) items are bytes = some_procwalk_coming procwalk items are.asked are.count bytes
-some_command (Gen n) items are bytes = some_linked None (made_object n ∷ []) 0x4000000 (summary_alone n)
-
-within : (command : CommandWords) (items : List (List ℕ)) → (coming : Coming) × CommandComes command items coming → (limit : Option Limit) → (coming : Coming) × ComesWithin limit (CommandComes command items) coming
-within command items some (Some limit) = (Exceeded limit, refl)
-within command items some None = some
-
-pub some_coming : (command : CommandWords) (items : List (List ℕ)) → AreItems command items → All AreBytes items → (coming : Coming) × Comes command items coming
-some_coming command items are bytes = within command items (some_command command items are bytes) (command_limit command items)

@@ -1,5 +1,5 @@
--- A run comes to one thing at most.
-use Rattle.std.proofs.Common.{◌≡◌, ◌<◌, ℕ, suc, List, [], ◌∷◌, codes, map, length, drop, get_or, Option, Some, None, Result, Ok, Err, ap, sym, subst, ◌∙◌, arith}
+-- Linking and verifying come to one thing at most.
+use Rattle.std.proofs.Common.{◌≡◌, ◌<◌, ℕ, List, [], ◌∷◌, map, length, Option, Some, None, Result, Ok, Err, ap, sym, subst, ◌∙◌, arith}
 use Rattle.sf_model.specs.declared.machine.Arch.{Arch}
 use Rattle.sf_model.specs.declared.omission.Omitted.{Omitted}
 use Rattle.sf_model.specs.declared.omission.Span.{Span}
@@ -10,10 +10,8 @@ use Rattle.sf_model.proofs.TableSame.{table_same}
 use Rattle.sf_model.proofs.TightOne.{tight_one}
 use Rattle.sf_write.specs.Section.{table_of}
 use Rattle.sf_decode.specs.declared.fault.DecodeFault.{DecodeFault}
-use Rattle.sf_decode.specs.Decoding.{section_check}
 use Rattle.elf_read.specs.Header.{arch_of}
 use Rattle.core_notes.specs.declared.fault.CoreFault.{CoreFault}
-use Rattle.core_notes.specs.Checks.{core_check}
 use Rattle.sf_asm.specs.declared.entry.Entry.{Entry}
 use Rattle.sf_asm.specs.declared.fault.LinkFault.{LinkFault}
 use Rattle.sf_asm.specs.Answers.{IsLinked}
@@ -32,22 +30,15 @@ use Rattle.sf_plt.proofs.Faults.{one_sorted, one_result as one_plt_result}
 use Rattle.sf_verify.specs.Verifying.{Verifies}
 use Rattle.sf_verify.proofs.OneVerdict.{one_result as one_verdict}
 use Rattle.sf_text.specs.PltReport.{plt_report_text}
-use Rattle.sf_words.specs.declared.refusal.Limit.{Limit}
 use Rattle.sf_words.specs.Items.{Input as InputItem}
 use Rattle.sf_words.specs.Words.{InputWords}
 use Rattle.section_commands.specs.declared.made.Outcome.TheVariants.{Done}
-use Rattle.section_commands.specs.Coming.{Coming, Makes, ComesWithin}
-use Rattle.section_commands.proofs.OneComing.{one_dump_coming, one_lookup_coming, one_merge_coming, one_procwalk_coming, one_slim_coming, one_walk_coming}
+use Rattle.section_commands.specs.Coming.{Coming, Makes}
 use Rattle.sf_run.specs.Backtrace.{BacktraceComesFrom, section_and_walks}
-use Rattle.sf_run.specs.Comes.{Comes, AreItems}
-use Rattle.sf_run.specs.Commands.{CommandComes, CommandWords, Link, LinkPlt, Merge, Slim, Dump, Lookup, Verify, Walk, Backtrace, Procwalk, Gen}
 use Rattle.sf_run.specs.Inputs.{objects_in}
-use Rattle.sf_run.specs.Link.{section_and_report}
 use Rattle.sf_run.specs.LinkPlt.{MakesPltLinked, ObjectsCome, PltLinkedComes}
 use Rattle.sf_run.specs.Linked.{LinkedComes, LinkedComesFrom, Makings, MakesLinked}
-use Rattle.sf_run.specs.Object.{made_object, summary_alone}
 use Rattle.sf_run.specs.Verify.{VerifyComesFrom, coming_of_verdict}
-use Rattle.sf_run.proofs.Asked.{backtrace_inputs, named_inputs}
 
 -- ---- link
 one_machine : (before : Option Arch) (objects : List Object) → 0 < length objects → (a b : Arch) → HaveMachine before objects a → HaveMachine before objects b → a ≡ b
@@ -56,7 +47,7 @@ one_machine None (o ∷ os) some a b p q = sym (p 0 a (omega arith)) ∙ q 0 a (
 one_machine (Some arch) (o ∷ os) some a b p q = sym (p 0 a (omega arith)) ∙ q 0 a (omega arith)
 
 -- as many inputs as items, and one at least
-some_objects : (inputs : List InputWords) (items : List (List ℕ)) → 0 < length inputs → length items ≡ length (map InputItem inputs) → 0 < length (objects_in inputs items)
+pub some_objects : (inputs : List InputWords) (items : List (List ℕ)) → 0 < length inputs → length items ≡ length (map InputItem inputs) → 0 < length (objects_in inputs items)
 some_objects [] items some count = let none : ⊥ = omega (arith, some) in absurd none
 some_objects (s ∷ ss) [] some count = let none : ⊥ = omega (arith, count) in absurd none
 some_objects (s ∷ ss) (i ∷ is) some count = omega arith
@@ -85,7 +76,7 @@ one_from_links : (before : Option Arch) (objects : List Object) (at : ℕ) (made
 one_from_links before objects at made (Err fault) c d some p q = p ∙ sym q
 one_from_links before objects at made (Ok ordered) c d some p q = one_made before objects at made c d some p q
 
-one_link : (before : Option Arch) (objects : List Object) (at : ℕ) (made : Makings) (c d : Coming) → 0 < length objects → LinkedComes before objects at made c → LinkedComes before objects at made d → c ≡ d
+pub one_link : (before : Option Arch) (objects : List Object) (at : ℕ) (made : Makings) (c d : Coming) → 0 < length objects → LinkedComes before objects at made c → LinkedComes before objects at made d → c ≡ d
 one_link before objects at made c d some p q =
     let result = one_result before objects at p.result q.result p.links q.links in
     one_from_links before objects at made q.result c d some (subst (λ (r : Result (List Entry) LinkFault). LinkedComesFrom before objects at made r c) result p.comes) q.comes
@@ -115,55 +106,20 @@ one_plt_from : (objects : List Object) (at : ℕ) (result : Result (List Functio
 one_plt_from objects at (Err fault) c d some p q = p ∙ sym q
 one_plt_from objects at (Ok functions) c d some p q = one_plt_made objects at c d some p q
 
-one_plt_link : (objects : List Object) (at : ℕ) (c d : Coming) → 0 < length objects → ObjectsCome objects at c → ObjectsCome objects at d → c ≡ d
+pub one_plt_link : (objects : List Object) (at : ℕ) (c d : Coming) → 0 < length objects → ObjectsCome objects at c → ObjectsCome objects at d → c ≡ d
 one_plt_link objects at c d some p q =
     let result = one_plt_result None objects at p.result q.result p.links q.links in
     one_plt_from objects at q.result c d some (subst (λ (r : Result (List Function) LinkFault). PltLinkedComes objects at r c) result p.comes) q.comes
 
 -- ---- backtrace
-one_backtrace : (objects : List Object) (at : ℕ) (core : List ℕ) (depth : ℕ) (check : Result (Unit {0}) CoreFault) (c d : Coming) → 0 < length objects → BacktraceComesFrom objects at core depth check c → BacktraceComesFrom objects at core depth check d → c ≡ d
+pub one_backtrace : (objects : List Object) (at : ℕ) (core : List ℕ) (depth : ℕ) (check : Result (Unit {0}) CoreFault) (c d : Coming) → 0 < length objects → BacktraceComesFrom objects at core depth check c → BacktraceComesFrom objects at core depth check d → c ≡ d
 one_backtrace objects at core depth (Err fault) c d some p q = p ∙ sym q
 one_backtrace objects at core depth (Ok u) c d some p q = one_link (Some (arch_of core)) objects at (section_and_walks core depth) c d some p q
 
 -- ---- verify
-one_verified : (at : ℕ) (bytes : List ℕ) (objects : List Object) (check : Result (Unit {0}) DecodeFault) (c d : Coming) → VerifyComesFrom at bytes objects check c → VerifyComesFrom at bytes objects check d → c ≡ d
+pub one_verified : (at : ℕ) (bytes : List ℕ) (objects : List Object) (check : Result (Unit {0}) DecodeFault) (c d : Coming) → VerifyComesFrom at bytes objects check c → VerifyComesFrom at bytes objects check d → c ≡ d
 one_verified at bytes objects (Err fault) c d p q = p ∙ sym q
 one_verified at bytes objects (Ok u) c d p q =
     let tables = table_same bytes at p.table q.table p.of_bytes q.of_bytes in
     let result = one_verdict bytes q.table objects p.result q.result (subst (λ (t : Table). Verifies bytes t objects p.result) tables p.verifies) q.verifies in
     p.is ∙ ap coming_of_verdict result ∙ sym q.is
-
--- ---- each command
-behind_first : (items : List (List ℕ)) (n : ℕ) → length items ≡ suc n → length (drop 1 items) ≡ n
-behind_first [] n h = let none : ⊥ = omega (arith, h) in absurd none
-behind_first (i ∷ is) n h = omega (arith, h)
-
-one_command : (command : CommandWords) (items : List (List ℕ)) (c d : Coming) → AreItems command items → CommandComes command items c → CommandComes command items d → c ≡ d
-one_command (Link link) items c d are p q =
-    let some = named_inputs (codes "link") are.asked.0 link are.asked.1 in
-    one_link None (objects_in link.inputs items) link.section.at section_and_report c d (some_objects link.inputs items some are.count) p q
-one_command (LinkPlt link) items c d are p q =
-    let some = named_inputs (codes "linkplt") are.asked.0 link are.asked.1 in
-    one_plt_link (objects_in link.inputs items) link.section.at c d (some_objects link.inputs items some are.count) p q
-one_command (Merge merge) items c d are p q = one_merge_coming merge items c d are.asked are.count p q
-one_command (Slim slim) items c d are p q = one_slim_coming slim items c d are.asked are.count p q
-one_command (Dump section) items c d are p q = one_dump_coming section items c d are.asked are.count p q
-one_command (Lookup lookup) items c d are p q = one_lookup_coming lookup items c d are.asked are.count p q
-one_command (Verify verify) items c d are p q =
-    one_verified verify.section.at (get_or items 0 []) (objects_in verify.inputs (drop 1 items)) (section_check (get_or items 0 []) verify.section.at) c d p q
-one_command (Walk walk) items c d are p q = one_walk_coming walk items c d are.asked are.count p q
-one_command (Backtrace backtrace) items c d are p q =
-    let some = backtrace_inputs are.asked.0 backtrace are.asked.1 in
-    let count = behind_first items (length (map InputItem backtrace.inputs)) are.count in
-    one_backtrace (objects_in backtrace.inputs (drop 1 items)) backtrace.out.at (get_or items 0 []) backtrace.depth (core_check (get_or items 0 [])) c d
-    (some_objects backtrace.inputs (drop 1 items) some count) p q
-one_command (Procwalk procwalk) items c d are p q = one_procwalk_coming procwalk items c d are.asked are.count p q
-one_command (Gen n) items c d are p q = one_link None (made_object n ∷ []) 0x4000000 (summary_alone n) c d (omega arith) p q
-
-one_within : (limit : Option Limit) (Then : Coming → Type 0) → ((c d : Coming) → Then c → Then d → c ≡ d) → (c d : Coming) → ComesWithin limit Then c → ComesWithin limit Then d → c ≡ d
-one_within (Some limit) Then one c d p q = p ∙ sym q
-one_within None Then one c d p q = one c d p q
-
--- what a run comes to is one thing
-pub one_coming : (command : CommandWords) (items : List (List ℕ)) (c d : Coming) → AreItems command items → Comes command items c → Comes command items d → c ≡ d
-one_coming command items c d are p q = one_within _ (CommandComes command items) (λ c d. one_command command items c d are) c d p q
