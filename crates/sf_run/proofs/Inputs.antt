@@ -1,7 +1,7 @@
 -- Inputs that were loaded, one after the other: what is made of them, how many they are, and how long.
 use Rattle.std.specs.List.{All, zip}
 use Rattle.std.proofs.Math.ListN.{get_or-map}
-use Rattle.std.proofs.Common.{◌≡◌, ℕ, zero, suc, ◌+◌, ◌<◌, ◌≤◌, ◌^◌, ◌-◌, List, [], ◌∷◌, map, length, take, drop, get_or, Option, None, refl, ap, sym, subst, ◌∙◌, arith}
+use Rattle.std.proofs.Common.{◌≡◌, ℕ, zero, suc, ◌+◌, ◌<◌, ◌≤◌, ◌^◌, ◌-◌, List, [], ◌∷◌, map, length, take, drop, get_or, Option, Some, None, refl, ap, sym, subst, ◌∙◌, arith}
 use lib.Seq.{take-length}
 use Rattle.std.proofs.lemmas.List.{length-map}
 use Rattle.std.proofs.lemmas.List.Elements.{All-nil, All-cons}
@@ -11,7 +11,8 @@ use Rattle.sf_asm.specs.Functions.{Object, object_of}
 use Rattle.sf_words.specs.declared.item.Item.{Item}
 use Rattle.sf_words.specs.declared.item.Item.TheVariants as item
 use Rattle.sf_words.specs.declared.loading.Loaded.{Loaded}
-use Rattle.sf_words.specs.Files.{FilesWords}
+use Rattle.sf_words.specs.Files.{FilesWords, items_of}
+use Rattle.sf_words.specs.Forms.{NameInputs, SectionAndInputs}
 use Rattle.sf_words.specs.Items.{ItemWords, Input as InputItem, item_of, limit_of}
 use Rattle.sf_words.specs.Loading.{bytes_limit, files_limit, loaded_bytes, loaded_items}
 use Rattle.sf_words.specs.declared.words.InputFile.{InputFile}
@@ -19,6 +20,8 @@ use Rattle.sf_words.specs.Words.{InputWords, input_of}
 use Rattle.sf_words.proofs.Limits.{within_limits}
 use Rattle.sf_words.proofs.Loads.{goes_on, within_both}
 use Rattle.sf_run.specs.Inputs.{object_in, objects_in}
+use Rattle.sf_run.specs.Link.{link_files}
+use Rattle.sf_run.proofs.Asked.{named_inputs}
 
 -- ---- the inputs of items
 -- an item as an input with these bytes; of another item the bytes alone
@@ -110,6 +113,12 @@ inputs_fit out inputs named loaded items are some h =
     let files : FilesWords = record { out = out; first = []; list = map InputItem named } in
     let within = within_limits files (loaded_bytes loaded) h in
     fit 0 0 inputs named loaded items are some within.0 within.1
+
+-- the inputs of `link` and of `linkplt`
+pub link_fits : (command : List ℕ) (link : SectionAndInputs) → ((words : List (List ℕ)) × NameInputs command words link) → (loaded : List Loaded) → loaded_items loaded ≡ items_of (link_files link)
+    → files_limit (link_files link) (loaded_bytes loaded) ≡ None → (inputs lent : List Input) → map object_of inputs ≡ objects_in link.inputs (loaded_bytes loaded) → lent ≡ inputs → CanBeLinked lent
+link_fits command link asked loaded items within inputs lent are same =
+    subst CanBeLinked (sym same) (inputs_fit (Some link.section.name) inputs link.inputs loaded items are (named_inputs command asked.0 link asked.1) within)
 
 -- ---- inputs after one other file
 -- what was loaded is a first file, and later ones that are these inputs

@@ -1,7 +1,7 @@
 -- The commands: which words ask for each, its files, and what it comes to over the bytes of these.
 use Rattle.std.specs.Prelude.{ℕ, List}
 use Rattle.sf_words.specs.Files.{FilesWords}
-use Rattle.sf_words.specs.Forms.{SectionAndInputs}
+use Rattle.sf_words.specs.Forms.{SectionAndInputs, section_and_inputs_of}
 use Rattle.sf_words.specs.Words.{SectionWords}
 use Rattle.section_commands.specs.Coming.{Coming}
 use Rattle.section_commands.specs.Dump.{DumpComes, IsDump, dump_files, dump_of}
@@ -13,10 +13,10 @@ use Rattle.section_commands.specs.Walk.{IsWalk, WalkComes, WalkWords, walk_files
 use Rattle.sf_run.specs.declared.command.Command.{Command}
 use Rattle.sf_run.specs.declared.command.Command.TheVariants as command
 use Rattle.sf_run.specs.Backtrace.{BacktraceComes, BacktraceWords, IsBacktrace, backtrace_files, backtrace_of}
-use Rattle.sf_run.specs.Link.{IsLink, LinkComes, link_files, link_of}
-use Rattle.sf_run.specs.LinkPlt.{IsLinkPlt, LinkPltComes, link_plt_files, link_plt_of}
+use Rattle.sf_run.specs.Link.{IsLink, LinkComes, link_files}
+use Rattle.sf_run.specs.LinkPlt.{IsLinkPlt, LinkPltComes}
 use Rattle.sf_run.specs.Object.{GenComes, IsGen, gen_files}
-use Rattle.sf_run.specs.Verify.{IsVerify, VerifyComes, verify_files, verify_of}
+use Rattle.sf_run.specs.Verify.{IsVerify, VerifyComes, verify_files}
 
 -- what a command line asks for
 pub data CommandWords : Type 0 where
@@ -49,7 +49,7 @@ IsCommand words (Gen n) = IsGen words n
 -- the files that a command makes and reads
 abbrev pub files_of_command : CommandWords → FilesWords
 files_of_command (Link link) = link_files link
-files_of_command (LinkPlt link) = link_plt_files link
+files_of_command (LinkPlt link) = link_files link
 files_of_command (Merge merge) = merge_files merge
 files_of_command (Slim slim) = slim_files slim
 files_of_command (Dump section) = dump_files section
@@ -76,13 +76,13 @@ CommandComes (Gen n) items coming = GenComes n coming
 
 -- what a command of the code asks for, without where its words are in memory
 abbrev pub words_of : Command → CommandWords
-words_of (command.Link link) = Link (link_of link)
-words_of (command.LinkPlt link) = LinkPlt (link_plt_of link)
+words_of (command.Link link) = Link (section_and_inputs_of link)
+words_of (command.LinkPlt link) = LinkPlt (section_and_inputs_of link)
 words_of (command.Merge merge) = Merge (merge_of merge)
 words_of (command.Slim slim) = Slim (slim_of slim)
 words_of (command.Dump dump) = Dump (dump_of dump)
 words_of (command.Lookup lookup) = Lookup (lookup_of lookup)
-words_of (command.Verify verify) = Verify (verify_of verify)
+words_of (command.Verify verify) = Verify (section_and_inputs_of verify)
 words_of (command.Walk walk) = Walk (walk_of walk)
 words_of (command.Backtrace backtrace) = Backtrace (backtrace_of backtrace)
 words_of (command.Procwalk procwalk) = Procwalk (procwalk_of procwalk)

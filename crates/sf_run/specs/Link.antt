@@ -6,23 +6,16 @@ use Rattle.sf_text.specs.Report.{report_text}
 use Rattle.sf_words.specs.Files.{FilesWords}
 use Rattle.sf_words.specs.Forms.{NameInputs, SectionAndInputs}
 use Rattle.sf_words.specs.Items.{Input}
-use Rattle.sf_words.specs.Named.{inputs_of}
-use Rattle.sf_words.specs.Words.{words_of_section}
 use Rattle.section_commands.specs.Coming.{Coming, Makes}
 use Rattle.section_commands.specs.declared.made.Outcome.TheVariants.{Done}
-use Rattle.sf_run.specs.declared.link.Link.{Link}
 use Rattle.sf_run.specs.Inputs.{objects_in}
 use Rattle.sf_run.specs.Linked.{LinkedComes}
-
--- the section to be made, and what is linked, without where the words are in memory
-abbrev pub link_of : Link → SectionAndInputs
-link_of link = record { section = words_of_section link.out; inputs = inputs_of link.inputs }
 
 -- the words ask for this link
 abbrev pub IsLink : List (List ℕ) → SectionAndInputs → Type 0
 IsLink words link = NameInputs (codes "link") words link
 
--- its files: the section is made, and the inputs are read
+-- the files of `link` and of `linkplt`: the section is made, and the inputs are read
 abbrev pub link_files : SectionAndInputs → FilesWords
 link_files link = record { out = Some link.section.name; first = []; list = map Input link.inputs }
 

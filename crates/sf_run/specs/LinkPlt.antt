@@ -1,5 +1,5 @@
--- `linkplt OUT@AT IN@BASE ..`: which words ask for it, its files, and what it comes to.
-use Rattle.std.specs.Prelude.{◌≡◌, ℕ, List, [], codes, map, Some, None, Result, Ok, Err}
+-- `linkplt OUT@AT IN@BASE ..`: which words ask for it, and what it comes to. Its files are those of `link`.
+use Rattle.std.specs.Prelude.{◌≡◌, ℕ, List, codes, Some, None, Result, Ok, Err}
 use Rattle.sf_model.specs.declared.omission.Omitted.{Omitted}
 use Rattle.sf_model.specs.declared.omission.Span.{Span}
 use Rattle.sf_model.specs.Section.{AreBytes}
@@ -8,28 +8,15 @@ use Rattle.sf_asm.specs.Functions.{Function, Object}
 use Rattle.sf_plt.specs.Answers.{IsPltLinked}
 use Rattle.sf_plt.specs.Linking.{LinksPlts}
 use Rattle.sf_text.specs.PltReport.{plt_report_text}
-use Rattle.sf_words.specs.Files.{FilesWords}
 use Rattle.sf_words.specs.Forms.{NameInputs, SectionAndInputs}
-use Rattle.sf_words.specs.Items.{Input}
-use Rattle.sf_words.specs.Named.{inputs_of}
-use Rattle.sf_words.specs.Words.{words_of_section}
 use Rattle.section_commands.specs.Coming.{Coming, Makes}
 use Rattle.section_commands.specs.declared.made.Outcome.TheVariants.{Done}
-use Rattle.sf_run.specs.declared.link_plt.LinkPlt.{LinkPlt}
 use Rattle.sf_run.specs.Inputs.{objects_in}
 use Rattle.sf_run.specs.Linked.{coming_of_linking}
-
--- the section to be made, and what is linked, without where the words are in memory
-abbrev pub link_plt_of : LinkPlt → SectionAndInputs
-link_plt_of link = record { section = words_of_section link.out; inputs = inputs_of link.inputs }
 
 -- the words ask for this link
 abbrev pub IsLinkPlt : List (List ℕ) → SectionAndInputs → Type 0
 IsLinkPlt words link = NameInputs (codes "linkplt") words link
-
--- its files: the section is made, and the inputs are read
-abbrev pub link_plt_files : SectionAndInputs → FilesWords
-link_plt_files link = record { out = Some link.section.name; first = []; list = map Input link.inputs }
 
 -- The section is that of the inputs with their procedure linkage tables, without gaps and with the least widths. The text is the report of
 -- what it holds, of what was omitted and of the tables.

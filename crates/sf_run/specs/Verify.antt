@@ -17,18 +17,11 @@ use Rattle.sf_words.specs.declared.refusal.Limit.TheVariants.{Functions, Rows}
 use Rattle.sf_words.specs.Files.{FilesWords}
 use Rattle.sf_words.specs.Forms.{NameInputs, SectionAndInputs}
 use Rattle.sf_words.specs.Items.{Input as InputItem, Section as SectionItem}
-use Rattle.sf_words.specs.Named.{inputs_of}
-use Rattle.sf_words.specs.Words.{words_of_section}
 use Rattle.section_commands.specs.Coming.{Coming, Refused, Exceeded, Makes}
 use Rattle.section_commands.specs.declared.made.Outcome.{Outcome}
 use Rattle.section_commands.specs.declared.made.Outcome.TheVariants.{Done, No}
 use Rattle.section_commands.specs.SectionComes.{coming_of_decoding}
-use Rattle.sf_run.specs.declared.verify.Verify.{Verify}
 use Rattle.sf_run.specs.Inputs.{objects_in}
-
--- the section, and what it is verified against, without where the words are in memory
-abbrev pub verify_of : Verify → SectionAndInputs
-verify_of verify = record { section = words_of_section verify.section; inputs = inputs_of verify.inputs }
 
 -- the words ask for this comparison
 abbrev pub IsVerify : List (List ℕ) → SectionAndInputs → Type 0

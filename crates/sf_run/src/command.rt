@@ -9,24 +9,22 @@ ghost use Rattle.sf_run.specs.Comes.{Comes, command_limit};
 ghost use Rattle.sf_run.specs.Commands.{CanBeAsked, CommandWords, IsCommand, files_of_command, words_of};
 
 use crate::backtrace::Backtrace;
-use crate::link::Link;
-use crate::link_plt::LinkPlt;
 use crate::object::Gen;
-use crate::verify::Verify;
+use crate::{link, verify};
 use section_commands::{Dump, Lookup, Made, Merge, Procwalk, Slim, Walk};
-use sf_words::{CommandFiles, Loaded, Refusal};
+use sf_words::{CommandFiles, Loaded, Refusal, SectionAndInputs, section_and_inputs};
 use std::alloc::Global;
 
 /// A command line that has one of the forms. It borrows its words, and making it allocates nothing.
 #[derive(Clone, Copy)]
 pub enum Command<'a> {
-    Link(Link<'a>),
-    LinkPlt(LinkPlt<'a>),
+    Link(SectionAndInputs<'a>),
+    LinkPlt(SectionAndInputs<'a>),
     Merge(Merge<'a>),
     Slim(Slim<'a>),
     Dump(Dump<'a>),
     Lookup(Lookup<'a>),
-    Verify(Verify<'a>),
+    Verify(SectionAndInputs<'a>),
     Walk(Walk<'a>),
     Backtrace(Backtrace<'a>),
     Procwalk(Procwalk<'a>),
@@ -38,11 +36,11 @@ pub fn command_words(words: &[String]) -> Option<Command<'_>>
     ensures found { IfSome result (λ c. IsCommand (map string_bytes words.now) (words_of c)) }
     ensures only { (command : CommandWords) → IsCommand (map string_bytes words.now) command → IsSomeAnd result (λ c. words_of c ≡ command) }
 {
-    if let Some(link) = Link::read(words) {
-        return Some(Command::Link(link));
+    if let Some(named) = section_and_inputs(words, "link") {
+        return Some(Command::Link(named));
     }
-    if let Some(link) = LinkPlt::read(words) {
-        return Some(Command::LinkPlt(link));
+    if let Some(named) = section_and_inputs(words, "linkplt") {
+        return Some(Command::LinkPlt(named));
     }
     if let Some(merge) = Merge::read(words) {
         return Some(Command::Merge(merge));
@@ -56,8 +54,8 @@ pub fn command_words(words: &[String]) -> Option<Command<'_>>
     if let Some(lookup) = Lookup::read(words) {
         return Some(Command::Lookup(lookup));
     }
-    if let Some(verify) = Verify::read(words) {
-        return Some(Command::Verify(verify));
+    if let Some(named) = section_and_inputs(words, "verify") {
+        return Some(Command::Verify(named));
     }
     if let Some(walk) = Walk::read(words) {
         return Some(Command::Walk(walk));
@@ -78,13 +76,13 @@ impl<'a> Command<'a> {
         ensures { files_of result ≡ files_of_command (words_of self.now) }
     {
         match self {
-            Command::Link(link) => link.files(),
-            Command::LinkPlt(link) => link.files(),
+            Command::Link(named) => link::files(named),
+            Command::LinkPlt(named) => link::files(named),
             Command::Merge(merge) => merge.files(),
             Command::Slim(slim) => slim.files(),
             Command::Dump(dump) => dump.files(),
             Command::Lookup(lookup) => lookup.files(),
-            Command::Verify(verify) => verify.files(),
+            Command::Verify(named) => verify::files(named),
             Command::Walk(walk) => walk.files(),
             Command::Backtrace(backtrace) => backtrace.files(),
             Command::Procwalk(procwalk) => procwalk.files(),
@@ -105,13 +103,13 @@ impl<'a> Command<'a> {
         ensures comes { ComesTo (Comes (words_of self.now) (loaded_bytes loaded.now)) result }
     {
         match self {
-            Command::Link(link) => link.make(alloc, loaded),
-            Command::LinkPlt(link) => link.make(alloc, loaded),
+            Command::Link(named) => link::make(alloc, named, loaded),
+            Command::LinkPlt(named) => link::make_with_plts(alloc, named, loaded),
             Command::Merge(merge) => merge.make(alloc, loaded),
             Command::Slim(slim) => slim.make(alloc, loaded),
             Command::Dump(dump) => dump.make(loaded),
             Command::Lookup(lookup) => lookup.make(alloc, loaded),
-            Command::Verify(verify) => verify.make(alloc, loaded),
+            Command::Verify(named) => verify::make(alloc, named, loaded),
             Command::Walk(walk) => walk.make(alloc, loaded),
             Command::Backtrace(backtrace) => backtrace.make(alloc, loaded),
             Command::Procwalk(procwalk) => procwalk.make(alloc, loaded),

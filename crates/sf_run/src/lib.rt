@@ -4,8 +4,8 @@
 //! it: first the section to its file, then the text to the output. Its clauses are in specs/Ends.antt.
 //!
 //! A command is a value of [`Command`], which borrows its words. Each has a file here or in `section_commands`, with
-//! its form of words, its files and its making, and a file of specs/ of the same name. [`Command`],
-//! specs/Commands.antt and proofs/EachCommand.antt have an arm for each.
+//! its form of words, its files and its making, and a file of specs/ of the same name; `linkplt` shares that of `link`.
+//! [`Command`], specs/Commands.antt and proofs/EachCommand.antt have an arm for each.
 //!
 //! [`Command::make`] is the middle of a run, and knows no file and no stream: what it returns is what the command comes
 //! to by `Comes` (specs/Comes.antt). Two laws say that this is defined: a command and the bytes of its items come to one
@@ -18,7 +18,6 @@ mod deliver;
 mod laws;
 mod lines;
 mod link;
-mod link_plt;
 mod linked;
 mod object;
 mod running;
@@ -33,9 +32,6 @@ pub use laws::{
     linking_comes_to_a_result, nothing_is_refused_of_inputs_that_can_be_linked,
 };
 pub use lines::say;
-pub use link::Link;
-pub use link_plt::LinkPlt;
 pub use object::Gen;
 pub use running::run;
 pub use status::Status;
-pub use verify::Verify;

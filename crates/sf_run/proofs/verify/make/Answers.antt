@@ -1,25 +1,26 @@
 use Rattle.std.proofs.Common.{ℕ, List, None, Ok, codes, ap, map, sym, subst, ◌∙◌}
 use Rattle.sf_decode.specs.View.{section_bytes, table_of}
 use Rattle.sf_asm.specs.Functions.{Object, object_of}
+use Rattle.sf_words.specs.Forms.{section_and_inputs_of}
 use Rattle.sf_words.specs.Items.{Section as SectionItem}
 use Rattle.sf_verify.specs.Verifying.{IsFirstVerifyFault, Verifies}
 use Rattle.section_commands.specs.Coming.{Makes}
 use Rattle.section_commands.specs.Making.{ComesAs}
-use Rattle.sf_run.specs.Verify.{VerifyComes, verify_of}
+use Rattle.sf_run.specs.Verify.{VerifyComes}
 use Rattle.sf_run.proofs.Asked.{named_inputs}
 use Rattle.sf_run.proofs.Inputs.{CanBeLinked, later_fit, later_of, with_first}
 use Rattle.sf_run.proofs.Verified.{undecoded_comes, unverified_comes, verified_comes}
-use Rattle.sf_run.proofs.verify.Verify.make.Goals as goal
+use Rattle.sf_run.proofs.verify.make.Goals as goal
 
 pub inputs_in-requires : goal.inputs_in-requires
 inputs_in-requires c =
-    let verify = verify_of c.args.self.now in
+    let verify = section_and_inputs_of c.args.named.now in
     let h = later_of c.args.loaded.now c.section-item.result (SectionItem verify.section) verify.inputs c.in-len1-up.len_at_least c.section-item.is c.requires.items in
     (verify.inputs, h.items)
 
 pub verify-requires-clause-some : goal.verify-requires-clause-some
 verify-requires-clause-some c =
-    let verify = verify_of c.args.self.now in
+    let verify = section_and_inputs_of c.args.named.now in
     let h = later_of c.args.loaded.now c.section-item.result (SectionItem verify.section) verify.inputs c.in-len1-up.len_at_least c.section-item.is c.requires.items in
     let fits = subst CanBeLinked (sym c.deref-2.ensures.value) (later_fit None (SectionItem verify.section) c.in_ok-inputs.inputs.items h (c.in_ok-inputs.ensures verify.inputs h.items)
     (named_inputs (codes "verify") c.requires.asked.0 verify c.requires.asked.1) c.requires.within) in
@@ -27,7 +28,7 @@ verify-requires-clause-some c =
 
 pub verify-requires-clause-small : goal.verify-requires-clause-small
 verify-requires-clause-small c =
-    let verify = verify_of c.args.self.now in
+    let verify = section_and_inputs_of c.args.named.now in
     let h = later_of c.args.loaded.now c.section-item.result (SectionItem verify.section) verify.inputs c.in-len1-up.len_at_least c.section-item.is c.requires.items in
     let fits = subst CanBeLinked (sym c.deref-2.ensures.value) (later_fit None (SectionItem verify.section) c.in_ok-inputs.inputs.items h (c.in_ok-inputs.ensures verify.inputs h.items)
     (named_inputs (codes "verify") c.requires.asked.0 verify c.requires.asked.1) c.requires.within) in
@@ -35,7 +36,7 @@ verify-requires-clause-small c =
 
 pub returns-in-Err : goal.returns-in-Err
 returns-in-Err c =
-    let verify = verify_of c.args.self.now in
+    let verify = section_and_inputs_of c.args.named.now in
     let h = later_of c.args.loaded.now c.section-item.result (SectionItem verify.section) verify.inputs c.in-len1-up.len_at_least c.section-item.is c.requires.items in
     let all = with_first h c.deref.result.now c.deref.ensures.value in
     subst (λ (items : List (List ℕ)). ComesAs (VerifyComes verify items) c.undecoded.result) all
@@ -43,7 +44,7 @@ returns-in-Err c =
 
 pub returns-in-Ok-verify : goal.returns-in-Ok-verify
 returns-in-Ok-verify c =
-    let verify = verify_of c.args.self.now in
+    let verify = section_and_inputs_of c.args.named.now in
     let h = later_of c.args.loaded.now c.section-item.result (SectionItem verify.section) verify.inputs c.in-len1-up.len_at_least c.section-item.is c.requires.items in
     let all = with_first h c.deref.result.now c.deref.ensures.value in
     let are = ap (map object_of) c.deref-2.ensures.value ∙ c.in_ok-inputs.ensures verify.inputs h.items in
@@ -54,7 +55,7 @@ returns-in-Ok-verify c =
 
 pub returns : goal.returns
 returns c =
-    let verify = verify_of c.args.self.now in
+    let verify = section_and_inputs_of c.args.named.now in
     let h = later_of c.args.loaded.now c.section-item.result (SectionItem verify.section) verify.inputs c.in-len1-up.len_at_least c.section-item.is c.requires.items in
     let all = with_first h c.deref.result.now c.deref.ensures.value in
     let are = ap (map object_of) c.deref-2.ensures.value ∙ c.in_ok-inputs.ensures verify.inputs h.items in
