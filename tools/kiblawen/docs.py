@@ -4,10 +4,10 @@
     ./x docs --check     fails if a page has others, as the gate does
 """
 
-from kiblawen import clauses, closure, common, definitions, picture
+from kiblawen import clauses, closure, commands, common, definitions, picture
 
 # Each has a `main` that takes these words.
-MAKERS = [closure, definitions, clauses, picture]
+MAKERS = [commands, closure, definitions, clauses, picture]
 
 
 def main(words):
