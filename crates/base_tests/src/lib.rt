@@ -1,5 +1,5 @@
 //! What no clause says of the crates that all others stand on, `sf_base`, `sf_fakes` and `sf_bytes`: values from outside, and one call of
-//! each public function that allocates, with ample memory.
+//! each public function that allocates, with ample memory. `tables` is for all crates of tests.
 #![tactic(auto)]
 
 #[cfg(test)]
@@ -10,3 +10,4 @@ mod bytes;
 mod same;
 #[cfg(test)]
 mod storing;
+pub mod tables;
