@@ -1,5 +1,6 @@
 ghost use Rattle.std.specs.Prelude.{◌≡◌, false};
 
+use crate::same::same;
 use cfa_machine::{CfaRule, DwRow, Rule};
 use sf_express::{ExpressFault, content, express};
 use sf_model::{Arch, Base, Content, FdeFacts, Key, Omission, Ra, Reason, Row};
@@ -53,18 +54,20 @@ fn amd64_content(cfa: i32, fp: Option<i32>) -> Content {
 #[test]
 fn contents_and_reasons_of_rows(rt: HostRuntime) {
     let saved = amd64_row(0, 2147483647, Rule::Offset(-128));
-    assert_eq!(rt;
-        content(Arch::Amd64, &saved),
-        Ok(amd64_content(2147483647, Some(-128)))
-    );
+    let most = Ok(amd64_content(2147483647, Some(-128)));
+    same(&rt, &content(Arch::Amd64, &saved), &most);
     let far = amd64_row(0, 2147483648, Rule::Missing);
-    assert_eq!(rt; content(Arch::Amd64, &far), Err(Reason::CfaOffset));
+    same(&rt, &content(Arch::Amd64, &far), &Err(Reason::CfaOffset));
     let moved = amd64_row(0, 8, Rule::Register(3));
-    assert_eq!(rt; content(Arch::Amd64, &moved), Err(Reason::FpRule));
+    same(&rt, &content(Arch::Amd64, &moved), &Err(Reason::FpRule));
     let alone = aarch64_row(Rule::Offset(-32), Rule::Same, Rule::Undefined);
-    assert_eq!(rt; content(Arch::Aarch64, &alone), Err(Reason::FpWithoutRa));
+    same(
+        &rt,
+        &content(Arch::Aarch64, &alone),
+        &Err(Reason::FpWithoutRa),
+    );
     let sign = aarch64_row(Rule::Missing, Rule::Offset(-24), Rule::Undefined);
-    assert_eq!(rt; content(Arch::Aarch64, &sign), Err(Reason::SignState));
+    same(&rt, &content(Arch::Aarch64, &sign), &Err(Reason::SignState));
 }
 
 fn facts(size: u64, column: u64, signal: bool) -> FdeFacts
@@ -97,8 +100,13 @@ fn rows_with_the_same_content_are_one(rt: HostRuntime) -> Result<(), Fail> {
             content: amd64_content(16, None),
         },
     ];
-    assert_eq!(rt; kept.rows.as_slice(), expected.as_slice());
+    same(&rt, &kept.rows.as_slice(), &expected.as_slice());
     Ok(())
+}
+
+/// Returns the fault of an omitted function.
+fn omits(reason: Reason, offset: Option<u32>) -> ExpressFault {
+    ExpressFault::Omit(Omission { reason, offset })
 }
 
 #[test]
@@ -108,21 +116,9 @@ fn omissions(rt: HostRuntime) {
         amd64_row(4, 2147483648, Rule::Missing),
     ];
     let late = express(rt.alloc(), Arch::Amd64, &facts(6, 16, false), &rows).err();
-    let expected = ExpressFault::Omit(Omission {
-        reason: Reason::CfaOffset,
-        offset: Some(4),
-    });
-    assert_eq!(rt; late, Some(expected));
+    same(&rt, &late, &Some(omits(Reason::CfaOffset, Some(4))));
     let signal = express(rt.alloc(), Arch::Amd64, &facts(6, 16, true), &rows).err();
-    let expected = ExpressFault::Omit(Omission {
-        reason: Reason::SignalFrame,
-        offset: None,
-    });
-    assert_eq!(rt; signal, Some(expected));
+    same(&rt, &signal, &Some(omits(Reason::SignalFrame, None)));
     let empty = express(rt.alloc(), Arch::Amd64, &facts(0, 3, true), &[]).err();
-    let expected = ExpressFault::Omit(Omission {
-        reason: Reason::EmptyRange,
-        offset: None,
-    });
-    assert_eq!(rt; empty, Some(expected));
+    same(&rt, &empty, &Some(omits(Reason::EmptyRange, None)));
 }

@@ -1,5 +1,6 @@
 ghost use Rattle.std.specs.Prelude.{[]};
 
+use crate::same::same;
 use sf_model::{Arch, Base, Content, Key, Memory, Ra, Recovered, Regs, Row, Rows, fits, recover};
 use std::test::Fail;
 
@@ -27,9 +28,9 @@ fn rows_are_appended(rt: HostRuntime) -> Result<(), Fail> {
     let mut rows = Rows::new(rt.alloc());
     rows.push(Row { start: 0, content })?;
     rows.push(Row { start: 4, content })?;
-    assert_eq!(rt; rows.as_slice().len(), 2);
-    assert!(rt; fits(Arch::Amd64, &content));
-    assert!(rt; !fits(Arch::Aarch64, &content));
+    same(&rt, &rows.as_slice().len(), &2);
+    let fit = (fits(Arch::Amd64, &content), fits(Arch::Aarch64, &content));
+    same(&rt, &fit, &(true, false));
     Ok(())
 }
 
@@ -66,10 +67,15 @@ fn values_are_recovered_or_unreadable(rt: HostRuntime) -> Result<(), Fail> {
         fp: Some(0x7000),
         signed: Some(Key::B),
     };
-    assert_eq!(rt; recover(Arch::Amd64, &pushed, Key::A, &regs, &Empty), saved);
-    assert_eq!(rt;
-        recover(Arch::Aarch64, &leaf, Key::B, &regs, &Empty),
-        linked
+    same(
+        &rt,
+        &recover(Arch::Amd64, &pushed, Key::A, &regs, &Empty),
+        &saved,
+    );
+    same(
+        &rt,
+        &recover(Arch::Aarch64, &leaf, Key::B, &regs, &Empty),
+        &linked,
     );
     Ok(())
 }

@@ -1,3 +1,4 @@
+use crate::same::same;
 use sf_model::{Base, Content, Ra};
 use sf_sizes::{offset_size, row_bytes, row_type};
 
@@ -38,7 +39,7 @@ const OFFSETS: [(i32, u8); 10] = [
 #[test]
 fn each_width_at_both_its_ends(rt: HostRuntime) {
     for (last, width) in &STARTS {
-        assert_eq!(rt; row_type(*last), *width);
+        same(&rt, &row_type(*last), width);
     }
     for (offset, width) in &OFFSETS {
         let offset = *offset;
@@ -47,7 +48,7 @@ fn each_width_at_both_its_ends(rt: HostRuntime) {
             content(8, Ra::At(offset), None),
             content(8, Ra::Fixed, Some(offset)),
         ] {
-            assert_eq!(rt; offset_size(&content), *width, "at {offset}");
+            same(&rt, &(offset, offset_size(&content)), &(offset, *width));
         }
     }
 }
@@ -62,5 +63,5 @@ fn a_row_has_its_start_its_info_byte_and_its_offsets(rt: HostRuntime) {
         row_bytes(1, &saved),
         row_bytes(2, &wide),
     ];
-    assert_eq!(rt; sizes, [3, 5, 17]);
+    same(&rt, &sizes, &[3, 5, 17]);
 }

@@ -1,85 +1,12 @@
-ghost use Rattle.std.specs.Prelude.{◌≡◌, Some, length, IsTrue, is_some};
-ghost use Rattle.sf_model.specs.Notice.{values_shown, shows_item};
+//! Printed texts that no run of the program shows, and the forms that only a caller in Rust asks for.
 
-mod sections;
-mod walks;
-
-use arrayvec::ArrayVec;
+use crate::same::same;
+use crate::samples::SIGNING;
+use sf_decode::View;
 use sf_fakes::MemSink;
-use sf_model::{Group, Notice, Omission, Omitted, Origin, Reason, Span};
-use sf_text::{
-    fault_line, file_limit_line, merged, put_name, report, report_plt, slim_line, summary,
-};
-use std::alloc::Global;
-use std::process::Abort;
+use sf_model::{Omission, Omitted, Origin, Reason, Span};
+use sf_text::{dump, put_name, report, report_plt};
 use std::test::Fail;
-
-/// Asserts that this fault has this line.
-fn shows(
-    rt: &impl Abort,
-    alloc: Global,
-    item: Option<u32>,
-    group: Group,
-    number: u8,
-    values: &[u64],
-    line: &str,
-) -> Result<(), Fail>
-    requires line { values_shown group number ≡ Some (length values.now) }
-    requires item { IsTrue (shows_item group) → IsTrue (is_some item) }
-{
-    let mut sink = MemSink::new(alloc, 7, Vec::new(alloc));
-    let values = ArrayVec::try_from(values)?;
-    let notice = Notice {
-        item,
-        group,
-        number,
-        values,
-    };
-    fault_line(&mut sink, &notice)?;
-    assert_eq!(rt; sink.bytes(), line.as_bytes());
-    Ok(())
-}
-
-#[test]
-fn a_fault_is_shown_with_its_item_and_values(rt: HostRuntime) -> Result<(), Fail> {
-    let alloc = rt.alloc();
-    shows(
-        &rt,
-        alloc,
-        Some(2),
-        Group::Insn,
-        1,
-        &[0, 0x29, 1],
-        "refused 2 insn Opcode 0x0 0x29 0x1\n",
-    )?;
-    shows(
-        &rt,
-        alloc,
-        None,
-        Group::Link,
-        3,
-        &[u64::MAX],
-        "refused link OutOfReach 0xffffffffffffffff\n",
-    )
-}
-
-#[test]
-fn a_sink_that_fails_keeps_a_prefix(rt: HostRuntime) -> Result<(), Fail> {
-    let mut fails = Vec::new(rt.alloc());
-    fails.push(2)?;
-    let mut sink = MemSink::new(rt.alloc(), 7, fails);
-    let mut values = ArrayVec::new();
-    values.push(4);
-    let notice = Notice {
-        item: Some(0),
-        group: Group::Elf,
-        number: 3,
-        values,
-    };
-    assert!(rt; fault_line(&mut sink, &notice).is_err());
-    assert_eq!(rt; sink.bytes(), b"refused".as_slice());
-    Ok(())
-}
 
 /// A name, and how it is shown.
 const NAMES: [(&str, &str); 5] = [
@@ -95,21 +22,26 @@ fn a_name_is_shown_without_control_characters(rt: HostRuntime) -> Result<(), Fai
     for (name, shown) in &NAMES {
         let mut sink = MemSink::new(rt.alloc(), 7, Vec::new(rt.alloc()));
         put_name(&mut sink, name)?;
-        assert_eq!(rt; sink.bytes(), shown.as_bytes());
+        same(&rt, &sink.bytes(), &shown.as_bytes());
     }
     Ok(())
 }
 
-fn omitted(size: u64, reason: Reason, offset: Option<u32>) -> Omitted {
-    let origin = Origin {
+/// Returns where the first input has a function or a table.
+fn origin(place: u32) -> Origin {
+    Origin {
         item: 0,
         section: 0,
-        place: 0x18,
-    };
+        place,
+    }
+}
+
+/// Returns an omitted function at 0x1000.
+fn omitted(size: u64, reason: Reason, offset: Option<u32>) -> Omitted {
     Omitted {
         start: 0x1000,
         size,
-        origin,
+        origin: origin(0x18),
         omission: Omission { reason, offset },
     }
 }
@@ -126,7 +58,7 @@ fn a_report_has_a_line_for_each_omitted_function_and_the_counts(
     let expected = b"omit 0x1000 size 6 input 0 section 0 fde 0x18 RaRule at 0\n\
 omit 0x1000 size 4294967296 input 0 section 0 fde 0x18 SizeTooLarge\n\
 kept 3 omitted 2\n";
-    assert_eq!(rt; text.as_slice(), expected.as_slice());
+    same(&rt, &text.as_slice(), &expected.as_slice());
     Ok(())
 }
 
@@ -135,11 +67,7 @@ fn table(start: u64, size: u64, place: u32) -> Span {
     Span {
         start,
         size,
-        origin: Origin {
-            item: 0,
-            section: 0,
-            place,
-        },
+        origin: origin(place),
     }
 }
 
@@ -156,29 +84,22 @@ omit 0x1000 size 6 input 0 section 0 fde 0x18 RaRule at 0\n\
 omit 0x1000 size 48 input 0 section 0 fde 0x18 CfaExpression at 16\n\
 plt 0x1000 size 48 input 0 section 0 fde 0x19\n\
 kept 3 omitted 2 plt 2\n";
-    assert_eq!(rt; text.as_slice(), expected.as_slice());
+    same(&rt, &text.as_slice(), &expected.as_slice());
     Ok(())
 }
 
 #[test]
-fn a_merge_a_slimmed_section_and_a_made_object_have_a_line_each(
-    rt: HostRuntime,
-) -> Result<(), Fail> {
-    let text = merged(rt.alloc(), 1, 16777216)?;
-    assert!(rt; text.as_slice() == b"merged 1 functions 16777216 rows\n".as_slice());
-    let text = slim_line(rt.alloc(), 536870912, 59, 1, 3)?;
-    assert!(rt; text.as_slice() == b"slim 536870912 59 functions 1 rows 3\n".as_slice());
-    let text = summary(rt.alloc(), 100000, 74889, 25111, &[0xff, 0, 0xff])?;
-    assert!(rt;
-        text.as_slice() == b"gen 100000 kept 74889 omitted 25111 length 3 sum 510\n".as_slice()
-    );
-    Ok(())
-}
-
-#[test]
-fn an_item_that_is_too_long_has_a_line(rt: HostRuntime) -> Result<(), Fail> {
-    let mut sink = MemSink::new(rt.alloc(), 5, Vec::new(rt.alloc()));
-    file_limit_line(&mut sink, 511)?;
-    assert_eq!(rt; sink.bytes(), b"limit file 511\n".as_slice());
+fn the_content_of_a_section_as_one_text(rt: HostRuntime) -> Result<(), Fail> {
+    let view = View::parse(&SIGNING, 0x3000).ok().ok_or("a section")?;
+    let text = dump(rt.alloc(), &view)?;
+    let expected = b"sframe 2 aarch64 flags 0x5 functions 1 rows 5
+func 0x1000 size 28 plain key b rows 5
+  +0 cfa=sp+0
+  +4 cfa=sp+0 signed
+  +8 cfa=sp+32 ra=c-24 fp=c-32 signed
+  +20 cfa=sp+0 signed
+  +24 cfa=sp+0
+";
+    same(&rt, &text.as_slice(), &expected.as_slice());
     Ok(())
 }
