@@ -20,3 +20,5 @@ pub mod samples;
 mod sizes;
 #[cfg(test)]
 mod text;
+#[cfg(test)]
+mod write;
