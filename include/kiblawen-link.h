@@ -12,8 +12,7 @@
  *   6. The bytes of files and sections don't change during a call.
  *
  * A call that allocates is not for a signal handler, nor for the child of a process with threads after fork(). A call takes
- * up to 120 kB of stack: give its thread 256 kB. Several threads may call at once. That and the stack are tested, but are
- * not part of the proof.
+ * less than 32 kB of stack. Several threads may call at once. That and the stack are tested, but are not part of the proof.
  */
 #ifndef KIBLAWEN_LINK_H
 #define KIBLAWEN_LINK_H
