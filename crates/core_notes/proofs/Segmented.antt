@@ -1,10 +1,11 @@
 -- The notes of one segment after the other.
 use Rattle.std.specs.Prelude.{◌++◌}
 use Rattle.std.specs.List.{flat_map}
-use Rattle.std.proofs.Common.{◌≡◌, ℕ, ◌+◌, ◌<◌, ◌≤◌, Bool, true, false, cond, List, [], length, drop, sym, ap, ◌∙◌}
+use Rattle.std.proofs.Common.{◌≡◌, ℕ, ◌+◌, ◌<◌, ◌≤◌, Bool, true, false, cond, List, [], length, drop, Option, Some, None, refl, sym, ap, ◌∙◌}
 use Rattle.sf_bytes.specs.Cursor.{Cursor}
+use Rattle.elf_read.specs.declared.view.Elf.{Elf}
 use Rattle.elf_read.specs.Sections.{segment_count}
-use Rattle.core_notes.specs.Listing.{NoteItem, notes_in, notes_after, notes_from, segment_cursor, segment_items}
+use Rattle.core_notes.specs.Listing.{NoteItem, items_from, notes_in, notes_after, notes_from, segment_cursor, segment_items}
 use Rattle.core_notes.specs.Segment.{SegmentView, holds_notes, segment_of, segments}
 use Rattle.core_notes.proofs.Listings.{notes-nil, nothing_left}
 use Rattle.core_notes.proofs.Segments.{next_segment, no_segment}
@@ -26,6 +27,10 @@ goes_on file place i rest part none lt is =
 pub ends : (file : List ℕ) (place i : ℕ) (rest : List ℕ) → length rest ≡ 0 → segment_count file ≤ i → (notes_after 0 place rest ++ later_items file i) ≡ []
 ends file place i rest none le =
     ap (λ (items : List NoteItem). items ++ later_items file i) (nothing_left place rest none) ∙ ap (flat_map segment_items) (no_segment file i le)
+
+pub no_file : (elf : Option Elf) (i : ℕ) → ((e : Elf) → elf ≡ Some e → ⊥) → items_from elf i ≡ []
+no_file None i never = refl
+no_file (Some e) i never = absurd (never e refl)
 
 -- a segment without notes
 no_notes : (s : SegmentView) (place : ℕ) (b : Bool) → b ≡ false → notes_after 0 place [] ≡ cond b (notes_from (segment_cursor s)) []

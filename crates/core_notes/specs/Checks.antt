@@ -1,5 +1,5 @@
 -- The checks of a core file, in their order (Linux core files; ELF64 gABI, "Note Section").
-use Rattle.std.specs.Prelude.{ℕ, zero, suc, ◌==◌, Bool, true, false, ◌&&◌, ◌||◌, not, List, [], ◌∷◌, length, Result, Ok, Err, nat_le, if◌then◌else◌}
+use Rattle.std.specs.Prelude.{◌≡◌, ℕ, zero, suc, ◌==◌, Bool, true, false, ◌&&◌, ◌||◌, not, List, [], ◌∷◌, length, Result, Ok, Err, nat_le, if◌then◌else◌}
 use Rattle.sf_model.specs.declared.machine.Arch.{Arch}
 use Rattle.elf_read.specs.declared.kind.Kind.{Kind}
 use Rattle.elf_read.specs.declared.kind.Kind.TheVariants.{Rel, Exec, Dyn, Core}
@@ -71,3 +71,8 @@ core_part file =
 -- all checks: the first that fails is the file's fault
 abbrev pub core_check : List ℕ → Check
 core_check file = elf_part (file_check file) >> core_part file
+
+-- these notes, which are all of a file, pass the checks, and so do their threads
+pub record NotesPass (arch : Arch) (items : List NoteItem) : Type 0 where
+  pub notes : items_check arch false (through_status 4097 items) ≡ Ok tt
+  pub count : thread_count_check (length (threads_in arch (whole_notes items))) ≡ Ok tt

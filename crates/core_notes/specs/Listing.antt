@@ -1,7 +1,8 @@
 -- The notes of a core file: those of its PT_NOTE segments, in order (ELF64 gABI, "Note Section"; Linux core files).
-use Rattle.std.specs.Prelude.{◌≡◌, ℕ, zero, suc, ◌+◌, ◌-◌, ◌++◌, Bool, true, false, List, [], ◌∷◌, length, drop, Result, Ok, Err, if◌then◌else◌}
+use Rattle.std.specs.Prelude.{◌≡◌, ℕ, zero, suc, ◌+◌, ◌-◌, ◌++◌, Bool, true, false, List, [], ◌∷◌, length, drop, Option, Some, None, Result, Ok, Err, if◌then◌else◌}
 use Rattle.std.specs.List.{flat_map}
 use Rattle.sf_bytes.specs.Cursor.{Cursor, Read, cursor}
+use Rattle.elf_read.specs.declared.view.Elf.{Elf}
 use Rattle.elf_read.specs.Views.{file}
 use Rattle.core_notes.specs.declared.note.Note.{Note}
 use Rattle.core_notes.specs.declared.notes.Notes.{Notes}
@@ -76,9 +77,14 @@ whole_notes (Ok n ∷ items) = n ∷ whole_notes items
 whole_notes (Err place ∷ items) = whole_notes items
 
 -- ---- an iterator
+-- the notes of the segments from one on, if there is a file of them
+abbrev pub items_from : Option Elf → (segment : ℕ) → List NoteItem
+items_from None segment = []
+items_from (Some elf) segment = flat_map segment_items (drop segment (segments (file elf)))
+
 -- the notes that an iterator has left
 abbrev pub notes_remaining : Notes → List NoteItem
-notes_remaining notes = notes_from (cursor notes.rest) ++ flat_map segment_items (drop notes.segment (segments (file notes.elf)))
+notes_remaining notes = notes_from (cursor notes.rest) ++ items_from notes.elf notes.segment
 
 -- ---- Inside the crate
 -- an item as the code has it

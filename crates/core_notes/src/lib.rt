@@ -43,6 +43,7 @@ pub use iter::ThreadIter;
 pub use laws::core_is_its_notes;
 pub use memory_map::MemoryMap;
 pub use note::Note;
+pub use parsing::threads_of_segment;
 pub use room::check_room;
 pub use segment_notes::SegmentNotes;
 pub use status::Thread;

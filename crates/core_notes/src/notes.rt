@@ -1,37 +1,46 @@
 //! The notes of a core file, in order.
 
-ghost use Rattle.std.specs.Prelude.{◌<◌, ◌^◌, length};
-ghost use Rattle.elf_read.specs.Views.{file};
-
 use crate::note::{Note, take_note};
 use crate::segment::note_bytes;
 use elf_read::Elf;
 use sf_bytes::Part;
 
-/// An iterator over the notes of all PT_NOTE segments. A note that ends after its segment is an error with its place, and
-/// the last of its segment.
+/// An iterator over the notes of all PT_NOTE segments, or of one alone. A note that ends after its segment is an error with
+/// its place, and the last of its segment.
 #[derive(Clone, Copy)]
 pub struct Notes<'a> {
-    elf: Elf<'a>,
+    // The file, if further segments are read.
+    elf: Option<Elf<'a>>,
     // What is left of the segment that is being read, and the number of the next one.
     rest: Part<'a>,
     segment: u32,
-    ghost small: { length (file elf) < 2 ^ 32 },
 }
 
 impl<'a> Notes<'a> {
-    ghost use Rattle.std.specs.Prelude.{◌≡◌, []};
+    ghost use Rattle.std.specs.Prelude.{◌≡◌, [], length};
     ghost use Rattle.std.specs.Iterator.{YieldsFirstBy};
-    ghost use Rattle.core_notes.specs.Listing.{note_item, notes_remaining, notes_in};
+    ghost use Rattle.sf_bytes.specs.Cursor.{cursor};
+    ghost use Rattle.elf_read.specs.Views.{file};
+    ghost use Rattle.core_notes.specs.Listing.{note_item, notes_remaining, notes_in, notes_from};
 
     /// Returns the iterator over the notes of a file.
     pub fn new(elf: &Elf<'a>) -> Notes<'a>
-        requires { length (file elf.now) < 2 ^ 32 }
         ensures { notes_remaining result ≡ notes_in (file elf.now) }
     {
         Notes {
-            elf: *elf,
+            elf: Some(*elf),
             rest: Part::new(&[], 0),
+            segment: 0,
+        }
+    }
+
+    /// Returns the iterator over the notes that are these bytes of a segment.
+    pub fn of_segment(rest: Part<'a>) -> Notes<'a>
+        ensures { notes_remaining result ≡ notes_from (cursor rest.entry) }
+    {
+        Notes {
+            elf: None,
+            rest,
             segment: 0,
         }
     }
@@ -41,8 +50,11 @@ impl<'a> Notes<'a> {
         ensures same { notes_remaining self.new ≡ notes_remaining self.old }
         ensures all { length self.new.rest.bytes.now ≡ 0 → notes_remaining self.new ≡ [] }
     {
-        while self.rest.is_empty() && self.segment < self.elf.segments() {
-            self.rest = note_bytes(&self.elf, self.segment);
+        let Some(elf) = self.elf else {
+            return;
+        };
+        while self.rest.is_empty() && self.segment < elf.segments() {
+            self.rest = note_bytes(&elf, self.segment);
             self.segment += 1;
         }
     }

@@ -1,20 +1,24 @@
 //! The checks of the notes, in their order.
 
-ghost use Rattle.std.specs.Prelude.{◌≡◌, ◌<◌, ◌^◌, IfOk, OnOk, ◌≤◌, false, length, min};
+ghost use Rattle.std.specs.Prelude.{◌≡◌, ◌<◌, ◌^◌, IfOk, IfSome, OnOk, ◌≤◌, false, length, min};
+ghost use Rattle.sf_bytes.specs.Cursor.{cursor};
 ghost use Rattle.elf_read.specs.Checking.{verdict};
 ghost use Rattle.elf_read.specs.Views.{file};
 ghost use Rattle.core_notes.specs.Checks as spec;
-ghost use Rattle.core_notes.specs.Listing.{notes_remaining, whole_notes};
+ghost use Rattle.core_notes.specs.Listing.{notes_remaining, notes_from, whole_notes};
 ghost use Rattle.core_notes.specs.Note.{note_view};
 ghost use Rattle.core_notes.specs.Thread.{threads_in};
+ghost use Rattle.core_notes.specs.Views.{threads_left};
 
 use crate::fault::CoreFault;
+use crate::iter::ThreadIter;
 use crate::layout::{MAX_THREADS, PAC_MASK_LEN};
 use crate::note::Note;
 use crate::notes::Notes;
 use crate::room::check_room;
 use crate::status::{is_mask_note, is_status, status_size};
 use elf_read::{Elf, Kind};
+use sf_bytes::Part;
 use sf_model::Arch;
 
 // Checks the size of a status, and of a mask after a thread.
@@ -91,4 +95,20 @@ pub fn check_core(bytes: &[u8], elf: &Elf<'_>) -> Result<u32, CoreFault>
     let threads = count_threads(elf.arch(), Notes::new(elf))?;
     check_count(threads)?;
     Ok(threads)
+}
+
+/// Returns the threads of a core file that has one PT_NOTE segment, by the bytes of that segment, if its notes pass every
+/// check of a whole file. Nothing is said of other notes: [`Core::parse`](crate::Core::parse) gives their fault.
+pub fn threads_of_segment<'a>(arch: Arch, notes: Part<'a>) -> Option<ThreadIter<'a>>
+    ensures pass { IfSome result (λ threads. spec.NotesPass arch (notes_from (cursor notes.entry))) }
+    ensures threads { IfSome result (λ threads. threads_left threads ≡ threads_in arch (whole_notes (notes_from (cursor notes.entry)))) }
+{
+    let notes = Notes::of_segment(notes);
+    let Ok(threads) = count_threads(arch, notes) else {
+        return None;
+    };
+    if let Err(_) = check_count(threads) {
+        return None;
+    }
+    Some(ThreadIter::new(arch, notes))
 }

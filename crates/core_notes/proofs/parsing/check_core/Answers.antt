@@ -1,4 +1,4 @@
-use Rattle.std.proofs.Common.{ℕ, ◌<◌, subst, arith}
+use Rattle.std.proofs.Common.{arith}
 use Rattle.core_notes.proofs.Rooms.{header_lies}
 use Rattle.core_notes.proofs.parsing.check_core.Goals as goal
 
