@@ -3,9 +3,10 @@ use Rattle.std.specs.Prelude.{nat_le, nat_lt, ◌⊎◌}
 use Rattle.std.specs.List.{Contains, find}
 use Rattle.std.specs.List.Sorted.{IsNonDecreasing, IsPermutation}
 use Rattle.std.specs.Option.{option_map}
-use Rattle.std.proofs.Common.{◌≡◌, ℕ, zero, suc, ◌+◌, ◌^◌, ◌<◌, ◌≤◌, Bool, true, false, cond, ◌&&◌, List, [], ◌∷◌, ◌++◌, All, length, get_or, map, take, Option, Some, None, refl, sym, ap, subst, ◌∙◌, arith, inl, inr}
+use Rattle.std.specs.Result.{OkIff, is_err}
+use Rattle.std.proofs.Common.{◌≡◌, Result, Ok, Err, ℕ, zero, suc, ◌+◌, ◌^◌, ◌<◌, ◌≤◌, Bool, true, false, cond, ◌&&◌, List, [], ◌∷◌, ◌++◌, All, length, get_or, map, take, Option, Some, None, refl, sym, ap, subst, ◌∙◌, arith, inl, inr}
 use Rattle.std.proofs.lemmas.Bool.{and_parts, cases_lt, le-leb, leb-true, lt-leb, lt-ltb, le-ltb, ltb-true}
-use Rattle.std.proofs.lemmas.List.{get_or_default, length-append, take_all, take_more}
+use Rattle.std.proofs.lemmas.List.{get_or_default, append_assoc, length-append, length-map, map-append, take_all, take_more}
 use Rattle.std.proofs.lemmas.List.Elements.{All-head, All-push, All-tail, All-weaker, Contains-append_left, Contains-push}
 use Rattle.std.proofs.lemmas.List.Sorted.{Contains-permutation}
 use Rattle.sf_lookup.specs.declared.span.Span.{Span}
@@ -163,8 +164,36 @@ ends_moved spans i points sorted le moved h =
     (subst (All (HasEnds points)) (take_all i spans le) h)
 
 -- ---- all put in order
+listed_answers : {A : Type 0} (spans : List (Span A)) (points listed : List ℕ) (old answers : List (Option A)) → listed ≡ points → old ≡ []
+    → answers ≡ old ++ map (answer_of spans) listed → answers ≡ map (answer_of spans) points
+listed_answers spans points listed old answers e none made =
+    made ∙ ap (λ (xs : List (Option _)). xs ++ map (answer_of spans) listed) none ∙ ap (map (answer_of spans)) e
+
+pub answers_more : {A : Type 0} (spans swept : List (Span A)) (points : List ℕ) (i : ℕ) (before now new : List (Option A)) (answer : Option A) → swept ≡ spans → i < length points
+    → answer ≡ answer_of swept (get_or points i 0) → now ≡ before ++ map (answer_of spans) (take i points) → new ≡ now ++ answer ∷ []
+    → new ≡ before ++ map (answer_of spans) (take (i + 1) points)
+answers_more spans swept points i before now new answer same lt is so_far made =
+    let point = get_or points i 0 in
+    let listed = map (answer_of spans) (take i points) in
+    let value : answer ≡ answer_of spans point = is ∙ ap (λ (ss : List (Span _)). answer_of ss point) same in
+    let more : map (answer_of spans) (take (i + 1) points) ≡ listed ++ answer_of spans point ∷ [] =
+    ap (map (answer_of spans)) (take_more points i 0 lt) ∙ map-append (answer_of spans) (take i points) (point ∷ []) in
+    made
+    ∙ ap (λ (xs : List (Option _)). xs ++ answer ∷ []) so_far
+    ∙ ap (λ (a : Option _). (before ++ listed) ++ a ∷ []) value
+    ∙ append_assoc before listed (answer_of spans point ∷ [])
+    ∙ ap (λ (xs : List (Option _)). before ++ xs) (sym more)
+
+pub as_many : {A : Type 0} (spans : List (Span A)) (points listed : List ℕ) (old answers : List (Option A)) → listed ≡ points → old ≡ []
+    → answers ≡ old ++ map (answer_of spans) listed → length answers ≡ length points
+as_many spans points listed old answers e none made =
+    ap length (listed_answers spans points listed old answers e none made) ∙ length-map points (answer_of spans)
+
+pub fits_word : {E : Type 0} (n : ℕ) (r : Result ℕ E) (b : Bool) → OkIff r (n < 2 ^ 32) n → b ≡ is_err r → b ≡ false → n < 2 ^ 32
+fits_word n (Ok x) b h e f = h.0
+fits_word n (Err x) b h e f = absurd (cc)
+
 pub in_order : {A : Type 0} (spans : List (Span A)) (points listed : List ℕ) (old answers : List (Option A)) → listed ≡ points → old ≡ [] → IsNonDecreasing points → All (HasEnds points) spans
     → answers ≡ old ++ map (answer_of spans) listed → (pc n : ℕ) → pc < 2 ^ 64 → IsReached points pc n → answer_at answers n ≡ answer_of spans pc
 in_order spans points listed old answers e none rise ends made pc n small h =
-    let is : answers ≡ map (answer_of spans) points = made ∙ ap (λ (xs : List (Option _)). xs ++ map (answer_of spans) listed) none ∙ ap (map (answer_of spans)) e in
-    ap (λ (xs : List (Option _)). answer_at xs n) is ∙ answer_is spans points pc n small rise ends h
+    ap (λ (xs : List (Option _)). answer_at xs n) (listed_answers spans points listed old answers e none made) ∙ answer_is spans points pc n small rise ends h

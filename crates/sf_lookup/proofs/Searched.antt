@@ -2,8 +2,8 @@
 use Rattle.std.specs.Prelude.{nat_le, ◌&&◌, slice_index}
 use Rattle.std.specs.List.{find}
 use Rattle.std.specs.Bool.{then_some}
-use Rattle.std.specs.Option.{option_map}
-use Rattle.std.proofs.Common.{◌≡◌, ℕ, ◌+◌, ◌<◌, ◌≤◌, Bool, true, false, List, [], length, get_or, Some, None, refl, sym, ap, subst, ◌∙◌, arith, ◌⊎◌, inl, inr}
+use Rattle.std.specs.Option.{IfSome, option_map}
+use Rattle.std.proofs.Common.{◌≡◌, ℕ, ◌+◌, ◌<◌, ◌≤◌, ◌*◌, ◌^◌, Bool, true, false, List, [], length, get_or, Option, Some, None, refl, sym, ap, subst, ◌∙◌, arith, ◌⊎◌, inl, inr}
 use Rattle.std.proofs.lemmas.Bool.{lt-leb, le-ltb, cases_lt}
 use Rattle.std.proofs.lemmas.List.{get_or-map, length-map}
 use Rattle.std.proofs.lemmas.List.Sorted.{IsNonDecreasingBy-from_all_adjacent}
@@ -11,6 +11,7 @@ use Rattle.sf_model.specs.declared.machine.Key.TheVariants.{A}
 use Rattle.sf_model.specs.declared.function.Shape.TheVariants.{Plain}
 use Rattle.sf_model.specs.declared.function.Func.{Func}
 use Rattle.sf_model.specs.Lookup.{contains}
+use Rattle.sf_lookup.specs.Steps.{IsWithinDigits}
 use Rattle.sf_lookup.specs.Starts.{Apart, starts_of, NeverFall, IsLastStart}
 use Rattle.sf_lookup.proofs.Numbered.{none_passes, first_passes}
 
@@ -99,3 +100,11 @@ pub last_decides : (functions : List Func) (pc i : ℕ) (function_of : ℕ → F
     → ((d : Func) → get_or functions i d ≡ function_of i) → contains pc (function_of i) ≡ b → option_map function_of (then_some b i) ≡ find (contains pc) functions
 last_decides functions pc i function_of true apart h numbered t = sym (last_contains functions pc i (function_of i) apart h (numbered (function_of i)) t)
 last_decides functions pc i function_of false apart h numbered t = sym (last_contains_not functions pc i (function_of i) apart h numbered t)
+
+pub within_if : (b : Bool) (i n : ℕ) (o : Option ℕ) → o ≡ then_some b i → i < n → IfSome o (λ (j : ℕ). j < n)
+within_if true i n o e lt = subst (λ (r : Option ℕ). IfSome r (λ (j : ℕ). j < n)) (sym e) lt
+within_if false i n o e lt = subst (λ (r : Option ℕ). IfSome r (λ (j : ℕ). j < n)) (sym e) tt
+
+-- as many starts as functions
+pub within_digits : (functions : List Func) (steps : ℕ) → 2 ^ steps ≤ 2 * length (starts_of functions) + 1 → IsWithinDigits steps (length functions)
+within_digits functions steps few = subst (λ (n : ℕ). IsWithinDigits steps n) (length-map functions (λ (f : Func). f.start)) few
