@@ -1,13 +1,24 @@
 use Rattle.std.proofs.Common.{◌≡◌, Bor, List, ℕ, length, map, sym, subst, ap, ◌∙◌}
-use Rattle.std.specs.List.Sorted.{IsPermutation}
+use Rattle.std.specs.List.Sorted.{IsNonDecreasingBy, IsPermutation}
 use Rattle.std.proofs.lemmas.List.Sorted.{length_permutation, list_any-IsPermutation}
 use Rattle.std.proofs.lemmas.List.{with_items_is}
 use Rattle.std.specs.List.{list_any}
 use Rattle.std.specs.Vec.{with_items}
 use Rattle.sf_modules.specs.declared.stretch.Stretch.{Stretch}
 use Rattle.sf_modules.specs.Name.{name_number}
-use Rattle.sf_modules.specs.Stretch.{has_place}
+use Rattle.sf_modules.specs.Stretch.{AreReached, has_place, start_point}
 use Rattle.sf_modules.proofs.stretches.Stretches.new.Goals as goal
+
+pub invariant_of-result : goal.invariant_of-result
+invariant_of-result c =
+    let old = c.in_ok-stretches.stretches in
+    let new = c.put_in_order.new.stretches in
+    let moved = subst (λ (xs : List Stretch). IsPermutation xs new) c.deref_mut.ensures.value c.put_in_order.ensures.permutation in
+    let items : (with_items old new).items ≡ new = with_items_is old new (length_permutation old.items new moved ∙ sym old.ok.0) in
+    record {
+      rise = subst (λ (xs : List Stretch). IsNonDecreasingBy start_point xs) (sym items) c.put_in_order.ensures.rise;
+      reached = subst (λ (xs : List Stretch). AreReached xs c.in_ok-reach.reach.items) c.deref-2.ensures.value c.in_ok-reach.ensures;
+    }
 
 pub returns : goal.returns
 returns c =
