@@ -23,29 +23,30 @@ use std::alloc::Global;
 pub enum Command<'a> {
     /// `link OUT@AT IN@BASE ..` writes the section of all inputs, and prints each omitted function with the reason.
     Link(SectionAndInputs<'a>),
-    /// `linkplt OUT@AT IN@BASE ..` does what `link` does, with rows for plain lazy procedure linkage tables of AMD64.
+    /// `linkplt OUT@AT IN@BASE ..` does what `link` does, with rows for plain lazy `.plt`s of AMD64.
     LinkPlt(SectionAndInputs<'a>),
-    /// `merge OUT@AT FILE@AT ..` merges several sections into one.
+    /// `merge OUT@AT FILE@AT ..` writes one section of several.
     Merge(Merge<'a>),
-    /// `slim OUT@AT FILE@AT` writes a section that recovers the same without redundant rows, and prints both lengths.
+    /// `slim OUT@AT FILE@AT` writes a section that recovers the same, without redundant rows. It prints both lengths.
     Slim(Slim<'a>),
-    /// `dump FILE@AT` prints the functions and rows of a section.
+    /// `dump FILE@AT` prints a section. The text has its functions and rows.
     Dump(Dump<'a>),
-    /// `lookup FILE@AT PC` prints the row that holds at PC, or `none`. If there is no such row, the status is 1.
+    /// `lookup FILE@AT PC` prints the row that holds at PC. If there is no such row, it prints `none`, and the status is 1.
     Lookup(Lookup<'a>),
-    /// `verify FILE@AT IN@BASE ..` compares a section with the files it was made from, at each address at which it has a
-    /// row. The status is 1 if they differ.
+    /// `verify FILE@AT IN@BASE ..` compares a section with the files it was made from, wherever the section has a row. The
+    /// status is 1 if they differ.
     Verify(SectionAndInputs<'a>),
-    /// `walk FILE@AT CORE DEPTH` walks the stack of each thread of a core file with a section, and prints at most DEPTH
-    /// frames. AT is the section's address in the process: add the load address to the AT of `link`.
+    /// `walk FILE@AT CORE DEPTH` prints the stacks of a core file with a section, at most DEPTH frames each. AT is the
+    /// section's address in the process: add the load address to the AT of `link`.
     Walk(Walk<'a>),
-    /// `backtrace OUT@AT CORE DEPTH IN@BASE ..` writes the section of all inputs, and prints the stacks of a core file with
-    /// it. AT and BASE are those of the process.
+    /// `backtrace OUT@AT CORE DEPTH IN@BASE ..` writes the section of all inputs, and prints the stacks with it. AT and
+    /// BASE are those of the process.
     Backtrace(Backtrace<'a>),
-    /// `procwalk CORE DEPTH FILE ..` prints the stacks of a core file with the sections `.sframe` of several files. Each
-    /// section is used at the address at which the process had its file mapped.
+    /// `procwalk CORE DEPTH FILE ..` prints the stacks with the section `.sframe` of each file. Each section is used at the
+    /// address at which the process had its file mapped.
     Procwalk(Procwalk<'a>),
-    /// `gen N` makes an object of N functions, links it, and prints a summary. This test needs no file.
+    /// `gen N` tests itself on a generated object of N functions. It links the object, and prints a summary. No file is
+    /// needed.
     Gen(Gen),
 }
 

@@ -1,4 +1,4 @@
--- GNU SFrame specification, Version 2: what functions one section can hold, as a test that computes.
+-- Inside the crate. GNU SFrame specification, Version 2: what functions one section can hold, as a test that computes.
 use Rattle.std.specs.Prelude.{◌+◌, ◌^◌, ◌&&◌, ℕ, ℤ, Option, Bool, true, List, [], ◌∷◌, length, nat_lt, nat_le}
 use Rattle.std.specs.List.{list_all}
 use Rattle.sf_model.specs.declared.machine.Arch.{Arch}
