@@ -28,7 +28,7 @@ BOXES = (
     ("writing", "sf_express sf_sizes sf_write sf_functions", "SFrame", 3, 310, 490),
     ("core files, pages", "core_notes elf_load", "ELF", 3, 510, 680),
     ("records", "eh_pointer eh_records", "DWARF", 4, 10, 190),
-    ("instructions", "cfa_insn cfa_machine", "DWARF", 4, 210, 390),
+    ("instructions", "cfa_insn cfa_machine signal_frames", "DWARF", 4, 210, 390),
     ("reading", "sf_decode sf_lookup", "SFrame", 4, 410, 590),
     ("files", "elf_read sf_parts elf_place elf_groups elf_reloc", "ELF", 4, 610, 860),
     ("files, streams, bytes, shared types", "sf_base sf_fakes sf_bytes sf_model", "outside", 5, 10, 930),

@@ -1,0 +1,4 @@
+pub mod Expression
+pub mod Rules
+pub mod Run
+pub mod SignalFrame

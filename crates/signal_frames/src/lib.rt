@@ -1,0 +1,20 @@
+//! Signal frames whose callers can be found (DWARF 5, sections 6.4.2 and 2.5.1; LSB Core, the augmentation letter `S`).
+//!
+//! A kernel that delivers a signal saves the interrupted registers on the stack, and has the handler return to a
+//! trampoline. SFrame has no form for the trampoline's frame. Its call frame instructions say where the registers are:
+//! each by an expression of the stack pointer and a constant, as in the `__restore_rt` of C libraries on AMD64.
+//! [`signal_frame`] reads these constants. Its definition is `IsSignalFrame` of `specs/`: there is a [`SignalFrame`]
+//! exactly where the function's rules have this form, and it is the only one.
+//!
+//! The rules hold at each address of the function, since a function of which another row begins isn't of this form.
+//! The caller owes nothing. The instructions are read once, and nothing allocates.
+//!
+//! No command uses this crate yet.
+#![tactic(auto)]
+
+mod change;
+mod expression;
+mod frame;
+mod rules;
+
+pub use frame::{SignalFrame, signal_frame};
