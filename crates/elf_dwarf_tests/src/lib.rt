@@ -23,3 +23,5 @@ mod records;
 #[cfg(test)]
 mod relocating;
 pub mod samples;
+#[cfg(test)]
+mod signal;
