@@ -1,0 +1,4 @@
+pub mod Addresses
+pub mod Rules
+pub mod Numbers
+pub mod Frames
