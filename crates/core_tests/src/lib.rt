@@ -1,10 +1,12 @@
-//! What no clause says of the crates of core files, `core_notes` and `core_walk`: values from outside, and one call of each
-//! public function that allocates, with ample memory.
+//! What no clause says of the crates of core files and walks, `core_notes`, `core_walk`, `signal_frames` and `process_walk`:
+//! values from outside, and one call of each public function that allocates, with ample memory.
 #![tactic(auto)]
 
 #[cfg(test)]
 mod files;
 #[cfg(test)]
 mod notes;
+#[cfg(test)]
+mod signal;
 #[cfg(test)]
 mod walk;

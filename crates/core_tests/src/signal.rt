@@ -1,0 +1,233 @@
+//! Signal frames, and walks through the modules of a process.
+
+ghost use Rattle.std.specs.Prelude.{◌<◌, ◌^◌, length};
+
+use crate::files::{File, Piece, TWO_THREADS, bytes_of};
+use core_notes::Core;
+use process_walk::{Module, Process};
+use sample_walk::{State, Value};
+use sf_bytes::Part;
+use sf_decode::View;
+use sf_lookup::Span;
+use sf_model::{Arch, FdeFacts, Key, Stop};
+use sframe_tests::samples::{EMPTY, PUSHING};
+use signal_frames::{SignalFrame, signal_frame};
+use std::test::*;
+
+/// The instructions of the `__restore_rt` of glibc 2.36 on AMD64, as `readelf --debug-dump=frames` shows them: the canonical frame
+/// address is what is saved at rsp+160, the return address is at rsp+168 and the frame pointer at rsp+120.
+const RESTORE_RT: [u8; 105] = *b"\
+    \x0f\x04\x77\xa0\x01\x06\x10\x08\x02\x77\x28\x10\x09\x02\x77\x30\x10\x0a\x02\x77\x38\x10\x0b\x03\
+    \x77\xc0\x00\x10\x0c\x03\x77\xc8\x00\x10\x0d\x03\x77\xd0\x00\x10\x0e\x03\x77\xd8\x00\x10\x0f\x03\
+    \x77\xe0\x00\x10\x05\x03\x77\xe8\x00\x10\x04\x03\x77\xf0\x00\x10\x06\x03\x77\xf8\x00\x10\x03\x03\
+    \x77\x80\x01\x10\x01\x03\x77\x88\x01\x10\x00\x03\x77\x90\x01\x10\x02\x03\x77\x98\x01\x10\x07\x03\
+    \x77\xa0\x01\x10\x10\x03\x77\xa8\x01\
+";
+
+/// A case: the instructions of a function, and its three constants if it has a signal frame.
+struct Case {
+    shows: &'static str,
+    own: &'static [u8],
+    wanted: Option<(i64, i64, i64)>,
+}
+
+const CASES: [Case; 10] = [
+    Case {
+        shows: "glibc",
+        own: &RESTORE_RT,
+        wanted: Some((160, 168, 120)),
+    },
+    Case {
+        shows: "a constant of 0, and a negative one",
+        own: b"\x0f\x03\x77\x00\x06\x10\x10\x02\x77\x08\x10\x06\x02\x77\x78",
+        wanted: Some((0, 8, -8)),
+    },
+    Case {
+        shows: "the latest rule counts",
+        own: b"\x0f\x03\x77\x00\x06\x10\x10\x02\x77\x08\x86\x02\x10\x06\x02\x77\x10",
+        wanted: Some((0, 8, 16)),
+    },
+    Case {
+        shows: "the frame pointer has a later rule of another kind",
+        own: b"\x0f\x03\x77\x00\x06\x10\x10\x02\x77\x08\x10\x06\x02\x77\x10\x86\x02",
+        wanted: None,
+    },
+    Case {
+        shows: "the frame address is an address, and not what is saved there",
+        own: b"\x0f\x02\x77\x00\x10\x10\x02\x77\x08\x10\x06\x02\x77\x10",
+        wanted: None,
+    },
+    Case {
+        shows: "a constant of the frame pointer",
+        own: b"\x0f\x03\x77\x00\x06\x10\x10\x02\x76\x08\x10\x06\x02\x77\x10",
+        wanted: None,
+    },
+    Case {
+        shows: "the return address has no rule",
+        own: b"\x0f\x03\x77\x00\x06\x10\x06\x02\x77\x10",
+        wanted: None,
+    },
+    Case {
+        shows: "the stack pointer is saved elsewhere",
+        own: b"\x0f\x03\x77\x00\x06\x10\x10\x02\x77\x08\x10\x06\x02\x77\x10\x10\x07\x02\x77\x18",
+        wanted: None,
+    },
+    Case {
+        shows: "another row",
+        own: b"\x0f\x03\x77\x00\x06\x10\x10\x02\x77\x08\x10\x06\x02\x77\x10\x41",
+        wanted: None,
+    },
+    Case {
+        shows: "an instruction that is cut off",
+        own: b"\x0f\x03\x77\x00\x06\x10\x10\x02\x77\x08\x10\x06\x02\x77",
+        wanted: None,
+    },
+];
+
+/// Returns the signal frame of a function with these instructions, after two that do nothing.
+fn frame_of(signal: bool, own: &[u8]) -> Option<SignalFrame>
+    requires { length own.now < 2 ^ 32 }
+{
+    let facts = FdeFacts {
+        start: 0x5000,
+        size: 10,
+        column: 16,
+        signal,
+        key: Key::A,
+    };
+    signal_frame(
+        Arch::Amd64,
+        &facts,
+        Part::new(&[0, 0], 100),
+        Part::new(own, 200),
+    )
+}
+
+/// Returns the constants of a signal frame.
+fn constants_of(frame: &SignalFrame) -> (i64, i64, i64) {
+    (
+        frame.frame_address,
+        frame.return_address,
+        frame.frame_pointer,
+    )
+}
+
+#[test]
+fn functions_have_signal_frames(rt: HostRuntime) -> Result<(), Fail> {
+    for case in &CASES {
+        assert!(rt; case.own.len() < 200);
+        let found = frame_of(true, case.own);
+        assert_eq!(rt;
+            found.as_ref().map(constants_of),
+            case.wanted,
+            "{}",
+            case.shows
+        );
+        assert!(rt; frame_of(false, case.own).is_none());
+    }
+    Ok(())
+}
+
+/// A memory's size at 0x7000; the frames, each with its module and whether it is a signal frame, and the stop.
+struct Walked {
+    memory: Piece,
+    frames: &'static [(u64, Option<u64>, Option<usize>, bool)],
+    stop: Stop,
+}
+
+/// A thread in a handler, whose caller is a signal frame at 0x7008. A function was interrupted at its first byte, 0x1000.
+const STACK: [Piece; 5] = [
+    (888, "01 50"),
+    (1016, "f8 70"),
+    (1056, "e0 70"),
+    (1064, "00 10"),
+    (1112, "45 23"),
+];
+
+const WALKS: [Walked; 3] = [
+    Walked {
+        memory: (152, "00 01"),
+        frames: &[
+            (0x1000, Some(0x7008), Some(0), false),
+            (0x5001, Some(0x70e0), Some(1), true),
+            (0x1000, Some(0x70e8), Some(0), false),
+            (0x2345, None, None, false),
+        ],
+        stop: Stop::Outside(0x2344),
+    },
+    // The memory ends before the interrupted program counter.
+    Walked {
+        memory: (152, "b0"),
+        frames: &[
+            (0x1000, Some(0x7008), Some(0), false),
+            (0x5001, Some(0x70e0), Some(1), true),
+        ],
+        stop: Stop::Unreadable(0x70b0),
+    },
+    // It ends before the interrupted stack pointer.
+    Walked {
+        memory: (152, "a8"),
+        frames: &[
+            (0x1000, Some(0x7008), Some(0), false),
+            (0x5001, None, Some(1), true),
+        ],
+        stop: Stop::Unreadable(0x70a8),
+    },
+];
+
+#[test]
+fn walks_go_through_signal_frames(rt: HostRuntime) -> Result<(), Fail> {
+    let file = File {
+        len: 1144,
+        pieces: TWO_THREADS.pieces,
+    };
+    let frame = SignalFrame {
+        frame_address: 160,
+        return_address: 168,
+        frame_pointer: 120,
+    };
+    let trampoline = [Span {
+        start: 0x5000,
+        size: 10,
+        leads_to: frame,
+    }];
+    let modules = [
+        Module {
+            start: 0x1000,
+            size: 0x100,
+            view: View::parse(&PUSHING, 0x3000).ok().ok_or("a section")?,
+            signals: &[],
+        },
+        Module {
+            start: 0x5000,
+            size: 0x100,
+            view: View::parse(&EMPTY, 0x3000).ok().ok_or("a section")?,
+            signals: &trampoline,
+        },
+    ];
+    let process = Process::new(rt.alloc(), &modules)?;
+    let start = State {
+        pc: 0x1000,
+        sp: 0x7000,
+        fp: Value::Known(0x7100),
+        lr: 0,
+        returned: false,
+    };
+    for case in &WALKS {
+        let mut edits = Vec::from_array(rt.alloc(), STACK)?;
+        edits.push(case.memory)?;
+        let bytes = bytes_of(rt.alloc(), &file, &edits)?;
+        assert!(rt; bytes.len() < 4096);
+        let core = Core::parse(&bytes).ok().ok_or("the file is sound")?;
+        let walked = process.walk(rt.alloc(), None, &core, start, 64)?;
+        assert_eq!(rt; walked.stop, case.stop);
+        assert_eq!(rt; walked.frames.len(), case.frames.len());
+        for (frame, wanted) in walked.frames.iter().zip(case.frames) {
+            assert_eq!(rt;
+                (frame.pc, frame.cfa, frame.module_number, frame.is_signal),
+                *wanted
+            );
+        }
+    }
+    Ok(())
+}
