@@ -1,86 +1,69 @@
 //! What is seen of whole files. What is wrong with a file is a clause, and whole runs over faulty files are cases in files.
 
-use crate::samples::{AARCH64, GROUPED, bytes_of};
+use crate::same::same;
+use crate::samples::{AARCH64, GROUPED, file_of};
+use base_tests::tables::{prints, row};
 use elf_read::{Elf, Kind, Rela, Symbol};
 use sf_model::Arch;
+use std::alloc::Global;
 use std::test::*;
 
-/// A file: its kind, its machine, and the name and the number of bytes of each section.
-struct File {
-    bytes: &'static str,
-    kind: Kind,
-    arch: Arch,
-    sections: &'static [(&'static str, usize)],
-}
+/// The name of each section of `GROUPED`, and the number of its bytes.
+const SECTIONS_OF_GROUPED: &str = r#"
+    0 => ("", 0)
+    1 => (".group", 12)
+    2 => (".text", 27)
+    3 => (".gcc_except_table", 16)
+    4 => (".eh_frame", 72)
+    5 => (".rela.eh_frame", 72)
+    6 => (".symtab", 144)
+    7 => (".strtab", 28)
+    8 => (".shstrtab", 83)
+"#;
 
-const FILES: [File; 2] = [
-    File {
-        bytes: GROUPED,
-        kind: Kind::Rel,
-        arch: Arch::Amd64,
-        sections: &[
-            ("", 0),
-            (".group", 12),
-            (".text", 27),
-            (".gcc_except_table", 16),
-            (".eh_frame", 72),
-            (".rela.eh_frame", 72),
-            (".symtab", 144),
-            (".strtab", 28),
-            (".shstrtab", 83),
-        ],
-    },
-    File {
-        bytes: AARCH64,
-        kind: Kind::Rel,
-        arch: Arch::Aarch64,
-        sections: &[
-            ("", 0),
-            (".text", 28),
-            (".eh_frame", 60),
-            (".rela.eh_frame", 24),
-            (".symtab", 48),
-            (".strtab", 1),
-            (".shstrtab", 58),
-        ],
-    },
-];
+/// The same of `AARCH64`.
+const SECTIONS_OF_AARCH64: &str = r#"
+    0 => ("", 0)
+    1 => (".text", 28)
+    2 => (".eh_frame", 60)
+    3 => (".rela.eh_frame", 24)
+    4 => (".symtab", 48)
+    5 => (".strtab", 1)
+    6 => (".shstrtab", 58)
+"#;
 
-#[test]
-fn names_and_bytes_of_sections(rt: HostRuntime) -> Result<(), Fail> {
-    for file in &FILES {
-        let bytes = bytes_of(rt.alloc(), file.bytes, &[])?;
-        assert!(rt; bytes.len() < 4096);
-        let elf = Elf::parse(&bytes).ok().ok_or("the file is sound")?;
-        assert!(rt; elf.kind() == file.kind && elf.arch() == file.arch);
-        assert_eq!(rt; elf.segments(), 0);
-        assert_eq!(rt; elf.sections() as usize, file.sections.len());
-        let mut i = 0;
-        for (name, len) in file.sections {
-            assert_eq!(rt; elf.name(i), name.as_bytes(), "section {i}");
-            assert_eq!(rt; elf.bytes(i).len(), *len, "section {i}");
-            i = i.saturating_add(1);
+/// Fails unless the sections of a file have the names and the numbers of bytes of the table.
+fn expect_sections(alloc: Global, elf: &Elf<'_>, table: &str) -> Result<(), Fail> {
+    for line in table.lines() {
+        if let Some((i, wanted)) = row(line) {
+            let i = i.parse::<u32>()?;
+            let name = str::from_utf8(elf.name(i))?;
+            prints(alloc, line, &(name, elf.bytes(i).len()), wanted)?;
         }
     }
     Ok(())
 }
 
+#[test]
+fn names_and_bytes_of_sections(rt: HostRuntime) -> Result<(), Fail> {
+    let bytes = file_of(rt.alloc(), GROUPED, "")?;
+    let elf = Elf::parse(&bytes).ok().ok_or("the file is sound")?;
+    same(&rt, &(elf.kind(), elf.arch()), &(Kind::Rel, Arch::Amd64));
+    same(&rt, &(elf.sections(), elf.segments()), &(9, 0));
+    expect_sections(rt.alloc(), &elf, SECTIONS_OF_GROUPED)?;
+    let bytes = file_of(rt.alloc(), AARCH64, "")?;
+    let elf = Elf::parse(&bytes).ok().ok_or("the file is sound")?;
+    same(&rt, &(elf.kind(), elf.arch()), &(Kind::Rel, Arch::Aarch64));
+    same(&rt, &(elf.sections(), elf.segments()), &(7, 0));
+    expect_sections(rt.alloc(), &elf, SECTIONS_OF_AARCH64)
+}
+
 /// What makes the addend of the second relocation of `GROUPED` -2.
-const NEGATIVE: [(u16, u8); 8] = [
-    (240, 0xfe),
-    (241, 255),
-    (242, 255),
-    (243, 255),
-    (244, 255),
-    (245, 255),
-    (246, 255),
-    (247, 255),
-];
+const NEGATIVE: &str = "@240 fe ff ff ff ff ff ff ff";
 
 #[test]
 fn entries_of_an_object(rt: HostRuntime) -> Result<(), Fail> {
-    let bytes = bytes_of(rt.alloc(), GROUPED, &NEGATIVE)?;
-    assert!(rt; bytes.len() < 4096);
+    let bytes = file_of(rt.alloc(), GROUPED, NEGATIVE)?;
     let elf = Elf::parse(&bytes).ok().ok_or("the file is sound")?;
     let rela = Rela {
         offset: 0x28,
@@ -88,45 +71,42 @@ fn entries_of_an_object(rt: HostRuntime) -> Result<(), Fail> {
         kind: 2,
         addend: -2,
     };
-    assert_eq!(rt; elf.rela(5, 1), rela);
+    same(&rt, &elf.rela(5, 1), &rela);
     let symbol = Symbol {
         name: 22,
         section: 2,
         value: 0,
     };
-    assert_eq!(rt; elf.symbol(6, 5), symbol);
+    same(&rt, &elf.symbol(6, 5), &symbol);
     let group = elf.group(1).ok_or("section 1 is a group")?;
-    assert!(rt; group.comdat && group.count == 2);
-    assert_eq!(rt; group.signature.bytes(), b"_Z1fv".as_slice());
-    assert_eq!(rt; elf.member(1, 1), 3);
-    assert!(rt; elf.group(2).is_none());
+    same(&rt, &(group.comdat, group.count), &(true, 2));
+    same(&rt, &group.signature.bytes(), &b"_Z1fv".as_slice());
+    same(&rt, &(elf.member(1, 1), elf.group(2).is_none()), &(3, true));
     Ok(())
 }
 
 /// What makes a core file with one segment of `GROUPED`.
-const AS_CORE: [(u16, u8); 8] = [
-    (16, 4),
-    (32, 0x20),
-    (33, 4),
-    (54, 56),
-    (56, 1),
-    (1056, 1),
-    (1064, 0x40),
-    (1088, 12),
-];
+const AS_CORE: &str = "@16 04 @32 20 04 @54 38 @56 01 @1056 01 @1064 40 @1088 0c";
 
 #[test]
 fn a_segment_of_a_core_file(rt: HostRuntime) -> Result<(), Fail> {
-    let bytes = bytes_of(rt.alloc(), GROUPED, &AS_CORE)?;
-    assert!(rt; bytes.len() < 4096);
+    let bytes = file_of(rt.alloc(), GROUPED, AS_CORE)?;
     let elf = Elf::parse(&bytes).ok().ok_or("the file is sound")?;
-    assert_eq!(rt; elf.kind(), Kind::Core);
-    assert_eq!(rt; (elf.sections(), elf.segments()), (0, 1));
-    let segment = elf.segment(0);
-    assert_eq!(rt;
-        (segment.kind, segment.vaddr, segment.place),
-        (1, 0x1c0, 0x40)
+    same(
+        &rt,
+        &(elf.kind(), elf.sections(), elf.segments()),
+        &(Kind::Core, 0, 1),
     );
-    assert_eq!(rt; segment.bytes, b"\x01\0\0\0\x02\0\0\0\x03\0\0\0".as_slice());
+    let segment = elf.segment(0);
+    same(
+        &rt,
+        &(segment.kind, segment.vaddr, segment.place),
+        &(1, 0x1c0, 0x40),
+    );
+    same(
+        &rt,
+        &segment.bytes,
+        &b"\x01\0\0\0\x02\0\0\0\x03\0\0\0".as_slice(),
+    );
     Ok(())
 }

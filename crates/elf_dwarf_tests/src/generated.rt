@@ -1,5 +1,6 @@
 //! Two whole objects, by the bytes that another program made of the same description, and the length of the
 //! largest.
+use crate::same::same;
 use sf_base::NoMemory;
 use sf_gen::object;
 
@@ -64,15 +65,15 @@ const TWO: &[u8] = b"\
 #[test]
 fn objects_of_one_and_two_functions(rt: HostRuntime) -> Result<(), NoMemory> {
     let one = object(rt.alloc(), 1)?;
-    assert!(rt; one.as_slice() == ONE);
+    same(&rt, &one.as_slice(), &ONE);
     let two = object(rt.alloc(), 2)?;
-    assert!(rt; two.as_slice() == TWO);
+    same(&rt, &two.as_slice(), &TWO);
     Ok(())
 }
 
 #[test]
 fn the_largest_object(rt: HostRuntime) -> Result<(), NoMemory> {
     let bytes = object(rt.alloc(), 100_000)?;
-    assert_eq!(rt; bytes.len(), 8_800_656);
+    same(&rt, &bytes.len(), &8_800_656);
     Ok(())
 }

@@ -22,6 +22,8 @@ mod pointer;
 mod records;
 #[cfg(test)]
 mod relocating;
+#[cfg(test)]
+mod same;
 pub mod samples;
 #[cfg(test)]
 mod signal;

@@ -1,6 +1,7 @@
 //! A linked file by its parts: which calls read them, and that a sound one passes.
 
-use crate::samples::{GROUPED, SHARED, bytes_of};
+use crate::samples::{GROUPED, SHARED, file_of};
+use base_tests::tables::{number, prints, row};
 use elf_read::linked_of;
 use sf_fakes::MemFiles;
 use sf_parts::{FileRead, load_parts};
@@ -12,7 +13,7 @@ const LIMIT: u64 = 1 << 20;
 
 /// How a file of a run with one failing call was read: with the number and the length of its `.eh_frame`, if it passed by
 /// its parts.
-#[derive(Clone, Copy, Debug, PartialEq, Eq)]
+#[derive(Debug, Drop)]
 enum Came {
     NotRead,
     Whole(usize),
@@ -22,7 +23,7 @@ enum Came {
 // Reads a file with one failing call.
 fn read_with_fault(alloc: Global, file: &str, call: u64) -> Result<Came, Fail> {
     let mut files = MemFiles::new(alloc, 4096, vec![in alloc; call]?);
-    let bytes = bytes_of(alloc, file, &[])?;
+    let bytes = file_of(alloc, file, "")?;
     if files.put("file", bytes).is_err() {
         return Ok(Came::NotRead);
     }
@@ -38,37 +39,33 @@ fn read_with_fault(alloc: Global, file: &str, call: u64) -> Result<Came, Fail> {
 
 /// The call that fails, and how the file was read: it is opened, its length is asked for, and each of four parts takes a
 /// move and a read.
-const CALLS: [(u64, Came); 11] = [
-    (1, Came::NotRead),
-    (2, Came::Whole(344)),
-    (3, Came::Whole(344)),
-    (4, Came::NotRead),
-    (5, Came::Whole(344)),
-    (6, Came::NotRead),
-    (7, Came::Whole(344)),
-    (8, Came::NotRead),
-    (9, Came::Whole(344)),
-    (10, Came::NotRead),
-    (11, Came::Parts(Some((1, 60)))),
-];
+const CALLS: &str = "
+    1 => NotRead
+    2 => Whole(344)
+    3 => Whole(344)
+    4 => NotRead
+    5 => Whole(344)
+    6 => NotRead
+    7 => Whole(344)
+    8 => NotRead
+    9 => Whole(344)
+    10 => NotRead
+    11 => Parts(Some((1, 60)))
+";
 
 #[test]
 fn a_shared_object_passes_by_four_parts(rt: HostRuntime) -> Result<(), Fail> {
-    for (call, came) in &CALLS {
-        assert_eq!(rt;
-            read_with_fault(rt.alloc(), SHARED, *call)?,
-            *came,
-            "at call {call}"
-        );
+    for line in CALLS.lines() {
+        if let Some((call, wanted)) = row(line) {
+            let came = read_with_fault(rt.alloc(), SHARED, number(call)?)?;
+            prints(rt.alloc(), line, &came, wanted)?;
+        }
     }
     Ok(())
 }
 
 #[test]
 fn an_object_does_not_pass_by_parts(rt: HostRuntime) -> Result<(), Fail> {
-    assert_eq!(rt;
-        read_with_fault(rt.alloc(), GROUPED, 99)?,
-        Came::Parts(None)
-    );
-    Ok(())
+    let came = read_with_fault(rt.alloc(), GROUPED, 99)?;
+    prints(rt.alloc(), "an object", &came, "Parts(None)")
 }

@@ -1,57 +1,70 @@
 //! Encodings of each format and application, and each call once.
-use eh_pointer::{PointerFault, skip, usable, value, width};
+use crate::same::same;
+use base_tests::tables::{prints, row};
+use eh_pointer::{skip, usable, value, width};
 use sf_bytes::Part;
 use std::test::*;
 
 /// An encoding, the width of its pointers, and the same where it can be used.
-const WIDTHS: [(u8, Option<u8>, Option<u8>); 9] = [
-    (0x00, Some(8), Some(8)),
-    (0x1b, Some(4), Some(4)),
-    (0x0a, Some(2), Some(2)),
-    (0x1c, Some(8), Some(8)),
-    (0x01, None, None),
-    (0x2b, Some(4), None),
-    (0x9b, Some(4), None),
-    (0x50, Some(8), None),
-    (0xff, None, None),
-];
+const WIDTHS: &str = "
+    00 => (Some(8), Some(8))
+    1b => (Some(4), Some(4))
+    0a => (Some(2), Some(2))
+    1c => (Some(8), Some(8))
+    01 => (None, None)
+    2b => (Some(4), None)
+    9b => (Some(4), None)
+    50 => (Some(8), None)
+    ff => (None, None)
+";
 
 #[test]
-fn widths(rt: HostRuntime) {
-    for (encoding, bytes, usable_bytes) in &WIDTHS {
-        assert_eq!(rt; width(*encoding), *bytes);
-        assert_eq!(rt; usable(*encoding), *usable_bytes);
+fn widths(rt: HostRuntime) -> Result<(), Fail> {
+    for line in WIDTHS.lines() {
+        if let Some((encoding, wanted)) = row(line) {
+            let encoding = u8::from_str_radix(encoding, 16)?;
+            prints(
+                rt.alloc(),
+                line,
+                &(width(encoding), usable(encoding)),
+                wanted,
+            )?;
+        }
     }
+    Ok(())
 }
 
 #[test]
 #[tactic(auto, unfolding(eh_pointer::specs::Pointer::usable_width, eh_pointer::specs::Pointer::pointer_width))]
 fn pointers(rt: HostRuntime) {
-    assert_eq!(rt; value(0x1b, 0xffff_efe0, 0x2020), 0x1000);
-    assert_eq!(rt; value(0x0a, 0x8000, 7), 0xffff_ffff_ffff_8000);
-    assert_eq!(rt; value(0x02, 0x8000, 7), 0x8000);
-    assert_eq!(rt; value(0x1c, 0xffff_ffff_ffff_ffff, 0x2020), 0x201f);
+    same(&rt, &value(0x1b, 0xffff_efe0, 0x2020), &0x1000);
+    same(&rt, &value(0x0a, 0x8000, 7), &0xffff_ffff_ffff_8000);
+    same(&rt, &value(0x02, 0x8000, 7), &0x8000);
+    same(&rt, &value(0x1c, 0xffff_ffff_ffff_ffff, 0x2020), &0x201f);
 }
 
 /// The encoding of a personality, what skipping its pointer comes to, and the place after that.
-const PERSONALITIES: [(u8, Result<(), PointerFault>, u64); 9] = [
-    (0x03, Ok(()), 14),
-    (0x9b, Ok(()), 14),
-    (0x01, Ok(()), 13),
-    (0x69, Ok(()), 13),
-    (0x72, Ok(()), 12),
-    (0x00, Err(PointerFault::Short), 10),
-    (0x53, Err(PointerFault::Encoding), 10),
-    (0xd3, Err(PointerFault::Encoding), 10),
-    (0x05, Err(PointerFault::Encoding), 10),
-];
+const PERSONALITIES: &str = "
+    03 => (Ok(()), 14)
+    9b => (Ok(()), 14)
+    01 => (Ok(()), 13)
+    69 => (Ok(()), 13)
+    72 => (Ok(()), 12)
+    00 => (Err(Short), 10)
+    53 => (Err(Encoding), 10)
+    d3 => (Err(Encoding), 10)
+    05 => (Err(Encoding), 10)
+";
 
 #[test]
-fn personality_pointers(rt: HostRuntime) {
+fn personality_pointers(rt: HostRuntime) -> Result<(), Fail> {
     let bytes: [u8; 6] = [0x81, 0x82, 0x03, 0xff, 0xff, 0xff];
-    for (encoding, wanted, place) in &PERSONALITIES {
-        let mut part = Part::new(&bytes, 10);
-        assert_eq!(rt; skip(&mut part, *encoding), *wanted);
-        assert_eq!(rt; part.place, *place);
+    for line in PERSONALITIES.lines() {
+        if let Some((encoding, wanted)) = row(line) {
+            let mut part = Part::new(&bytes, 10);
+            let skipped = skip(&mut part, u8::from_str_radix(encoding, 16)?);
+            prints(rt.alloc(), line, &(skipped, part.place), wanted)?;
+        }
     }
+    Ok(())
 }

@@ -1,6 +1,8 @@
 //! Sections, their faults by place, and what is read of them.
 ghost use Rattle.std.specs.Prelude.{None};
 
+use crate::same::same;
+use base_tests::tables::{prints, put, row};
 use eh_records::{RecordFault, Records};
 use sf_bytes::{Field, Plain, Values};
 use sf_model::{Arch, Key};
@@ -44,148 +46,92 @@ const CUT: [u8; 21] = [
     0x80, 0x80, 0x80, 0x80, 0x80,
 ];
 
-/// A section whose byte at a place is this one, its machine, and its fault.
-type Case = (&'static [u8], usize, u8, Arch, Option<RecordFault>);
-
-const FAULTS: [Case; 37] = [
-    (&ONE, 0, 0x14, Arch::Amd64, None),
-    (&ONE, 0, 0, Arch::Amd64, None),
-    (&ONE, 0, 3, Arch::Amd64, Some(RecordFault::Short(0))),
-    (&ONE, 0, 56, Arch::Amd64, None),
-    (&ONE, 0, 57, Arch::Amd64, Some(RecordFault::Short(0))),
-    (&ONE, 8, 2, Arch::Amd64, Some(RecordFault::CieVersion(8))),
-    (
-        &ONE,
-        9,
-        0x52,
-        Arch::Amd64,
-        Some(RecordFault::Augmentation(9)),
-    ),
-    (
-        &ONE,
-        10,
-        0x51,
-        Arch::Amd64,
-        Some(RecordFault::Augmentation(9)),
-    ),
-    (&ONE, 15, 8, Arch::Amd64, None),
-    (&ONE, 15, 9, Arch::Amd64, Some(RecordFault::Short(16))),
-    (&ONE, 15, 0, Arch::Amd64, Some(RecordFault::Short(16))),
-    (&ONE, 16, 0x2b, Arch::Amd64, Some(RecordFault::Encoding(16))),
-    (&ONE, 16, 0x9b, Arch::Amd64, Some(RecordFault::Encoding(16))),
-    (&ONE, 16, 0x01, Arch::Amd64, Some(RecordFault::Encoding(16))),
-    (&ONE, 24, 0x06, Arch::Amd64, Some(RecordFault::Short(32))),
-    (&ONE, 24, 0x0a, Arch::Amd64, Some(RecordFault::Short(36))),
-    (
-        &ONE,
-        28,
-        0x20,
-        Arch::Amd64,
-        Some(RecordFault::CiePointer(28)),
-    ),
-    (
-        &ONE,
-        28,
-        0x04,
-        Arch::Amd64,
-        Some(RecordFault::CiePointer(28)),
-    ),
-    (
-        &ONE,
-        28,
-        0x18,
-        Arch::Amd64,
-        Some(RecordFault::CiePointer(28)),
-    ),
-    (
-        &ONE,
-        28,
-        0x00,
-        Arch::Amd64,
-        Some(RecordFault::CieVersion(32)),
-    ),
-    (&ONE, 40, 0x10, Arch::Amd64, Some(RecordFault::Short(41))),
-    (&ONE, 40, 0x0f, Arch::Amd64, None),
-    // Its personality.
-    (&PERSONAL, 18, 0x03, Arch::Amd64, None),
-    (&PERSONAL, 18, 0xe3, Arch::Amd64, None),
-    (
-        &PERSONAL,
-        18,
-        0x53,
-        Arch::Amd64,
-        Some(RecordFault::Encoding(18)),
-    ),
-    (
-        &PERSONAL,
-        18,
-        0x05,
-        Arch::Amd64,
-        Some(RecordFault::Encoding(18)),
-    ),
-    (&PERSONAL, 17, 0, Arch::Amd64, Some(RecordFault::Short(18))),
-    (&PERSONAL, 17, 3, Arch::Amd64, Some(RecordFault::Short(19))),
-    (&PERSONAL, 17, 5, Arch::Amd64, Some(RecordFault::Short(23))),
-    (
-        &PERSONAL,
-        11,
-        0x50,
-        Arch::Amd64,
-        Some(RecordFault::Augmentation(9)),
-    ),
-    // Whole sections.
-    (
-        b"\xff\xff\xff\xff",
-        9,
-        0,
-        Arch::Amd64,
-        Some(RecordFault::Extended(0)),
-    ),
-    (
-        b"\xff\xff\xff",
-        9,
-        0,
-        Arch::Amd64,
-        Some(RecordFault::Short(0)),
-    ),
-    (&[], 9, 0, Arch::Amd64, None),
-    (&ENDLESS, 0, 0x12, Arch::Amd64, Some(RecordFault::Leb(12))),
-    (&CUT, 0, 0x11, Arch::Amd64, Some(RecordFault::Short(12))),
-    (&SIGNED, 0, 0x14, Arch::Aarch64, None),
-    (
-        &SIGNED,
-        0,
-        0x14,
-        Arch::Amd64,
-        Some(RecordFault::Augmentation(9)),
-    ),
-];
-
-// Returns the fault of a section with another byte at a place.
-fn fault_at(
-    alloc: Global,
-    section: &[u8],
-    place: usize,
-    byte: u8,
-    arch: Arch,
-) -> Result<Option<RecordFault>, Fail> {
-    let mut bytes = section.to_vec(alloc)?;
-    if place < bytes.len() {
-        bytes[place] = byte;
+/// Returns a section by its name in the tables.
+fn section_of(name: &str) -> &'static [u8] {
+    match name {
+        "one" => &ONE,
+        "personal" => &PERSONAL,
+        "signed" => &SIGNED,
+        "endless" => &ENDLESS,
+        "cut" => &CUT,
+        "extended" => b"\xff\xff\xff\xff",
+        "three-bytes" => b"\xff\xff\xff",
+        _ => &[],
     }
-    if bytes.len() > 1000 {
+}
+
+/// Fails unless each section, with the bytes of its row written into it, has the fault that the table wants.
+fn expect_faults(alloc: Global, arch: Arch, table: &str) -> Result<(), Fail> {
+    for line in table.lines() {
+        if let Some((given, wanted)) = row(line) {
+            let (name, edits) = given.split_once(' ').unwrap_or((given, ""));
+            let mut bytes = section_of(name).to_vec(alloc)?;
+            put(&mut bytes, edits)?;
+            prints(alloc, line, &fault_of(alloc, &bytes, arch)?, wanted)?;
+        }
+    }
+    Ok(())
+}
+
+/// Returns the fault of a section.
+fn fault_of(alloc: Global, section: &[u8], arch: Arch) -> Result<Option<RecordFault>, Fail> {
+    if section.len() > 1000 {
         return Err("a section is short")?;
     }
-    Ok(Records::parse(alloc, &bytes, arch).err())
+    Ok(Records::parse(alloc, section, arch).err())
 }
+
+/// A section with other bytes, and its fault on AMD64.
+const FAULTS: &str = "
+    one @0 14 => None
+    one @0 00 => None
+    one @0 03 => Some(Short(0))
+    one @0 38 => None
+    one @0 39 => Some(Short(0))
+    one @8 02 => Some(CieVersion(8))
+    one @9 52 => Some(Augmentation(9))
+    one @10 51 => Some(Augmentation(9))
+    one @15 08 => None
+    one @15 09 => Some(Short(16))
+    one @15 00 => Some(Short(16))
+    one @16 2b => Some(Encoding(16))
+    one @16 9b => Some(Encoding(16))
+    one @16 01 => Some(Encoding(16))
+    one @24 06 => Some(Short(32))
+    one @24 0a => Some(Short(36))
+    one @28 20 => Some(CiePointer(28))
+    one @28 04 => Some(CiePointer(28))
+    one @28 18 => Some(CiePointer(28))
+    one @28 00 => Some(CieVersion(32))
+    one @40 10 => Some(Short(41))
+    one @40 0f => None
+    # Its personality.
+    personal @18 03 => None
+    personal @18 e3 => None
+    personal @18 53 => Some(Encoding(18))
+    personal @18 05 => Some(Encoding(18))
+    personal @17 00 => Some(Short(18))
+    personal @17 03 => Some(Short(19))
+    personal @17 05 => Some(Short(23))
+    personal @11 50 => Some(Augmentation(9))
+    # Whole sections.
+    extended => Some(Extended(0))
+    three-bytes => Some(Short(0))
+    empty => None
+    endless @0 12 => Some(Leb(12))
+    cut @0 11 => Some(Short(12))
+    signed @0 14 => Some(Augmentation(9))
+";
+
+/// The same on AArch64.
+const FAULTS_OF_AARCH64: &str = "
+    signed @0 14 => None
+";
 
 #[test]
 fn faults_of_sections(rt: HostRuntime) -> Result<(), Fail> {
-    for (section, place, byte, arch, wanted) in &FAULTS {
-        let fault = fault_at(rt.alloc(), section, *place, *byte, *arch)?;
-        assert_eq!(rt; fault, *wanted, "{byte} at {place}");
-    }
-    Ok(())
+    expect_faults(rt.alloc(), Arch::Amd64, FAULTS)?;
+    expect_faults(rt.alloc(), Arch::Aarch64, FAULTS_OF_AARCH64)
 }
 
 struct Unknown;
@@ -212,39 +158,36 @@ fn functions(rt: HostRuntime) -> Result<(), Fail> {
     let records = Records::parse(rt.alloc(), &ONE, Arch::Amd64)
         .ok()
         .ok_or("it is right")?;
-    assert_eq!(rt; count_of(&records), 1);
+    same(&rt, &count_of(&records), &1);
     let fde = records.fdes().next().ok_or("it has a function")?;
-    assert_eq!(rt;
-        (fde.place, fde.begin.place, fde.insns.place, fde.insns.len()),
-        (24, 32, 41, 15)
+    let places = (fde.place, fde.begin.place, fde.insns.place, fde.insns.len());
+    same(&rt, &places, &(24, 32, 41, 15));
+    let factors = (fde.cie.code_alignment_factor, fde.cie.data_alignment_factor);
+    same(&rt, &factors, &(1, -8));
+    let rest = (fde.cie.return_address_register, fde.cie.insns.place);
+    same(&rt, &rest, &(16, 17));
+    let low = 0xffff_ffff_ffff_ffe0;
+    same(&rt, &fde.span(0x2000, 0, &Plain), &Ok((0x1000, 6)));
+    same(
+        &rt,
+        &fde.span(0x101b, low, &Plain),
+        &Err(RecordFault::FunctionEnd(32)),
     );
-    assert_eq!(rt;
-        (
-            fde.cie.code_alignment_factor,
-            fde.cie.data_alignment_factor,
-            fde.cie.return_address_register,
-            fde.cie.insns.place
-        ),
-        (1, -8, 16, 17)
+    same(
+        &rt,
+        &fde.span(0x101a, low, &Plain),
+        &Ok((0xffff_ffff_ffff_fffa, 6)),
     );
-    assert_eq!(rt; fde.span(0x2000, 0, &Plain), Ok((0x1000, 6)));
-    assert_eq!(rt;
-        fde.span(0x101b, 0xffff_ffff_ffff_ffe0, &Plain),
-        Err(RecordFault::FunctionEnd(32))
-    );
-    assert_eq!(rt;
-        fde.span(0x101a, 0xffff_ffff_ffff_ffe0, &Plain),
-        Ok((0xffff_ffff_ffff_fffa, 6))
-    );
-    assert_eq!(rt;
-        fde.span(0x2000, 0, &Unknown),
-        Err(RecordFault::Unresolved(32))
+    same(
+        &rt,
+        &fde.span(0x2000, 0, &Unknown),
+        &Err(RecordFault::Unresolved(32)),
     );
     let records = Records::parse(rt.alloc(), &SIGNED, Arch::Aarch64)
         .ok()
         .ok_or("it is right")?;
     let fde = records.fdes().next().ok_or("it has a function")?;
-    assert_eq!(rt; fde.cie.key, Key::B);
+    same(&rt, &fde.cie.key, &Key::B);
     Ok(())
 }
 
@@ -257,9 +200,9 @@ fn pointer_fields(rt: HostRuntime) -> Result<(), Fail> {
         .ok()
         .ok_or("it is right")?;
     let fields = records.fields(rt.alloc()).ok().ok_or("there is memory")?;
-    assert_eq!(rt; fields.len(), FIELDS.len());
+    same(&rt, &fields.len(), &FIELDS.len());
     for (field, wanted) in fields.iter().zip(&FIELDS) {
-        assert_eq!(rt; (field.place, field.width, field.raw), *wanted);
+        same(&rt, &(field.place, field.width, field.raw), wanted);
     }
     Ok(())
 }

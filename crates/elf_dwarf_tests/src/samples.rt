@@ -1,5 +1,8 @@
 //! Whole ELF files in hexadecimal (ELF64 gABI), by which the crates that read them are tried.
 
+ghost use Rattle.std.specs.Prelude.{◌<◌, IfOk, length};
+
+use base_tests::tables;
 use std::alloc::Global;
 use std::test::Fail;
 
@@ -109,16 +112,14 @@ pub const SHARED: &str = "\
     15 00 00 00 00 00 00 00 00 00 00 00 00 00 00 00 01 00 00 00 00 00 00 00 \
     00 00 00 00 00 00 00 00";
 
-/// Returns the bytes that are written in hexadecimal, with some of them changed.
-pub fn bytes_of(alloc: Global, text: &str, edits: &[(u16, u8)]) -> Result<Vec<u8>, Fail> {
-    let mut bytes = Vec::new(alloc);
-    for word in text.split_whitespace() {
-        bytes.push(u8::from_str_radix(word, 16)?)?;
-    }
-    for (place, byte) in edits {
-        if usize::from(*place) < bytes.len() {
-            bytes[usize::from(*place)] = *byte;
-        }
+/// Returns the bytes of a file with some of them changed, as [`tables::put`] reads them.
+pub fn file_of(alloc: Global, text: &str, edits: &str) -> Result<Vec<u8>, Fail>
+    ensures { IfOk result (λ file. length file.items < 4096) }
+{
+    let mut bytes = tables::bytes_of(alloc, text)?;
+    tables::put(&mut bytes, edits)?;
+    if bytes.len() >= 4096 {
+        return Err("a file is short")?;
     }
     Ok(bytes)
 }
