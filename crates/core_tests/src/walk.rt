@@ -1,107 +1,52 @@
-//! Walks of the threads of whole core files.
+//! Walks of threads as lists of frames. Whole runs over core files are cases in files.
 
-use crate::files::{File, MASKED, Piece, TWO_THREADS, bytes_of};
+use crate::files::{File, MASKED, TWO_THREADS, bytes_of};
+use base_tests::tables::expect;
 use core_notes::Core;
 use core_walk::walk;
 use sf_decode::View;
-use sf_model::Stop;
+use sf_model::Walk;
 use sframe_tests::samples::{PUSHING, SIGNING};
+use std::alloc::Global;
 use std::test::*;
 
-/// A section, a core file with changed bytes, a thread and a depth; the program counters and frame addresses, and the stop.
-struct Case {
-    section: &'static [u8],
-    file: File,
-    edits: &'static [Piece],
-    thread: u32,
-    depth: u32,
-    frames: &'static [(u64, Option<u64>)],
-    stop: Stop,
-}
+/// A section, a core file with changed bytes, and the program counters and frame addresses of its first thread, and the stop.
+type Case = (&'static [u8], File, &'static str, &'static str);
 
-const CASES: [Case; 7] = [
-    Case {
-        section: &PUSHING,
-        file: TWO_THREADS,
-        edits: &[],
-        thread: 0,
-        depth: 64,
-        frames: &[(0x1004, Some(0x7010)), (0x1005, Some(0x7020)), (0, None)],
-        stop: Stop::Outside(0xffff_ffff_ffff_ffff),
-    },
-    Case {
-        section: &PUSHING,
-        file: TWO_THREADS,
-        edits: &[],
-        thread: 0,
-        depth: 2,
-        frames: &[(0x1004, Some(0x7010)), (0x1005, Some(0x7020))],
-        stop: Stop::Depth,
-    },
-    Case {
-        section: &PUSHING,
-        file: TWO_THREADS,
-        edits: &[],
-        thread: 1,
-        depth: 64,
-        frames: &[(0x1000, Some(0x9008))],
-        stop: Stop::Unreadable(0x9000),
-    },
-    // The memory begins at the return address, after the saved frame pointer.
-    Case {
-        section: &PUSHING,
-        file: TWO_THREADS,
-        edits: &[(128, "80"), (136, "08"), (152, "18")],
-        thread: 0,
-        depth: 64,
-        frames: &[(0x1004, Some(0x7010))],
-        stop: Stop::Unreadable(0x7000),
-    },
-    Case {
-        section: &SIGNING,
-        file: MASKED,
-        edits: &[(622, "7f")],
-        thread: 0,
-        depth: 64,
-        frames: &[(0x1008, Some(0x7020)), (0x1014, Some(0x7040))],
-        stop: Stop::Unreadable(0x7028),
-    },
-    // Without a mask.
-    Case {
-        section: &SIGNING,
-        file: MASKED,
-        edits: &[(596, "00"), (622, "7f")],
-        thread: 0,
-        depth: 64,
-        frames: &[(0x1008, Some(0x7020))],
-        stop: Stop::Signed(0x2a_0000_0000_1014),
-    },
-    Case {
-        section: &SIGNING,
-        file: MASKED,
-        edits: &[(622, "7f")],
-        thread: 0,
-        depth: 1,
-        frames: &[(0x1008, Some(0x7020))],
-        stop: Stop::Depth,
-    },
+const CASES: [Case; 2] = [
+    (
+        &PUSHING,
+        TWO_THREADS,
+        "",
+        "4100 Some(28688), 4101 Some(28704), 0 None, Outside(18446744073709551615)",
+    ),
+    (
+        &SIGNING,
+        MASKED,
+        "@622 7f",
+        "4104 Some(28704), 4116 Some(28736), Unreadable(28712)",
+    ),
 ];
+
+/// Returns the frames of a walk, and its stop.
+fn text_of(alloc: Global, walk: &Walk) -> Result<String, Fail> {
+    let mut text = String::new(alloc);
+    for frame in &walk.frames {
+        text.push_str(&format!(in alloc; "{} {:?}, ", frame.pc, frame.cfa)?)?;
+    }
+    text.push_str(&format!(in alloc; "{:?}", walk.stop)?)?;
+    Ok(text)
+}
 
 #[test]
 fn threads_are_walked(rt: HostRuntime) -> Result<(), Fail> {
-    for case in &CASES {
-        let bytes = bytes_of(rt.alloc(), &case.file, case.edits)?;
-        assert!(rt; bytes.len() < 4096);
+    for (section, file, edits, wanted) in &CASES {
+        let bytes = bytes_of(rt.alloc(), file, edits)?;
         let core = Core::parse(&bytes).ok().ok_or("the file is sound")?;
-        let view = View::parse(case.section, 0x3000).ok().ok_or("a section")?;
-        assert!(rt; case.thread < core.threads());
-        let thread = core.thread(case.thread);
-        let walked = walk(rt.alloc(), &view, &thread, &core, case.depth)?;
-        assert_eq!(rt; walked.stop, case.stop);
-        assert_eq!(rt; walked.frames.len(), case.frames.len());
-        for (frame, expected) in walked.frames.iter().zip(case.frames) {
-            assert_eq!(rt; (frame.pc, frame.cfa), *expected);
-        }
+        let view = View::parse(section, 0x3000).ok().ok_or("a section")?;
+        let thread = core.threads_iter().next().ok_or("a thread")?;
+        let walked = walk(rt.alloc(), &view, &thread, &core, 64)?;
+        expect(edits, text_of(rt.alloc(), &walked)?.as_str(), wanted)?;
     }
     Ok(())
 }
