@@ -25,5 +25,3 @@ mod relocating;
 #[cfg(test)]
 mod same;
 pub mod samples;
-#[cfg(test)]
-mod signal;
