@@ -3,14 +3,15 @@
 ghost use Rattle.std.specs.Prelude.{◌≡◌, ◌<◌, ◌+◌, ◌^◌, ℕ, List, [], ◌∷◌, ◌++◌, IfOk, OnOk, bytes_eq, length};
 ghost use Rattle.std.specs.List.{list_any};
 ghost use Rattle.elf_read.specs.Number.{LiesAt};
-ghost use Rattle.elf_read.specs.Views.{file, text_bytes};
+ghost use Rattle.elf_read.specs.Input.{file};
+ghost use Rattle.elf_read.specs.Views.{text_bytes};
 ghost use Rattle.elf_groups.specs.Groups.{group_signature};
 ghost use Rattle.elf_groups.specs.Groups.{dropped_groups, was_seen, seen_after, with_signature};
 ghost use Rattle.elf_groups.specs.Seen.{HasSeen, HasTexts};
 
 use crate::blocks::{BLOCK, Blocks};
 use crate::file_texts::FileTexts;
-use elf_read::{Elf, Text};
+use elf_read::{ElfInput, Text};
 use std::alloc::{AllocError, Global};
 use std::collections::BTreeSet;
 
@@ -69,7 +70,7 @@ impl<'a> Seen<'a> {
 
     // Returns whether a section is a COMDAT group whose signature the set had, and puts the signature into it.
     #[tactic(auto, unfolding(crate::specs::Groups::group_signature))]
-    fn is_gone(&mut self, texts: &mut FileTexts, elf: &Elf<'a>, i: u32) -> Result<bool, AllocError>
+    fn is_gone(&mut self, texts: &mut FileTexts, elf: &ElfInput<'a>, i: u32) -> Result<bool, AllocError>
         ensures gone { IfOk result (λ gone. (seen : List (List ℕ)) → HasSeen self.old seen → HasTexts (file elf.now) self.old.blocks texts.old → gone ≡ was_seen seen (group_signature (file elf.now) i)) }
         ensures seen { OnOk result ((seen : List (List ℕ)) → HasSeen self.old seen → HasTexts (file elf.now) self.old.blocks texts.old → HasSeen self.new (with_signature seen (group_signature (file elf.now) i))) }
         ensures texts { OnOk result ((seen : List (List ℕ)) → HasSeen self.old seen → HasTexts (file elf.now) self.old.blocks texts.old → HasTexts (file elf.now) self.new.blocks texts.new) }
@@ -92,7 +93,7 @@ impl<'a> Seen<'a> {
     /// # Errors
     ///
     /// Out of memory alone. Nothing is known of the set then.
-    pub fn dropped_groups(&mut self, alloc: Global, elf: &Elf<'a>) -> Result<Vec<u32>, AllocError>
+    pub fn dropped_groups(&mut self, alloc: Global, elf: &ElfInput<'a>) -> Result<Vec<u32>, AllocError>
         ensures gone { IfOk result (λ gone. (seen : List (List ℕ)) → HasSeen self.old seen → gone.items ≡ dropped_groups seen (file elf.now)) }
         ensures seen { OnOk result ((seen : List (List ℕ)) → HasSeen self.old seen → HasSeen self.new (seen_after seen (file elf.now))) }
     {

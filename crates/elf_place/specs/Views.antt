@@ -1,6 +1,6 @@
 -- What is seen of a file whose sections are placed.
 use Rattle.std.specs.Prelude.{ℕ, false, Bool, List, Option, None, slice_index_or}
-use Rattle.elf_read.specs.Views.{file as file_of}
+use Rattle.elf_read.specs.Input.{file as file_of}
 use Rattle.elf_place.specs.declared.placed.Placed.{Placed}
 
 -- the bytes of the whole file

@@ -3,13 +3,14 @@
 ghost use Rattle.std.specs.Prelude.{◌≡◌, ◌<◌, ◌≤◌, ◌^◌, length, map, IfOk};
 ghost use Rattle.elf_read.specs.Checking.{each_below, numbers_below, verdict};
 ghost use Rattle.elf_read.specs.Header.{is_rel};
-ghost use Rattle.elf_read.specs.Views.{file};
+ghost use Rattle.elf_read.specs.Sections.{section_count};
+ghost use Rattle.elf_read.specs.Input.{file};
 ghost use Rattle.elf_place.specs.Cursor as by_cursor;
 ghost use Rattle.elf_place.specs.Place as spec;
 
 use crate::checks::is_placed;
 use crate::fault::PlaceFault;
-use elf_read::{Elf, Kind};
+use elf_read::{ElfInput, Kind};
 use std::alloc::Global;
 
 /// The first number after all addresses.
@@ -38,7 +39,7 @@ fn align_up(from: u128, align: u64) -> u128
 
 // Returns whether the file is an object, whose sections have no addresses of their own.
 #[tactic(auto, unfolding(elf_read::specs::Header::kind_of))]
-fn is_object(elf: &Elf<'_>) -> bool
+fn is_object(elf: &ElfInput<'_>) -> bool
     ensures { result ≡ is_rel (file elf.now) }
 {
     matches!(elf.kind(), Kind::Rel)
@@ -46,8 +47,9 @@ fn is_object(elf: &Elf<'_>) -> bool
 
 // Returns where a section starts.
 #[tactic(auto, unfolding(crate::specs::Cursor::start_from))]
-fn start_from(elf: &Elf<'_>, base: u64, cursor: u128, i: u32) -> u128
-    requires { cursor ≤ 2 ^ 64 }
+fn start_from(elf: &ElfInput<'_>, base: u64, cursor: u128, i: u32) -> u128
+    requires small { cursor ≤ 2 ^ 64 }
+    requires index { i < section_count (file elf.now) }
     ensures value { result ≡ by_cursor.start_from (file elf.now) base cursor i }
     ensures small { result < 2 ^ 66 }
 {
@@ -70,13 +72,14 @@ fn is_in_memory(start: u128, size: u64) -> bool
 // Places a section at the cursor.
 #[tactic(auto, unfolding(crate::specs::Cursor::address_from, crate::specs::Cursor::cursor_from, crate::specs::Cursor::overflow_from))]
 fn place_section(
-    elf: &Elf<'_>,
+    elf: &ElfInput<'_>,
     base: u64,
     dropped: &[bool],
     cursor: u128,
     i: u32,
 ) -> Result<Spot, PlaceFault>
     requires index { i < length dropped.now }
+    requires all { length dropped.now ≡ section_count (file elf.now) }
     requires small { cursor ≤ 2 ^ 64 }
     ensures address { IfOk result (λ s. s.address ≡ by_cursor.address_from (file elf.now) dropped.now base cursor i) }
     ensures cursor { IfOk result (λ s. s.cursor ≡ by_cursor.cursor_from (file elf.now) dropped.now base cursor i) }
@@ -103,12 +106,13 @@ fn place_section(
 /// Returns the address of each section, where it has one.
 pub fn addresses_of(
     alloc: Global,
-    elf: &Elf<'_>,
+    elf: &ElfInput<'_>,
     base: u64,
     dropped: &[bool],
     count: u32,
 ) -> Result<Vec<Option<u64>>, PlaceFault>
-    requires { count ≡ length dropped.now }
+    requires count { count ≡ length dropped.now }
+    requires all { length dropped.now ≡ section_count (file elf.now) }
     ensures value { IfOk result (λ v. v.items ≡ map (spec.address_of (file elf.now) dropped.now base) (numbers_below count)) }
     ensures exact { spec.Gives result (each_below count (spec.overflow_check (file elf.now) dropped.now base)) }
 {
@@ -124,7 +128,7 @@ pub fn addresses_of(
 
 /// Returns how far the addresses of a file are from those in its headers.
 #[tactic(auto, unfolding(crate::specs::Place::shift_of))]
-pub fn shift_of(elf: &Elf<'_>, base: u64) -> u64
+pub fn shift_of(elf: &ElfInput<'_>, base: u64) -> u64
     ensures { result ≡ spec.shift_of (file elf.now) base }
 {
     if is_object(elf) { 0 } else { base }

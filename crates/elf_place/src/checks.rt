@@ -3,16 +3,17 @@
 ghost use Rattle.std.specs.Prelude.{◌≡◌, ◌<◌, length};
 ghost use Rattle.elf_read.specs.Checking.{each_below};
 ghost use Rattle.elf_read.specs.Sections as sections;
-ghost use Rattle.elf_read.specs.Views.{file};
+ghost use Rattle.elf_read.specs.Input.{file};
 ghost use Rattle.elf_place.specs.Place as spec;
 
 use crate::fault::PlaceFault;
-use elf_read::Elf;
+use elf_read::ElfInput;
 use elf_read::layout::{SHF_ALLOC, SHT_NOBITS};
 
 // Returns whether a section is loaded.
 #[tactic(auto, unfolding(elf_read::specs::Sections::is_allocated))]
-fn is_allocated(elf: &Elf<'_>, i: u32) -> bool
+fn is_allocated(elf: &ElfInput<'_>, i: u32) -> bool
+    requires { i < sections.section_count (file elf.now) }
     ensures { result ≡ sections.is_allocated (file elf.now) i }
 {
     elf.section(i).flags / SHF_ALLOC % 2 == 1
@@ -20,8 +21,9 @@ fn is_allocated(elf: &Elf<'_>, i: u32) -> bool
 
 /// Returns whether a section gets an address.
 #[tactic(auto, unfolding(crate::specs::Place::is_placed))]
-pub fn is_placed(elf: &Elf<'_>, dropped: &[bool], i: u32) -> bool
-    requires { i < length dropped.now }
+pub fn is_placed(elf: &ElfInput<'_>, dropped: &[bool], i: u32) -> bool
+    requires index { i < length dropped.now }
+    requires all { length dropped.now ≡ sections.section_count (file elf.now) }
     ensures { result ≡ spec.is_placed (file elf.now) dropped.now i }
 {
     is_allocated(elf, i) && !dropped[i as usize]
@@ -29,8 +31,9 @@ pub fn is_placed(elf: &Elf<'_>, dropped: &[bool], i: u32) -> bool
 
 /// Returns whether a section is call frame information that is not dropped.
 #[tactic(auto, unfolding(crate::specs::Place::is_kept_eh_frame))]
-pub fn is_kept_eh_frame(elf: &Elf<'_>, dropped: &[bool], i: u32) -> bool
-    requires { i < length dropped.now }
+pub fn is_kept_eh_frame(elf: &ElfInput<'_>, dropped: &[bool], i: u32) -> bool
+    requires index { i < length dropped.now }
+    requires all { length dropped.now ≡ sections.section_count (file elf.now) }
     ensures { result ≡ spec.is_kept_eh_frame (file elf.now) dropped.now i }
 {
     elf.is_eh_frame(i) && !dropped[i as usize]
@@ -44,8 +47,9 @@ fn is_alignment(align: u64) -> bool
 }
 
 #[tactic(auto, unfolding(crate::specs::Place::align_check))]
-fn check_align(elf: &Elf<'_>, dropped: &[bool], i: u32) -> Result<(), PlaceFault>
-    requires { i < length dropped.now }
+fn check_align(elf: &ElfInput<'_>, dropped: &[bool], i: u32) -> Result<(), PlaceFault>
+    requires index { i < length dropped.now }
+    requires all { length dropped.now ≡ sections.section_count (file elf.now) }
     ensures { result ≡ spec.align_check (file elf.now) dropped.now i }
 {
     if is_placed(elf, dropped, i) && !is_alignment(elf.section(i).align) {
@@ -55,8 +59,9 @@ fn check_align(elf: &Elf<'_>, dropped: &[bool], i: u32) -> Result<(), PlaceFault
 }
 
 /// Checks the alignments of the sections that get an address.
-pub fn check_aligns(elf: &Elf<'_>, dropped: &[bool], count: u32) -> Result<(), PlaceFault>
-    requires { count ≡ length dropped.now }
+pub fn check_aligns(elf: &ElfInput<'_>, dropped: &[bool], count: u32) -> Result<(), PlaceFault>
+    requires count { count ≡ length dropped.now }
+    requires all { length dropped.now ≡ sections.section_count (file elf.now) }
     ensures { result ≡ each_below count (spec.align_check (file elf.now) dropped.now) }
 {
     for i in 0..count {
@@ -66,8 +71,9 @@ pub fn check_aligns(elf: &Elf<'_>, dropped: &[bool], count: u32) -> Result<(), P
 }
 
 #[tactic(auto, unfolding(crate::specs::Place::bits_check))]
-fn check_bits(elf: &Elf<'_>, dropped: &[bool], i: u32) -> Result<(), PlaceFault>
-    requires { i < length dropped.now }
+fn check_bits(elf: &ElfInput<'_>, dropped: &[bool], i: u32) -> Result<(), PlaceFault>
+    requires index { i < length dropped.now }
+    requires all { length dropped.now ≡ sections.section_count (file elf.now) }
     ensures { result ≡ spec.bits_check (file elf.now) dropped.now i }
 {
     if is_kept_eh_frame(elf, dropped, i) && elf.section(i).kind == SHT_NOBITS {
@@ -77,8 +83,9 @@ fn check_bits(elf: &Elf<'_>, dropped: &[bool], i: u32) -> Result<(), PlaceFault>
 }
 
 /// Refuses call frame information without bytes in the file.
-pub fn check_all_bits(elf: &Elf<'_>, dropped: &[bool], count: u32) -> Result<(), PlaceFault>
-    requires { count ≡ length dropped.now }
+pub fn check_all_bits(elf: &ElfInput<'_>, dropped: &[bool], count: u32) -> Result<(), PlaceFault>
+    requires count { count ≡ length dropped.now }
+    requires all { length dropped.now ≡ sections.section_count (file elf.now) }
     ensures { result ≡ each_below count (spec.bits_check (file elf.now) dropped.now) }
 {
     for i in 0..count {

@@ -1,7 +1,7 @@
 //! A file whose sections are placed.
 
 ghost use Rattle.std.specs.List.Sorted.{IsNonDecreasingBy};
-ghost use Rattle.elf_read.specs.Views.{file as bytes_of_file};
+ghost use Rattle.elf_read.specs.Input.{file as bytes_of_file};
 ghost use Rattle.elf_place.specs.Relocations.{target_of, HasAll};
 
 use crate::addresses::{addresses_of, shift_of};
@@ -10,13 +10,13 @@ use crate::dropped::dropped_sections;
 use crate::eh_frames::eh_frames_of;
 use crate::fault::PlaceFault;
 use crate::relocations::{RelocationSection, relocation_sections, with_target};
-use elf_read::Elf;
+use elf_read::ElfInput;
 use std::alloc::Global;
 
 /// An ELF file with the addresses of its sections.
 #[derive(Drop)]
 pub struct Placed<'a> {
-    elf: Elf<'a>,
+    elf: ElfInput<'a>,
     shift: u64,
     dropped: Vec<bool>,
     addresses: Vec<Option<u64>>,
@@ -29,7 +29,7 @@ pub struct Placed<'a> {
 impl<'a> Placed<'a> {
     ghost use Rattle.std.specs.Prelude.{◌≡◌, ◌<◌, ℕ, IfOk, length, map};
     ghost use Rattle.elf_read.specs.Sections.{section_count, section_fields};
-    ghost use Rattle.elf_read.specs.Views.{file as file_of};
+    ghost use Rattle.elf_read.specs.Input.{file as file_of};
     ghost use Rattle.elf_place.specs.Dropped as drops;
     ghost use Rattle.elf_place.specs.Place as spec;
     ghost use Rattle.elf_read.specs.Checking.{numbers_below};
@@ -43,7 +43,7 @@ impl<'a> Placed<'a> {
     /// multiple of its alignment; in another file each lies at its own address, moved by the base.
     pub fn new(
         alloc: Global,
-        elf: &Elf<'a>,
+        elf: &ElfInput<'a>,
         base: u64,
         gone: &[u32],
     ) -> Result<Placed<'a>, PlaceFault>
@@ -109,7 +109,7 @@ impl<'a> Placed<'a> {
     }
 
     /// Returns the file.
-    pub fn elf(&self) -> &Elf<'a>
+    pub fn elf(&self) -> &ElfInput<'a>
         ensures { file_of result.now ≡ seen.placed_file self.now }
     {
         &self.elf

@@ -5,10 +5,10 @@ ghost use Rattle.std.specs.List.Sorted.{IsNonDecreasingBy, IsStableByKey};
 ghost use Rattle.std.specs.Ordering.{nat_cmp};
 ghost use Rattle.elf_read.specs.Sections.{section_count};
 ghost use Rattle.elf_read.specs.Used.{names_eh_frame as names};
-ghost use Rattle.elf_read.specs.Views.{file};
+ghost use Rattle.elf_read.specs.Input.{file};
 ghost use Rattle.elf_place.specs.Relocations as spec;
 
-use elf_read::Elf;
+use elf_read::ElfInput;
 use elf_read::layout::{
     SHT_CREL, SHT_GROUP, SHT_NOBITS, SHT_NULL, SHT_PROGBITS, SHT_REL, SHT_RELA, SHT_STRTAB,
     SHT_SYMTAB, SHT_X86_64_UNWIND,
@@ -49,7 +49,8 @@ fn is_type_without_relocations(kind: u32) -> bool
 
 // Returns whether a section relocates another, by its type or, where that is unknown, by its flags.
 #[tactic(auto, unfolding(crate::specs::Relocations::may_relocate, elf_read::specs::Sections::has_info_link))]
-fn may_relocate(elf: &Elf<'_>, i: u32) -> bool
+fn may_relocate(elf: &ElfInput<'_>, i: u32) -> bool
+    requires { i < section_count (file elf.now) }
     ensures { result ≡ spec.may_relocate (file elf.now) i }
 {
     let kind = elf.section(i).kind;
@@ -58,7 +59,7 @@ fn may_relocate(elf: &Elf<'_>, i: u32) -> bool
 
 // Returns whether a number is that of a section with call frame information.
 #[tactic(auto, unfolding(elf_read::specs::Used::names_eh_frame))]
-fn names_eh_frame(elf: &Elf<'_>, i: u32) -> bool
+fn names_eh_frame(elf: &ElfInput<'_>, i: u32) -> bool
     ensures { result ≡ names (file elf.now) i }
 {
     i < elf.sections() && elf.is_eh_frame(i)
@@ -66,7 +67,8 @@ fn names_eh_frame(elf: &Elf<'_>, i: u32) -> bool
 
 // Returns whether a section has relocations of call frame information.
 #[tactic(auto, unfolding(crate::specs::Relocations::has_relocations))]
-fn has_relocations(elf: &Elf<'_>, i: u32) -> bool
+fn has_relocations(elf: &ElfInput<'_>, i: u32) -> bool
+    requires { i < section_count (file elf.now) }
     ensures { result ≡ spec.has_relocations (file elf.now) i }
 {
     may_relocate(elf, i) && names_eh_frame(elf, elf.section(i).info)
@@ -75,9 +77,10 @@ fn has_relocations(elf: &Elf<'_>, i: u32) -> bool
 // Returns those of the first `count` sections that have relocations, in order of their numbers.
 fn list_sections(
     alloc: Global,
-    elf: &Elf<'_>,
+    elf: &ElfInput<'_>,
     count: u32,
 ) -> Result<Vec<RelocationSection>, AllocError>
+    requires { count ≡ section_count (file elf.now) }
     ensures { IfOk result (λ v. v.items ≡ spec.listed_below (file elf.now) count) }
 {
     let mut list = Vec::new(alloc);
@@ -102,7 +105,7 @@ fn sort_by_target(list: &mut Vec<RelocationSection>) -> Result<(), AllocError>
 /// Returns the sections with relocations, by rising target; those of one target in order of their numbers.
 pub fn relocation_sections(
     alloc: Global,
-    elf: &Elf<'_>,
+    elf: &ElfInput<'_>,
     count: u32,
 ) -> Result<Vec<RelocationSection>, AllocError>
     requires { count ≡ section_count (file elf.now) }

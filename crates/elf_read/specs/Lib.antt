@@ -14,3 +14,4 @@ pub mod FaultShown
 pub mod Masks
 pub mod Zeros
 pub mod Linked
+pub mod Input

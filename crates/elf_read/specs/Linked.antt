@@ -1,6 +1,7 @@
 -- Executables and shared objects that have sections with names (ELF64 gABI, "ELF Header", "Sections").
 use Rattle.std.specs.Prelude.{◌≡◌, ◌==◌, ◌<◌, ℕ, true, false, List, Ok}
 use Rattle.elf_read.specs.declared.headers.Headers.{Headers}
+use Rattle.elf_read.specs.declared.linked_elf.LinkedElf.{LinkedElf}
 use Rattle.elf_read.specs.Checks.{identity_check, purpose_check}
 use Rattle.elf_read.specs.Header.{header_fields, is_core, is_rel}
 use Rattle.elf_read.specs.Sections.{section_count, is_eh_frame}
@@ -26,3 +27,7 @@ pub record IsOnlyEhFrame (file : List ℕ) (i : ℕ) : Type 0 where
 -- all the bytes of the file whose headers these are
 abbrev pub whole_of : Headers → List ℕ
 whole_of headers = headers.file.whole.now.numbers
+
+-- all the bytes of a file that was checked by its parts
+abbrev pub linked_file : LinkedElf → List ℕ
+linked_file elf = elf.headers.file.whole.now.numbers

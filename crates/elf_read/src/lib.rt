@@ -6,6 +6,7 @@
 //!
 //! [`linked_of`] checks as much of an executable or a shared object by its header, its section headers, their names and
 //! its one section with call frame information, which it lends. It returns one only where the whole file has no fault.
+//! An [`ElfInput`] is a file to link in either form.
 //!
 //! The meaning of a file is its list of bytes. Each header is a record of the standard's fields, and a function
 //! of it (`specs/Header.antt`, `specs/Sections.antt`). What is asked of a file is a table of conditions, each with
@@ -27,6 +28,7 @@ mod first_zero;
 mod header;
 mod headers;
 mod identity;
+mod input;
 mod kind;
 mod laws;
 pub mod layout;
@@ -54,6 +56,7 @@ pub use entry::{GroupHead, Rela, Section, Segment, Symbol};
 pub use fault::ElfFault;
 pub use first_zero::bytes_before_zero;
 pub use headers::Headers;
+pub use input::ElfInput;
 pub use kind::Kind;
 pub use laws::{compressed_law, room_law};
 pub use linked::linked_of;

@@ -5,10 +5,13 @@ ghost use Rattle.elf_read.specs.Header.{header_fields};
 ghost use Rattle.elf_read.specs.Linked.{whole_of};
 ghost use Rattle.elf_read.specs.Number.{field_at};
 ghost use Rattle.elf_read.specs.Sections as spec;
+ghost use Rattle.elf_read.specs.Views.{section_of};
 
+use crate::entry::Section;
 use crate::headers::Headers;
 use crate::layout::{
-    SECTION_HEADER_LEN, SH_FLAGS, SH_NAME, SH_OFFSET, SH_SIZE, SH_TYPE, SHT_NOBITS, SHT_NULL,
+    SECTION_HEADER_LEN, SH_ADDR, SH_ADDRALIGN, SH_ENTSIZE, SH_FLAGS, SH_INFO, SH_LINK, SH_NAME,
+    SH_OFFSET, SH_SIZE, SH_TYPE, SHT_NOBITS, SHT_NULL,
 };
 use crate::number::{u32_at, u64_at};
 
@@ -73,6 +76,69 @@ pub fn sh_size(headers: &Headers<'_>, i: u32) -> u64
     ensures { result ≡ (spec.section_fields (whole_of headers.now) i).sh_size }
 {
     field8(headers, i, SH_SIZE)
+}
+
+/// Returns the section's address.
+#[tactic(auto, unfolding(crate::specs::Sections::section_fields))]
+pub fn sh_addr(headers: &Headers<'_>, i: u32) -> u64
+    requires { i < headers.now.count }
+    ensures { result ≡ (spec.section_fields (whole_of headers.now) i).sh_addr }
+{
+    field8(headers, i, SH_ADDR)
+}
+
+/// Returns the number of the section that this one is linked to.
+#[tactic(auto, unfolding(crate::specs::Sections::section_fields))]
+pub fn sh_link(headers: &Headers<'_>, i: u32) -> u32
+    requires { i < headers.now.count }
+    ensures { result ≡ (spec.section_fields (whole_of headers.now) i).sh_link }
+{
+    field4(headers, i, SH_LINK)
+}
+
+/// Returns the section's info, whose meaning its type gives.
+#[tactic(auto, unfolding(crate::specs::Sections::section_fields))]
+pub fn sh_info(headers: &Headers<'_>, i: u32) -> u32
+    requires { i < headers.now.count }
+    ensures { result ≡ (spec.section_fields (whole_of headers.now) i).sh_info }
+{
+    field4(headers, i, SH_INFO)
+}
+
+/// Returns the section's alignment.
+#[tactic(auto, unfolding(crate::specs::Sections::section_fields))]
+pub fn sh_addralign(headers: &Headers<'_>, i: u32) -> u64
+    requires { i < headers.now.count }
+    ensures { result ≡ (spec.section_fields (whole_of headers.now) i).sh_addralign }
+{
+    field8(headers, i, SH_ADDRALIGN)
+}
+
+/// Returns the length of the section's entries, in bytes.
+#[tactic(auto, unfolding(crate::specs::Sections::section_fields))]
+pub fn sh_entsize(headers: &Headers<'_>, i: u32) -> u64
+    requires { i < headers.now.count }
+    ensures { result ≡ (spec.section_fields (whole_of headers.now) i).sh_entsize }
+{
+    field8(headers, i, SH_ENTSIZE)
+}
+
+/// Returns the header of a section.
+pub fn section_at(headers: &Headers<'_>, i: u32) -> Section
+    requires { i < headers.now.count }
+    ensures { result ≡ section_of (whole_of headers.now) i }
+{
+    Section {
+        kind: sh_type(headers, i),
+        flags: sh_flags(headers, i),
+        addr: sh_addr(headers, i),
+        offset: sh_offset(headers, i),
+        size: sh_size(headers, i),
+        link: sh_link(headers, i),
+        info: sh_info(headers, i),
+        align: sh_addralign(headers, i),
+        entry: sh_entsize(headers, i),
+    }
 }
 
 /// Returns whether a section has bytes in the file.

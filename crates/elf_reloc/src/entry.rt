@@ -1,8 +1,9 @@
 //! What one relocation does.
 
-ghost use Rattle.std.specs.Prelude.{◌≡◌, ◌+◌, ◌-◌, ◌%◌, ◌^◌, None};
+ghost use Rattle.std.specs.Prelude.{◌≡◌, ◌+◌, ◌-◌, ◌%◌, ◌^◌, IsTrue, None};
 ghost use Rattle.std.specs.Int.{cast_unsigned};
-ghost use Rattle.elf_place.specs.Views.{placing};
+ghost use Rattle.elf_place.specs.Views.{placed_file, placing};
+ghost use Rattle.elf_read.specs.Header.{is_rel};
 ghost use Rattle.elf_reloc.specs.Reading as spec;
 
 use crate::fault::RelocFault;
@@ -117,6 +118,7 @@ pub fn entry_fix(
     i: u32,
     k: u32,
 ) -> Result<Option<RelocatedField>, RelocFault>
+    requires { IsTrue (is_rel (placed_file placed.now)) }
     ensures { result ≡ spec.entry_fix (placing placed.now) section index i k }
 {
     let elf = placed.elf();

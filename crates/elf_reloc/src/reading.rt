@@ -31,7 +31,8 @@ fn read_entry(
     k: u32,
     read: &mut FixesSoFar,
 ) -> Result<(), RelocFault>
-    requires { read.old.next + 1 < 2 ^ 32 }
+    requires object { IsTrue (is_rel (placed_file placed.now)) }
+    requires few { read.old.next + 1 < 2 ^ 32 }
     ensures exact { (left : List Relocation) → spec.GoesOn (placing placed.now) section result read.new (going_on (placing placed.now) section read.old (record { table = i; entry = k } ∷ left)) left }
     ensures next { OnOk result (read.new.next ≡ read.old.next + 1) }
 {
@@ -51,7 +52,8 @@ fn read_entries(
     count: u32,
     read: &mut FixesSoFar,
 ) -> Result<(), RelocFault>
-    requires { read.old.next + count < 2 ^ 32 }
+    requires object { IsTrue (is_rel (placed_file placed.now)) }
+    requires few { read.old.next + count < 2 ^ 32 }
     ensures exact { (left : List Relocation) → spec.GoesOn (placing placed.now) section result read.new (going_on (placing placed.now) section read.old (entries_from i 0 count ++ left)) left }
     ensures next { OnOk result (read.new.next ≡ read.old.next + count) }
 {
@@ -64,6 +66,7 @@ fn read_entries(
 // Returns how many relocations with addends section `i` has.
 #[tactic(auto, unfolding(elf_read::specs::Sections::entry_count))]
 fn entry_count(placed: &Placed<'_>, i: u32) -> u32
+    requires { IsTrue (is_rel (placed_file placed.now)) }
     ensures { result ≡ fields.entry_count (placed_file placed.now) i }
 {
     (placed.elf().bytes(i).len() as u64 / ENTRY_LEN) as u32
@@ -76,7 +79,8 @@ fn read_sections(
     sections: &[RelocationSection],
     read: &mut FixesSoFar,
 ) -> Result<(), RelocFault>
-    requires { read.old.next + length (relocations_in (placed_file placed.now) (numbers_of sections.now)) < 2 ^ 32 }
+    requires object { IsTrue (is_rel (placed_file placed.now)) }
+    requires few { read.old.next + length (relocations_in (placed_file placed.now) (numbers_of sections.now)) < 2 ^ 32 }
     ensures { spec.GoesOn (placing placed.now) section result read.new (going_on (placing placed.now) section read.old (relocations_in (placed_file placed.now) (numbers_of sections.now))) [] }
 {
     for it in sections {
@@ -94,6 +98,7 @@ fn read_sections(
 // Returns whether section `i` has relocations with addends.
 #[tactic(auto, unfolding(crate::specs::Reading::has_addends))]
 fn has_addends(placed: &Placed<'_>, i: u32) -> bool
+    requires { IsTrue (is_rel (placed_file placed.now)) }
     ensures { result ≡ spec.has_addends (placed_file placed.now) i }
 {
     placed.elf().section(i).kind == SHT_RELA
@@ -101,6 +106,7 @@ fn has_addends(placed: &Placed<'_>, i: u32) -> bool
 
 // Checks that each of these sections has relocations with addends.
 fn check_rels(placed: &Placed<'_>, sections: &[RelocationSection]) -> Result<(), RelocFault>
+    requires { IsTrue (is_rel (placed_file placed.now)) }
     ensures { result ≡ spec.rel_check (placed_file placed.now) (numbers_of sections.now) }
 {
     for it in sections {

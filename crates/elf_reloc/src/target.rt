@@ -1,7 +1,8 @@
 //! The address that a symbol names.
 
-ghost use Rattle.std.specs.Prelude.{◌≡◌};
-ghost use Rattle.elf_place.specs.Views.{placing};
+ghost use Rattle.std.specs.Prelude.{◌≡◌, IsTrue};
+ghost use Rattle.elf_place.specs.Views.{placed_file, placing};
+ghost use Rattle.elf_read.specs.Header.{is_rel};
 ghost use Rattle.elf_reloc.specs.Target as spec;
 
 use elf_place::Placed;
@@ -49,6 +50,7 @@ fn index_target(placed: &Placed<'_>, index: u16, value: u64) -> Target
 /// Returns what a symbol names.
 #[tactic(auto, unfolding(crate::specs::Target::symbol_target, crate::specs::Target::index_target, crate::specs::Target::section_target))]
 pub fn target_of(placed: &Placed<'_>, table: u32, k: u32) -> Target
+    requires { IsTrue (is_rel (placed_file placed.now)) }
     ensures { result ≡ spec.symbol_target (placing placed.now) table k }
 {
     if k == 0 {

@@ -1,6 +1,6 @@
 use Rattle.std.proofs.Common.{◌≡◌, ◌++◌, ◌∷◌, [], ℕ, List, Option, ◌+◌, Ok, Err, sym, ap, ◌∙◌, subst, rules}
 use Rattle.std.proofs.lemmas.Result.{err_from_is_err_and}
-use Rattle.elf_read.specs.Views.{file}
+use Rattle.elf_read.specs.Input.{file}
 use Rattle.elf_read.proofs.Each.{each_below-none, each_below-more, each_below-stop}
 use Rattle.elf_place.specs.Cursor.{IsCursor}
 use Rattle.elf_place.specs.Place.{address_of, overflow_check}

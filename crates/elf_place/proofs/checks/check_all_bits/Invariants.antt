@@ -1,6 +1,6 @@
 use Rattle.std.proofs.Common.{◌≡◌, Ok}
 use Rattle.elf_read.specs.Checking.{each_below}
-use Rattle.elf_read.specs.Views.{file}
+use Rattle.elf_read.specs.Input.{file}
 use Rattle.elf_place.specs.Place.{bits_check}
 use Rattle.elf_place.proofs.checks.check_all_bits.Given as goal
 

@@ -1,7 +1,7 @@
 use Rattle.std.proofs.Common.{◌≡◌, false, length, ◌∙◌, arith}
 use Rattle.std.proofs.lemmas.List.{take_at}
 use Rattle.elf_read.specs.Sections.{section_count}
-use Rattle.elf_read.specs.Views.{file}
+use Rattle.elf_read.specs.Input.{file}
 use Rattle.elf_place.specs.Dropped.{is_dropped}
 use Rattle.elf_place.proofs.Values.{are_values_below}
 use Rattle.elf_place.proofs.dropped.dropped_sections.Goals as goal

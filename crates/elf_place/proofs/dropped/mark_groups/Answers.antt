@@ -1,5 +1,5 @@
 use Rattle.std.proofs.Common.{◌||◌, Bool, get_or, sym, ap, ◌∙◌, arith}
-use Rattle.elf_read.specs.Views.{file}
+use Rattle.elf_read.specs.Input.{file}
 use Rattle.elf_place.specs.Dropped.{is_named}
 use Rattle.elf_place.proofs.Marks.{is_dropped-none, is_dropped-more}
 use Rattle.elf_place.proofs.dropped.mark_groups.Goals as goal

@@ -1,5 +1,5 @@
 use Rattle.std.proofs.Common.{◌≡◌, ◌<◌, ℕ, false, length, get_or, take}
-use Rattle.elf_read.specs.Views.{file}
+use Rattle.elf_read.specs.Input.{file}
 use Rattle.elf_place.specs.Dropped.{is_dropped}
 use Rattle.elf_place.proofs.dropped.mark_groups.Given as goal
 

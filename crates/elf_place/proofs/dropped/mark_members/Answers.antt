@@ -1,5 +1,5 @@
 use Rattle.std.proofs.Common.{ℕ, List, ◌||◌, ◌==◌, Bool, false, get_or, sym, ap, ◌∙◌, arith}
-use Rattle.elf_read.specs.Views.{file}
+use Rattle.elf_read.specs.Input.{file}
 use Rattle.elf_place.specs.Dropped.{is_member}
 use Rattle.elf_place.proofs.Marks.{or_false, is_member-none, is_member-more, marked, unmarked}
 use Rattle.elf_place.proofs.dropped.mark_members.Goals as goal

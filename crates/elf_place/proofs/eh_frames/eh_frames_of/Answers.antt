@@ -1,5 +1,5 @@
 use Rattle.std.proofs.Common.{◌≡◌, ◌++◌, ◌∷◌, [], ℕ, true, false, List, sym, ap, ◌∙◌}
-use Rattle.elf_read.specs.Views.{file}
+use Rattle.elf_read.specs.Input.{file}
 use Rattle.elf_place.specs.Place.{is_kept_eh_frame}
 use Rattle.elf_place.proofs.Cursor.{eh_frames_below-none, eh_frames_below-more}
 use Rattle.elf_place.proofs.eh_frames.eh_frames_of.Goals as goal

@@ -1,5 +1,5 @@
 use Rattle.std.proofs.Common.{◌≡◌}
-use Rattle.elf_read.specs.Views.{file}
+use Rattle.elf_read.specs.Input.{file}
 use Rattle.elf_place.specs.Place.{eh_frames_below}
 use Rattle.elf_place.proofs.eh_frames.eh_frames_of.Given as goal
 

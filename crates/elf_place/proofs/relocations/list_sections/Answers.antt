@@ -1,5 +1,5 @@
 use Rattle.std.proofs.Common.{◌≡◌, ◌++◌, ◌∷◌, [], true, false, List, sym, ap, ◌∙◌, rules}
-use Rattle.elf_read.specs.Views.{file}
+use Rattle.elf_read.specs.Input.{file}
 use Rattle.elf_place.specs.Relocations.{has_relocations, as_listed}
 use Rattle.elf_place.specs.declared.relocations.RelocationSection.{RelocationSection}
 use Rattle.elf_place.proofs.WithTarget.{listed_below-none, listed_below-more}

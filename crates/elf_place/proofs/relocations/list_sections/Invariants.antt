@@ -1,5 +1,5 @@
 use Rattle.std.proofs.Common.{◌≡◌}
-use Rattle.elf_read.specs.Views.{file}
+use Rattle.elf_read.specs.Input.{file}
 use Rattle.elf_place.specs.Relocations.{listed_below}
 use Rattle.elf_place.proofs.relocations.list_sections.Given as goal
 

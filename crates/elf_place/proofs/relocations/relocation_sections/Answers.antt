@@ -1,5 +1,5 @@
 use Rattle.std.proofs.Common.{◌∙◌, ap, List}
-use Rattle.elf_read.specs.Views.{file}
+use Rattle.elf_read.specs.Input.{file}
 use Rattle.elf_place.specs.Relocations.{numbers_of, with_target, relocation_sections_below}
 use Rattle.elf_place.specs.declared.relocations.RelocationSection.{RelocationSection}
 use Rattle.elf_place.proofs.WithTarget.{listed_has_all, stable_keeps}

@@ -20,8 +20,8 @@ returns c =
     (object_is (placing c.args.placed.now) c.args.section c.args.read.now (numbers_of c.relocation_sections-sections.result.now) c.requires.none c.requires.first c.relocation_sections-sections.ensures (sym c.in_ok-check_rels.ensures))
     c.read_sections.ensures
 
-pub read_sections-requires : goal.read_sections-requires
-read_sections-requires c =
+pub read_sections-requires-clause-few : goal.read_sections-requires-clause-few
+read_sections-requires-clause-few c =
     let file = placed_file c.args.placed.now in
     let sections : numbers_of c.relocation_sections-sections.result.now ≡ relocation_sections file c.args.section = c.relocation_sections-sections.ensures in
     let checked : rel_check file (relocation_sections file c.args.section) ≡ Ok tt = sym (c.in_ok-check_rels.ensures ∙ ap (rel_check file) sections) in

@@ -22,8 +22,8 @@ left_at : (c : goal.In_ok-read_entries)
     → length (relocations_in (placed_file c.args.placed.now) (numbers_of (drop c.loop-it.it-index c.args.sections.now))) ≡ c.entry_count.result + length (relocations_in (placed_file c.args.placed.now) (numbers_of (drop (c.loop-it.it-index + 1) c.args.sections.now)))
 left_at c = sections-length (placed_file c.args.placed.now) c.args.sections.now c.loop-it.it-index record { target = 0; number = 0 } c.entry_count.result c.loop-it-test.true c.entry_count.ensures
 
-pub read_entries-requires : goal.read_entries-requires
-read_entries-requires c =
+pub read_entries-requires-clause-few : goal.read_entries-requires-clause-few
+read_entries-requires-clause-few c =
     let here = sections-length (placed_file c.args.placed.now) c.args.sections.now c.loop-it.it-index record { target = 0; number = 0 } c.entry_count.result c.loop-it-test.true c.entry_count.ensures in
     omega (arith, c.loop-it.invariant.1, here)
 

@@ -2,7 +2,7 @@ use Rattle.elf_groups.proofs.Gone.{none_gone, none_seen, one_gone, one_seen, one
 use Rattle.std.proofs.Common.{◌≡◌, ℕ, Vec, Global, ap, sym, subst, ◌∙◌, arith}
 use Rattle.elf_read.specs.Sections.{section_count}
 use Rattle.elf_groups.specs.Groups.{seen_below}
-use Rattle.elf_read.specs.Views.{file}
+use Rattle.elf_read.specs.Input.{file}
 use Rattle.elf_groups.specs.Seen.{HasSeen}
 use Rattle.elf_groups.proofs.groups.Seen.dropped_groups.Goals as goal
 use Rattle.elf_groups.proofs.groups.Seen.dropped_groups.Goals.{then-branch+in_ok-push, else-branch}

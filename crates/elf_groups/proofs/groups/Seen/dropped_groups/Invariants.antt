@@ -1,5 +1,5 @@
 use Rattle.std.proofs.Common.{◌≡◌, ℕ, List}
-use Rattle.elf_read.specs.Views.{file}
+use Rattle.elf_read.specs.Input.{file}
 use Rattle.elf_groups.specs.Groups.{dropped_below, seen_below}
 use Rattle.elf_groups.specs.Seen.{HasSeen, HasTexts}
 use Rattle.elf_groups.proofs.groups.Seen.dropped_groups.Given as goal

@@ -1,6 +1,7 @@
 use Rattle.std.proofs.Common.{◌≡◌, Bool, Some, None, cond, sym, ap, subst, ◌∙◌}
 use Rattle.std.specs.Option.{option_and_then}
-use Rattle.elf_read.specs.Views.{file, text_bytes}
+use Rattle.elf_read.specs.Input.{file}
+use Rattle.elf_read.specs.Views.{text_bytes}
 use Rattle.elf_groups.specs.Groups.{if_comdat, group_signature}
 use Rattle.elf_groups.specs.Groups.{with_signature}
 use Rattle.elf_groups.specs.Seen.{HasSeen}

@@ -1,5 +1,5 @@
 use Rattle.std.proofs.Common.{rules}
-use Rattle.elf_read.specs.Views.{file}
+use Rattle.elf_read.specs.Input.{file}
 use Rattle.elf_place.specs.Dropped.{dropped_sections}
 use Rattle.elf_place.proofs.InMemory.{addresses_lie}
 use Rattle.elf_place.proofs.PlaceChecks.{place_check_is}
