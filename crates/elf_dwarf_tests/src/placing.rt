@@ -3,7 +3,7 @@
 use crate::samples::{GROUPED, SHARED, file_of};
 use base_tests::tables::expect;
 use elf_place::Placed;
-use elf_read::Elf;
+use elf_read::{Elf, ElfInput};
 use std::alloc::Global;
 use std::test::*;
 
@@ -86,7 +86,7 @@ fn what_is_placed_and_dropped(rt: HostRuntime) -> Result<(), Fail> {
     for case in &CASES {
         let bytes = file_of(rt.alloc(), case.file, case.edits)?;
         let elf = Elf::parse(&bytes).ok().ok_or("the file is sound")?;
-        let placed = Placed::new(rt.alloc(), &elf, case.base, case.gone)
+        let placed = Placed::new(rt.alloc(), &ElfInput::Whole(elf), case.base, case.gone)
             .ok()
             .ok_or("it can be placed")?;
         let text = text_of(rt.alloc(), &placed)?;

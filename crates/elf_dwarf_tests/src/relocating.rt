@@ -7,7 +7,7 @@ ghost use Rattle.sf_bytes.specs.Rising.{AreRising};
 use crate::samples::{AARCH64, GROUPED, file_of};
 use base_tests::tables::{expect, prints, row};
 use elf_place::Placed;
-use elf_read::Elf;
+use elf_read::{Elf, ElfInput};
 use elf_reloc::{RelocFault, Relocs};
 use sf_bytes::{Field, Values};
 use std::alloc::Global;
@@ -161,7 +161,7 @@ fn fields_hold_their_values(rt: HostRuntime) -> Result<(), Fail> {
     for case in &CASES {
         let bytes = file_of(rt.alloc(), case.file, case.edits)?;
         let elf = Elf::parse(&bytes).ok().ok_or("the object is sound")?;
-        let placed = Placed::new(rt.alloc(), &elf, case.base, case.gone)
+        let placed = Placed::new(rt.alloc(), &ElfInput::Whole(elf), case.base, case.gone)
             .ok()
             .ok_or("it can be placed")?;
         let relocs = Relocs::new(rt.alloc(), &placed, case.section)
@@ -209,7 +209,7 @@ fn relocations_that_lie_on_no_field(rt: HostRuntime) -> Result<(), Fail> {
         if let Some((edits, wanted)) = row(line) {
             let bytes = file_of(rt.alloc(), GROUPED, edits)?;
             let elf = Elf::parse(&bytes).ok().ok_or("the object is sound")?;
-            let placed = Placed::new(rt.alloc(), &elf, 0x400000, &[])
+            let placed = Placed::new(rt.alloc(), &ElfInput::Whole(elf), 0x400000, &[])
                 .ok()
                 .ok_or("it can be placed")?;
             let relocs = Relocs::new(rt.alloc(), &placed, 4)

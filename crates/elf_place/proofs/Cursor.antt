@@ -95,7 +95,7 @@ pub eh_frames_below-none : (file : List ℕ) (dropped : List Bool) → eh_frames
 unfolding eh_frames_below
 eh_frames_below-none file dropped = filter_none (is_kept_eh_frame file dropped)
 
-one_more : (file : List ℕ) (dropped : List Bool) (i : ℕ) → eh_frames_below file dropped (suc i) ≡ with_one (is_kept_eh_frame file dropped i) i (eh_frames_below file dropped i)
+pub one_more : (file : List ℕ) (dropped : List Bool) (i : ℕ) → eh_frames_below file dropped (suc i) ≡ with_one (is_kept_eh_frame file dropped i) i (eh_frames_below file dropped i)
 unfolding eh_frames_below
 one_more file dropped i = filter_suc (is_kept_eh_frame file dropped) i
 

@@ -5,3 +5,5 @@ pub mod Cursor
 pub mod WithTarget
 pub mod InMemory
 pub mod PlaceChecks
+mod EhFrames
+mod Groups

@@ -1,6 +1,6 @@
 -- Where the sections of a file lie (ELF64 gABI, "Sections", sh_addr and sh_addralign). `dropped` has for
 -- each section whether it is dropped.
-use Rattle.std.specs.Prelude.{ℕ, ◌+◌, ◌-◌, ◌*◌, ◌/◌, ◌^◌, ◌==◌, ◌<◌, ◌≤◌, Bool, false, ◌&&◌, ◌||◌, not, List, [], ◌∷◌, Option, Some, None, Result, nat_le, nat_lt, slice_index_or, if◌then◌else◌}
+use Rattle.std.specs.Prelude.{◌≡◌, ℕ, true, ◌+◌, ◌-◌, ◌*◌, ◌/◌, ◌^◌, ◌==◌, ◌<◌, ◌≤◌, Bool, false, ◌&&◌, ◌||◌, not, List, [], ◌∷◌, Option, Some, None, Result, nat_le, nat_lt, slice_index_or, if◌then◌else◌}
 use Rattle.std.specs.Int.{is_power_of_two}
 use Rattle.std.specs.List.{filter}
 use Rattle.sf_model.specs.Answers as answers
@@ -40,6 +40,10 @@ LiesInMemory (Some start) size = (start < 2 ^ 64) × (start + size ≤ 2 ^ 64)
 -- the sections with call frame information that are not dropped
 unfoldable pub is_kept_eh_frame : List ℕ → List Bool → ℕ → Bool
 is_kept_eh_frame file dropped i = is_eh_frame file i && not (slice_index_or dropped i false)
+
+-- the number of a section with call frame information
+abbrev pub IsEhFrame : List ℕ → ℕ → Type 0
+IsEhFrame file i = (i < section_count file) × (is_eh_frame file i ≡ true)
 
 -- The first fault: an alignment that is neither none nor a power of two; a section that doesn't start below 2^64 and end there or before;
 -- call frame information without bytes, of type SHT_NOBITS 8.

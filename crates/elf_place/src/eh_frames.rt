@@ -1,6 +1,6 @@
 //! The sections with call frame information.
 
-ghost use Rattle.std.specs.Prelude.{◌≡◌, length, IfOk};
+ghost use Rattle.std.specs.Prelude.{◌≡◌, All, length, IfOk};
 ghost use Rattle.elf_read.specs.Input.{file};
 ghost use Rattle.elf_read.specs.Sections.{section_count};
 ghost use Rattle.elf_place.specs.Place as spec;
@@ -18,7 +18,8 @@ pub fn eh_frames_of(
 ) -> Result<Vec<u32>, AllocError>
     requires count { count ≡ length dropped.now }
     requires all { length dropped.now ≡ section_count (file elf.now) }
-    ensures { IfOk result (λ v. v.items ≡ spec.eh_frames_below (file elf.now) dropped.now count) }
+    ensures all { IfOk result (λ v. All (spec.IsEhFrame (file elf.now)) v.items) }
+    ensures numbers { IfOk result (λ v. v.items ≡ spec.eh_frames_below (file elf.now) dropped.now count) }
 {
     let mut found = Vec::new(alloc);
     for i in 0..count {

@@ -1,7 +1,10 @@
 //! A file whose sections are placed.
 
+ghost use Rattle.std.specs.Prelude.{All};
 ghost use Rattle.std.specs.List.Sorted.{IsNonDecreasingBy};
+ghost use Rattle.std.proofs.Props.{props};
 ghost use Rattle.elf_read.specs.Input.{file as bytes_of_file};
+ghost use Rattle.elf_place.specs.Place.{IsEhFrame};
 ghost use Rattle.elf_place.specs.Relocations.{target_of, HasAll};
 
 use crate::addresses::{addresses_of, shift_of};
@@ -24,6 +27,7 @@ pub struct Placed<'a> {
     relocations: Vec<RelocationSection>,
     ghost rising: { IsNonDecreasingBy target_of relocations.items },
     ghost whole: { HasAll (bytes_of_file elf) relocations.items },
+    ghost frames: { All (IsEhFrame (bytes_of_file elf)) eh_frames.items } by { Prim.hlevel props },
 }
 
 impl<'a> Placed<'a> {

@@ -9,7 +9,11 @@ use Rattle.std.proofs.lemmas.List.{length-take, drop-take}
 use Rattle.byteorder.specs.Endian.{little_number}
 use Rattle.byteorder.specs.Numbers.{little_from-take}
 use Rattle.elf_read.specs.Number.{text_in, front_number, field_at, window}
-use Rattle.elf_read.specs.Header.{FileHeader, header_fields}
+use Rattle.elf_read.specs.Header.{FileHeader, header_fields, arch_of, kind_of}
+use Rattle.elf_read.specs.declared.kind.Kind.{Kind as kind}
+use Rattle.elf_read.specs.declared.kind.Kind.TheVariants.{Rel, Exec, Dyn, Core}
+use Rattle.sf_model.specs.declared.machine.Arch.{Arch as machine}
+use Rattle.sf_model.specs.declared.machine.Arch.TheVariants.{Amd64, Aarch64}
 use Rattle.elf_read.specs.Sections.{section_fields, section_bytes, section_count, section_name, name_table}
 
 same_test : (w m len : ℕ) → w ≤ m → nat_lt (min m len) w ≡ nat_lt len w
@@ -139,6 +143,26 @@ head_kept file header is h =
 
 pub place_kept : (file header : List ℕ) → header ≡ window 0 64 file → (header_fields header).e_shoff ≡ (header_fields file).e_shoff
 place_kept file header is = ap (λ (bytes : List ℕ). (header_fields bytes).e_shoff) is ∙ ap (λ (h : FileHeader). h.e_shoff) (fields_kept file)
+
+abbrev kind_by : FileHeader → kind
+kind_by h = cond (h.e_type == 1) Rel (cond (h.e_type == 2) Exec (cond (h.e_type == 3) Dyn Core))
+
+kind_is : (file : List ℕ) → kind_of file ≡ kind_by (header_fields file)
+unfolding kind_of
+kind_is file = refl
+
+pub kind_kept : (file header : List ℕ) → header ≡ window 0 64 file → kind_of header ≡ kind_of file
+kind_kept file header is = ap kind_of is ∙ kind_is (head_of file) ∙ ap kind_by (fields_kept file) ∙ sym (kind_is file)
+
+abbrev arch_by : FileHeader → machine
+arch_by h = cond (h.e_machine == 62) Amd64 Aarch64
+
+arch_is : (file : List ℕ) → arch_of file ≡ arch_by (header_fields file)
+unfolding arch_of
+arch_is file = refl
+
+pub arch_kept : (file header : List ℕ) → header ≡ window 0 64 file → arch_of header ≡ arch_of file
+arch_kept file header is = ap arch_of is ∙ arch_is (head_of file) ∙ ap arch_by (fields_kept file) ∙ sym (arch_is file)
 
 -- how many sections there are
 count_is : (file : List ℕ) → IsLinkedHead file → section_count file ≡ (header_fields file).e_shnum

@@ -8,3 +8,4 @@ mod LeastCompressed
 mod Pieces
 mod HeadersKept
 mod LinkedSound
+mod OnlyEhFrame

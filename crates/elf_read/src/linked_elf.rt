@@ -37,7 +37,6 @@ impl<'a> LinkedElf<'a> {
     ghost use Rattle.std.specs.Prelude.{◌^◌, length};
     ghost use Rattle.elf_read.specs.Header as head;
     ghost use Rattle.elf_read.specs.Linked.{linked_file};
-    ghost use Rattle.elf_read.specs.Sections as fields;
     ghost use Rattle.elf_read.specs.Views.{section_of};
 
     /// Returns the kind of the file.
@@ -56,14 +55,14 @@ impl<'a> LinkedElf<'a> {
 
     /// Returns how many sections the file has.
     pub fn sections(&self) -> u32
-        ensures { result ≡ fields.section_count (linked_file self.now) }
+        ensures { result ≡ spec.section_count (linked_file self.now) }
     {
         self.headers.count
     }
 
     /// Returns the header of a section.
     pub fn section(&self, i: u32) -> Section
-        requires { i < fields.section_count (linked_file self.now) }
+        requires { i < spec.section_count (linked_file self.now) }
         ensures { result ≡ section_of (linked_file self.now) i }
     {
         section_at(&self.headers, i)
@@ -72,25 +71,25 @@ impl<'a> LinkedElf<'a> {
     /// Returns whether a section's flags say that its info is the number of a section: it has the flag SHF_INFO_LINK.
     #[tactic(auto, unfolding(crate::specs::Sections::has_info_link))]
     pub fn has_info_link(&self, i: u32) -> bool
-        requires { i < fields.section_count (linked_file self.now) }
-        ensures { result ≡ fields.has_info_link (linked_file self.now) i }
+        requires { i < spec.section_count (linked_file self.now) }
+        ensures { result ≡ spec.has_info_link (linked_file self.now) i }
     {
         flag_is_set(sh_flags(&self.headers, i), SHF_INFO_LINK)
     }
 
     /// Returns whether a section holds call frame information: it is loaded and has the name `.eh_frame`.
     pub fn is_eh_frame(&self, i: u32) -> bool
-        requires { i < fields.section_count (linked_file self.now) }
-        ensures { result ≡ fields.is_eh_frame (linked_file self.now) i }
+        requires { i < spec.section_count (linked_file self.now) }
+        ensures { result ≡ spec.is_eh_frame (linked_file self.now) i }
     {
         i == self.eh_frame
     }
 
     /// Returns the bytes of the section with call frame information.
     pub fn bytes(&self, i: u32) -> &'a [u8]
-        requires index { i < fields.section_count (linked_file self.now) }
-        requires is { fields.is_eh_frame (linked_file self.now) i ≡ true }
-        ensures bytes { result.now ≡ fields.section_bytes (linked_file self.now) i }
+        requires index { i < spec.section_count (linked_file self.now) }
+        requires is { spec.is_eh_frame (linked_file self.now) i ≡ true }
+        ensures bytes { result.now ≡ spec.section_bytes (linked_file self.now) i }
         ensures small { length result.now < 2 ^ 32 }
     {
         self.eh_frame_bytes

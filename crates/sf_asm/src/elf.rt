@@ -3,8 +3,8 @@
 ghost use Rattle.std.specs.Prelude.{◌≡◌, ◌<◌, ◌^◌, ◌+◌, ◌-◌, ◌%◌, ◌⊎◌, ℕ, List, Ok, Err, length, map, IfOk, IfErr, OnOk};
 ghost use Rattle.elf_read.specs.Header as head;
 ghost use Rattle.elf_read.specs.Sections.{section_bytes};
-ghost use Rattle.elf_read.specs.Views.{file};
-ghost use Rattle.elf_place.specs.Place.{place_check};
+ghost use Rattle.elf_read.specs.Input.{file};
+ghost use Rattle.elf_place.specs.Place.{IsEhFrame, place_check};
 ghost use Rattle.elf_place.specs.Views as placed_views;
 ghost use Rattle.elf_reloc.specs.Reading.{placed_address};
 ghost use Rattle.sf_asm.specs.declared.fault.AsmFault.TheVariants as asm;
@@ -23,7 +23,7 @@ use crate::read::ReadFunctions;
 use crate::section::read_section;
 use elf_groups::Seen;
 use elf_place::{PlaceFault, Placed};
-use elf_read::{Elf, ElfFault, Kind};
+use elf_read::{Elf, ElfFault, ElfInput, Kind};
 use sf_model::Arch;
 use std::alloc::Global;
 
@@ -32,7 +32,7 @@ const TYPE_PLACE: u64 = 16;
 
 /// Reads a file that is no core.
 #[tactic(auto, unfolding(crate::specs::Sections::linked_check))]
-fn parse(bytes: &[u8]) -> Result<Elf<'_>, AsmFault>
+fn parse(bytes: &[u8]) -> Result<ElfInput<'_>, AsmFault>
     requires { length bytes.now < 2 ^ 32 }
     ensures file { IfOk result (λ elf. file elf ≡ bytes.now) }
     ensures read { OnOk result (linked_check bytes.now ≡ Ok tt) }
@@ -41,7 +41,7 @@ fn parse(bytes: &[u8]) -> Result<Elf<'_>, AsmFault>
     match Elf::parse(bytes) {
         Ok(elf) => match elf.kind() {
             Kind::Core => Err(AsmFault::Elf(ElfFault::Kind(TYPE_PLACE))),
-            Kind::Rel | Kind::Exec | Kind::Dyn => Ok(elf),
+            Kind::Rel | Kind::Exec | Kind::Dyn => Ok(ElfInput::Whole(elf)),
         },
         Err(fault) => Err(AsmFault::Elf(fault)),
     }
@@ -60,7 +60,7 @@ fn place_fault(fault: PlaceFault) -> AsmFault
 /// Places the sections of a file. A group of a later place with a signature of its groups is then dropped.
 fn place<'a>(
     alloc: Global,
-    elf: &Elf<'a>,
+    elf: &ElfInput<'a>,
     base: u64,
     seen: &mut Seen<'a>,
 ) -> Result<Placed<'a>, AsmFault>
@@ -79,6 +79,7 @@ fn place<'a>(
 /// Returns a call frame section of a placed file.
 #[tactic(auto, unfolding(elf_reloc::specs::Reading::placed_address))]
 fn frames_at<'a>(arch: Arch, item: u32, placed: &Placed<'a>, number: u32) -> CallFrameSection<'a>
+    requires { IsEhFrame (placed_views.placed_file placed.now) number }
     ensures arch { result.arch ≡ arch }
     ensures item { result.item ≡ item }
     ensures number { result.number ≡ number }

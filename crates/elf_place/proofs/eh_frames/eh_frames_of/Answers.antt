@@ -1,6 +1,8 @@
-use Rattle.std.proofs.Common.{◌≡◌, ◌++◌, ◌∷◌, [], ℕ, true, false, List, sym, ap, ◌∙◌}
+use Rattle.std.proofs.Common.{◌≡◌, ◌++◌, ◌∷◌, [], ℕ, true, false, List, subst, sym, ap, ◌∙◌, arith}
 use Rattle.elf_read.specs.Input.{file}
-use Rattle.elf_place.specs.Place.{is_kept_eh_frame}
+use Rattle.std.specs.Prelude.{All}
+use Rattle.elf_place.specs.Place.{IsEhFrame, is_kept_eh_frame}
+use Rattle.elf_place.proofs.EhFrames.{all_frames}
 use Rattle.elf_place.proofs.Cursor.{eh_frames_below-none, eh_frames_below-more}
 use Rattle.elf_place.proofs.eh_frames.eh_frames_of.Goals as goal
 use Rattle.elf_place.proofs.eh_frames.eh_frames_of.Goals.{then-is_kept_eh_frame+in_ok-push, else-is_kept_eh_frame}
@@ -22,3 +24,8 @@ loop-i-preserved c =
           let test : is_kept_eh_frame f d i ≡ false = sym c.is_kept_eh_frame.ensures ∙ w.if-is_kept_eh_frame.false in
           rw (test, w.found-is) c.loop-i.invariant
     ])
+
+pub returns-clause-all : goal.returns-clause-all
+returns-clause-all c =
+    let f = file c.args.elf.now in
+    subst (All (IsEhFrame f)) (sym c.loop-i.invariant) (all_frames f c.args.dropped.now c.loop-i.i (omega (arith, c.requires.count, c.requires.all, c.loop-i.auto.i-end)))

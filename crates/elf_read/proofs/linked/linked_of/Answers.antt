@@ -32,4 +32,7 @@ invariant_of-result c =
       names_are = c.in_ok-names.ensures.bytes;
       bytes_are = c.in_ok-eh_frame_bytes.ensures;
       checked = file_passes (whole_of c.in_ok-headers.headers) c.in_ok-eh_frame.eh_frame passes;
+      no_object = passes.head.no_object;
+      is = only.is;
+      only = only.only;
     }

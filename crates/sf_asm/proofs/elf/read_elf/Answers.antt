@@ -2,7 +2,7 @@ use Rattle.std.proofs.Common.{◌≡◌, ℕ, List, map, Ok, sym, ap, ◌∙◌,
 use Rattle.elf_groups.specs.Groups.{seen_after}
 use Rattle.elf_groups.specs.Seen.{HasSeen}
 use Rattle.elf_place.specs.Views as view
-use Rattle.elf_read.specs.Views.{file}
+use Rattle.elf_read.specs.Input.{file}
 use Rattle.sf_model.specs.declared.machine.Arch.{Arch}
 use Rattle.sf_asm.specs.Functions.{sections_functions}
 use Rattle.sf_asm.specs.Sections.{linked_check, placed_section}
