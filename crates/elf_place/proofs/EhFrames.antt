@@ -1,6 +1,6 @@
 -- The numbers that are listed are those of sections with call frame information.
 use Rattle.std.specs.Prelude.{All}
-use Rattle.std.proofs.Common.{◌≡◌, ◌<◌, ◌≤◌, ◌&&◌, ℕ, zero, suc, Bool, true, false, List, [], ◌∷◌, not, refl, subst, sym, ◌∙◌, arith, get_or, slice_index_or}
+use Rattle.std.proofs.Common.{◌≡◌, ◌<◌, ◌≤◌, ◌&&◌, ℕ, zero, suc, Bool, true, false, List, [], ◌∷◌, not, refl, subst, sym, arith, get_or, slice_index_or}
 use Rattle.std.proofs.lemmas.List.Elements.{All-append, All-from_get_or, All-nil}
 use Rattle.elf_read.specs.Sections.{section_count, is_eh_frame}
 use Rattle.elf_place.specs.Place.{IsEhFrame, eh_frames_below, is_kept_eh_frame}

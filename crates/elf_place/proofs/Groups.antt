@@ -1,6 +1,6 @@
 -- Only an object has groups.
 use Rattle.std.specs.Prelude.{IsTrue}
-use Rattle.std.proofs.Common.{◌≡◌, ◌&&◌, ◌==◌, ℕ, Bool, true, false, cond, List, Option, Some, None, refl}
+use Rattle.std.proofs.Common.{◌≡◌, ◌&&◌, ◌==◌, ℕ, Bool, true, false, cond, List, Some, None, refl}
 use Rattle.elf_read.specs.Header.{is_rel}
 use Rattle.elf_read.specs.Sections.{section_fields}
 use Rattle.elf_read.specs.Used.{is_group}

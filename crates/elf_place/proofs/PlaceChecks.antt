@@ -1,8 +1,7 @@
 -- The check of a placing is those of its sections, one after the other.
-use Rattle.std.proofs.Common.{◌≡◌, ℕ, Bool, List, Result, refl}
+use Rattle.std.proofs.Common.{◌≡◌, ℕ, Bool, List, refl}
 use Rattle.elf_read.specs.Checking.{◌>>◌, each_below}
 use Rattle.elf_read.specs.Sections.{section_count}
-use Rattle.elf_place.specs.declared.fault.PlaceFault.{PlaceFault}
 use Rattle.elf_place.specs.Place.{align_check, bits_check, overflow_check, place_check}
 
 pub place_check_is : (file : List ℕ) (dropped : List Bool) (base : ℕ)

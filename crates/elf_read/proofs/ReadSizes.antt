@@ -13,6 +13,10 @@ use Rattle.elf_read.specs.Parsing.{file_check}
 use Rattle.elf_read.specs.Room.{is_read, read_size, read_size_below, room_check, HasRoom}
 use Rattle.elf_read.specs.Sections.{section_bytes, section_count, section_header, section_total, is_eh_frame, entry_count}
 use Rattle.elf_read.specs.Used.{rela_check, group_check, compressed_check, entries_check, is_used_rela, is_group}
+use Rattle.elf_read.specs.declared.input.ElfInput.{ElfInput}
+use Rattle.elf_read.specs.declared.input.ElfInput.TheVariants.{Whole, Linked}
+use Rattle.elf_read.specs.Input.{file as input_file}
+use Rattle.elf_read.specs.Linked.{linked_file}
 use Rattle.elf_read.specs.Views.{file}
 use Rattle.elf_read.proofs.Each.{both_fine, each_below-at}
 use Rattle.elf_read.proofs.Rules.{file_check_is}
@@ -95,5 +99,9 @@ passed (Ok u) h = refl
 passed (Err e) h = absurd (cc h)
 
 -- of a file that was read
-pub elf_has_room : (elf : Elf) → HasRoom (file elf)
+elf_has_room : (elf : Elf) → HasRoom (file elf)
 elf_has_room elf = has_room elf.bytes.now (passed (file_check elf.bytes.now) elf.checked)
+
+pub input_has_room : (input : ElfInput) → HasRoom (input_file input)
+input_has_room (Whole elf) = elf_has_room elf
+input_has_room (Linked elf) = has_room (linked_file elf) elf.checked

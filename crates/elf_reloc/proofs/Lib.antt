@@ -9,3 +9,4 @@ pub mod Inside
 pub mod Checked
 pub mod SortedFixes
 pub mod Applying
+mod Short

@@ -5,6 +5,7 @@ use Rattle.elf_place.specs.Relocations.{numbers_of, relocation_sections}
 use Rattle.elf_place.specs.Views.{placed_file, placing}
 use Rattle.elf_reloc.specs.Reading.{rel_check, relocations_in}
 use Rattle.elf_reloc.proofs.Few.{few}
+use Rattle.elf_reloc.proofs.Short.{is_short}
 use Rattle.elf_reloc.proofs.GoingOn.{object_is, object_refused, object_read}
 use Rattle.elf_reloc.proofs.reading.read_object.Goals as goal
 
@@ -27,5 +28,5 @@ read_sections-requires-clause-few c =
     let checked : rel_check file (relocation_sections file c.args.section) ≡ Ok tt = sym (c.in_ok-check_rels.ensures ∙ ap (rel_check file) sections) in
     let count : length (relocations_in file (numbers_of c.relocation_sections-sections.result.now)) ≡ length (relocations_in file (relocation_sections file c.args.section)) = ap (λ (ns : List ℕ). length (relocations_in file ns)) sections in
     let room : HasRoom file = subst (λ (bytes : List ℕ). HasRoom bytes) c.elf.ensures c.room_law.ensures in
-    let below = few file c.args.section c.requires.object c.args.placed.now.elf.small room checked in
+    let below = few file c.args.section c.requires.object (is_short c.args.placed.now.elf) room checked in
     omega (arith, c.requires.first, count, below)

@@ -1,7 +1,5 @@
 use Rattle.std.proofs.Common.{◌≡◌, ◌+◌, ◌-◌, ◌%◌, ◌^◌, ℕ, Some, get_or, refl, sym}
-use Rattle.std.proofs.lemmas.List.Elements.{All-get_or}
-use Rattle.elf_place.specs.Place.{IsEhFrame}
-use Rattle.elf_place.specs.Views.{Placing, placed_file, placing, shift_in}
+use Rattle.elf_place.specs.Views.{Placing, placing, shift_in}
 use Rattle.elf_read.specs.Sections.{section_bytes}
 use Rattle.elf_reloc.specs.Reading.{placed_address}
 use Rattle.sf_asm.specs.declared.frames.CallFrameSection.{CallFrameSection}
@@ -29,6 +27,3 @@ loop-number-preserved c =
       reads = section_more c.args.lending c.args.read.now c.loop-number.read c.read_section.new.read c.args.arch c.args.item section numbers k 0 _ c.loop-number-test.true c.loop-number.invariant.reads
           (rw (sym same, sym at.arch, sym at.item) c.in_ok-read_section.ensures.exact);
     }
-
-pub frames_at-requires : goal.frames_at-requires
-frames_at-requires c = All-get_or (IsEhFrame (placed_file c.args.placed.now)) _ c.loop-number.number-index 0 c.loop-number-test.true c.args.placed.now.frames

@@ -1,4 +1,4 @@
-use Rattle.std.proofs.Common.{◌≡◌, ℕ, ◌∙◌, List, None, Ok, arith, length, map, ap, sym}
+use Rattle.std.proofs.Common.{ℕ, ◌∙◌, arith, length, map, ap, sym}
 use Rattle.std.proofs.lemmas.Result.{err_from_is_err_and}
 use Rattle.std.proofs.lemmas.List.{length-map}
 use Rattle.sf_asm.specs.Entry.{kept_by_item}

@@ -8,7 +8,7 @@ use Rattle.sf_model.specs.declared.omission.Omitted.{Omitted}
 use Rattle.sf_model.specs.declared.omission.Span.{Span}
 use Rattle.sf_asm.specs.Entry.{kept_by_item, kept_of, of_item, omitted_of, spans_of}
 use Rattle.sf_asm.specs.Kept.{outcome_by}
-use Rattle.sf_asm.proofs.HandedOut.{AreSortedOut, all_handed_out, none_yet, one_kept, one_left, one_more, span_within}
+use Rattle.sf_asm.proofs.HandedOut.{AreSortedOut, all_handed_out, one_kept, one_left, one_more, span_within}
 use Rattle.sf_asm.proofs.Kept.{omitted_of-kept, omitted_of-left, spans_of-push}
 use Rattle.sf_asm.proofs.gathering.sort_out.Goals as goal
 use Rattle.sf_asm.proofs.gathering.sort_out.Goals.{in-Ok+in_ok-push-in-Ok, in-Err+in_ok-push-in-Err}
