@@ -70,7 +70,12 @@ impl<'a> Seen<'a> {
 
     // Returns whether a section is a COMDAT group whose signature the set had, and puts the signature into it.
     #[tactic(auto, unfolding(crate::specs::Groups::group_signature))]
-    fn is_gone(&mut self, texts: &mut FileTexts, elf: &ElfInput<'a>, i: u32) -> Result<bool, AllocError>
+    fn is_gone(
+        &mut self,
+        texts: &mut FileTexts,
+        elf: &ElfInput<'a>,
+        i: u32,
+    ) -> Result<bool, AllocError>
         ensures gone { IfOk result (λ gone. (seen : List (List ℕ)) → HasSeen self.old seen → HasTexts (file elf.now) self.old.blocks texts.old → gone ≡ was_seen seen (group_signature (file elf.now) i)) }
         ensures seen { OnOk result ((seen : List (List ℕ)) → HasSeen self.old seen → HasTexts (file elf.now) self.old.blocks texts.old → HasSeen self.new (with_signature seen (group_signature (file elf.now) i))) }
         ensures texts { OnOk result ((seen : List (List ℕ)) → HasSeen self.old seen → HasTexts (file elf.now) self.old.blocks texts.old → HasTexts (file elf.now) self.new.blocks texts.new) }
@@ -93,7 +98,11 @@ impl<'a> Seen<'a> {
     /// # Errors
     ///
     /// Out of memory alone. Nothing is known of the set then.
-    pub fn dropped_groups(&mut self, alloc: Global, elf: &ElfInput<'a>) -> Result<Vec<u32>, AllocError>
+    pub fn dropped_groups(
+        &mut self,
+        alloc: Global,
+        elf: &ElfInput<'a>,
+    ) -> Result<Vec<u32>, AllocError>
         ensures gone { IfOk result (λ gone. (seen : List (List ℕ)) → HasSeen self.old seen → gone.items ≡ dropped_groups seen (file elf.now)) }
         ensures seen { OnOk result ((seen : List (List ℕ)) → HasSeen self.old seen → HasSeen self.new (seen_after seen (file elf.now))) }
     {

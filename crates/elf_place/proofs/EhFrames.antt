@@ -28,4 +28,4 @@ all_frames file dropped zero within = subst (All (IsEhFrame file)) (sym (eh_fram
 all_frames file dropped (suc n) within =
     subst (All (IsEhFrame file)) (sym (one_more file dropped n))
     (all_with file n (is_kept_eh_frame file dropped n) (eh_frames_below file dropped n) (all_frames file dropped n (omega (arith, within)))
-      (λ kept. (omega (arith, within), is_frame file dropped n kept)))
+    (λ kept. (omega (arith, within), is_frame file dropped n kept)))

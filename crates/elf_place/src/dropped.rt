@@ -43,7 +43,11 @@ fn mark_groups(elf: &ElfInput<'_>, gone: &[u32], dropped: &mut [bool])
 }
 
 /// Returns for each section whether one of these groups names it.
-pub fn dropped_sections(alloc: Global, elf: &ElfInput<'_>, gone: &[u32]) -> Result<Vec<bool>, AllocError>
+pub fn dropped_sections(
+    alloc: Global,
+    elf: &ElfInput<'_>,
+    gone: &[u32],
+) -> Result<Vec<bool>, AllocError>
     ensures items { IfOk result (λ v. v.items ≡ spec.dropped_sections (file elf.now) gone.now) }
     ensures len { IfOk result (λ v. vec_len v ≡ section_count (file elf.now)) }
 {

@@ -3,7 +3,7 @@
 ghost use Rattle.sf_lookup.specs.Spans.{InOrder};
 
 use crate::rule::FrameRule;
-use sample_walk::content_rule;
+use sample_walk::rule_of;
 use sf_base::NoMemory;
 use sf_decode::View;
 use sf_lookup::{Indexed, Span, Spans};
@@ -60,7 +60,7 @@ impl<'m> OrderedModule<'m> {
         ensures { result ≡ rule_in (ordered_view self.now) pc }
     {
         if let Some(found) = self.rows.find(pc) {
-            return Some(FrameRule::Row(content_rule(&found.row.content)));
+            return Some(FrameRule::Row(rule_of(&found.row.content)));
         }
         let frame = self.signals.first_at(pc)?;
         Some(FrameRule::Signal(frame))
