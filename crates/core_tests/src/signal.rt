@@ -2,7 +2,7 @@
 
 ghost use Rattle.std.specs.Prelude.{◌<◌, ◌^◌, length};
 
-use crate::files::{File, Piece, TWO_THREADS, bytes_of};
+use crate::files::{File, TWO_THREADS, bytes_of};
 use core_notes::Core;
 use process_walk::{Module, Process};
 use sample_walk::{State, Value};
@@ -10,7 +10,7 @@ use sf_bytes::Part;
 use sf_decode::View;
 use sf_lookup::Span;
 use sf_model::{Arch, FdeFacts, Key, Stop};
-use sframe_tests::samples::{EMPTY, PUSHING};
+use sframe_tests::samples::PUSHING;
 use signal_frames::{SignalFrame, signal_frame};
 use std::test::*;
 
@@ -128,25 +128,18 @@ fn functions_have_signal_frames(rt: HostRuntime) -> Result<(), Fail> {
     Ok(())
 }
 
-/// A memory's size at 0x7000; the frames, each with its module and whether it is a signal frame, and the stop.
+/// The bytes of a stack at 0x7000, with the memory's size at 152 of the file; the frames, each with its module and whether it is a signal
+/// frame, and the stop. A thread is in a handler, whose caller is a signal frame at 0x7008. A function was interrupted at its first byte,
+/// 0x1000.
 struct Walked {
-    memory: Piece,
+    stack: &'static str,
     frames: &'static [(u64, Option<u64>, Option<usize>, bool)],
     stop: Stop,
 }
 
-/// A thread in a handler, whose caller is a signal frame at 0x7008. A function was interrupted at its first byte, 0x1000.
-const STACK: [Piece; 5] = [
-    (888, "01 50"),
-    (1016, "f8 70"),
-    (1056, "e0 70"),
-    (1064, "00 10"),
-    (1112, "45 23"),
-];
-
 const WALKS: [Walked; 3] = [
     Walked {
-        memory: (152, "00 01"),
+        stack: "@888 01 50 @1016 f8 70 @1056 e0 70 @1064 00 10 @1112 45 23 @152 00 01",
         frames: &[
             (0x1000, Some(0x7008), Some(0), false),
             (0x5001, Some(0x70e0), Some(1), true),
@@ -157,7 +150,7 @@ const WALKS: [Walked; 3] = [
     },
     // The memory ends before the interrupted program counter.
     Walked {
-        memory: (152, "b0"),
+        stack: "@888 01 50 @1016 f8 70 @1056 e0 70 @1064 00 10 @1112 45 23 @152 b0",
         frames: &[
             (0x1000, Some(0x7008), Some(0), false),
             (0x5001, Some(0x70e0), Some(1), true),
@@ -166,7 +159,7 @@ const WALKS: [Walked; 3] = [
     },
     // It ends before the interrupted stack pointer.
     Walked {
-        memory: (152, "a8"),
+        stack: "@888 01 50 @1016 f8 70 @1056 e0 70 @1064 00 10 @1112 45 23 @152 a8",
         frames: &[
             (0x1000, Some(0x7008), Some(0), false),
             (0x5001, None, Some(1), true),
@@ -179,7 +172,7 @@ const WALKS: [Walked; 3] = [
 fn walks_go_through_signal_frames(rt: HostRuntime) -> Result<(), Fail> {
     let file = File {
         len: 1144,
-        pieces: TWO_THREADS.pieces,
+        text: TWO_THREADS.text,
     };
     let frame = SignalFrame {
         frame_address: 160,
@@ -201,7 +194,7 @@ fn walks_go_through_signal_frames(rt: HostRuntime) -> Result<(), Fail> {
         Module {
             start: 0x5000,
             size: 0x100,
-            view: View::parse(&EMPTY, 0x3000).ok().ok_or("a section")?,
+            view: View::parse(&PUSHING, 0x3000).ok().ok_or("a section")?,
             signals: &trampoline,
         },
     ];
@@ -214,10 +207,7 @@ fn walks_go_through_signal_frames(rt: HostRuntime) -> Result<(), Fail> {
         returned: false,
     };
     for case in &WALKS {
-        let mut edits = Vec::from_array(rt.alloc(), STACK)?;
-        edits.push(case.memory)?;
-        let bytes = bytes_of(rt.alloc(), &file, &edits)?;
-        assert!(rt; bytes.len() < 4096);
+        let bytes = bytes_of(rt.alloc(), &file, case.stack)?;
         let core = Core::parse(&bytes).ok().ok_or("the file is sound")?;
         let walked = process.walk(rt.alloc(), None, &core, start, 64)?;
         assert_eq!(rt; walked.stop, case.stop);
