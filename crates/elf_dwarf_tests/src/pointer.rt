@@ -62,7 +62,11 @@ fn personality_pointers(rt: HostRuntime) -> Result<(), Fail> {
     for line in PERSONALITIES.lines() {
         if let Some((encoding, wanted)) = row(line) {
             let mut part = Part::new(&bytes, 10);
-            let skipped = skip(&mut part, u8::from_str_radix(encoding, 16)?);
+            let encoding = u8::from_str_radix(encoding, 16)?;
+            if encoding == 0xff {
+                return Err("no pointer has this encoding")?;
+            }
+            let skipped = skip(&mut part, encoding);
             prints(rt.alloc(), line, &(skipped, part.place), wanted)?;
         }
     }
