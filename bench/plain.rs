@@ -2,9 +2,12 @@
 //! section of its functions, of the usual call frame information alone. It checks nothing, names no fault, and stops by a panic where a
 //! file is unusual. Its times count only where its section is the one that `sf_tool link` writes, which `./x bench` compares.
 //!
-//!     plain OUT AT FILE
+//!     plain whole OUT AT FILE     reads the whole file
+//!     plain parts OUT AT FILE     reads its header, its section headers, their names and the call frame information
 
+use std::borrow::Cow;
 use std::collections::HashMap;
+use std::os::unix::fs::FileExt;
 use std::{env, fs};
 
 /// The rules of a row that SFrame keeps.
@@ -379,24 +382,57 @@ fn write_section(at: u64, functions: &[Function], stored: &[u8]) -> Vec<u8> {
     bytes
 }
 
+/// A file that was read whole, or that is read where bytes of it are asked for.
+enum Input {
+    Whole(Vec<u8>),
+    Parts(fs::File),
+}
+
+impl Input {
+    fn open(form: &str, name: &str) -> Input {
+        match form {
+            "whole" => Input::Whole(fs::read(name).unwrap()),
+            "parts" => Input::Parts(fs::File::open(name).unwrap()),
+            _ => panic!("the first word is whole or parts"),
+        }
+    }
+
+    fn bytes(&self, place: usize, size: usize) -> Cow<'_, [u8]> {
+        match self {
+            Input::Whole(bytes) => Cow::Borrowed(&bytes[place..place + size]),
+            Input::Parts(file) => {
+                let mut bytes = vec![0; size];
+                file.read_exact_at(&mut bytes, place as u64).unwrap();
+                Cow::Owned(bytes)
+            }
+        }
+    }
+
+    /// The bytes of a section, and its address, by its header.
+    fn section(&self, mut header: Reader<'_>) -> (Cow<'_, [u8]>, u64) {
+        header.pass(16);
+        let (address, place, size) = (header.u64(), header.u64() as usize, header.u64() as usize);
+        (self.bytes(place, size), address)
+    }
+}
+
 fn main() {
     let words: Vec<String> = env::args().collect();
-    let address = u64::from_str_radix(words[2].trim_start_matches("0x"), 16).unwrap();
-    let file = fs::read(&words[3]).unwrap();
-    let headers = at(&file, 40).u64() as usize;
-    let count = usize::from(at(&file, 60).u16());
-    let texts = headers + 64 * usize::from(at(&file, 62).u16());
-    let texts = at(&file, texts + 24).u64() as usize;
+    let address = u64::from_str_radix(words[3].trim_start_matches("0x"), 16).unwrap();
+    let input = Input::open(&words[1], &words[4]);
+    let header = input.bytes(0, 64);
+    let count = usize::from(at(&header, 60).u16());
+    let headers = input.bytes(at(&header, 40).u64() as usize, 64 * count);
+    let (names, _) = input.section(at(&headers, 64 * usize::from(at(&header, 62).u16())));
     let mut functions = Vec::new();
     let mut stored = Vec::new();
-    for header in (0..count).map(|number| headers + 64 * number) {
-        let name = texts + at(&file, header).u32() as usize;
-        if file[name..].starts_with(b".eh_frame\0") {
-            let mut left = at(&file, header + 16);
-            let (address, place, size) = (left.u64(), left.u64() as usize, left.u64() as usize);
-            read_section(&file[place..place + size], address, &mut functions, &mut stored);
+    for place in (0..count).map(|number| 64 * number) {
+        let name = at(&headers, place).u32() as usize;
+        if names[name..].starts_with(b".eh_frame\0") {
+            let (bytes, address) = input.section(at(&headers, place));
+            read_section(&bytes, address, &mut functions, &mut stored);
         }
     }
     functions.sort_by_key(|function| function.start);
-    fs::write(&words[1], write_section(address, &functions, &stored)).unwrap();
+    fs::write(&words[2], write_section(address, &functions, &stored)).unwrap();
 }

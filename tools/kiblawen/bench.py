@@ -13,9 +13,9 @@
     ./x bench --tool PROGRAM ..   with another program
 
 It needs the program and the library (`sh demo/run` builds both), binutils and, for the library, a C compiler. If there is a rustc, link is
-also measured beside bench/plain.rs, a Rust program that makes the same section and checks nothing. Each time is the least of seven, user and
-system time together. The commands of one table are run in turn, seven times, a quick command many times in each round. The files made are in
-bench/out. Of these the gate runs only `hostile --small`, which is a test of limits.
+also measured beside bench/plain.rs, a Rust program that makes the same section and checks nothing, and that reads the whole file or only
+what it needs. Each time is the least of seven, user and system time together. The commands of one table are run in turn, seven times, a quick
+command many times in each round. The files made are in bench/out. Of these the gate runs only `hostile --small`, which is a test of limits.
 """
 
 import filecmp
@@ -33,6 +33,8 @@ from kiblawen.measure import Command, measure
 OUT = common.at_top("bench", "out")
 OUTPUT = os.path.join(OUT, "output")
 LIBRARIES = ["/usr/lib", "/usr/lib64", "/lib", "/lib64"]
+# The forms of bench/plain.rs.
+PLAIN = {"whole": "bench/plain.rs, reading the whole file", "parts": "bench/plain.rs, reading what it needs"}
 READELF, OBJDUMP = "readelf --debug-dump=frames-interp", "objdump --dwarf=frames-interp"
 # The section of the program's own example, for the made core files.
 EXAMPLE = f"eh-amd64:{common.at_top('crates', 'sf_tool', 'data', 'e1')}@0x2000"
@@ -161,10 +163,10 @@ def core(tool):
     shutil.rmtree(OUT)
 
 
-def is_plain(at, path):
+def is_plain(form, at, path):
     """Whether bench/plain.rs is built, and makes the section that link made."""
     words = ["rustc", "--edition", "2021", "-O", "-C", "panic=abort", "-o", out("plain"), common.at_top("bench", "plain.rs")]
-    is_made = works(*words) and works(out("plain"), out("plain.sframe"), at, path)
+    is_made = works(*words) and works(out("plain"), form, out("plain.sframe"), at, path)
     return is_made and filecmp.cmp(out("plain.sframe"), out("sframe"), shallow=False)
 
 
@@ -192,12 +194,13 @@ def of_file(path, tool):
         *(Command("sf_tool lookup, of one address", tool, "lookup", section, it) for it in starts[:1]),
     ]
     del shown
-    if is_plain(at, path):
-        commands.append(Command("bench/plain.rs", out("plain"), out("plain.sframe"), at, path))
+    for form in PLAIN:
+        if is_plain(form, at, path):
+            commands.append(Command(PLAIN[form], out("plain"), form, out("plain.sframe"), at, path))
     commands += [Command(READELF, *READELF.split(), path), Command(OBJDUMP, *OBJDUMP.split(), path)]
     times = measure(commands, OUTPUT)
     link, merge, verify, dump = (times[f"sf_tool {it}"] for it in ("link", "merge", "verify", "dump"))
-    readelf, plain = times[READELF], times.get("bench/plain.rs")
+    readelf = times[READELF]
     say()
     say(f"The section: {counts}, {rows} rows, {os.path.getsize(out('sframe'))} bytes")
     say()
@@ -207,8 +210,9 @@ def of_file(path, tool):
     compare("merge", merge, READELF, readelf)
     compare("dump", dump, READELF, readelf)
     say(f"Of the time of readelf link takes {link / readelf:.3f}, merge {merge / readelf:.3f} and dump {dump / readelf:.3f}.")
-    if plain:
-        say(f"Of the time of bench/plain.rs, which checks nothing, link takes {link / plain:.2f}.")
+    for plain in PLAIN.values():
+        if plain in times:
+            say(f"Of the time of {plain}, which checks nothing, link takes {link / times[plain]:.2f}.")
     functions = int(counts.split()[1]) + int(counts.split()[3])
     say(f"link: {speed(link, functions, 'functions')}, {speed(link, rows, 'rows')}")
     say(f"merge: {speed(merge, functions, 'functions')}; dump: {speed(dump, functions, 'functions')}")
