@@ -1,6 +1,6 @@
 //! The checks of the notes, in their order.
 
-ghost use Rattle.std.specs.Prelude.{◌≡◌, ◌<◌, ◌^◌, IfOk, IfSome, OnOk, ◌≤◌, false, length, min};
+ghost use Rattle.std.specs.Prelude.{◌≡◌, ◌↔◌, ◌<◌, ◌^◌, IfOk, IfSome, OnOk, ◌≤◌, false, is_some, length, min, true};
 ghost use Rattle.sf_bytes.specs.Cursor.{cursor};
 ghost use Rattle.elf_read.specs.Checking.{verdict};
 ghost use Rattle.elf_read.specs.Views.{file};
@@ -98,9 +98,9 @@ pub fn check_core(bytes: &[u8], elf: &Elf<'_>) -> Result<u32, CoreFault>
 }
 
 /// Returns the threads of a core file that has one PT_NOTE segment, by the bytes of that segment, if its notes pass every
-/// check of a whole file. Nothing is said of other notes: [`Core::parse`](crate::Core::parse) gives their fault.
+/// check of a whole file, and else nothing: [`Core::parse`](crate::Core::parse) gives the fault.
 pub fn threads_of_segment<'a>(arch: Arch, notes: Part<'a>) -> Option<ThreadIter<'a>>
-    ensures pass { IfSome result (λ threads. spec.NotesPass arch (notes_from (cursor notes.entry))) }
+    ensures pass { (is_some result ≡ true) ↔ spec.NotesPass arch (notes_from (cursor notes.entry)) }
     ensures threads { IfSome result (λ threads. threads_left threads ≡ threads_in arch (whole_notes (notes_from (cursor notes.entry)))) }
 {
     let notes = Notes::of_segment(notes);
