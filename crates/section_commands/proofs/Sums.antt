@@ -1,7 +1,5 @@
--- The functions and the rows of modules, summed one after the other, and the limits of the sums.
-use Rattle.std.specs.Prelude.{nat_lt}
-use Rattle.std.proofs.Common.{◌≡◌, ℕ, ◌+◌, ◌^◌, ◌<◌, ◌≤◌, Bool, true, false, cond, List, [], ◌∷◌, ◌++◌, length, map, take, get_or, Option, Some, None, refl, sym, ap, ◌∙◌}
-use Rattle.std.proofs.lemmas.Bool.{lt-ltb, le-ltb}
+-- The functions and the rows of modules, summed one after the other.
+use Rattle.std.proofs.Common.{◌≡◌, ℕ, ◌+◌, ◌<◌, ◌≤◌, List, [], ◌∷◌, ◌++◌, length, map, take, get_or, refl, sym, ap, ◌∙◌}
 use Rattle.std.proofs.lemmas.List.{take_more, take_all}
 use Rattle.std.proofs.lemmas.List.Sums.{sum_by_push}
 use Rattle.sf_model.specs.Table.{Table, row_count}
@@ -10,27 +8,7 @@ use Rattle.sf_modules.specs.declared.mapped.Module.{Module}
 use Rattle.sf_modules.specs.Module.{module_view}
 use Rattle.sf_modules.specs.Union.{tables_of}
 use Rattle.sf_merge.specs.Merging.{functions_in_all, rows_in_all}
-use Rattle.sf_words.specs.declared.refusal.Limit.{Limit}
-use Rattle.sf_words.specs.declared.refusal.Limit.TheVariants.{Functions, Rows}
-use Rattle.section_commands.specs.Procwalk.{sums_limit}
 
--- ---- the limits
-abbrev by_tests : (functions rows : Bool) → Option Limit
-by_tests functions rows = cond functions (Some Functions) (cond rows (Some Rows) None)
-
-tested : (tables : List Table) (functions rows : Bool) → nat_lt (2 ^ 21) (functions_in_all tables) ≡ functions → nat_lt (2 ^ 24) (rows_in_all tables) ≡ rows → sums_limit tables ≡ by_tests functions rows
-tested tables functions rows p q = rw (p, q) refl
-
-pub too_many_functions : (tables : List Table) → 2 ^ 21 < functions_in_all tables → sums_limit tables ≡ Some Functions
-too_many_functions tables many = tested tables true (nat_lt (2 ^ 24) (rows_in_all tables)) (lt-ltb (2 ^ 21) (functions_in_all tables) many) refl
-
-pub too_many_rows : (tables : List Table) → functions_in_all tables ≤ 2 ^ 21 → 2 ^ 24 < rows_in_all tables → sums_limit tables ≡ Some Rows
-too_many_rows tables few many = tested tables false true (le-ltb (2 ^ 21) (functions_in_all tables) few) (lt-ltb (2 ^ 24) (rows_in_all tables) many)
-
-pub within_sums : (tables : List Table) → functions_in_all tables ≤ 2 ^ 21 → rows_in_all tables ≤ 2 ^ 24 → sums_limit tables ≡ None
-within_sums tables few small = tested tables false false (le-ltb (2 ^ 21) (functions_in_all tables) few) (le-ltb (2 ^ 24) (rows_in_all tables) small)
-
--- ---- the sums so far
 abbrev pub tables_in : List Module → List Table
 tables_in modules = tables_of (map module_view modules)
 

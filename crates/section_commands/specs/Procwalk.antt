@@ -1,5 +1,5 @@
 -- `procwalk CORE DEPTH FILE ..`: the walks of a core file's threads by the sections of the files that were mapped (Linux core files, NT_FILE; ELF64 gABI, "Program Header"; GNU SFrame specification, Version 2).
-use Rattle.std.specs.Prelude.{◌≡◌, ◌<◌, ◌+◌, ◌^◌, ℕ, Bool, ◌&&◌, not, nat_lt, All, List, [], ◌∷◌, codes, drop, get_or, length, map, Option, Some, None, Result, Ok, Err, if◌then◌else◌}
+use Rattle.std.specs.Prelude.{◌≡◌, ◌<◌, ◌+◌, ℕ, Bool, ◌&&◌, not, All, List, [], ◌∷◌, codes, drop, get_or, length, map, Option, Some, None, Result, Ok, Err}
 use Rattle.std.specs.List.{AllZip, position, zip}
 use Rattle.std.specs.Option.{option_map}
 use Rattle.std.specs.String.{string_bytes}
@@ -24,9 +24,12 @@ use Rattle.sf_modules.specs.Process.{ProcessView, process_of}
 use Rattle.sf_modules.specs.Reading.{module_check}
 use Rattle.sf_modules.specs.FaultShown.{shown_of_module}
 use Rattle.sf_modules.specs.Union.{tables_of}
+use Rattle.sf_functions.specs.declared.limits.Limit.{Limit as CountLimit}
+use Rattle.sf_functions.specs.declared.limits.Limit.TheVariants.{Functions, Rows}
+use Rattle.sf_functions.specs.Limits.{exceeded}
 use Rattle.sf_merge.specs.Merging.{functions_in_all, rows_in_all, same_arch}
 use Rattle.sf_words.specs.declared.refusal.Limit.{Limit}
-use Rattle.sf_words.specs.declared.refusal.Limit.TheVariants.{Functions, Rows}
+use Rattle.sf_words.specs.declared.refusal.Limit.TheVariants as limits
 use Rattle.sf_words.specs.Files.{FilesWords}
 use Rattle.sf_words.specs.Forms.{IsDepth}
 use Rattle.sf_words.specs.Items as item
@@ -62,8 +65,8 @@ File = List ℕ × List ℕ
 
 -- what a fault of an item comes to: of the core file's note on mapped files, or of the module of a file
 abbrev pub coming_of_module : (item : ℕ) → ModuleFault → Coming
-coming_of_module item (Section (TooManyFunctions place)) = Exceeded Functions
-coming_of_module item (Section (TooManyRows place)) = Exceeded Rows
+coming_of_module item (Section (TooManyFunctions place)) = Exceeded limits.Functions
+coming_of_module item (Section (TooManyRows place)) = Exceeded limits.Rows
 coming_of_module item fault = Refused (shown_of_module (Some item) fault)
 
 -- ---- the modules
@@ -86,11 +89,14 @@ is_for_another arch m = not (same_arch arch m.machine && same_arch arch m.table.
 abbrev pub mixed_item : Arch → List ModuleView → Option ℕ
 mixed_item arch modules = option_map (λ (k : ℕ). k + 1) (position (is_for_another arch) modules)
 
--- more than 2^21 functions, or more than 2^24 rows, in all sections together
+-- a limit of functions and rows, as a limit of the run
+abbrev pub run_limit : CountLimit → Limit
+run_limit Functions = limits.Functions
+run_limit Rows = limits.Rows
+
+-- the limit that the functions or the rows of all sections together exceed
 abbrev pub sums_limit : List Table → Option Limit
-sums_limit tables =
-    if nat_lt (2 ^ 21) (functions_in_all tables) then Some Functions else
-    if nat_lt (2 ^ 24) (rows_in_all tables) then Some Rows else None
+sums_limit tables = option_map run_limit (exceeded (functions_in_all tables) (rows_in_all tables))
 
 -- ---- the walks
 -- the walks of all threads of a core file by the rows of modules, with the file's memory, each of at most `depth` frames

@@ -16,12 +16,13 @@ ghost use Rattle.sf_words.specs.Loading.{files_limit, loaded_bytes, loaded_items
 ghost use Rattle.section_commands.specs.Coming.{Coming};
 ghost use Rattle.section_commands.specs.Making.{ComesAs, ComesTo};
 ghost use Rattle.section_commands.specs.Procwalk as spec;
-ghost use Rattle.section_commands.specs.Procwalk.{FilesCome, IsModuleOf, IsProcwalk, ProcwalkComes, ProcwalkComesFrom, ProcwalkWords, coming_of_module, coming_of_modules, files_fault, modules_walks, procwalk_files, procwalk_of, sums_limit};
+ghost use Rattle.section_commands.specs.Procwalk.{FilesCome, IsModuleOf, IsProcwalk, ProcwalkComes, ProcwalkComesFrom, ProcwalkWords, coming_of_module, coming_of_modules, files_fault, modules_walks, procwalk_files, procwalk_of};
 
 use crate::made::{Made, Outcome};
 use crate::walks::{mixed, same_machine, unread_core, walks_text};
 use core_notes::Core;
 use sf_decode::DecodeFault;
+use sf_functions::exceeded;
 use sf_model::Arch;
 use sf_modules::{
     Entry, Module, ModuleFault, Modules, Process, ReadFile, entries, read_module_once,
@@ -43,12 +44,6 @@ pub struct Procwalk<'a> {
     /// The names of the files that were mapped.
     pub files: &'a [String],
 }
-
-/// The most functions of all modules together.
-const FUNCTION_LIMIT: u64 = 1 << 21;
-
-/// The most rows of all modules together.
-const ROW_LIMIT: u64 = 1 << 24;
 
 /// Returns why the mapped files or the module of an item were not read, as a refusal of the run.
 fn unread_module<'a>(fault: &ModuleFault, item: u32) -> Refusal<'a>
@@ -148,24 +143,31 @@ fn mixed_item(arch: Arch, modules: &[Module<'_, '_>]) -> Option<u32>
     Some(place as u32 + 1)
 }
 
-/// Returns the limit that the sections of all modules exceed together: of functions first, then of rows.
-fn exceeded(modules: &[Module<'_, '_>]) -> Option<Limit>
+/// Returns a limit of functions and rows as a limit of the run.
+fn run_limit(limit: sf_functions::Limit) -> Limit
+    ensures { result ≡ spec.run_limit limit }
+{
+    match limit {
+        sf_functions::Limit::Functions => Limit::Functions,
+        sf_functions::Limit::Rows => Limit::Rows,
+    }
+}
+
+/// Returns the limit that the sections of all modules exceed together.
+fn sums_limit(modules: &[Module<'_, '_>]) -> Option<Limit>
     requires { length modules.now ≤ 512 }
-    ensures { result ≡ sums_limit (tables_of (map module_view modules.now)) }
+    ensures { result ≡ spec.sums_limit (tables_of (map module_view modules.now)) }
 {
     let mut functions = 0;
     let mut rows = 0;
     for mapped in modules {
-        functions += u64::from(mapped.view.len());
-        rows += u64::from(mapped.view.row_count());
+        functions += mapped.view.len() as usize;
+        rows += mapped.view.row_count() as usize;
     }
-    if functions > FUNCTION_LIMIT {
-        return Some(Limit::Functions);
+    match exceeded(functions, rows) {
+        Some(limit) => Some(run_limit(limit)),
+        None => None,
     }
-    if rows > ROW_LIMIT {
-        return Some(Limit::Rows);
-    }
-    None
 }
 
 /// Returns the walks of a core file's threads by modules, if they are for its machine and within the limits.
@@ -178,12 +180,12 @@ fn walked<'a, 'm>(
 ) -> Result<Made<'m>, Refusal<'a>>
     requires threads { length (threads_of core.now) ≤ 4096 }
     requires few { length modules.now ≤ 512 }
-    ensures { ComesTo (λ (coming : Coming). coming ≡ coming_of_modules (spec.mixed_item (arch_of (core_bytes core.now)) (map module_view modules.now)) (sums_limit (tables_of (map module_view modules.now))) (modules_walks (map mapping_view entries.now) (map module_view modules.now) (core_bytes core.now) depth)) result }
+    ensures { ComesTo (λ (coming : Coming). coming ≡ coming_of_modules (spec.mixed_item (arch_of (core_bytes core.now)) (map module_view modules.now)) (spec.sums_limit (tables_of (map module_view modules.now))) (modules_walks (map mapping_view entries.now) (map module_view modules.now) (core_bytes core.now) depth)) result }
 {
     if let Some(item) = mixed_item(core.arch(), modules) {
         return Err(mixed(item));
     }
-    if let Some(limit) = exceeded(modules) {
+    if let Some(limit) = sums_limit(modules) {
         return Err(Refusal::Limit(limit));
     }
     let modules = Modules::new(alloc, entries, modules)?;

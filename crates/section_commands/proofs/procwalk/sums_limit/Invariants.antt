@@ -2,7 +2,7 @@ use Rattle.std.proofs.Common.{◌≡◌, ◌≤◌, ◌*◌, ◌^◌, map, take}
 use Rattle.sf_modules.specs.Module.{module_view}
 use Rattle.sf_modules.specs.Union.{tables_of}
 use Rattle.sf_merge.specs.Merging.{functions_in_all, rows_in_all}
-use Rattle.section_commands.proofs.procwalk.exceeded.Given as goal
+use Rattle.section_commands.proofs.procwalk.sums_limit.Given as goal
 
 abbrev pub invariant-loop-mapped : goal.invariant-loop-mapped
 invariant-loop-mapped l = record {
