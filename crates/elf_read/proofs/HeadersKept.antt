@@ -14,7 +14,7 @@ use Rattle.elf_read.specs.declared.kind.Kind.{Kind as kind}
 use Rattle.elf_read.specs.declared.kind.Kind.TheVariants.{Rel, Exec, Dyn, Core}
 use Rattle.sf_model.specs.declared.machine.Arch.{Arch as machine}
 use Rattle.sf_model.specs.declared.machine.Arch.TheVariants.{Amd64, Aarch64}
-use Rattle.elf_read.specs.Sections.{section_fields, section_bytes, section_count, section_name, name_table}
+use Rattle.elf_read.specs.Sections.{has_bytes, section_fields, section_bytes, section_count, section_name, name_table}
 
 same_test : (w m len : ℕ) → w ≤ m → nat_lt (min m len) w ≡ nat_lt len w
 same_test w m len h = elim (cases_lt len w) [
@@ -192,3 +192,12 @@ pub name_is : (file : List ℕ) (i : ℕ) → IsLinkedHead file → section_name
 unfolding section_name
 name_is file i h =
     ap (λ (b : Bool). cond b [] (text_in (section_fields file i).sh_name (section_bytes file (name_table file)))) (ap (λ (n : ℕ). n == 0) (table_is file h) ∙ h.named)
+
+-- the bytes of a section that has some in the file
+pub bytes_are : (file : List ℕ) (i place size : ℕ) → has_bytes file i ≡ true → place ≡ (section_fields file i).sh_offset → size ≡ (section_fields file i).sh_size
+    → window place size file ≡ section_bytes file i
+unfolding section_bytes
+bytes_are file i place size there at many =
+    ap (λ (n : ℕ). window n size file) at
+    ∙ ap (λ (n : ℕ). window (section_fields file i).sh_offset n file) many
+    ∙ sym (ap (λ (b : Bool). cond b (window (section_fields file i).sh_offset (section_fields file i).sh_size file) []) there)

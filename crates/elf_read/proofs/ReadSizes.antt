@@ -104,4 +104,4 @@ elf_has_room elf = has_room elf.bytes.now (passed (file_check elf.bytes.now) elf
 
 pub input_has_room : (input : ElfInput) → HasRoom (input_file input)
 input_has_room (Whole elf) = elf_has_room elf
-input_has_room (Linked elf) = has_room (linked_file elf) elf.checked
+input_has_room (Linked elf) = has_room (linked_file elf.now) elf.now.checked

@@ -10,7 +10,7 @@ use Rattle.elf_read.specs.Views.{file as elf_file}
 -- all the bytes of the file
 abbrev pub file : ElfInput → List ℕ
 file (Whole elf) = elf_file elf
-file (Linked elf) = linked_file elf
+file (Linked elf) = linked_file elf.now
 
 -- the number of a section, if the file isn't an object
 abbrev pub IsSection : List ℕ → ℕ → Type 0

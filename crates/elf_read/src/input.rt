@@ -14,7 +14,7 @@ pub enum ElfInput<'a> {
     /// All its bytes.
     Whole(Elf<'a>),
     /// Its parts.
-    Linked(LinkedElf<'a>),
+    Linked(&'a LinkedElf),
 }
 
 impl<'a> ElfInput<'a> {

@@ -5,8 +5,8 @@
 //! groups are read from their places when they are asked for.
 //!
 //! [`linked_of`] checks as much of an executable or a shared object by its header, its section headers, their names and
-//! its one section with call frame information, which it lends. It returns one only where the whole file has no fault.
-//! An [`ElfInput`] is a file to link in either form.
+//! its one section with call frame information. It returns a [`LinkedElf`], which keeps what is read of them, only where
+//! the whole file has no fault. An [`ElfInput`] is a file to link in either form.
 //!
 //! The meaning of a file is its list of bytes. Each header is a record of the standard's fields, and a function
 //! of it (`specs/Header.antt`, `specs/Sections.antt`). What is asked of a file is a table of conditions, each with
@@ -34,6 +34,7 @@ mod laws;
 pub mod layout;
 mod linked;
 mod linked_elf;
+mod linked_parts;
 mod linked_sections;
 mod masks;
 mod names;
@@ -55,12 +56,12 @@ mod zeros;
 pub use entry::{GroupHead, Rela, Section, Segment, Symbol};
 pub use fault::ElfFault;
 pub use first_zero::bytes_before_zero;
-pub use headers::Headers;
 pub use input::ElfInput;
 pub use kind::Kind;
 pub use laws::{compressed_law, room_law};
 pub use linked::linked_of;
 pub use linked_elf::LinkedElf;
+pub use linked_parts::LinkedParts;
 pub use number::{u16_at, u32_at, u64_at};
 pub use text::Text;
 pub use view::Elf;

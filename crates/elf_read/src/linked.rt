@@ -4,10 +4,11 @@ ghost use Rattle.std.specs.Prelude.{◌≡◌, ◌==◌, ◌<◌, ◌≤◌, ◌
 ghost use Rattle.std.specs.Cmp.Lexicographic.{pointwise};
 ghost use Rattle.elf_read.specs.Checking.{each_below};
 ghost use Rattle.elf_read.specs.Checks as checks;
-ghost use Rattle.elf_read.specs.Linked.{IsLinkedHead, IsOnlyEhFrame, whole_of};
+ghost use Rattle.elf_read.specs.Linked.{AreLinkedParts, IsLinkedHead, IsOnlyEhFrame, HasLinkedParts, linked_file, whole_of};
 ghost use Rattle.elf_read.specs.Number.{EndsTexts};
 ghost use Rattle.elf_read.specs.Parsing.{file_check};
 ghost use Rattle.elf_read.specs.Sections as spec;
+ghost use Rattle.sf_bytes.specs.Parts.{IsPart};
 
 use crate::header::{e_shentsize, e_shnum, e_shoff, e_shstrndx, is_core_file, is_object};
 use crate::headers::Headers;
@@ -17,12 +18,14 @@ use crate::layout::{
     SHT_STRTAB,
 };
 use crate::linked_elf::LinkedElf;
+use crate::linked_parts::{LinkedParts, bytes_if_at};
 use crate::linked_sections::{
     has_bytes, section_bytes, sh_flags, sh_name, sh_offset, sh_size, sh_type,
 };
 use crate::number::{flag_is_set, lies};
 use crate::text::{text_is, texts_end};
-use sf_bytes::FileBytes;
+use boxcar::tag::Tag;
+use sf_bytes::FilePart;
 
 // Returns whether a file header is that of an executable or a shared object that has sections with names.
 fn is_linked_head(header: &[u8]) -> bool
@@ -49,27 +52,39 @@ fn is_linked_head(header: &[u8]) -> bool
     true
 }
 
-// Returns the headers of such a file, if they were read.
-fn headers_of<'a>(file: FileBytes<'a>) -> Option<Headers<'a>>
-    requires { length file.whole.now.numbers < 2 ^ 32 }
-    ensures file { IfSome result (λ headers. whole_of headers ≡ file.entry.whole.now.numbers) }
+// Returns the headers of such a file, if these parts are its headers.
+fn headers_of<'a>(
+    len: u64,
+    whole: &'a Tag,
+    header: &'a FilePart,
+    sections: &'a FilePart,
+) -> Option<Headers<'a>>
+    requires len { len ≡ length whole.now.numbers }
+    requires small { length whole.now.numbers < 2 ^ 32 }
+    requires header { IsPart whole.now.numbers header.now }
+    requires sections { IsPart whole.now.numbers sections.now }
+    ensures file { IfSome result (λ headers. whole_of headers ≡ whole.now.numbers) }
     ensures head { IfSome result (λ headers. IsLinkedHead (whole_of headers)) }
+    ensures header { IfSome result (λ headers. headers.header.now ≡ header.now.bytes.items) }
+    ensures sections { IfSome result (λ headers. headers.sections.now ≡ sections.now.bytes.items) }
     ensures headers { IfSome result (λ headers. length headers.sections.now ≡ 64 * headers.count) }
 {
-    let header = file.lend(0, FILE_HEADER_LEN)?;
+    let header = bytes_if_at(header, 0, FILE_HEADER_LEN)?;
     if !is_linked_head(header) {
         return None;
     }
-    let count = e_shnum(header);
-    let sections = file.lend(e_shoff(header), SECTION_HEADER_LEN * u64::from(count))?;
-    if sections.len() as u64 != SECTION_HEADER_LEN * u64::from(count) {
-        return None;
-    }
+    let count = u32::from(e_shnum(header));
+    let sections = bytes_if_at(
+        sections,
+        e_shoff(header),
+        SECTION_HEADER_LEN * u64::from(count),
+    )?;
     Some(Headers {
-        file,
+        len,
+        whole,
         header,
         sections,
-        count: u32::from(count),
+        count,
     })
 }
 
@@ -82,12 +97,7 @@ fn bytes_lie(headers: &Headers<'_>, i: u32) -> bool
     if !has_bytes(headers, i) {
         return true;
     }
-    lies(
-        headers.file.len(),
-        sh_offset(headers, i),
-        sh_size(headers, i),
-        1,
-    )
+    lies(headers.len, sh_offset(headers, i), sh_size(headers, i), 1)
 }
 
 // Returns whether the bytes of each section lie in the file.
@@ -102,10 +112,11 @@ fn all_bytes_lie(headers: &Headers<'_>) -> bool
     true
 }
 
-// Returns the name table's bytes, if it is a string table and they were read.
+// Returns the name table's bytes, if it is a string table and the part has its bytes.
 #[tactic(auto, unfolding(crate::specs::Checks::is_string_table))]
-fn names_of<'a>(headers: &Headers<'a>) -> Option<&'a [u8]>
-    requires { IsLinkedHead (whole_of headers.now) }
+fn names_of<'a>(headers: &Headers<'_>, names: &'a FilePart) -> Option<&'a [u8]>
+    requires head { IsLinkedHead (whole_of headers.now) }
+    requires part { IsPart (whole_of headers.now) names.now }
     ensures bytes { IfSome result (λ names. names.now ≡ spec.section_bytes (whole_of headers.now) (spec.name_table (whole_of headers.now))) }
     ensures kind { IfSome result (λ names. checks.is_string_table (whole_of headers.now) (spec.name_table (whole_of headers.now)) ≡ true) }
 {
@@ -113,7 +124,7 @@ fn names_of<'a>(headers: &Headers<'a>) -> Option<&'a [u8]>
     if table >= headers.count || sh_type(headers, table) != SHT_STRTAB {
         return None;
     }
-    section_bytes(headers, table)
+    section_bytes(headers, names, table)
 }
 
 // Returns whether a section's name is in the name table, whose texts end there.
@@ -225,21 +236,25 @@ fn only_eh_frame(headers: &Headers<'_>, names: &[u8]) -> Option<u32>
     Some(first)
 }
 
-/// Returns an executable or a shared object by parts of it, if these are enough for every check of the whole file, and
-/// it passes them all. It has to have exactly one section with call frame information. Nothing is said of any other
-/// file: [`Elf::parse`](crate::Elf::parse) of its bytes gives its fault, or says that it has none.
-pub fn linked_of<'a>(file: FileBytes<'a>) -> Option<LinkedElf<'a>>
-    requires { length file.whole.now.numbers < 2 ^ 32 }
-    ensures file { IfSome result (λ elf. whole_of elf.headers ≡ file.entry.whole.now.numbers) }
-    ensures checked { IfSome result (λ elf. file_check (whole_of elf.headers) ≡ Ok tt) }
-    ensures head { IfSome result (λ elf. IsLinkedHead (whole_of elf.headers)) }
-    ensures only { IfSome result (λ elf. IsOnlyEhFrame (whole_of elf.headers) elf.eh_frame) }
+// What is found of a file that passes every check.
+#[derive(Clone, Copy)]
+struct Found {
+    count: u32,
+    eh_frame: u32,
+}
+
+// Returns how many sections a file has and which has call frame information, if the file passes every check by these parts.
+fn found_by_parts(len: u64, whole: &Tag, parts: &LinkedParts) -> Option<Found>
+    requires len { len ≡ length whole.now.numbers }
+    requires small { length whole.now.numbers < 2 ^ 32 }
+    requires parts { AreLinkedParts whole.now.numbers parts.now }
+    ensures { IfSome result (λ found. HasLinkedParts whole.now.numbers parts.now found.count found.eh_frame) }
 {
-    let headers = headers_of(file)?;
+    let headers = headers_of(len, whole, &parts.header, &parts.sections)?;
     if !all_bytes_lie(&headers) {
         return None;
     }
-    let names = names_of(&headers)?;
+    let names = names_of(&headers, &parts.names)?;
     if !all_names_stand(&headers, names) {
         return None;
     }
@@ -247,11 +262,40 @@ pub fn linked_of<'a>(file: FileBytes<'a>) -> Option<LinkedElf<'a>>
     if is_compressed(&headers, eh_frame) {
         return None;
     }
-    let eh_frame_bytes = section_bytes(&headers, eh_frame)?;
-    Some(LinkedElf {
-        headers,
-        names,
+    let _ = section_bytes(&headers, &parts.eh_frame, eh_frame)?;
+    Some(Found {
+        count: headers.count,
         eh_frame,
-        eh_frame_bytes,
+    })
+}
+
+/// Returns an executable or a shared object of `len` bytes by parts of it, if these are enough for every check of the
+/// whole file, and it passes them all. It has to have exactly one section with call frame information, with bytes in the
+/// file. Nothing is said of any other file: [`Elf::parse`](crate::Elf::parse) of its bytes gives its fault, or says that
+/// it has none. Clauses see all its bytes in `whole`.
+pub fn linked_of(len: u64, whole: Tag, parts: LinkedParts) -> Option<LinkedElf>
+    requires len { len ≡ length whole.numbers }
+    requires small { length whole.numbers < 2 ^ 32 }
+    requires parts { AreLinkedParts whole.numbers parts }
+    ensures file { IfSome result (λ elf. linked_file elf ≡ whole.numbers) }
+    ensures checked { IfSome result (λ elf. file_check (linked_file elf) ≡ Ok tt) }
+    ensures head { IfSome result (λ elf. IsLinkedHead (linked_file elf)) }
+    ensures only { IfSome result (λ elf. IsOnlyEhFrame (linked_file elf) elf.eh_frame) }
+{
+    let found = found_by_parts(len, &whole, &parts)?;
+    let LinkedParts {
+        header,
+        sections,
+        names: _,
+        eh_frame,
+    } = parts;
+    Some(LinkedElf {
+        whole,
+        len,
+        header: header.bytes,
+        sections: sections.bytes,
+        count: found.count,
+        eh_frame: found.eh_frame,
+        eh_frame_bytes: eh_frame.bytes,
     })
 }

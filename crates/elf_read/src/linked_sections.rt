@@ -6,6 +6,7 @@ ghost use Rattle.elf_read.specs.Linked.{whole_of};
 ghost use Rattle.elf_read.specs.Number.{field_at};
 ghost use Rattle.elf_read.specs.Sections as spec;
 ghost use Rattle.elf_read.specs.Views.{section_of};
+ghost use Rattle.sf_bytes.specs.Parts.{IsPart};
 
 use crate::entry::Section;
 use crate::headers::Headers;
@@ -13,7 +14,9 @@ use crate::layout::{
     SECTION_HEADER_LEN, SH_ADDR, SH_ADDRALIGN, SH_ENTSIZE, SH_FLAGS, SH_INFO, SH_LINK, SH_NAME,
     SH_OFFSET, SH_SIZE, SH_TYPE, SHT_NOBITS, SHT_NULL,
 };
+use crate::linked_parts::bytes_if_at;
 use crate::number::{u32_at, u64_at};
+use sf_bytes::FilePart;
 
 // Returns a field of four bytes of a section's header.
 fn field4(headers: &Headers<'_>, i: u32, place: u64) -> u32
@@ -150,17 +153,16 @@ pub fn has_bytes(headers: &Headers<'_>, i: u32) -> bool
     !matches!(sh_type(headers, i), SHT_NULL | SHT_NOBITS)
 }
 
-/// Returns a section's bytes, if they were read.
+/// Returns a part's bytes, if these are a section's. A section without bytes in the file has no such part.
 #[tactic(auto, unfolding(crate::specs::Sections::section_bytes))]
-pub fn section_bytes<'a>(headers: &Headers<'a>, i: u32) -> Option<&'a [u8]>
-    requires { i < headers.now.count }
-    ensures { IfSome result (λ bytes. bytes.now ≡ spec.section_bytes (whole_of headers.now) i) }
+pub fn section_bytes<'a>(headers: &Headers<'_>, part: &'a FilePart, i: u32) -> Option<&'a [u8]>
+    requires index { i < headers.now.count }
+    requires part { IsPart (whole_of headers.now) part.now }
+    ensures part { IfSome result (λ bytes. bytes.now ≡ part.now.bytes.items) }
+    ensures bytes { IfSome result (λ bytes. bytes.now ≡ spec.section_bytes (whole_of headers.now) i) }
 {
-    if has_bytes(headers, i) {
-        headers
-            .file
-            .lend(sh_offset(headers, i), sh_size(headers, i))
-    } else {
-        Some(&[])
+    if !has_bytes(headers, i) {
+        return None;
     }
+    bytes_if_at(part, sh_offset(headers, i), sh_size(headers, i))
 }

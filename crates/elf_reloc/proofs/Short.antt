@@ -6,4 +6,4 @@ use Rattle.elf_read.specs.Input.{file}
 
 pub is_short : (input : ElfInput) → length (file input) < 2 ^ 32
 is_short (Whole elf) = elf.small
-is_short (Linked elf) = elf.headers.small
+is_short (Linked elf) = elf.now.small

@@ -8,11 +8,11 @@ pub returns-clause-bytes : goal.returns-clause-bytes
 returns-clause-bytes c =
     let elf = c.args.self.now in
     let same : c.args.i ≡ elf.eh_frame = elf.only c.args.i c.requires.index c.requires.is in
-    elf.bytes_are ∙ ap (section_bytes (linked_file elf)) (sym same)
+    c.deref.ensures.value ∙ elf.bytes_are ∙ ap (section_bytes (linked_file elf)) (sym same)
 
 pub returns-clause-small : goal.returns-clause-small
 returns-clause-small c =
     let elf = c.args.self.now in
-    let len : length elf.eh_frame_bytes.now ≡ length (section_bytes (linked_file elf) elf.eh_frame) = ap (λ (xs : List ℕ). length xs) elf.bytes_are in
+    let len = ap (λ (xs : List ℕ). length xs) (c.deref.ensures.value ∙ elf.bytes_are) in
     let short : length (section_bytes (linked_file elf) elf.eh_frame) ≤ length (linked_file elf) = bytes_short (linked_file elf) elf.eh_frame in
-    omega (arith, len, short, elf.headers.small)
+    omega (arith, len, short, elf.small)
