@@ -1,8 +1,9 @@
 //! The parts of a file that a command needs, read in place of the whole.
 //!
-//! [`load_parts`] reads of an executable or a shared object its header, its section headers, their names and one
-//! section, where it is clear that these can be read alone. Else, and whenever something is in doubt, it reads the whole
-//! file, so that no fault is told from parts.
+//! [`load_parts`] reads of an executable or a shared object its header, its section headers, their names and its one
+//! section with call frame information. If these are enough for every check of the whole file, and it passes them, the
+//! result is an `elf_read::LinkedElf`. Else, and whenever something is in doubt, it reads the whole file, so that no
+//! fault is about parts.
 //!
 //! The parts of a [`FileParts`] lie in the file and don't overlap (`specs/Image.antt`), so there are bytes of which they
 //! are parts, also if what the file holds isn't known. Which parts are read is a plan of which nothing is stated.
@@ -14,12 +15,11 @@
 
 mod file_parts;
 mod file_read;
+mod in_order;
 mod known;
 mod loading;
 mod plan;
-mod read_parts;
 
 pub use file_parts::FileParts;
 pub use file_read::FileRead;
 pub use loading::load_parts;
-pub use read_parts::ReadParts;

@@ -5,16 +5,21 @@ ghost use Rattle.sf_base.specs.Contents.{contents_of};
 ghost use Rattle.sf_base.specs.Faults.{Rose};
 ghost use Rattle.sf_base.specs.Seen.{OnlyReads};
 ghost use Rattle.sf_base.specs.declared.loading.LoadFault.TheVariants.{Read, TooLong};
+ghost use Rattle.elf_read.specs.Linked.{linked_file};
 ghost use Rattle.sf_bytes.specs.Parts.{AreParts};
 ghost use Rattle.sf_parts.specs.Read.{file_of};
 
 use crate::file_parts::FileParts;
 use crate::file_read::FileRead;
+use crate::in_order::linked_parts;
 use crate::known::whole_of;
 use crate::plan::{self, Window};
-use crate::read_parts::ReadParts;
+use elf_read::{LinkedElf, linked_of};
 use sf_base::{Files, LoadFault, load, load_rest, read_part};
 use std::alloc::Global;
+
+/// A file of this many bytes or more is read whole.
+const MOST_BYTES: u64 = 1 << 32;
 
 // Reads a window of the open file, and returns whether it was added to the parts.
 fn read_window<F: Files>(
@@ -58,12 +63,11 @@ fn bytes_of(parts: &FileParts, number: usize) -> &[u8] {
     }
 }
 
-// Reads the windows of the plan for the section of this name, and returns whether all were added to the parts.
+// Reads the windows of the plan, and returns whether all were added to the parts.
 fn read_planned<F: Files>(
     alloc: Global,
     files: &mut F,
     parts: &mut FileParts,
-    name: &[u8],
 ) -> Result<bool, LoadFault>
     requires opened { IsTrue (F.opened files.old) }
     requires parts { IfSome ((F.seen files.old).contents) (λ _. AreParts (F.whole files.old) parts.old.parts.items) }
@@ -85,7 +89,9 @@ fn read_planned<F: Files>(
     if !read_window(alloc, files, parts, plan::file_header())? {
         return Ok(false);
     }
-    let headers = plan::section_headers(bytes_of(parts, 0));
+    let Some(headers) = plan::section_headers(bytes_of(parts, 0)) else {
+        return Ok(false);
+    };
     if !read_window(alloc, files, parts, headers)? {
         return Ok(false);
     }
@@ -93,41 +99,39 @@ fn read_planned<F: Files>(
     if !read_window(alloc, files, parts, names)? {
         return Ok(false);
     }
-    match plan::named(
-        bytes_of(parts, 0),
-        bytes_of(parts, 1),
-        bytes_of(parts, 2),
-        name,
-    ) {
+    match plan::eh_frame(bytes_of(parts, 0), bytes_of(parts, 1), bytes_of(parts, 2)) {
         None => Ok(false),
         Some(section) => read_window(alloc, files, parts, section),
     }
 }
 
-// Wraps the parts that were read of the open file.
-fn wrapped<F: Files>(files: &F, parts: FileParts) -> ReadParts
+// Returns the executable or shared object whose parts were read of the open file, if it passes every check by them.
+fn linked<F: Files>(files: &F, parts: FileParts) -> Option<LinkedElf>
     requires len { IfSome ((F.seen files.now).contents) (λ _. parts.len ≡ length (F.whole files.now)) }
     requires parts { IfSome ((F.seen files.now).contents) (λ _. AreParts (F.whole files.now) parts.parts.items) }
-    ensures whole { IfSome ((F.seen files.now).contents) (λ _. result.whole.numbers ≡ F.whole files.now) }
-    ensures len { result.parts.len ≡ parts.len }
+    ensures whole { IfSome result (λ elf. IfSome ((F.seen files.now).contents) (λ _. linked_file elf ≡ F.whole files.now)) }
+    ensures len { IfSome result (λ elf. length (linked_file elf) ≡ parts.len) }
 {
     let whole = whole_of(files, &parts);
-    ReadParts { parts, whole }
+    let len = parts.len;
+    if len >= MOST_BYTES {
+        return None;
+    }
+    linked_of(len, whole, linked_parts(parts)?)
 }
 
-// Reads the parts of the open file, of this length, that are needed with the section of a name. Nothing if it isn't
-// clear that these are enough.
-fn parts_of<F: Files>(
+// Reads the parts of the open file, of this length, that an executable or a shared object needs. Nothing if the file is
+// none, or doesn't pass every check by them.
+fn load_linked<F: Files>(
     alloc: Global,
     files: &mut F,
     len: u64,
-    section: &[u8],
-) -> Result<Option<ReadParts>, LoadFault>
+) -> Result<Option<LinkedElf>, LoadFault>
     requires opened { IsTrue (F.opened files.old) }
     requires len { IfSome ((F.seen files.old).contents) (λ _. len ≡ length (F.whole files.old)) }
-    ensures whole { IfOk result (λ parts. IfSome parts (λ parts. IfSome ((F.seen files.old).contents) (λ _.
-        parts.whole.numbers ≡ F.whole files.old))) }
-    ensures len { IfOk result (λ parts. IfSome parts (λ parts. parts.parts.len ≡ len)) }
+    ensures whole { IfOk result (λ linked. IfSome linked (λ elf. IfSome ((F.seen files.old).contents) (λ _.
+        linked_file elf ≡ F.whole files.old))) }
+    ensures len { IfOk result (λ linked. IfSome linked (λ elf. length (linked_file elf) ≡ len)) }
     ensures read { IsErrOf result LoadFault.Read →
         Rose ((F.seen files.old).read_faults) ((F.seen files.new).read_faults) }
     ensures failed_name { IsErrOf result LoadFault.Read →
@@ -139,15 +143,15 @@ fn parts_of<F: Files>(
     ensures same { OnOk result (F.seen files.new ≡ F.seen files.old) }
 {
     let mut parts = FileParts::new(alloc, len);
-    if !read_planned(alloc, files, &mut parts, section)? {
+    if !read_planned(alloc, files, &mut parts)? {
         return Ok(None);
     }
-    Ok(Some(wrapped(files, parts)))
+    Ok(linked(files, parts))
 }
 
-/// Reads of the file of this name its header, its section headers, their names and the section of a name, where the file
-/// has at most `limit` bytes and it is clear that these can be read alone. Else it reads the whole file, as
-/// [`load`](sf_base::load) does; a pipe is not opened twice.
+/// Reads the file of this name. Of an executable or a shared object that has at most `limit` bytes and passes every
+/// check by its parts, it reads its header, its section headers, their names and the one section with call frame
+/// information. Else it reads the whole file, as [`load`](sf_base::load) does; a pipe is not opened twice.
 ///
 /// # Errors
 ///
@@ -157,7 +161,6 @@ pub fn load_parts<F: Files>(
     files: &mut F,
     name: &str,
     limit: u64,
-    section: &[u8],
 ) -> Result<FileRead, LoadFault>
     requires { IsTrue (F.may_open files.old name.now) }
     ensures file { IfOk result (λ read. IfSome ((F.seen files.old).contents) (λ told.
@@ -180,8 +183,8 @@ pub fn load_parts<F: Files>(
         return Ok(FileRead::Whole(load_rest(alloc, files, limit)?));
     };
     if len <= limit {
-        if let Some(parts) = parts_of(alloc, files, len, section)? {
-            return Ok(FileRead::Parts(parts));
+        if let Some(elf) = load_linked(alloc, files, len)? {
+            return Ok(FileRead::Linked(elf));
         }
     }
     Ok(FileRead::Whole(load(alloc, files, name, limit)?))

@@ -1,10 +1,15 @@
 //! Which parts of an executable or a shared object are needed: its header, its section headers, their names, and the
-//! first section of a name. Nothing is stated here: where the plan is wrong, the file doesn't pass as a linked one.
+//! first section with call frame information. Nothing is stated here: where the plan is wrong, the file doesn't pass as
+//! a linked one.
 
 use elf_read::layout::{
-    E_SHNUM, E_SHOFF, E_SHSTRNDX, FILE_HEADER_LEN, SECTION_HEADER_LEN, SH_NAME, SH_OFFSET, SH_SIZE,
+    E_SHNUM, E_SHOFF, E_SHSTRNDX, E_TYPE, ELF_MAGIC, ET_DYN, ET_EXEC, FILE_HEADER_LEN,
+    SECTION_HEADER_LEN, SH_NAME, SH_OFFSET, SH_SIZE,
 };
 use elf_read::{u16_at, u32_at, u64_at};
+
+/// The name of the section with call frame information, and the zero byte that ends it: `.eh_frame_hdr` begins alike.
+const EH_FRAME_TEXT: &[u8] = b".eh_frame\0";
 
 /// Where bytes of a file are: the place of the first, and how many there are.
 #[derive(Clone, Copy)]
@@ -21,12 +26,15 @@ pub fn file_header() -> Window {
     }
 }
 
-/// Returns where the section headers are, by the file header.
-pub fn section_headers(header: &[u8]) -> Window {
-    Window {
+/// Returns where the section headers are, by the file header, if the file is an executable or a shared object.
+pub fn section_headers(header: &[u8]) -> Option<Window> {
+    if u32_at(header, 0) != ELF_MAGIC || !matches!(u16_at(header, E_TYPE), ET_EXEC | ET_DYN) {
+        return None;
+    }
+    Some(Window {
         place: u64_at(header, E_SHOFF),
         size: SECTION_HEADER_LEN * u64::from(u16_at(header, E_SHNUM)),
-    }
+    })
 }
 
 // Returns where a section is, by the section headers.
@@ -43,19 +51,19 @@ pub fn names(header: &[u8], headers: &[u8]) -> Window {
     section(headers, u16_at(header, E_SHSTRNDX))
 }
 
-// Returns whether the table of names has this name at a place, or one that begins so.
-fn is_named(names: &[u8], place: u64, name: &[u8]) -> bool {
+// Returns whether the table of names has the name `.eh_frame` at a place.
+fn is_eh_frame(names: &[u8], place: u64) -> bool {
     match names.get(place as usize..) {
-        Some(rest) => rest.starts_with(name),
+        Some(rest) => rest.starts_with(EH_FRAME_TEXT),
         None => false,
     }
 }
 
-/// Returns where the first section of a name is, by the file header, the section headers and the names.
-pub fn named(header: &[u8], headers: &[u8], names: &[u8], name: &[u8]) -> Option<Window> {
+/// Returns where the first section with call frame information is, by the file header, the section headers and the names.
+pub fn eh_frame(header: &[u8], headers: &[u8], names: &[u8]) -> Option<Window> {
     for number in 0..u16_at(header, E_SHNUM) {
         let place = u32_at(headers, SECTION_HEADER_LEN * u64::from(number) + SH_NAME);
-        if is_named(names, u64::from(place), name) {
+        if is_eh_frame(names, u64::from(place)) {
             return Some(section(headers, number));
         }
     }
