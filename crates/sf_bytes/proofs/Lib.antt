@@ -6,4 +6,3 @@ pub mod Run
 pub mod ShortLeb
 pub mod Skipped
 pub mod Texts
-pub mod Windows

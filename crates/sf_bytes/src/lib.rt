@@ -8,15 +8,13 @@
 //! function on cursors that returns the value and the next cursor or the first fault; its contract says
 //! that the read gives the same. Layers above define what they read with the same functions.
 //!
-//! A [`FileBytes`] lends bytes of a file of which only some parts were read ([`FilePart`]). Its clauses are about all
-//! the file's bytes, which a tag without bytes of its own stands for.
+//! A [`FilePart`] has bytes that were read of a file, and their place there (`specs/Parts.antt`).
 //!
 //! The caller owes that a part's place and length together stay below 2^64. Nothing allocates.
 #![tactic(auto)]
 
 mod fault;
 mod field;
-mod file_bytes;
 mod file_part;
 mod leb;
 mod part;
@@ -25,6 +23,5 @@ mod text;
 
 pub use fault::ByteFault;
 pub use field::{Field, Plain, Values};
-pub use file_bytes::FileBytes;
 pub use file_part::FilePart;
 pub use part::Part;
