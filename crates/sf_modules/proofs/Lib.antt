@@ -1,6 +1,7 @@
 pub mod Names
 pub mod Tails
 pub mod Placing
+pub mod PlacedModules
 pub mod NamesRead
 pub mod Texts
 pub mod Numbers

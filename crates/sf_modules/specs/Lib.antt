@@ -13,6 +13,7 @@ pub mod Fit
 pub mod Match
 pub mod Build
 pub mod Module
+pub mod Mapped
 pub mod Reading
 pub mod ReadFile
 pub mod Found

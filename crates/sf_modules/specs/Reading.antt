@@ -60,6 +60,24 @@ nearest_part p word file load = unless (is_candidate word p.entries) NotMapped >
 abbrev pub build_part : ProcessView → (file : List ℕ) → (load : ℕ) → EntryView → Check
 build_part p file load entry = unless (is_same_build p.core file (file_base file p.page entry load)) Build
 
+-- the file's build, at its entry
+abbrev pub home_part : ProcessView → (file : List ℕ) → (load : ℕ) → Option EntryView → Check
+home_part p file load None = Ok tt
+home_part p file load (Some entry) = build_part p file load entry
+
+-- the file is found, and is the process's build, once its first loaded segment is known
+abbrev pub found_part : ProcessView → (word file : List ℕ) → (load : Option ℕ) → Check
+found_part p word file None = Ok tt
+found_part p word file (Some load) = nearest_part p word file load >> home_part p file load (matching_entry p word file load)
+
+-- the checks of where the process had the file
+unfoldable pub place_check : ProcessView → (word file : List ℕ) → Check
+place_check p word file = segments_part file >> room_part file >> found_part p word file (first_load file)
+
+-- all checks of a file that needs no section: the first that fails is the file's fault
+unfoldable pub mapped_check : ProcessView → (word file : List ℕ) → Check
+mapped_check p word file = elf_fault_part (file_check file) >> kind_part file >> place_check p word file
+
 -- a check of the section, whose fault is the module's
 abbrev pub decode_part : Result (Unit {0}) DecodeFault → Check
 decode_part (Ok x) = Ok tt
@@ -79,7 +97,7 @@ abbrev pub process_part : ProcessView → (word file : List ℕ) → (load secti
 process_part p word file (Some load) (Some section) = nearest_part p word file load >> entry_part p file load section (matching_entry p word file load)
 process_part p word file load section = Ok tt
 
--- all checks: the first that fails is the file's fault
+-- all checks of a file with its section: the first that fails is the file's fault
 unfoldable pub module_check : ProcessView → (word file : List ℕ) → Check
 module_check p word file =
     elf_fault_part (file_check file)

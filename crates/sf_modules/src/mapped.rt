@@ -1,22 +1,18 @@
 //! A file that a process had mapped, with its SFrame section.
 
 ghost use Rattle.std.specs.Prelude.{◌≡◌, ◌<◌, ◌^◌, IfOk, length};
+ghost use Rattle.elf_read.specs.Sections.{section_fields};
 ghost use Rattle.elf_read.specs.Views.{file};
-ghost use Rattle.sf_modules.specs.Entry.{mapping_view};
 ghost use Rattle.sf_modules.specs.Fault.{verdict};
-ghost use Rattle.sf_modules.specs.Module as spec;
+ghost use Rattle.sf_modules.specs.Fit.{process_address};
 ghost use Rattle.sf_modules.specs.Module.{IsModule, module_view};
 ghost use Rattle.sf_modules.specs.Process.{process_view};
-ghost use Rattle.sf_modules.specs.Reading.{build_part, module_check, room_part};
+ghost use Rattle.sf_modules.specs.Reading.{module_check};
 
-use crate::build::is_same_build;
-use crate::entry::Entry;
 use crate::fault::ModuleFault;
-use crate::file::{Program, check_kind, program_of, section_of};
-use crate::fit::base_of;
-use crate::nearest::entry_of;
+use crate::file::{check_kind, section_of};
+use crate::place::place_of;
 use crate::process::Process;
-use core_notes::check_room;
 use elf_read::Elf;
 use sf_decode::View;
 use sf_model::Arch;
@@ -33,50 +29,11 @@ pub struct Module<'c, 'a> {
     pub view: View<'a>,
 }
 
-// Returns how far up a program was mapped.
-fn file_base(page: u64, program: &Program<'_>, entry: &Entry<'_>) -> u64
-    requires { 0 < page }
-    ensures { result ≡ spec.file_base (file program.now.elf) page (mapping_view entry.now) program.now.load }
-{
-    base_of(page, entry, program.elf.segment(program.load).vaddr)
-}
-
-// Checks that the program is the build that the process had.
-fn check_build(
-    process: &Process<'_>,
-    program: &Program<'_>,
-    entry: &Entry<'_>,
-) -> Result<(), ModuleFault>
-    requires { length (file program.now.elf) < 2 ^ 32 }
-    ensures { result ≡ build_part (process_view process.now) (file program.now.elf) program.now.load (mapping_view entry.now) }
-{
-    if is_same_build(
-        &process.memory,
-        program,
-        file_base(process.page, program, entry),
-    ) {
-        Ok(())
-    } else {
-        Err(ModuleFault::Build)
-    }
-}
-
-// Checks that the file has room for its PT_NOTE segments, which are read whole.
-fn check_notes(bytes: &[u8], program: &Program<'_>) -> Result<(), ModuleFault>
-    requires small { length bytes.now < 2 ^ 32 }
-    requires same { bytes.now ≡ file program.now.elf }
-    ensures { result ≡ room_part (file program.now.elf) }
-{
-    check_room(bytes, &program.elf, program.count)?;
-    Ok(())
-}
-
 // Returns the address at which a section was.
-fn address_of(page: u64, program: &Program<'_>, entry: &Entry<'_>, section: u32) -> u64
-    requires { 0 < page }
-    ensures { result ≡ spec.loaded_address (file program.now.elf) page (mapping_view entry.now) program.now.load section }
+fn address_of(base: u64, elf: &Elf<'_>, section: u32) -> u64
+    ensures { result ≡ process_address base (section_fields (file elf.now) section).sh_addr }
 {
-    file_base(page, program, entry).wrapping_add(program.elf.section(section).addr)
+    base.wrapping_add(elf.section(section).addr)
 }
 
 /// Reads the module of a file for which this word is given. Among the process's entries whose names have most parts in
@@ -105,17 +62,11 @@ pub fn read_module<'p, 'a>(
     let elf = Elf::parse(bytes)?;
     check_kind(&elf)?;
     let section = section_of(&elf)?;
-    let program = program_of(&elf)?;
-    check_notes(bytes, &program)?;
-    let entry = entry_of(process, word, &program)?;
-    check_build(process, &program, entry)?;
-    let view = View::parse(
-        elf.bytes(section),
-        address_of(process.page, &program, entry, section),
-    )?;
+    let mapped = place_of(process, word, bytes, &elf)?;
+    let view = View::parse(elf.bytes(section), address_of(mapped.base, &elf, section))?;
     Ok(Module {
-        name: entry.name,
-        machine: elf.arch(),
+        name: mapped.entry.name,
+        machine: mapped.machine,
         view,
     })
 }
