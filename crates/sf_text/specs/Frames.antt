@@ -16,13 +16,21 @@ cfa_text (Some address) = codes " cfa " ++ hexadecimal_text address
 cfa_text None = []
 
 -- two blanks, `#NUMBER pc PC`, and the canonical frame address
+unfoldable pub frame_words : (number : ℕ) → Frame → List ℕ
+frame_words number frame = codes "  #" ++ decimal number ++ codes " pc " ++ hexadecimal_text frame.pc ++ cfa_text frame.cfa
+
+-- the line of a frame
 unfoldable pub frame_line : (number : ℕ) → Frame → List ℕ
-frame_line number frame = codes "  #" ++ decimal number ++ codes " pc " ++ hexadecimal_text frame.pc ++ cfa_text frame.cfa ++ codes "\n"
+frame_line number frame = frame_words number frame ++ codes "\n"
+
+-- the lines of items that are numbered from `first` on
+unfoldable pub numbered_lines : {X : Type 0} → (line : ℕ → X → List ℕ) → (first : ℕ) → List X → List ℕ
+numbered_lines line first [] = []
+numbered_lines line first (x ∷ items) = line first x ++ numbered_lines line (first + 1) items
 
 -- the lines of frames that are numbered from `first` on
-unfoldable pub frame_lines : (first : ℕ) → List Frame → List ℕ
-frame_lines first [] = []
-frame_lines first (frame ∷ frames) = frame_line first frame ++ frame_lines (first + 1) frames
+abbrev pub frame_lines : (first : ℕ) → List Frame → List ℕ
+frame_lines first frames = numbered_lines frame_line first frames
 
 -- why a walk stopped, with the address
 abbrev pub stop_text : Stop → List ℕ

@@ -8,6 +8,7 @@ pub mod Dump
 pub mod Found
 pub mod FaultLine
 pub mod Frames
+pub mod FileFrames
 pub mod Gathered
 pub mod Summary
 pub mod ShownName

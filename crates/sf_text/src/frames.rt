@@ -1,7 +1,7 @@
 //! The text of a walk.
 
 ghost use Rattle.std.specs.Prelude.{◌≡◌, ◌++◌, string_bytes, OnOk, IfOk};
-ghost use Rattle.sf_text.specs.Frames.{cfa_text, frame_line, frame_lines, stop_line, stop_text, thread_line, walk_text};
+ghost use Rattle.sf_text.specs.Frames.{cfa_text, frame_line, frame_lines, frame_words, stop_line, stop_text, thread_line, walk_text};
 
 use crate::shown::Hexadecimal;
 use sf_base::NoMemory;
@@ -24,7 +24,7 @@ pub fn thread_text(alloc: Global, number: u32, pid: u32, walk: &Walk) -> Result<
 
 /// Appends the thread's line.
 #[tactic(auto, unfolding(crate::specs::Frames::thread_line))]
-fn push_thread(text: &mut String, number: u32, pid: u32) -> Result<(), AllocError>
+pub(crate) fn push_thread(text: &mut String, number: u32, pid: u32) -> Result<(), AllocError>
     ensures { OnOk result (string_bytes text.new ≡ string_bytes text.old ++ thread_line number pid) }
 {
     write!(text, "thread {} pid {}\n", number, pid)
@@ -45,9 +45,17 @@ fn push_frames(text: &mut String, frames: &[Frame]) -> Result<(), AllocError>
 fn push_frame(text: &mut String, number: usize, frame: &Frame) -> Result<(), AllocError>
     ensures { OnOk result (string_bytes text.new ≡ string_bytes text.old ++ frame_line number frame.now) }
 {
-    write!(text, "  #{} pc {}", number, Hexadecimal(frame.pc))?;
-    push_cfa(text, frame.cfa)?;
+    push_words(text, number, frame)?;
     text.push_str("\n")
+}
+
+/// Appends a frame's number, its program counter and its canonical frame address.
+#[tactic(auto, unfolding(crate::specs::Frames::frame_words))]
+pub(crate) fn push_words(text: &mut String, number: usize, frame: &Frame) -> Result<(), AllocError>
+    ensures { OnOk result (string_bytes text.new ≡ string_bytes text.old ++ frame_words number frame.now) }
+{
+    write!(text, "  #{} pc {}", number, Hexadecimal(frame.pc))?;
+    push_cfa(text, frame.cfa)
 }
 
 /// Appends the canonical frame address, where it is known.
@@ -62,7 +70,7 @@ fn push_cfa(text: &mut String, cfa: Option<u64>) -> Result<(), AllocError>
 
 /// Appends the line on why the walk stopped.
 #[tactic(auto, unfolding(crate::specs::Frames::stop_line))]
-fn push_stop(text: &mut String, stop: Stop) -> Result<(), AllocError>
+pub(crate) fn push_stop(text: &mut String, stop: Stop) -> Result<(), AllocError>
     ensures { OnOk result (string_bytes text.new ≡ string_bytes text.old ++ stop_line stop) }
 {
     text.push_str("  stop ")?;

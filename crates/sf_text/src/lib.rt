@@ -1,13 +1,16 @@
 //! The texts that a program of this repository prints: the reports of links, the counts of a merge, what
-//! slimming saves, the content of a section, what a look-up finds, a verdict, what a walk lists, the summary
-//! of a made object's link, the line of a fault, the line of an item that is too long, and the names of files.
+//! slimming saves, the content of a section, what a look-up finds, a verdict, what a walk lists, with the files
+//! of a process or without, the summary of a made object's link, the line of a fault, the line of an item that is
+//! too long, and the names of files.
 //!
 //! Each text is a definition in `specs/`, and the calls return it byte for byte: [`report`] is `report_text`,
 //! [`report_plt`] is `plt_report_text`, [`merged`] is `merged_text`, [`slim_line`] is `slim_text`, [`found`] is
-//! `found_text`, [`verdict`] is `verdict_text`, [`thread_text`] is `walk_text`, [`summary`] is `summary_text`.
+//! `found_text`, [`verdict`] is `verdict_text`, [`thread_text`] is `walk_text`, [`file_frames_text`] is
+//! `file_frames_text`, [`summary`] is `summary_text`.
 //! [`put_output`] appends such a text, or `dump_text` of the table that a view shows, to a sink, and
 //! [`fault_line`], [`file_limit_line`] and [`put_name`] append `fault_text`, `file_limit_text` and `shown_name`.
 //! The caller owes a notice that has a line to `fault_line`, and nothing to the others.
+//! No command prints `file_frames_text` yet.
 //!
 //! What appends to a sink allocates nothing: the content of a section goes there in pieces, and is never held
 //! whole. [`dump`] returns it as one text.
@@ -17,6 +20,7 @@
 mod buffer;
 mod content;
 mod digits;
+mod file_frames;
 mod file_limit;
 mod found_row;
 mod frames;
@@ -28,6 +32,7 @@ mod names;
 mod number;
 mod output;
 mod plt_report;
+mod pushed_name;
 mod refusal;
 mod section_dump;
 mod shown;
@@ -35,6 +40,7 @@ mod shown_name;
 mod slim_text;
 mod verdict_text;
 
+pub use file_frames::{FileFrame, ShownFile, file_frames_text};
 pub use file_limit::file_limit_line;
 pub use found_row::found;
 pub use frames::thread_text;
