@@ -1,3 +1,4 @@
 pub mod Expressions
 pub mod Running
 pub mod Frames
+pub mod RowRules

@@ -7,6 +7,7 @@
 //! exactly where the function's rules have this form, and it is the only one.
 //!
 //! The rules hold at each address of the function, since a function of which another row begins isn't of this form.
+//! [`rows_have_expressions`] is a law: the rows of `cfa_machine` have these rules as expressions.
 //! The caller owes nothing. The instructions are read once, and nothing allocates.
 //!
 //! No command uses this crate yet.
@@ -15,6 +16,8 @@
 mod change;
 mod expression;
 mod frame;
+mod laws;
 mod rules;
 
 pub use frame::{SignalFrame, signal_frame};
+pub use laws::rows_have_expressions;
