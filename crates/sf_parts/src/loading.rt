@@ -149,9 +149,9 @@ fn load_linked<F: Files>(
     Ok(linked(files, parts))
 }
 
-/// Reads the file of this name. Of an executable or a shared object that has at most `limit` bytes and passes every
-/// check by its parts, it reads its header, its section headers, their names and the one section with call frame
-/// information. Else it reads the whole file, as [`load`](sf_base::load) does; a pipe is not opened twice.
+/// Reads what is needed of the file of this name. Of an executable or a shared object that has at most `limit` bytes and
+/// passes every check by its parts, these are its header, its section headers, their names and the one section with call
+/// frame information. Else the whole file is read, as [`load`](sf_base::load) does; a pipe is not opened twice.
 ///
 /// # Errors
 ///
