@@ -33,8 +33,8 @@ fn is_apart(part: &FilePart, place: u64, end: u64) -> bool
     end <= part.place
 }
 
-// Returns whether none of these parts overlaps the bytes from a place to another.
-fn are_apart(parts: &[FilePart], place: u64, end: u64) -> bool
+/// Returns whether none of these parts overlaps the bytes from a place to another.
+pub fn are_apart(parts: &[FilePart], place: u64, end: u64) -> bool
     ensures { IsTrue result → All (λ (part : file_part). (part.place + vec_len part.bytes ≤ place) ⊎ (end ≤ part.place)) parts.now }
 {
     for part in parts {

@@ -9,7 +9,7 @@ ghost use Rattle.elf_read.specs.Linked.{linked_file};
 ghost use Rattle.sf_bytes.specs.Parts.{AreParts};
 ghost use Rattle.sf_parts.specs.Read.{file_of};
 
-use crate::file_parts::FileParts;
+use crate::file_parts::{FileParts, are_apart};
 use crate::file_read::FileRead;
 use crate::in_order::linked_parts;
 use crate::known::whole_of;
@@ -47,6 +47,10 @@ fn read_window<F: Files>(
 {
     // No seek goes past the end, which some machines refuse.
     if window.place > parts.len || window.size > parts.len - window.place {
+        return Ok(false);
+    }
+    // No byte is read for two parts.
+    if !are_apart(&parts.parts, window.place, window.place + window.size) {
         return Ok(false);
     }
     match read_part(alloc, files, window.place, window.size as usize)? {
