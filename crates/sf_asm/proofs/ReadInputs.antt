@@ -87,25 +87,27 @@ pub ends : (lending : Bool) (set : Seen) (read : ReadFunctions) (item : ℕ) (gi
 ends lending set read item given h = (h.functions, sym h.comes ∙ ap (after_read h.functions) (functions_after-nil h.seen item) ∙ ap Ok (append-nil h.functions), h.are)
 
 -- ---- the inputs from a place on
-left_is : (inputs : List Input) (k : ℕ) (d : Input) → k < length inputs → map object_of (drop k inputs) ≡ object_of (get_or inputs k d) ∷ map object_of (drop (k + 1) inputs)
-left_is inputs k d lt = ap (map object_of) (drop-cons inputs k d lt) ∙ ap (λ (n : ℕ). object_of (get_or inputs k d) ∷ map object_of (drop n inputs)) (sym (add-one k))
+left_is : (inputs : List Input) (k : ℕ) (input : Input) → k < length inputs → input ≡ get_or inputs k input → map object_of (drop k inputs) ≡ object_of input ∷ map object_of (drop (k + 1) inputs)
+left_is inputs k input lt is =
+    ap (map object_of) (drop-cons inputs k input lt) ∙ ap (λ (n : ℕ). object_of (get_or inputs k input) ∷ map object_of (drop n inputs)) (sym (add-one k))
+    ∙ ap (λ (i : Input). object_of i ∷ map object_of (drop (k + 1) inputs)) (sym is)
 
-pub goes_on_at : (lending : Bool) (set set' : Seen) (read read' : ReadFunctions) (first k : ℕ) (inputs : List Input) (d : Input) (given : Result (List Function) GatherFault) → k < length inputs
+pub goes_on_at : (lending : Bool) (set set' : Seen) (read read' : ReadFunctions) (first k : ℕ) (inputs : List Input) (input : Input) (given : Result (List Function) GatherFault) → k < length inputs → input ≡ get_or inputs k input
     → AreReadUpTo lending set read (first + k) (map object_of (drop k inputs)) given
-    → ((signatures : List (List ℕ)) → HasSeen set signatures → ReadsAll lending read read' (object_functions (first + k) signatures (object_of (get_or inputs k d))))
-    → ((signatures : List (List ℕ)) → HasSeen set signatures → HasSeen set' (seen_behind signatures (object_of (get_or inputs k d)))) → AreReadUpTo lending set' read' (first + (k + 1)) (map object_of (drop (k + 1) inputs)) given
-goes_on_at lending set set' read read' first k inputs d given lt h reads sees =
+    → ((signatures : List (List ℕ)) → HasSeen set signatures → ReadsAll lending read read' (object_functions (first + k) signatures (object_of input)))
+    → ((signatures : List (List ℕ)) → HasSeen set signatures → HasSeen set' (seen_behind signatures (object_of input))) → AreReadUpTo lending set' read' (first + (k + 1)) (map object_of (drop (k + 1) inputs)) given
+goes_on_at lending set set' read read' first k inputs input given lt is h reads sees =
     subst (λ (item : ℕ). AreReadUpTo lending set' read' item (map object_of (drop (k + 1) inputs)) given) (omega arith)
-    (goes_on lending set set' read read' (first + k) (object_of (get_or inputs k d)) (map object_of (drop (k + 1) inputs)) given
-    (subst (λ (left : List Object). AreReadUpTo lending set read (first + k) left given) (left_is inputs k d lt) h) reads sees)
+    (goes_on lending set set' read read' (first + k) (object_of input) (map object_of (drop (k + 1) inputs)) given
+    (subst (λ (left : List Object). AreReadUpTo lending set read (first + k) left given) (left_is inputs k input lt is) h) reads sees)
 
-pub stops_at : (lending : Bool) (set : Seen) (read : ReadFunctions) (first k : ℕ) (inputs : List Input) (d : Input) (given : Result (List Function) GatherFault) (fault : GatherFault) → k < length inputs
+pub stops_at : (lending : Bool) (set : Seen) (read : ReadFunctions) (first k : ℕ) (inputs : List Input) (input : Input) (given : Result (List Function) GatherFault) (fault : GatherFault) → k < length inputs → input ≡ get_or inputs k input
     → AreReadUpTo lending set read (first + k) (map object_of (drop k inputs)) given
-    → ((signatures : List (List ℕ)) → HasSeen set signatures → (fault ≡ gather.NoMemory) ⊎ (named (gather.Input (first + k)) (object_functions (first + k) signatures (object_of (get_or inputs k d))) ≡ Err fault))
+    → ((signatures : List (List ℕ)) → HasSeen set signatures → (fault ≡ gather.NoMemory) ⊎ (named (gather.Input (first + k)) (object_functions (first + k) signatures (object_of input)) ≡ Err fault))
     → (fault ≡ gather.NoMemory) ⊎ (given ≡ Err fault)
-stops_at lending set read first k inputs d given fault lt h refused =
-    stops lending set read (first + k) (object_of (get_or inputs k d)) (map object_of (drop (k + 1) inputs)) given fault
-    (subst (λ (left : List Object). AreReadUpTo lending set read (first + k) left given) (left_is inputs k d lt) h) refused
+stops_at lending set read first k inputs input given fault lt is h refused =
+    stops lending set read (first + k) (object_of input) (map object_of (drop (k + 1) inputs)) given fault
+    (subst (λ (left : List Object). AreReadUpTo lending set read (first + k) left given) (left_is inputs k input lt is) h) refused
 
 pub ends_at : (lending : Bool) (set : Seen) (read : ReadFunctions) (item k : ℕ) (inputs : List Input) (given : Result (List Function) GatherFault) → length inputs ≤ k → AreReadUpTo lending set read item (map object_of (drop k inputs)) given
     → (functions : List Function) × (given ≡ Ok functions) × AreReadSoFar lending read functions
@@ -113,9 +115,10 @@ ends_at lending set read item k inputs given le h =
     ends lending set read item given (subst (λ (left : List Object). AreReadUpTo lending set read item left given) (ap (map object_of) (drop_all k inputs le)) h)
 
 -- the machines up to a place
-pub machines_more : (inputs : List Input) (k : ℕ) (d : Input) → k < length inputs
-    → map machine_of (map object_of (take k inputs)) ++ machine_of (object_of (get_or inputs k d)) ∷ [] ≡ map machine_of (map object_of (take (k + 1) inputs))
-machines_more inputs k d lt =
-    sym (ap (λ (xs : List Input). map machine_of (map object_of xs)) (take_more inputs k d lt)
-    ∙ ap (map machine_of) (map-append object_of (take k inputs) (get_or inputs k d ∷ []))
-    ∙ map-append machine_of (map object_of (take k inputs)) (object_of (get_or inputs k d) ∷ []))
+pub machines_more : (inputs : List Input) (k : ℕ) (input : Input) → k < length inputs → input ≡ get_or inputs k input
+    → map machine_of (map object_of (take k inputs)) ++ machine_of (object_of input) ∷ [] ≡ map machine_of (map object_of (take (k + 1) inputs))
+machines_more inputs k input lt is =
+    ap (λ (i : Input). map machine_of (map object_of (take k inputs)) ++ machine_of (object_of i) ∷ []) is
+    ∙ sym (ap (λ (xs : List Input). map machine_of (map object_of xs)) (take_more inputs k input lt)
+    ∙ ap (map machine_of) (map-append object_of (take k inputs) (get_or inputs k input ∷ []))
+    ∙ map-append machine_of (map object_of (take k inputs)) (object_of (get_or inputs k input) ∷ []))

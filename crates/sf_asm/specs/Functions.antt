@@ -16,7 +16,7 @@ use Rattle.sf_asm.specs.declared.fault.AsmFault.TheVariants.{Reloc, Record, Mach
 use Rattle.sf_asm.specs.declared.fault.GatherFault.{GatherFault}
 use Rattle.sf_asm.specs.declared.fault.GatherFault.TheVariants.{Input as RefusedInput}
 use Rattle.sf_asm.specs.Relocated.{Values, on_pointers, patched_values}
-pub use Rattle.sf_asm.specs.Sections.{Object, CallFrames, object_of, machine_of, bare_section, sections_of, seen_behind}
+pub use Rattle.sf_asm.specs.Sections.{Object, CallFrames, bytes_of, form_of, object_of, machine_of, bare_section, sections_of, seen_behind}
 pub use Rattle.sf_bytes.specs.Steps.{◌>>=◌, named}
 pub use Rattle.sf_model.specs.Firsts.{unless}
 

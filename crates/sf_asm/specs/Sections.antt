@@ -6,6 +6,7 @@ use Rattle.elf_read.specs.declared.kind.Kind.{Kind}
 use Rattle.elf_read.specs.declared.kind.Kind.TheVariants as kinds
 use Rattle.elf_read.specs.Checking.{numbers_below}
 use Rattle.elf_read.specs.Header.{arch_of, kind_of}
+use Rattle.elf_read.specs.Linked.{linked_file}
 use Rattle.elf_read.specs.Parsing.{file_check}
 use Rattle.elf_read.specs.Sections.{section_bytes, section_count}
 use Rattle.elf_place.specs.Dropped.{dropped_sections}
@@ -19,6 +20,8 @@ use Rattle.sf_asm.specs.declared.fault.AsmFault.TheVariants as asm
 use Rattle.sf_model.specs.declared.form.Form.{Form}
 use Rattle.sf_model.specs.declared.form.Form.TheVariants.{Elf, Bare}
 use Rattle.sf_asm.specs.declared.input.Input.{Input}
+use Rattle.sf_asm.specs.declared.input.InputBytes.{InputBytes}
+use Rattle.sf_asm.specs.declared.input.InputBytes.TheVariants as given
 use Rattle.elf_groups.specs.Dropped.{AreDroppedGroups}
 use Rattle.elf_groups.specs.Groups.{dropped_groups, seen_after}
 use Rattle.sf_asm.specs.Relocated.{relocations_of}
@@ -30,9 +33,21 @@ pub record Object : Type 0 where
   pub bytes : List ℕ
   pub base : ℕ
 
--- the same of an input
+-- what the bytes of an input are
+abbrev pub form_of : InputBytes → Form
+form_of (given.Section arch bytes) = Bare arch
+form_of (given.File bytes) = Elf
+form_of (given.Linked elf) = Elf
+
+-- all the bytes of an input; of a file that was checked by its parts, those of the whole file
+abbrev pub bytes_of : InputBytes → List ℕ
+bytes_of (given.Section arch bytes) = bytes.now
+bytes_of (given.File bytes) = bytes.now
+bytes_of (given.Linked elf) = linked_file elf.now
+
+-- an input as such an object
 abbrev pub object_of : Input → Object
-object_of input = record { form = input.form; bytes = input.bytes.now; base = input.base }
+object_of input = record { form = form_of input.bytes; bytes = bytes_of input.bytes; base = input.base }
 
 -- the machine that a file's header names, or that of a bare section
 abbrev pub machine_by : Form → List ℕ → Arch

@@ -113,7 +113,7 @@ fn only_memory(fault: GatherFault) -> NoMemory
 /// Gathers the functions of inputs that can be gathered.
 fn gather_accepted<'a>(alloc: Global, inputs: &[Input<'a>]) -> Result<WithSources<'a>, NoMemory>
     requires some { (0 < length inputs.now) × (length inputs.now ≤ 512) }
-    requires small { All (λ input. length input.bytes.now < 2 ^ 32) inputs.now }
+    requires small { All (λ input. length (object_of input).bytes < 2 ^ 32) inputs.now }
     requires accepted { CanBeGathered None (map object_of inputs.now) }
     ensures { IfOk result (λ g. AreWithSources None (map object_of inputs.now) g.arch g.kept.items g.omitted.items g.sources.functions) }
 {
@@ -137,7 +137,7 @@ pub fn row_at(
     pc: u64,
 ) -> Result<Option<(Content, Key, u64)>, NoMemory>
     requires some { (0 < length inputs.now) × (length inputs.now ≤ 512) }
-    requires small { All (λ input. length input.bytes.now < 2 ^ 32) inputs.now }
+    requires small { All (λ input. length (object_of input).bytes < 2 ^ 32) inputs.now }
     requires accepted { CanBeGathered None (map object_of inputs.now) }
     // It is the row of the definition, for the functions of the inputs.
     ensures { IfOk result (λ row. (functions : List Function) → Describe 0 (map object_of inputs.now) (Ok functions) → RowAt functions pc row) }

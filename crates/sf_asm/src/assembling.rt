@@ -30,7 +30,7 @@ pub struct Linked {
 /// The first fault of the input; then the limits of functions and rows, two functions that share an
 /// address, and a function too far from the section, in this order; memory may run out at any time.
 pub fn assemble(alloc: Global, input: &Input<'_>, at: u64) -> Result<Linked, LinkFault>
-    requires { length input.now.bytes.now < 2 ^ 32 }
+    requires { length (object_of input.now).bytes < 2 ^ 32 }
     // The section is that of the input's kept functions, and these were omitted.
     ensures assembled { IfOk result (λ linked. IsAssembled (object_of input.now) at linked.section.items linked.kept linked.omitted.items) }
     // A fault is the first one.

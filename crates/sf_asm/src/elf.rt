@@ -4,6 +4,8 @@ ghost use Rattle.std.specs.Prelude.{◌≡◌, ◌<◌, ◌^◌, ◌+◌, ◌-�
 ghost use Rattle.elf_read.specs.Header as head;
 ghost use Rattle.elf_read.specs.Sections.{section_bytes};
 ghost use Rattle.elf_read.specs.Input.{file};
+ghost use Rattle.elf_read.specs.Linked.{linked_file};
+ghost use Rattle.elf_read.specs.Parsing.{file_check};
 ghost use Rattle.elf_place.specs.Place.{IsEhFrame, place_check};
 ghost use Rattle.elf_place.specs.Views as placed_views;
 ghost use Rattle.elf_reloc.specs.Reading.{placed_address};
@@ -23,14 +25,28 @@ use crate::read::ReadFunctions;
 use crate::section::read_section;
 use elf_groups::Seen;
 use elf_place::{PlaceFault, Placed};
-use elf_read::{Elf, ElfFault, ElfInput, Kind};
+use elf_read::{Elf, ElfFault, ElfInput, Kind, LinkedElf};
 use sf_model::Arch;
 use std::alloc::Global;
 
 /// The place of a file's type.
 const TYPE_PLACE: u64 = 16;
 
-/// Reads a file that is no core.
+/// Refuses a core file.
+#[tactic(auto, unfolding(crate::specs::Sections::linked_check))]
+fn no_core(elf: ElfInput<'_>) -> Result<ElfInput<'_>, AsmFault>
+    requires { file_check (file elf) ≡ Ok tt }
+    ensures file { IfOk result (λ linked. file linked ≡ file elf.entry) }
+    ensures read { OnOk result (linked_check (file elf.entry) ≡ Ok tt) }
+    ensures fault { IfErr result (λ fault. linked_check (file elf.entry) ≡ Err fault) }
+{
+    match elf.kind() {
+        Kind::Core => Err(AsmFault::Elf(ElfFault::Kind(TYPE_PLACE))),
+        Kind::Rel | Kind::Exec | Kind::Dyn => Ok(elf),
+    }
+}
+
+/// Checks all the bytes of a file that is no core.
 #[tactic(auto, unfolding(crate::specs::Sections::linked_check))]
 fn parse(bytes: &[u8]) -> Result<ElfInput<'_>, AsmFault>
     requires { length bytes.now < 2 ^ 32 }
@@ -39,10 +55,7 @@ fn parse(bytes: &[u8]) -> Result<ElfInput<'_>, AsmFault>
     ensures fault { IfErr result (λ fault. linked_check bytes.now ≡ Err fault) }
 {
     match Elf::parse(bytes) {
-        Ok(elf) => match elf.kind() {
-            Kind::Core => Err(AsmFault::Elf(ElfFault::Kind(TYPE_PLACE))),
-            Kind::Rel | Kind::Exec | Kind::Dyn => Ok(ElfInput::Whole(elf)),
-        },
+        Ok(elf) => no_core(ElfInput::Whole(elf)),
         Err(fault) => Err(AsmFault::Elf(fault)),
     }
 }
@@ -119,10 +132,31 @@ fn read_sections<'a>(
     Ok(())
 }
 
-/// Reads the functions of a file that is loaded at `base`, in the order of its sections and records, after
-/// those that were read before, and returns its machine. A group of a later place with a signature of its groups is then
+/// Reads the functions of a checked file that is loaded at `base`, in the order of its sections and records, after those
+/// that were read before, and returns its machine. A group of a later place with a signature of its groups is then
 /// dropped.
-pub fn read_elf<'a>(
+fn read_checked<'a>(
+    alloc: Global,
+    item: u32,
+    elf: &ElfInput<'a>,
+    base: u64,
+    lending: bool,
+    seen: &mut Seen<'a>,
+    read: &mut ReadFunctions<'a>,
+) -> Result<Arch, AsmFault>
+    requires { linked_check (file elf.now) ≡ Ok tt }
+    ensures exact { (signatures : List (List ℕ)) → HasSeen seen.old signatures → ReadsMore lending result read.old read.new (object_functions item signatures (record { form = Form.Elf; bytes = file elf.now; base = base })) }
+    ensures seen { OnOk result ((signatures : List (List ℕ)) → HasSeen seen.old signatures → HasSeen seen.new (seen_after signatures (file elf.now))) }
+    ensures arch { IfOk result (λ arch. arch ≡ head.arch_of (file elf.now)) }
+    ensures sound { IfOk result (λ arch. AreSound arch read.old → AreSound arch read.new) }
+{
+    let placed = place(alloc, elf, base, seen)?;
+    read_sections(alloc, elf.arch(), item, &placed, lending, read)?;
+    Ok(elf.arch())
+}
+
+/// Checks all the bytes of a file, and reads its functions as `read_checked` does.
+pub fn read_file<'a>(
     alloc: Global,
     item: u32,
     bytes: &'a [u8],
@@ -138,7 +172,24 @@ pub fn read_elf<'a>(
     ensures sound { IfOk result (λ arch. AreSound arch read.old → AreSound arch read.new) }
 {
     let elf = parse(bytes)?;
-    let placed = place(alloc, &elf, base, seen)?;
-    read_sections(alloc, elf.arch(), item, &placed, lending, read)?;
-    Ok(elf.arch())
+    read_checked(alloc, item, &elf, base, lending, seen, read)
+}
+
+/// Reads the functions of a file that was checked by its parts, as `read_checked` does.
+pub fn read_linked<'a>(
+    alloc: Global,
+    item: u32,
+    elf: &'a LinkedElf,
+    base: u64,
+    lending: bool,
+    seen: &mut Seen<'a>,
+    read: &mut ReadFunctions<'a>,
+) -> Result<Arch, AsmFault>
+    ensures exact { (signatures : List (List ℕ)) → HasSeen seen.old signatures → ReadsMore lending result read.old read.new (object_functions item signatures (record { form = Form.Elf; bytes = linked_file elf.now; base = base })) }
+    ensures seen { OnOk result ((signatures : List (List ℕ)) → HasSeen seen.old signatures → HasSeen seen.new (seen_after signatures (linked_file elf.now))) }
+    ensures arch { IfOk result (λ arch. arch ≡ head.arch_of (linked_file elf.now)) }
+    ensures sound { IfOk result (λ arch. AreSound arch read.old → AreSound arch read.new) }
+{
+    let elf = no_core(ElfInput::Linked(elf))?;
+    read_checked(alloc, item, &elf, base, lending, seen, read)
 }

@@ -92,7 +92,7 @@ fn ordered<'a>(
     lending: bool,
 ) -> Result<ReadInOrder<'a>, GatherFault>
     requires some { (0 < length inputs.now) × (length inputs.now ≤ 512) }
-    requires small { All (λ input. length input.bytes.now < 2 ^ 32) inputs.now }
+    requires small { All (λ input. length (object_of input).bytes < 2 ^ 32) inputs.now }
     ensures gathered { IfOk result (λ read. Gathers before (map object_of inputs.now) (Ok read.entries)) }
     ensures lent { IfOk result (λ read. IsTrue lending → LendsAll read.sources.functions (functions_of (item_of_first before) (map object_of inputs.now))) }
     ensures machine { IfOk result (λ read. HaveMachine before (map object_of inputs.now) read.arch) }
@@ -154,7 +154,7 @@ pub fn gather_together(
     before: Option<Arch>,
 ) -> Result<Together, GatherFault>
     requires some { (0 < length inputs.now) × (length inputs.now ≤ 512) }
-    requires small { All (λ input. length input.bytes.now < 2 ^ 32) inputs.now }
+    requires small { All (λ input. length (object_of input).bytes < 2 ^ 32) inputs.now }
     // The functions are those of the inputs by rising start, and one section can hold them.
     ensures gathered { IfOk result (λ g. AreTogether before (map object_of inputs.now) g.arch (map (stored_in g.rows) g.kept) g.omitted.items) }
     // Their rows are those of the list.
@@ -197,7 +197,7 @@ pub fn gather_with_sources<'a>(
     before: Option<Arch>,
 ) -> Result<WithSources<'a>, GatherFault>
     requires some { (0 < length inputs.now) × (length inputs.now ≤ 512) }
-    requires small { All (λ input. length input.bytes.now < 2 ^ 32) inputs.now }
+    requires small { All (λ input. length (object_of input).bytes < 2 ^ 32) inputs.now }
     // The functions are those of the inputs by rising start, one section can hold the kept ones, and the
     // sources are the omitted ones, one for each in the same order.
     ensures gathered { IfOk result (λ g. AreWithSources before (map object_of inputs.now) g.arch g.kept.items g.omitted.items g.sources.functions) }
@@ -281,7 +281,7 @@ pub fn gather(
     before: Option<Arch>,
 ) -> Result<Gathered, GatherFault>
     requires some { (0 < length inputs.now) × (length inputs.now ≤ 512) }
-    requires small { All (λ input. length input.bytes.now < 2 ^ 32) inputs.now }
+    requires small { All (λ input. length (object_of input).bytes < 2 ^ 32) inputs.now }
     // The functions are those of the inputs, sorted out by rising start.
     ensures gathered { IfOk result (λ g. AreGathered before (map object_of inputs.now) g.arch (map (λ list. list.items) g.kept.items) g.omitted.items g.spans.items) }
     // One section can hold those of each input.

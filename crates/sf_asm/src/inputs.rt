@@ -37,7 +37,7 @@ fn read_item<'a>(
     seen: &mut Seen<'a>,
     read: &mut ReadFunctions<'a>,
 ) -> Result<Arch, GatherFault>
-    requires { length input.now.bytes.now < 2 ^ 32 }
+    requires { length (object_of input.now).bytes < 2 ^ 32 }
     ensures reads { OnOk result ((signatures : List (List ℕ)) → HasSeen seen.old signatures → ReadsAll lending read.old read.new (object_functions item signatures (object_of input.now))) }
     ensures seen { OnOk result ((signatures : List (List ℕ)) → HasSeen seen.old signatures → HasSeen seen.new (seen_behind signatures (object_of input.now))) }
     ensures arch { IfOk result (λ arch. arch ≡ machine_of (object_of input.now)) }
@@ -59,7 +59,7 @@ pub fn read_all<'a>(
     lending: bool,
 ) -> Result<AllFunctions<'a>, GatherFault>
     requires few { (first ≤ 1) × (length inputs.now ≤ 512) }
-    requires small { All (λ input. length input.bytes.now < 2 ^ 32) inputs.now }
+    requires small { All (λ input. length (object_of input).bytes < 2 ^ 32) inputs.now }
     ensures reads { IfOk result (λ all. (functions : List Function) × (functions_of first (map object_of inputs.now) ≡ Ok functions) × AreReadSoFar lending all.read functions) }
     ensures machines { IfOk result (λ all. all.machines.items ≡ map machine_of (map object_of inputs.now)) }
     ensures sound { IfOk result (λ all. (arch : machine) → All (λ machine. machine ≡ arch) all.machines.items → AreSound arch all.read) }

@@ -6,8 +6,9 @@
 //! makes one list of the functions that are kept, and one of their rows; [`gather_with_sources`] also lends the
 //! omitted functions as their records describe them; what the functions of one common information entry share is
 //! held once. [`row_at`] returns the content of the row at an address, in any of the functions. [`assemble`] writes the
-//! section of one input. An input has fewer than 2^32 bytes. All five allocate; no section is copied. While a function is
-//! read, its rows are held as bytes.
+//! section of one input. An input is a bare section, an ELF file, or one that was checked by its parts ([`InputBytes`]),
+//! of fewer than 2^32 bytes. All five allocate; no section is copied. While a function is read, its rows are held as
+//! bytes.
 //!
 //! [`kept_functions_recover_alike`], [`walks_are_alike`], [`linking_comes_to_one_result`],
 //! [`accepted_inputs_are_linked`] and [`inputs_that_can_be_gathered_are`] are laws: the kept functions recover
@@ -48,7 +49,7 @@ pub use fault::{AsmFault, GatherFault, LinkFault};
 pub use gathering::{
     Gathered, Together, WithSources, gather, gather_together, gather_with_sources,
 };
-pub use input::Input;
+pub use input::{Input, InputBytes};
 pub use laws::{
     accepted_inputs_are_linked, functions_are_described, inputs_that_can_be_gathered_are,
     kept_functions_recover_alike, linking_comes_to_one_result, relocations_of_sections_are_applied,
@@ -56,6 +57,5 @@ pub use laws::{
 };
 pub use pieces::pieces_said;
 pub use said::Said;
-pub use sf_model::Form;
 pub use source::Source;
 pub use sources::Sources;

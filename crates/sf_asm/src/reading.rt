@@ -5,38 +5,39 @@ ghost use Rattle.sf_asm.specs.Functions.{bare_section, machine_of, object_functi
 ghost use Rattle.sf_asm.specs.ReadSoFar.{AreSound, ReadsMore};
 ghost use Rattle.elf_groups.specs.Seen.{HasSeen};
 
-use crate::elf::read_elf;
+use crate::elf::{read_file, read_linked};
 use crate::fault::AsmFault;
 use crate::frames::CallFrameSection;
-use crate::input::Input;
+use crate::input::{Input, InputBytes};
 use crate::read::ReadFunctions;
 use crate::section::read_section;
 use elf_groups::Seen;
-use sf_model::{Arch, Form};
+use sf_model::Arch;
 use std::alloc::Global;
 
 /// The section number of a bare input.
 const BARE_SECTION: u32 = 0;
 
-/// Reads the functions of a bare input of this machine, after those that were read before.
+/// Reads the functions of a bare section of this machine that is at `base`, after those that were read before.
 fn read_bare<'a>(
     alloc: Global,
     arch: Arch,
     item: u32,
-    input: &Input<'a>,
+    bytes: &'a [u8],
+    base: u64,
     lending: bool,
     read: &mut ReadFunctions<'a>,
 ) -> Result<(), AsmFault>
-    requires { length input.now.bytes.now < 2 ^ 32 }
-    ensures exact { ReadsMore lending result read.old read.new (sections_functions arch item (bare_section input.now.bytes.now input.now.base ∷ [])) }
+    requires { length bytes.now < 2 ^ 32 }
+    ensures exact { ReadsMore lending result read.old read.new (sections_functions arch item (bare_section bytes.now base ∷ [])) }
     ensures sound { OnOk result (AreSound arch read.old → AreSound arch read.new) }
 {
     let section = CallFrameSection {
         arch,
         item,
         number: BARE_SECTION,
-        bytes: input.bytes,
-        address: input.base,
+        bytes,
+        address: base,
         shift: 0,
     };
     read_section(alloc, &section, None, lending, read)
@@ -52,17 +53,19 @@ pub fn read_input<'a>(
     seen: &mut Seen<'a>,
     read: &mut ReadFunctions<'a>,
 ) -> Result<Arch, AsmFault>
-    requires { length input.now.bytes.now < 2 ^ 32 }
+    requires { length (object_of input.now).bytes < 2 ^ 32 }
     ensures exact { (signatures : List (List ℕ)) → HasSeen seen.old signatures → ReadsMore lending result read.old read.new (object_functions item signatures (object_of input.now)) }
     ensures seen { OnOk result ((signatures : List (List ℕ)) → HasSeen seen.old signatures → HasSeen seen.new (seen_behind signatures (object_of input.now))) }
     ensures arch { IfOk result (λ arch. arch ≡ machine_of (object_of input.now)) }
     ensures sound { IfOk result (λ arch. AreSound arch read.old → AreSound arch read.new) }
 {
-    match input.form {
-        Form::Elf => read_elf(alloc, item, input.bytes, input.base, lending, seen, read),
-        Form::Bare(arch) => {
-            read_bare(alloc, arch, item, input, lending, read)?;
+    let base = input.base;
+    match input.bytes {
+        InputBytes::Section(arch, bytes) => {
+            read_bare(alloc, arch, item, bytes, base, lending, read)?;
             Ok(arch)
         }
+        InputBytes::File(bytes) => read_file(alloc, item, bytes, base, lending, seen, read),
+        InputBytes::Linked(elf) => read_linked(alloc, item, elf, base, lending, seen, read),
     }
 }

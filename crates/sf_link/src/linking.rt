@@ -27,7 +27,7 @@ pub fn link(
     before: Option<Arch>,
 ) -> Result<Linked, LinkFault>
     requires some { (0 < length inputs.now) × (length inputs.now ≤ 512) }
-    requires small { All (λ input. length input.bytes.now < 2 ^ 32) inputs.now }
+    requires small { All (λ input. length (object_of input).bytes < 2 ^ 32) inputs.now }
     // The section is that of the inputs' kept functions, and these were omitted.
     ensures linked { IfOk result (λ linked. IsLinked before (map object_of inputs.now) at linked.section.items linked.kept linked.omitted.items) }
     ensures are_bytes { IfOk result (λ linked. AreBytes linked.section.items) }

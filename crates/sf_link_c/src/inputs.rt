@@ -4,7 +4,7 @@ ghost use Rattle.std.specs.Prelude.{◌≡◌, ◌↔◌, ◌<◌, ◌^◌, All,
 ghost use Rattle.sf_asm.specs.Functions.{object_of};
 ghost use Rattle.sf_link_c.specs.Inputs.{AreFit, IsFit, form_by, object_of_input};
 
-use sf_asm::Input;
+use sf_asm::{Input, InputBytes};
 use sf_base::NoMemory;
 use sf_model::{Arch, Form};
 use std::alloc::Global;
@@ -72,13 +72,12 @@ pub fn inputs_of<'a>(
 ) -> Result<Vec<Input<'a>>, NoMemory>
     requires { All IsFit inputs.now }
     ensures objects { IfOk result (λ all. map object_of all.items ≡ map object_of_input inputs.now) }
-    ensures small { IfOk result (λ all. All (λ input. length input.bytes.now < 2 ^ 32) all.items) }
+    ensures small { IfOk result (λ all. All (λ input. length (object_of input).bytes < 2 ^ 32) all.items) }
 {
     let mut all = Vec::new(alloc);
     for input in inputs {
         all.push(Input {
-            form: form_by(input.kind),
-            bytes: input.bytes,
+            bytes: InputBytes::whole(form_by(input.kind), input.bytes),
             base: input.base,
         })?;
     }

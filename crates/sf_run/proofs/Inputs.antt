@@ -67,7 +67,7 @@ not_input (item.Mapped name) input e other = cc
 pub record CanBeLinked (inputs : List Input) : Type 0 where
   pub some : 0 < length inputs
   pub few : length inputs ≤ 512
-  pub small : All (λ (input : Input). length input.bytes.now < 2 ^ 32) inputs
+  pub small : All (λ (input : Input). length (object_of input).bytes < 2 ^ 32) inputs
 
 -- what holds of each that is made of an item, holds of each item as it is made
 unmapped : {A B : Type 0} (f : A → B) (P : B → Type 0) (xs : List A) → All P (map f xs) → All (λ (x : A). P (f x)) xs
@@ -87,7 +87,7 @@ objects_short number total (i ∷ is) (bytes ∷ items) h =
 
 -- each input is short, of items that are numbered from this number on and come after `total` bytes that count
 inputs_short : (number total : ℕ) (inputs : List Input) (named : List InputWords) (items : List (List ℕ)) → map object_of inputs ≡ objects_in named items → bytes_limit number total (zip (map InputItem named) items) ≡ None
-    → All (λ (input : Input). length input.bytes.now < 2 ^ 32) inputs
+    → All (λ (input : Input). length (object_of input).bytes < 2 ^ 32) inputs
 inputs_short number total inputs named items are within =
     let objects = subst (All IsShort) (sym are) (objects_short number total named items within) in
     let each = unmapped object_of IsShort inputs objects in

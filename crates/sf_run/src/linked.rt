@@ -11,7 +11,7 @@ ghost use Rattle.section_commands.specs.Making.{ComesAs};
 ghost use Rattle.sf_run.specs.Inputs.{objects_in};
 ghost use Rattle.sf_run.specs.Linked.{coming_of_linking};
 
-use sf_asm::{GatherFault, Input, LinkFault};
+use sf_asm::{GatherFault, Input, InputBytes, LinkFault};
 use sf_base::NoMemory;
 use sf_words::{Item, Limit, Loaded, Refusal};
 use std::alloc::Global;
@@ -44,8 +44,7 @@ pub fn inputs_in<'b>(alloc: Global, loaded: &'b [Loaded<'_>]) -> Result<Vec<Inpu
             unreachable!()
         };
         inputs.push(Input {
-            form: input.form,
-            bytes: &file.bytes,
+            bytes: InputBytes::whole(input.form, &file.bytes),
             base: input.base,
         })?;
     }

@@ -8,10 +8,9 @@ ghost use Rattle.sf_run.specs.Object.{GenComes, IsGen, gen_files};
 
 use crate::linked::unlinked;
 use section_commands::{Made, Outcome};
-use sf_asm::Input;
+use sf_asm::{Input, InputBytes};
 use sf_gen::object;
 use sf_link::link;
-use sf_model::Form;
 use sf_text::{Output, summary};
 use sf_words::{CommandFiles, FileList, Refusal, number_up_to, two_words};
 use std::alloc::Global;
@@ -69,8 +68,7 @@ impl Gen {
     {
         let bytes = object(alloc, self.functions)?;
         let input = Input {
-            form: Form::Elf,
-            bytes: &bytes,
+            bytes: InputBytes::File(&bytes),
             base: OBJECT_BASE,
         };
         match link(alloc, &[input], SECTION_ADDRESS, None) {

@@ -1,7 +1,7 @@
 //! What no clause says: that memory suffices for the section of one input, and for what is said at an address.
 //! Bytes and contents were found apart from this crate.
 
-use sf_asm::{Form, Input, assemble, gather, row_at};
+use sf_asm::{Input, InputBytes, assemble, gather, row_at};
 use sf_model::{Arch, Base, Content, Key, Ra};
 use std::alloc::Global;
 use std::test::Fail;
@@ -33,8 +33,7 @@ const OMITTED: [u8; 56] = [
 #[test]
 fn the_section_of_one_input(rt: HostRuntime) -> Result<(), Fail> {
     let input = Input {
-        form: Form::Bare(Arch::Amd64),
-        bytes: KEPT.as_slice(),
+        bytes: InputBytes::Section(Arch::Amd64, KEPT.as_slice()),
         base: 0x2000,
     };
     let linked = assemble(rt.alloc(), &input, 0x3000)?;
@@ -49,8 +48,7 @@ fn said(alloc: Global, bytes: &[u8], pc: u64) -> Result<Option<(Content, Key, u6
         return Err("too long")?;
     }
     let inputs = [Input {
-        form: Form::Bare(Arch::Amd64),
-        bytes,
+        bytes: InputBytes::Section(Arch::Amd64, bytes),
         base: 0x2000,
     }];
     let _gathered = gather(alloc, &inputs, None)?;

@@ -1,11 +1,12 @@
 //! Sections of several inputs, and why there is none. Numbers and bytes were found apart from this crate.
 
 ghost use Rattle.std.specs.Prelude.{◌<◌, ◌^◌, IfOk, length};
+ghost use Rattle.sf_asm.specs.Functions.{object_of};
 
 mod cases;
 
 use cases::{CASES, HIGH, LOW, OMITTED};
-use sf_asm::{Gathered, Input, LinkFault, Linked, gather};
+use sf_asm::{Gathered, Input, InputBytes, LinkFault, Linked, gather};
 use sf_link::link;
 use sf_model::{Arch, Form};
 use std::alloc::Global;
@@ -46,14 +47,13 @@ fn bytes_of(alloc: Global, given: &Given) -> Result<Vec<u8>, Fail> {
 
 /// An input, of bytes that are short enough.
 fn input_of<'a>(given: &Given, bytes: &'a [u8]) -> Result<Input<'a>, Fail>
-    ensures { IfOk result (λ input. length input.bytes.now < 2 ^ 32) }
+    ensures { IfOk result (λ input. length (object_of input).bytes < 2 ^ 32) }
 {
     if bytes.len() >= 1 << 32 {
         return Err("too long")?;
     }
     Ok(Input {
-        form: given.form,
-        bytes,
+        bytes: InputBytes::whole(given.form, bytes),
         base: given.base,
     })
 }

@@ -1,7 +1,7 @@
 //! A procedure linkage table against bytes from outside.
 
-use sf_asm::Input;
-use sf_model::{Arch, Form};
+use sf_asm::{Input, InputBytes};
+use sf_model::Arch;
 use sf_plt::link_plt;
 use std::test::Fail;
 
@@ -25,8 +25,7 @@ const SECTION: [u8; 80] = [
 #[test]
 fn a_table_is_two_functions(rt: HostRuntime) -> Result<(), Fail> {
     let input = Input {
-        form: Form::Bare(Arch::Amd64),
-        bytes: TABLE.as_slice(),
+        bytes: InputBytes::Section(Arch::Amd64, TABLE.as_slice()),
         base: 0x2000,
     };
     let linked = link_plt(rt.alloc(), &[input], 0x3000, None)?;

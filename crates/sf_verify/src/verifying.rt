@@ -84,7 +84,7 @@ fn verdict_on(
 /// `NoMemory` at any time.
 pub fn verify(alloc: Global, view: &View<'_>, inputs: &[Input<'_>]) -> Result<Verdict, VerifyFault>
     requires some { (0 < length inputs.now) × (length inputs.now ≤ 512) }
-    requires small { All (λ input. length input.bytes.now < 2 ^ 32) inputs.now }
+    requires small { All (λ input. length (object_of input).bytes < 2 ^ 32) inputs.now }
     // The verdict is that of the definition.
     ensures verdict { IfOk result (λ verdict. Verifies (section_bytes view.now) (table_of view.now) (map object_of inputs.now) (Ok verdict)) }
     // A fault is the first one.

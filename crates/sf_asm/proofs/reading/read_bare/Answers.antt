@@ -3,4 +3,4 @@ use Rattle.sf_asm.proofs.ReadFunctions.{alone}
 use Rattle.sf_asm.proofs.reading.read_bare.Goals as goal
 
 pub returns-clause-exact : goal.returns-clause-exact
-returns-clause-exact c = rw (alone c.args.arch c.args.item (bare_section c.args.input.now.bytes.now c.args.input.now.base)) c.read_section.ensures.exact
+returns-clause-exact c = rw (alone c.args.arch c.args.item (bare_section c.args.bytes.now c.args.base)) c.read_section.ensures.exact
