@@ -6,6 +6,7 @@ ghost use Rattle.sf_functions.specs.Neighbours as spec;
 ghost use Rattle.sf_functions.specs.Neighbours.{overlap_by};
 
 use crate::order::HasStart;
+use sf_model::Span;
 
 /// Something that takes up addresses.
 pub trait HasSize {
@@ -14,13 +15,22 @@ pub trait HasSize {
     ghost size_of: { Self → ℕ };
 
     /// Returns the size in bytes.
-    fn size(&self) -> u32
+    fn size(&self) -> u64
         ensures { result ≡ size_of self.now };
+}
+
+impl HasSize for Span {
+    ghost size_of = { λ s. s.size };
+
+    #[inline(always)]
+    fn size(&self) -> u64 {
+        self.size
+    }
 }
 
 /// Returns whether the second function begins before the end of the first.
 #[inline(always)]
-fn shares_address<F: HasStart + HasSize>(before: &F, function: &F) -> bool
+pub fn shares_address<F: HasStart + HasSize>(before: &F, function: &F) -> bool
     ensures { result ≡ overlap_by F.first_address F.size_of (before.now, function.now) }
 {
     u128::from(function.start()) < u128::from(before.start()) + u128::from(before.size())

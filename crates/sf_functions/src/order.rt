@@ -4,7 +4,7 @@ ghost use Rattle.std.specs.Prelude.{◌≡◌, OnOk};
 ghost use Rattle.std.specs.List.Sorted.{IsPermutation};
 ghost use Rattle.sf_functions.specs.Order.{IsInOrder};
 
-use sf_model::Func;
+use sf_model::{Func, Span};
 use std::alloc::AllocError;
 
 /// Something that begins at an address.
@@ -20,6 +20,15 @@ pub trait HasStart {
 
 impl HasStart for Func {
     ghost first_address = { λ f. f.start };
+
+    #[inline(always)]
+    fn start(&self) -> u64 {
+        self.start
+    }
+}
+
+impl HasStart for Span {
+    ghost first_address = { λ s. s.start };
 
     #[inline(always)]
     fn start(&self) -> u64 {

@@ -57,7 +57,7 @@ impl HasSize for LocatedHead {
     ghost size_of = { head_size };
 
     #[inline(always)]
-    fn size(&self) -> u32 {
-        self.head.plain().size
+    fn size(&self) -> u64 {
+        u64::from(self.head.plain().size)
     }
 }

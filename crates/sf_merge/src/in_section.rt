@@ -32,8 +32,8 @@ impl HasSize for SectionEntry {
     ghost size_of = { λ e. e.size };
 
     #[inline(always)]
-    fn size(&self) -> u32 {
-        self.size
+    fn size(&self) -> u64 {
+        u64::from(self.size)
     }
 }
 
