@@ -22,7 +22,7 @@ use Rattle.sf_asm.specs.Inputs.{all_functions, first_item, machines_of, mixed_fa
 use Rattle.sf_asm.specs.Kept.{entry_of}
 use Rattle.sf_asm.specs.Linking.{Gathers, GathersFrom, InOrder, Links, LinksFrom, functions_fault, limits_fault, link_fault, or_later, overlap, overlap_after, overlap_fault, overlap_in, overlap_with, start_of, unless_fault}
 use Rattle.sf_asm.specs.Order.{are_apart, entry_rows}
-use Rattle.sf_asm.proofs.ByStart.{by_key, by_key-moved, by_key-rising, by_key-stable}
+use Rattle.sf_functions.proofs.ByStart.{by_key, in_order}
 use Rattle.sf_asm.proofs.Described.{describe, described, from_gathers, from_links, to_gathers, to_links}
 use Rattle.sf_asm.proofs.GatheredInputs.{are_read, by_parts, parts_of}
 use Rattle.sf_asm.proofs.Kept.{not_overlapping_apart}
@@ -283,17 +283,10 @@ accepted_links before objects at h =
     (h.ordered, h.in_order, sym (ap (λ (x : Option LinkFault). unless_fault x h.ordered) fine)))
 
 -- ---- gathering
-entries_in_order : (functions : List Function) → InOrder (map entry_of functions) (by_key start_of (map entry_of functions))
-entries_in_order functions = record {
-  moved = by_key-moved start_of (map entry_of functions);
-  rising = by_key-rising start_of (map entry_of functions);
-  stable = λ e. by_key-stable start_of e (map entry_of functions);
-}
-
 pub are_gathered : (before : Option Arch) (objects : List Object) → CanBeGathered before objects → (ordered : List Entry) × Gathers before objects (Ok ordered)
 are_gathered before objects h =
     let ordered : List Entry = by_key start_of (map entry_of h.functions) in
-    let order = entries_in_order h.functions in
+    let order = in_order start_of (map entry_of h.functions) in
     let fine = fine_in_order h.functions ordered order h.few h.few_rows h.apart in (
       ordered,
       to_gathers before objects (Ok ordered) (subst (λ (given : Result (List Function) GatherFault). GathersFrom given (Ok ordered)) (sym (read_all before objects h))

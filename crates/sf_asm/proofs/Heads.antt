@@ -1,11 +1,8 @@
 -- Functions whose rows are kept in one list.
 use Rattle.std.specs.List.{AllByRecursion, filter}
-use Rattle.std.specs.List.Sorted.{IsPermutation, IsNonDecreasingBy, IsStableByKey, ties}
-use Rattle.std.specs.Ordering.{is_lt, nat_cmp}
-use Rattle.std.proofs.Common.{◌≡◌, ◌<◌, ℕ, zero, suc, Bool, true, false, not, ◌&&◌, All, List, [], ◌∷◌, ◌++◌, length, get_or, map, None, refl, subst, sym, ap, ◌∙◌, arith}
+use Rattle.std.proofs.Common.{◌≡◌, ◌<◌, ℕ, zero, suc, Bool, true, false, All, List, [], ◌∷◌, ◌++◌, length, get_or, map, None, refl, subst, sym, ap, ◌∙◌}
 use Rattle.std.proofs.lemmas.List.{append-nil, get_or-map, map-append, length-map}
 use Rattle.std.proofs.lemmas.List.Elements.{All-append, All-filter, All-from_recursion, filter_map-append, filter_passes, recursion_from_All}
-use Rattle.std.proofs.lemmas.List.Sorted.{All-permutation, IsPermutation-map}
 use Rattle.sf_model.specs.declared.machine.Arch.{Arch}
 use Rattle.sf_model.specs.declared.omission.Omitted.{Omitted}
 use Rattle.sf_model.specs.declared.omission.Reason.TheVariants.{EmptyRange}
@@ -15,6 +12,8 @@ use Rattle.sf_write.specs.declared.stored.StoredFunction.{StoredFunction}
 use Rattle.sf_write.specs.declared.stored.StoredRows.{StoredRows}
 use Rattle.sf_write.specs.Stored.{IsStored, function_by, stored_in}
 use Rattle.sf_model.specs.declared.function.Func.{Func}
+use Rattle.sf_functions.specs.Order.{IsInOrder}
+use Rattle.sf_functions.proofs.ByStart.{seen_in_order}
 use Rattle.sf_asm.specs.declared.entries.Place.{Place}
 use Rattle.sf_asm.specs.declared.entry.Entry.{Entry}
 use Rattle.sf_asm.specs.declared.entry.Outcome.TheVariants as outcome
@@ -79,38 +78,8 @@ pub entries_more : (rows : StoredRows) (heads : List Head) (x : Head) → entrie
 entries_more rows heads x = map-append (entry_in rows) heads (x ∷ [])
 
 -- ---- in order
-filter_one : {X Y : Type 0} (f : X → Y) (p : Y → Bool) (x : X) (xs : List X) (b : Bool) → p (f x) ≡ b → filter p (map f xs) ≡ map f (filter (λ (y : X). p (f y)) xs) → filter p (map f (x ∷ xs)) ≡ map f (filter (λ (y : X). p (f y)) (x ∷ xs))
-filter_one {X} {Y} f p x xs true t others = rw t (ap (λ (ys : List Y). f x ∷ ys) others)
-filter_one f p x xs false t others = rw t others
-
-filter-map : {X Y : Type 0} (f : X → Y) (p : Y → Bool) (xs : List X) → filter p (map f xs) ≡ map f (filter (λ (x : X). p (f x)) xs)
-filter-map f p [] = refl
-filter-map f p (x ∷ xs) = filter_one f p x xs (p (f x)) refl (filter-map f p xs)
-
 abbrev pub head_start : Head → ℕ
 head_start h = (head_span h).start
-
--- a head at this address
-abbrev at_start : Span → Head
-at_start span = Left record { start = span.start; size = span.size; origin = span.origin; omission = record { reason = EmptyRange; offset = None } }
-
-rising_entries : (rows : StoredRows) (heads : List Head) → IsNonDecreasingBy head_start heads → IsNonDecreasingBy start_of (entries_in rows heads)
-rising_entries rows heads h = λ i j d le lt.
-    let e = at_start d.span in
-    let same = length-map heads (entry_in rows) in
-    rw (get_or-map (entry_in rows) heads i e d (omega (arith, le, lt, same)), get_or-map (entry_in rows) heads j e d (omega (arith, lt, same))) (h i j e le (omega (arith, lt, same)))
-
-stable_entries : (rows : StoredRows) (old new : List Head) → IsStableByKey head_start nat_cmp old new → IsStableByKey start_of nat_cmp (entries_in rows old) (entries_in rows new)
-stable_entries rows old new h = λ x.
-    let test = ties (λ (a b : Entry). is_lt (nat_cmp (start_of a) (start_of b))) x in
-    filter-map (entry_in rows) test new ∙ ap (map (entry_in rows)) (h (at_start x.span)) ∙ sym (filter-map (entry_in rows) test old)
-
-pub in_order : (rows : StoredRows) (old new : List Head) → IsPermutation old new → IsNonDecreasingBy head_start new → IsStableByKey head_start nat_cmp old new → InOrder (entries_in rows old) (entries_in rows new)
-in_order rows old new moved rising stable = record {
-  moved = IsPermutation-map (entry_in rows) old new moved;
-  rising = rising_entries rows new rising;
-  stable = stable_entries rows old new stable;
-}
 
 -- ---- places
 abbrev pub place_start : Place → ℕ
@@ -124,47 +93,12 @@ have_at rows heads (p ∷ ps) have are = (have p.index no_head are.0.0, have_at 
 pub have_rows_at : (rows : StoredRows) (heads : List Head) (places : List Place) → HaveRows rows heads → All (IsPlaceIn heads) places → HaveRows rows (heads_at heads places)
 have_rows_at rows heads places have are = All-from_recursion (HasRows rows) (heads_at heads places) (have_at rows heads places have (recursion_from_All (IsPlaceIn heads) places are))
 
-filter_same_by : {X : Type 0} (p q : X → Bool) (x : X) (xs : List X) (b : Bool) → p x ≡ b → q x ≡ b → filter p xs ≡ filter q xs → filter p (x ∷ xs) ≡ filter q (x ∷ xs)
-filter_same_by {X} p q x xs true t u others = rw (t, u) (ap (λ (ys : List X). x ∷ ys) others)
-filter_same_by p q x xs false t u others = rw (t, u) others
-
--- two tests that agree on the elements of a list
-filter_same : {X : Type 0} (p q : X → Bool) (xs : List X) → AllByRecursion (λ x. p x ≡ q x) xs → filter p xs ≡ filter q xs
-filter_same p q [] h = refl
-filter_same p q (x ∷ xs) h = filter_same_by p q x xs (q x) h.0 refl (filter_same p q xs h.1)
-
-same_start : (heads : List Head) (places : List Place) (test : ℕ → Bool) → AllByRecursion (IsPlaceIn heads) places → AllByRecursion (λ (p : Place). test (head_start (head_at heads p)) ≡ test p.start) places
-same_start heads [] test are = tt
-same_start heads (p ∷ ps) test are = (ap test (sym are.0.1), same_start heads ps test are.1)
-
--- the functions at places that have a start of one kind
-filter_at : (heads : List Head) (places : List Place) (test : ℕ → Bool) → All (IsPlaceIn heads) places → filter (λ (h : Head). test (head_start h)) (heads_at heads places) ≡ heads_at heads (filter (λ (p : Place). test p.start) places)
-filter_at heads places test are =
-    filter-map (head_at heads) (λ (h : Head). test (head_start h)) places
-    ∙ ap (heads_at heads) (filter_same (λ (p : Place). test (head_start (head_at heads p))) (λ (p : Place). test p.start) places (same_start heads places test (recursion_from_All (IsPlaceIn heads) places are)))
-
-rising_at : (heads : List Head) (places : List Place) → All (IsPlaceIn heads) places → IsNonDecreasingBy place_start places → IsNonDecreasingBy head_start (heads_at heads places)
-rising_at heads places are h = λ i j d le lt.
-    let e : Place = record { start = 0; index = 0 } in
-    let same = length-map places (head_at heads) in
-    let low : i < length places = omega (arith, le, lt, same) in
-    let high : j < length places = omega (arith, lt, same) in
-    rw (get_or-map (head_at heads) places i e d low, get_or-map (head_at heads) places j e d high)
-    (rw (sym (are i e low).1, sym (are j e high).1) (h i j e le high))
-
-stable_at : (heads : List Head) (old new : List Place) → All (IsPlaceIn heads) old → All (IsPlaceIn heads) new → IsStableByKey place_start nat_cmp old new → IsStableByKey head_start nat_cmp (heads_at heads old) (heads_at heads new)
-stable_at heads old new were are h = λ x.
-    let start = head_start x in
-    let test : ℕ → Bool = λ n. not (is_lt (nat_cmp start n)) && not (is_lt (nat_cmp n start)) in
-    filter_at heads new test are ∙ ap (heads_at heads) (h record { start = start; index = 0 }) ∙ sym (filter_at heads old test were)
-
 -- places in order are functions in order
-pub places_in_order : (rows : StoredRows) (heads : List Head) (old new : List Place) → ArePlacesOf heads old → IsPermutation old new → IsNonDecreasingBy place_start new → IsStableByKey place_start nat_cmp old new
-    → InOrder (entries_in rows heads) (entries_in rows (heads_at heads new))
-places_in_order rows heads old new were moved rising stable =
-    let are : All (IsPlaceIn heads) new = All-permutation (IsPlaceIn heads) old new moved were.1 in
+pub places_in_order : (rows : StoredRows) (heads : List Head) (old new : List Place) → ArePlacesOf heads old → IsInOrder place_start old new → InOrder (entries_in rows heads) (entries_in rows (heads_at heads new))
+places_in_order rows heads old new were order =
+    let by_heads = seen_in_order (head_at heads) place_start head_start old new (λ k d lt. sym (were.1 k d lt).1) order in
     subst (λ (hs : List Head). InOrder (entries_in rows hs) (entries_in rows (heads_at heads new))) were.0
-    (in_order rows (heads_at heads old) (heads_at heads new) (IsPermutation-map (head_at heads) old new moved) (rising_at heads new are rising) (stable_at heads old new were.1 are stable))
+    (seen_in_order (entry_in rows) head_start start_of (heads_at heads old) (heads_at heads new) (λ k d lt. refl) by_heads)
 
 -- ---- addresses
 -- what stands past the end of a list of functions

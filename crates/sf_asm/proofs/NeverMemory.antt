@@ -51,6 +51,9 @@ use Rattle.elf_reloc.specs.declared.target.Target.TheVariants.{Address, Unresolv
 use Rattle.elf_reloc.specs.Order.{overlap_check}
 use Rattle.elf_reloc.specs.Reading.{Relocation, aimed, applied, entry_fix, fixes_from, has_addends, inside, object_fixes, rel_check, relocations_in, section_fixes, written}
 use Rattle.elf_reloc.specs.Table.{fits, width_of}
+use Rattle.sf_functions.specs.declared.limits.Limit.{Limit}
+use Rattle.sf_functions.specs.declared.limits.Limit.TheVariants.{Functions, Rows}
+use Rattle.sf_functions.specs.Limits.{exceeded}
 use Rattle.sf_asm.specs.declared.entry.Entry.{Entry}
 use Rattle.sf_asm.specs.declared.fault.AsmFault.{AsmFault}
 use Rattle.sf_asm.specs.declared.fault.AsmFault.TheVariants as asm
@@ -61,7 +64,7 @@ use Rattle.sf_asm.specs.Fault.{is_gather_answered, is_gather_refusal, is_input_r
 use Rattle.sf_asm.specs.Functions.{◌>>=◌, CallFrames, Function, Object, bare_section, fault_in, function_in, functions_after, functions_in, functions_of, named, object_functions, section_functions, sections_functions, seen_behind, span_in, unless}
 use Rattle.sf_asm.specs.Inputs.{all_functions, differing, first_item, machines_of, mixed_fault}
 use Rattle.sf_asm.specs.Entry.{spans_of}
-use Rattle.sf_asm.specs.Linking.{Gathers, GathersFrom, functions_fault, limits_fault, or_later, overlap_fault, overlap_in, unless_fault}
+use Rattle.sf_asm.specs.Linking.{Gathers, GathersFrom, fault_of_limit, functions_fault, limits_fault, or_later, overlap_fault, overlap_in, unless_fault}
 use Rattle.sf_asm.specs.Order.{entry_rows}
 use Rattle.sf_asm.specs.Relocated.{Values, by_place, on_pointers, patched_values, pointer_check, pointer_slot, relocations_of}
 use Rattle.sf_asm.specs.Sections.{dropped_after, elf_sections, linked_check, linked_kind, placed_section, placing_of}
@@ -386,11 +389,13 @@ or_memory gather.TooManyRows h = refl
 or_memory (gather.Overlap start item other other_item) h = refl
 or_memory gather.NoMemory h = refl
 
+pub limit_answered : (limit : Limit) → IsTrue (is_wrapped_answered (fault_of_limit limit))
+limit_answered Functions = refl
+limit_answered Rows = refl
+
 limits : (ordered : List Entry) → FaultIn is_wrapped_answered (limits_fault ordered)
 unfolding limits_fault
-limits ordered =
-    either_in is_wrapped_answered (nat_lt (2 ^ 21) (length ordered)) _ _ refl
-    (either_in is_wrapped_answered (nat_lt (2 ^ 24) (sum_by entry_rows ordered)) _ _ refl tt)
+limits ordered = any_mapped is_wrapped_answered fault_of_limit (exceeded (length ordered) (sum_by entry_rows ordered)) limit_answered
 
 pub functions_tried : (ordered : List Entry) → FaultIn is_wrapped_answered (functions_fault ordered)
 functions_tried ordered =

@@ -1,7 +1,7 @@
 -- There is one order of functions by rising start, in which those of one start stay in their order.
 use Rattle.std.proofs.Common.{◌≡◌, ℕ, List, map, Option, Result, Ok, Err, sym, ap, ◌∙◌}
 use Rattle.sf_model.specs.declared.machine.Arch.{Arch}
-use Rattle.sf_model.proofs.StableOrder.{one_order_of}
+use Rattle.sf_functions.proofs.ByStart.{one_order as one_by_start}
 use Rattle.sf_asm.specs.declared.entry.Entry.{Entry}
 use Rattle.sf_asm.specs.declared.fault.GatherFault.{GatherFault}
 use Rattle.sf_asm.specs.declared.fault.LinkFault.{LinkFault}
@@ -12,7 +12,7 @@ use Rattle.sf_asm.specs.Linking.{start_of, InOrder, link_fault, unless_fault, Li
 use Rattle.sf_asm.proofs.Described.{from_links}
 
 pub one_order : (all es fs : List Entry) → InOrder all es → InOrder all fs → es ≡ fs
-one_order all es fs a b = one_order_of start_of es fs a.rising b.rising (λ x. a.stable x ∙ sym (b.stable x))
+one_order all es fs a b = one_by_start start_of all es fs a b
 
 -- ---- linking
 result_from : (at : ℕ) (given : Result (List Function) GatherFault) (r r' : Result (List Entry) LinkFault) → LinksFrom at given r → LinksFrom at given r' → r ≡ r'

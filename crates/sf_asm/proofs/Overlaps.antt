@@ -1,12 +1,13 @@
 -- Overlaps among functions by rising start, one after the other.
 use Rattle.std.specs.Prelude.{not}
 use Rattle.std.specs.Option.{option_map}
-use Rattle.std.specs.List.{filter, find}
+use Rattle.std.specs.List.{filter}
 use Rattle.std.proofs.Common.{◌≡◌, ℕ, Bool, true, false, cond, eqb, List, [], ◌∷◌, Option, Some, None, refl, sym, ap, ◌∙◌}
 use Rattle.sf_model.specs.declared.omission.Span.{Span}
+use Rattle.sf_functions.specs.Neighbours.{first_overlap}
 use Rattle.sf_asm.specs.declared.fault.GatherFault.{GatherFault}
 use Rattle.sf_asm.specs.declared.spans.Overlaps.{Overlaps}
-use Rattle.sf_asm.specs.Linking.{has_bytes, neighbours, or_later, overlap, overlap_after, overlap_in, overlap_fault, overlap_left, overlap_with}
+use Rattle.sf_asm.specs.Linking.{has_bytes, or_later, overlap, overlap_after, overlap_in, overlap_fault, overlap_left, overlap_with, span_size, span_start}
 
 pub overlap_begins : (spans : List Span) → overlap_in spans ≡ overlap_after None spans
 unfolding overlap_in
@@ -25,7 +26,7 @@ overlap_goes_on None span spans some e = rw some refl
 overlap_goes_on (Some before) span spans some e = rw some (at_test (overlap (before, span)) refl e)
   where
     at_test : (b : Bool) → overlap (before, span) ≡ b → cond b (Some (overlap_fault (before, span))) None ≡ None
-        → cond (overlap (before, span)) (Some (before, span)) (find overlap (neighbours (span ∷ filter has_bytes spans))) ≡ find overlap (neighbours (span ∷ filter has_bytes spans))
+        → cond (overlap (before, span)) (Some (before, span)) (first_overlap span_start span_size (span ∷ filter has_bytes spans)) ≡ first_overlap span_start span_size (span ∷ filter has_bytes spans)
     at_test true t e = cc
     at_test false t e = rw t refl
 
@@ -34,7 +35,7 @@ overlap_ends None span spans fault some e = cc
 overlap_ends (Some before) span spans fault some e = rw some (at_test (overlap (before, span)) refl e)
   where
     at_test : (b : Bool) → overlap (before, span) ≡ b → cond b (Some (overlap_fault (before, span))) None ≡ Some fault
-        → option_map overlap_fault (cond (overlap (before, span)) (Some (before, span)) (find overlap (neighbours (span ∷ filter has_bytes spans)))) ≡ Some fault
+        → option_map overlap_fault (cond (overlap (before, span)) (Some (before, span)) (first_overlap span_start span_size (span ∷ filter has_bytes spans))) ≡ Some fault
     at_test true t e = rw t e
     at_test false t e = cc
 

@@ -2,6 +2,7 @@
 use Rattle.std.specs.Option.{option_map}
 use Rattle.std.proofs.Common.{◌≡◌, ℕ, Bool, List, map, Option, Some, None, Ok, Err, refl, sym, ap, subst, ◌∙◌}
 use Rattle.sf_model.specs.declared.machine.Arch.{Arch}
+use Rattle.sf_functions.proofs.ByStart.{by_key, in_order}
 use Rattle.sf_asm.specs.declared.entry.Entry.{Entry}
 use Rattle.sf_asm.specs.declared.fault.GatherFault.{GatherFault}
 use Rattle.sf_asm.specs.declared.read.HeldFunctions.{HeldFunctions}
@@ -14,7 +15,6 @@ use Rattle.sf_asm.specs.Inputs.{first_item, mixed_among, with_before}
 use Rattle.sf_asm.specs.Kept.{entry_of}
 use Rattle.sf_asm.specs.Linking.{Gathers, InOrder, functions_fault, limits_fault, or_later, overlap_fault, overlap_in, start_of, unless_fault}
 use Rattle.sf_asm.specs.ReadSoFar.{AreHeld, AreReadSoFar}
-use Rattle.sf_asm.proofs.ByStart.{by_key, by_key-moved, by_key-rising, by_key-stable}
 use Rattle.sf_asm.proofs.GatheredInputs.{machines_refused, tried}
 use Rattle.sf_asm.proofs.ReadSoFar.{held_within, limits_moved}
 
@@ -31,13 +31,6 @@ none_found (Some fault) e = cc
 one_found : (fault : Option GatherFault) (found : GatherFault) → Err found ≡ unless fault → fault ≡ Some found
 one_found None found e = cc
 one_found (Some fault) found e = ap Some (let is : found ≡ fault = cc in sym is)
-
--- there is such an order
-abbrev in_order : List Entry → List Entry
-in_order entries = by_key start_of entries
-
-is_in_order : (entries : List Entry) → InOrder entries (in_order entries)
-is_in_order entries = record { moved = by_key-moved start_of entries; rising = by_key-rising start_of entries; stable = λ z. by_key-stable start_of z entries }
 
 -- the overlaps of functions in order
 abbrev overlaps_of : List Entry → Option GatherFault
@@ -61,16 +54,17 @@ module _ (before : Option Arch) (objects : List Object) (first : ℕ) (lending :
   -- a limit is passed
   pub past_limit : (fault : GatherFault) → limits_fault (map entry_of all.0) ≡ Some fault → Gathers before objects (Err fault)
   past_limit fault e =
-      let order = is_in_order (map entry_of all.0) in
-      comes (in_order (map entry_of all.0)) (Some fault) order (fault_is (map entry_of all.0) (in_order (map entry_of all.0)) (Some fault) order e)
+      let ordered = by_key start_of (map entry_of all.0) in
+      let order = in_order start_of (map entry_of all.0) in
+      comes ordered (Some fault) order (fault_is (map entry_of all.0) ordered (Some fault) order e)
 
   -- none is, and the functions that are held are brought into order
-  module _ (held : HeldFunctions) (ordered : List Entry) (within : read ≡ Within held) (in_order : InOrder held.entries ordered) where
+  module _ (held : HeldFunctions) (ordered : List Entry) (within : read ≡ Within held) (held_order : InOrder held.entries ordered) where
     are : AreHeld lending held all.0
     are = subst (λ (r : ReadFunctions). AreReadSoFar lending r all.0) within all.2
 
     order : InOrder (map entry_of all.0) ordered
-    order = subst (λ (es : List Entry). InOrder es ordered) are.entries in_order
+    order = subst (λ (es : List Entry). InOrder es ordered) are.entries held_order
 
     only_overlaps : functions_fault ordered ≡ overlaps_of ordered
     only_overlaps = fault_is (map entry_of all.0) ordered None order (held_within lending held all.0 are)

@@ -1,12 +1,15 @@
 -- The functions of all inputs in the order of their addresses, and why there may be no section of them.
-use Rattle.std.specs.Prelude.{◌≡◌, ◌+◌, ◌^◌, ℕ, Bool, nat_lt, not, ◌==◌, List, ◌∷◌, map, length, drop, sum_by, Option, Some, None, Result, Ok, Err, if◌then◌else◌}
+use Rattle.std.specs.Prelude.{◌≡◌, ℕ, Bool, not, ◌==◌, List, ◌∷◌, map, length, sum_by, Option, Some, None, Result, Ok, Err, if◌then◌else◌}
 use Rattle.std.specs.Option.{option_map}
-use Rattle.std.specs.List.{filter, find, zip}
-use Rattle.std.specs.List.Sorted.{IsPermutation, IsNonDecreasingBy, IsStableByKey}
-use Rattle.std.specs.Ordering.{nat_cmp}
+use Rattle.std.specs.List.{filter}
 use Rattle.sf_model.specs.declared.machine.Arch.{Arch}
 use Rattle.sf_model.specs.declared.omission.Span.{Span}
 use Rattle.sf_write.specs.Reach.{first_out_of_reach}
+use Rattle.sf_functions.specs.declared.limits.Limit.{Limit}
+use Rattle.sf_functions.specs.declared.limits.Limit.TheVariants.{Functions, Rows}
+use Rattle.sf_functions.specs.Limits.{exceeded}
+use Rattle.sf_functions.specs.Neighbours.{first_overlap, overlap_by}
+use Rattle.sf_functions.specs.Order.{IsInOrder}
 use Rattle.sf_asm.specs.declared.entry.Entry.{Entry}
 use Rattle.sf_asm.specs.declared.fault.GatherFault.{GatherFault}
 use Rattle.sf_asm.specs.declared.fault.GatherFault.TheVariants as gather
@@ -25,34 +28,39 @@ abbrev pub start_of : Entry → ℕ
 start_of entry = entry.span.start
 
 -- the same functions by rising start; those of one start stay in their order
-pub record InOrder (all ordered : List Entry) : Type 0 where
-  pub moved : IsPermutation all ordered
-  pub rising : IsNonDecreasingBy start_of ordered
-  pub stable : IsStableByKey start_of nat_cmp all ordered
+abbrev pub InOrder : (all ordered : List Entry) → Type 0
+InOrder all ordered = IsInOrder start_of all ordered
 
 -- ---- overlaps
--- each but the last, with the one after it
-abbrev pub neighbours : List Span → List (Span × Span)
-neighbours spans = zip spans (drop 1 spans)
+-- the first of a function's addresses
+abbrev pub span_start : Span → ℕ
+span_start span = span.start
 
--- the second begins before the end of the first
-abbrev pub overlap : Span × Span → Bool
-overlap pair = nat_lt pair.1.start (pair.0.start + pair.0.size)
+-- how many addresses a function has
+abbrev pub span_size : Span → ℕ
+span_size span = span.size
+
+-- these are the addresses of a function that isn't empty
+abbrev pub has_bytes : Span → Bool
+has_bytes span = not (span.size == 0)
 
 -- the first overlapping pair of neighbours among the functions that have bytes
 unfoldable pub overlap_in : List Span → Option (Span × Span)
-overlap_in spans = find overlap (neighbours (filter (λ (span : Span). not (span.size == 0)) spans))
+overlap_in spans = first_overlap span_start span_size (filter has_bytes spans)
 
 -- the fault of two functions that share an address
 abbrev pub overlap_fault : Span × Span → GatherFault
 overlap_fault pair = gather.Overlap pair.0.start pair.0.origin.item pair.1.start pair.1.origin.item
 
 -- ---- the first fault
+-- the fault of a limit
+abbrev pub fault_of_limit : Limit → GatherFault
+fault_of_limit Functions = gather.TooManyFunctions
+fault_of_limit Rows = gather.TooManyRows
+
 -- at most 2^21 functions, omitted ones included, and 2^24 rows of kept ones
 unfoldable pub limits_fault : List Entry → Option GatherFault
-limits_fault ordered =
-    if nat_lt (2 ^ 21) (length ordered) then Some gather.TooManyFunctions else
-    if nat_lt (2 ^ 24) (sum_by entry_rows ordered) then Some gather.TooManyRows else None
+limits_fault ordered = option_map fault_of_limit (exceeded (length ordered) (sum_by entry_rows ordered))
 
 -- of all functions: the limits, and then overlaps
 abbrev pub functions_fault : List Entry → Option GatherFault
@@ -89,9 +97,9 @@ pub record Links (before : Option Arch) (objects : List Object) (at : ℕ) (resu
   pub comes : LinksFrom at given result
 
 -- ---- Inside the crate: one function after the other
--- it isn't empty
-abbrev pub has_bytes : Span → Bool
-has_bytes span = not (span.size == 0)
+-- the second begins before the end of the first
+abbrev pub overlap : Span × Span → Bool
+overlap pair = overlap_by span_start span_size pair
 
 -- the fault of a function with the one before it, if there is one
 abbrev pub overlap_with : (before : Option Span) → Span → Option GatherFault
@@ -105,7 +113,7 @@ with_span_before (Some before) spans = before ∷ spans
 
 -- the first overlapping pair among these
 abbrev pub overlap_after : (before : Option Span) → List Span → Option (Span × Span)
-overlap_after before spans = find overlap (neighbours (with_span_before before (filter has_bytes spans)))
+overlap_after before spans = first_overlap span_start span_size (with_span_before before (filter has_bytes spans))
 
 -- the fault that was found, or else the one of what is left
 abbrev pub overlap_left : Overlaps → List Span → Option GatherFault

@@ -1,7 +1,5 @@
 -- Functions that are lent as their records describe them (LSB Core, "The .eh_frame section"), and the order of functions by their starts.
 use Rattle.std.specs.Prelude.{◌≡◌, ◌<◌, ℕ, ℤ, pos, Bool, true, false, is_ok, List, [], ◌∷◌, get_or, length, map, Option, Ok}
-use Rattle.std.specs.List.Sorted.{IsPermutation, IsNonDecreasingBy, IsStableByKey}
-use Rattle.std.specs.Ordering.{nat_cmp}
 use Rattle.sf_bytes.specs.Cursor.{cursor}
 use Rattle.cfa_insn.specs.Listing.{Item, listing}
 use Rattle.cfa_machine.specs.Pass.{rows_by}
@@ -15,6 +13,7 @@ use Rattle.sf_model.specs.declared.omission.Span.{Span}
 use Rattle.eh_records.specs.declared.fde.Fde.{Fde}
 use Rattle.eh_records.specs.Cie.{CieView}
 use Rattle.sf_model.specs.Function.{AreWritable}
+use Rattle.sf_functions.specs.Order.{IsInOrder}
 use Rattle.sf_asm.specs.Described.{Describe}
 use Rattle.sf_asm.specs.declared.entry.Outcome.{Outcome}
 use Rattle.sf_asm.specs.declared.entry.Outcome.TheVariants.{Kept, Left}
@@ -105,10 +104,8 @@ abbrev pub function_start : Function → ℕ
 function_start f = f.start
 
 -- the same functions by rising start; those of one start stay in their order
-pub record AreByStart (all sorted : List Function) : Type 0 where
-  pub moved : IsPermutation all sorted
-  pub rising : IsNonDecreasingBy function_start sorted
-  pub stable : IsStableByKey function_start nat_cmp all sorted
+abbrev pub AreByStart : (all sorted : List Function) → Type 0
+AreByStart all sorted = IsInOrder function_start all sorted
 
 -- The functions of inputs, after an item of this machine or of none, by rising start: none is refused, one section can hold the kept
 -- ones, and these are the kept ones, the omitted ones, and the omitted ones as their records describe them, one for each in the same order.

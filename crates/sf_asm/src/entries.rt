@@ -9,6 +9,7 @@ ghost use Rattle.sf_write.specs.declared.stored.StoredFunction.{StoredFunction a
 ghost use Rattle.sf_write.specs.Stored.{IsStored, stored_in};
 
 use crate::entry::{Entry, Head, Outcome};
+use sf_functions::{HasStart, sort_by_start};
 use sf_model::{Arch, Func, Omission, Omitted, Span};
 use sf_write::{PackedRows, StoredFunction, StoredList, StoredRows};
 use std::alloc::{AllocError, Global};
@@ -26,6 +27,15 @@ pub struct Entries {
 struct Place {
     start: u64,
     index: usize,
+}
+
+impl HasStart for Place {
+    ghost first_address = { λ p. p.start };
+
+    #[inline(always)]
+    fn start(&self) -> u64 {
+        self.start
+    }
 }
 
 /// Functions that were read, by rising start, which a contract sees as the list of them.
@@ -189,7 +199,7 @@ impl Entries {
     {
         let Entries { heads, rows } = self;
         let mut places = places_of(alloc, &heads)?;
-        places.sort_by_key(|place| place.start)?;
+        sort_by_start(&mut places)?;
         Ok(OrderedEntries {
             heads,
             places,

@@ -13,15 +13,10 @@ use crate::entries::Entries;
 use crate::entry::Entry;
 use crate::fault::GatherFault;
 use crate::sources::Sources;
+use sf_functions::{MOST_FUNCTIONS, MOST_ROWS};
 use sf_model::Arch;
 use sf_write::PackedRows;
 use std::alloc::{AllocError, Global};
-
-/// The most functions of one run, omitted ones included.
-const FUNCTION_LIMIT: usize = 1 << 21;
-
-/// The most rows of one run.
-const ROW_LIMIT: usize = 1 << 24;
 
 /// The functions that were read, if they are within the limits.
 #[derive(Drop)]
@@ -59,7 +54,7 @@ impl<'a> HeldFunctions<'a> {
     pub fn has_room(&self, entry: &Entry) -> bool
         ensures { result ≡ (nat_lt (length self.now.entries) (2 ^ 21) && nat_le (entry_rows entry.now) self.now.rows_left) }
     {
-        self.entries.len() < FUNCTION_LIMIT && entry.row_count() <= self.rows_left
+        self.entries.len() < MOST_FUNCTIONS && entry.row_count() <= self.rows_left
     }
 
     /// Adds a function that there is room for. The memory of its rows goes to `spare`.
@@ -90,7 +85,7 @@ impl<'a> ReadFunctions<'a> {
     {
         ReadFunctions::Within(HeldFunctions {
             entries: Entries::new(alloc),
-            rows_left: ROW_LIMIT,
+            rows_left: MOST_ROWS,
             sources: Sources::new(alloc),
         })
     }
@@ -109,7 +104,7 @@ impl<'a> ReadFunctions<'a> {
     pub fn count(&mut self)
         ensures { self.new ≡ Past (min (counted_in self.old) (2 ^ 21) + 1) }
     {
-        *self = ReadFunctions::Past(self.counted().min(FUNCTION_LIMIT) + 1);
+        *self = ReadFunctions::Past(self.counted().min(MOST_FUNCTIONS) + 1);
     }
 
     /// Hands over the functions.
@@ -123,7 +118,7 @@ impl<'a> ReadFunctions<'a> {
     {
         match self {
             ReadFunctions::Within(held) => Ok(held),
-            ReadFunctions::Past(count) => Err(if count > FUNCTION_LIMIT {
+            ReadFunctions::Past(count) => Err(if count > MOST_FUNCTIONS {
                 GatherFault::TooManyFunctions
             } else {
                 GatherFault::TooManyRows

@@ -9,6 +9,7 @@ ghost use Rattle.cfa_machine.specs.Pass.{rows_by};
 
 use cfa_machine::Columns;
 use sf_bytes::Part;
+use sf_functions::HasStart;
 use sf_model::{Arch, FdeFacts, Key, Origin};
 
 /// A function as its records describe it (LSB Core, "The .eh_frame section"), with its instructions lent from
@@ -74,4 +75,13 @@ pub struct SourceItem<'a> {
     /// The number of what it shares with others.
     pub common: u32,
     ghost ends: { start + size ≤ 2 ^ 64 },
+}
+
+impl<'a> HasStart for SourceItem<'a> {
+    ghost first_address = { λ i. i.start };
+
+    #[inline(always)]
+    fn start(&self) -> u64 {
+        self.start
+    }
 }

@@ -5,6 +5,7 @@ ghost use Rattle.sf_asm.specs.Functions.{Function as function};
 ghost use Rattle.sf_asm.specs.Sources.{AreByStart, IsItemIn, CanBeRun, common_view, function_by_item, item_function, source_function};
 
 use crate::source::{CommonPart, Source, SourceItem};
+use sf_functions::sort_by_start;
 use sf_model::FdeFacts;
 use std::alloc::{AllocError, Global};
 use std::marker::Model;
@@ -129,7 +130,7 @@ impl<'a> Sources<'a> {
     pub(crate) fn sort(&mut self) -> Result<(), AllocError>
         ensures { OnOk result (AreByStart self.old.functions self.new.functions) }
     {
-        self.items.sort_by_key(|item| item.start)?;
+        sort_by_start(&mut self.items)?;
         Ok(())
     }
 }

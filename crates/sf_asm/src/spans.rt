@@ -4,6 +4,7 @@ ghost use Rattle.std.specs.Prelude.{◌≡◌};
 ghost use Rattle.sf_asm.specs.Linking.{overlap_with};
 
 use crate::fault::GatherFault;
+use sf_functions::shares_address;
 use sf_model::Span;
 
 /// Returns the fault of a function that begins before the end of another one.
@@ -12,7 +13,7 @@ fn overlap_of(before: Option<Span>, span: Span) -> Option<GatherFault>
     ensures { result ≡ overlap_with before span }
 {
     let before = before?;
-    if u128::from(span.start) < u128::from(before.start) + u128::from(before.size) {
+    if shares_address(&before, &span) {
         return Some(GatherFault::Overlap(
             before.start,
             before.origin.item,

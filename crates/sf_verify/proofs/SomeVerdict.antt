@@ -23,7 +23,7 @@ use Rattle.sf_asm.specs.Kept.{entry_of, kept_functions}
 use Rattle.sf_asm.specs.Linking.{Gathers, GathersFrom, functions_fault, start_of, unless_fault}
 use Rattle.sf_asm.specs.Said.{Answers, dwarf_at}
 use Rattle.sf_asm.proofs.Accepting.{gathered_can_be}
-use Rattle.sf_asm.proofs.ByStart.{by_key, by_key-moved, by_key-rising, by_key-stable}
+use Rattle.sf_functions.proofs.ByStart.{by_key, in_order}
 use Rattle.sf_asm.proofs.Described.{describe, to_gathers}
 use Rattle.sf_asm.proofs.GatheredInputs.{are_read}
 use Rattle.sf_verify.specs.declared.fault.VerifyFault.{VerifyFault}
@@ -118,7 +118,7 @@ gathered_from (Ok functions) =
     let all = map entry_of functions in
     let ordered = by_key start_of all in (
       unless_fault (functions_fault ordered) ordered,
-      (ordered, record { moved = by_key-moved start_of all; rising = by_key-rising start_of all; stable = λ e. by_key-stable start_of e all }, refl),
+      (ordered, in_order start_of all, refl),
     )
 
 -- gathering inputs comes to a result

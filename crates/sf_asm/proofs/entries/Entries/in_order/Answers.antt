@@ -1,25 +1,23 @@
-use Rattle.std.proofs.Common.{List, rules, subst}
-use Rattle.std.proofs.lemmas.List.Sorted.{All-permutation, answers_always, IsNonDecreasingBy-from_sort_by_key}
+use Rattle.std.proofs.Common.{List, subst}
+use Rattle.std.proofs.lemmas.List.Sorted.{All-permutation}
 use Rattle.sf_asm.specs.declared.entry.Entry.{Entry}
 use Rattle.sf_asm.specs.declared.entry.Head.{Head}
 use Rattle.sf_asm.specs.Heads.{ArePlacesOf, IsPlaceIn, entries_in, heads_at}
 use Rattle.sf_asm.specs.Linking.{InOrder}
-use Rattle.sf_asm.proofs.Heads.{place_start, places_in_order}
+use Rattle.sf_asm.proofs.Heads.{places_in_order}
 use Rattle.sf_asm.proofs.entries.Entries.in_order.Goals as goal
 
 pub invariant_of-result : goal.invariant_of-result
 invariant_of-result c =
     let old = c.in_ok-places.places.items in
     let were : ArePlacesOf c.self.inside.heads.items old = subst (λ (hs : List Head). ArePlacesOf hs old) c.deref.ensures.value c.in_ok-places.ensures in
-    (c.self.invariant, All-permutation (IsPlaceIn c.self.inside.heads.items) old c.sort_by_key.new.self.items c.sort_by_key.ensures.permutation were.1)
+    (c.self.invariant, All-permutation (IsPlaceIn c.self.inside.heads.items) old c.sort_by_start.new.functions.items c.sort_by_start.ensures.moved were.1)
 
 pub returns : goal.returns
 returns c =
     let heads = c.self.inside.heads.items in
     let old = c.in_ok-places.places.items in
-    let new = c.sort_by_key.new.self.items in
+    let new = c.sort_by_start.new.functions.items in
     let were : ArePlacesOf heads old = subst (λ (hs : List Head). ArePlacesOf hs old) c.deref.ensures.value c.in_ok-places.ensures in
     subst (λ (es : List Entry). InOrder es (entries_in c.self.inside.rows (heads_at heads new))) c.self.view_is
-    (places_in_order c.self.inside.rows heads old new were c.sort_by_key.ensures.permutation
-    (IsNonDecreasingBy-from_sort_by_key place_start _ c.in_ok-sort_by_key.ensures.sorted (λ a r q k. search rules))
-    (c.sort_by_key.ensures.stable place_start (answers_always _ _ _ (λ f a r g h. search rules))))
+    (places_in_order c.self.inside.rows heads old new were c.in_ok-sort_by_start.ensures.order)
