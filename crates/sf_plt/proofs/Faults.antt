@@ -1,11 +1,10 @@
 -- What linking with procedure linkage tables comes to, from what was gathered, counted and written.
-use Rattle.std.specs.Prelude.{All, nat_lt, not}
+use Rattle.std.specs.Prelude.{All, not}
 use Rattle.std.specs.Option.{option_map}
 use Rattle.std.specs.List.{filter, flat_map}
-use Rattle.std.specs.List.Sorted.{IsNonDecreasingBy, IsPermutation, IsStableByKey}
+use Rattle.std.specs.List.Sorted.{IsNonDecreasingBy, IsStableByKey}
 use Rattle.std.specs.Ordering.{nat_cmp}
 use Rattle.std.proofs.Common.{◌≡◌, ℕ, ◌+◌, ◌*◌, ◌^◌, ◌≤◌, Bool, true, false, cond, List, [], ◌∷◌, ◌++◌, length, map, sum_by, Option, Some, None, Result, Ok, Err, refl, sym, ap, subst, ◌∙◌, arith, inl, inr}
-use Rattle.std.proofs.lemmas.Bool.{ltb-false}
 use Rattle.std.proofs.lemmas.List.{length-map}
 use Rattle.std.proofs.lemmas.List.Elements.{All-filter}
 use Rattle.std.proofs.lemmas.List.Filters.{length-filter_both}
@@ -21,10 +20,12 @@ use Rattle.sf_model.specs.Table.{row_count}
 use Rattle.sf_model.specs.Tight.{Narrow, Tight}
 use Rattle.sf_write.specs.Reach.{first_out_of_reach}
 use Rattle.sf_write.specs.Section.{table_of}
+use Rattle.sf_functions.specs.Limits.{exceeded}
+use Rattle.sf_functions.specs.Order.{IsInOrder}
+use Rattle.sf_functions.proofs.LimitsHeld as limits
 use Rattle.sf_asm.specs.declared.entry.Entry.{Entry}
 use Rattle.sf_asm.specs.declared.entry.Outcome.{Outcome}
 use Rattle.sf_asm.specs.declared.fault.GatherFault.{GatherFault}
-use Rattle.sf_asm.specs.declared.fault.GatherFault.TheVariants.{TooManyFunctions, TooManyRows}
 use Rattle.sf_asm.specs.declared.fault.GatherFault.TheVariants as gather
 use Rattle.sf_asm.specs.Answers.{IsFirstGathered}
 use Rattle.sf_asm.specs.declared.fault.LinkFault.{LinkFault}
@@ -34,7 +35,7 @@ use Rattle.sf_asm.specs.Functions.{Function, Object, unless}
 use Rattle.sf_asm.specs.Inputs.{HaveMachine, all_functions, mixed_fault}
 use Rattle.sf_asm.specs.Inputs.{first_item}
 use Rattle.sf_asm.specs.Kept.{entry_of, is_kept, kept_functions, omitted_functions}
-use Rattle.sf_asm.specs.Linking.{Gathers, GathersFrom, functions_fault, limits_fault, or_later, overlap_fault, overlap_in, unless_fault as unless_gathered}
+use Rattle.sf_asm.specs.Linking.{Gathers, GathersFrom, fault_of_limit, functions_fault, limits_fault, or_later, overlap_fault, overlap_in, unless_fault as unless_gathered}
 use Rattle.sf_asm.specs.Order.{are_apart, entry_rows, rows_of}
 use Rattle.sf_asm.specs.Sources.{AreByStart, AreWithSources}
 use Rattle.sf_asm.proofs.ByStart.{are_by_start, ordered_are, sorted_functions}
@@ -136,20 +137,17 @@ pub record Within (functions rows tables : ℕ) : Type 0 where
   pub functions_fit : functions + tables ≤ 2 ^ 21
   pub rows_fit : rows + 4 * tables ≤ 2 ^ 24
 
-pub within_both : (functions rows tables : ℕ) → further_fault (2 ^ 21) (2 ^ 24) functions rows tables ≡ None → Within functions rows tables
-within_both functions rows tables e = at_tests (nat_lt (2 ^ 21) (functions + tables)) refl (nat_lt (2 ^ 24) (rows + 4 * tables)) refl e
-  where
-    at_tests : (a : Bool) → nat_lt (2 ^ 21) (functions + tables) ≡ a → (b : Bool) → nat_lt (2 ^ 24) (rows + 4 * tables) ≡ b → cond a (Some TooManyFunctions) (cond b (Some TooManyRows) None) ≡ None → Within functions rows tables
-    at_tests true t b u e = absurd cc
-    at_tests false t true u e = absurd cc
-    at_tests false t false u e = record { functions_fit = ltb-false (2 ^ 21) (functions + tables) t; rows_fit = ltb-false (2 ^ 24) (rows + 4 * tables) u }
+pub within_both : (functions rows tables : ℕ) → further_fault functions rows tables ≡ None → Within functions rows tables
+within_both functions rows tables e =
+    let none = limits.none_over fault_of_limit (exceeded (functions + tables) (rows + 4 * tables)) e in
+    record { functions_fit = limits.few_functions (functions + tables) (rows + 4 * tables) none; rows_fit = limits.few_rows (functions + tables) (rows + 4 * tables) none }
 
 -- what was counted is what is to be counted
-pub same_fault : (fs : List Function) (functions rows tables : ℕ) → functions ≡ length fs → rows ≡ sum_by entry_rows (map entry_of fs) → tables ≡ length (plt_functions fs) → further_fault (2 ^ 21) (2 ^ 24) functions rows tables ≡ plts_fault fs
+pub same_fault : (fs : List Function) (functions rows tables : ℕ) → functions ≡ length fs → rows ≡ sum_by entry_rows (map entry_of fs) → tables ≡ length (plt_functions fs) → further_fault functions rows tables ≡ plts_fault fs
 unfolding plts_fault
 same_fault fs functions rows tables e f g =
-    ap (λ (n : ℕ). further_fault (2 ^ 21) (2 ^ 24) n rows tables) e ∙ ap (λ (n : ℕ). further_fault (2 ^ 21) (2 ^ 24) (length fs) n tables) f
-    ∙ ap (further_fault (2 ^ 21) (2 ^ 24) (length fs) (sum_by entry_rows (map entry_of fs))) g
+    ap (λ (n : ℕ). further_fault n rows tables) e ∙ ap (λ (n : ℕ). further_fault (length fs) n tables) f
+    ∙ ap (further_fault (length fs) (sum_by entry_rows (map entry_of fs))) g
 
 -- ---- what can be written
 pub are_writable : (arch : Arch) (fs : List Function) → are_apart 0 (map entry_of fs) ≡ true → plts_fault fs ≡ None → All (IsWritable arch) (written_functions fs) → AreWritable arch (written_functions fs)
@@ -354,13 +352,13 @@ pub record Made (arch : Arch) (sorted : List Function) (ordered : List Func) : T
   pub writable : AreWritable arch ordered
 
 pub made : (before : Option Arch) (objects : List Object) (arch : Arch) (kept : List Func) (omitted : List Omitted) (lent : List Function) (g : AreWithSources before objects arch kept omitted lent) → (functions rows tables : ℕ) → functions ≡ length kept + length omitted → rows ≡ row_count kept
-    → tables ≡ length (filter is_plt lent) → (u : Unit {0}) → Ok u ≡ unless (further_fault (2 ^ 21) (2 ^ 24) functions rows tables) → (written ordered : List Func) → written ≡ kept ++ flat_map plt_pair (filter is_plt lent) → All (IsWritable arch) written → IsPermutation written ordered
-    → IsNonDecreasingBy func_start ordered → IsStableByKey func_start nat_cmp written ordered → Made arch g.sorted ordered
-made before objects arch kept omitted lent g functions rows tables e f h u checked written ordered are each moved rising stable =
+    → tables ≡ length (filter is_plt lent) → (u : Unit {0}) → Ok u ≡ unless (further_fault functions rows tables) → (written ordered : List Func) → written ≡ kept ++ flat_map plt_pair (filter is_plt lent) → All (IsWritable arch) written → IsInOrder func_start written ordered
+    → Made arch g.sorted ordered
+made before objects arch kept omitted lent g functions rows tables e f h u checked written ordered are each order =
     let k = counted before objects arch kept omitted lent g functions rows tables e f h in
-    let few = sym (same_fault g.sorted functions rows tables k.functions_are k.rows_are k.tables_are) ∙ none_over (further_fault (2 ^ 21) (2 ^ 24) functions rows tables) u checked in
-    let is = made_written before objects arch kept omitted lent g written ordered are rising stable in
-    let all = subst (All (IsWritable arch)) is (All-permutation (IsWritable arch) written ordered moved each) in
+    let few = sym (same_fault g.sorted functions rows tables k.functions_are k.rows_are k.tables_are) ∙ none_over (further_fault functions rows tables) u checked in
+    let is = made_written before objects arch kept omitted lent g written ordered are order.rising order.stable in
+    let all = subst (All (IsWritable arch)) is (All-permutation (IsWritable arch) written ordered order.moved each) in
     record {
       is = is;
       few = few;
@@ -368,8 +366,8 @@ made before objects arch kept omitted lent g functions rows tables e f h u check
     }
 
 pub over : (before : Option Arch) (objects : List Object) (at : ℕ) (arch : Arch) (kept : List Func) (omitted : List Omitted) (lent : List Function) (g : AreWithSources before objects arch kept omitted lent) → (functions rows tables : ℕ) → functions ≡ length kept + length omitted → rows ≡ row_count kept
-    → tables ≡ length (filter is_plt lent) → (fault : GatherFault) → Err fault ≡ unless (further_fault (2 ^ 21) (2 ^ 24) functions rows tables) → IsFirstPltLinked before objects at (link.Gather fault)
+    → tables ≡ length (filter is_plt lent) → (fault : GatherFault) → Err fault ≡ unless (further_fault functions rows tables) → IsFirstPltLinked before objects at (link.Gather fault)
 over before objects at arch kept omitted lent g functions rows tables e f h fault checked =
     let k = counted before objects arch kept omitted lent g functions rows tables e f h in
-    let is = sym (same_fault g.sorted functions rows tables k.functions_are k.rows_are k.tables_are) ∙ over_is (further_fault (2 ^ 21) (2 ^ 24) functions rows tables) fault checked in
+    let is = sym (same_fault g.sorted functions rows tables k.functions_are k.rows_are k.tables_are) ∙ over_is (further_fault functions rows tables) fault checked in
     inr (too_many before objects at g.functions g.sorted fault (ready before objects arch kept omitted lent g) g.by_start is)

@@ -1,9 +1,10 @@
 -- A fault of the definitions is a refusal or a limit, with procedure linkage tables as without them: inputs never come to `NoMemory`.
-use Rattle.std.specs.Prelude.{IsTrue, nat_lt}
+use Rattle.std.specs.Prelude.{IsTrue}
 use Rattle.std.specs.Option.{option_map}
-use Rattle.std.proofs.Common.{ℕ, ◌+◌, ◌*◌, ◌^◌, List, length, map, sum_by, Option, Result, Ok, Err, refl, sym, subst, inl, inr}
+use Rattle.std.proofs.Common.{ℕ, ◌+◌, ◌*◌, List, length, map, sum_by, Option, Result, Ok, Err, refl, sym, subst, inl, inr}
 use Rattle.sf_model.specs.declared.machine.Arch.{Arch}
 use Rattle.sf_write.specs.Reach.{first_out_of_reach}
+use Rattle.sf_functions.specs.Limits.{exceeded}
 use Rattle.sf_asm.specs.declared.fault.GatherFault.{GatherFault}
 use Rattle.sf_asm.specs.declared.fault.LinkFault.{LinkFault}
 use Rattle.sf_asm.specs.declared.fault.LinkFault.TheVariants.{Gather, OutOfReach}
@@ -11,9 +12,9 @@ use Rattle.sf_asm.specs.Fault.{is_answered, is_gather_refusal, is_wrapped_answer
 use Rattle.sf_asm.specs.Functions.{Function, Object}
 use Rattle.sf_asm.specs.Inputs.{all_functions}
 use Rattle.sf_asm.specs.Kept.{entry_of}
-use Rattle.sf_asm.specs.Linking.{functions_fault, or_later}
+use Rattle.sf_asm.specs.Linking.{fault_of_limit, functions_fault, or_later}
 use Rattle.sf_asm.specs.Order.{entry_rows}
-use Rattle.sf_asm.proofs.NeverMemory.{FaultIn, FaultIs, all_refused, any_mapped, earlier, either_in, functions_tried, mapped, refusal_or_limit, where_none}
+use Rattle.sf_asm.proofs.NeverMemory.{FaultIn, FaultIs, all_refused, any_mapped, earlier, functions_tried, limit_answered, mapped, refusal_or_limit, where_none}
 use Rattle.sf_plt.specs.Answers.{IsFirstPltLinked}
 use Rattle.sf_plt.specs.Linking.{LinksPltsFrom, plt_link_fault, plts_fault}
 use Rattle.sf_plt.specs.Plt.{plt_functions}
@@ -23,8 +24,7 @@ use Rattle.sf_plt.proofs.Described.{from_links}
 limits : (sorted : List Function) → FaultIn is_wrapped_answered (plts_fault sorted)
 unfolding plts_fault
 limits sorted =
-    either_in is_wrapped_answered (nat_lt (2 ^ 21) (length sorted + length (plt_functions sorted))) _ _ refl
-    (either_in is_wrapped_answered (nat_lt (2 ^ 24) (sum_by entry_rows (map entry_of sorted) + 4 * length (plt_functions sorted))) _ _ refl tt)
+    any_mapped is_wrapped_answered fault_of_limit (exceeded (length sorted + length (plt_functions sorted)) (sum_by entry_rows (map entry_of sorted) + 4 * length (plt_functions sorted))) limit_answered
 
 tried : (at : ℕ) (sorted : List Function) → FaultIn is_answered (plt_link_fault at sorted)
 tried at sorted =

@@ -1,5 +1,5 @@
 -- The operations at numbers that tell signed from unsigned and one order from the other, the expression's value in an entry, and
--- small limits.
+-- the limits.
 use Rattle.std.proofs.Common.{◌≡◌, ◌-◌, ◌^◌, [], ◌∷◌, Some, None, refl}
 use Rattle.sf_model.specs.Recovery.{moved}
 use Rattle.sf_asm.specs.declared.fault.GatherFault.TheVariants.{TooManyFunctions, TooManyRows}
@@ -37,15 +37,15 @@ after_push : expression_value 0x7ffe0000 0x101b ≡ Some 0x7ffe0010
 unfolding expression_value moved
 after_push = refl
 
--- a table counts as a function and as four rows more, where seven functions and nine rows are the most
-within_limits : further_fault 7 9 5 1 2 ≡ None
+-- a table counts as a function and as four rows more
+within_limits : further_fault (2 ^ 21 - 2) (2 ^ 24 - 8) 2 ≡ None
 within_limits = refl
 
-functions_first : further_fault 7 9 6 2 2 ≡ Some TooManyFunctions
+functions_first : further_fault (2 ^ 21 - 1) (2 ^ 24 - 7) 2 ≡ Some TooManyFunctions
 functions_first = refl
 
-too_many_rows : further_fault 7 9 5 2 2 ≡ Some TooManyRows
+too_many_rows : further_fault (2 ^ 21 - 2) (2 ^ 24 - 7) 2 ≡ Some TooManyRows
 too_many_rows = refl
 
-without_tables : further_fault 7 9 7 9 0 ≡ None
+without_tables : further_fault (2 ^ 21) (2 ^ 24) 0 ≡ None
 without_tables = refl

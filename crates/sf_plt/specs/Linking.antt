@@ -1,32 +1,32 @@
 -- The result of linking if procedure linkage tables are written: the functions in order, or the first fault (GNU SFrame specification,
 -- Version 2).
-use Rattle.std.specs.Prelude.{◌≡◌, ◌+◌, ◌*◌, ◌^◌, ℕ, nat_lt, List, length, map, sum_by, Option, Some, None, Result, Ok, Err, if◌then◌else◌}
+use Rattle.std.specs.Prelude.{◌≡◌, ◌+◌, ◌*◌, ℕ, List, length, map, sum_by, Option, Result, Ok, Err}
 use Rattle.std.specs.Option.{option_map}
 use Rattle.sf_model.specs.declared.machine.Arch.{Arch}
 use Rattle.sf_write.specs.Reach.{first_out_of_reach}
+use Rattle.sf_functions.specs.Limits.{exceeded}
 use Rattle.sf_asm.specs.declared.fault.GatherFault.{GatherFault}
-use Rattle.sf_asm.specs.declared.fault.GatherFault.TheVariants.{TooManyFunctions, TooManyRows, NoMemory as GatherNoMemory}
+use Rattle.sf_asm.specs.declared.fault.GatherFault.TheVariants.{NoMemory as GatherNoMemory}
 use Rattle.sf_asm.specs.declared.fault.LinkFault.{LinkFault}
 use Rattle.sf_asm.specs.declared.fault.LinkFault.TheVariants.{Gather, OutOfReach, NoMemory}
 use Rattle.sf_asm.specs.Functions.{Function, Object}
 use Rattle.sf_asm.specs.Described.{DescribeTogether}
 use Rattle.sf_asm.specs.Kept.{entry_of}
-use Rattle.sf_asm.specs.Linking.{functions_fault, or_later}
+use Rattle.sf_asm.specs.Linking.{fault_of_limit, functions_fault, or_later}
 use Rattle.sf_asm.specs.Order.{entry_rows}
 use Rattle.sf_asm.specs.Sources.{AreByStart}
 use Rattle.sf_plt.specs.Plt.{plt_functions}
 use Rattle.sf_plt.specs.Written.{written_functions}
 pub use Rattle.sf_model.specs.Firsts.{unless_fault}
 
--- the fault of too many functions, or else of too many rows; each procedure linkage table counts as one more function and as 4 rows
-abbrev pub further_fault : (most_functions most_rows functions rows plts : ℕ) → Option GatherFault
-further_fault most_functions most_rows functions rows plts =
-    if nat_lt most_functions (functions + plts) then Some TooManyFunctions else
-    if nat_lt most_rows (rows + 4 * plts) then Some TooManyRows else None
+-- the fault of more than 2^21 functions, or else of more than 2^24 rows; each procedure linkage table counts as one more function and
+-- as 4 rows
+abbrev pub further_fault : (functions rows plts : ℕ) → Option GatherFault
+further_fault functions rows plts = option_map fault_of_limit (exceeded (functions + plts) (rows + 4 * plts))
 
--- the fault of more than 2^21 functions, omitted ones included, or else of more than 2^24 rows
+-- the same of functions by rising start, omitted ones included
 unfoldable pub plts_fault : List Function → Option GatherFault
-plts_fault sorted = further_fault (2 ^ 21) (2 ^ 24) (length sorted) (sum_by entry_rows (map entry_of sorted)) (length (plt_functions sorted))
+plts_fault sorted = further_fault (length sorted) (sum_by entry_rows (map entry_of sorted)) (length (plt_functions sorted))
 
 -- the first fault of functions by rising start: the faults of all links; then the limits with procedure linkage tables; then a function
 -- that is written out of reach

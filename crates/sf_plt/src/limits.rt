@@ -3,17 +3,12 @@
 ghost use Rattle.std.specs.Prelude.{◌≡◌, ◌≤◌, ◌^◌};
 ghost use Rattle.sf_model.specs.Table.{row_count};
 ghost use Rattle.sf_asm.specs.Functions.{unless};
+ghost use Rattle.sf_asm.specs.Linking.{fault_of_limit};
 ghost use Rattle.sf_plt.specs.Linking.{further_fault};
 
 use sf_asm::GatherFault;
+use sf_functions::{Limit, exceeded};
 use sf_model::Func;
-
-/// The most functions and rows of one run.
-#[derive(Clone, Copy)]
-pub struct Limits {
-    pub functions: usize,
-    pub rows: usize,
-}
 
 /// The numbers of functions, of rows of those that are kept, and of procedure linkage tables.
 #[derive(Clone, Copy)]
@@ -26,18 +21,27 @@ pub struct Counts {
 /// The number of rows that a procedure linkage table adds.
 const TABLE_ROWS: usize = 4;
 
-/// Checks the limits: functions first, then rows. Each table counts as one more function and as 4 rows.
-pub fn check_tables(limits: Limits, counts: Counts) -> Result<(), GatherFault>
-    requires { (counts.functions ≤ 2 ^ 32) × (counts.rows ≤ 2 ^ 32) × (counts.tables ≤ 2 ^ 32) }
-    ensures { result ≡ unless (further_fault limits.functions limits.rows counts.functions counts.rows counts.tables) }
+/// Returns the fault of a limit.
+fn fault_of_limit(limit: Limit) -> GatherFault
+    ensures { result ≡ fault_of_limit limit }
 {
-    if counts.functions + counts.tables > limits.functions {
-        return Err(GatherFault::TooManyFunctions);
+    match limit {
+        Limit::Functions => GatherFault::TooManyFunctions,
+        Limit::Rows => GatherFault::TooManyRows,
     }
-    if counts.rows + TABLE_ROWS * counts.tables > limits.rows {
-        return Err(GatherFault::TooManyRows);
+}
+
+/// Checks the limits: functions first, then rows. Each table counts as one more function and as 4 rows.
+pub fn check_tables(counts: Counts) -> Result<(), GatherFault>
+    requires { (counts.functions ≤ 2 ^ 32) × (counts.rows ≤ 2 ^ 32) × (counts.tables ≤ 2 ^ 32) }
+    ensures { result ≡ unless (further_fault counts.functions counts.rows counts.tables) }
+{
+    let functions = counts.functions + counts.tables;
+    let rows = counts.rows + TABLE_ROWS * counts.tables;
+    match exceeded(functions, rows) {
+        Some(limit) => Err(fault_of_limit(limit)),
+        None => Ok(()),
     }
-    Ok(())
 }
 
 /// Counts the rows of the functions.

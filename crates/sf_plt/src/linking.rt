@@ -1,28 +1,20 @@
 //! The section of several inputs, with their procedure linkage tables.
 
-ghost use Rattle.std.specs.Prelude.{◌≡◌, ◌≤◌, ◌<◌, ◌^◌, All, length, map, IfOk, IfErr, OnOk, IsTrue};
-ghost use Rattle.std.specs.List.Sorted.{IsNonDecreasingBy, IsStableByKey, IsPermutation};
-ghost use Rattle.std.specs.Ordering.{nat_cmp};
+ghost use Rattle.std.specs.Prelude.{◌≡◌, ◌≤◌, ◌<◌, ◌^◌, All, length, map, IfOk, IfErr, IsTrue};
 ghost use Rattle.sf_model.specs.Section.{AreBytes};
 ghost use Rattle.sf_asm.specs.Fault.{is_answered};
 ghost use Rattle.sf_asm.specs.Functions.{object_of};
 ghost use Rattle.sf_plt.specs.Answers.{IsFirstPltLinked, IsPltLinked};
 ghost use Rattle.sf_plt.specs.Linking.{wraps_gathering};
-ghost use Rattle.sf_plt.specs.Sorting.{func_start};
 
-use crate::limits::{Counts, Limits, check_tables, count_rows};
+use crate::limits::{Counts, check_tables, count_rows};
 use crate::sorting::sort_out;
 use sf_asm::{GatherFault, Input, LinkFault, WithSources, gather_with_sources};
 use sf_base::NoMemory;
-use sf_model::{Arch, Func, Omitted, Span};
+use sf_functions::sort_by_start;
+use sf_model::{Arch, Omitted, Span};
 use sf_write::{WriteFault, write};
 use std::alloc::Global;
-
-/// The most functions, omitted ones included, and rows of one run.
-const LIMITS: Limits = Limits {
-    functions: 1 << 21,
-    rows: 1 << 24,
-};
 
 /// A section, and what it holds.
 #[derive(Drop)]
@@ -45,16 +37,6 @@ fn not_gathered(fault: GatherFault) -> LinkFault
         GatherFault::NoMemory => LinkFault::NoMemory,
         _ => LinkFault::Gather(fault),
     }
-}
-
-/// Sorts functions by their starts.
-fn order(functions: &mut Vec<Func>) -> Result<(), NoMemory>
-    ensures rising { OnOk result (IsNonDecreasingBy func_start functions.new.items) }
-    ensures stable { OnOk result (IsStableByKey func_start nat_cmp functions.old.items functions.new.items) }
-    ensures moved { OnOk result (IsPermutation functions.old.items functions.new.items) }
-{
-    functions.sort_by_key(|func| func.start)?;
-    Ok(())
 }
 
 /// Makes the SFrame section of 1 to 512 inputs, for the address `at`, as `sf_link::link` does, with two functions
@@ -104,13 +86,13 @@ pub fn link_plt(
         rows,
         tables,
     };
-    match check_tables(LIMITS, counts) {
+    match check_tables(counts) {
         Ok(()) => (),
         Err(fault) => return Err(LinkFault::Gather(fault)),
     }
-    match order(&mut sorted.written) {
+    match sort_by_start(&mut sorted.written) {
         Ok(()) => (),
-        Err(NoMemory) => return Err(LinkFault::NoMemory),
+        Err(_) => return Err(LinkFault::NoMemory),
     }
     match write(alloc, arch, at, &sorted.written) {
         Ok(section) => Ok(PltLinked {

@@ -1,4 +1,4 @@
-use Rattle.std.proofs.Common.{◌≡◌, ◌+◌, ◌++◌, All, List, Some, length, map, ap, subst, sym, ◌∙◌, inr, arith}
+use Rattle.std.proofs.Common.{◌≡◌, ◌+◌, ◌++◌, List, Some, length, map, ap, subst, sym, ◌∙◌, inr, arith}
 use Rattle.std.specs.List.{filter, flat_map}
 use Rattle.sf_model.specs.Function.{AreWritable}
 use Rattle.sf_model.specs.Table.{row_count}
@@ -59,14 +59,14 @@ tables : (c : After-len-tables) → c.len-tables.result ≡ length (filter is_pl
 tables c = tables_counted c.len-tables.result c.in-Ok-sort_out.sorted.plts.items (lent c) (c.len-tables.ensures ∙ c.in-Ok-sort_out.sorted.plts.ok.0) (plts c)
 
 -- what is written, in order
-in_order : (c : After-deref-3) → Made c.in-Ok.gathered.arch c.in-Ok.ensures.gathered.sorted c.order.new.functions.items
+in_order : (c : After-deref-3) → Made c.in-Ok.gathered.arch c.in-Ok.ensures.gathered.sorted c.sort_by_start.new.functions.items
 in_order c =
     let found = c.in-Ok.gathered in
     let before = (goal.at.After-deref-3 c).After-len-tables in
     let written : c.in-Ok-sort_out.sorted.written.items ≡ found.kept.items ++ flat_map plt_pair (filter is_plt (lent before)) = c.in-Ok-sort_out.ensures.written in
     made c.args.before (map object_of c.args.inputs.now) found.arch found.kept.items found.omitted.items (lent before) c.in-Ok.ensures.gathered (c.len-count.result + c.len.result) c.count_rows-rows.result c.len-tables.result
     (functions before) (rows before) (tables before) c.in-Ok-check_tables.field-0 c.in-Ok-check_tables.ensures
-    c.in-Ok-sort_out.sorted.written.items c.order.new.functions.items written c.in-Ok-sort_out.ensures.sound c.in-Ok-order.ensures.moved c.in-Ok-order.ensures.rising c.in-Ok-order.ensures.stable
+    c.in-Ok-sort_out.sorted.written.items c.sort_by_start.new.functions.items written c.in-Ok-sort_out.ensures.sound c.in-Ok-sort_by_start.ensures.order
 
 pub check_tables-requires : goal.check_tables-requires
 check_tables-requires c =
@@ -98,7 +98,7 @@ returns-in-Ok-write-clause-linked c =
     let section = rw c.deref-3.ensures.value at c.in-Ok-write.ensures in
     let omitted : sorted.omitted.items ≡ omitted_of (map entry_of (others_in (lent before))) = c.in-Ok-sort_out.ensures.omitted in
     plt_linked c.args.before (map object_of c.args.inputs.now) c.args.at c.in-Ok-write.section.items c.len-count.result sorted.omitted.items sorted.plts.items found.arch found.kept.items found.omitted.items (lent before) c.in-Ok.ensures.gathered
-    c.in-Ok.ensures.machine c.order.new.functions.items m.is m.few section.section section.tight section.narrow section.in_reach (c.len-count.ensures ∙ found.kept.ok.0) omitted (plts before)
+    c.in-Ok.ensures.machine c.sort_by_start.new.functions.items m.is m.few section.section section.tight section.narrow section.in_reach (c.len-count.ensures ∙ found.kept.ok.0) omitted (plts before)
 
 pub returns-in-Err-OutOfReach-clause-fault : goal.returns-in-Err-OutOfReach-clause-fault
 returns-in-Err-OutOfReach-clause-fault c =
