@@ -46,7 +46,7 @@ use Rattle.sf_asm.proofs.Limits.{few_functions}
 use Rattle.sf_asm.proofs.OneMachine.{machine_of_functions}
 use Rattle.sf_model.proofs.StableOrder.{one_order_of}
 use Rattle.sf_asm.specs.Sources.{function_start}
-use Rattle.sf_plt.specs.Answers.{IsFirstPltLinked, IsPltLinked, others_in, plt_span}
+use Rattle.sf_plt.specs.Answers.{IsFirstPltLinked, IsPltLinkedWith, others_in, plt_span}
 use Rattle.sf_plt.specs.Linking.{LinksPlts, LinksPltsFrom, further_fault, plt_link_fault, plts_fault, unless_fault, wraps_gathering}
 use Rattle.sf_plt.specs.Plt.{is_plt, plt_functions}
 use Rattle.sf_plt.specs.Sorting.{func_start}
@@ -288,26 +288,29 @@ accepted_by at sorted checked few near =
 pub plt_linked : (before : Option Arch) (objects : List Object) (at : ℕ) (section : List ℕ) (count : ℕ) (omitted : List Omitted) (plts : List Span) (arch : Arch) (kept : List Func) (gathered : List Omitted) (lent : List Function)
     → (g : AreWithSources before objects arch kept gathered lent) → HaveMachine before objects arch → (written : List Func) → written ≡ written_functions g.sorted → plts_fault g.sorted ≡ None → Section section at (table_of arch written)
     → Tight section at (table_of arch written) → Narrow section (table_of arch written) → first_out_of_reach at 0 written ≡ None → count ≡ length kept → omitted ≡ omitted_of (map entry_of (others_in lent)) → plts ≡ map plt_span (filter is_plt lent)
-    → IsPltLinked before objects at section count omitted plts
+    → IsPltLinkedWith before objects at section count omitted plts lent
 plt_linked before objects at section count omitted plts arch kept gathered lent g machine written is few section_is tight narrow near count_is omitted_are plts_are =
     let h = ready before objects arch kept gathered lent g in
     let c = counts g.sorted in
     record {
-      functions = g.functions;
-      are = g.are;
-      arch = arch;
-      machine = machine;
-      sorted = g.sorted;
-      by_start = g.by_start;
-      accepted = accepted_by at g.sorted h.checked few (subst (λ (gs : List Func). first_out_of_reach at 0 gs ≡ None) is near);
-      is = subst (λ (gs : List Func). Section section at (table_of arch gs)) is section_is;
-      recovers = recovers_with_plts g.functions g.sorted g.by_start.moved h.apart;
-      walks = walks_with_plts (written_functions g.sorted) g.functions (recovers_with_plts g.functions g.sorted g.by_start.moved h.apart);
-      tight = subst (λ (gs : List Func). Tight section at (table_of arch gs)) is tight;
-      narrow = subst (λ (gs : List Func). Narrow section (table_of arch gs)) is narrow;
-      kept_is = count_is ∙ ap length g.kept_are ∙ sym c.kept;
-      omitted_are = omitted_are ∙ ap (λ (fs : List Function). omitted_of (map entry_of (others_in fs))) g.sources_are;
-      plts_are = plts_are ∙ ap (λ (fs : List Function). map plt_span (filter is_plt fs)) g.sources_are;
+      linked = record {
+        functions = g.functions;
+        are = g.are;
+        arch = arch;
+        machine = machine;
+        sorted = g.sorted;
+        by_start = g.by_start;
+        accepted = accepted_by at g.sorted h.checked few (subst (λ (gs : List Func). first_out_of_reach at 0 gs ≡ None) is near);
+        is = subst (λ (gs : List Func). Section section at (table_of arch gs)) is section_is;
+        recovers = recovers_with_plts g.functions g.sorted g.by_start.moved h.apart;
+        walks = walks_with_plts (written_functions g.sorted) g.functions (recovers_with_plts g.functions g.sorted g.by_start.moved h.apart);
+        tight = subst (λ (gs : List Func). Tight section at (table_of arch gs)) is tight;
+        narrow = subst (λ (gs : List Func). Narrow section (table_of arch gs)) is narrow;
+        kept_is = count_is ∙ ap length g.kept_are ∙ sym c.kept;
+        omitted_are = omitted_are ∙ ap (λ (fs : List Function). omitted_of (map entry_of (others_in fs))) g.sources_are;
+        plts_are = plts_are ∙ ap (λ (fs : List Function). map plt_span (filter is_plt fs)) g.sources_are;
+      };
+      sources_are = g.sources_are;
     }
 
 -- ---- one result

@@ -66,6 +66,11 @@ pub record IsPltLinked (before : Option Arch) (objects : List Object) (at : ℕ)
   pub omitted_are : omitted ≡ omitted_of (map entry_of (others_in (omitted_functions sorted)))
   pub plts_are : plts ≡ map plt_span (plt_functions sorted)
 
+-- the same section, and these are the functions that SFrame can't express, as their records describe them
+pub record IsPltLinkedWith (before : Option Arch) (objects : List Object) (at : ℕ) (section : List ℕ) (kept : ℕ) (omitted : List Omitted) (plts : List Span) (sources : List Function) : Type 0 where
+  pub linked : IsPltLinked before objects at section kept omitted plts
+  pub sources_are : sources ≡ omitted_functions linked.sorted
+
 -- the fault is the first one, or memory ran out
 abbrev pub IsFirstPltLinked : (before : Option Arch) → List Object → (at : ℕ) → LinkFault → Type 0
 IsFirstPltLinked before objects at fault = (fault ≡ NoMemory) ⊎ LinksPlts before objects at (Err fault)

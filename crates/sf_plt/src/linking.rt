@@ -4,12 +4,12 @@ ghost use Rattle.std.specs.Prelude.{◌≡◌, ◌≤◌, ◌<◌, ◌^◌, All,
 ghost use Rattle.sf_model.specs.Section.{AreBytes};
 ghost use Rattle.sf_asm.specs.Fault.{is_answered};
 ghost use Rattle.sf_asm.specs.Functions.{object_of};
-ghost use Rattle.sf_plt.specs.Answers.{IsFirstPltLinked, IsPltLinked};
+ghost use Rattle.sf_plt.specs.Answers.{IsFirstPltLinked, IsPltLinked, IsPltLinkedWith};
 ghost use Rattle.sf_plt.specs.Linking.{wraps_gathering};
 
 use crate::limits::{Counts, check_tables, count_rows};
 use crate::sorting::sort_out;
-use sf_asm::{GatherFault, Input, LinkFault, WithSources, gather_with_sources};
+use sf_asm::{GatherFault, Input, LinkFault, Sources, WithSources, gather_with_sources};
 use sf_base::NoMemory;
 use sf_functions::sort_by_start;
 use sf_model::{Arch, Omitted, Span};
@@ -29,6 +29,15 @@ pub struct PltLinked {
     pub plts: Vec<Span>,
 }
 
+/// A section with what it holds, and the omitted functions as their records describe them.
+#[derive(Drop)]
+pub struct PltLinkedWithSources<'a> {
+    /// The section with what it holds.
+    pub linked: PltLinked,
+    /// The functions that SFrame can't express, by rising start. The procedure linkage tables are among them.
+    pub sources: Sources<'a>,
+}
+
 /// Converts a fault of gathering to one of linking. Out of memory has a fault of its own.
 fn not_gathered(fault: GatherFault) -> LinkFault
     ensures { result ≡ wraps_gathering fault }
@@ -39,26 +48,23 @@ fn not_gathered(fault: GatherFault) -> LinkFault
     }
 }
 
-/// Makes the SFrame section of 1 to 512 inputs, for the address `at`, as `sf_link::link` does, with two functions
-/// for each plain lazy procedure linkage table. `before` is the machine of an item before the inputs. If there is
-/// one, the inputs are numbered from 1 on, and otherwise from 0 on.
+/// Makes the section of 1 to 512 inputs as [`link_plt`] does, and lends the functions that SFrame can't express.
 ///
 /// # Errors
 ///
-/// The first fault of the first faulty input; then two machines, the limits of functions and rows, two functions
-/// that share an address, the limits with each table as one more function and as 4 rows, and a function that is
-/// written too far from the section, in this order; memory may run out at any time.
-pub fn link_plt(
+/// Those of [`link_plt`].
+pub fn link_plt_with_sources<'a>(
     alloc: Global,
-    inputs: &[Input<'_>],
+    inputs: &[Input<'a>],
     at: u64,
     before: Option<Arch>,
-) -> Result<PltLinked, LinkFault>
+) -> Result<PltLinkedWithSources<'a>, LinkFault>
     requires some { (0 < length inputs.now) × (length inputs.now ≤ 512) }
     requires small { All (λ input. length (object_of input).bytes < 2 ^ 32) inputs.now }
-    // The section is that of the inputs' kept functions and procedure linkage tables, and these are omitted.
-    ensures linked { IfOk result (λ linked. IsPltLinked before (map object_of inputs.now) at linked.section.items linked.kept linked.omitted.items linked.plts.items) }
-    ensures are_bytes { IfOk result (λ linked. AreBytes linked.section.items) }
+    // The section is that of the inputs' kept functions and procedure linkage tables, these are omitted, and the sources are
+    // the functions that SFrame can't express.
+    ensures linked { IfOk result (λ made. IsPltLinkedWith before (map object_of inputs.now) at made.linked.section.items made.linked.kept made.linked.omitted.items made.linked.plts.items made.sources.functions) }
+    ensures are_bytes { IfOk result (λ made. AreBytes made.linked.section.items) }
     // A fault is the first one.
     ensures fault { IfErr result (IsFirstPltLinked before (map object_of inputs.now) at) }
     ensures answered { IfErr result (λ fault. IsTrue (is_answered fault)) }
@@ -95,13 +101,43 @@ pub fn link_plt(
         Err(_) => return Err(LinkFault::NoMemory),
     }
     match write(alloc, arch, at, &sorted.written) {
-        Ok(section) => Ok(PltLinked {
-            section,
-            kept: count as u32,
-            omitted: sorted.omitted,
-            plts: sorted.plts,
+        Ok(section) => Ok(PltLinkedWithSources {
+            linked: PltLinked {
+                section,
+                kept: count as u32,
+                omitted: sorted.omitted,
+                plts: sorted.plts,
+            },
+            sources,
         }),
         Err(WriteFault::OutOfReach(start)) => Err(LinkFault::OutOfReach(start)),
         Err(WriteFault::NoMemory) => Err(LinkFault::NoMemory),
     }
+}
+
+/// Makes the SFrame section of 1 to 512 inputs, for the address `at`, as `sf_link::link` does, with two functions
+/// for each plain lazy procedure linkage table. `before` is the machine of an item before the inputs. If there is
+/// one, the inputs are numbered from 1 on, and otherwise from 0 on.
+///
+/// # Errors
+///
+/// The first fault of the first faulty input; then two machines, the limits of functions and rows, two functions
+/// that share an address, the limits with each table as one more function and as 4 rows, and a function that is
+/// written too far from the section, in this order; memory may run out at any time.
+pub fn link_plt(
+    alloc: Global,
+    inputs: &[Input<'_>],
+    at: u64,
+    before: Option<Arch>,
+) -> Result<PltLinked, LinkFault>
+    requires some { (0 < length inputs.now) × (length inputs.now ≤ 512) }
+    requires small { All (λ input. length (object_of input).bytes < 2 ^ 32) inputs.now }
+    // The section is that of the inputs' kept functions and procedure linkage tables, and these are omitted.
+    ensures linked { IfOk result (λ linked. IsPltLinked before (map object_of inputs.now) at linked.section.items linked.kept linked.omitted.items linked.plts.items) }
+    ensures are_bytes { IfOk result (λ linked. AreBytes linked.section.items) }
+    // A fault is the first one.
+    ensures fault { IfErr result (IsFirstPltLinked before (map object_of inputs.now) at) }
+    ensures answered { IfErr result (λ fault. IsTrue (is_answered fault)) }
+{
+    Ok(link_plt_with_sources(alloc, inputs, at, before)?.linked)
 }

@@ -14,8 +14,8 @@ use Rattle.sf_plt.specs.Written.{plt_pair, written_functions}
 use Rattle.sf_plt.proofs.Faults.{Made, counted, first_gathered, machine_of_lent, made, out_of_reach, over, plt_linked, ready, tables_counted}
 use Rattle.sf_plt.proofs.NeverMemory.{first_is_answered}
 use Rattle.sf_plt.proofs.Sorted.{are_omitted, lines_alone}
-use Rattle.sf_plt.proofs.linking.link_plt.Goals as goal
-use Rattle.sf_plt.proofs.linking.link_plt.Goals.{After-deref-3, After-len-tables}
+use Rattle.sf_plt.proofs.linking.link_plt_with_sources.Goals as goal
+use Rattle.sf_plt.proofs.linking.link_plt_with_sources.Goals.{After-deref-3, After-len-tables}
 
 pub returns-in-Err-clause-fault : goal.returns-in-Err-clause-fault
 returns-in-Err-clause-fault c =
