@@ -1,0 +1,18 @@
+//! The table of one file of a process: what SFrame expresses of its functions at the address at which the file was mapped,
+//! and the signal frames of the others (LSB Core, "The .eh_frame section"; GNU SFrame specification, Version 2).
+//!
+//! [`module_table`] links one ELF file as `sf_plt::link_plt_with_sources` does, and lists the signal frames of the functions
+//! that SFrame can't express. `IsModuleTable` of `specs/Table.antt` says what it returns: the section of `IsPltLinked`, and a
+//! signal frame of `IsSignalFrame` for each omitted function that has one, and for no other. A file without call frame
+//! information has a section without functions, and no signal frames.
+//!
+//! The caller owes a file of fewer than 2^32 bytes. The file is read once; the functions, the section and the list are
+//! allocated.
+//!
+//! No command uses this crate yet.
+#![tactic(auto)]
+
+mod signals;
+mod table;
+
+pub use table::{ModuleTable, module_table};

@@ -1,0 +1,57 @@
+//! The section and the signal frames of one file.
+
+ghost use Rattle.std.specs.Prelude.{◌≡◌, ◌<◌, ◌^◌, [], ◌∷◌, None, length, IfOk, IfErr, IsTrue};
+ghost use Rattle.sf_model.specs.Section.{AreBytes};
+ghost use Rattle.sf_asm.specs.Fault.{is_answered};
+ghost use Rattle.sf_plt.specs.Answers.{IsFirstPltLinked};
+ghost use Rattle.module_tables.specs.Table.{IsModuleTable, file_at};
+
+use crate::signals::signals_of;
+use sf_asm::{Input, InputBytes, LinkFault};
+use sf_base::NoMemory;
+use sf_lookup::Span;
+use sf_plt::link_plt_with_sources;
+use signal_frames::SignalFrame;
+use std::alloc::Global;
+
+/// The table of one file.
+#[derive(Drop)]
+pub struct ModuleTable {
+    /// Its SFrame section.
+    pub section: Vec<u8>,
+    /// The addresses of the functions that SFrame can't express with their signal frames, of those that have one.
+    pub signals: Vec<Span<SignalFrame>>,
+}
+
+/// Makes the table of an ELF file that was mapped `base` up, with a section for the address `at`.
+///
+/// # Errors
+///
+/// Those of `sf_plt::link_plt`, of the file as its only input.
+pub fn module_table(
+    alloc: Global,
+    file: &[u8],
+    base: u64,
+    at: u64,
+) -> Result<ModuleTable, LinkFault>
+    requires { length file.now < 2 ^ 32 }
+    // The section is that of the file's functions at the base, and the signal frames are those of the others.
+    ensures table { IfOk result (λ table. IsModuleTable file.now base at table.section.items table.signals.items) }
+    ensures are_bytes { IfOk result (λ table. AreBytes table.section.items) }
+    // A fault is the first one.
+    ensures fault { IfErr result (IsFirstPltLinked None (file_at file.now base ∷ []) at) }
+    ensures answered { IfErr result (λ fault. IsTrue (is_answered fault)) }
+{
+    let input = Input {
+        bytes: InputBytes::File(file),
+        base,
+    };
+    let made = link_plt_with_sources(alloc, &[input], at, None)?;
+    match signals_of(alloc, &made.sources) {
+        Ok(signals) => Ok(ModuleTable {
+            section: made.linked.section,
+            signals,
+        }),
+        Err(NoMemory) => Err(LinkFault::NoMemory),
+    }
+}
