@@ -4,8 +4,8 @@ use crate::same::same;
 use crate::samples::SIGNING;
 use sf_decode::View;
 use sf_fakes::MemSink;
-use sf_model::{Omission, Omitted, Origin, Reason, Span};
-use sf_text::{dump, put_name, report, report_plt};
+use sf_model::{Frame, Omission, Omitted, Origin, Reason, Span, Stop};
+use sf_text::{FileFrame, ShownFile, dump, file_frames_text, put_name, report, report_plt};
 use std::test::Fail;
 
 /// A name, and how it is shown.
@@ -99,6 +99,44 @@ func 0x1000 size 28 plain key b rows 5
   +8 cfa=sp+32 ra=c-24 fp=c-32 signed
   +20 cfa=sp+0 signed
   +24 cfa=sp+0
+";
+    same(&rt, &text.as_slice(), &expected.as_slice());
+    Ok(())
+}
+
+/// Returns a frame of a walk through the files of a process.
+fn frame<'n>(pc: u64, cfa: u64, file: Option<ShownFile<'n>>, is_signal: bool) -> FileFrame<'n> {
+    let cfa = Some(cfa);
+    FileFrame {
+        frame: Frame { pc, cfa },
+        file,
+        is_signal,
+    }
+}
+
+#[test]
+fn a_frame_has_its_file_with_the_address_there(rt: HostRuntime) -> Result<(), Fail> {
+    let libc = ShownFile {
+        name: "libc.so.6",
+        base: 0x7f01c0dbb000,
+    };
+    let program = ShownFile {
+        name: "a\nb",
+        base: 0,
+    };
+    let frames = [
+        frame(0x7f01c0de2a94, 0x7ffd0c11e5f0, Some(libc), false),
+        frame(0x7f01c0dbb000, 0x7ffd0c11e5f8, Some(libc), true),
+        frame(0x401136, 0x7ffd0c11e600, Some(program), false),
+        frame(0x10, 0x7ffd0c11e610, None, false),
+    ];
+    let text = file_frames_text(rt.alloc(), 1, 4711, &frames, Stop::Depth)?;
+    let expected = b"thread 1 pid 4711
+  #0 pc 0x7f01c0de2a94 cfa 0x7ffd0c11e5f0 libc.so.6+0x27a94
+  #1 pc 0x7f01c0dbb000 cfa 0x7ffd0c11e5f8 libc.so.6+0x0 signal
+  #2 pc 0x401136 cfa 0x7ffd0c11e600 a\\x0ab+0x401136
+  #3 pc 0x10 cfa 0x7ffd0c11e610
+  stop depth
 ";
     same(&rt, &text.as_slice(), &expected.as_slice());
     Ok(())
