@@ -1,12 +1,11 @@
 -- Where a file is loaded, as C has it (ELF64 gABI, "Program Header" and "Note Section").
-use Rattle.std.specs.Prelude.{ℕ, ◌<◌, ◌^◌, nat_lt, ◌&&◌, Bool, true, List, [], length, Option, Some, None, Result, Ok, Err, is_some, unwrap_or, if◌then◌else◌}
+use Rattle.std.specs.Prelude.{ℕ, ◌^◌, nat_lt, ◌&&◌, Bool, List, length, Some, Result, Ok, Err, is_some, unwrap_or, if◌then◌else◌}
 use Rattle.std.specs.Option.{option_map_or}
 use Rattle.sf_bytes.specs.Cursor.{Cursor}
 use Rattle.elf_read.specs.declared.fault.ElfFault.{ElfFault}
 use Rattle.elf_read.specs.FaultShown.{shown_of_elf}
 use Rattle.elf_load.specs.declared.fault.LoadFault.{LoadFault}
 use Rattle.elf_load.specs.declared.fault.LoadFault.TheVariants.{Elf, NotLoaded}
-use Rattle.elf_load.specs.declared.mapping.Mapping.{Mapping}
 use Rattle.elf_load.specs.Loading.{LoadingView, loading_of}
 use Rattle.sf_link_c.specs.declared.placing.KiblawenPlaced.{KiblawenPlaced}
 use Rattle.sf_link_c.specs.declared.refusals.KiblawenRefusal.{KiblawenRefusal}
