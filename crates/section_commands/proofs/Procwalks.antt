@@ -17,7 +17,8 @@ use Rattle.sf_modules.specs.Process.{ProcessView, process_of}
 use Rattle.sf_modules.specs.Union.{tables_of}
 use Rattle.sf_words.specs.declared.refusal.Refusal.{Refusal}
 use Rattle.sf_words.specs.declared.refusal.Refusal.TheVariants as refusal
-use Rattle.sf_words.specs.declared.loading.Loaded.{Loaded}
+use Rattle.sf_parts.specs.Read.{file_of}
+use Rattle.sf_words.specs.declared.loaded.Loaded.{Loaded}
 use Rattle.sf_words.specs.Loading.{bytes_limit, items_limit, loaded_bytes, loaded_items}
 use Rattle.sf_words.proofs.Loads.{goes_on, within_both}
 use Rattle.sf_words.specs.Items.{Core, Mapped}
@@ -76,12 +77,12 @@ all_short name core names items count h =
 
 -- the first file that was loaded, a core file, is short, and so are those after it
 pub loaded_short : (name : List ℕ) (names : List (List ℕ)) (loaded : List Loaded) (d : Loaded) → loaded_items loaded ≡ Core name ∷ map Mapped names → items_limit (Core name ∷ map Mapped names) (loaded_bytes loaded) ≡ None
-    → IsShort (get_or loaded 0 d).bytes.items × All IsShort (loaded_bytes (drop 1 loaded))
+    → IsShort (file_of (get_or loaded 0 d).read) × All IsShort (loaded_bytes (drop 1 loaded))
 loaded_short name names [] d h limit = let none : ⊥ = cc in absurd none
 loaded_short name names (l ∷ ls) d h limit =
     let later : loaded_items ls ≡ map Mapped names = cc in
-    let count : length (loaded_bytes ls) ≡ length names = length-map ls (λ (l : Loaded). l.bytes.items) ∙ as_many ls (map Mapped names) later ∙ length-map names Mapped in
-    all_short name l.bytes.items names (loaded_bytes ls) count limit
+    let count : length (loaded_bytes ls) ≡ length names = length-map ls (λ (l : Loaded). file_of l.read) ∙ as_many ls (map Mapped names) later ∙ length-map names Mapped in
+    all_short name (file_of l.read) names (loaded_bytes ls) count limit
 
 -- ---- what a core file and files come to
 pub fault_found : (check : Check) (fault : ModuleFault) → IsFaultOf check fault → (fault ≡ NoMemory) ⊎ (check ≡ Err fault)

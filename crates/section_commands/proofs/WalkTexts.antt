@@ -3,7 +3,8 @@ use Rattle.std.proofs.Common.{◌≡◌, ◌+◌, ◌++◌, ◌<◌, ◌^◌, �
 use Rattle.sf_model.specs.Walk.{Listing, ThreadState}
 use Rattle.core_notes.specs.declared.status.Thread.{Thread}
 use Rattle.core_walk.specs.Walk.{thread_state}
-use Rattle.sf_words.specs.declared.loading.Loaded.{Loaded}
+use Rattle.sf_parts.specs.Read.{file_of}
+use Rattle.sf_words.specs.declared.loaded.Loaded.{Loaded}
 use Rattle.sf_words.specs.Loading.{items_limit, loaded_bytes, loaded_items}
 use Rattle.sf_words.proofs.Loads.{goes_on, within_both}
 use Rattle.sf_words.specs.Items.{Core, Section}
@@ -37,8 +38,8 @@ core_short section core bytes file h =
 
 -- the second file of a walk that was loaded
 pub walk_short : (section : SectionWords) (core : List ℕ) (loaded : List Loaded) (d : Loaded) → loaded_items loaded ≡ Section section ∷ Core core ∷ [] → items_limit (Section section ∷ Core core ∷ []) (loaded_bytes loaded) ≡ None
-    → length (get_or loaded 1 d).bytes.items < 2 ^ 32
+    → length (file_of (get_or loaded 1 d).read) < 2 ^ 32
 walk_short section core [] d h limit = let none : ⊥ = cc in absurd none
 walk_short section core (a ∷ []) d h limit = let none : ⊥ = cc in absurd none
-walk_short section core (a ∷ b ∷ []) d h limit = core_short section core a.bytes.items b.bytes.items limit
+walk_short section core (a ∷ b ∷ []) d h limit = core_short section core (file_of a.read) (file_of b.read) limit
 walk_short section core (a ∷ b ∷ c ∷ ls) d h limit = let none : ⊥ = cc in absurd none

@@ -74,7 +74,7 @@ impl<'a> Dump<'a> {
         ensures comes { ComesTo (DumpComes (dump_of self.now) (loaded_bytes loaded.now)) result }
     {
         match loaded {
-            [section] => dumped(&section.bytes, self.section.at),
+            [section] => dumped(section.bytes(), self.section.at),
             _ => unreachable!(),
         }
     }

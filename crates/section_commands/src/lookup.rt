@@ -91,7 +91,7 @@ impl<'a> Lookup<'a> {
         ensures comes { ComesTo (LookupComes (lookup_of self.now) (loaded_bytes loaded.now)) result }
     {
         match loaded {
-            [section] => looked_up(alloc, &section.bytes, self.section.at, self.pc),
+            [section] => looked_up(alloc, section.bytes(), self.section.at, self.pc),
             _ => unreachable!(),
         }
     }

@@ -63,7 +63,7 @@ fn views_of<'a, 'm>(
             unreachable!();
         };
         let item = views.len() as u32;
-        match View::parse(&file.bytes, section.at) {
+        match View::parse(file.bytes(), section.at) {
             Ok(view) => views.push(view)?,
             Err(fault) => return Err(undecoded(fault, item)),
         }

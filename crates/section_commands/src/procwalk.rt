@@ -81,7 +81,7 @@ fn modules_of<'a, 'p, 'm>(
         };
         let item = modules.len() as u32 + 1;
         let word = name.as_bytes();
-        let bytes = file.bytes.as_slice();
+        let bytes = file.bytes();
         match read_module_once(process, &read, word, bytes) {
             Ok(module) => {
                 modules.push(module)?;
@@ -265,7 +265,7 @@ impl<'a> Procwalk<'a> {
     {
         match loaded {
             [core, files @ ..] => {
-                procwalk_made(alloc, &core.bytes, self.depth, self.files, files)
+                procwalk_made(alloc, core.bytes(), self.depth, self.files, files)
             }
             _ => unreachable!(),
         }

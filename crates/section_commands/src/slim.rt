@@ -103,7 +103,7 @@ impl<'a> Slim<'a> {
         ensures comes { ComesTo (SlimComes (slim_of self.now) (loaded_bytes loaded.now)) result }
     {
         match loaded {
-            [section] => slim_made(alloc, &section.bytes, self.section.at, self.out.at),
+            [section] => slim_made(alloc, section.bytes(), self.section.at, self.out.at),
             _ => unreachable!(),
         }
     }

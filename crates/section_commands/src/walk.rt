@@ -110,9 +110,9 @@ impl<'a> Walk<'a> {
             [section, core] => {
                 walk_made(
                     alloc,
-                    &section.bytes,
+                    section.bytes(),
                     self.section.at,
-                    &core.bytes,
+                    core.bytes(),
                     self.depth,
                 )
             }

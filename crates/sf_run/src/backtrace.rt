@@ -104,7 +104,7 @@ impl<'a> Backtrace<'a> {
         let [core, inputs @ ..] = loaded else {
             unreachable!()
         };
-        let core = match Core::parse(&core.bytes) {
+        let core = match Core::parse(core.bytes()) {
             Ok(core) => core,
             Err(fault) => return Err(unread_core(&fault, 0)),
         };

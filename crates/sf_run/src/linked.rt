@@ -1,11 +1,12 @@
 //! What the commands that link share: the inputs of loaded items, and the refusal that a fault is.
 
 ghost use Rattle.std.specs.Prelude.{◌≡◌, List, IfOk, IsTrue, map};
+ghost use Rattle.sf_parts.specs.Read.{file_of};
 ghost use Rattle.sf_asm.specs.Fault.{is_answered};
-ghost use Rattle.sf_asm.specs.Functions.{object_of};
-ghost use Rattle.sf_words.specs.Items.{Input as InputItem};
+ghost use Rattle.sf_asm.specs.Functions.{bytes_of, form_of, object_of};
+ghost use Rattle.sf_words.specs.Items.{Input as InputItem, item_of};
 ghost use Rattle.sf_words.specs.Loading.{loaded_bytes, loaded_items};
-ghost use Rattle.sf_words.specs.Words.{InputWords};
+ghost use Rattle.sf_words.specs.Words.{InputWords, input_of};
 ghost use Rattle.section_commands.specs.Coming.{Coming};
 ghost use Rattle.section_commands.specs.Making.{ComesAs};
 ghost use Rattle.sf_run.specs.Inputs.{objects_in};
@@ -13,7 +14,8 @@ ghost use Rattle.sf_run.specs.Linked.{coming_of_linking};
 
 use sf_asm::{GatherFault, Input, InputBytes, LinkFault};
 use sf_base::NoMemory;
-use sf_words::{Item, Limit, Loaded, Refusal};
+use sf_parts::FileRead;
+use sf_words::{InputFile, Item, Limit, Loaded, Refusal};
 use std::alloc::Global;
 
 /// Returns why inputs were not linked, as a refusal of the run.
@@ -33,6 +35,18 @@ pub fn unlinked<'a>(fault: &LinkFault) -> Refusal<'a>
     }
 }
 
+/// Returns the bytes of a loaded input, as it was read.
+fn input_bytes<'b>(input: InputFile<'_>, file: &'b Loaded<'_>) -> InputBytes<'b>
+    requires { item_of file.now.item ≡ InputItem (input_of input) }
+    ensures form { form_of result ≡ input.entry.form }
+    ensures bytes { bytes_of result ≡ file_of file.now.read }
+{
+    match &file.read {
+        FileRead::Linked(elf) => InputBytes::Linked(elf),
+        FileRead::Whole(bytes) => InputBytes::whole(input.form, bytes),
+    }
+}
+
 /// Returns the inputs that were loaded, in order.
 pub fn inputs_in<'b>(alloc: Global, loaded: &'b [Loaded<'_>]) -> Result<Vec<Input<'b>>, NoMemory>
     requires { (inputs : List InputWords) × (loaded_items loaded.now ≡ map InputItem inputs) }
@@ -44,7 +58,7 @@ pub fn inputs_in<'b>(alloc: Global, loaded: &'b [Loaded<'_>]) -> Result<Vec<Inpu
             unreachable!()
         };
         inputs.push(Input {
-            bytes: InputBytes::whole(input.form, &file.bytes),
+            bytes: input_bytes(input, file),
             base: input.base,
         })?;
     }

@@ -79,7 +79,7 @@ pub fn make<'a, 'm>(
     let [section, inputs @ ..] = loaded else {
         unreachable!()
     };
-    let view = match View::parse(&section.bytes, named.section.at) {
+    let view = match View::parse(section.bytes(), named.section.at) {
         Ok(view) => view,
         Err(fault) => return Err(undecoded(fault, 0)),
     };

@@ -2,3 +2,4 @@ pub mod NamedWords
 pub mod Loads
 pub mod Limits
 pub mod ItemLists
+pub mod WholeFiles

@@ -8,9 +8,10 @@ use lib.Seq.{take-length}
 use Rattle.sf_base.specs.Contents.{contents_of}
 use Rattle.sf_base.specs.declared.loading.LoadFault.{LoadFault}
 use Rattle.sf_base.specs.declared.loading.LoadFault.TheVariants as load
+use Rattle.sf_parts.specs.Read.{file_of}
 use Rattle.sf_words.specs.declared.item.Item.{Item}
 use Rattle.std.specs.List.{zip}
-use Rattle.sf_words.specs.declared.loading.Loaded.{Loaded}
+use Rattle.sf_words.specs.declared.loaded.Loaded.{Loaded}
 use Rattle.sf_words.specs.Items.{ItemWords, counted_bytes, item_of, limit_of, name_of, names_of}
 use Rattle.std.proofs.Math.ListN.{get_or-map}
 use Rattle.sf_words.specs.declared.refusal.Limit.{Limit}
@@ -223,8 +224,8 @@ names_failed failed (load.TooLong limit) item name refused is named = subst (Nam
 names_failed failed load.NoMemory item name refused is named = subst (NamesFailed failed) (sym is) tt
 
 -- one file more
-pub loaded_push : (before after : List Loaded) (file : Loaded) → after ≡ before ++ file ∷ [] → loaded_bytes after ≡ loaded_bytes before ++ file.bytes.items ∷ []
-loaded_push before after file h = ap loaded_bytes h ∙ map_push (λ (l : Loaded). l.bytes.items) before file
+pub loaded_push : (before after : List Loaded) (file : Loaded) → after ≡ before ++ file ∷ [] → loaded_bytes after ≡ loaded_bytes before ++ file_of file.read ∷ []
+loaded_push before after file h = ap loaded_bytes h ∙ map_push (λ (l : Loaded). file_of l.read) before file
 
 items_push : (before after : List Loaded) (file : Loaded) → after ≡ before ++ file ∷ [] → loaded_items after ≡ loaded_items before ++ item_of file.item ∷ []
 items_push before after file h = ap loaded_items h ∙ map_push (λ (l : Loaded). item_of l.item) before file
@@ -241,46 +242,47 @@ items_on items k d before after file lt is grown h =
 item_at : (items : List Item) (k : ℕ) (d : Item) → get_or (map item_of items) k (item_of d) ≡ item_of (get_or items k d)
 item_at items k d = get_or-map item_of items k d
 
-limit_at : (items : List Item) (k : ℕ) (d : Item) (own : ℕ) → own ≡ limit_of (item_of (get_or items k d)) → own ≡ limit_of (get_or (map item_of items) k (item_of d))
-limit_at items k d own e = e ∙ ap (λ (i : ItemWords). limit_of i) (sym (item_at items k d))
+-- a file within the limit of its item
+short_at : (items : List Item) (k : ℕ) (d : Item) (bytes : List ℕ) → length bytes ≤ limit_of (item_of (get_or items k d)) → length bytes ≤ limit_of (get_or (map item_of items) k (item_of d))
+short_at items k d bytes short = subst (λ (i : ItemWords). length bytes ≤ limit_of i) (sym (item_at items k d)) short
 
 counted_at : (items : List Item) (k : ℕ) (d : Item) (bytes : List ℕ) (n counted : ℕ) → n ≡ length bytes → counted ≡ counted_bytes (item_of (get_or items k d)) n
     → counted ≡ counted_bytes (get_or (map item_of items) k (item_of d)) (length bytes)
 counted_at items k d bytes n counted length_is e =
     e ∙ ap (λ (m : ℕ). counted_bytes (item_of (get_or items k d)) m) length_is ∙ ap (λ (i : ItemWords). counted_bytes i (length bytes)) (sym (item_at items k d))
 
-known_at : (contents before : Contents) (items : List Item) (k : ℕ) (d : Item) (name bytes : List ℕ) → before ≡ contents → name ≡ name_of (item_of (get_or items k d)) → IfSome before (λ known. bytes ≡ contents_of known name)
+known_at : (contents before : Contents) (items : List Item) (k : ℕ) (d : Item) (bytes : List ℕ) → before ≡ contents → IfSome before (λ known. bytes ≡ contents_of known (name_of (item_of (get_or items k d))))
     → IfSome contents (λ known. bytes ≡ contents_of known (name_of (get_or (map item_of items) k (item_of d))))
-known_at contents before items k d name bytes same is are =
-    subst (λ (n : List ℕ). IfSome contents (λ known. bytes ≡ contents_of known n)) (is ∙ ap name_of (sym (item_at items k d)))
-    (subst (λ (o : Contents). IfSome o (λ known. bytes ≡ contents_of known name)) same are)
+known_at contents before items k d bytes same are =
+    subst (λ (i : ItemWords). IfSome contents (λ known. bytes ≡ contents_of known (name_of i))) (sym (item_at items k d))
+    (subst (λ (o : Contents). IfSome o (λ known. bytes ≡ contents_of known (name_of (item_of (get_or items k d))))) same are)
 
-pub go_on_at : (contents before : Contents) (items : List Item) (k : ℕ) (d : Item) (name : List ℕ) (loaded : List (List ℕ)) (total : ℕ) (bytes : List ℕ) (own n counted : ℕ) → before ≡ contents
-    → name ≡ name_of (item_of (get_or items k d)) → Begun contents (map item_of items) k loaded total → k < length (map item_of items) → own ≡ limit_of (item_of (get_or items k d)) → length bytes ≤ own → n ≡ length bytes
-    → counted ≡ counted_bytes (item_of (get_or items k d)) n → total + counted ≤ 2 ^ 30 → IfSome before (λ known. bytes ≡ contents_of known name)
+pub go_on_at : (contents before : Contents) (items : List Item) (k : ℕ) (d : Item) (loaded : List (List ℕ)) (total : ℕ) (bytes : List ℕ) (n counted : ℕ) → before ≡ contents
+    → Begun contents (map item_of items) k loaded total → k < length (map item_of items) → length bytes ≤ limit_of (item_of (get_or items k d)) → n ≡ length bytes
+    → counted ≡ counted_bytes (item_of (get_or items k d)) n → total + counted ≤ 2 ^ 30 → IfSome before (λ known. bytes ≡ contents_of known (name_of (item_of (get_or items k d))))
     → Begun contents (map item_of items) (k + 1) (loaded ++ bytes ∷ []) (total + counted)
-go_on_at contents before items k d name loaded total bytes own n counted same is h lt own_is short length_is counted_is few are =
+go_on_at contents before items k d loaded total bytes n counted same h lt short length_is counted_is few are =
     let all = counted_at items k d bytes n counted length_is counted_is in
     subst (λ (m : ℕ). Begun contents (map item_of items) (k + 1) (loaded ++ bytes ∷ []) (total + m)) (sym all)
-    (go_on contents (map item_of items) k (item_of d) loaded total bytes h lt (subst (λ (m : ℕ). length bytes ≤ m) (limit_at items k d own own_is) short)
-    (subst (λ (m : ℕ). total + m ≤ 2 ^ 30) all few) (known_at contents before items k d name bytes same is are))
+    (go_on contents (map item_of items) k (item_of d) loaded total bytes h lt (short_at items k d bytes short)
+    (subst (λ (m : ℕ). total + m ≤ 2 ^ 30) all few) (known_at contents before items k d bytes same are))
 
-pub long_in_all_at : (contents before : Contents) (items : List Item) (k : ℕ) (d : Item) (name : List ℕ) (loaded : List (List ℕ)) (total : ℕ) (bytes : List ℕ) (own n counted : ℕ) → before ≡ contents
-    → name ≡ name_of (item_of (get_or items k d)) → Begun contents (map item_of items) k loaded total → k < length (map item_of items) → own ≡ limit_of (item_of (get_or items k d)) → length bytes ≤ own → n ≡ length bytes
-    → counted ≡ counted_bytes (item_of (get_or items k d)) n → 2 ^ 30 < total + counted → IfSome before (λ known. bytes ≡ contents_of known name)
+pub long_in_all_at : (contents before : Contents) (items : List Item) (k : ℕ) (d : Item) (loaded : List (List ℕ)) (total : ℕ) (bytes : List ℕ) (n counted : ℕ) → before ≡ contents
+    → Begun contents (map item_of items) k loaded total → k < length (map item_of items) → length bytes ≤ limit_of (item_of (get_or items k d)) → n ≡ length bytes
+    → counted ≡ counted_bytes (item_of (get_or items k d)) n → 2 ^ 30 < total + counted → IfSome before (λ known. bytes ≡ contents_of known (name_of (item_of (get_or items k d))))
     → Exceeds contents (map item_of items) Total
-long_in_all_at contents before items k d name loaded total bytes own n counted same is h lt own_is short length_is counted_is much are =
-    long_in_all contents (map item_of items) k (item_of d) loaded total bytes h lt (subst (λ (m : ℕ). length bytes ≤ m) (limit_at items k d own own_is) short)
-    (subst (λ (m : ℕ). 2 ^ 30 < total + m) (counted_at items k d bytes n counted length_is counted_is) much) (known_at contents before items k d name bytes same is are)
+long_in_all_at contents before items k d loaded total bytes n counted same h lt short length_is counted_is much are =
+    long_in_all contents (map item_of items) k (item_of d) loaded total bytes h lt (short_at items k d bytes short)
+    (subst (λ (m : ℕ). 2 ^ 30 < total + m) (counted_at items k d bytes n counted length_is counted_is) much) (known_at contents before items k d bytes same are)
 
-pub load_refuses_at : (contents before : Contents) (items : List Item) (k number : ℕ) (d : Item) (name : List ℕ) (loaded : List (List ℕ)) (total own : ℕ) (fault : LoadFault) (refused : Refusal) → before ≡ contents
-    → name ≡ name_of (item_of (get_or items k d)) → Begun contents (map item_of items) k loaded total → k < length (map item_of items) → number ≡ k → own ≡ limit_of (item_of (get_or items k d)) → IsLoadRefusal fault number name refused
-    → ((limit : ℕ) → fault ≡ load.TooLong limit → IfSome before (λ known. own < length (contents_of known name))) → IsLoadingRefusal contents (map item_of items) refused
-load_refuses_at contents before items k number d name loaded total own fault refused same named h lt is own_is refuses long =
-    let at_name : name ≡ name_of (get_or (map item_of items) k (item_of d)) = named ∙ ap name_of (sym (item_at items k d)) in
+pub load_refuses_at : (contents before : Contents) (items : List Item) (k number : ℕ) (d : Item) (loaded : List (List ℕ)) (total : ℕ) (fault : LoadFault) (refused : Refusal) → before ≡ contents
+    → Begun contents (map item_of items) k loaded total → k < length (map item_of items) → number ≡ k → IsLoadRefusal fault number (name_of (item_of (get_or items k d))) refused
+    → ((limit : ℕ) → fault ≡ load.TooLong limit → IfSome before (λ known. limit_of (item_of (get_or items k d)) < length (contents_of known (name_of (item_of (get_or items k d))))))
+    → IsLoadingRefusal contents (map item_of items) refused
+load_refuses_at contents before items k number d loaded total fault refused same h lt is refuses long =
+    let own = item_of (get_or items k d) in
     load_refuses contents (map item_of items) k number (item_of d) loaded total fault refused h lt is
-    (subst (λ (n : List ℕ). IsLoadRefusal fault number n refused) at_name refuses)
+    (subst (λ (i : ItemWords). IsLoadRefusal fault number (name_of i) refused) (sym (item_at items k d)) refuses)
     (λ limit e.
-    subst (λ (n : List ℕ). IfSome contents (λ known. limit_of (get_or (map item_of items) k (item_of d)) < length (contents_of known n))) at_name
-    (subst (λ (m : ℕ). IfSome contents (λ known. m < length (contents_of known name))) (limit_at items k d own own_is)
-    (subst (λ (o : Contents). IfSome o (λ known. own < length (contents_of known name))) same (long limit e))))
+    subst (λ (i : ItemWords). IfSome contents (λ known. limit_of i < length (contents_of known (name_of i)))) (sym (item_at items k d))
+    (subst (λ (o : Contents). IfSome o (λ known. limit_of own < length (contents_of known (name_of own)))) same (long limit e)))

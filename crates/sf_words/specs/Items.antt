@@ -1,5 +1,9 @@
--- The files that a command reads, each of a kind, and the limits of each kind.
-use Rattle.std.specs.Prelude.{◌^◌, ℕ, List, map}
+-- The files that a command reads, each of a kind, the limits of each kind, and which may be read by parts.
+use Rattle.std.specs.Prelude.{◌^◌, ℕ, Bool, true, false, List, map}
+use Rattle.sf_model.specs.declared.form.Form.{Form}
+use Rattle.sf_model.specs.declared.form.Form.TheVariants.{Elf, Bare}
+use Rattle.sf_parts.specs.declared.file_read.FileRead.{FileRead}
+use Rattle.sf_parts.specs.declared.file_read.FileRead.TheVariants.{Linked, Whole}
 use Rattle.sf_words.specs.declared.item.Item.{Item}
 use Rattle.sf_words.specs.declared.item.Item.TheVariants as item
 use Rattle.sf_words.specs.Words.{InputWords, SectionWords, input_of, words_of_section}
@@ -38,6 +42,25 @@ counted_bytes (Section section) bytes = bytes
 counted_bytes (Core name) bytes = 0
 counted_bytes (Mapped name) bytes = bytes
 
+-- ---- what is read of a file
+-- whether an input is an ELF file, and no bare section
+abbrev pub is_elf : Form → Bool
+is_elf Elf = true
+is_elf (Bare arch) = false
+
+-- whether a file is linked as an ELF file
+abbrev pub is_elf_input : ItemWords → Bool
+is_elf_input (Input input) = is_elf input.form
+is_elf_input (Section section) = false
+is_elf_input (Core name) = false
+is_elf_input (Mapped name) = false
+
+-- whether a file of this kind may be read so: by its parts only if it is linked as an ELF file
+abbrev pub suits : ItemWords → FileRead → Bool
+suits item (Linked elf) = is_elf_input item
+suits item (Whole bytes) = true
+
+-- ---- lists of files
 -- the names of these files
 abbrev pub names_of : List ItemWords → List (List ℕ)
 names_of items = map name_of items

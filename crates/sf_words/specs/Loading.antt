@@ -4,7 +4,8 @@ use Rattle.std.specs.List.{zip}
 use Rattle.sf_base.specs.Contents.{contents_of}
 use Rattle.sf_base.specs.declared.loading.LoadFault.{LoadFault}
 use Rattle.sf_base.specs.declared.loading.LoadFault.TheVariants as load
-use Rattle.sf_words.specs.declared.loading.Loaded.{Loaded}
+use Rattle.sf_parts.specs.Read.{file_of}
+use Rattle.sf_words.specs.declared.loaded.Loaded.{Loaded}
 use Rattle.sf_words.specs.Files.{FilesWords, counted_items, items_of}
 use Rattle.sf_words.specs.Items.{ItemWords, counted_bytes, item_of, limit_of, name_of, names_of}
 use Rattle.sf_words.specs.declared.refusal.Limit.{Limit}
@@ -53,12 +54,12 @@ pub record Exceeds (contents : Contents) (items : List ItemWords) (limit : Limit
   pub bytes : AreBytesOf contents items files
   pub first : items_limit items files ≡ Some limit
 
--- what was loaded: the items, and the bytes of each
+-- what was loaded: the items, and all bytes of the file of each
 abbrev pub loaded_items : List Loaded → List ItemWords
 loaded_items loaded = map (λ (file : Loaded). item_of file.item) loaded
 
 abbrev pub loaded_bytes : List Loaded → List (List ℕ)
-loaded_bytes loaded = map (λ (file : Loaded). file.bytes.items) loaded
+loaded_bytes loaded = map (λ (file : Loaded). file_of file.read) loaded
 
 -- ---- refusals
 -- Inside the crate: an item of this name could not be read

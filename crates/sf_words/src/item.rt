@@ -1,9 +1,11 @@
 //! The files that a command reads, each of a kind with its own limits.
 
 ghost use Rattle.std.specs.Prelude.{◌≡◌};
+ghost use Rattle.sf_words.specs.Items as spec;
 ghost use Rattle.sf_words.specs.Items.{counted_bytes, item_of, limit_of, name_of};
 
 use crate::words::{InputFile, SectionFile};
+use sf_model::Form;
 
 /// A file that a command reads, by what it is to the command.
 #[derive(Clone, Copy)]
@@ -38,6 +40,19 @@ impl<'a> Item<'a> {
             Item::Input(_) | Item::Mapped(_) => 1 << 28,
             Item::Section(_) => 1 << 29,
             Item::Core(_) => 1 << 30,
+        }
+    }
+
+    /// Returns whether the file is linked as an ELF file.
+    pub fn is_elf_input(&self) -> bool
+        ensures { result ≡ spec.is_elf_input (item_of self.now) }
+    {
+        match self {
+            Item::Input(input) => match input.form {
+                Form::Elf => true,
+                Form::Bare(_) => false,
+            },
+            Item::Section(_) | Item::Core(_) | Item::Mapped(_) => false,
         }
     }
 

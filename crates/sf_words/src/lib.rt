@@ -12,6 +12,7 @@ mod files;
 mod forms;
 mod item;
 mod lists;
+mod loaded;
 mod loading;
 mod named;
 mod refusal;
@@ -24,7 +25,8 @@ pub use forms::{
 };
 pub use item::Item;
 pub use lists::are_named;
-pub use loading::{Loaded, load_all};
+pub use loaded::Loaded;
+pub use loading::load_all;
 pub use named::{NamedInputs, NamedSections};
 pub use refusal::{Limit, Refusal};
 pub use words::{InputFile, SectionFile, input_file, section_file};

@@ -1,37 +1,61 @@
 //! Loading the files that a command reads.
 
-ghost use Rattle.std.specs.Prelude.{◌≡◌, ◌<◌, ◌≤◌, ◌^◌, All, map, length, IsTrue, IfOk, IfErr, OnOk};
+ghost use Rattle.std.specs.Prelude.{◌≡◌, ◌<◌, ◌≤◌, ◌^◌, ℕ, All, map, length, IsTrue, IfOk, IfErr, IfSome, IsErrOf, OnOk};
+ghost use Rattle.sf_base.specs.Contents.{contents_of};
 ghost use Rattle.sf_base.specs.Faults.{Rose};
 ghost use Rattle.sf_base.specs.Seen.{OnlyReads};
+ghost use Rattle.sf_base.specs.declared.loading.LoadFault.TheVariants.{Read, TooLong};
+ghost use Rattle.sf_parts.specs.Read.{file_of};
 ghost use Rattle.sf_words.specs.Files.{counted_items, files_of, item_names, items_of};
-ghost use Rattle.sf_words.specs.Items.{item_of, name_of};
+ghost use Rattle.sf_words.specs.Items.{item_of, limit_of, name_of, suits};
 ghost use Rattle.sf_words.specs.Loading.{AreLoaded, IsLoadRefusal, IsLoadingRefusal, IsRead, NamesFailed, loaded_bytes, loaded_items};
 
 use crate::files::{CommandFiles, items};
 use crate::item::Item;
+use crate::loaded::Loaded;
 use crate::refusal::{Limit, Refusal};
 use sf_base::{Files, LoadFault, load};
+use sf_parts::{FileRead, load_parts};
 use std::alloc::Global;
 
 /// The most bytes of all files of one run, without cores.
 const TOTAL_LIMIT: u64 = 1 << 30;
 
-/// A file that was loaded.
-#[derive(Drop)]
-pub struct Loaded<'a> {
-    pub item: Item<'a>,
-    pub bytes: Vec<u8>,
-}
-
-/// Returns why an item was not loaded, as a refusal of the run.
-fn not_loaded<'a>(fault: LoadFault, item: u32, name: &'a str) -> Refusal<'a>
-    ensures { IsLoadRefusal fault item name.now result }
+/// Returns why the item of this number was not loaded, as a refusal of the run.
+fn not_loaded<'a>(fault: LoadFault, number: u32, item: &Item<'a>) -> Refusal<'a>
+    ensures { IsLoadRefusal fault number (name_of (item_of item.now)) result }
 {
     match fault {
-        LoadFault::Read => Refusal::Read(name),
-        LoadFault::TooLong(_) => Refusal::Limit(Limit::File(item)),
+        LoadFault::Read => Refusal::Read(item.name()),
+        LoadFault::TooLong(_) => Refusal::Limit(Limit::File(number)),
         LoadFault::NoMemory => Refusal::Memory,
     }
+}
+
+/// Loads the file of an item: of an ELF file that is linked the parts that are needed, if it is clear that they are
+/// enough, and else the whole.
+fn load_item<F: Files>(alloc: Global, files: &mut F, item: &Item<'_>) -> Result<FileRead, LoadFault>
+    requires { IsTrue (F.may_open files.old (name_of (item_of item.now))) }
+    ensures file { IfOk result (λ read. IfSome ((F.seen files.old).contents) (λ known.
+        file_of read ≡ contents_of known (name_of (item_of item.now)))) }
+    ensures within { IfOk result (λ read. length (file_of read) ≤ limit_of (item_of item.now)) }
+    ensures suits { IfOk result (λ read. IsTrue (suits (item_of item.now) read)) }
+    ensures read { IsErrOf result LoadFault.Read →
+        Rose ((F.seen files.old).read_faults) ((F.seen files.new).read_faults) }
+    ensures failed_name { IsErrOf result LoadFault.Read →
+        IfSome ((F.seen files.new).failed_name) (λ failed. failed ≡ name_of (item_of item.now)) }
+    ensures longer { (n : ℕ) → IsErrOf result (LoadFault.TooLong n) → IfSome ((F.seen files.old).contents) (λ known.
+        limit_of (item_of item.now) < length (contents_of known (name_of (item_of item.now)))) }
+    ensures may_open { F.may_open files.new ≡ F.may_open files.old }
+    ensures may_create { F.may_create files.new ≡ F.may_create files.old }
+    ensures reads { OnlyReads (F.seen files.old) (F.seen files.new) }
+    ensures same { OnOk result (F.seen files.new ≡ F.seen files.old) }
+{
+    let (name, limit) = (item.name(), item.limit());
+    if item.is_elf_input() {
+        return load_parts(alloc, files, name, limit);
+    }
+    Ok(FileRead::Whole(load(alloc, files, name, limit)?))
 }
 
 /// Loads the items in order.
@@ -55,16 +79,15 @@ fn load_items<'a, F: Files>(
     let mut total = 0u64;
     for item in items {
         let number = loaded.len() as u32;
-        let name = item.name();
-        let bytes = match load(alloc, files, name, item.limit()) {
-            Ok(bytes) => bytes,
-            Err(fault) => return Err(not_loaded(fault, number, name)),
+        let read = match load_item(alloc, files, item) {
+            Ok(read) => read,
+            Err(fault) => return Err(not_loaded(fault, number, item)),
         };
-        total += item.counted(bytes.len() as u64);
+        total += item.counted(read.len());
         if total > TOTAL_LIMIT {
             return Err(Refusal::Limit(Limit::Total));
         }
-        loaded.push(Loaded { item: *item, bytes })?;
+        loaded.push(Loaded { item: *item, read })?;
     }
     Ok(loaded)
 }

@@ -1,6 +1,6 @@
 use Rattle.std.proofs.Common.{map, ap, ◌∙◌, arith}
 use Rattle.std.proofs.lemmas.List.{take_all}
-use Rattle.sf_words.specs.declared.loading.Loaded.{Loaded}
+use Rattle.sf_words.specs.declared.loaded.Loaded.{Loaded}
 use Rattle.sf_words.specs.Items.{item_of}
 use Rattle.sf_run.proofs.Inputs.{input_at, loaded_object, loaded_objects, not_input}
 use Rattle.sf_run.proofs.linked.inputs_in.Goals as goal

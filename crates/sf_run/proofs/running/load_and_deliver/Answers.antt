@@ -1,6 +1,6 @@
 use Rattle.std.specs.Prelude.{IsTrue}
 use Rattle.std.proofs.Common.{ℕ, ◌≤◌, List, All, Ok, Err, refl, ap, sym, subst, ◌∙◌}
-use Rattle.sf_words.specs.declared.loading.Loaded.{Loaded}
+use Rattle.sf_words.specs.declared.loaded.Loaded.{Loaded}
 use Rattle.sf_words.specs.Files.{FilesWords, counted_items, item_names, items_of}
 use Rattle.sf_words.specs.Loading.{AreLoaded, IsLoadingRefusal, loaded_bytes, loaded_items}
 use Rattle.sf_words.proofs.Limits.{few_limit}

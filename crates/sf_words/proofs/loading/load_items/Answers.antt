@@ -2,7 +2,8 @@ use Rattle.std.proofs.Common.{◌≡◌, ◌≤◌, ◌<◌, ◌^◌, ◌+◌, �
 use Rattle.std.proofs.lemmas.List.{length-map}
 use lib.Seq.{take-length}
 use Rattle.sf_base.specs.Seen.{FilesSeen}
-use Rattle.sf_words.specs.declared.loading.Loaded.{Loaded}
+use Rattle.sf_parts.specs.Read.{file_of}
+use Rattle.sf_words.specs.declared.loaded.Loaded.{Loaded}
 use Rattle.sf_words.specs.Items.{item_of}
 use Rattle.sf_words.specs.Loading.{loaded_bytes, loaded_items}
 use Rattle.sf_words.proofs.Loads.{Begun, begin, go_on_at, all_loaded, long_in_all_at, load_refuses_at, items_on, loaded_push, names_failed}
@@ -22,36 +23,29 @@ loop-item-init g c = record {
 pub returns-in-Err-clause-refused : goal.returns-in-Err-clause-refused
 returns-in-Err-clause-refused g c =
     let lt : c.loop-item.item-index < length (map item_of c.args.items.now) = subst (λ (n : ℕ). c.loop-item.item-index < n) (sym (length-map c.args.items.now item_of)) (omega arith) in
-    let name = c.name-name.ensures in
-    let count = length-map c.loop-item.loaded.items (λ (l : Loaded). l.bytes.items) in
+    let count = length-map c.loop-item.loaded.items (λ (l : Loaded). file_of l.read) in
     let number : c.len-number.result ≡ c.loop-item.item-index = omega (arith, c.len-number.ensures, c.loop-item.loaded.ok.0, count, c.loop-item.invariant.begun.count) in
-    load_refuses_at _ _ c.args.items.now c.loop-item.item-index c.len-number.result _ c.name-name.result.now (loaded_bytes c.loop-item.loaded.items) c.loop-item.total c.limit.result c.in-Err.fault c.not_loaded.result
-    (ap (λ (f : FilesSeen). f.contents) c.loop-item.invariant.same) name c.loop-item.invariant.begun lt number c.limit.ensures c.not_loaded.ensures
-    (λ limit e. c.load.ensures.longer limit (c.in-Err.is ∙ ap Err e))
+    load_refuses_at _ _ c.args.items.now c.loop-item.item-index c.len-number.result _ (loaded_bytes c.loop-item.loaded.items) c.loop-item.total c.in-Err.fault c.not_loaded.result
+    (ap (λ (f : FilesSeen). f.contents) c.loop-item.invariant.same) c.loop-item.invariant.begun lt number c.not_loaded.ensures
+    (λ limit e. c.load_item.ensures.longer limit (c.in-Err.is ∙ ap Err e))
 
 pub returns-in-Err-clause-failed_name : goal.returns-in-Err-clause-failed_name
 returns-in-Err-clause-failed_name g c =
-    names_failed _ c.in-Err.fault c.len-number.result _ c.not_loaded.result c.not_loaded.ensures (λ e. c.load.ensures.failed_name (c.in-Err.is ∙ ap Err e))
+    names_failed _ c.in-Err.fault c.len-number.result _ c.not_loaded.result c.not_loaded.ensures (λ e. c.load_item.ensures.failed_name (c.in-Err.is ∙ ap Err e))
 
 pub returns-then-total-gt-TOTAL_LIMIT-clause-refused : goal.returns-then-total-gt-TOTAL_LIMIT-clause-refused
 returns-then-total-gt-TOTAL_LIMIT-clause-refused g c =
     let lt : c.loop-item.item-index < length (map item_of c.args.items.now) = subst (λ (n : ℕ). c.loop-item.item-index < n) (sym (length-map c.args.items.now item_of)) (omega arith) in
-    let name = c.name-name.ensures in
-    let short : length c.in-Ok.bytes.items ≤ c.limit.result = omega (arith, c.in-Ok.ensures.within, c.in-Ok.bytes.ok.0) in
-    let length_is : c.len.result ≡ length c.in-Ok.bytes.items = omega (arith, c.len.ensures, c.in-Ok.bytes.ok.0) in
-    long_in_all_at _ _ c.args.items.now c.loop-item.item-index _ c.name-name.result.now (loaded_bytes c.loop-item.loaded.items) c.loop-item.total c.in-Ok.bytes.items c.limit.result c.len.result c.counted-total.result
-    (ap (λ (f : FilesSeen). f.contents) c.loop-item.invariant.same) name c.loop-item.invariant.begun lt c.limit.ensures short length_is c.counted-total.ensures c.if-total-gt-TOTAL_LIMIT.true c.in-Ok.ensures.bytes
+    long_in_all_at _ _ c.args.items.now c.loop-item.item-index _ (loaded_bytes c.loop-item.loaded.items) c.loop-item.total (file_of c.in-Ok.read) c.len.result c.counted-total.result
+    (ap (λ (f : FilesSeen). f.contents) c.loop-item.invariant.same) c.loop-item.invariant.begun lt c.in-Ok.ensures.within c.len.ensures c.counted-total.ensures c.if-total-gt-TOTAL_LIMIT.true c.in-Ok.ensures.file
 
 pub loop-item-preserved : goal.loop-item-preserved
 loop-item-preserved g c =
     let lt : c.loop-item.item-index < length (map item_of c.args.items.now) = subst (λ (n : ℕ). c.loop-item.item-index < n) (sym (length-map c.args.items.now item_of)) (omega arith) in
-    let name = c.name-name.ensures in
-    let short : length c.in-Ok.bytes.items ≤ c.limit.result = omega (arith, c.in-Ok.ensures.within, c.in-Ok.bytes.ok.0) in
-    let length_is : c.len.result ≡ length c.in-Ok.bytes.items = omega (arith, c.len.ensures, c.in-Ok.bytes.ok.0) in
     let few : c.loop-item.total + c.counted-total.result ≤ 2 ^ 30 = omega (arith, c.if-total-gt-TOTAL_LIMIT.false) in
     let grown = loaded_push c.loop-item.loaded.items c.push.new.self.items _ c.in_ok-push.ensures.items in
-    let on = go_on_at _ _ c.args.items.now c.loop-item.item-index _ c.name-name.result.now (loaded_bytes c.loop-item.loaded.items) c.loop-item.total c.in-Ok.bytes.items c.limit.result c.len.result c.counted-total.result
-    (ap (λ (f : FilesSeen). f.contents) c.loop-item.invariant.same) name c.loop-item.invariant.begun lt c.limit.ensures short length_is c.counted-total.ensures few c.in-Ok.ensures.bytes in
+    let on = go_on_at _ _ c.args.items.now c.loop-item.item-index _ (loaded_bytes c.loop-item.loaded.items) c.loop-item.total (file_of c.in-Ok.read) c.len.result c.counted-total.result
+    (ap (λ (f : FilesSeen). f.contents) c.loop-item.invariant.same) c.loop-item.invariant.begun lt c.in-Ok.ensures.within c.len.ensures c.counted-total.ensures few c.in-Ok.ensures.file in
     record {
       begun = subst (λ (loaded : List (List ℕ)). Begun (g.F.Files.seen c.args.files.now).contents (map item_of c.args.items.now) (c.loop-item.item-index + 1) loaded (c.loop-item.total + c.counted-total.result))
           (sym grown) on;

@@ -1,16 +1,21 @@
 use Rattle.std.specs.List.{zip}
 use Rattle.std.specs.String.{string_bytes}
-use Rattle.std.proofs.Common.{◌≡◌, ◌<◌, ◌≤◌, ◌^◌, ◌-◌, ℕ, All, List, [], map, length, take, drop, get_or, ap, sym, subst, ◌∙◌, arith}
+use Rattle.std.proofs.Common.{◌≡◌, ◌<◌, ◌≤◌, ◌^◌, ◌-◌, ℕ, All, List, [], map, length, take, drop, get_or, refl, ap, sym, subst, ◌∙◌, arith}
 use Rattle.core_notes.specs.Checks.{core_check}
-use Rattle.sf_words.specs.declared.loading.Loaded.{Loaded}
+use Rattle.sf_parts.specs.Read.{file_of}
+use Rattle.sf_words.specs.declared.loaded.Loaded.{Loaded}
 use Rattle.sf_words.specs.Items.{Core, Mapped}
 use Rattle.sf_words.specs.Loading.{loaded_bytes}
 use Rattle.sf_words.proofs.Limits.{within_limits}
+use Rattle.sf_words.proofs.WholeFiles.{first_whole}
 use Rattle.section_commands.specs.Making.{ComesTo}
 use Rattle.section_commands.specs.Procwalk.{ProcwalkComesFrom, procwalk_files, procwalk_of}
 use Rattle.section_commands.proofs.Lists.{as_many, bytes_at, later_bytes, later_files, later_items}
 use Rattle.section_commands.proofs.Procwalks.{IsShort, loaded_short}
 use Rattle.section_commands.proofs.procwalk.Procwalk.make.Goals as goal
+
+pub bytes-requires : goal.bytes-requires
+bytes-requires c = first_whole c.args.loaded.now _ _ c.core-item.result _ c.requires.items c.core-item.is refl
 
 pub procwalk_made-requires-clause-few : goal.procwalk_made-requires-clause-few
 procwalk_made-requires-clause-few c =
@@ -26,7 +31,7 @@ procwalk_made-requires-clause-short c =
     let loaded = c.args.loaded.now in
     let limits = within_limits (procwalk_files (procwalk_of c.args.self.now)) (loaded_bytes loaded) c.requires.within in
     let short = loaded_short c.args.self.now.core.now (map string_bytes c.args.self.now.files.now) loaded c.core-item.result c.requires.items limits.1 in
-    subst (λ (b : List ℕ). length b < 2 ^ 32) (sym (c.deref.ensures.value ∙ ap (λ (l : Loaded). l.bytes.items) c.core-item.is)) short.0
+    subst (λ (b : List ℕ). length b < 2 ^ 32) (sym (c.bytes.ensures ∙ ap (λ (l : Loaded). file_of l.read) c.core-item.is)) short.0
 
 pub procwalk_made-requires-clause-small : goal.procwalk_made-requires-clause-small
 procwalk_made-requires-clause-small c =
@@ -42,10 +47,10 @@ returns c =
     let names = map string_bytes c.args.self.now.files.now in
     let depth = c.args.self.now.depth in
     let some : 0 < length loaded = omega (arith, c.in-len1-up.len_at_least) in
-    let core : c.deref.result.now ≡ get_or bytes 0 [] = c.deref.ensures.value ∙ ap (λ (l : Loaded). l.bytes.items) c.core-item.is ∙ sym (bytes_at loaded 0 c.core-item.result some) in
+    let core : c.bytes.result.now ≡ get_or bytes 0 [] = c.bytes.ensures ∙ ap (λ (l : Loaded). file_of l.read) c.core-item.is ∙ sym (bytes_at loaded 0 c.core-item.result some) in
     let files : loaded_bytes (take (length loaded - 1) (drop 1 loaded)) ≡ drop 1 bytes = ap loaded_bytes (later_files loaded) ∙ later_bytes loaded in
     record {
       comes =
           subst (λ (b : List ℕ). ComesTo (ProcwalkComesFrom b depth (zip names (drop 1 bytes)) (core_check b)) c.procwalk_made.result) core
-          (subst (λ (fs : List (List ℕ)). ComesTo (ProcwalkComesFrom c.deref.result.now depth (zip names fs) (core_check c.deref.result.now)) c.procwalk_made.result) files c.procwalk_made.ensures);
+          (subst (λ (fs : List (List ℕ)). ComesTo (ProcwalkComesFrom c.bytes.result.now depth (zip names fs) (core_check c.bytes.result.now)) c.procwalk_made.result) files c.procwalk_made.ensures);
     }
