@@ -10,7 +10,7 @@ use sf_run::{Status, run};
 use std::alloc::{AllocError, Global};
 use std::process::Abort;
 use std::test::Fail;
-use worked::{WORKED, Worked};
+use worked::{BY_PARTS, PARTS, WORKED, Worked};
 
 /// How a run ends whose call fails: its status, its line, and what it leaves in `o`.
 #[derive(Drop)]
@@ -104,32 +104,52 @@ fn done_of(alloc: Global, worked: &Worked) -> Result<End, Fail> {
     })
 }
 
-/// How a run ends for each call of its files, in their order, where that call fails: a file is opened, and read up to its end and
-/// once more; then the section's file is created and written.
-fn ends_of(alloc: Global, worked: &Worked, most: usize) -> Result<Vec<End>, Fail>
+/// How a run ends of which a call of this file fails.
+fn unread(alloc: Global, name: &str) -> Result<End, Fail> {
+    Ok(End {
+        status: Status::Read,
+        line: format!(in alloc; "read {name}\n")?,
+        section: None,
+    })
+}
+
+/// How a run ends for each call of the files that it reads whole, in their order, where that call fails: a file is opened, and
+/// read up to its end and once more.
+fn ends_of_reads(alloc: Global, worked: &Worked, most: usize) -> Result<Vec<End>, Fail>
     requires { 0 < most }
 {
     let mut ends = Vec::new(alloc);
     for (name, bytes) in worked.files {
-        let line = format!(in alloc; "read {name}\n")?;
-        ends.push(End {
-            status: Status::Read,
-            line: line.clone()?,
-            section: None,
-        })?;
+        ends.push(unread(alloc, name)?)?;
         for _ in bytes_of(alloc, bytes)?.chunks(most) {
-            ends.push(End {
-                status: Status::Read,
-                line: line.clone()?,
-                section: None,
-            })?;
+            ends.push(unread(alloc, name)?)?;
         }
-        ends.push(End {
-            status: Status::Read,
-            line,
-            section: None,
-        })?;
+        ends.push(unread(alloc, name)?)?;
     }
+    Ok(ends)
+}
+
+/// How a run ends for each call of the file that it reads by parts, where that call fails: the file is opened, its length is
+/// asked for, and each part is moved to and read. Where there is no length or no move, the file is read whole.
+fn ends_of_parts(alloc: Global, most: usize) -> Result<Vec<End>, Fail>
+    requires { 0 < most }
+{
+    let mut ends = Vec::new(alloc);
+    ends.push(unread(alloc, "l")?)?;
+    ends.push(done_of(alloc, &BY_PARTS)?)?;
+    for size in PARTS {
+        ends.push(done_of(alloc, &BY_PARTS)?)?;
+        for _ in vec![in alloc; 0u8; size]?.chunks(most) {
+            ends.push(unread(alloc, "l")?)?;
+        }
+    }
+    Ok(ends)
+}
+
+/// Appends how a run ends for each call of the section's file where that call fails: it is created and written.
+fn push_writes(alloc: Global, worked: &Worked, most: usize, ends: &mut Vec<End>) -> Result<(), Fail>
+    requires { 0 < most }
+{
     if let Some(section) = section_of(alloc, worked)? {
         let line = String::from_str(alloc, "write file o\n")?;
         ends.push(End {
@@ -147,7 +167,7 @@ fn ends_of(alloc: Global, worked: &Worked, most: usize) -> Result<Vec<End>, Fail
             written.extend_from_slice(piece)?;
         }
     }
-    Ok(ends)
+    Ok(())
 }
 
 /// Asserts how a run ended.
@@ -167,25 +187,42 @@ fn expect(rt: &impl Abort, worked: &Worked, number: u64, ended: &Ended, end: &En
     );
 }
 
-/// Asserts that each call of the files that fails ends each run as it has to, and that there is no call after the last of them.
+/// Asserts that each call of the files that fails ends a run as it has to, where these are the ends for those that read, and
+/// that there is no call after the last of them.
+fn expect_calls(
+    rt: &impl Abort,
+    alloc: Global,
+    worked: &Worked,
+    most: usize,
+    mut ends: Vec<End>,
+) -> Result<(), Fail>
+    requires { 0 < most }
+{
+    push_writes(alloc, worked, most, &mut ends)?;
+    ends.push(done_of(alloc, worked)?)?;
+    for (number, end) in (1u64..).zip(&ends) {
+        let out = MemSink::new(alloc, 16, Vec::new(alloc));
+        let ended = run_worked(alloc, worked, most, vec![in alloc; number]?, out)?;
+        let text = if end.status == Status::Done {
+            worked.text
+        } else {
+            ""
+        };
+        expect(rt, worked, number, &ended, end, text.as_bytes());
+    }
+    Ok(())
+}
+
+/// Asserts that each call of the files that fails ends each run as it has to.
 fn expect_calls_of_files(rt: &impl Abort, alloc: Global, most: usize) -> Result<(), Fail>
     requires { 0 < most }
 {
     for worked in &WORKED {
-        let mut ends = ends_of(alloc, worked, most)?;
-        ends.push(done_of(alloc, worked)?)?;
-        for (number, end) in (1u64..).zip(&ends) {
-            let out = MemSink::new(alloc, 16, Vec::new(alloc));
-            let ended = run_worked(alloc, worked, most, vec![in alloc; number]?, out)?;
-            let text = if end.status == Status::Done {
-                worked.text
-            } else {
-                ""
-            };
-            expect(rt, worked, number, &ended, end, text.as_bytes());
-        }
+        let ends = ends_of_reads(alloc, worked, most)?;
+        expect_calls(rt, alloc, worked, most, ends)?;
     }
-    Ok(())
+    let ends = ends_of_parts(alloc, most)?;
+    expect_calls(rt, alloc, &BY_PARTS, most, ends)
 }
 
 /// Asserts that each write of the output that fails ends each run as it has to, with the section whole.

@@ -79,6 +79,17 @@ pub const WORKED: [Worked; 11] = [
     },
 ];
 
+/// A run over a shared object, of which the file header, the section headers, the names and the call frame information are read.
+pub const BY_PARTS: Worked = Worked {
+    words: "link o@0x3000 l@0x0",
+    files: &[("l", LINKED)],
+    section: Some(ONE_FUNCTION_SECTION),
+    text: "kept 1 omitted 0\n",
+};
+
+/// The bytes of these parts.
+pub const PARTS: [usize; 4] = [64, 192, 21, 60];
+
 /// For AMD64 and the address 0x2000: one function of 6 bytes at 0x1000.
 const ONE_FUNCTION: &str = "14 00*7 01 7a 52 00 01 78 10 01 1b 0c 07 08 90 01 00 00 \
      1c 00 00 00 1c 00 00 00 e0 ef ff ff 06 00*4 41 0e 10 86 02 43 0d 06 41 0c 07 08 00*7";
@@ -125,3 +136,10 @@ const MODULE: &str =
      e2 de 02 01 03 00 f8 00 01 00*3 04 00*3 0f 00*7 14 00*4 fe ff ff 06 00*7 04 00*8 03 08 01 05 10 f0 04 04 10 f0 05 05 \
      08 f0 00 00 2e 73 66 72 61 6d 65 00 2e 73 68 73 74 72 74 61 62 00*70 01 00*3 01 00*3 02 00*8 02 00*6 78 00*7 3f 00*15 \
      01 00*15 09 00*3 03 00*19 b8 00*7 13 00*15 01 00*15";
+
+/// A shared object for AMD64: its call frame information is that function's, at 0x2000.
+const LINKED: &str =
+    "7f 45 4c 46 02 01 01 00*9 03 00 3e 00 01 00*19 98 00*11 40 00*5 40 00 03 00 02 00 14 00*7 01 7a 52 00 01 78 10 01 1b 0c 07 08 \
+     90 01 00 00 1c 00 00 00 1c 00 00 00 e0 ef ff ff 06 00*4 41 0e 10 86 02 43 0d 06 41 0c 07 08 00*11 00 2e 65 68 5f 66 72 61 \
+     6d 65 00 2e 73 68 73 74 72 74 61 62 00*4 00*64 01 00*3 01 00*3 02 00*8 20 00*6 40 00*7 3c 00*15 08 00*15 0b 00*3 03 00*19 \
+     80 00*7 15 00*15 01 00*15";
