@@ -24,7 +24,7 @@ BOXES = (
     ("", "sf_words sf_gen sf_text process_walk section_commands sf_run sf_tool", "program", 0, 330, 930),
     ("", "sf_asm sf_link sf_plt module_tables sf_verify sf_link_c", "linking", 1, 10, 730),
     ("merging", "sf_merge sf_slim", "SFrame", 2, 310, 490),
-    ("walks", "core_walk sample_walk sf_modules sf_c", "SFrame", 2, 750, 930),
+    ("walks", "core_walk core_parts sf_c sample_walk sf_modules", "SFrame", 2, 720, 930),
     ("writing", "sf_express sf_sizes sf_write sf_functions", "SFrame", 3, 310, 490),
     ("core files, pages", "core_notes elf_load", "ELF", 3, 510, 680),
     ("records", "eh_pointer eh_records", "DWARF", 4, 10, 190),

@@ -1,0 +1,2 @@
+pub mod PartReads
+pub mod Windows

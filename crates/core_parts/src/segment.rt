@@ -1,0 +1,86 @@
+//! The segments of a core file by their program headers (ELF64 gABI, "Program Header").
+
+ghost use Rattle.std.specs.Prelude.{◌≡◌};
+ghost use Rattle.core_parts.specs.Heads as spec;
+
+/// The type of a segment that is loaded.
+pub const PT_LOAD: u32 = 1;
+/// The type of a segment of notes.
+pub const PT_NOTE: u32 = 4;
+
+/// The program header of a segment.
+#[derive(Clone, Copy)]
+pub struct SegmentHead {
+    /// Its type.
+    pub kind: u32,
+    /// The address of its first byte.
+    pub vaddr: u64,
+    /// The place of its bytes in the file.
+    pub place: u64,
+    /// How many bytes it has in the file.
+    pub size: u64,
+}
+
+/// Returns whether the segment is memory.
+#[inline(always)]
+pub fn is_memory(head: &SegmentHead) -> bool
+    ensures { result ≡ spec.is_memory head.now }
+{
+    head.kind == PT_LOAD
+}
+
+/// Returns whether the segment is memory that has the eight bytes from an address on.
+#[inline(always)]
+pub fn head_holds(head: &SegmentHead, address: u64) -> bool
+    ensures { result ≡ spec.head_holds address head.now }
+{
+    is_memory(head)
+        && head.vaddr <= address
+        && u128::from(address) + 8 <= u128::from(head.vaddr) + u128::from(head.size)
+}
+
+/// Returns whether a segment that is memory has its address where the memory before it ends, or after.
+pub fn rises(head: &SegmentHead, end: u128) -> bool
+    ensures { result ≡ spec.rises end head.now }
+{
+    !is_memory(head) || end <= u128::from(head.vaddr)
+}
+
+/// Returns where the memory up to a segment ends, if the memory before it ends at `end`.
+pub fn end_after(head: &SegmentHead, end: u128) -> u128
+    ensures { result ≡ spec.end_after end head.now }
+{
+    if is_memory(head) {
+        u128::from(head.vaddr) + u128::from(head.size)
+    } else {
+        end
+    }
+}
+
+/// Returns whether each segment that is memory has its address where the memory before it ends, or after.
+pub fn heads_rise(heads: &[SegmentHead]) -> bool
+    ensures { result ≡ spec.heads_rise 0 heads.now }
+{
+    let mut end = 0;
+    for head in heads {
+        if !rises(head, end) {
+            return false;
+        }
+        end = end_after(head, end);
+    }
+    true
+}
+
+/// Returns whether the bytes of a segment lie in a file of this length.
+pub fn head_lies(head: &SegmentHead, len: u64) -> bool
+    ensures { result ≡ spec.head_lies len head.now }
+{
+    u128::from(head.place) + u128::from(head.size) <= u128::from(len)
+}
+
+/// Returns whether the bytes of each segment lie in a file of this length.
+pub fn heads_lie(heads: &[SegmentHead], len: u64) -> bool
+    ensures { result ≡ spec.heads_lie len heads.now }
+{
+    heads.iter().all(|head| head_lies(head, len))
+}
