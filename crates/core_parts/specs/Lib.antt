@@ -1,2 +1,5 @@
 pub mod Heads
 pub mod Read
+pub mod CoreHeader
+pub mod Table
+pub mod Whole

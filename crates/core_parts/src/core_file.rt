@@ -1,0 +1,90 @@
+//! A core file of which parts were read.
+
+ghost use Rattle.std.specs.Prelude.{◌≡◌, ℕ, List, Ok, true, map, IfOk, IfSome};
+ghost use Rattle.elf_read.specs.Header as header;
+ghost use Rattle.core_notes.specs.Checks.{core_check, file_threads};
+ghost use Rattle.core_notes.specs.Segment.{segments};
+ghost use Rattle.core_parts.specs.Heads.{heads_lie, heads_rise, segment_in};
+ghost use Rattle.core_parts.specs.Whole.{IsWholeOf};
+
+use crate::core_head::{CoreHead, head_of};
+use crate::memory::PartMemory;
+use core_notes::Thread;
+use sf_base::NoMemory;
+use sf_model::Arch;
+use sf_parts::FileParts;
+use std::alloc::Global;
+
+/// A core file that passes every check of a whole file, of which parts were read.
+#[derive(Drop)]
+pub struct CoreParts {
+    /// The parts that were read of the file.
+    pub file: FileParts,
+    /// What its headers and notes say.
+    pub head: CoreHead,
+    ghost checked: { (whole : List ℕ) → IsWholeOf file whole → core_check whole ≡ Ok tt },
+    ghost machine: { (whole : List ℕ) → IsWholeOf file whole → header.arch_of whole ≡ head.arch },
+    ghost segments_are: { (whole : List ℕ) → IsWholeOf file whole → segments whole ≡ map (segment_in whole) head.heads.items },
+    ghost threads_are: { (whole : List ℕ) → IsWholeOf file whole → file_threads whole ≡ head.threads.items },
+    ghost lie: { heads_lie file.len head.heads.items ≡ true },
+    ghost rise: { heads_rise 0 head.heads.items ≡ true },
+}
+
+/// Returns a core file by parts of it, the first three of which have to be its file header, its program headers and its one
+/// segment of notes: if these are enough for every check of the whole file, and it passes them all. Nothing is said of any
+/// other file: [`Core::parse`](core_notes::Core::parse) of its bytes gives its fault, or says that it has none.
+///
+/// The segments that are memory have to rise, and section headers must not be needed.
+///
+/// # Errors
+///
+/// `NoMemory`.
+pub fn core_of(alloc: Global, file: FileParts) -> Result<Option<CoreParts>, NoMemory>
+    ensures file { IfOk result (λ found. IfSome found (λ core. core.file ≡ file)) }
+    ensures checked { IfOk result (λ found. IfSome found (λ core. (whole : List ℕ) → IsWholeOf core.file whole → core_check whole ≡ Ok tt)) }
+{
+    match head_of(alloc, &file)? {
+        Some(head) => Ok(Some(CoreParts { file, head })),
+        None => Ok(None),
+    }
+}
+
+impl CoreParts {
+    ghost use Rattle.std.specs.Prelude.{is_some};
+    ghost use Rattle.sf_model.specs.Memory.{read_eight};
+    ghost use Rattle.core_notes.specs.Memory.{file_regions};
+    ghost use Rattle.core_walk.specs.PartWalk.{IsPartOf};
+    ghost use Rattle.core_parts.specs.Read.{part_regions};
+
+    /// Returns the machine that the file is for.
+    pub fn arch(&self) -> Arch
+        ensures { (whole : List ℕ) → IsWholeOf self.now.file whole → result ≡ header.arch_of whole }
+    {
+        self.head.arch
+    }
+
+    /// Returns the threads, in the order of their notes.
+    pub fn threads(&self) -> &[Thread]
+        ensures { (whole : List ℕ) → IsWholeOf self.now.file whole → result.now ≡ file_threads whole }
+    {
+        &self.head.threads
+    }
+
+    /// Returns the memory, as far as it was read.
+    pub fn memory(&self) -> PartMemory<'_>
+        ensures heads { result.heads.now ≡ self.now.head.heads.items }
+        ensures part { (whole : List ℕ) → IsWholeOf self.now.file whole → IsPartOf (part_regions result) (file_regions whole) }
+    {
+        PartMemory {
+            heads: &self.head.heads,
+            parts: &self.file.parts,
+        }
+    }
+
+    /// Returns whether the whole memory has the eight bytes from an address on, read or not.
+    pub fn holds(&self, address: u64) -> bool
+        ensures { (whole : List ℕ) → IsWholeOf self.now.file whole → result ≡ is_some (read_eight (file_regions whole) address) }
+    {
+        self.memory().holds(address)
+    }
+}

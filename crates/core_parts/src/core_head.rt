@@ -1,0 +1,119 @@
+//! What the headers and the notes of a core file say.
+
+ghost use Rattle.std.specs.Prelude.{◌≡◌, ℕ, List, true, IfOk, IfSome};
+ghost use Rattle.sf_bytes.specs.Parts.{IsPart};
+ghost use Rattle.core_notes.specs.Views.{threads_left};
+ghost use Rattle.core_parts.specs.Heads.{heads_lie, heads_rise};
+ghost use Rattle.core_parts.specs.Whole.{AreRead, AreThreads, IsHeadOf, IsWholeOf};
+
+use crate::header::arch_of;
+use crate::segment::SegmentHead;
+use crate::table::{heads_of, only_note};
+use core_notes::{Thread, ThreadIter, threads_of_segment};
+use elf_read::layout::FILE_HEADER_LEN;
+use sf_base::NoMemory;
+use sf_bytes::{FilePart, Part};
+use sf_model::Arch;
+use sf_parts::FileParts;
+use std::alloc::Global;
+
+/// What the headers and the notes of a core file say.
+#[derive(Drop)]
+pub struct CoreHead {
+    /// The machine that the file is for.
+    pub arch: Arch,
+    /// The headers of its segments.
+    pub heads: Vec<SegmentHead>,
+    /// Its threads, in the order of their notes.
+    pub threads: Vec<Thread>,
+}
+
+// Returns the threads that an iterator has left.
+fn listed(alloc: Global, threads: ThreadIter<'_>) -> Result<Vec<Thread>, NoMemory>
+    ensures { IfOk result (λ list. list.items ≡ threads_left threads.entry) }
+{
+    Ok(threads.collect(alloc)?)
+}
+
+// Returns the threads of a core file by the bytes of its one segment of notes, if they pass every check of a whole file.
+fn threads_of(
+    alloc: Global,
+    arch: Arch,
+    heads: &[SegmentHead],
+    notes: &FilePart,
+) -> Result<Option<Vec<Thread>>, NoMemory>
+    ensures { IfOk result (λ found. IfSome found (λ threads. AreThreads arch heads.now notes.now threads.items)) }
+{
+    let Some(note) = only_note(heads) else {
+        return Ok(None);
+    };
+    let size = notes.bytes.len() as u64;
+    if note.place != notes.place || note.size != size {
+        return Ok(None);
+    }
+    let Some(_) = notes.place.checked_add(size) else {
+        return Ok(None);
+    };
+    match threads_of_segment(arch, Part::new(&notes.bytes, notes.place)) {
+        Some(threads) => Ok(Some(listed(alloc, threads)?)),
+        None => Ok(None),
+    }
+}
+
+// Returns what these parts of a core file say: its file header, its program headers and its one segment of notes.
+fn head_by(
+    alloc: Global,
+    header: &FilePart,
+    table: &FilePart,
+    notes: &FilePart,
+    len: u64,
+) -> Result<Option<CoreHead>, NoMemory>
+    ensures head { IfOk result (λ found. IfSome found (λ head. AreRead header.now table.now notes.now len head)) }
+{
+    if header.place != 0 || header.bytes.len() as u64 != FILE_HEADER_LEN {
+        return Ok(None);
+    }
+    let Some(heads) = heads_of(alloc, &header.bytes, table, len)? else {
+        return Ok(None);
+    };
+    let arch = arch_of(&header.bytes);
+    let Some(threads) = threads_of(alloc, arch, &heads, notes)? else {
+        return Ok(None);
+    };
+    Ok(Some(CoreHead {
+        arch,
+        heads,
+        threads,
+    }))
+}
+
+// Returns the part that was read as the one of this number.
+fn part_at(file: &FileParts, number: usize) -> Option<&FilePart>
+    ensures { IfSome result (λ part. (whole : List ℕ) → IsWholeOf file.now whole → IsPart whole part.now) }
+{
+    file.parts.get(number)
+}
+
+/// Returns what the parts of a file say, the first three of which are the file header, the program headers and the one
+/// segment of notes of a core file, if these are enough for every check of the whole file, and it passes them all. Nothing
+/// is said of any other file.
+///
+/// # Errors
+///
+/// `NoMemory`.
+pub fn head_of(alloc: Global, file: &FileParts) -> Result<Option<CoreHead>, NoMemory>
+    ensures head { IfOk result (λ found. IfSome found (λ head. (whole : List ℕ) → IsWholeOf file.now whole → IsHeadOf head whole)) }
+    ensures lie { IfOk result (λ found. IfSome found (λ head. heads_lie file.now.len head.heads.items ≡ true)) }
+    ensures rise { IfOk result (λ found. IfSome found (λ head. heads_rise 0 head.heads.items ≡ true)) }
+{
+    let Some(header) = part_at(file, 0) else {
+        return Ok(None);
+    };
+    let Some(table) = part_at(file, 1) else {
+        return Ok(None);
+    };
+    let Some(notes) = part_at(file, 2) else {
+        return Ok(None);
+    };
+    head_by(alloc, header, table, notes, file.len)
+}
