@@ -1,0 +1,172 @@
+//! Reads the parts of a core file that its checks and its threads need, or else the whole file.
+
+ghost use Rattle.std.specs.Prelude.{◌≡◌, ◌<◌, ◌≤◌, ℕ, Some, length, IsTrue, IsErrOf, IfOk, IfSome, OnOk};
+ghost use Rattle.sf_base.specs.Contents.{contents_of};
+ghost use Rattle.sf_base.specs.Faults.{Rose};
+ghost use Rattle.sf_base.specs.Seen.{OnlyReads};
+ghost use Rattle.sf_base.specs.declared.loading.LoadFault.TheVariants.{Read, TooLong};
+ghost use Rattle.core_parts.specs.Loaded.{IsLoaded, MayGoOn, core_len};
+ghost use Rattle.core_parts.specs.Whole.{IsWholeOf};
+
+use crate::core_file::{CoreParts, core_of};
+use crate::header::{e_phnum, e_phoff};
+use crate::reading::{Window, read_window};
+use crate::segment::PT_NOTE;
+use crate::table::head_at;
+use elf_read::layout::{FILE_HEADER_LEN, PROGRAM_HEADER_LEN};
+use sf_base::{Files, LoadFault, load, load_rest};
+use sf_parts::FileParts;
+use std::alloc::Global;
+
+/// What was read of a core file: parts of it, or all.
+#[derive(Drop)]
+pub enum CoreRead {
+    /// The parts that its checks and its threads need. The file is open, so that more can be read of it.
+    Parts(CoreParts),
+    /// All of it.
+    Whole(Vec<u8>),
+}
+
+// Returns where the program headers are, by the file header.
+fn program_headers(header: &[u8]) -> Window {
+    Window {
+        place: e_phoff(header),
+        size: PROGRAM_HEADER_LEN * u64::from(e_phnum(header)),
+    }
+}
+
+// Returns where the first segment of notes is, by the file header and the program headers.
+fn notes(header: &[u8], table: &[u8]) -> Option<Window> {
+    for i in 0..e_phnum(header) {
+        let head = head_at(table, i);
+        if head.kind == PT_NOTE {
+            return Some(Window {
+                place: head.place,
+                size: head.size,
+            });
+        }
+    }
+    None
+}
+
+// Returns the bytes of the part that was read as the one of this number.
+fn bytes_of(parts: &FileParts, number: usize) -> &[u8] {
+    match parts.parts.get(number) {
+        Some(part) => &part.bytes,
+        None => &[],
+    }
+}
+
+// Reads the file header, the program headers and the first segment of notes of the open file, and returns whether all were
+// added to the parts. Nothing is stated of where they are: where that is wrong, the file doesn't pass as a core file.
+fn read_planned<F: Files>(
+    alloc: Global,
+    files: &mut F,
+    parts: &mut FileParts,
+) -> Result<bool, LoadFault>
+    requires opened { IsTrue (F.opened files.old) }
+    requires whole { IfSome ((F.seen files.old).contents) (λ _. IsWholeOf parts.old (F.whole files.old)) }
+    ensures whole { OnOk result (IfSome ((F.seen files.old).contents) (λ _. IsWholeOf parts.new (F.whole files.old))) }
+    ensures len { parts.new.len ≡ parts.old.len }
+    ensures same_file { OnOk result (F.whole files.new ≡ F.whole files.old) }
+    ensures opened { OnOk result (IsTrue (F.opened files.new)) }
+    ensures opened_name { OnOk result (F.opened_name files.new ≡ F.opened_name files.old) }
+    ensures read { IsErrOf result LoadFault.Read →
+        Rose ((F.seen files.old).read_faults) ((F.seen files.new).read_faults) }
+    ensures failed_name { IsErrOf result LoadFault.Read →
+        IfSome ((F.seen files.new).failed_name) (λ failed. F.opened_name files.old ≡ Some failed) }
+    ensures not_long { (n : ℕ) → IsErrOf result (LoadFault.TooLong n) → ⊥ }
+    ensures may_open { F.may_open files.new ≡ F.may_open files.old }
+    ensures may_create { F.may_create files.new ≡ F.may_create files.old }
+    ensures reads { OnlyReads (F.seen files.old) (F.seen files.new) }
+    ensures same { OnOk result (F.seen files.new ≡ F.seen files.old) }
+{
+    let header = Window {
+        place: 0,
+        size: FILE_HEADER_LEN,
+    };
+    if !read_window(alloc, files, parts, header)? {
+        return Ok(false);
+    }
+    let table = program_headers(bytes_of(parts, 0));
+    if !read_window(alloc, files, parts, table)? {
+        return Ok(false);
+    }
+    match notes(bytes_of(parts, 0), bytes_of(parts, 1)) {
+        Some(notes) => read_window(alloc, files, parts, notes),
+        None => Ok(false),
+    }
+}
+
+// Reads the parts of the open file, of this length, that its checks and its threads need. Nothing if it isn't clear that
+// these are enough.
+fn parts_of<F: Files>(
+    alloc: Global,
+    files: &mut F,
+    len: u64,
+) -> Result<Option<CoreParts>, LoadFault>
+    requires opened { IsTrue (F.opened files.old) }
+    requires len { IfSome ((F.seen files.old).contents) (λ _. len ≡ length (F.whole files.old)) }
+    ensures whole { IfOk result (λ found. IfSome found (λ core. IfSome ((F.seen files.old).contents) (λ _.
+        IsWholeOf core.file (F.whole files.old)))) }
+    ensures len { IfOk result (λ found. IfSome found (λ core. core.file.len ≡ len)) }
+    ensures same_file { OnOk result (F.whole files.new ≡ F.whole files.old) }
+    ensures opened { OnOk result (IsTrue (F.opened files.new)) }
+    ensures read { IsErrOf result LoadFault.Read →
+        Rose ((F.seen files.old).read_faults) ((F.seen files.new).read_faults) }
+    ensures failed_name { IsErrOf result LoadFault.Read →
+        IfSome ((F.seen files.new).failed_name) (λ failed. F.opened_name files.old ≡ Some failed) }
+    ensures not_long { (n : ℕ) → IsErrOf result (LoadFault.TooLong n) → ⊥ }
+    ensures may_open { F.may_open files.new ≡ F.may_open files.old }
+    ensures may_create { F.may_create files.new ≡ F.may_create files.old }
+    ensures reads { OnlyReads (F.seen files.old) (F.seen files.new) }
+    ensures same { OnOk result (F.seen files.new ≡ F.seen files.old) }
+{
+    let mut parts = FileParts::new(alloc, len);
+    if !read_planned(alloc, files, &mut parts)? {
+        return Ok(None);
+    }
+    Ok(core_of(alloc, parts)?)
+}
+
+/// Reads of the core file of this name its file header, its program headers and its notes, if the file has at most `limit`
+/// bytes and it is clear that these are enough for its checks and its threads. Else it reads the whole file, as
+/// [`load`](sf_base::load) does; a pipe is not opened twice.
+///
+/// # Errors
+///
+/// `Read` if a call of `files` failed, `TooLong(limit)` if the file has more than `limit` bytes, and `NoMemory`.
+pub fn load_core<F: Files>(
+    alloc: Global,
+    files: &mut F,
+    name: &str,
+    limit: u64,
+) -> Result<CoreRead, LoadFault>
+    requires { IsTrue (F.may_open files.old name.now) }
+    ensures file { IfOk result (λ read. IfSome ((F.seen files.old).contents) (λ told.
+        IsLoaded read (contents_of told name.now))) }
+    ensures within { IfOk result (λ read. core_len read ≤ limit) }
+    ensures open { IfOk result (λ read. MayGoOn (F.opened files.new) ((F.seen files.new).contents) (F.whole files.new) read) }
+    ensures read { IsErrOf result LoadFault.Read →
+        Rose ((F.seen files.old).read_faults) ((F.seen files.new).read_faults) }
+    ensures failed_name { IsErrOf result LoadFault.Read →
+        IfSome ((F.seen files.new).failed_name) (λ failed. failed ≡ name.now) }
+    ensures too_long { (n : ℕ) → IsErrOf result (LoadFault.TooLong n) → n ≡ limit }
+    ensures longer { (n : ℕ) → IsErrOf result (LoadFault.TooLong n) → IfSome ((F.seen files.old).contents) (λ told.
+        limit < length (contents_of told name.now)) }
+    ensures may_open { F.may_open files.new ≡ F.may_open files.old }
+    ensures may_create { F.may_create files.new ≡ F.may_create files.old }
+    ensures reads { OnlyReads (F.seen files.old) (F.seen files.new) }
+    ensures same { OnOk result (F.seen files.new ≡ F.seen files.old) }
+{
+    files.open_file(name)?;
+    let Some(len) = files.len() else {
+        return Ok(CoreRead::Whole(load_rest(alloc, files, limit)?));
+    };
+    if len <= limit {
+        if let Some(core) = parts_of(alloc, files, len)? {
+            return Ok(CoreRead::Parts(core));
+        }
+    }
+    Ok(CoreRead::Whole(load(alloc, files, name, limit)?))
+}
