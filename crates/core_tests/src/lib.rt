@@ -1,4 +1,4 @@
-//! What no clause says of the crates of core files and walks, `core_notes`, `core_walk`, `signal_frames` and `process_walk`:
+//! What no clause says of the crates of core files and walks, `core_notes`, `core_walk`, `core_parts`, `signal_frames` and `process_walk`:
 //! values from outside, and one call of each public function that allocates, with ample memory.
 #![tactic(auto)]
 

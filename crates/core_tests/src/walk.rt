@@ -3,8 +3,10 @@
 use crate::files::{File, MASKED, TWO_THREADS, bytes_of};
 use base_tests::tables::expect;
 use core_notes::Core;
+use core_parts::{CoreRead, load_core, walk_reading};
 use core_walk::walk;
 use sf_decode::View;
+use sf_fakes::MemFiles;
 use sf_model::Walk;
 use sframe_tests::samples::{PUSHING, SIGNING};
 use std::alloc::Global;
@@ -47,6 +49,33 @@ fn threads_are_walked(rt: HostRuntime) -> Result<(), Fail> {
         let thread = core.threads_iter().next().ok_or("a thread")?;
         let walked = walk(rt.alloc(), &view, &thread, &core, 64)?;
         expect(edits, text_of(rt.alloc(), &walked)?.as_str(), wanted)?;
+    }
+    Ok(())
+}
+
+// Loads a core file by its parts, and returns the frames of its first thread and its stop.
+fn text_by_parts(alloc: Global, section: &[u8], bytes: Vec<u8>) -> Result<String, Fail> {
+    let mut files = MemFiles::new(alloc, 4096, Vec::new(alloc));
+    if files.put("core", bytes).is_err() {
+        return Err("memory".into());
+    }
+    let view = View::parse(section, 0x3000).ok().ok_or("a section")?;
+    match load_core(alloc, &mut files, "core", 1 << 20) {
+        Ok(CoreRead::Parts(mut core)) => {
+            let thread = *core.threads().first().ok_or("a thread")?;
+            let walked = walk_reading(alloc, &mut files, &view, &thread, &mut core, 64, 4);
+            text_of(alloc, &walked.ok().ok_or("reads")?.ok_or("a walk")?)
+        }
+        _ => Err("parts".into()),
+    }
+}
+
+#[test]
+fn threads_are_walked_by_parts(rt: HostRuntime) -> Result<(), Fail> {
+    for (section, file, edits, wanted) in &CASES {
+        let bytes = bytes_of(rt.alloc(), file, edits)?;
+        let text = text_by_parts(rt.alloc(), section, bytes)?;
+        expect(edits, text.as_str(), wanted)?;
     }
     Ok(())
 }
