@@ -9,8 +9,6 @@
 //! The rules hold at each address of the function, since a function of which another row begins isn't of this form.
 //! [`rows_have_expressions`] is a law: the rows of `cfa_machine` have these rules as expressions.
 //! The caller owes nothing. The instructions are read once, and nothing allocates.
-//!
-//! No command uses this crate yet.
 #![tactic(auto)]
 
 mod change;
