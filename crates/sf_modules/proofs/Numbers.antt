@@ -74,7 +74,7 @@ first_is p first k (x ∷ xs) e = at_test (p x) refl e (first_is p (first + 1) k
           is = λ d. ap (λ (b : Bool). cond b (Some x) (find p xs)) t ∙ h.is d ∙ sym (ap (λ (n : ℕ). Some (get_or (x ∷ xs) n d)) next);
         }
 
-none_passes : {X : Type 0} (p : X → Bool) (first : ℕ) (xs : List X) → position_from p first xs ≡ None → find p xs ≡ None
+pub none_passes : {X : Type 0} (p : X → Bool) (first : ℕ) (xs : List X) → position_from p first xs ≡ None → find p xs ≡ None
 none_passes p first [] e = refl
 none_passes p first (x ∷ xs) e = at_test (p x) refl e (none_passes p (first + 1) xs)
   where

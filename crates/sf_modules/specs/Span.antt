@@ -1,4 +1,4 @@
--- Inside the crate. A process's entries as spans of addresses, each leading to the module that it names.
+-- A process's entries as spans of addresses, each leading to the module that it names (Linux core files, NT_FILE).
 use Rattle.std.specs.Prelude.{ℕ, ◌-◌, bytes_eq, List, Option}
 use Rattle.std.specs.List.{find, position_from}
 use Rattle.std.specs.Option.{option_and_then}

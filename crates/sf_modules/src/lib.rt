@@ -4,8 +4,9 @@
 //! [`entries`] reads the note on mapped files of a core file, which [`Process::new`] puts in order. [`read_module`] finds a
 //! file among its entries by its name (`specs/Match.antt`), by where its segments were (`specs/Fit.antt`) and by its build
 //! identifier (`specs/Build.antt`), and reads its SFrame section at the address at which it was. [`mapped_file`] finds a
-//! file that needs no such section (`specs/Mapped.antt`); no command calls it yet. [`Modules::new`] puts entries and
-//! modules in order, once for all threads, and [`Modules::walk`] lists a thread's frames.
+//! file that needs no such section (`specs/Mapped.antt`). [`Modules::new`] puts entries and
+//! modules in order, once for all threads: [`Modules::number_at`] finds the module at an address, and [`Modules::walk`]
+//! lists a thread's frames. [`is_mapped_name`] says whether an entry has the last part of a word for a file.
 //!
 //! The meaning is a list of entries and a list of modules: at an address the first entry that holds it says which file is
 //! there, and the first module of that name answers by its own table (`found_in` of `specs/Found.antt`). A walk is
@@ -50,6 +51,7 @@ pub use fault::ModuleFault;
 pub use laws::modules_answer_as_their_union;
 pub use mapped::{Module, read_module};
 pub use modules::Modules;
+pub use nearest::is_mapped_name;
 pub use note::entries;
 pub use place::{MappedFile, mapped_file};
 pub use process::Process;

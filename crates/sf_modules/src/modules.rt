@@ -71,8 +71,9 @@ impl<'m> Modules<'m> {
         })
     }
 
-    // Finds the number of the module at an address.
-    fn number_at(&self, pc: u64) -> Option<u32>
+    /// Finds the number of the module at an address: the first entry that holds it names the file, and the first module of
+    /// that name is the one.
+    pub fn number_at(&self, pc: u64) -> Option<u32>
         ensures { result ≡ module_number_at (entry_views self.now) (modules_in self.now) pc }
     {
         self.spans.first_at(pc)?

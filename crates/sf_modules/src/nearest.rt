@@ -29,6 +29,13 @@ fn longest_tail(process: &Process<'_>, word: &[u8]) -> u128
     longest
 }
 
+/// Returns whether an entry of the note on mapped files has the last part of a word for a file.
+pub fn is_mapped_name(process: &Process<'_>, word: &[u8]) -> bool
+    ensures { result ≡ spec.is_candidate word.now (process_view process.now).entries }
+{
+    longest_tail(process, word) > 0
+}
+
 // Returns whether an entry's name has `tail` parts in common with a word, and the program fits there.
 fn matches(
     process: &Process<'_>,

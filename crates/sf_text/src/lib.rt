@@ -10,7 +10,6 @@
 //! [`put_output`] appends such a text, or `dump_text` of the table that a view shows, to a sink, and
 //! [`fault_line`], [`file_limit_line`] and [`put_name`] append `fault_text`, `file_limit_text` and `shown_name`.
 //! The caller owes a notice that has a line to `fault_line`, and nothing to the others.
-//! No command prints `file_frames_text` yet.
 //!
 //! What appends to a sink allocates nothing: the content of a section goes there in pieces, and is never held
 //! whole. [`dump`] returns it as one text.
