@@ -3,13 +3,13 @@
 ghost use Rattle.std.specs.Prelude.{◌<◌, ◌^◌, length};
 
 use crate::files::{File, TWO_THREADS, bytes_of};
-use core_notes::Core;
-use process_walk::{Module, Process};
-use sample_walk::{State, Value};
+use core_notes::{Core, Thread};
+use process_walk::Process;
 use sf_bytes::Part;
 use sf_decode::View;
 use sf_lookup::Span;
-use sf_model::{Arch, FdeFacts, Key, Stop};
+use sf_model::{Arch, FdeFacts, Key, Regs, Stop};
+use sf_modules::{Entry, Module};
 use sframe_tests::samples::PUSHING;
 use signal_frames::{SignalFrame, signal_frame};
 use std::test::*;
@@ -128,12 +128,12 @@ fn functions_have_signal_frames(rt: HostRuntime) -> Result<(), Fail> {
     Ok(())
 }
 
-/// The bytes of a stack at 0x7000, with the memory's size at 152 of the file; the frames, each with its module and whether it is a signal
-/// frame, and the stop. A thread is in a handler, whose caller is a signal frame at 0x7008. A function was interrupted at its first byte,
-/// 0x1000.
+/// The bytes of a stack at 0x7000, with the memory's size at 152 of the file; the frames, each with whether it is a signal frame that was
+/// stepped over, and the stop. A thread is in a handler, whose caller is a signal frame at 0x7008. A function was interrupted at its first
+/// byte, 0x1000.
 struct Walked {
     stack: &'static str,
-    frames: &'static [(u64, Option<u64>, Option<usize>, bool)],
+    frames: &'static [(u64, Option<u64>, bool)],
     stop: Stop,
 }
 
@@ -141,32 +141,51 @@ const WALKS: [Walked; 3] = [
     Walked {
         stack: "@888 01 50 @1016 f8 70 @1056 e0 70 @1064 00 10 @1112 45 23 @152 00 01",
         frames: &[
-            (0x1000, Some(0x7008), Some(0), false),
-            (0x5001, Some(0x70e0), Some(1), true),
-            (0x1000, Some(0x70e8), Some(0), false),
-            (0x2345, None, None, false),
+            (0x1000, Some(0x7008), false),
+            (0x5001, Some(0x70e0), true),
+            (0x1000, Some(0x70e8), false),
+            (0x2345, None, false),
         ],
         stop: Stop::Outside(0x2344),
     },
     // The memory ends before the interrupted program counter.
     Walked {
         stack: "@888 01 50 @1016 f8 70 @1056 e0 70 @1064 00 10 @1112 45 23 @152 b0",
-        frames: &[
-            (0x1000, Some(0x7008), Some(0), false),
-            (0x5001, Some(0x70e0), Some(1), true),
-        ],
+        frames: &[(0x1000, Some(0x7008), false), (0x5001, Some(0x70e0), false)],
         stop: Stop::Unreadable(0x70b0),
     },
     // It ends before the interrupted stack pointer.
     Walked {
         stack: "@888 01 50 @1016 f8 70 @1056 e0 70 @1064 00 10 @1112 45 23 @152 a8",
-        frames: &[
-            (0x1000, Some(0x7008), Some(0), false),
-            (0x5001, None, Some(1), true),
-        ],
+        frames: &[(0x1000, Some(0x7008), false), (0x5001, None, false)],
         stop: Stop::Unreadable(0x70a8),
     },
 ];
+
+/// The entries of a program and of a C library.
+const ENTRIES: [Entry<'static>; 2] = [
+    Entry {
+        start: 0x1000,
+        end: 0x1100,
+        offset: 0,
+        name: b"/bin/program",
+    },
+    Entry {
+        start: 0x5000,
+        end: 0x5100,
+        offset: 0,
+        name: b"/lib/libc.so.6",
+    },
+];
+
+/// Returns a module on AMD64, with a section of functions from 0x1000 on.
+fn module_of(name: &'static [u8]) -> Result<Module<'static, 'static>, Fail> {
+    Ok(Module {
+        name,
+        machine: Arch::Amd64,
+        view: View::parse(&PUSHING, 0x3000).ok().ok_or("a section")?,
+    })
+}
 
 #[test]
 fn walks_go_through_signal_frames(rt: HostRuntime) -> Result<(), Fail> {
@@ -184,37 +203,29 @@ fn walks_go_through_signal_frames(rt: HostRuntime) -> Result<(), Fail> {
         size: 10,
         leads_to: frame,
     }];
-    let modules = [
-        Module {
-            start: 0x1000,
-            size: 0x100,
-            view: View::parse(&PUSHING, 0x3000).ok().ok_or("a section")?,
-            signals: &[],
-        },
-        Module {
-            start: 0x5000,
-            size: 0x100,
-            view: View::parse(&PUSHING, 0x3000).ok().ok_or("a section")?,
-            signals: &trampoline,
-        },
-    ];
-    let process = Process::new(rt.alloc(), &modules)?;
-    let start = State {
+    let modules = [module_of(b"/lib/libc.so.6")?, module_of(b"/bin/program")?];
+    let process = Process::new(rt.alloc(), &ENTRIES, &modules, &[&trampoline])?;
+    assert_eq!(rt; process.number_at(0x5000), Some(0));
+    assert_eq!(rt; process.number_at(0x1000), Some(1));
+    let thread = Thread {
+        pid: 100,
         pc: 0x1000,
-        sp: 0x7000,
-        fp: Value::Known(0x7100),
-        lr: 0,
-        returned: false,
+        regs: Regs {
+            sp: 0x7000,
+            fp: 0x7100,
+            lr: 0,
+        },
+        mask: None,
     };
     for case in &WALKS {
         let bytes = bytes_of(rt.alloc(), &file, case.stack)?;
         let core = Core::parse(&bytes).ok().ok_or("the file is sound")?;
-        let walked = process.walk(rt.alloc(), None, &core, start, 64)?;
+        let walked = process.walk(rt.alloc(), &thread, &core, 64)?;
         assert_eq!(rt; walked.stop, case.stop);
         assert_eq!(rt; walked.frames.len(), case.frames.len());
-        for (frame, wanted) in walked.frames.iter().zip(case.frames) {
+        for (listed, wanted) in walked.frames.iter().zip(case.frames) {
             assert_eq!(rt;
-                (frame.pc, frame.cfa, frame.module_number, frame.is_signal),
+                (listed.frame.pc, listed.frame.cfa, listed.is_signal),
                 *wanted
             );
         }

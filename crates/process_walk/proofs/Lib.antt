@@ -1,4 +1,6 @@
 pub mod Addresses
-pub mod Rules
-pub mod Numbers
+pub mod Located
+pub mod Callers
 pub mod Frames
+pub mod Rows
+pub mod Same

@@ -1,5 +1,5 @@
-pub mod Step
-pub mod Module
-pub mod Numbered
+pub mod Signals
 pub mod Process
+pub mod Step
+pub mod Outside
 pub mod Walk

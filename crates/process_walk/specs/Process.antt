@@ -1,13 +1,25 @@
--- The modules of a process, and what is found in them at an address (Linux core files, NT_FILE).
-use Rattle.std.specs.Prelude.{ℕ, List, map}
-use Rattle.process_walk.specs.declared.process.Located.{Located}
+-- What a process that was put in order shows (Linux core files, NT_FILE).
+use Rattle.std.specs.Prelude.{List, map}
+use Rattle.sf_lookup.specs.declared.span.Span.{Span}
+use Rattle.sf_modules.specs.Entry.{EntryView}
+use Rattle.sf_modules.specs.Module.{ModuleView}
+use Rattle.sf_modules.specs.Views as modules
+use Rattle.signal_frames.specs.declared.frame.SignalFrame.{SignalFrame}
 use Rattle.process_walk.specs.declared.process.Process.{Process}
-use Rattle.process_walk.specs.Module.{ModuleView, number_at, ordered_view, rule_at}
+use Rattle.process_walk.specs.declared.signals.OrderedSignals.{OrderedSignals}
 
--- the modules of a process
+-- the entries of its note on mapped files
+abbrev pub entries_in : Process → List EntryView
+entries_in p = modules.entry_views p.modules
+
+-- its modules
 abbrev pub modules_in : Process → List ModuleView
-modules_in process = map ordered_view process.modules.items
+modules_in p = modules.modules_in p.modules
 
--- what is found at an address: the number of the module that has it, and what holds there
-abbrev pub located : List ModuleView → (pc : ℕ) → Located
-located modules pc = record { number = number_at modules pc; rule = rule_at modules pc }
+-- the functions of a module that have a signal frame
+abbrev pub given_spans : OrderedSignals → List (Span SignalFrame)
+given_spans s = s.given.now
+
+-- those of each module, by its number
+abbrev pub signals_in : Process → List (List (Span SignalFrame))
+signals_in p = map given_spans p.signals.items

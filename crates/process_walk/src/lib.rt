@@ -1,28 +1,26 @@
 //! Walks of a thread through all modules of a process, and through signal frames (Linux core files, NT_FILE; GNU SFrame
 //! specification, Version 2; DWARF 5, section 6.4.1).
 //!
-//! [`Process::new`] puts [`Module`]s in order once for all threads: each has its addresses, its SFrame section at the
-//! address at which it was, and the signal frames of its functions. [`Process::find`] returns what holds at an address:
-//! a row, or else a signal frame, of the first module that has the address. [`step`] makes one step by it, and
+//! [`Process::new`] puts the entries of a core file's note on mapped files, the modules of the process and the signal
+//! frames of each module in order, once for all threads. An address is looked up as [`sf_modules::Modules`] does.
 //! [`Process::walk`] lists the frames of a thread: `process_walk` of `specs/`.
 //!
-//! By a row the step is that of `sample_walk`: it goes on where a frame pointer can't be read, until a row counts from it.
-//! By a signal frame the caller was interrupted, so its row is looked up at its own program counter.
+//! Where a row holds, the step is that of `core_walk`: the return address is read first, then the frame pointer, and what
+//! can't be read ends the walk. Where none holds, the walk steps over a signal frame: that of the first function that has
+//! the address in the module there. What was interrupted is looked up at its own program counter. Without signal frames a
+//! walk is that of the rows: [`walks_without_signal_frames_are_by_rows`] is a law.
 //!
-//! The caller owes nothing. [`Process::new`] takes the time of a sort of the modules and of each module's signal frames,
-//! and of its functions if they are not sorted. An address is then found by searches by halves.
-//!
-//! No command uses this crate yet.
+//! The caller owes nothing. [`Process::new`] takes the time of [`sf_modules::Modules::new`], and of a sort of each module's
+//! signal frames. An address is then looked up by two searches by halves, and by two more where no row holds.
 #![tactic(auto)]
 
-mod mapped;
+mod laws;
 mod process;
-mod rule;
+mod signals;
 mod stepping;
 mod walking;
 
-pub use mapped::Module;
-pub use process::{Located, Process};
-pub use rule::FrameRule;
-pub use stepping::{step, step_over};
-pub use walking::{ProcessFrame, ProcessWalk};
+pub use laws::walks_without_signal_frames_are_by_rows;
+pub use process::Process;
+pub use stepping::ProcessFrame;
+pub use walking::ProcessWalk;

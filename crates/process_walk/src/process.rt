@@ -1,97 +1,78 @@
-//! The modules of a process, put in order once for all walks.
+//! The modules of a process and their signal frames, put in order once for all walks.
 
 ghost use Rattle.std.specs.Prelude.{◌≡◌, IfOk, map};
-ghost use Rattle.sf_lookup.specs.Spans.{InOrder};
-ghost use Rattle.process_walk.specs.Module.{module_view, ordered_view};
-ghost use Rattle.process_walk.specs.Numbered.{spans_of};
+ghost use Rattle.process_walk.specs.Process.{given_spans};
 
-use crate::mapped::{Module, OrderedModule};
-use crate::rule::FrameRule;
+use crate::signals::OrderedSignals;
 use sf_base::NoMemory;
-use sf_lookup::{Span, Spans};
+use sf_lookup::Span;
+use sf_modules::{Entry, Module, Modules};
+use signal_frames::SignalFrame;
 use std::alloc::Global;
 
-/// What is found at an address.
-#[derive(Clone, Copy)]
-pub struct Located {
-    /// The number of the first module that has the address.
-    pub number: Option<usize>,
-    /// What holds there in that module.
-    pub rule: Option<FrameRule>,
-}
-
-/// The modules of a process put in order: an address is looked up by searches by halves, one for its module, and one for
-/// its row or two for its signal frame in the module.
+/// The modules of a process put in order, and the signal frames of each.
 #[derive(Drop)]
 pub struct Process<'m> {
-    modules: Vec<OrderedModule<'m>>,
-    spans: Spans<usize>,
-    ghost ordered: { InOrder spans (spans_of 0 (map ordered_view modules.items)) },
+    /// The entries of the note on mapped files, and the modules.
+    pub(crate) modules: Modules<'m>,
+    /// The functions that have a signal frame, by the number of their module.
+    pub(crate) signals: Vec<OrderedSignals<'m>>,
 }
 
-// Returns the addresses of each module, and its number.
-fn spans_of(alloc: Global, modules: &[Module<'_>]) -> Result<Vec<Span<usize>>, NoMemory>
-    ensures { IfOk result (λ spans. spans.items ≡ spans_of 0 (map module_view modules.now)) }
+// Puts the functions of each module in order.
+fn in_order<'m>(
+    alloc: Global,
+    signals: &[&'m [Span<SignalFrame>]],
+) -> Result<Vec<OrderedSignals<'m>>, NoMemory>
+    ensures { IfOk result (λ ordered. map given_spans ordered.items ≡ map (λ s. s.now) signals.now) }
 {
-    let mut spans = Vec::with_capacity(alloc, modules.len())?;
-    for i in 0..modules.len() {
-        let item = &modules[i];
-        spans.push(Span {
-            start: item.start,
-            size: item.size,
-            leads_to: i,
-        })?;
-    }
-    Ok(spans)
-}
-
-// Puts each module in order.
-fn in_order<'m>(alloc: Global, modules: &[Module<'m>]) -> Result<Vec<OrderedModule<'m>>, NoMemory>
-    ensures { IfOk result (λ ordered. map ordered_view ordered.items ≡ map module_view modules.now) }
-{
-    let mut ordered = Vec::with_capacity(alloc, modules.len())?;
-    for item in modules {
-        ordered.push(OrderedModule::new(alloc, item)?)?;
+    let mut ordered = Vec::with_capacity(alloc, signals.len())?;
+    for given in signals {
+        ordered.push(OrderedSignals::new(alloc, given)?)?;
     }
     Ok(ordered)
 }
 
 impl<'m> Process<'m> {
     ghost use Rattle.std.specs.Prelude.{◌≡◌, IfOk, map};
-    ghost use Rattle.process_walk.specs.Module.{module_view, number_at};
-    ghost use Rattle.process_walk.specs.Process.{located, modules_in};
+    ghost use Rattle.sf_modules.specs.Entry.{mapping_view};
+    ghost use Rattle.sf_modules.specs.Module.{module_view};
+    ghost use Rattle.sf_modules.specs.Span.{module_number_at};
+    ghost use Rattle.process_walk.specs.Process.{entries_in, modules_in, signals_in};
+    ghost use Rattle.process_walk.specs.Signals.{signal_at};
 
-    /// Puts the modules of a process in order, once for all walks.
+    /// Puts the entries of a process's note on mapped files, its modules, and the functions of each module that have a signal
+    /// frame in order, once for all walks. The functions of a module are in the list at the module's number.
     ///
     /// `NoMemory` if out of memory.
-    pub fn new(alloc: Global, modules: &[Module<'m>]) -> Result<Process<'m>, NoMemory>
-        ensures { IfOk result (λ process. modules_in process ≡ map module_view modules.now) }
+    pub fn new(
+        alloc: Global,
+        entries: &'m [Entry<'m>],
+        modules: &'m [Module<'m, 'm>],
+        signals: &[&'m [Span<SignalFrame>]],
+    ) -> Result<Process<'m>, NoMemory>
+        ensures entries { IfOk result (λ p. entries_in p ≡ map mapping_view entries.now) }
+        ensures modules { IfOk result (λ p. modules_in p ≡ map module_view modules.now) }
+        ensures signals { IfOk result (λ p. signals_in p ≡ map (λ s. s.now) signals.now) }
     {
-        let spans = Spans::new(alloc, &spans_of(alloc, modules)?)?;
-        let modules = in_order(alloc, modules)?;
-        Ok(Process { modules, spans })
+        let modules = Modules::new(alloc, entries, modules)?;
+        let signals = in_order(alloc, signals)?;
+        Ok(Process { modules, signals })
     }
 
-    // Returns the number of the first module that has an address.
-    fn number_at(&self, pc: u64) -> Option<usize>
-        ensures { result ≡ number_at (modules_in self.now) pc }
+    /// Finds the number of the module that has an address.
+    pub fn number_at(&self, pc: u64) -> Option<u32>
+        ensures { result ≡ module_number_at (entries_in self.now) (modules_in self.now) pc }
     {
-        self.spans.first_at(pc)
+        self.modules.number_at(pc)
     }
 
-    /// Finds the first module that has an address, and what holds there in that module.
-    pub fn find(&self, pc: u64) -> Located
-        ensures { result ≡ located (modules_in self.now) pc }
+    /// Finds the signal frame at an address: that of the first function that has it, in the module there.
+    pub(crate) fn signal_at(&self, pc: u64) -> Option<SignalFrame>
+        ensures { result ≡ signal_at (entries_in self.now) (modules_in self.now) (signals_in self.now) pc }
     {
-        match self.number_at(pc) {
-            Some(number) => Located {
-                number: Some(number),
-                rule: self.modules[number].rule_at(pc),
-            },
-            None => Located {
-                number: None,
-                rule: None,
-            },
-        }
+        let number = self.number_at(pc)?;
+        let signals = self.signals.get(number as usize)?;
+        signals.signal_at(pc)
     }
 }

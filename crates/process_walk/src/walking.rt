@@ -1,28 +1,12 @@
 //! The walk of a thread.
 
-ghost use Rattle.std.specs.Prelude.{◌≡◌};
-ghost use Rattle.process_walk.specs.Walk as spec;
-
-use crate::process::{Located, Process};
-use crate::rule::FrameRule;
-use crate::stepping::step;
-use sample_walk::State;
+use crate::process::Process;
+use crate::stepping::{ProcessFrame, State, is_outside, resumed, step_without_row, to_caller};
+use core_notes::Thread;
+use core_walk::step::{Caller, step};
 use sf_base::NoMemory;
-use sf_model::{Frame, Memory, Stop};
+use sf_model::{Memory, Stop};
 use std::alloc::Global;
-
-/// A frame of a walk.
-#[derive(Clone, Copy)]
-pub struct ProcessFrame {
-    /// Its program counter.
-    pub pc: u64,
-    /// Its canonical frame address, or none if it isn't known.
-    pub cfa: Option<u64>,
-    /// The number of the module that has the address at which the frame was looked up.
-    pub module_number: Option<usize>,
-    /// Whether it is a signal frame: the frame after it was interrupted.
-    pub is_signal: bool,
-}
 
 /// The frames of a walk from the innermost on, and why it stopped.
 #[derive(Drop)]
@@ -33,55 +17,56 @@ pub struct ProcessWalk {
     pub stop: Stop,
 }
 
-// Returns whether a frame's caller is found by a signal frame.
-fn is_signal(rule: Option<FrameRule>) -> bool
-    ensures { result ≡ spec.is_signal rule }
-{
-    match rule {
-        Some(FrameRule::Signal(_)) => true,
-        Some(FrameRule::Row(_)) => false,
-        None => false,
-    }
-}
-
-// Returns a frame with what was found at the address at which it was looked up.
-fn frame_shown(frame: &Frame, found: &Located) -> ProcessFrame
-    ensures { result ≡ spec.frame_shown frame.now found.now }
-{
-    ProcessFrame {
-        pc: frame.pc,
-        cfa: frame.cfa,
-        module_number: found.number,
-        is_signal: is_signal(found.rule),
-    }
-}
-
 impl<'m> Process<'m> {
     ghost use Rattle.std.specs.Prelude.{◌≡◌, IfOk};
-    ghost use Rattle.process_walk.specs.Process.{modules_in};
+    ghost use Rattle.sf_model.specs.Walk.{recover_by};
+    ghost use Rattle.core_walk.specs.Walk.{thread_state};
+    ghost use Rattle.sf_modules.specs.Found.{found_in};
+    ghost use Rattle.process_walk.specs.Process.{entries_in, modules_in, signals_in};
+    ghost use Rattle.process_walk.specs.Signals.{signal_at};
+    ghost use Rattle.process_walk.specs.Step.{step_at};
     ghost use Rattle.process_walk.specs.Walk.{listing, process_walk};
 
-    /// Lists the frames of a thread from a state on, at most `depth`, from the innermost on, and why no more are listed.
-    /// Each is looked up in the module that has its address.
+    // Returns the frame at a state, and the caller's state or why the walk stops: by the row that holds, or else over the
+    // signal frame there.
+    fn step<M: Memory>(
+        &self,
+        mask: Option<u64>,
+        mem: &M,
+        state: &State,
+    ) -> (ProcessFrame, Result<State, Stop>)
+        ensures { result ≡ step_at (recover_by (found_in (entries_in self.now) (modules_in self.now)) (M.regions mem.now)) (signal_at (entries_in self.now) (modules_in self.now) (signals_in self.now)) mask (M.regions mem.now) state.now }
+    {
+        let (frame, next) = step(&self.modules, mask, mem, state.asked, &state.at);
+        if is_outside(&next) {
+            return step_without_row(self.signal_at(state.asked), mem, state);
+        }
+        let is_signal = false;
+        (ProcessFrame { frame, is_signal }, to_caller(next))
+    }
+
+    /// Lists the frames of a thread, at most `depth`, from the innermost on, and why no more are listed. Each is looked up in
+    /// the module at its address, and where that has no row, in the module's signal frames.
     ///
     /// `NoMemory` if out of memory.
     pub fn walk<M: Memory>(
         &self,
         alloc: Global,
-        mask: Option<u64>,
+        thread: &Thread,
         mem: &M,
-        start: State,
         depth: u32,
     ) -> Result<ProcessWalk, NoMemory>
-        ensures { IfOk result (λ walk. listing walk ≡ process_walk (modules_in self.now) mask (M.regions mem.now) start depth) }
+        ensures { IfOk result (λ walk. listing walk ≡ process_walk (recover_by (found_in (entries_in self.now) (modules_in self.now)) (M.regions mem.now)) (signal_at (entries_in self.now) (modules_in self.now) (signals_in self.now)) (thread_state thread.now) (M.regions mem.now) depth) }
     {
         let mut frames = Vec::new(alloc);
-        let mut at = start;
+        let mut state = resumed(Caller {
+            pc: thread.pc,
+            regs: thread.regs,
+        });
         for listed in 0..depth {
-            let found = self.find(at.asked());
-            let (frame, next) = step(found.rule, mask, mem, &at);
-            frames.push(frame_shown(&frame, &found))?;
-            at = match next {
+            let (frame, next) = self.step(thread.mask, mem, &state);
+            frames.push(frame)?;
+            state = match next {
                 Ok(caller) => caller,
                 Err(stop) => return Ok(ProcessWalk { frames, stop }),
             };
