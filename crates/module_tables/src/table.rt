@@ -27,7 +27,10 @@ pub struct ModuleTable {
 ///
 /// # Errors
 ///
-/// Those of `sf_plt::link_plt`, of the file as its only input.
+/// The first of these, with 0 as the number of the file: the file can't be read; it has more than 2^21 functions or
+/// 2^24 rows; two of its functions share an address; there are too many with each procedure linkage table as one more
+/// function and as 4 rows; a function that is written is too far from `at`. Memory may run out at any time. The machines
+/// never differ, since the file is the only item.
 pub fn module_table(
     alloc: Global,
     file: &[u8],

@@ -8,6 +8,8 @@ mod assembling;
 #[cfg(test)]
 mod linking;
 #[cfg(test)]
+mod modules;
+#[cfg(test)]
 mod running;
 #[cfg(test)]
 mod tables;

@@ -19,7 +19,7 @@ loop-number-preserved c =
     elim c.match-signal_of.branch [
       | in-Some+in_ok-push w ↦
           subst (λ (signals : List (Span SignalFrame)). AreSignals (take (k + 1) fs) signals) (sym (ap (λ x. x.items) w.signals-is))
-          (next_has fs k f w.in-Some.signal before w.push.new.self.items lt (c.get.ensures f) w.in-Some.ensures.found w.in-Some.ensures.only w.in_ok-push.ensures.items so_far)
+          (next_has fs k f w.in-Some.signal before w.push.new.self.items lt (c.get.ensures f) w.in-Some.ensures.found w.in_ok-push.ensures.items so_far)
       | in_default w ↦
           subst (λ (signals : List (Span SignalFrame)). AreSignals (take (k + 1) fs) signals) (sym (ap (λ x. x.items) w.signals-is))
           (next_has_none fs k f before lt (c.get.ensures f) w.in_default.ensures.only so_far)
